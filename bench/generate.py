@@ -1,0 +1,213 @@
+#!/usr/bin/env python3
+"""Writes a script for the benchmark to standard output: always the same one for the same words.
+
+usage: generate.py KIND SIZE
+
+KIND  plain     one stripe, nobody asked outside: get and put on few keys. The history fills up: then calls are refused
+      phases    get, put and remove in phases, with read-through and write-through: begin, read or apply, end
+      stripes   all eleven operations over 64 stripes, with read-through and write-through
+SIZE  1 for about 2 MiB, 2 for about 4 MiB, which is the most that `jcache run` reads
+
+No line of a script has a fault. It ends with an audit."""
+import sys
+
+LIMIT = 4194304  # bytes of input
+ROOM = 65536  # bytes kept for what ends a script
+WINDOW = 16  # calls that are under way at once
+LETTERS = 'abcdefghijklmnopqrstuvwxyz'
+KINDS = ('plain', 'phases', 'stripes')
+
+
+class Numbers:
+    """Numbers that look random and are the same on every machine."""
+
+    def __init__(self):
+        self.state = 1
+
+    def below(self, n):
+        self.state = (self.state * 6364136223846793005 + 1442695040888963407) % 2**64
+        return (self.state >> 33) % n
+
+
+def keys_of(stripes, each, length):
+    """So many keys for each stripe, all of one length."""
+    found = [[] for _ in range(stripes)]
+    missing = stripes * each
+    number = 0
+    while missing:
+        tail, rest = '', number
+        for _ in range(4):
+            tail, rest = LETTERS[rest % 26] + tail, rest // 26
+        key = ('key_' + '.' * length)[:length - 4] + tail
+        home = sum(key.encode()) % stripes
+        if len(found[home]) < each:
+            found[home].append(key)
+            missing -= 1
+        number += 1
+    return [key for keys in found for key in keys]
+
+
+class Script:
+    """A script so far, with what the world would hold: so it is known whom a call asks."""
+
+    def __init__(self, size):
+        self.lines, self.bytes, self.limit = [], 0, LIMIT // 2 * size - ROOM
+        self.numbers, self.call, self.serial = Numbers(), 0, 0
+        self.cache, self.store, self.steps = {}, {}, {}
+
+    def put(self, line):
+        self.lines.append(line)
+        self.bytes += len(line) + 1
+
+    def is_full(self):
+        return self.bytes >= self.limit
+
+    def open(self, stripes, capacity, history, options):
+        self.stripes, self.capacity, self.history = stripes, capacity, history
+        self.put(f'open {stripes} {capacity} {history}{options}')
+
+    def value(self, length):
+        self.serial += 1
+        return f'{self.serial:07d}'.rjust(length, 'v')
+
+    # One call of a window, with both options on.
+
+    def begin(self, session, op, key, values):
+        """The first phase. Answers the call's number, whom it asks, and what it leaves where nobody fails."""
+        self.call += 1
+        entry = self.cache.get(key)
+        there, equal = entry is not None, bool(values) and entry == values[0]
+        new = values[-1] if values else None
+        asked, left = {
+            'get': ('load' if not there else None, entry),
+            'contains': (None, entry),
+            'put': ('write', new),
+            'getput': ('write', new),
+            'putif': ('write' if not there else None, entry if there else new),
+            'remove': ('write', None),
+            'removeif': ('write' if equal else None, None if equal else entry),
+            'getremove': ('write', None),
+            'replace': ('write' if there else None, new if there else None),
+            'replaceif': ('write' if equal else None, new if equal else entry),
+            'getreplace': ('write' if there else None, new if there else None),
+        }[op]
+        self.put(' '.join(['begin', str(self.call), f's{session}', op, key] + values))
+        if asked is None:
+            self.step(key, left)
+        return self.call, key, asked, left
+
+    def answer(self, begun, fails):
+        """What is said outside. Answers the entry that the call leaves."""
+        call, key, asked, left = begun
+        if asked == 'load':
+            if fails:
+                self.put(f'readfail {call} 7')
+                return self.cache.get(key)
+            self.put(f'read {call}')
+            return self.store.get(key)
+        if fails:
+            self.put(f'applyfail {call} 9')
+            return self.cache.get(key)
+        self.put(f'apply {call}')
+        self.keep(self.store, key, left)
+        return left
+
+    def end(self, begun, left):
+        call, key, asked, _ = begun
+        self.put(f'end {call}')
+        self.step(key, left)
+
+    def step(self, key, left):
+        self.keep(self.cache, key, left)
+        home = sum(key.encode()) % self.stripes
+        self.steps[home] = self.steps.get(home, 0) + 1
+        # a reservation needs three places beside those of the other calls under way
+        assert self.steps[home] + 3 * WINDOW + 3 <= self.history, 'a history could be full'
+
+    @staticmethod
+    def keep(entries, key, value):
+        if value is None:
+            entries.pop(key, None)
+        else:
+            entries[key] = value
+
+    def window(self, calls, fails):
+        """Calls of different sessions on different keys: all begin, then all are answered, then all end."""
+        begun = [self.begin(i + 1, op, key, values) for i, (op, key, values) in enumerate(calls)]
+        asked = [b for b in begun if b[2] is not None]
+        left = [self.answer(b, fails()) for b in asked]
+        for b, value in zip(asked, left):
+            self.end(b, value)
+
+    def text(self):
+        self.put('audit')
+        assert self.bytes <= LIMIT
+        return '\n'.join(self.lines) + '\n'
+
+
+def plain(size):
+    script = Script(size)
+    script.open(1, 64, 65536, '')
+    keys = keys_of(1, 16, 8)
+    while not script.is_full():
+        script.call += 1
+        key = keys[script.numbers.below(len(keys))]
+        session = script.numbers.below(4) + 1
+        if script.numbers.below(2):
+            script.put(f'begin {script.call} s{session} put {key} {script.value(9)}')
+        else:
+            script.put(f'begin {script.call} s{session} get {key}')
+    return script.text()
+
+
+def phases(size):
+    script = Script(size)
+    script.open(16, 64, 8192, ' read write')
+    keys = keys_of(16, 8, 26)
+    for key in keys:
+        value = script.value(40)
+        script.put(f'set {key} {value}')
+        script.store[key] = value
+    # each key in turn is got, which loads, then put, then removed
+    while not script.is_full():
+        for op in ('get', 'put', 'remove'):
+            for first in range(0, len(keys), WINDOW):
+                values = lambda: [script.value(40)] if op == 'put' else []
+                script.window([(op, key, values()) for key in keys[first:first + WINDOW]], lambda: False)
+    return script.text()
+
+
+def stripes(size):
+    script = Script(size)
+    script.open(64, 64, 4096, ' read write')
+    keys = keys_of(64, 8, 24)
+    for key in keys[::2]:
+        value = script.value(32)
+        script.put(f'set {key} {value}')
+        script.store[key] = value
+    operations = ('get', 'get', 'get', 'contains', 'put', 'put', 'getput', 'putif', 'remove', 'removeif', 'getremove',
+                  'replace', 'replaceif', 'getreplace')
+    below = script.numbers.below
+    while not script.is_full():
+        # different keys, so no call of a window finds its key reserved
+        start, calls = below(len(keys)), []
+        for i in range(WINDOW):
+            key, op = keys[(start + 37 * i) % len(keys)], operations[below(len(operations))]
+            old = script.cache.get(key) if below(2) else None
+            values = {'get': 0, 'contains': 0, 'remove': 0, 'getremove': 0, 'replaceif': 2}.get(op, 1)
+            values = [script.value(32) for _ in range(values)]
+            if op in ('removeif', 'replaceif') and old is not None:
+                values[0] = old
+            calls.append((op, key, values))
+        script.window(calls, lambda: below(16) == 0)
+    return script.text()
+
+
+def main(words):
+    if len(words) != 2 or words[0] not in KINDS or words[1] not in ('1', '2'):
+        sys.exit(__doc__)
+    sys.stdout.write({'plain': plain, 'phases': phases, 'stripes': stripes}[words[0]](int(words[1])))
+
+
+if __name__ == '__main__':
+    main(sys.argv[1:])

@@ -1,0 +1,9 @@
+pub mod Lookups
+pub mod Ordered
+pub mod Reading
+pub mod Readings
+pub mod Accepting
+pub mod Order
+mod Rows
+pub mod Stripes
+pub mod Whole

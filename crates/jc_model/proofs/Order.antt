@@ -1,0 +1,139 @@
+-- The callers' order, seen from its end.
+use Rattle.std.proofs.Common.{◌≡◌, ◌==◌, ◌&&◌, ◌||◌, ℕ, List, [], ◌∷◌, ◌++◌, Bool, true, false, not, nat_lt, ◌+◌, ◌<◌, length, take, drop, get_or, refl, sym, ap, ◌∙◌, arith, Option, None, Some, append_assoc}
+use Rattle.std.specs.List.{list_all}
+use Rattle.std.specs.Cmp.Lexicographic.{pointwise}
+use Rattle.std.proofs.lemmas.List.{take_more, take-append-drop}
+use Rattle.std.proofs.lemmas.List.Folds.{list_all-append}
+use Rattle.std.proofs.lemmas.Bool.Decides.{nat_tests}
+use Rattle.jc_model.specs.declared.event.Event.{Event}
+use Rattle.jc_model.specs.declared.event.Event.TheVariants.{Step, Evict}
+use Rattle.jc_model.specs.declared.event.Op.{Op}
+use Rattle.jc_model.specs.declared.event.Out.{Out}
+use Rattle.jc_model.specs.declared.event.Reply.{Reply}
+use Rattle.jc_model.specs.declared.event.Cause.{Cause}
+use Rattle.jc_model.specs.Cache.{Bytes}
+use Rattle.jc_model.specs.Group.{evicted_events}
+use Rattle.jc_model.specs.Legal.{may_come, may_follow, in_order}
+use Rattle.jc_model.specs.Reader.{comes_before}
+use Rattle.jc_model.proofs.Lookups.{both}
+
+-- an event follows all of these
+abbrev pub follows_all : List Event → Event → Bool
+follows_all events event = list_all (λ earlier. may_follow earlier event) events
+
+swapped : (a o m l : Bool) → ((a && (m && true)) && (o && l)) ≡ ((a && o) && (m && l))
+swapped false o m l = refl
+swapped true o true l = refl
+swapped true false false l = refl
+swapped true true false l = refl
+
+joined : (a b : Bool) → a ≡ true → b ≡ true → (a && b) ≡ true
+joined true b g h = h
+joined false b g h = cc
+
+and_true : (b : Bool) → (b && true) ≡ b
+and_true true = refl
+and_true false = refl
+
+pub order-last : (events : List Event) (event : Event) → in_order (events ++ event ∷ []) ≡ (in_order events && follows_all events event)
+order-last [] event = refl
+order-last (x ∷ xs) event =
+    ap (λ b. b && in_order (xs ++ event ∷ [])) (list_all-append (may_follow x) xs (event ∷ []))
+    ∙ ap (λ b. (list_all (may_follow x) xs && (may_follow x event && true)) && b) (order-last xs event)
+    ∙ swapped (list_all (may_follow x) xs) (in_order xs) (may_follow x event) (follows_all xs event)
+
+pub order-front : (xs ys : List Event) → in_order (xs ++ ys) ≡ true → in_order xs ≡ true
+order-front [] ys h = refl
+order-front (x ∷ xs) ys h =
+    let parts = both (list_all (may_follow x) (xs ++ ys)) (in_order (xs ++ ys)) h in
+    let here = both (list_all (may_follow x) xs) (list_all (may_follow x) ys) (sym (list_all-append (may_follow x) xs ys) ∙ parts.0) in
+    joined _ _ here.0 (order-front xs ys parts.1)
+
+through : (s s' s'' n n' n'' : ℕ) (k k' : Bool) → (not (s == s') || nat_lt n n' || ((n == n') && k)) ≡ true → ((s' == s'') && nat_lt n' n'') ≡ true → (not (s == s'') || nat_lt n n'' || ((n == n'') && k')) ≡ true
+through s s' s'' n n' n'' k k' g h = grind (arith, nat_tests)
+
+lower : (s s' n n' : ℕ) (k : Bool) → ((s == s') && nat_lt n n') ≡ true → (not (s == s') || nat_lt n n' || ((n == n') && k)) ≡ true
+lower s s' n n' k h = grind (arith, nat_tests)
+
+follow_through : (x last event : Event) → may_follow x last ≡ true → comes_before last event ≡ true → may_follow x event ≡ true
+follow_through (Evict key cause) last event g h = refl
+follow_through (Step s n op key out shared reply) (Evict key' cause) event g h = cc
+follow_through (Step s n op key out shared reply) (Step s' n' op' key' out' shared' reply') (Evict key'' cause) g h = refl
+follow_through (Step s n op key out shared reply) (Step s' n' op' key' out' shared' reply') (Step s'' n'' op'' key'' out'' shared'' reply'') g h =
+    through s s' s'' n n' n'' (not (pointwise ◌==◌ key key')) (not (pointwise ◌==◌ key key'')) g h
+
+pub follow_lower : (last event : Event) → comes_before last event ≡ true → may_follow last event ≡ true
+follow_lower (Evict key cause) event h = refl
+follow_lower (Step s n op key out shared reply) (Evict key' cause) h = refl
+follow_lower (Step s n op key out shared reply) (Step s' n' op' key' out' shared' reply') h = lower s s' n n' (not (pointwise ◌==◌ key key')) h
+
+pub all_through : (xs : List Event) (last event : Event) → follows_all xs last ≡ true → comes_before last event ≡ true → follows_all xs event ≡ true
+all_through [] last event g h = refl
+all_through (x ∷ xs) last event g h =
+    let parts = both (may_follow x last) (follows_all xs last) g in
+    joined _ _ (follow_through x last event parts.0 h) (all_through xs last event parts.1 h)
+
+-- of events in order, the last: a lower number of the same session ends the search, and else it goes on before it
+last_lower : (before : List Event) (last event : Event) → in_order (before ++ last ∷ []) ≡ true → comes_before last event ≡ true → follows_all (before ++ last ∷ []) event ≡ true
+last_lower before last event h lower =
+    let parts = both (in_order before) (follows_all before last) (sym (order-last before last) ∙ h) in
+    list_all-append (λ earlier. may_follow earlier event) before (last ∷ [])
+    ∙ joined _ _ (all_through before last event parts.1 lower) (joined _ _ (follow_lower last event lower) refl)
+
+pub ends_lower : (rest before : List Event) (last event : Event) → rest ≡ before ++ last ∷ [] → in_order rest ≡ true → comes_before last event ≡ true → follows_all rest event ≡ true
+ends_lower rest before last event is h lower =
+    ap (λ x. follows_all x event) is ∙ last_lower before last event (ap in_order (sym is) ∙ h) lower
+
+pub goes_on : (rest before : List Event) (last event : Event) → rest ≡ before ++ last ∷ [] → may_follow last event ≡ true → follows_all before event ≡ follows_all rest event
+goes_on rest before last event is h =
+    sym (ap (λ x. follows_all x event) is ∙ list_all-append (λ earlier. may_follow earlier event) before (last ∷ [])
+    ∙ ap (λ b. follows_all before event && (b && true)) h ∙ and_true (follows_all before event))
+
+pub before_order : (rest before : List Event) (last : Event) → rest ≡ before ++ last ∷ [] → in_order rest ≡ true → in_order before ≡ true
+before_order rest before last is h = order-front before (last ∷ []) (ap in_order (sym is) ∙ h)
+
+-- one more event
+pub order_next : (events : List Event) (i : ℕ) (event : Event) → i < length events → event ≡ get_or events i event → in_order (take i events) ≡ true → in_order (take (i + 1) events) ≡ follows_all (take i events) event
+order_next events i event h is order =
+    ap in_order (take_more events i event h ∙ ap (λ x. take i events ++ x ∷ []) (sym is))
+    ∙ order-last (take i events) event ∙ ap (λ b. b && follows_all (take i events) event) order
+
+pub order_not : (events : List Event) (k : ℕ) → in_order (take k events) ≡ false → in_order events ≡ false
+order_not events k h =
+    elim (in_order events) as (λ b. in_order events ≡ b → in_order events ≡ false) [
+      | true ↦ λ e.
+          let front = order-front (take k events) (drop k events) (ap in_order (take-append-drop k events) ∙ e) in
+          let no : true ≡ false = sym front ∙ h in cc
+      | false ↦ λ e. e
+    ] refl
+
+-- that a step may come is that its event may follow
+come_follow : (event : Event) (session number : ℕ) (op : Op) (key : Bytes) (out : Out) (reply : Reply) → may_follow event (Step session number op key out None reply) ≡ may_come event session number key
+come_follow (Step s n o k u shared r) session number op key out reply = refl
+come_follow (Evict k cause) session number op key out reply = refl
+
+comes_follows : (events : List Event) (session number : ℕ) (op : Op) (key : Bytes) (out : Out) (reply : Reply) → follows_all events (Step session number op key out None reply) ≡ list_all (λ e. may_come e session number key) events
+comes_follows [] session number op key out reply = refl
+comes_follows (x ∷ xs) session number op key out reply =
+    ap (λ b. b && follows_all xs (Step session number op key out None reply)) (come_follow x session number op key out reply)
+    ∙ ap (λ b. may_come x session number key && b) (comes_follows xs session number op key out reply)
+
+evict_follow : (event : Event) (key : Bytes) (cause : Cause) → may_follow event (Evict key cause) ≡ true
+evict_follow (Step s n o k u shared r) key cause = refl
+evict_follow (Evict k c) key cause = refl
+
+evict_follows : (events : List Event) (key : Bytes) (cause : Cause) → follows_all events (Evict key cause) ≡ true
+evict_follows [] key cause = refl
+evict_follows (x ∷ xs) key cause = joined _ _ (evict_follow x key cause) (evict_follows xs key cause)
+
+-- a step that may come behind all events, and an eviction of its key, leave the callers' order
+pub order-step : (events : List Event) (session number : ℕ) (op : Op) (key : Bytes) (out : Out) (reply : Reply) (evicted : Option Cause)
+    → in_order events ≡ true → list_all (λ e. may_come e session number key) events ≡ true
+    → in_order (events ++ (Step session number op key out None reply ∷ evicted_events key evicted)) ≡ true
+order-step events session number op key out reply None order comes =
+    order-last events (Step session number op key out None reply) ∙ joined _ _ order (comes_follows events session number op key out reply ∙ comes)
+order-step events session number op key out reply (Some cause) order comes =
+    let step = Step session number op key out None reply in
+    let here : in_order (events ++ step ∷ []) ≡ true = order-last events step ∙ joined _ _ order (comes_follows events session number op key out reply ∙ comes) in
+    ap in_order (sym (append_assoc events (step ∷ []) (Evict key cause ∷ [])))
+    ∙ order-last (events ++ step ∷ []) (Evict key cause) ∙ joined _ _ here (evict_follows (events ++ step ∷ []) key cause)

@@ -1,0 +1,51 @@
+-- The parts of a legal history.
+use Rattle.std.proofs.Common.{◌≡◌, ◌≤◌, ℕ, ◌+◌, ◌<◌, List, ◌∷◌, ◌++◌, length, map, drop, get_or, suc, add-one, drop-cons, Ok, true, refl, sym, ap, subst, arith}
+use Rattle.std.specs.FinMap.{len, from_entries}
+use Rattle.jc_types.specs.declared.config.Config.{Config}
+use Rattle.jc_types.specs.Limits.{checked}
+use Rattle.jc_model.specs.declared.event.Event.{Event}
+use Rattle.jc_model.specs.declared.legal.Stage.{Stage}
+use Rattle.jc_model.specs.declared.legal.Stage.TheVariants.{Outside}
+use Rattle.jc_model.specs.Cache.{Bytes, Cache, key_cmp}
+use Rattle.jc_model.specs.Listed.{apart}
+use Rattle.jc_model.specs.Group.{cache_after}
+use Rattle.jc_model.specs.Legal.{Legal, of_one_stripe, event_key, in_order}
+use Rattle.jc_model.specs.Reader.{Accepts, Fits, then_cache, then_stage}
+use Rattle.jc_model.proofs.Lookups.{len-apart}
+use Rattle.jc_model.proofs.Readings.{reads_iff}
+use Rattle.jc_model.proofs.Accepting.{accepts_iff}
+
+fits_in : (config : Config) (opening : List (Bytes × Bytes)) → apart opening ≡ true → length opening ≤ config.capacity → len (from_entries {R = key_cmp} opening) ≤ config.capacity
+fits_in config opening once few = let e = len-apart opening once in omega arith
+
+pub to_legal : (config : Config) (opening : List (Bytes × Bytes)) (events : List Event) → checked config ≡ Ok tt → apart opening ≡ true → length opening ≤ config.capacity
+    → of_one_stripe config.stripes (map (λ e. e.0) opening ++ map event_key events) ≡ true → in_order events ≡ true → Accepts config 0 (from_entries opening) Outside events → Legal config opening events
+to_legal config opening events fits once few stripe order accepted =
+    let cache = from_entries opening in
+    let spells = (reads_iff config cache events).0 ((accepts_iff config cache events (fits_in config opening once few)).0 accepted) in
+    record {
+      config_fits = fits;
+      once = once;
+      few = few;
+      stripe = stripe;
+      next = cache_after cache spells.groups;
+      history = record { groups = spells.groups; spelled = spells.spelled; lawful = spells.lawful; left = refl; order = order };
+    }
+
+pub from_legal : (config : Config) (opening : List (Bytes × Bytes)) (events : List Event) → Legal config opening events → Accepts config 0 (from_entries opening) Outside events
+from_legal config opening events h =
+    let cache = from_entries opening in
+    (accepts_iff config cache events (fits_in config opening h.once h.few)).1
+    ((reads_iff config cache events).1 (record { groups = h.history.groups; spelled = h.history.spelled; lawful = h.history.lawful }))
+
+-- one event of a list
+pub drop_next : (events : List Event) (place : ℕ) (e : Event) → place < length events → e ≡ get_or events place e → drop place events ≡ e ∷ drop (place + 1) events
+drop_next events place e h is = rw (add-one, drop-cons events place e) (ap (λ x. x ∷ drop (suc place) events) (sym is))
+
+pub accepts_next : (config : Config) (place : ℕ) (cache : Cache) (stage : Stage) (events : List Event) (e : Event) → place < length events → e ≡ get_or events place e
+    → Accepts config place cache stage (drop place events) → Fits config cache stage e × Accepts config (place + 1) (then_cache cache stage e) (then_stage config cache place stage e) (drop (place + 1) events)
+accepts_next config place cache stage events e h is a = let P : List Event → Type 0 = λ es. Accepts config place cache stage es in subst P (drop_next events place e h is) a
+
+pub next_accepts : (config : Config) (place : ℕ) (cache : Cache) (stage : Stage) (events : List Event) (e : Event) → place < length events → e ≡ get_or events place e
+    → Fits config cache stage e → Accepts config (place + 1) (then_cache cache stage e) (then_stage config cache place stage e) (drop (place + 1) events) → Accepts config place cache stage (drop place events)
+next_accepts config place cache stage events e h is fits a = let P : List Event → Type 0 = λ es. Accepts config place cache stage es in subst P (sym (drop_next events place e h is)) (fits, a)

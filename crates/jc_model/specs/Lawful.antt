@@ -1,0 +1,71 @@
+-- When a group is lawful in a cache.
+--     inserts         the step's key is missing before it and there after it
+--     victim_fits     lawful eviction before the step: from a full stripe, another key that is there, for a step that inserts
+--     evicted_fits    lawful eviction after the step: what it inserted goes, for want of memory or from a full stripe that gave no other key
+--     is_joinable     shared step: others may share the load of a `Get` or `LoadAll` that found its key missing, with read-through on
+--     IsLawfulStep    what is known when the step is made
+--     IsLawful        what is known when the group ends
+--     AreLawful       each group is lawful in the cache that those before it leave
+use Rattle.std.specs.Prelude.{◌==◌, ◌≤◌, ℕ, List, [], ◌∷◌, Bool, true, false, not, ◌&&◌, IsTrue, Option, None, Some, is_some, is_none}
+use Rattle.std.specs.Cmp.Lexicographic.{pointwise}
+use Rattle.std.specs.FinMap.{len}
+use Rattle.jc_types.specs.declared.config.Config.{Config}
+use Rattle.jc_model.specs.declared.event.Op.{Op}
+use Rattle.jc_model.specs.declared.event.Op.TheVariants.{Get, ContainsKey, Put, GetAndPut, PutIfAbsent, Remove, RemoveIf, GetAndRemove, Replace, ReplaceIf, GetAndReplace, Clear, LoadAll, Invoke}
+use Rattle.jc_model.specs.declared.event.Cause.{Cause}
+use Rattle.jc_model.specs.declared.event.Cause.TheVariants.{Full, Memory}
+use Rattle.jc_model.specs.Cache.{Bytes, Cache, entry_at}
+use Rattle.jc_model.specs.Table.{Seq, entry_left, load_given}
+use Rattle.jc_model.specs.Group.{Group, before, stepped, left_after}
+
+abbrev pub inserts : Cache → Group → Bool
+inserts cache group = is_none (entry_at (before cache group) group.made.key) && is_some (entry_left (before cache group) group.made)
+
+abbrev pub victim_fits : Config → Cache → Group → Option Bytes → Bool
+victim_fits config cache group None = true
+victim_fits config cache group (Some key) =
+    (len cache == config.capacity) && is_some (entry_at cache key) && not (pointwise ◌==◌ key group.made.key) && inserts cache group
+
+abbrev pub evicted_fits : Config → Cache → Group → Option Cause → Bool
+evicted_fits config cache group None = true
+evicted_fits config cache group (Some Memory) = inserts cache group
+evicted_fits config cache group (Some Full) = inserts cache group && (len cache == config.capacity) && is_none group.victim
+
+-- the operations that load a key whole, so that a `Get` may join them
+abbrev pub loads_whole : Op → Bool
+loads_whole Get = true
+loads_whole (LoadAll replace) = true
+loads_whole ContainsKey = false
+loads_whole (Put value) = false
+loads_whole (GetAndPut value) = false
+loads_whole (PutIfAbsent value) = false
+loads_whole Remove = false
+loads_whole (RemoveIf old) = false
+loads_whole GetAndRemove = false
+loads_whole (Replace value) = false
+loads_whole (ReplaceIf old value) = false
+loads_whole (GetAndReplace value) = false
+loads_whole Clear = false
+loads_whole Invoke = false
+
+abbrev pub is_joinable : Config → Cache → Group → Bool
+is_joinable config cache group =
+    config.read_through && loads_whole group.made.op && is_none (entry_at (before cache group) group.made.key) && load_given group.made.out.load
+
+abbrev pub joined_fits : Config → Cache → Group → List (ℕ × ℕ) → Bool
+joined_fits config cache group [] = true
+joined_fits config cache group (caller ∷ callers) = is_joinable config cache group
+
+pub record IsLawfulStep (config : Config) (cache : Cache) (group : Group) : Type 0 where
+  pub seq : Seq config (before cache group) group.made (stepped cache group)
+  pub victim : IsTrue (victim_fits config cache group group.victim)
+
+pub record IsLawful (config : Config) (cache : Cache) (group : Group) : Type 0 where
+  pub step : IsLawfulStep config cache group
+  pub joined : IsTrue (joined_fits config cache group group.joined)
+  pub evicted : IsTrue (evicted_fits config cache group group.evicted)
+  pub within : len (left_after cache group) ≤ config.capacity
+
+abbrev pub AreLawful : Config → Cache → List Group → Type 0
+AreLawful config cache [] = Unit {0}
+AreLawful config cache (group ∷ groups) = IsLawful config cache group × AreLawful config (left_after cache group) groups

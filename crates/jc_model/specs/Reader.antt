@@ -1,0 +1,125 @@
+-- How the checker `legal` goes over a history, event by event: what it keeps, and what it tests of the next event. Nobody above
+-- needs to believe it, since `legal` is proved to answer `Legal`.
+--     Stage        outside a group, behind a group's victim, or behind a group's step
+--     Fits         an event may come next
+--     then_stage, then_cache      the stage and the cache behind an event
+--     Accepts      each of the events fits behind those before it
+use Rattle.std.specs.Prelude.{◌≡◌, ◌==◌, ◌&&◌, ◌||◌, ℕ, ◌+◌, List, [], ◌∷◌, Bool, true, false, IsTrue, Option, None, Some, is_none, nat_le, nat_lt, if◌then◌else◌}
+use Rattle.std.specs.Cmp.Lexicographic.{pointwise}
+use Rattle.std.specs.FinMap.{len, remove}
+use Rattle.jc_types.specs.declared.config.Config.{Config}
+use Rattle.jc_model.specs.declared.event.Op.{Op}
+use Rattle.jc_model.specs.declared.event.Out.{Out}
+use Rattle.jc_model.specs.declared.event.Reply.{Reply}
+use Rattle.jc_model.specs.declared.event.Cause.{Cause}
+use Rattle.jc_model.specs.declared.event.Cause.TheVariants.{Full, Memory}
+use Rattle.jc_model.specs.declared.event.Event.{Event}
+use Rattle.jc_model.specs.declared.event.Event.TheVariants.{Step, Evict}
+use Rattle.jc_model.specs.declared.legal.Opened.{Opened}
+use Rattle.jc_model.specs.declared.legal.Stage.{Stage}
+use Rattle.jc_model.specs.declared.legal.Stage.TheVariants.{Outside, Picked, Inside}
+use Rattle.jc_model.specs.Cache.{Bytes, Cache}
+use Rattle.jc_model.specs.Table.{Made}
+use Rattle.jc_model.specs.Group.{Group, shared_event, stepped}
+use Rattle.jc_model.specs.Lawful.{victim_fits, is_joinable, inserts, IsLawfulStep}
+
+-- a group of which the step was read
+abbrev pub new_group : Option Bytes → ℕ → ℕ → Op → Bytes → Out → Reply → Group
+new_group victim session number op key out reply =
+    record { victim = victim; session = session; number = number; made = record { op = op; key = key; out = out; reply = reply }; joined = []; evicted = None }
+
+-- what is kept of a group whose step stands at a place
+abbrev pub opened : Config → Cache → ℕ → Group → Opened
+opened config cache place group =
+    record {
+      place = place;
+      key = group.made.key;
+      load = group.made.out.load;
+      is_joinable = is_joinable config cache group;
+      is_inserted = inserts cache group;
+      was_full = (len cache == config.capacity) && is_none group.victim;
+    }
+
+abbrev pub cause_fits : Opened → Cause → Bool
+cause_fits kept Full = kept.was_full
+cause_fits kept Memory = true
+
+-- the step's own key may go
+abbrev pub own_goes : Opened → Bytes → Cause → Bool
+own_goes kept key cause = pointwise ◌==◌ key kept.key && kept.is_inserted && cause_fits kept cause
+
+abbrev pub is_full : Cause → Bool
+is_full Full = true
+is_full Memory = false
+
+abbrev pub victim_of : Stage → Option Bytes
+victim_of Outside = None
+victim_of (Picked key) = Some key
+victim_of (Inside kept) = None
+
+abbrev pub group_at : Stage → ℕ → ℕ → Op → Bytes → Out → Reply → Group
+group_at stage session number op key out reply = new_group (victim_of stage) session number op key out reply
+
+-- no more entries than fit, at the end of a group
+abbrev pub is_within : Config → Cache → Stage → Bool
+is_within config cache Outside = true
+is_within config cache (Picked key) = true
+is_within config cache (Inside kept) = nat_le (len cache) config.capacity
+
+abbrev pub FitsShared : Stage → Event → Type 0
+FitsShared (Inside kept) (Step session number op key out shared_with reply) =
+    IsTrue kept.is_joinable × (Step session number op key out shared_with reply ≡ shared_event kept.place kept.key kept.load (session, number))
+FitsShared stage event = ⊥
+
+-- a victim is named between two groups, or the step's own key
+abbrev pub fits_evict : Config → Cache → Stage → Bytes → Cause → Bool
+fits_evict config cache Outside key cause = is_full cause
+fits_evict config cache (Picked victim) key cause = false
+fits_evict config cache (Inside kept) key cause = own_goes kept key cause || (is_full cause && nat_le (len cache) config.capacity)
+
+-- an event may come next
+abbrev pub Fits : Config → Cache → Stage → Event → Type 0
+Fits config cache stage (Step session number op key out None reply) =
+    IsTrue (is_within config cache stage) × IsLawfulStep config cache (group_at stage session number op key out reply)
+Fits config cache stage (Step session number op key out (Some place) reply) = FitsShared stage (Step session number op key out (Some place) reply)
+Fits config cache stage (Evict key cause) = IsTrue (fits_evict config cache stage key cause)
+
+abbrev pub evict_stage : Stage → Bytes → Cause → Stage
+evict_stage Outside key cause = Picked key
+evict_stage (Picked victim) key cause = Picked key
+evict_stage (Inside kept) key cause = if own_goes kept key cause then Outside else Picked key
+
+abbrev pub evict_cache : Cache → Stage → Bytes → Cause → Cache
+evict_cache cache Outside key cause = cache
+evict_cache cache (Picked victim) key cause = cache
+evict_cache cache (Inside kept) key cause = if own_goes kept key cause then remove cache key else cache
+
+-- the stage behind an event at a place
+abbrev pub then_stage : Config → Cache → ℕ → Stage → Event → Stage
+then_stage config cache place stage (Step session number op key out None reply) = Inside (opened config cache place (group_at stage session number op key out reply))
+then_stage config cache place stage (Step session number op key out (Some other) reply) = stage
+then_stage config cache place stage (Evict key cause) = evict_stage stage key cause
+
+-- the cache behind an event; a victim goes with the step
+abbrev pub then_cache : Cache → Stage → Event → Cache
+then_cache cache stage (Step session number op key out None reply) = stepped cache (group_at stage session number op key out reply)
+then_cache cache stage (Step session number op key out (Some other) reply) = cache
+then_cache cache stage (Evict key cause) = evict_cache cache stage key cause
+
+-- the history may end
+abbrev pub may_end : Config → Cache → Stage → Bool
+may_end config cache Outside = true
+may_end config cache (Picked key) = false
+may_end config cache (Inside kept) = nat_le (len cache) config.capacity
+
+-- each of the events fits behind those before it
+abbrev pub Accepts : Config → ℕ → Cache → Stage → List Event → Type 0
+Accepts config place cache stage [] = IsTrue (may_end config cache stage)
+Accepts config place cache stage (e ∷ es) =
+    Fits config cache stage e × Accepts config (place + 1) (then_cache cache stage e) (then_stage config cache place stage e) es
+
+-- a step of the same session with a lower number
+abbrev pub comes_before : Event → Event → Bool
+comes_before (Step s n op key out shared reply) (Step s' n' op' key' out' shared' reply') = (s == s') && nat_lt n n'
+comes_before (Step s n op key out shared reply) (Evict key' cause) = false
+comes_before (Evict key cause) event = false

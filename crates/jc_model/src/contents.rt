@@ -1,0 +1,163 @@
+//! A cache's contents: a map from keys to values.
+ghost use Rattle.std.specs.Prelude.{◌≡◌, ◌↔◌, ◌++◌, IsTrue, IfOk, OnOk, OnErr, is_ok, None};
+ghost use Rattle.std.specs.FinMap as map;
+ghost use Rattle.jc_model.specs.Cache.{entry_at, with_entry};
+
+use jc_types::key::Key;
+use jc_types::value::Value;
+use std::alloc::{AllocError, Global};
+use std::collections::BTreeMap;
+use std::marker::Model;
+
+/// A map from keys to values, in the byte order of the keys.
+#[derive(Drop)]
+pub struct Contents {
+    map: BTreeMap<Key, Value>,
+}
+
+impl Model for Contents {
+    ghost use Rattle.std.specs.FinMap.{from_entries};
+    ghost use Rattle.std.specs.BTreeMap.{IsOrdered};
+    ghost use Rattle.jc_model.specs.Cache.{Cache, cache_code, key_cmp};
+
+    ghost Value = { Cache };
+
+    ghost coded = { cache_code };
+
+    ghost view = { λ c. from_entries c.map.entries };
+
+    ghost invariant = { λ c. IsOrdered key_cmp c.map };
+}
+
+impl Contents {
+    /// The map with no entry.
+    pub fn new(alloc: Global) -> Self
+        ensures { result ≡ map.empty }
+    {
+        Contents {
+            map: BTreeMap::new(alloc),
+        }
+    }
+
+    /// The map of these entries: of two with one key the first counts.
+    pub fn of(alloc: Global, entries: &[(Key, Value)]) -> Result<Self, AllocError>
+        ensures { IfOk result (λ contents. contents ≡ map.from_entries entries.now) }
+    {
+        let mut contents = Contents::new(alloc);
+        for (key, value) in entries.iter().rev() {
+            contents.set(key, Some(*value))?;
+        }
+        Ok(contents)
+    }
+
+    /// The key's value, or none.
+    pub fn get(&self, key: &Key) -> Option<Value>
+        ensures { result ≡ entry_at self.now key.now }
+    {
+        self.map.get(key).copied()
+    }
+
+    /// How many keys there are.
+    pub fn len(&self) -> usize
+        ensures { result ≡ map.len self.now }
+    {
+        self.map.len()
+    }
+
+    /// Whether there is no key.
+    pub fn is_empty(&self) -> bool
+        ensures { IsTrue result ↔ (self.now ≡ map.empty) }
+    {
+        self.map.is_empty()
+    }
+
+    /// Gives the key this value, or none. Where memory is refused the map is as it was; to take out never fails.
+    pub fn set(&mut self, key: &Key, entry: Option<Value>) -> Result<(), AllocError>
+        ensures ok { OnOk result (self.new ≡ with_entry self.old key.now entry) }
+        ensures err { OnErr result (self.new ≡ self.old) }
+        ensures frees { entry ≡ None → IsTrue (is_ok result) }
+    {
+        match entry {
+            Some(value) => {
+                self.map.insert(*key, value)?;
+            }
+            None => {
+                self.map.remove(key);
+            }
+        }
+        Ok(())
+    }
+
+    /// Appends the entries to a list, in the byte order of the keys. Where memory is refused the list is as it was.
+    pub fn append_to(&self, out: &mut Vec<(Key, Value)>) -> Result<(), AllocError>
+        ensures ok { OnOk result (out.new.items ≡ out.old.items ++ map.entries self.now) }
+        ensures err { OnErr result (out.new.items ≡ out.old.items) }
+    {
+        let before = out.len();
+        for (key, value) in &self.map {
+            if out.push((*key, *value)).is_err() {
+                out.truncate(before);
+                return Err(AllocError);
+            }
+        }
+        Ok(())
+    }
+
+    /// The entries, in the byte order of the keys.
+    pub fn entries(&self, alloc: Global) -> Result<Vec<(Key, Value)>, AllocError>
+        ensures { IfOk result (λ entries. entries.items ≡ map.entries self.now) }
+    {
+        let mut entries = Vec::with_capacity(alloc, self.len())?;
+        self.append_to(&mut entries)?;
+        Ok(entries)
+    }
+}
+
+#[cfg(test)]
+mod tests {
+    use super::*;
+    use std::test::Fail;
+
+    #[test]
+    fn keeps_byte_order(rt: HostRuntime) -> Result<(), Fail> {
+        let upper = Key::new(b"B").expect(&rt, "a key");
+        let short = Key::new(b"a").expect(&rt, "a key");
+        let long = Key::new(b"ab").expect(&rt, "a key");
+        let one = Value::new(b"1").expect(&rt, "a value");
+        let two = Value::new(b"2").expect(&rt, "a value");
+        let mut contents = Contents::new(rt.alloc());
+        assert!(rt; contents.is_empty());
+        for (key, value) in [(long, one), (upper, one), (short, two), (long, two)] {
+            contents.set(&key, Some(value))?;
+        }
+        let entries = contents.entries(rt.alloc())?;
+        assert_eq!(rt;
+            entries.as_slice(),
+            [(upper, one), (short, two), (long, two)].as_slice()
+        );
+        contents.set(&short, None)?;
+        contents.set(&short, None)?;
+        assert_eq!(rt; contents.len(), 2);
+        assert_eq!(rt; contents.get(&short), None);
+        assert_eq!(rt; contents.get(&long), Some(two));
+        let mut listed = Vec::from_slice(rt.alloc(), [(short, one)].as_slice())?;
+        contents.append_to(&mut listed)?;
+        assert_eq!(rt;
+            listed.as_slice(),
+            [(short, one), (upper, one), (long, two)].as_slice()
+        );
+        Ok(())
+    }
+
+    #[test]
+    fn first_of_a_repeated_key_counts(rt: HostRuntime) -> Result<(), Fail> {
+        let a = Key::new(b"a").expect(&rt, "a key");
+        let b = Key::new(b"b").expect(&rt, "a key");
+        let one = Value::new(b"1").expect(&rt, "a value");
+        let two = Value::new(b"2").expect(&rt, "a value");
+        let contents = Contents::of(rt.alloc(), [(b, one), (a, two), (b, two)].as_slice())?;
+        let entries = contents.entries(rt.alloc())?;
+        assert_eq!(rt; entries.as_slice(), [(a, two), (b, one)].as_slice());
+        Ok(())
+    }
+}

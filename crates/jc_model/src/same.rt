@@ -1,0 +1,26 @@
+ghost use Rattle.std.specs.Prelude.{◌≡◌, ◌↔◌, IsTrue};
+ghost use Rattle.jc_model.specs.Group.{load_only};
+
+use crate::event::{Event, LoadAnswer, Op, Out, ProcessAnswer, Reply, WriteAnswer};
+
+/// Whether two replies are one.
+pub(crate) fn is_same_reply(first: &Reply, second: &Reply) -> bool
+    ensures { IsTrue result ↔ (first.now ≡ second.now) }
+{
+    *first == *second
+}
+
+pub(crate) fn is_same_load(first: &LoadAnswer, second: &LoadAnswer) -> bool
+    ensures { IsTrue result ↔ (first.now ≡ second.now) }
+{
+    *first == *second
+}
+
+/// Whether a load's answer was all that was said.
+pub(crate) fn is_load_only(out: &Out, load: &LoadAnswer) -> bool
+    ensures { IsTrue result ↔ (out.now ≡ load_only load.now) }
+{
+    is_same_load(&out.load, load)
+        && matches!(out.write, WriteAnswer::NotAsked)
+        && matches!(out.process, ProcessAnswer::NotAsked)
+}

@@ -1,0 +1,78 @@
+-- A script's pieces, from its first line feed on.
+use Rattle.std.proofs.Common.{◌≡◌, ◌==◌, ℕ, ◌+◌, ◌<◌, ◌≤◌, Bool, true, false, cond, not, ltb, List, [], ◌∷◌, ◌++◌, length, take, drop, Option, None, Some, inl, inr, refl, ap, ◌∙◌, arith, append_assoc}
+use Rattle.std.proofs.lemmas.Option.{cond_some}
+use Rattle.std.proofs.lemmas.Bool.{ltb-true, ltb-false, le-ltb}
+use Rattle.std.proofs.lemmas.List.Splits.{slice_split_first}
+use Rattle.std.specs.List.{onto_first, position, position_or_len}
+use Rattle.jc_script.specs.Transcript.{pieces_of, State, Prints, Transcript, fault_of}
+use Rattle.jc_script.specs.declared.fault.Fault.{Fault}
+use Rattle.jc_script.specs.declared.run.RunEnd.{RunEnd}
+use Rattle.jc_script.specs.declared.run.RunEnd.TheVariants.{Clean, LineFault}
+use Rattle.jc_script.specs.Printing.{fault_line}
+use Rattle.std.specs.Io.KnownBytes.{Appends}
+
+abbrev is_feed : ℕ → Bool
+is_feed b = b == 10
+
+pub cut_at : (bs : List ℕ) (i : ℕ) → position is_feed bs ≡ Some i → pieces_of bs ≡ take i bs ∷ pieces_of (drop (i + 1) bs)
+cut_at bs i e =
+    let p = cond_some (ltb (position_or_len is_feed bs) (length bs)) (position_or_len is_feed bs) i e in
+    rw (← p.1) (slice_split_first is_feed bs 0 (ltb-true (position_or_len is_feed bs) (length bs) p.0))
+
+pub within : (bs : List ℕ) (i : ℕ) → position is_feed bs ≡ Some i → i < length bs
+within bs i e =
+    let p = cond_some (ltb (position_or_len is_feed bs) (length bs)) (position_or_len is_feed bs) i e in
+    rw (← p.1) (ltb-true (position_or_len is_feed bs) (length bs) p.0)
+
+cond_none : {A : Type 0} (b : Bool) (x : A) → cond b (Some x) None ≡ None → b ≡ false
+cond_none true x e = absurd cc
+cond_none false x e = refl
+
+not_feed : (t : Bool) (b : ℕ) (bs : List ℕ) → (ltb (position_or_len is_feed bs) (length bs) ≡ false → pieces_of bs ≡ bs ∷ [])
+    → ltb (cond (not t) (1 + position_or_len is_feed bs) 0) (length (b ∷ bs)) ≡ false → cond t ([] ∷ pieces_of bs) (onto_first b (pieces_of bs)) ≡ (b ∷ bs) ∷ []
+not_feed true b bs ih e = absurd (omega (arith, ltb-false 0 (length (b ∷ bs)) e))
+not_feed false b bs ih e =
+    let le : length bs ≤ position_or_len is_feed bs = omega (arith, ltb-false (1 + position_or_len is_feed bs) (length (b ∷ bs)) e) in
+    rw (ih (le-ltb _ _ le)) refl
+
+no_feed : (bs : List ℕ) → ltb (position_or_len is_feed bs) (length bs) ≡ false → pieces_of bs ≡ bs ∷ []
+no_feed [] e = refl
+no_feed (b ∷ bs) e = not_feed (is_feed b) b bs (no_feed bs) e
+
+pub uncut : (bs : List ℕ) → position is_feed bs ≡ None → pieces_of bs ≡ bs ∷ []
+uncut bs e = no_feed bs (cond_none _ _ e)
+
+-- ---- there is always a piece
+
+first_of : (t : Bool) (x : ℕ) (parts : List (List ℕ)) → (p : List ℕ) × (ps : List (List ℕ)) × (cond t ([] ∷ parts) (onto_first x parts) ≡ p ∷ ps)
+first_of true x parts = ([], parts, refl)
+first_of false x [] = (x ∷ [], [], refl)
+first_of false x (q ∷ qs) = (x ∷ q, qs, refl)
+
+pub pieces_some : (bs : List ℕ) → (p : List ℕ) × (ps : List (List ℕ)) × (pieces_of bs ≡ p ∷ ps)
+pieces_some [] = ([], [], refl)
+pieces_some (b ∷ bs) = first_of (is_feed b) b (pieces_of bs)
+
+-- ---- a transcript from its first line on
+
+pub at_fault : (old : State) (n : ℕ) (line after : List ℕ) (pieces : List (List ℕ)) (f : Fault) → pieces ≡ line ∷ pieces_of after → fault_of old line ≡ Some f → Transcript old n pieces (fault_line n f) (LineFault n)
+at_fault old n line after pieces f e h =
+    let s = pieces_some after in
+    rw (e, s.2) (inr (f, h, refl, refl))
+
+pub at_line : (old new : State) (n : ℕ) (line after : List ℕ) (pieces : List (List ℕ)) (text rest : List ℕ) (end : RunEnd) → pieces ≡ line ∷ pieces_of after → Prints old line text new → Transcript new (n + 1) (pieces_of after) rest end → Transcript old n pieces (text ++ rest) end
+at_line old new n line after pieces text rest end e h t =
+    let s = pieces_some after in
+    rw (e, s.2) (inl (text, rest, new, h, rw s.2 at t, refl))
+
+pub at_end : (old : State) (n : ℕ) (rest : List ℕ) → length rest ≡ 0 → Transcript old n (pieces_of rest) [] Clean
+at_end old n [] e = (refl, refl)
+at_end old n (b ∷ bs) e = absurd (omega arith)
+
+-- ---- writes
+
+pub appends-then : (a b c : Option (List ℕ)) (xs ys : List ℕ) → Appends a b xs → Appends b c ys → Appends a c (xs ++ ys)
+appends-then None b c xs ys p q = tt
+appends-then (Some a) None c xs ys p q = absurd p
+appends-then (Some a) (Some b) None xs ys p q = absurd q
+appends-then (Some a) (Some b) (Some c) xs ys p q = q ∙ ap (λ (t : List ℕ). t ++ ys) p ∙ append_assoc a xs ys

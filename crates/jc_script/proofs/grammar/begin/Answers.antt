@@ -1,0 +1,14 @@
+use Rattle.std.proofs.Common.{◌≡◌, map, length, ℕ, ◌<◌, List, [], ◌∷◌, Err, refl, sym, arith, Bor}
+use Rattle.jc_script.specs.declared.fault.Fault.TheVariants.{BadLine}
+use Rattle.jc_script.specs.Lines.{begin_of}
+use Rattle.jc_script.proofs.grammar.begin.Goals as goal
+
+too_short : (ws : List (Bor (List ℕ))) → length ws < 3 → begin_of (map (λ w. w.now) ws) ≡ Err BadLine
+unfolding begin_of
+too_short [] h = refl
+too_short (a ∷ []) h = refl
+too_short (a ∷ b ∷ []) h = refl
+too_short (a ∷ b ∷ c ∷ more) h = absurd (omega arith)
+
+pub returns-in_default : goal.returns-in_default
+returns-in_default c = sym (too_short c.args.words.now c.in_default.len_below)

@@ -1,0 +1,14 @@
+use Rattle.std.proofs.Common.{◌≤◌, arith, drop, length}
+use Rattle.std.proofs.lemmas.List.{take_rest, length-drop}
+use Rattle.std.proofs.Math.Seq.{take-add}
+use Rattle.jc_script.proofs.Pieces.{appends-then}
+use Rattle.jc_script.proofs.input.write_out.Goals as goal
+
+pub loop-at-preserved : goal.loop-at-preserved
+loop-at-preserved g c =
+    let at = c.loop-at.at in
+    let n = c.in-Ok.n in
+    let bs = c.args.bytes.now in
+    let ensures = rw (take_rest bs at) at c.in-Ok.ensures in
+    let bound : n ≤ length (drop at bs) = ensures.bound in
+    (omega (arith, length-drop at bs), rw (take-add at n bs) (appends-then _ _ _ _ _ c.loop-at.invariant.1 ensures.bytes))

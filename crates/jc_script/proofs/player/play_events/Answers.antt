@@ -1,0 +1,13 @@
+use Rattle.std.proofs.Common.{◌∙◌, ap, refl, List, ◌++◌}
+use Rattle.jc_world.specs.declared.event.Shown.{Shown}
+use Rattle.jc_script.specs.Printing.{texts}
+use Rattle.jc_script.proofs.player.play_events.Goals as goal
+
+pub returns : goal.returns
+returns c =
+    let seen = c.in_ok-seen.seen.items in
+    let put = λ (shown : List Shown). c.args.out.now.items ++ texts c.args.about.now c.args.events.now shown in (
+      texts c.args.about.now c.args.events.now seen,
+      record { seen = seen; after = c.play.new.self.world; runs = c.in_ok-seen.ensures.run.0; text_is = refl; new_is = refl },
+      c.in_ok-put_texts.ensures ∙ ap put c.deref.ensures.value,
+    )

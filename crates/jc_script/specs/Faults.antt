@@ -1,0 +1,85 @@
+-- The faults of a line.
+--     text_of          the words of a fault
+--     config_fault     the fault of a world's shape: the first number out of its limits
+--     is_rising        a call's number is above all before it
+--     fits_now         the call's key waits for this act
+--     state_fault      the fault that the state of the world gives a line, the first one in order
+use Rattle.std.specs.Prelude.{ℕ, List, codes, Bool, true, nat_lt, Option, None, Some, Result, Ok, Err, if◌then◌else◌}
+use Rattle.jc_types.specs.declared.config.Refusal.{Refusal}
+use Rattle.jc_types.specs.declared.config.Refusal.TheVariants as refusal
+use Rattle.jc_types.specs.declared.config.Field.TheVariants.{Stripes, Capacity, History}
+use Rattle.jc_types.specs.Limits.{checked}
+use Rattle.jc_world.specs.declared.event.Part.{Part}
+use Rattle.jc_world.specs.declared.event.Under.{Under}
+use Rattle.jc_world.specs.World.{WorldState, under, part_of, is_busy, waits_for_load, waits_for_report, is_answered}
+use Rattle.jc_script.specs.declared.fault.Fault.{Fault}
+use Rattle.jc_script.specs.declared.fault.Fault.TheVariants.{CutLine, LineTooLong, BadByte, BadLine, BadNumber, BadCaller, BadKey, BadValue, NotOpen, OpenTwice, BadConfig, SetTooLate, NotRising, CallerBusy, NoSuchCall, NotNow}
+use Rattle.jc_script.specs.declared.line.Line.{Line}
+use Rattle.jc_script.specs.declared.line.Line.TheVariants.{Open, Set, Begin, OfCall, Foreign, Audit}
+use Rattle.jc_script.specs.declared.line.Act.{Act}
+use Rattle.jc_script.specs.declared.line.Act.TheVariants.{Read, ReadFail, Say, Apply, ApplyFail, ApplyLie, End}
+
+abbrev pub text_of : Fault → List ℕ
+text_of CutLine = codes "cut line"
+text_of LineTooLong = codes "line too long"
+text_of BadByte = codes "bad byte"
+text_of BadLine = codes "bad line"
+text_of BadNumber = codes "bad number"
+text_of BadCaller = codes "bad caller"
+text_of BadKey = codes "bad key"
+text_of BadValue = codes "bad value"
+text_of NotOpen = codes "not open"
+text_of OpenTwice = codes "open twice"
+text_of (BadConfig Stripes) = codes "bad config stripes"
+text_of (BadConfig Capacity) = codes "bad config capacity"
+text_of (BadConfig History) = codes "bad config history"
+text_of SetTooLate = codes "set too late"
+text_of NotRising = codes "number not rising"
+text_of CallerBusy = codes "caller busy"
+text_of NoSuchCall = codes "no such call"
+text_of NotNow = codes "not now"
+
+-- a shape is refused for a field alone
+abbrev pub field_fault : Refusal → Option Fault
+field_fault (refusal.BadConfig field) = Some (BadConfig field)
+field_fault other = None
+
+abbrev pub config_fault : Result (Unit {0}) Refusal → Option Fault
+config_fault (Ok u) = None
+config_fault (Err why) = field_fault why
+
+abbrev pub is_rising : Option ℕ → ℕ → Bool
+is_rising None number = true
+is_rising (Some last) number = nat_lt last number
+
+-- first the number, then the caller
+abbrev pub begin_fault : WorldState → ℕ → ℕ → Option Fault
+begin_fault w number session =
+    if is_rising w.last number then (if is_busy w session then Some CallerBusy else None) else Some NotRising
+
+abbrev pub fits_now : Act → Option Part → Bool
+fits_now Read part = waits_for_load part
+fits_now (ReadFail code) part = waits_for_load part
+fits_now (Say pairs) part = waits_for_load part
+fits_now Apply part = waits_for_report part
+fits_now (ApplyFail code) part = waits_for_report part
+fits_now (ApplyLie code) part = waits_for_report part
+fits_now End part = is_answered part
+
+abbrev pub act_fault : WorldState → ℕ → Act → Option Under → Option Fault
+act_fault w number act None = Some NoSuchCall
+act_fault w number act (Some u) = if fits_now act (part_of w number u.command.key) then None else Some NotNow
+
+abbrev pub state_fault : Option WorldState → Line → Option Fault
+state_fault None (Open config) = config_fault (checked config)
+state_fault None (Set key value) = Some NotOpen
+state_fault None (Begin number session command) = Some NotOpen
+state_fault None (OfCall number act) = Some NotOpen
+state_fault None (Foreign key value) = Some NotOpen
+state_fault None Audit = Some NotOpen
+state_fault (Some w) (Open config) = Some OpenTwice
+state_fault (Some w) (Set key value) = if w.fresh then None else Some SetTooLate
+state_fault (Some w) (Begin number session command) = begin_fault w number session
+state_fault (Some w) (OfCall number act) = act_fault w number act (under w number)
+state_fault (Some w) (Foreign key value) = None
+state_fault (Some w) Audit = None

@@ -1,0 +1,260 @@
+-- The kinds of line: first the shape of the whole line, then its words from the left.
+--     Gives            what a function returned is what the definition says, unless memory ran out
+--     form_named       the operation that a word names
+--     line_named       the kind of line that a first word names
+--     flags_of         what of read-through and write-through is on
+--     command_of       an operation with its key and values
+--     parsed           what the words of a line ask for
+--     read_line        what the bytes of a line ask for: nothing, for a comment
+use Rattle.std.specs.Prelude.{◌≡◌, ◌==◌, ℕ, List, [], ◌∷◌, length, Bool, true, false, ◌&&◌, not, nat_lt, nat_le, Option, Some, None, Result, Ok, Err, if◌then◌else◌, codes}
+use Rattle.std.specs.Str.{bytes_eq}
+use Rattle.std.specs.List.{list_all}
+use Rattle.jc_model.specs.Cache.{Bytes}
+use Rattle.jc_model.specs.declared.event.Op.{Op}
+use Rattle.jc_model.specs.declared.event.Op.TheVariants as op
+use Rattle.jc_world.specs.declared.event.Command.{Command}
+use Rattle.jc_script.specs.declared.fault.Fault.{Fault}
+use Rattle.jc_script.specs.declared.fault.Fault.TheVariants.{LineTooLong, BadByte, BadLine}
+use Rattle.jc_script.specs.declared.fault.ReadError.{ReadError}
+use Rattle.jc_script.specs.declared.fault.ReadError.TheVariants as errors
+use Rattle.jc_script.specs.declared.line.Line.{Line}
+use Rattle.jc_script.specs.declared.line.Line.TheVariants.{Open, Set, Begin, OfCall, Foreign, Audit}
+use Rattle.jc_script.specs.declared.line.Act.{Act}
+use Rattle.jc_script.specs.declared.line.Act.TheVariants.{Read, ReadFail, Say, Apply, ApplyFail, ApplyLie, End}
+use Rattle.jc_script.specs.declared.grammar.Bare.{Bare}
+use Rattle.jc_script.specs.declared.grammar.Bare.TheVariants as bare
+use Rattle.jc_script.specs.declared.grammar.Valued.{Valued}
+use Rattle.jc_script.specs.declared.grammar.Valued.TheVariants as valued
+use Rattle.jc_script.specs.declared.grammar.Form.{Form}
+use Rattle.jc_script.specs.declared.grammar.Form.TheVariants as form
+use Rattle.jc_script.specs.declared.grammar.Coded.{Coded}
+use Rattle.jc_script.specs.declared.grammar.Coded.TheVariants as coded
+use Rattle.jc_script.specs.declared.grammar.LineKind.{LineKind}
+use Rattle.jc_script.specs.declared.grammar.LineKind.TheVariants as line
+use Rattle.jc_script.specs.Words.{◌>>=◌, words_of, number_of, caller_of, key_of, value_of, value_or_none_of, pairs_of}
+
+abbrev pub Gives : {X : Type 0} → Result X ReadError → Result X Fault → Type 0
+Gives (Ok x) said = said ≡ Ok x
+Gives (Err errors.Memory) said = Unit {0}
+Gives (Err (errors.Fault fault)) said = said ≡ Err fault
+
+-- the same of a function that leaves its value in a place
+abbrev pub with_value : {X : Type 0} → X → Result (Unit {0}) ReadError → Result X ReadError
+with_value x (Ok u) = Ok x
+with_value x (Err e) = Err e
+
+-- 1. The fixed words.
+
+abbrev pub form_named : List ℕ → Result Form Fault
+form_named word =
+    if bytes_eq word (codes "get") then Ok (form.Bare bare.Get) else
+    if bytes_eq word (codes "contains") then Ok (form.Bare bare.Contains) else
+    if bytes_eq word (codes "put") then Ok (form.Valued valued.Put) else
+    if bytes_eq word (codes "getput") then Ok (form.Valued valued.GetPut) else
+    if bytes_eq word (codes "putif") then Ok (form.Valued valued.PutIf) else
+    if bytes_eq word (codes "remove") then Ok (form.Bare bare.Remove) else
+    if bytes_eq word (codes "removeif") then Ok (form.Valued valued.RemoveIf) else
+    if bytes_eq word (codes "getremove") then Ok (form.Bare bare.GetRemove) else
+    if bytes_eq word (codes "replace") then Ok (form.Valued valued.Replace) else
+    if bytes_eq word (codes "replaceif") then Ok form.ReplaceIf else
+    if bytes_eq word (codes "getreplace") then Ok (form.Valued valued.GetReplace) else
+    Err BadLine
+
+abbrev pub line_named : List ℕ → Result LineKind Fault
+line_named word =
+    if bytes_eq word (codes "begin") then Ok line.Begin else
+    if bytes_eq word (codes "read") then Ok line.Read else
+    if bytes_eq word (codes "apply") then Ok line.Apply else
+    if bytes_eq word (codes "end") then Ok line.End else
+    if bytes_eq word (codes "open") then Ok line.Open else
+    if bytes_eq word (codes "set") then Ok line.Set else
+    if bytes_eq word (codes "readfail") then Ok (line.Coded coded.ReadFail) else
+    if bytes_eq word (codes "say") then Ok line.Say else
+    if bytes_eq word (codes "applyfail") then Ok (line.Coded coded.ApplyFail) else
+    if bytes_eq word (codes "applylie") then Ok (line.Coded coded.ApplyLie) else
+    if bytes_eq word (codes "foreign") then Ok line.Foreign else
+    if bytes_eq word (codes "audit") then Ok line.Audit else
+    Err BadLine
+
+abbrev pub flags_of : List (List ℕ) → Result (Bool × Bool) Fault
+flags_of [] = Ok (false, false)
+flags_of (a ∷ []) =
+    if bytes_eq a (codes "read") then Ok (true, false) else
+    if bytes_eq a (codes "write") then Ok (false, true) else
+    Err BadLine
+flags_of (a ∷ b ∷ []) = if bytes_eq a (codes "read") && bytes_eq b (codes "write") then Ok (true, true) else Err BadLine
+flags_of (a ∷ b ∷ c ∷ more) = Err BadLine
+
+-- 2. Operations.
+
+-- how many words stand after an operation's name
+abbrev pub takes_words : Form → ℕ → Bool
+takes_words (form.Bare b) count = count == 1
+takes_words (form.Valued v) count = count == 2
+takes_words form.ReplaceIf count = count == 3
+
+abbrev pub bare_op : Bare → Op
+bare_op bare.Get = op.Get
+bare_op bare.Contains = op.ContainsKey
+bare_op bare.Remove = op.Remove
+bare_op bare.GetRemove = op.GetAndRemove
+
+abbrev pub valued_op : Valued → Bytes → Op
+valued_op valued.Put value = op.Put value
+valued_op valued.GetPut value = op.GetAndPut value
+valued_op valued.PutIf value = op.PutIfAbsent value
+valued_op valued.RemoveIf value = op.RemoveIf value
+valued_op valued.Replace value = op.Replace value
+valued_op valued.GetReplace value = op.GetAndReplace value
+
+abbrev pub bare_of : Bare → List (List ℕ) → Result Command Fault
+bare_of b (k ∷ []) = do
+  key ← key_of k
+  Ok (record { op = bare_op b; key = key })
+bare_of b [] = Err BadLine
+bare_of b (k ∷ x ∷ more) = Err BadLine
+
+abbrev pub valued_of : Valued → List (List ℕ) → Result Command Fault
+valued_of o (k ∷ v ∷ []) = do
+  key ← key_of k
+  value ← value_of v
+  Ok (record { op = valued_op o value; key = key })
+valued_of o [] = Err BadLine
+valued_of o (k ∷ []) = Err BadLine
+valued_of o (k ∷ v ∷ x ∷ more) = Err BadLine
+
+abbrev pub value_alone_of : List (List ℕ) → Result Bytes Fault
+value_alone_of (v ∷ []) = value_of v
+value_alone_of [] = Err BadLine
+value_alone_of (v ∷ x ∷ more) = Err BadLine
+
+unfoldable pub replace_if_of : List (List ℕ) → Result Command Fault
+replace_if_of (k ∷ v ∷ words) = do
+  key ← key_of k
+  old ← value_of v
+  value ← value_alone_of words
+  Ok (record { op = op.ReplaceIf old value; key = key })
+replace_if_of [] = Err BadLine
+replace_if_of (k ∷ []) = Err BadLine
+
+abbrev pub command_of : Form → List (List ℕ) → Result Command Fault
+command_of (form.Bare b) words = bare_of b words
+command_of (form.Valued v) words = valued_of v words
+command_of form.ReplaceIf words = replace_if_of words
+
+-- 3. Lines, from the words after the first.
+
+unfoldable pub open_of : List (List ℕ) → Result Line Fault
+open_of (s ∷ c ∷ h ∷ flags) = do
+  set ← flags_of flags
+  stripes ← number_of s
+  capacity ← number_of c
+  history ← number_of h
+  Ok (Open (record { stripes = stripes; capacity = capacity; history = history; read_through = set.0; write_through = set.1 }))
+open_of [] = Err BadLine
+open_of (s ∷ []) = Err BadLine
+open_of (s ∷ c ∷ []) = Err BadLine
+
+unfoldable pub set_of : List (List ℕ) → Result Line Fault
+set_of (k ∷ v ∷ []) = do
+  key ← key_of k
+  value ← value_of v
+  Ok (Set key value)
+set_of [] = Err BadLine
+set_of (k ∷ []) = Err BadLine
+set_of (k ∷ v ∷ x ∷ more) = Err BadLine
+
+unfoldable pub begin_of : List (List ℕ) → Result Line Fault
+begin_of (n ∷ who ∷ name ∷ words) = do
+  form ← form_named name
+  shaped ← (if takes_words form (length words) then Ok true else Err BadLine)
+  number ← number_of n
+  session ← caller_of who
+  command ← command_of form words
+  Ok (Begin number session command)
+begin_of [] = Err BadLine
+begin_of (n ∷ []) = Err BadLine
+begin_of (n ∷ who ∷ []) = Err BadLine
+
+-- one number
+abbrev pub number_alone : List (List ℕ) → Result ℕ Fault
+number_alone (n ∷ []) = number_of n
+number_alone [] = Err BadLine
+number_alone (n ∷ x ∷ more) = Err BadLine
+
+abbrev pub coded_act : Coded → ℕ → Act
+coded_act coded.ReadFail code = ReadFail code
+coded_act coded.ApplyFail code = ApplyFail code
+coded_act coded.ApplyLie code = ApplyLie code
+
+-- a call's number, and a code
+unfoldable pub coded_of : Coded → List (List ℕ) → Result Line Fault
+coded_of act (n ∷ words) = do
+  shaped ← (if length words == 1 then Ok true else Err BadLine)
+  number ← number_of n
+  code ← number_alone words
+  Ok (OfCall number (coded_act act code))
+coded_of act [] = Err BadLine
+
+unfoldable pub say_of : List (List ℕ) → Result Line Fault
+say_of (n ∷ words) = do
+  number ← number_of n
+  pairs ← pairs_of words
+  Ok (OfCall number (Say pairs))
+say_of [] = Err BadLine
+
+unfoldable pub foreign_of : List (List ℕ) → Result Line Fault
+foreign_of (k ∷ v ∷ []) = do
+  key ← key_of k
+  value ← value_or_none_of v
+  Ok (Foreign key value)
+foreign_of [] = Err BadLine
+foreign_of (k ∷ []) = Err BadLine
+foreign_of (k ∷ v ∷ x ∷ more) = Err BadLine
+
+abbrev pub audit_of : List (List ℕ) → Result Line Fault
+audit_of [] = Ok Audit
+audit_of (x ∷ more) = Err BadLine
+
+abbrev pub line_of : LineKind → List (List ℕ) → Result Line Fault
+line_of line.Open words = open_of words
+line_of line.Set words = set_of words
+line_of line.Begin words = begin_of words
+line_of line.Read words = number_alone words >>= λ number. Ok (OfCall number Read)
+line_of (line.Coded act) words = coded_of act words
+line_of line.Say words = say_of words
+line_of line.Apply words = number_alone words >>= λ number. Ok (OfCall number Apply)
+line_of line.End words = number_alone words >>= λ number. Ok (OfCall number End)
+line_of line.Foreign words = foreign_of words
+line_of line.Audit words = audit_of words
+
+-- no two spaces together, and none at either end
+abbrev pub are_words : List (List ℕ) → Bool
+are_words words = list_all (λ w. nat_lt 0 (length w)) words
+
+unfoldable pub parsed : List (List ℕ) → Result Line Fault
+parsed [] = Err BadLine
+parsed (name ∷ words) = if are_words (name ∷ words) then (do
+  kind ← line_named name
+  line_of kind words) else Err BadLine
+
+-- 4. A whole line.
+
+-- a space up to a tilde
+abbrev pub is_plain : ℕ → Bool
+is_plain b = nat_le 32 b && nat_le b 126
+
+abbrev pub is_comment : List ℕ → Bool
+is_comment [] = true
+is_comment (b ∷ bs) = b == 35
+
+abbrev pub some_line : Result Line Fault → Result (Option Line) Fault
+some_line (Ok l) = Ok (Some l)
+some_line (Err f) = Err f
+
+unfoldable pub read_line : List ℕ → Result (Option Line) Fault
+read_line text =
+    if nat_lt 65536 (length text) then Err LineTooLong else
+    if not (list_all is_plain text) then Err BadByte else
+    if is_comment text then Ok None else
+    some_line (parsed (words_of text))

@@ -1,0 +1,201 @@
+-- What is printed, as bytes.
+--     told          what is printed of an event, from what the world showed of it
+--     texts         the same of events one after another
+--     audit_text    what is printed of an audit
+--     fault_line    the line that ends a transcript
+use Rattle.std.specs.Prelude.{◌==◌, ℕ, ◌+◌, List, [], ◌∷◌, ◌++◌, length, codes, decimal, Bool, true, false, Option, None, Some, if◌then◌else◌}
+use Rattle.std.specs.List.{flat_map}
+use Rattle.jc_types.specs.declared.config.Refusal.{Refusal}
+use Rattle.jc_types.specs.declared.config.Refusal.TheVariants.{HistoryFull, Busy, TooManyInFlight, TooManyJoiners, LoaderFailed, WriterFailed, ProcessorFailed, OutOfMemory, TooManyKeys, BadConfig, NoLoader, NoWriter, TooManySessions, StillReserved}
+use Rattle.jc_types.specs.Refusals.{refusal_name}
+use Rattle.jc_model.specs.Cache.{Bytes}
+use Rattle.jc_model.specs.declared.event.Cause.{Cause}
+use Rattle.jc_model.specs.declared.event.Cause.TheVariants.{Full, Memory}
+use Rattle.jc_model.specs.declared.event.Change.{Change}
+use Rattle.jc_model.specs.declared.event.Change.TheVariants.{Write, Delete}
+use Rattle.jc_model.specs.declared.event.LoadAnswer.{LoadAnswer}
+use Rattle.jc_model.specs.declared.event.LoadAnswer.TheVariants as load
+use Rattle.jc_model.specs.declared.event.Reply.{Reply}
+use Rattle.jc_model.specs.declared.event.Reply.TheVariants as reply
+use Rattle.jc_world.specs.declared.event.WorldEvent.{WorldEvent}
+use Rattle.jc_world.specs.declared.event.WorldEvent.TheVariants as event
+use Rattle.jc_world.specs.declared.event.Shown.{Shown}
+use Rattle.jc_world.specs.declared.event.Shown.TheVariants as shown
+use Rattle.jc_world.specs.declared.event.Stepped.{Stepped}
+use Rattle.jc_world.specs.declared.event.Reported.{Reported}
+use Rattle.jc_script.specs.declared.fault.Fault.{Fault}
+use Rattle.jc_script.specs.Faults.{text_of}
+
+-- 1. Values, replies and places.
+
+abbrev pub value_text : Bytes → List ℕ
+value_text value = if length value == 0 then codes "~" else value
+
+abbrev pub value_or_none_text : Option Bytes → List ℕ
+value_or_none_text None = codes "-"
+value_or_none_text (Some value) = value_text value
+
+-- a fault's name and code
+unfoldable pub coded_text : Refusal → ℕ → List ℕ
+coded_text refusal code = refusal_name refusal ++ codes " " ++ decimal code
+
+abbrev pub refusal_text : Refusal → List ℕ
+refusal_text (LoaderFailed code) = coded_text (LoaderFailed code) code
+refusal_text (WriterFailed code) = coded_text (WriterFailed code) code
+refusal_text (ProcessorFailed code) = coded_text (ProcessorFailed code) code
+refusal_text HistoryFull = refusal_name HistoryFull
+refusal_text Busy = refusal_name Busy
+refusal_text TooManyInFlight = refusal_name TooManyInFlight
+refusal_text TooManyJoiners = refusal_name TooManyJoiners
+refusal_text OutOfMemory = refusal_name OutOfMemory
+refusal_text TooManyKeys = refusal_name TooManyKeys
+refusal_text (BadConfig field) = refusal_name (BadConfig field)
+refusal_text NoLoader = refusal_name NoLoader
+refusal_text NoWriter = refusal_name NoWriter
+refusal_text TooManySessions = refusal_name TooManySessions
+refusal_text StillReserved = refusal_name StillReserved
+
+abbrev pub flag_text : Bool → List ℕ
+flag_text true = codes "true"
+flag_text false = codes "false"
+
+abbrev pub reply_text : Reply → List ℕ
+reply_text reply.Unit = codes "ok"
+reply_text (reply.Flag flag) = flag_text flag
+reply_text (reply.Value value) = value_or_none_text value
+reply_text (reply.Fault refusal) = refusal_text refusal
+
+-- the end of a line that names a place
+unfoldable pub place_text : ℕ → ℕ → List ℕ
+place_text stripe place = codes " at " ++ decimal stripe ++ codes "." ++ decimal place ++ codes "\n"
+
+-- 2. What is printed of a call's key, from what was shown.
+
+-- how such a line begins
+unfoldable pub subject : ℕ → Bytes → List ℕ
+subject call key = decimal call ++ codes " " ++ key
+
+abbrev pub cause_name : Cause → List ℕ
+cause_name Full = codes "full"
+cause_name Memory = codes "memory"
+
+unfoldable pub evict_line : Bytes → Cause → ℕ → ℕ → List ℕ
+evict_line key cause stripe place = codes "evict " ++ key ++ codes " " ++ cause_name cause ++ place_text stripe place
+
+-- the eviction behind a step
+abbrev pub evicted_text : Bytes → Option Cause → ℕ → ℕ → List ℕ
+evicted_text key None stripe place = []
+evicted_text key (Some cause) stripe place = evict_line key cause stripe (place + 1)
+
+unfoldable pub stepped_text : ℕ → Bytes → Stepped → List ℕ
+stepped_text call key seen =
+    subject call key ++ codes " is " ++ reply_text seen.reply ++ place_text seen.stripe seen.place ++ evicted_text key seen.evicted seen.stripe seen.place
+
+unfoldable pub loads_line : ℕ → Bytes → List ℕ
+loads_line call key = subject call key ++ codes " load\n"
+
+unfoldable pub write_line : ℕ → Bytes → Bytes → List ℕ
+write_line call key value = subject call key ++ codes " write " ++ value_text value ++ codes "\n"
+
+unfoldable pub delete_line : ℕ → Bytes → List ℕ
+delete_line call key = subject call key ++ codes " delete\n"
+
+abbrev pub asks_text : ℕ → Bytes → Change → List ℕ
+asks_text call key (Write value) = write_line call key value
+asks_text call key Delete = delete_line call key
+
+unfoldable pub refused_line : ℕ → Bytes → Refusal → List ℕ
+refused_line call key refusal = subject call key ++ codes " refused " ++ refusal_name refusal ++ codes "\n"
+
+unfoldable pub fails_line : ℕ → ℕ → List ℕ
+fails_line call code = decimal call ++ codes " fails " ++ decimal code ++ codes "\n"
+
+unfoldable pub answer_line : ℕ → Bytes → List ℕ → Option Bytes → List ℕ
+answer_line call key verb value = subject call key ++ verb ++ value_or_none_text value ++ codes "\n"
+
+abbrev pub answer_text : ℕ → Bytes → List ℕ → LoadAnswer → List ℕ
+answer_text call key verb load.NotAsked = []
+answer_text call key verb (load.Found value) = answer_line call key verb (Some value)
+answer_text call key verb load.Nothing = answer_line call key verb None
+answer_text call key verb (load.Failed code) = fails_line call code
+
+abbrev pub done_name : Change → List ℕ
+done_name (Write value) = codes " written\n"
+done_name Delete = codes " deleted\n"
+
+abbrev pub change_name : Change → Bool → List ℕ
+change_name change true = done_name change
+change_name change false = codes " left\n"
+
+abbrev pub fails_text : ℕ → Option ℕ → List ℕ
+fails_text call None = []
+fails_text call (Some code) = fails_line call code
+
+unfoldable pub reported_text : ℕ → Bytes → Reported → List ℕ
+reported_text call key seen = subject call key ++ change_name seen.change seen.is_changed ++ fails_text call seen.fault
+
+abbrev pub shown_text : ℕ → Bytes → Shown → List ℕ
+shown_text call key shown.Begun = []
+shown_text call key (shown.Stepped seen) = stepped_text call key seen
+shown_text call key shown.Loads = loads_line call key
+shown_text call key (shown.Asks change) = asks_text call key change
+shown_text call key (shown.Refused refusal) = refused_line call key refusal
+shown_text call key (shown.Reads answer) = answer_text call key (codes " reads ") answer
+shown_text call key (shown.Says answer) = answer_text call key (codes " says ") answer
+shown_text call key shown.Changed = []
+shown_text call key (shown.Reported seen) = reported_text call key seen
+shown_text call key shown.Written = []
+shown_text call key shown.Unfit = []
+
+-- 3. What is printed of events.
+
+unfoldable pub foreign_line : Bytes → Option Bytes → List ℕ
+foreign_line key value = codes "foreign " ++ key ++ codes " " ++ value_or_none_text value ++ codes "\n"
+
+-- of one event; a report speaks of the key that its line is about
+abbrev pub told : Bytes → WorldEvent → Shown → List ℕ
+told about (event.Call call session command) seen = []
+told about (event.Start call key) seen = shown_text call key seen
+told about (event.Read call key) seen = shown_text call key seen
+told about (event.Say call key answer) seen = shown_text call key seen
+told about (event.Change call key) seen = shown_text call key seen
+told about (event.Report call fault) seen = shown_text call about seen
+told about (event.Commit call key) seen = shown_text call key seen
+told about (event.Foreign key value) seen = foreign_line key value
+
+abbrev pub texts : Bytes → List WorldEvent → List Shown → List ℕ
+texts about [] seen = []
+texts about (e ∷ events) [] = []
+texts about (e ∷ events) (s ∷ seen) = told about e s ++ texts about events seen
+
+-- 4. An audit, and the last line.
+
+unfoldable pub entry_text : Bytes × Bytes → List ℕ
+entry_text entry = codes " " ++ entry.0 ++ codes "=" ++ value_text entry.1
+
+unfoldable pub entries_line : List ℕ → List (Bytes × Bytes) → List ℕ
+entries_line name entries = name ++ flat_map entry_text entries ++ codes "\n"
+
+unfoldable pub key_text : Bytes → List ℕ
+key_text key = codes " " ++ key
+
+unfoldable pub differs_line : List Bytes → List ℕ
+differs_line keys = codes "differs" ++ flat_map key_text keys ++ codes "\n"
+
+abbrev pub coherence_text : List Bytes → List ℕ
+coherence_text [] = codes "coherent\n"
+coherence_text (key ∷ keys) = differs_line (key ∷ keys)
+
+abbrev pub legal_name : Bool → List ℕ
+legal_name true = codes " legal\n"
+legal_name false = codes " illegal\n"
+
+unfoldable pub history_line : ℕ → Bool → List ℕ
+history_line events legal = codes "history " ++ decimal events ++ legal_name legal
+
+unfoldable pub audit_text : List (Bytes × Bytes) → List (Bytes × Bytes) → List Bytes → ℕ → Bool → List ℕ
+audit_text cached stored keys events legal =
+    entries_line (codes "cache") cached ++ entries_line (codes "store") stored ++ coherence_text keys ++ history_line events legal
+
+unfoldable pub fault_line : ℕ → Fault → List ℕ
+fault_line number fault = codes "line " ++ decimal number ++ codes ": " ++ text_of fault ++ codes "\n"

@@ -1,0 +1,137 @@
+-- The transcript of a script, as a relation, since the world may choose.
+--     events_of        the events that an act stands for, for a call's number and key
+--     begin_events     the events that the begin of a call stands for
+--     PlaysEvents      the world may take these events, and this is printed of them
+--     Audited          what is printed of an audit
+--     Plays            a line with no fault: what it prints and leaves. ⊥ stands where no such line is played
+--     Prints           the same from the line's bytes
+--     fault_of         the fault of a line, from its bytes
+--     pieces_of        what stands between the line feeds; the last piece has none after it
+--     Transcript       from a state and a line on, the pieces print this and end so
+--     IsTranscript     the same of a whole script
+use Rattle.std.specs.Prelude.{◌≡◌, ◌==◌, ◌⊎◌, ℕ, ◌+◌, List, [], ◌∷◌, ◌++◌, Bool, true, IsTrue, Option, None, Some, Result, Ok, Err, codes}
+use Rattle.std.specs.List.{slice_split}
+use Rattle.jc_model.specs.Cache.{Bytes}
+use Rattle.jc_model.specs.declared.event.LoadAnswer.TheVariants.{Failed}
+use Rattle.jc_world.specs.declared.event.Command.{Command}
+use Rattle.jc_world.specs.declared.event.Under.{Under}
+use Rattle.jc_world.specs.declared.event.Shown.{Shown}
+use Rattle.jc_world.specs.declared.event.WorldEvent.{WorldEvent}
+use Rattle.jc_world.specs.declared.event.WorldEvent.TheVariants as event
+use Rattle.jc_world.specs.World.{WorldState, start, under, with_stored}
+use Rattle.jc_world.specs.Played.{Played}
+use Rattle.jc_world.specs.Events.{Run}
+use Rattle.jc_world.specs.Audit.{IsAudit}
+use Rattle.jc_world.specs.Coherent.{all_hold}
+use Rattle.jc_script.specs.declared.fault.Fault.{Fault}
+use Rattle.jc_script.specs.declared.fault.Fault.TheVariants.{CutLine}
+use Rattle.jc_script.specs.declared.line.Line.{Line}
+use Rattle.jc_script.specs.declared.line.Line.TheVariants.{Open, Set, Begin, OfCall, Foreign, Audit}
+use Rattle.jc_script.specs.declared.line.Act.{Act}
+use Rattle.jc_script.specs.declared.line.Act.TheVariants.{Read, ReadFail, Say, Apply, ApplyFail, ApplyLie, End}
+use Rattle.jc_script.specs.declared.run.RunEnd.{RunEnd}
+use Rattle.jc_script.specs.declared.run.RunEnd.TheVariants.{Clean, LineFault}
+use Rattle.jc_script.specs.Words.{said}
+use Rattle.jc_script.specs.Lines.{read_line}
+use Rattle.jc_script.specs.Faults.{state_fault}
+use Rattle.jc_script.specs.Printing.{texts, audit_text, fault_line}
+
+-- a world, once it was opened
+abbrev pub State : Type 0
+State = Option WorldState
+
+abbrev pub state_of : Option Played → State
+state_of None = None
+state_of (Some played) = Some played.world
+
+-- 1. The events that lines stand for.
+
+abbrev pub begin_events : ℕ → ℕ → Command → List WorldEvent
+begin_events number session command = event.Call number session command ∷ event.Start number command.key ∷ []
+
+abbrev pub events_of : ℕ → Bytes → Act → List WorldEvent
+events_of number key Read = event.Read number key ∷ []
+events_of number key (ReadFail code) = event.Say number key (Failed code) ∷ []
+events_of number key (Say pairs) = event.Say number key (said pairs key) ∷ []
+events_of number key Apply = event.Change number key ∷ event.Report number None ∷ []
+events_of number key (ApplyFail code) = event.Report number (Some code) ∷ []
+events_of number key (ApplyLie code) = event.Change number key ∷ event.Report number (Some code) ∷ []
+events_of number key End = event.Commit number key ∷ []
+
+-- 2. What a line prints, and what it leaves.
+
+-- of a line that is about the key
+pub record PlaysEvents (w : WorldState) (key : Bytes) (events : List WorldEvent) (text : List ℕ) (new : State) : Type 0 where
+  pub seen : List Shown
+  pub after : WorldState
+  pub runs : Run w events seen after
+  pub text_is : text ≡ texts key events seen
+  pub new_is : new ≡ Some after
+
+-- the call's own key
+abbrev pub PlaysAct : WorldState → ℕ → Act → Option Under → List ℕ → State → Type 0
+PlaysAct w number act None text new = ⊥
+PlaysAct w number act (Some u) text new = PlaysEvents w u.command.key (events_of number u.command.key act) text new
+
+-- an audit always says legal, and never names a key while write-through is on and the premises have held
+pub record Audited (w : WorldState) (text : List ℕ) : Type 0 where
+  pub cached : List (Bytes × Bytes)
+  pub stored : List (Bytes × Bytes)
+  pub keys : List Bytes
+  pub events : ℕ
+  pub legal : Bool
+  pub says : IsAudit w cached stored keys events legal
+  pub is_legal : IsTrue legal
+  pub is_coherent : all_hold w ≡ true → keys ≡ []
+  pub text_is : text ≡ audit_text cached stored keys events legal
+
+abbrev pub Plays : State → Line → List ℕ → State → Type 0
+Plays None (Open config) text new = (text ≡ codes "open\n") × (new ≡ Some (start config))
+Plays (Some w) (Set key value) text new = (text ≡ []) × (new ≡ Some (with_stored w key value))
+Plays (Some w) (Begin number session command) text new = PlaysEvents w command.key (begin_events number session command) text new
+Plays (Some w) (OfCall number act) text new = PlaysAct w number act (under w number) text new
+Plays (Some w) (Foreign key value) text new = PlaysEvents w key (event.Foreign key value ∷ []) text new
+Plays (Some w) Audit text new = Audited w text × (new ≡ Some w)
+Plays None (Set key value) text new = ⊥
+Plays None (Begin number session command) text new = ⊥
+Plays None (OfCall number act) text new = ⊥
+Plays None (Foreign key value) text new = ⊥
+Plays None Audit text new = ⊥
+Plays (Some w) (Open config) text new = ⊥
+
+-- a comment prints nothing and changes nothing; other lines are played where they have no fault
+abbrev pub PlaysRead : State → Result (Option Line) Fault → List ℕ → State → Type 0
+PlaysRead old (Ok None) text new = (text ≡ []) × (new ≡ old)
+PlaysRead old (Ok (Some line)) text new = (state_fault old line ≡ None) × Plays old line text new
+PlaysRead old (Err fault) text new = ⊥
+
+abbrev pub fault_read : State → Result (Option Line) Fault → Option Fault
+fault_read old (Ok None) = None
+fault_read old (Ok (Some line)) = state_fault old line
+fault_read old (Err fault) = Some fault
+
+abbrev pub Prints : State → List ℕ → List ℕ → State → Type 0
+Prints old line text new = PlaysRead old (read_line line) text new
+
+abbrev pub fault_of : State → List ℕ → Option Fault
+fault_of old line = fault_read old (read_line line)
+
+-- 3. Whole scripts.
+
+abbrev pub pieces_of : List ℕ → List (List ℕ)
+pieces_of input = slice_split (λ b. b == 10) input
+
+-- a last piece with bytes is a cut line
+abbrev pub Ends : ℕ → List ℕ → List ℕ → RunEnd → Type 0
+Ends n [] out end = (out ≡ []) × (end ≡ Clean)
+Ends n (b ∷ bs) out end = (out ≡ fault_line n CutLine) × (end ≡ LineFault n)
+
+abbrev pub Transcript : State → ℕ → List (List ℕ) → List ℕ → RunEnd → Type 0
+Transcript old n [] out end = ⊥
+Transcript old n (last ∷ []) out end = Ends n last out end
+Transcript old n (line ∷ next ∷ more) out end =
+    ((text : List ℕ) × (rest : List ℕ) × (new : State) × Prints old line text new × Transcript new (n + 1) (next ∷ more) rest end × (out ≡ text ++ rest))
+    ⊎ ((fault : Fault) × (fault_of old line ≡ Some fault) × (out ≡ fault_line n fault) × (end ≡ LineFault n))
+
+abbrev pub IsTranscript : List ℕ → List ℕ → RunEnd → Type 0
+IsTranscript input out end = Transcript None 1 (pieces_of input) out end

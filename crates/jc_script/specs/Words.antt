@@ -1,0 +1,109 @@
+-- The kinds of word of a line. Each is a function from the word to its value or its fault.
+--     words_of       the words of a line, parted by single spaces
+--     number_of      a number, up to 999999999
+--     caller_of      a session, s1 to s32
+--     key_of         a key: letters, digits, low lines and dots
+--     value_of       a value: the same letters, or a tilde for the empty one
+--     pairs_of       pairs of a key and a value
+--     said           what pairs say of a key: the last pair with it counts
+use Rattle.std.specs.Prelude.{◌==◌, ℕ, ◌+◌, ◌-◌, ◌*◌, List, [], ◌∷◌, ◌++◌, length, take, drop, Option, Some, None, Bool, ◌&&◌, ◌||◌, nat_lt, nat_le, Result, Ok, Err, if◌then◌else◌, codes}
+use Rattle.std.specs.Str.{bytes_eq}
+use Rattle.std.specs.List.{list_all}
+use Rattle.std.specs.List.{slice_split, position}
+use Rattle.std.specs.Cmp.Lexicographic.{pointwise}
+use Rattle.jc_types.specs.declared.key.TheConstants.{KEY_MAX}
+use Rattle.jc_types.specs.declared.value.TheConstants.{VALUE_MAX}
+use Rattle.jc_model.specs.Cache.{Bytes}
+use Rattle.jc_model.specs.declared.event.LoadAnswer.{LoadAnswer}
+use Rattle.jc_model.specs.declared.event.LoadAnswer.TheVariants.{Found, Nothing}
+use Rattle.jc_script.specs.declared.fault.Fault.{Fault}
+use Rattle.jc_script.specs.declared.fault.Fault.TheVariants.{BadNumber, BadCaller, BadKey, BadValue}
+
+-- what a step that may fail goes on with
+infixl 10 ◌>>=◌
+abbrev pub ◌>>=◌ : {A B : Type 0} → Result A Fault → (A → Result B Fault) → Result B Fault
+(Ok x) >>= f = f x
+(Err e) >>= f = Err e
+
+abbrev pub words_of : List ℕ → List (List ℕ)
+words_of line = slice_split (λ b. b == 32) line
+
+abbrev pub is_digit : ℕ → Bool
+is_digit b = nat_le 48 b && nat_le b 57
+
+abbrev pub is_letter : ℕ → Bool
+is_letter b = (nat_le 65 b && nat_le b 90) || (nat_le 97 b && nat_le b 122) || is_digit b || (b == 95) || (b == 46)
+
+-- a number that goes on with these digits
+abbrev pub digits_from : ℕ → List ℕ → Result ℕ Fault
+digits_from n [] = Ok n
+digits_from n (b ∷ bs) = if is_digit b && nat_le (n * 10 + (b - 48)) 999999999 then digits_from (n * 10 + (b - 48)) bs else Err BadNumber
+
+-- no leading zero but 0 itself
+abbrev pub number_of : List ℕ → Result ℕ Fault
+number_of [] = Err BadNumber
+number_of (b ∷ bs) = if (b == 48) && nat_lt 0 (length bs) then Err BadNumber else digits_from 0 (b ∷ bs)
+
+abbrev pub caller_if : Result ℕ Fault → Result ℕ Fault
+caller_if (Ok n) = if nat_le 1 n && nat_le n 32 then Ok n else Err BadCaller
+caller_if (Err e) = Err BadCaller
+
+abbrev pub caller_of : List ℕ → Result ℕ Fault
+caller_of [] = Err BadCaller
+caller_of (b ∷ bs) = if b == 115 then caller_if (number_of bs) else Err BadCaller
+
+-- at least one of the letters, and at most so many
+abbrev pub is_text : ℕ → List ℕ → Bool
+is_text most word = nat_lt 0 (length word) && nat_le (length word) most && list_all is_letter word
+
+abbrev pub key_of : List ℕ → Result Bytes Fault
+key_of word = if is_text KEY_MAX word then Ok word else Err BadKey
+
+abbrev pub value_of : List ℕ → Result Bytes Fault
+value_of word = if bytes_eq word (codes "~") then Ok [] else if is_text VALUE_MAX word then Ok word else Err BadValue
+
+-- a value, or a dash for none
+abbrev pub some_value : Result Bytes Fault → Result (Option Bytes) Fault
+some_value (Ok value) = Ok (Some value)
+some_value (Err fault) = Err fault
+
+abbrev pub value_or_none_of : List ℕ → Result (Option Bytes) Fault
+value_or_none_of word = if bytes_eq word (codes "-") then Ok None else some_value (value_of word)
+
+-- pairs: a key, an equals sign and a value, cut at the first sign
+
+abbrev pub Pairs : Type 0
+Pairs = List (Bytes × Bytes)
+
+abbrev pub key_part : Option ℕ → List ℕ → List ℕ
+key_part None word = word
+key_part (Some at) word = take at word
+
+abbrev pub value_part : Option ℕ → List ℕ → Result Bytes Fault
+value_part None word = Err BadValue
+value_part (Some at) word = value_of (drop (at + 1) word)
+
+abbrev pub equals_at : List ℕ → Option ℕ
+equals_at word = position (λ b. b == 61) word
+
+-- the pairs so far, with one more: the key is judged before the value
+unfoldable pub pair_onto : Pairs → List ℕ → Result Pairs Fault
+pair_onto pairs word = do
+  key ← key_of (key_part (equals_at word) word)
+  value ← value_part (equals_at word) word
+  Ok (pairs ++ (key, value) ∷ [])
+
+abbrev pub pairs_from : Pairs → List (List ℕ) → Result Pairs Fault
+pairs_from pairs [] = Ok pairs
+pairs_from pairs (word ∷ words) = pair_onto pairs word >>= λ more. pairs_from more words
+
+abbrev pub pairs_of : List (List ℕ) → Result Pairs Fault
+pairs_of words = pairs_from [] words
+
+-- a later pair with the key takes the place of an answer so far
+abbrev pub said_after : LoadAnswer → Pairs → Bytes → LoadAnswer
+said_after answer [] key = answer
+said_after answer (pair ∷ pairs) key = said_after (if pointwise ◌==◌ pair.0 key then Found pair.1 else answer) pairs key
+
+abbrev pub said : Pairs → Bytes → LoadAnswer
+said pairs key = said_after Nothing pairs key

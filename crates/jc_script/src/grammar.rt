@@ -1,0 +1,469 @@
+//! The kinds of line, and what each asks for.
+ghost use Rattle.std.specs.Prelude.{◌≡◌, map, length, IfOk};
+ghost use Rattle.std.specs.List.{list_all};
+ghost use Rattle.jc_script.specs.Lines.{Gives, form_named, line_named, flags_of, takes_words, bare_op, valued_op, bare_of, valued_of, value_alone_of, replace_if_of, command_of, open_of, set_of, begin_of, number_alone, coded_act, coded_of, say_of, foreign_of, audit_of, line_of, are_words, parsed, is_plain, is_comment, read_line};
+
+use crate::fault::{Fault, ReadError};
+use crate::line::{Act, Line};
+use crate::words::{caller, is, key, number, pairs, value, value_or_none, words};
+use jc_model::event::Op;
+use jc_types::config::Config;
+use jc_types::value::Value;
+use jc_world::event::Command;
+use std::alloc::Global;
+
+/// An operation with no value.
+#[derive(Clone, Copy)]
+pub enum Bare {
+    Get,
+    Contains,
+    Remove,
+    GetRemove,
+}
+
+/// An operation with one value.
+#[derive(Clone, Copy)]
+pub enum Valued {
+    Put,
+    GetPut,
+    PutIf,
+    RemoveIf,
+    Replace,
+    GetReplace,
+}
+
+/// What stands after an operation's name: its key, and as many values.
+#[derive(Clone, Copy)]
+pub enum Form {
+    Bare(Bare),
+    Valued(Valued),
+    /// The old value and the new one.
+    ReplaceIf,
+}
+
+/// What happens next to a call, with a code.
+#[derive(Clone, Copy)]
+pub enum Coded {
+    ReadFail,
+    ApplyFail,
+    ApplyLie,
+}
+
+/// The first word of a line.
+#[derive(Clone, Copy)]
+pub enum LineKind {
+    Open,
+    Set,
+    Begin,
+    Read,
+    Say,
+    Apply,
+    End,
+    Coded(Coded),
+    Foreign,
+    Audit,
+}
+
+fn read_form(word: &[u8]) -> Result<Form, Fault>
+    ensures { result ≡ form_named word.now }
+{
+    if is(word, "get") {
+        return Ok(Form::Bare(Bare::Get));
+    }
+    if is(word, "contains") {
+        return Ok(Form::Bare(Bare::Contains));
+    }
+    if is(word, "put") {
+        return Ok(Form::Valued(Valued::Put));
+    }
+    if is(word, "getput") {
+        return Ok(Form::Valued(Valued::GetPut));
+    }
+    if is(word, "putif") {
+        return Ok(Form::Valued(Valued::PutIf));
+    }
+    if is(word, "remove") {
+        return Ok(Form::Bare(Bare::Remove));
+    }
+    if is(word, "removeif") {
+        return Ok(Form::Valued(Valued::RemoveIf));
+    }
+    if is(word, "getremove") {
+        return Ok(Form::Bare(Bare::GetRemove));
+    }
+    if is(word, "replace") {
+        return Ok(Form::Valued(Valued::Replace));
+    }
+    if is(word, "replaceif") {
+        return Ok(Form::ReplaceIf);
+    }
+    if is(word, "getreplace") {
+        return Ok(Form::Valued(Valued::GetReplace));
+    }
+    Err(Fault::BadLine)
+}
+
+fn read_kind(word: &[u8]) -> Result<LineKind, Fault>
+    ensures { result ≡ line_named word.now }
+{
+    if is(word, "begin") {
+        return Ok(LineKind::Begin);
+    }
+    if is(word, "read") {
+        return Ok(LineKind::Read);
+    }
+    if is(word, "apply") {
+        return Ok(LineKind::Apply);
+    }
+    if is(word, "end") {
+        return Ok(LineKind::End);
+    }
+    if is(word, "open") {
+        return Ok(LineKind::Open);
+    }
+    if is(word, "set") {
+        return Ok(LineKind::Set);
+    }
+    if is(word, "readfail") {
+        return Ok(LineKind::Coded(Coded::ReadFail));
+    }
+    if is(word, "say") {
+        return Ok(LineKind::Say);
+    }
+    if is(word, "applyfail") {
+        return Ok(LineKind::Coded(Coded::ApplyFail));
+    }
+    if is(word, "applylie") {
+        return Ok(LineKind::Coded(Coded::ApplyLie));
+    }
+    if is(word, "foreign") {
+        return Ok(LineKind::Foreign);
+    }
+    if is(word, "audit") {
+        return Ok(LineKind::Audit);
+    }
+    Err(Fault::BadLine)
+}
+
+fn flags(words: &[&[u8]]) -> Result<(bool, bool), Fault>
+    ensures { result ≡ flags_of (map (λ w. w.now) words.now) }
+{
+    match words {
+        [] => Ok((false, false)),
+        [a] => {
+            if is(a, "read") {
+                return Ok((true, false));
+            }
+            if is(a, "write") {
+                return Ok((false, true));
+            }
+            Err(Fault::BadLine)
+        }
+        [a, b] => {
+            if is(a, "read") && is(b, "write") {
+                return Ok((true, true));
+            }
+            Err(Fault::BadLine)
+        }
+        _ => Err(Fault::BadLine),
+    }
+}
+
+fn has_shape(form: Form, count: usize) -> bool
+    ensures { result ≡ takes_words form count }
+{
+    match form {
+        Form::Bare(_) => count == 1,
+        Form::Valued(_) => count == 2,
+        Form::ReplaceIf => count == 3,
+    }
+}
+
+fn op_bare(bare: Bare) -> Op
+    ensures { result ≡ bare_op bare }
+{
+    match bare {
+        Bare::Get => Op::Get,
+        Bare::Contains => Op::ContainsKey,
+        Bare::Remove => Op::Remove,
+        Bare::GetRemove => Op::GetAndRemove,
+    }
+}
+
+fn op_valued(valued: Valued, value: Value) -> Op
+    ensures { result ≡ valued_op valued value }
+{
+    match valued {
+        Valued::Put => Op::Put(value),
+        Valued::GetPut => Op::GetAndPut(value),
+        Valued::PutIf => Op::PutIfAbsent(value),
+        Valued::RemoveIf => Op::RemoveIf(value),
+        Valued::Replace => Op::Replace(value),
+        Valued::GetReplace => Op::GetAndReplace(value),
+    }
+}
+
+fn bare_command(bare: Bare, words: &[&[u8]]) -> Result<Command, Fault>
+    ensures { result ≡ bare_of bare (map (λ w. w.now) words.now) }
+{
+    match words {
+        [k] => {
+            let key = key(k)?;
+            let op = op_bare(bare);
+            Ok(Command { op, key })
+        }
+        _ => Err(Fault::BadLine),
+    }
+}
+
+fn valued_command(valued: Valued, words: &[&[u8]]) -> Result<Command, Fault>
+    ensures { result ≡ valued_of valued (map (λ w. w.now) words.now) }
+{
+    match words {
+        [k, v] => {
+            let key = key(k)?;
+            let value = value(v)?;
+            let op = op_valued(valued, value);
+            Ok(Command { op, key })
+        }
+        _ => Err(Fault::BadLine),
+    }
+}
+
+fn value_alone(words: &[&[u8]]) -> Result<Value, Fault>
+    ensures { result ≡ value_alone_of (map (λ w. w.now) words.now) }
+{
+    match words {
+        [v] => value(v),
+        _ => Err(Fault::BadLine),
+    }
+}
+
+#[tactic(auto, unfolding(crate::specs::Lines::replace_if_of))]
+fn replace_if_command(words: &[&[u8]]) -> Result<Command, Fault>
+    ensures { result ≡ replace_if_of (map (λ w. w.now) words.now) }
+{
+    match words {
+        [k, v, rest @ ..] => {
+            let key = key(k)?;
+            let held = value(v)?;
+            let next = value_alone(rest)?;
+            let op = Op::ReplaceIf(held, next);
+            Ok(Command { op, key })
+        }
+        _ => Err(Fault::BadLine),
+    }
+}
+
+fn command(form: Form, words: &[&[u8]]) -> Result<Command, Fault>
+    ensures { result ≡ command_of form (map (λ w. w.now) words.now) }
+{
+    match form {
+        Form::Bare(bare) => bare_command(bare, words),
+        Form::Valued(valued) => valued_command(valued, words),
+        Form::ReplaceIf => replace_if_command(words),
+    }
+}
+
+#[tactic(auto, unfolding(crate::specs::Lines::open_of))]
+fn open(words: &[&[u8]]) -> Result<Line, Fault>
+    ensures { result ≡ open_of (map (λ w. w.now) words.now) }
+{
+    match words {
+        [s, c, h, rest @ ..] => {
+            let (read_through, write_through) = flags(rest)?;
+            let stripes = number(s)? as usize;
+            let capacity = number(c)? as usize;
+            let history = number(h)? as usize;
+            Ok(Line::Open(Config {
+                stripes,
+                capacity,
+                history,
+                read_through,
+                write_through,
+            }))
+        }
+        _ => Err(Fault::BadLine),
+    }
+}
+
+#[tactic(auto, unfolding(crate::specs::Lines::set_of))]
+fn set(words: &[&[u8]]) -> Result<Line, Fault>
+    ensures { result ≡ set_of (map (λ w. w.now) words.now) }
+{
+    match words {
+        [k, v] => {
+            let key = key(k)?;
+            Ok(Line::Set(key, value(v)?))
+        }
+        _ => Err(Fault::BadLine),
+    }
+}
+
+#[tactic(auto, unfolding(crate::specs::Lines::begin_of))]
+fn begin(words: &[&[u8]]) -> Result<Line, Fault>
+    ensures { result ≡ begin_of (map (λ w. w.now) words.now) }
+{
+    match words {
+        [n, who, name, rest @ ..] => {
+            let form = read_form(name)?;
+            if !has_shape(form, rest.len()) {
+                return Err(Fault::BadLine);
+            }
+            let call = number(n)?;
+            let session = caller(who)?;
+            let command = command(form, rest)?;
+            Ok(Line::Begin(call, session, command))
+        }
+        _ => Err(Fault::BadLine),
+    }
+}
+
+fn lone_number(words: &[&[u8]]) -> Result<u32, Fault>
+    ensures { result ≡ number_alone (map (λ w. w.now) words.now) }
+{
+    match words {
+        [n] => number(n),
+        _ => Err(Fault::BadLine),
+    }
+}
+
+fn act_coded(coded: Coded, code: u32) -> Act
+    ensures { result ≡ coded_act coded code }
+{
+    match coded {
+        Coded::ReadFail => Act::ReadFail(code),
+        Coded::ApplyFail => Act::ApplyFail(code),
+        Coded::ApplyLie => Act::ApplyLie(code),
+    }
+}
+
+#[tactic(auto, unfolding(crate::specs::Lines::coded_of))]
+fn coded_line(coded: Coded, words: &[&[u8]]) -> Result<Line, Fault>
+    ensures { result ≡ coded_of coded (map (λ w. w.now) words.now) }
+{
+    match words {
+        [n, rest @ ..] => {
+            if rest.len() != 1 {
+                return Err(Fault::BadLine);
+            }
+            let n = number(n)?;
+            let code = lone_number(rest)?;
+            Ok(Line::OfCall(n, act_coded(coded, code)))
+        }
+        _ => Err(Fault::BadLine),
+    }
+}
+
+#[tactic(auto, unfolding(crate::specs::Lines::say_of))]
+fn say(alloc: Global, words: &[&[u8]]) -> Result<Line, ReadError>
+    ensures { Gives result (say_of (map (λ w. w.now) words.now)) }
+{
+    match words {
+        [n, rest @ ..] => {
+            let n = number(n)?;
+            let pairs = pairs(alloc, rest)?;
+            Ok(Line::OfCall(n, Act::Say(pairs)))
+        }
+        _ => Err(ReadError::Fault(Fault::BadLine)),
+    }
+}
+
+#[tactic(auto, unfolding(crate::specs::Lines::foreign_of))]
+fn foreign(words: &[&[u8]]) -> Result<Line, Fault>
+    ensures { result ≡ foreign_of (map (λ w. w.now) words.now) }
+{
+    match words {
+        [k, v] => {
+            let key = key(k)?;
+            Ok(Line::Foreign(key, value_or_none(v)?))
+        }
+        _ => Err(Fault::BadLine),
+    }
+}
+
+fn audit(words: &[&[u8]]) -> Result<Line, Fault>
+    ensures { result ≡ audit_of (map (λ w. w.now) words.now) }
+{
+    match words {
+        [] => Ok(Line::Audit),
+        _ => Err(Fault::BadLine),
+    }
+}
+
+fn line_after(alloc: Global, kind: LineKind, words: &[&[u8]]) -> Result<Line, ReadError>
+    ensures { Gives result (line_of kind (map (λ w. w.now) words.now)) }
+{
+    match kind {
+        LineKind::Open => Ok(open(words)?),
+        LineKind::Set => Ok(set(words)?),
+        LineKind::Begin => Ok(begin(words)?),
+        LineKind::Read => Ok(Line::OfCall(lone_number(words)?, Act::Read)),
+        LineKind::Coded(coded) => Ok(coded_line(coded, words)?),
+        LineKind::Say => say(alloc, words),
+        LineKind::Apply => Ok(Line::OfCall(lone_number(words)?, Act::Apply)),
+        LineKind::End => Ok(Line::OfCall(lone_number(words)?, Act::End)),
+        LineKind::Foreign => Ok(foreign(words)?),
+        LineKind::Audit => Ok(audit(words)?),
+    }
+}
+
+fn none_empty(words: &[&[u8]]) -> bool
+    ensures { result ≡ are_words (map (λ w. w.now) words.now) }
+{
+    for w in words {
+        if w.is_empty() {
+            return false;
+        }
+    }
+    true
+}
+
+#[tactic(auto, unfolding(crate::specs::Lines::parsed))]
+fn parse(alloc: Global, words: &[&[u8]]) -> Result<Line, ReadError>
+    ensures { Gives result (parsed (map (λ w. w.now) words.now)) }
+{
+    match words {
+        [] => Err(ReadError::Fault(Fault::BadLine)),
+        [name, rest @ ..] => {
+            if !none_empty(words) {
+                return Err(ReadError::Fault(Fault::BadLine));
+            }
+            let kind = read_kind(name)?;
+            line_after(alloc, kind, rest)
+        }
+    }
+}
+
+fn all_plain(text: &[u8]) -> bool
+    ensures { result ≡ list_all is_plain text.now }
+{
+    text.iter().all(|b| 32 <= *b && *b <= 126)
+}
+
+fn comment(text: &[u8]) -> bool
+    ensures { result ≡ is_comment text.now }
+{
+    match text {
+        [] => true,
+        [first, ..] => *first == 35,
+    }
+}
+
+/// What the bytes of a line ask for, if anything.
+#[tactic(auto, unfolding(crate::specs::Lines::read_line))]
+pub fn read(alloc: Global, text: &[u8]) -> Result<Option<Line>, ReadError>
+    ensures { Gives result (read_line text.now) }
+{
+    if 65536 < text.len() {
+        return Err(ReadError::Fault(Fault::LineTooLong));
+    }
+    if !all_plain(text) {
+        return Err(ReadError::Fault(Fault::BadByte));
+    }
+    if comment(text) {
+        return Ok(None);
+    }
+    let words = words(alloc, text)?;
+    Ok(Some(parse(alloc, &words)?))
+}

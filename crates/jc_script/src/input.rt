@@ -1,0 +1,60 @@
+//! All that a reader gives, and all that a writer takes.
+ghost use Rattle.std.specs.Prelude.{◌≡◌, ◌<◌, ◌≤◌, ℕ, take, drop, length, List, IfOk, IfErr, OnOk, OnErr, IfSome};
+ghost use Rattle.std.specs.Io.KnownBytes.{Appends, Consumes, IsAtEnd};
+ghost use Rattle.jc_script.specs.Running.{ReadsAll};
+
+use crate::run::SCRIPT_MAX;
+use std::alloc::Global;
+use std::io::{Read, Write};
+
+/// Why an input could not be had.
+#[derive(Clone, Copy, Debug)]
+pub enum InputFault {
+    Read,
+    TooLong,
+    OutOfMemory,
+}
+
+/// All the bytes that the reader gives. An error of the reader is not retried.
+pub fn read_all<R: Read>(alloc: Global, reader: &mut R) -> Result<Vec<u8>, InputFault>
+    ensures ok { IfOk result (λ v. ReadsAll (R.remaining reader.old) (R.remaining reader.new) v.items) }
+    ensures long { IfErr result (λ e. e ≡ InputFault.TooLong → IfSome (R.remaining reader.old) (λ xs. SCRIPT_MAX < length xs)) }
+{
+    let mut input = Vec::new(alloc);
+    let mut chunk = [0u8; 65536];
+    while input.len() <= SCRIPT_MAX {
+        let room = chunk.len().min(SCRIPT_MAX + 1 - input.len());
+        let n = match reader.read(&mut chunk[..room]) {
+            Ok(n) => n,
+            Err(_) => return Err(InputFault::Read),
+        };
+        if n == 0 {
+            return Ok(input);
+        }
+        match input.extend_from_slice(&chunk[..n]) {
+            Ok(()) => {}
+            Err(_) => return Err(InputFault::OutOfMemory),
+        }
+    }
+    Err(InputFault::TooLong)
+}
+
+/// A write that failed.
+#[derive(Clone, Copy, Debug)]
+pub struct WriteFault;
+
+/// Writes all the bytes. An error of the writer is not retried, and a write of nothing is an error.
+pub fn write_out<W: Write>(writer: &mut W, bytes: &[u8]) -> Result<(), WriteFault>
+    ensures ok { OnOk result (Appends (W.contents writer.old) (W.contents writer.new) bytes.now) }
+    ensures err { OnErr result ((n : ℕ) × (n ≤ length bytes.now) × Appends (W.contents writer.old) (W.contents writer.new) (take n bytes.now)) }
+{
+    let mut at = 0;
+    while at < bytes.len() {
+        match writer.write(&bytes[at..]) {
+            Ok(0) => return Err(WriteFault),
+            Ok(n) => at += n,
+            Err(_) => return Err(WriteFault),
+        }
+    }
+    Ok(())
+}

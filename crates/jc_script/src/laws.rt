@@ -1,0 +1,10 @@
+//! Laws of the words: what is spelled reads back.
+ghost use Rattle.jc_script.specs.Spelled.{NumbersReadBack, CallersReadBack, KeysReadBack, ValuesReadBack};
+
+/// A number, a session, a key and a value are read as what they are spelled as.
+pub fn words_read_back()
+    ensures numbers { NumbersReadBack }
+    ensures callers { CallersReadBack }
+    ensures keys { KeysReadBack }
+    ensures values { ValuesReadBack }
+{}

@@ -1,0 +1,17 @@
+//! Scripts: lines of commands for a world, and the transcript that they print.
+//!
+//! A script is bytes, and so is its transcript: one line for each thing that happened, up to the first line with a fault.
+#![tactic(auto)]
+
+mod fault;
+mod grammar;
+mod input;
+pub mod laws;
+mod line;
+mod pairs;
+mod player;
+mod printing;
+pub mod run;
+#[cfg(test)]
+mod tests;
+mod words;

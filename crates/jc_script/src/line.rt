@@ -1,0 +1,42 @@
+//! What the lines of a script ask for.
+use crate::pairs::Pairs;
+use jc_types::config::Config;
+use jc_types::key::Key;
+use jc_types::value::Value;
+use jc_world::event::Command;
+
+/// What happens next to a call.
+#[derive(Drop)]
+pub enum Act {
+    /// The loader reads the store.
+    Read,
+    /// The loader fails with this code.
+    ReadFail(u32),
+    /// The loader says what the pairs say.
+    Say(Pairs),
+    /// The writer does as it was asked.
+    Apply,
+    /// The writer fails with this code, and did nothing.
+    ApplyFail(u32),
+    /// The writer fails with this code, and did as it was asked.
+    ApplyLie(u32),
+    /// The call ends.
+    End,
+}
+
+/// What a line asks for.
+#[derive(Drop)]
+pub enum Line {
+    /// A world of this shape.
+    Open(Config),
+    /// An entry of the store, before anything happens.
+    Set(Key, Value),
+    /// A call with this number, by this session.
+    Begin(u32, u32, Command),
+    /// What happens next to the call with this number.
+    OfCall(u32, Act),
+    /// Somebody else writes the store, or deletes in it.
+    Foreign(Key, Option<Value>),
+    /// What the world is.
+    Audit,
+}

@@ -1,0 +1,346 @@
+//! Lines, played on a world.
+ghost use Rattle.std.specs.Prelude.{◌≡◌, ◌++◌, ◌∷◌, List, ℕ, [], Some, None, true, Option, OnOk, IfOk, MatchOption};
+ghost use Rattle.jc_types.specs.Limits.{checked};
+ghost use Rattle.jc_world.specs.declared.event.WorldEvent.TheVariants as event;
+ghost use Rattle.jc_world.specs.World.{waits_for_load, waits_for_report, is_answered, under, start};
+ghost use Rattle.jc_script.specs.Faults.{config_fault, is_rising, begin_fault, fits_now, act_fault, state_fault};
+ghost use Rattle.jc_script.specs.Transcript.{State, state_of, begin_events, events_of, PlaysEvents, PlaysAct, Audited, Plays, Prints, fault_of};
+
+use crate::fault::{Fault, ReadError};
+use crate::grammar::read;
+use crate::line::{Act, Line};
+use crate::printing::{put, put_audit, put_texts};
+use jc_model::event::{LoadAnswer, WriteAnswer};
+use jc_stripe::ticket::First;
+use jc_types::config::{Config, Refusal};
+use jc_types::key::Key;
+use jc_types::value::Value;
+use jc_world::event::{Command, Part, WorldEvent};
+use jc_world::world::World;
+use std::alloc::{AllocError, Global};
+
+/// Ends a world, if there is one.
+pub fn close(world: Option<World>) {
+    if let Some(world) = world {
+        world.close();
+    }
+}
+
+fn waits_load(part: &Option<Part>) -> bool
+    ensures { result ≡ waits_for_load part.now }
+{
+    match part {
+        Some(part) => {
+            matches!(&part.first, First::Loader) && matches!(&part.load, LoadAnswer::NotAsked)
+        }
+        None => false,
+    }
+}
+
+fn waits_report(part: &Option<Part>) -> bool
+    ensures { result ≡ waits_for_report part.now }
+{
+    match part {
+        Some(part) => {
+            matches!(&part.first, First::Writer(_)) && matches!(&part.report, WriteAnswer::NotAsked)
+        }
+        None => false,
+    }
+}
+
+fn has_answers(part: &Option<Part>) -> bool
+    ensures { result ≡ is_answered part.now }
+{
+    match part {
+        Some(part) => match &part.first {
+            First::Nobody => false,
+            First::Loader => !matches!(&part.load, LoadAnswer::NotAsked),
+            First::Writer(_) => !matches!(&part.report, WriteAnswer::NotAsked),
+        },
+        None => false,
+    }
+}
+
+fn waits_for(act: &Act, part: &Option<Part>) -> bool
+    ensures { result ≡ fits_now act.now part.now }
+{
+    match act {
+        Act::Read => waits_load(part),
+        Act::ReadFail(_) => waits_load(part),
+        Act::Say(_) => waits_load(part),
+        Act::Apply => waits_report(part),
+        Act::ApplyFail(_) => waits_report(part),
+        Act::ApplyLie(_) => waits_report(part),
+        Act::End => has_answers(part),
+    }
+}
+
+fn fault_of_act(world: &World, number: u32, act: &Act) -> Option<Fault>
+    ensures { result ≡ act_fault world.now.world number act.now (under world.now.world number) }
+{
+    match world.under(number as u64) {
+        None => Some(Fault::NoSuchCall),
+        Some(under) => {
+            let key = under.command.key;
+            let part = world.part(number as u64, &key);
+            if waits_for(act, &part) {
+                return None;
+            }
+            Some(Fault::NotNow)
+        }
+    }
+}
+
+fn rises(last: Option<u64>, number: u64) -> bool
+    ensures { result ≡ is_rising last number }
+{
+    match last {
+        None => true,
+        Some(last) => last < number,
+    }
+}
+
+fn fault_of_begin(world: &World, number: u32, session: u32) -> Option<Fault>
+    ensures { result ≡ begin_fault world.now.world number session }
+{
+    if !rises(world.last(), number as u64) {
+        return Some(Fault::NotRising);
+    }
+    if world.is_busy(session) {
+        return Some(Fault::CallerBusy);
+    }
+    None
+}
+
+fn fault_of_config(config: &Config) -> Option<Fault>
+    ensures { result ≡ config_fault (checked config.now) }
+{
+    match config.check() {
+        Ok(()) => None,
+        Err(Refusal::BadConfig(field)) => Some(Fault::BadConfig(field)),
+        Err(_) => None,
+    }
+}
+
+fn fault_in(world: &World, line: &Line) -> Option<Fault>
+    ensures { result ≡ state_fault (Some world.now.world) line.now }
+{
+    match line {
+        Line::Open(_) => Some(Fault::OpenTwice),
+        Line::Set(_, _) => {
+            if world.is_fresh() {
+                return None;
+            }
+            Some(Fault::SetTooLate)
+        }
+        Line::Begin(number, session, _) => fault_of_begin(world, *number, *session),
+        Line::OfCall(number, act) => fault_of_act(world, *number, act),
+        Line::Foreign(_, _) => None,
+        Line::Audit => None,
+    }
+}
+
+fn fault(world: &Option<World>, line: &Line) -> Option<Fault>
+    ensures { result ≡ state_fault (state_of world.now) line.now }
+{
+    match world {
+        Some(world) => fault_in(world, line),
+        None => match line {
+            Line::Open(config) => fault_of_config(config),
+            _ => Some(Fault::NotOpen),
+        },
+    }
+}
+
+fn events_begun(
+    alloc: Global,
+    number: u64,
+    session: u32,
+    command: &Command,
+) -> Result<Vec<WorldEvent>, AllocError>
+    ensures { IfOk result (λ events. events.items ≡ begin_events number session command.now) }
+{
+    let key = command.key;
+    let call = WorldEvent::Call {
+        call: number,
+        session,
+        command: *command,
+    };
+    Vec::from_slice(alloc, &[call, WorldEvent::Start { call: number, key }])
+}
+
+fn events(alloc: Global, call: u64, key: &Key, act: &Act) -> Result<Vec<WorldEvent>, AllocError>
+    ensures { IfOk result (λ events. events.items ≡ events_of call key.now act.now) }
+{
+    let key = *key;
+    let change = WorldEvent::Change { call, key };
+    match act {
+        Act::Read => Vec::from_slice(alloc, &[WorldEvent::Read { call, key }]),
+        Act::ReadFail(code) => {
+            let answer = LoadAnswer::Failed(*code);
+            Vec::from_slice(alloc, &[WorldEvent::Say { call, key, answer }])
+        }
+        Act::Say(pairs) => {
+            let answer = pairs.said(&key);
+            Vec::from_slice(alloc, &[WorldEvent::Say { call, key, answer }])
+        }
+        Act::Apply => {
+            let report = WorldEvent::Report { call, fault: None };
+            Vec::from_slice(alloc, &[change, report])
+        }
+        Act::ApplyFail(code) => {
+            let fault = Some(*code);
+            Vec::from_slice(alloc, &[WorldEvent::Report { call, fault }])
+        }
+        Act::ApplyLie(code) => {
+            let fault = Some(*code);
+            Vec::from_slice(alloc, &[change, WorldEvent::Report { call, fault }])
+        }
+        Act::End => Vec::from_slice(alloc, &[WorldEvent::Commit { call, key }]),
+    }
+}
+
+fn play_events(
+    alloc: Global,
+    world: &mut World,
+    about: &Key,
+    events: &[WorldEvent],
+    out: &mut Vec<u8>,
+) -> Result<(), AllocError>
+    ensures { OnOk result ((text : List ℕ) × PlaysEvents world.old.world about.now events.now text (Some world.new.world) × (out.new.items ≡ out.old.items ++ text)) }
+{
+    let seen = world.play(alloc, events)?;
+    put_texts(out, about, events, &seen)?;
+    Ok(())
+}
+
+fn begin(
+    alloc: Global,
+    world: &mut World,
+    number: u32,
+    session: u32,
+    command: &Command,
+    out: &mut Vec<u8>,
+) -> Result<(), AllocError>
+    ensures { OnOk result ((text : List ℕ) × PlaysEvents world.old.world command.now.key (begin_events number session command.now) text (Some world.new.world) × (out.new.items ≡ out.old.items ++ text)) }
+{
+    let events = events_begun(alloc, number as u64, session, command)?;
+    play_events(alloc, world, &command.key, &events, out)?;
+    Ok(())
+}
+
+fn act_on(
+    alloc: Global,
+    world: &mut World,
+    number: u32,
+    act: &Act,
+    out: &mut Vec<u8>,
+) -> Result<(), AllocError>
+    requires { act_fault world.old.world number act.now (under world.old.world number) ≡ None }
+    ensures { OnOk result ((text : List ℕ) × PlaysAct world.old.world number act.now (under world.old.world number) text (Some world.new.world) × (out.new.items ≡ out.old.items ++ text)) }
+{
+    match world.under(number as u64) {
+        None => Ok(()),
+        Some(under) => {
+            let key = under.command.key;
+            let events = events(alloc, number as u64, &key, act)?;
+            play_events(alloc, world, &key, &events, out)?;
+            Ok(())
+        }
+    }
+}
+
+fn foreign(
+    alloc: Global,
+    world: &mut World,
+    key: &Key,
+    value: &Option<Value>,
+    out: &mut Vec<u8>,
+) -> Result<(), AllocError>
+    ensures { OnOk result ((text : List ℕ) × PlaysEvents world.old.world key.now (event.Foreign key.now value.now ∷ []) text (Some world.new.world) × (out.new.items ≡ out.old.items ++ text)) }
+{
+    let event = WorldEvent::Foreign {
+        key: *key,
+        value: *value,
+    };
+    play_events(alloc, world, key, &[event], out)?;
+    Ok(())
+}
+
+fn audit(alloc: Global, world: &World, out: &mut Vec<u8>) -> Result<(), AllocError>
+    ensures { OnOk result ((text : List ℕ) × Audited world.now.world text × (out.new.items ≡ out.old.items ++ text)) }
+{
+    let audit = world.audit(alloc)?;
+    put_audit(out, &audit)?;
+    Ok(())
+}
+
+fn play(alloc: Global, world: &mut World, line: &Line, out: &mut Vec<u8>) -> Result<(), AllocError>
+    requires { state_fault (Some world.old.world) line.now ≡ None }
+    ensures { OnOk result ((text : List ℕ) × Plays (Some world.old.world) line.now text (Some world.new.world) × (out.new.items ≡ out.old.items ++ text)) }
+{
+    match line {
+        Line::Open(_) => Ok(()),
+        Line::Set(key, value) => world.set(key, value),
+        Line::Begin(number, session, command) => {
+            begin(alloc, world, *number, *session, command, out)
+        }
+        Line::OfCall(number, act) => act_on(alloc, world, *number, act, out),
+        Line::Foreign(key, value) => foreign(alloc, world, key, value, out),
+        Line::Audit => audit(alloc, world, out),
+    }
+}
+
+fn open(alloc: Global, config: &Config) -> Result<World, AllocError>
+    ensures { IfOk result (λ world. state_of (Some world) ≡ Some (start config.now)) }
+{
+    match World::new(alloc, config) {
+        Ok(world) => Ok(world),
+        Err(_) => Err(AllocError),
+    }
+}
+
+fn perform(
+    alloc: Global,
+    world: &mut Option<World>,
+    line: &Line,
+    out: &mut Vec<u8>,
+) -> Result<(), AllocError>
+    requires { state_fault (state_of world.old) line.now ≡ None }
+    ensures { OnOk result ((text : List ℕ) × Plays (state_of world.old) line.now text (state_of world.new) × (out.new.items ≡ out.old.items ++ text)) }
+{
+    if let Some(world) = world {
+        return play(alloc, world, line, out);
+    }
+    if let Line::Open(config) = line {
+        let before = world.replace(open(alloc, config)?);
+        close(before);
+        return put(out, "open\n");
+    }
+    Ok(())
+}
+
+/// One line: what it prints goes to the end of `out`, or its fault is told and nothing done.
+pub fn line(
+    alloc: Global,
+    world: &mut Option<World>,
+    text: &[u8],
+    out: &mut Vec<u8>,
+) -> Result<Option<Fault>, AllocError>
+    ensures { IfOk result (λ r. MatchOption r
+        ((printed : List ℕ) × Prints (state_of world.old) text.now printed (state_of world.new) × (out.new.items ≡ out.old.items ++ printed))
+        (λ fault. (fault_of (state_of world.old) text.now ≡ Some fault) × (out.new.items ≡ out.old.items))) }
+{
+    match read(alloc, text) {
+        Err(ReadError::Memory) => Err(AllocError),
+        Err(ReadError::Fault(fault)) => Ok(Some(fault)),
+        Ok(None) => Ok(None),
+        Ok(Some(line)) => {
+            if let Some(fault) = fault(world, &line) {
+                return Ok(Some(fault));
+            }
+            perform(alloc, world, &line, out)?;
+            Ok(None)
+        }
+    }
+}

@@ -1,0 +1,132 @@
+//! A script's run, from the bytes that are read to the bytes that are written.
+ghost use Rattle.std.specs.Prelude.{◌≡◌, ◌≢◌, ◌<◌, ◌≤◌, ◌∷◌, ◌==◌, [], None, length, position, IfOk, IfErr, IfSome, MatchOption};
+ghost use Rattle.jc_script.specs.Transcript.{pieces_of, IsTranscript};
+ghost use Rattle.jc_script.specs.Running.{Ran, Broke};
+
+use crate::fault::Fault;
+use crate::input::{InputFault, read_all, write_out};
+use crate::player::{close, line};
+use crate::printing::put_fault;
+use jc_world::world::World;
+use std::alloc::{AllocError, Global};
+use std::io::{Read, Write};
+use thiserror::Error;
+
+/// The most bytes that a script has.
+pub const SCRIPT_MAX: usize = 4_194_304;
+
+/// How a run ended.
+#[derive(Clone, Copy, Debug, PartialEq, Eq)]
+pub enum RunEnd {
+    /// At the end of the script.
+    Clean,
+    /// At the fault of the line with this number. The first line is 1.
+    LineFault(u64),
+}
+
+/// Why a run could not be made.
+#[derive(Clone, Copy, Debug, PartialEq, Eq, Error)]
+pub enum RunFault {
+    /// The reader failed. Nothing was written.
+    #[error("read failed")]
+    Read,
+    /// The script has more than [`SCRIPT_MAX`] bytes. Nothing was written.
+    #[error("input too long")]
+    TooLong,
+    /// There was no memory. Nothing was written.
+    #[error("out of memory")]
+    OutOfMemory,
+    /// The writer failed. A front of the transcript was written.
+    #[error("write failed")]
+    Write,
+}
+
+fn line_feed(bytes: &[u8]) -> Option<usize>
+    ensures { result ≡ position (λ b. b == 10) bytes.now }
+{
+    bytes.iter().position(|b| *b == 10)
+}
+
+/// The bytes before the first line feed, and those after it.
+fn first_line(bytes: &[u8]) -> Option<(&[u8], &[u8])>
+    ensures { MatchOption result
+        (pieces_of bytes.now ≡ bytes.now ∷ [])
+        (λ x. (pieces_of bytes.now ≡ x.0.now ∷ pieces_of x.1.now) × (length x.1.now < length bytes.now)) }
+{
+    match line_feed(bytes) {
+        None => None,
+        Some(at) => Some((&bytes[..at], &bytes[at + 1..])),
+    }
+}
+
+/// The transcript of a script, on a world that is still to be opened.
+fn lines(
+    alloc: Global,
+    input: &[u8],
+    world: &mut Option<World>,
+) -> Result<(Vec<u8>, RunEnd), AllocError>
+    requires closed { world.old ≡ None }
+    requires fits { length input.now ≤ SCRIPT_MAX }
+    ensures { IfOk result (λ r. IsTranscript input.now r.0.items r.1) }
+{
+    let mut out = Vec::new(alloc);
+    let mut rest = input;
+    let mut number: u64 = 1;
+    while let Some((text, after)) = first_line(rest) {
+        match line(alloc, world, text, &mut out)? {
+            None => {}
+            Some(fault) => {
+                put_fault(&mut out, number, fault)?;
+                return Ok((out, RunEnd::LineFault(number)));
+            }
+        }
+        rest = after;
+        number += 1;
+    }
+    if rest.is_empty() {
+        return Ok((out, RunEnd::Clean));
+    }
+    put_fault(&mut out, number, Fault::CutLine)?;
+    Ok((out, RunEnd::LineFault(number)))
+}
+
+fn transcript(alloc: Global, input: &[u8]) -> Result<(Vec<u8>, RunEnd), AllocError>
+    requires { length input.now ≤ SCRIPT_MAX }
+    ensures { IfOk result (λ r. IsTranscript input.now r.0.items r.1) }
+{
+    let mut world: Option<World> = None;
+    let made = lines(alloc, input, &mut world);
+    close(world);
+    made
+}
+
+/// Reads a script to its end, and writes its transcript, which is made whole before the first write.
+pub fn run<R: Read, W: Write>(
+    alloc: Global,
+    reader: &mut R,
+    writer: &mut W,
+) -> Result<RunEnd, RunFault>
+    // What was written is the transcript of what was read.
+    ensures ran { IfOk result (λ end. Ran (R.remaining reader.old) (R.remaining reader.new) (W.contents writer.old) (W.contents writer.new) end) }
+    // After a failed write, a front of it.
+    ensures broke { result ≡ Err RunFault.Write → Broke (R.remaining reader.old) (R.remaining reader.new) (W.contents writer.old) (W.contents writer.new) }
+    // Any other fault writes nothing.
+    ensures silent { IfErr result (λ e. e ≢ RunFault.Write → writer.new ≡ writer.old) }
+    // A script is too long only over the limit.
+    ensures long { result ≡ Err RunFault.TooLong → IfSome (R.remaining reader.old) (λ xs. SCRIPT_MAX < length xs) }
+{
+    let input = match read_all(alloc, reader) {
+        Ok(input) => input,
+        Err(InputFault::Read) => return Err(RunFault::Read),
+        Err(InputFault::TooLong) => return Err(RunFault::TooLong),
+        Err(InputFault::OutOfMemory) => return Err(RunFault::OutOfMemory),
+    };
+    let (out, end) = match transcript(alloc, &input) {
+        Ok(made) => made,
+        Err(_) => return Err(RunFault::OutOfMemory),
+    };
+    match write_out(writer, &out) {
+        Ok(()) => Ok(end),
+        Err(_) => Err(RunFault::Write),
+    }
+}

@@ -1,0 +1,193 @@
+//! The kinds of word of a line.
+ghost use Rattle.std.specs.Prelude.{◌≡◌, ◌≤◌, ◌<◌, IfOk, IfSome, Ok, [], map, length, List, ℕ};
+ghost use Rattle.std.specs.Str.{bytes_eq};
+ghost use Rattle.std.specs.List.{list_all};
+ghost use Rattle.jc_types.specs.declared.value.TheConstants.{VALUE_MAX};
+ghost use Rattle.jc_script.specs.Words.{words_of, is_letter, is_text, digits_from, number_of, caller_of, key_of, value_of, value_or_none_of, equals_at, key_part, value_part, pair_onto, pairs_of};
+ghost use Rattle.jc_script.specs.Lines.{Gives, with_value};
+
+use crate::fault::{Fault, ReadError};
+use crate::pairs::Pairs;
+use jc_types::key::{KEY_MAX, Key};
+use jc_types::value::{VALUE_MAX, Value};
+use std::alloc::{AllocError, Global};
+
+/// Whether a word is this text.
+pub fn is(word: &[u8], text: &str) -> bool
+    ensures { result ≡ bytes_eq word.now text.now }
+{
+    word == text.as_bytes()
+}
+
+/// The words of a line.
+pub fn words(alloc: Global, line: &[u8]) -> Result<Vec<&[u8]>, AllocError>
+    ensures { IfOk result (λ words. map (λ w. w.now) words.items ≡ words_of line.now) }
+{
+    line.split(|b| *b == 32).collect(alloc)
+}
+
+fn letter(b: u8) -> bool
+    ensures { result ≡ is_letter b }
+{
+    (65 <= b && b <= 90) || (97 <= b && b <= 122) || (48 <= b && b <= 57) || b == 95 || b == 46
+}
+
+fn digits(word: &[u8]) -> Result<u32, Fault>
+    ensures { result ≡ digits_from 0 word.now }
+{
+    let mut n: u32 = 0;
+    for b in word {
+        let b = *b;
+        if b < 48 || 57 < b {
+            return Err(Fault::BadNumber);
+        }
+        let next = n as u64 * 10 + (b - 48) as u64;
+        if 999_999_999 < next {
+            return Err(Fault::BadNumber);
+        }
+        n = next as u32;
+    }
+    Ok(n)
+}
+
+/// The number that a word says.
+pub fn number(word: &[u8]) -> Result<u32, Fault>
+    ensures { result ≡ number_of word.now }
+{
+    match word {
+        [] => Err(Fault::BadNumber),
+        [first, rest @ ..] => {
+            if *first == 48 && 0 < rest.len() {
+                return Err(Fault::BadNumber);
+            }
+            digits(word)
+        }
+    }
+}
+
+/// The session that a word says.
+pub fn caller(word: &[u8]) -> Result<u32, Fault>
+    ensures { result ≡ caller_of word.now }
+{
+    match word {
+        [] => Err(Fault::BadCaller),
+        [first, rest @ ..] => {
+            if *first != 115 {
+                return Err(Fault::BadCaller);
+            }
+            match number(rest) {
+                Ok(n) if 1 <= n && n <= 32 => Ok(n),
+                _ => Err(Fault::BadCaller),
+            }
+        }
+    }
+}
+
+fn all_letters(word: &[u8]) -> bool
+    ensures { result ≡ list_all is_letter word.now }
+{
+    word.iter().all(|b| letter(*b))
+}
+
+fn text_within(word: &[u8], most: usize) -> bool
+    ensures { result ≡ is_text most word.now }
+{
+    0 < word.len() && word.len() <= most && all_letters(word)
+}
+
+/// The key that a word says.
+pub fn key(word: &[u8]) -> Result<Key, Fault>
+    ensures { result ≡ key_of word.now }
+{
+    if !text_within(word, KEY_MAX) {
+        return Err(Fault::BadKey);
+    }
+    match Key::new(word) {
+        Ok(key) => Ok(key),
+        Err(_) => Err(Fault::BadKey),
+    }
+}
+
+fn value_new(bytes: &[u8]) -> Result<Value, Fault>
+    ensures { length bytes.now ≤ VALUE_MAX → result ≡ Ok bytes.now }
+{
+    match Value::new(bytes) {
+        Ok(value) => Ok(value),
+        Err(_) => Err(Fault::BadValue),
+    }
+}
+
+/// The value that a word says.
+pub fn value(word: &[u8]) -> Result<Value, Fault>
+    ensures { result ≡ value_of word.now }
+{
+    if is(word, "~") {
+        return value_new(&[]);
+    }
+    if !text_within(word, VALUE_MAX) {
+        return Err(Fault::BadValue);
+    }
+    value_new(word)
+}
+
+/// The value that a word says, where a dash says none.
+pub fn value_or_none(word: &[u8]) -> Result<Option<Value>, Fault>
+    ensures { result ≡ value_or_none_of word.now }
+{
+    if is(word, "-") {
+        return Ok(None);
+    }
+    match value(word) {
+        Ok(value) => Ok(Some(value)),
+        Err(fault) => Err(fault),
+    }
+}
+
+fn equals_sign(word: &[u8]) -> Option<usize>
+    ensures place { result ≡ equals_at word.now }
+    ensures within { IfSome result (λ at. at < length word.now) }
+{
+    word.iter().position(|b| *b == 61)
+}
+
+fn front(at: Option<usize>, word: &[u8]) -> &[u8]
+    requires { IfSome at (λ at. at < length word.now) }
+    ensures { result.now ≡ key_part at word.now }
+{
+    match at {
+        None => word,
+        Some(at) => &word[..at],
+    }
+}
+
+fn back(at: Option<usize>, word: &[u8]) -> Result<Value, Fault>
+    requires { IfSome at (λ at. at < length word.now) }
+    ensures { result ≡ value_part at word.now }
+{
+    match at {
+        None => Err(Fault::BadValue),
+        Some(at) => value(&word[at + 1..]),
+    }
+}
+
+#[tactic(auto, unfolding(crate::specs::Words::pair_onto))]
+fn add_pair(pairs: &mut Pairs, word: &[u8]) -> Result<(), ReadError>
+    ensures { Gives (with_value pairs.new result) (pair_onto pairs.old word.now) }
+{
+    let at = equals_sign(word);
+    let key = key(front(at, word))?;
+    let value = back(at, word)?;
+    pairs.add(key, value)?;
+    Ok(())
+}
+
+/// The pairs that the words say.
+pub fn pairs(alloc: Global, words: &[&[u8]]) -> Result<Pairs, ReadError>
+    ensures { Gives result (pairs_of (map (λ w. w.now) words.now)) }
+{
+    let mut pairs = Pairs::new(alloc);
+    for word in words {
+        add_pair(&mut pairs, word)?;
+    }
+    Ok(pairs)
+}

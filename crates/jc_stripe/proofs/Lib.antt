@@ -1,0 +1,5 @@
+pub mod Made
+pub mod Reaching
+pub mod Lawfully
+pub mod Claimed
+pub mod Laws

@@ -1,0 +1,47 @@
+-- The laws of the phases, over every state.
+--     StaysReached     each phase leads from a reached state to a reached one
+--     IsLegal          the history of a reached state is legal from its opening
+--     Grows            a phase appends to the history and changes nothing that stands in it, nor the opening
+--     WasFree          a key that gets a ticket was free
+--     Keeps            a call that a reservation of its key does not stop leaves the entry
+use Rattle.std.specs.Prelude.{◌≡◌, ℕ, List, ◌++◌, true, false, Option, None}
+use Rattle.jc_types.specs.declared.config.Config.{Config}
+use Rattle.jc_model.specs.declared.event.Event.{Event}
+use Rattle.jc_model.specs.declared.event.Op.{Op}
+use Rattle.jc_model.specs.declared.event.Out.{Out}
+use Rattle.jc_model.specs.declared.event.Reply.{Reply}
+use Rattle.jc_model.specs.Cache.{Bytes, entry_at}
+use Rattle.jc_model.specs.Table.{new_entry}
+use Rattle.jc_model.specs.Group.{nothing_said}
+use Rattle.jc_model.specs.Legal.{Legal}
+use Rattle.jc_stripe.specs.declared.begun.Begun.{Begun}
+use Rattle.jc_stripe.specs.declared.ticket.First.{First}
+use Rattle.jc_stripe.specs.Claim.{Claim}
+use Rattle.jc_stripe.specs.State.{State, is_reserved}
+use Rattle.jc_stripe.specs.Refusals.{first_asked, first_refusal, has_phases, passes, reserves}
+use Rattle.jc_stripe.specs.Phases.{MayBegin, Begins, Commits}
+use Rattle.jc_stripe.specs.Reached.{IsReached}
+
+pub record StaysReached : Type 0 where
+  pub begins : (old new : State) (session call : ℕ) (key : Bytes) (op : Op) (b : Begun) → IsReached old → MayBegin old session call key → has_phases op ≡ true → Begins old session call key op b new → IsReached new
+  pub commits : (old new : State) (claim : Claim) (out : Out) (reply : Reply) (place : ℕ) → IsReached old → Commits old claim out reply place new → IsReached new
+
+abbrev pub IsLegal : Type 0
+IsLegal = (state : State) → IsReached state → Legal state.config state.opening state.history
+
+-- the later state has the same opening, and more events behind those of the earlier one
+pub record GoesOn (old new : State) : Type 0 where
+  pub opening : new.opening ≡ old.opening
+  pub more : List Event
+  pub history : new.history ≡ old.history ++ more
+
+pub record Grows : Type 0 where
+  pub begins : (old new : State) (session call : ℕ) (key : Bytes) (op : Op) (b : Begun) → Begins old session call key op b new → GoesOn old new
+  pub commits : (old new : State) (claim : Claim) (out : Out) (reply : Reply) (place : ℕ) → Commits old claim out reply place new → GoesOn old new
+
+abbrev pub WasFree : Type 0
+WasFree =
+    (s : State) (call : ℕ) (key : Bytes) (op : Op) (first : First) → first_refusal s call key op ≡ None → first_asked s.config op (entry_at s.cache key) ≡ first → reserves first ≡ true → is_reserved s key ≡ false
+
+abbrev pub Keeps : Type 0
+Keeps = (config : Config) (op : Op) (entry : Option Bytes) → passes config op entry ≡ true → new_entry op entry nothing_said ≡ entry

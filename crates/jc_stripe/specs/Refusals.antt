@@ -1,0 +1,88 @@
+-- When a first phase is refused.
+--     first_asked       whom a call asks first, by the loader and the writer table
+--     passes            a call that a reservation of its key does not stop: it answers from the cached entry
+--     places            the free places of the history that a call needs: 1 where it passes, and else 3
+--     first_refusal     the first refusal whose condition holds: history full, then busy, then too many in flight
+use Rattle.std.specs.Prelude.{◌^◌, ◌-◌, ℕ, ◌+◌, length, Bool, true, false, not, ◌&&◌, ◌||◌, Option, None, Some, is_some, is_none, nat_lt, nat_le, if◌then◌else◌}
+use Rattle.jc_types.specs.declared.config.Config.{Config}
+use Rattle.jc_types.specs.declared.config.Refusal.{Refusal}
+use Rattle.jc_types.specs.declared.config.Refusal.TheVariants as refusal
+use Rattle.jc_model.specs.declared.event.Op.{Op}
+use Rattle.jc_model.specs.declared.event.Op.TheVariants.{Get, ContainsKey, Put, GetAndPut, PutIfAbsent, Remove, RemoveIf, GetAndRemove, Replace, ReplaceIf, GetAndReplace, Clear, LoadAll, Invoke}
+use Rattle.jc_model.specs.declared.event.Change.{Change}
+use Rattle.jc_model.specs.declared.event.ProcessAnswer.TheVariants as process
+use Rattle.jc_model.specs.Cache.{Bytes, entry_at}
+use Rattle.jc_model.specs.Table.{write_ask}
+use Rattle.jc_stripe.specs.declared.ticket.First.{First}
+use Rattle.jc_stripe.specs.declared.ticket.First.TheVariants.{Nobody, Loader, Writer}
+use Rattle.jc_stripe.specs.State.{State, is_reserved}
+
+-- 1. Whom a call asks first.
+
+abbrev pub loader_if : Bool → First
+loader_if true = Loader
+loader_if false = Nobody
+
+abbrev pub writer_for : Option Change → First
+writer_for None = Nobody
+writer_for (Some change) = Writer change
+
+-- with write-through off nobody is
+abbrev pub writer_if : Bool → Option Change → First
+writer_if true change = writer_for change
+writer_if false change = Nobody
+
+-- an entry processor has no phases here yet
+abbrev pub has_phases : Op → Bool
+has_phases Get = true
+has_phases ContainsKey = true
+has_phases (Put value) = true
+has_phases (GetAndPut value) = true
+has_phases (PutIfAbsent value) = true
+has_phases Remove = true
+has_phases (RemoveIf old) = true
+has_phases GetAndRemove = true
+has_phases (Replace value) = true
+has_phases (ReplaceIf old value) = true
+has_phases (GetAndReplace value) = true
+has_phases Clear = true
+has_phases (LoadAll replace) = true
+has_phases Invoke = false
+
+abbrev pub first_asked : Config → Op → Option Bytes → First
+first_asked config Get entry = loader_if (config.read_through && is_none entry)
+first_asked config (LoadAll replace) entry = loader_if (replace || is_none entry)
+first_asked config op entry = writer_if config.write_through (write_ask op entry process.NotAsked)
+
+abbrev pub reserves : First → Bool
+reserves Nobody = false
+reserves Loader = true
+reserves (Writer change) = true
+
+-- 2. What a call needs.
+
+abbrev pub passes : Config → Op → Option Bytes → Bool
+passes config ContainsKey entry = true
+passes config Get entry = is_some entry || not config.read_through
+passes config op entry = false
+
+abbrev pub places : Bool → ℕ
+places true = 1
+places false = 3
+
+-- the last of a session's call numbers, and of a stripe's reservation numbers
+abbrev pub last_number : ℕ
+last_number = 2 ^ 64 - 1
+
+-- the history has these places free, beside those that are promised, and the numbers are not at their end
+abbrev pub has_room : State → ℕ → ℕ → Bool
+has_room state call needed = nat_le (length state.history + state.promised + needed) state.config.history && nat_lt call last_number && nat_lt state.next last_number
+
+-- 3. The refusals, in their order.
+
+abbrev pub first_refusal : State → ℕ → Bytes → Op → Option Refusal
+first_refusal state call key op =
+    let entry = entry_at state.cache key in
+    if not (has_room state call (places (passes state.config op entry))) then Some refusal.HistoryFull
+    else (if is_reserved state key && not (passes state.config op entry) then Some refusal.Busy
+    else (if reserves (first_asked state.config op entry) && nat_le 64 (length state.reservations) then Some refusal.TooManyInFlight else None))

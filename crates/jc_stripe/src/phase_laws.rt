@@ -1,0 +1,28 @@
+//! The laws of the phases, over every stripe. Each function does nothing: what it says is its contract.
+ghost use Rattle.jc_stripe.specs.Laws.{StaysReached, IsLegal, Grows, WasFree, Keeps};
+
+/// Whatever phase a stripe makes, it stays as every stripe is: its history is legal from its opening and leaves its entries, its
+/// tables are within their limits, and each reservation still asks what it asked and may still put its step down.
+pub fn stays_reached()
+    ensures { StaysReached }
+{}
+
+/// The history of every stripe is legal from its opening.
+pub fn is_legal()
+    ensures { IsLegal }
+{}
+
+/// Whatever phase a stripe makes, what stands in its history stays there, and its opening is the same.
+pub fn grows()
+    ensures { Grows }
+{}
+
+/// A key that gets a ticket was free: no two tickets of one key are out.
+pub fn was_free()
+    ensures { WasFree }
+{}
+
+/// A call that a reservation of its key does not stop leaves the entry as it is, for the call that has the key reserved.
+pub fn keeps()
+    ensures { Keeps }
+{}

@@ -1,0 +1,5 @@
+pub mod Inline
+pub mod KeyInside
+pub mod ValueInside
+pub mod Limits
+pub mod Refusals

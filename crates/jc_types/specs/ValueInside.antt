@@ -1,0 +1,13 @@
+-- The fields of a value, given back from its bytes.
+use Rattle.std.specs.Prelude.{◌≡◌, List, ℕ, length, take}
+use Rattle.jc_types.specs.Inline.{IsInline, padded, length-inline, padded-inline}
+use Rattle.jc_types.specs.declared.value.Value.TheInside.{Inside}
+use Rattle.jc_types.specs.declared.value.TheConstants.{VALUE_MAX}
+
+-- the fields of the value of these bytes
+abbrev pub again : List ℕ → Inside
+again bytes = record { buf = padded VALUE_MAX bytes; len = length bytes }
+
+-- the bytes that count give the buffer back
+pub value_again : (v : Inside) → IsInline 0 VALUE_MAX v.buf v.len → again (take v.len v.buf) ≡ v
+value_again v h = λ i. record { buf = padded-inline 0 VALUE_MAX v.buf v.len h i; len = length-inline 0 VALUE_MAX v.buf v.len h i }

@@ -1,0 +1,238 @@
+//! The key of an entry, and the stripe that it belongs to.
+ghost use Rattle.std.specs.Prelude.{◌≡◌, ◌<◌, ◌≤◌, ◌↔◌, ◌%◌, ◌==◌, [], ◌∷◌, length, sum, IfOk, IsOk};
+ghost use Rattle.std.proofs.Common.{rules};
+ghost use Rattle.std.specs.Ordering.{nat_cmp, as_partial_cmp};
+ghost use Rattle.std.specs.Cmp.{partial_order_from_own_ties};
+ghost use Rattle.std.specs.Cmp.Rules.{comparing, hashing};
+ghost use Rattle.std.specs.Cmp.Lexicographic.{slice_cmp, pointwise};
+
+use crate::inline::filled;
+use std::cmp::Ordering;
+use std::hash::{Hash, Hasher};
+use std::marker::Model;
+use thiserror::Error;
+
+/// The most bytes that a key has. The fewest are 1.
+pub const KEY_MAX: usize = 32;
+
+/// Why [`Key::new`] made no key.
+#[derive(Clone, Copy, Debug, PartialEq, Eq, Error)]
+pub enum KeyFault {
+    /// The text has no byte.
+    #[error("a key has at least one byte")]
+    Empty,
+    /// The text has more than [`KEY_MAX`] bytes.
+    #[error("a key has at most {max} bytes", max = KEY_MAX)]
+    TooLong,
+}
+
+/// The key of an entry: 1 to [`KEY_MAX`] bytes of any kind, kept inline.
+///
+/// A key is a copy of the bytes that it was made of, so nobody can change one that a cache holds
+/// (JSR 107, "Store-By-Value"). Two keys are equal where they have the same bytes, and keys are
+/// ordered byte by byte, as slices are.
+#[derive(Clone, Copy, Debug)]
+pub struct Key {
+    // The bytes, and zeros behind them.
+    buf: [u8; KEY_MAX],
+    // How many of the bytes count.
+    len: Len,
+}
+
+// The smallest number that counts to `KEY_MAX`.
+type Len = u8;
+
+impl Model for Key {
+    ghost use Rattle.std.specs.Prelude.{List, ℕ, length, take};
+    ghost use Rattle.jc_types.specs.Inline.{IsInline, padded};
+    ghost use Rattle.jc_types.specs.KeyInside.{key_again};
+    ghost use Rattle.jc_types.specs.declared.key.TheConstants.{KEY_MAX};
+
+    ghost Value = { List ℕ };
+
+    ghost view = { λ k. take k.len k.buf };
+
+    ghost invariant = { λ k. IsInline 1 KEY_MAX k.buf k.len };
+
+    ghost inverse = { λ bytes. record { buf = padded KEY_MAX bytes; len = length bytes } };
+
+    ghost inverse_ok = { key_again };
+}
+
+impl Key {
+    /// The key of these bytes, or what keeps them from being one.
+    pub fn new(bytes: &[u8]) -> Result<Key, KeyFault>
+        ensures made { IfOk result (λ key. key ≡ bytes.now) }
+        ensures ok { IsOk result ↔ ((0 < length bytes.now) × (length bytes.now ≤ KEY_MAX)) }
+        ensures empty { (result ≡ Err KeyFault.Empty) ↔ (bytes.now ≡ []) }
+        ensures long { (result ≡ Err KeyFault.TooLong) ↔ (KEY_MAX < length bytes.now) }
+    {
+        if bytes.is_empty() {
+            return Err(KeyFault::Empty);
+        }
+        if bytes.len() > KEY_MAX {
+            return Err(KeyFault::TooLong);
+        }
+        Ok(Key {
+            buf: filled(bytes),
+            len: bytes.len() as Len,
+        })
+    }
+
+    /// The bytes that the key was made of, from 1 to [`KEY_MAX`] of them.
+    pub fn bytes(&self) -> &[u8]
+        ensures bytes { result.now ≡ self.now }
+        ensures some { 0 < length self.now }
+        ensures few { length self.now ≤ KEY_MAX }
+    {
+        &self.buf[..self.len as usize]
+    }
+}
+
+impl PartialEq for Key {
+    ghost eq = { pointwise ◌==◌ };
+
+    ghost laws = { Prim.search (comparing, rules) };
+
+    fn eq(&self, other: &Key) -> bool {
+        self.bytes() == other.bytes()
+    }
+}
+
+impl Eq for Key {
+    ghost laws = { Prim.search (comparing, rules) };
+}
+
+impl Ord for Key {
+    ghost cmp = { slice_cmp nat_cmp };
+
+    ghost total = { Prim.search (comparing, rules) };
+
+    ghost matches_partial_cmp = { Prim.search (comparing, rules) };
+
+    ghost matches_eq = { Prim.search (comparing, rules) };
+
+    fn cmp(&self, other: &Key) -> Ordering {
+        self.bytes().cmp(other.bytes())
+    }
+}
+
+impl PartialOrd for Key {
+    ghost partial_cmp = { as_partial_cmp (slice_cmp nat_cmp) };
+
+    ghost laws = { partial_order_from_own_ties (Prim.search (comparing, rules)) (Prim.search (comparing, rules)) };
+
+    fn partial_cmp(&self, other: &Key) -> Option<Ordering> {
+        Some(self.cmp(other))
+    }
+}
+
+impl Hash for Key {
+    // All bytes in one write, with no length before them: a write for each byte would cost several
+    // times as much.
+    ghost hash_input = { λ bytes. bytes ∷ [] };
+
+    ghost respects_eq = { Prim.search (hashing, rules) };
+
+    fn hash<H: Hasher>(&self, state: &mut H) {
+        state.write(self.bytes());
+    }
+}
+
+/// The number of the stripe that a key belongs to, where a cache has `stripes` of them: the sum of
+/// the key's bytes, modulo `stripes`. The first stripe is 0.
+pub fn stripe_of(key: &Key, stripes: usize) -> usize
+    requires { 0 < stripes }
+    ensures { result ≡ sum key.now % stripes }
+{
+    let mut total: usize = 0;
+    for byte in key.bytes() {
+        total += *byte as usize;
+    }
+    total % stripes
+}
+
+#[cfg(test)]
+mod tests {
+    use super::*;
+    use std::hash::DefaultHasher;
+    use std::test::Fail;
+
+    #[test]
+    fn takes_1_to_32_bytes(rt: HostRuntime) {
+        let text = b"0123456789abcdef0123456789abcdefg";
+        for (bytes, fault) in [
+            (&text[..0], Some(KeyFault::Empty)),
+            (&text[..1], None),
+            (&text[..32], None),
+            (&text[..33], Some(KeyFault::TooLong)),
+        ] {
+            let len = bytes.len();
+            match Key::new(bytes) {
+                Ok(key) => {
+                    assert_eq!(rt; fault, None, "at {len} bytes");
+                    assert_eq!(rt; key.bytes(), bytes, "at {len} bytes");
+                }
+                Err(found) => assert_eq!(rt; fault, Some(found), "at {len} bytes"),
+            }
+        }
+    }
+
+    fn hash_of(key: &Key) -> u64 {
+        let mut hasher = DefaultHasher::new();
+        key.hash(&mut hasher);
+        hasher.finish()
+    }
+
+    #[test]
+    fn compares_and_hashes_all_bytes(rt: HostRuntime) -> Result<(), Fail> {
+        let long = b"0123456789abcdef0123456789abcde1";
+        let other = b"0123456789abcdef0123456789abcde0";
+        for (left, right, want) in [
+            (&b"a"[..], &b"a"[..], Ordering::Equal),
+            (&b"a\0"[..], &b"a\0"[..], Ordering::Equal),
+            (&b"a"[..], &b"a\0"[..], Ordering::Less),
+            (&b"b"[..], &b"ab"[..], Ordering::Greater),
+            (&long[..], &long[..], Ordering::Equal),
+            (&long[..], &other[..], Ordering::Greater),
+        ] {
+            let (a, b) = (Key::new(left)?, Key::new(right)?);
+            assert_eq!(rt; a.cmp(&b), want, "{left:?} and {right:?}");
+            assert_eq!(rt; a.partial_cmp(&b), Some(want), "{left:?} and {right:?}");
+            assert_eq!(rt; a == b, want == Ordering::Equal, "{left:?} and {right:?}");
+            assert_eq!(rt;
+                hash_of(&a) == hash_of(&b),
+                a == b,
+                "{left:?} and {right:?}"
+            );
+        }
+        Ok(())
+    }
+
+    #[test]
+    fn finds_the_stripe(rt: HostRuntime) -> Result<(), Fail> {
+        for (bytes, stripes, want) in [
+            (&b"a"[..], 4, 1),
+            (&b"ab"[..], 4, 3),
+            (&b"ba"[..], 4, 3),
+            (&b"a"[..], 1, 0),
+            (&[255; KEY_MAX][..], 64, 32),
+        ] {
+            let key = Key::new(bytes)?;
+            assert_eq!(rt; stripe_of(&key, stripes), want, "{bytes:?} of {stripes}");
+        }
+        Ok(())
+    }
+
+    #[test]
+    fn says_why(rt: HostRuntime) -> Result<(), Fail> {
+        for (fault, want) in [
+            (KeyFault::Empty, "a key has at least one byte"),
+            (KeyFault::TooLong, "a key has at most 32 bytes"),
+        ] {
+            let text = format!(in rt.alloc(); "{fault}")?;
+            assert_eq!(rt; text.as_str(), want);
+        }
+        Ok(())
+    }
+}

@@ -1,0 +1,174 @@
+//! The value of an entry.
+ghost use Rattle.std.specs.Prelude.{◌≡◌, ◌<◌, ◌≤◌, ◌↔◌, ◌==◌, length, IfOk, IsOk};
+ghost use Rattle.std.proofs.Common.{rules};
+ghost use Rattle.std.specs.Ordering.{nat_cmp, as_partial_cmp};
+ghost use Rattle.std.specs.Cmp.{partial_order_from_own_ties};
+ghost use Rattle.std.specs.Cmp.Rules.{comparing};
+ghost use Rattle.std.specs.Cmp.Lexicographic.{slice_cmp, pointwise};
+
+use crate::inline::filled;
+use std::cmp::Ordering;
+use std::marker::Model;
+use thiserror::Error;
+
+/// The most bytes that a value has. A value may have none.
+pub const VALUE_MAX: usize = 64;
+
+/// Why [`Value::new`] made no value.
+#[derive(Clone, Copy, Debug, PartialEq, Eq, Error)]
+pub enum ValueFault {
+    /// The text has more than [`VALUE_MAX`] bytes.
+    #[error("a value has at most {max} bytes", max = VALUE_MAX)]
+    TooLong,
+}
+
+/// The value of an entry: 0 to [`VALUE_MAX`] bytes of any kind, kept inline.
+///
+/// A value is a copy of the bytes that it was made of, so nobody can change one that a cache holds
+/// (JSR 107, "Store-By-Value"). Two values are equal where they have the same bytes, which is what
+/// `remove(key, oldValue)` and `replace(key, oldValue, newValue)` test, and values are ordered byte
+/// by byte, as slices are.
+#[derive(Clone, Copy, Debug)]
+pub struct Value {
+    // The bytes, and zeros behind them.
+    buf: [u8; VALUE_MAX],
+    // How many of the bytes count.
+    len: Len,
+}
+
+// The smallest number that counts to `VALUE_MAX`.
+type Len = u8;
+
+impl Model for Value {
+    ghost use Rattle.std.specs.Prelude.{List, ℕ, length, take};
+    ghost use Rattle.jc_types.specs.Inline.{IsInline, padded};
+    ghost use Rattle.jc_types.specs.ValueInside.{value_again};
+    ghost use Rattle.jc_types.specs.declared.value.TheConstants.{VALUE_MAX};
+
+    ghost Value = { List ℕ };
+
+    ghost view = { λ v. take v.len v.buf };
+
+    ghost invariant = { λ v. IsInline 0 VALUE_MAX v.buf v.len };
+
+    ghost inverse = { λ bytes. record { buf = padded VALUE_MAX bytes; len = length bytes } };
+
+    ghost inverse_ok = { value_again };
+}
+
+impl Value {
+    /// The value of these bytes, or [`ValueFault::TooLong`].
+    pub fn new(bytes: &[u8]) -> Result<Value, ValueFault>
+        ensures made { IfOk result (λ value. value ≡ bytes.now) }
+        ensures ok { IsOk result ↔ (length bytes.now ≤ VALUE_MAX) }
+        ensures long { (result ≡ Err ValueFault.TooLong) ↔ (VALUE_MAX < length bytes.now) }
+    {
+        if bytes.len() > VALUE_MAX {
+            return Err(ValueFault::TooLong);
+        }
+        Ok(Value {
+            buf: filled(bytes),
+            len: bytes.len() as Len,
+        })
+    }
+
+    /// The bytes that the value was made of, at most [`VALUE_MAX`] of them.
+    pub fn bytes(&self) -> &[u8]
+        ensures bytes { result.now ≡ self.now }
+        ensures few { length self.now ≤ VALUE_MAX }
+    {
+        &self.buf[..self.len as usize]
+    }
+}
+
+impl PartialEq for Value {
+    ghost eq = { pointwise ◌==◌ };
+
+    ghost laws = { Prim.search (comparing, rules) };
+
+    fn eq(&self, other: &Value) -> bool {
+        self.bytes() == other.bytes()
+    }
+}
+
+impl Eq for Value {
+    ghost laws = { Prim.search (comparing, rules) };
+}
+
+impl Ord for Value {
+    ghost cmp = { slice_cmp nat_cmp };
+
+    ghost total = { Prim.search (comparing, rules) };
+
+    ghost matches_partial_cmp = { Prim.search (comparing, rules) };
+
+    ghost matches_eq = { Prim.search (comparing, rules) };
+
+    fn cmp(&self, other: &Value) -> Ordering {
+        self.bytes().cmp(other.bytes())
+    }
+}
+
+impl PartialOrd for Value {
+    ghost partial_cmp = { as_partial_cmp (slice_cmp nat_cmp) };
+
+    ghost laws = { partial_order_from_own_ties (Prim.search (comparing, rules)) (Prim.search (comparing, rules)) };
+
+    fn partial_cmp(&self, other: &Value) -> Option<Ordering> {
+        Some(self.cmp(other))
+    }
+}
+
+#[cfg(test)]
+mod tests {
+    use super::*;
+    use std::test::Fail;
+
+    #[test]
+    fn takes_0_to_64_bytes(rt: HostRuntime) {
+        let text = [b'v'; 65];
+        for (bytes, fault) in [
+            (&text[..0], None),
+            (&text[..1], None),
+            (&text[..64], None),
+            (&text[..65], Some(ValueFault::TooLong)),
+        ] {
+            let len = bytes.len();
+            match Value::new(bytes) {
+                Ok(value) => {
+                    assert_eq!(rt; fault, None, "at {len} bytes");
+                    assert_eq!(rt; value.bytes(), bytes, "at {len} bytes");
+                }
+                Err(found) => assert_eq!(rt; fault, Some(found), "at {len} bytes"),
+            }
+        }
+    }
+
+    #[test]
+    fn compares_all_bytes(rt: HostRuntime) -> Result<(), Fail> {
+        let mut long = [b'v'; VALUE_MAX];
+        let other = long;
+        long[VALUE_MAX - 1] = b'w';
+        for (left, right, want) in [
+            (&b""[..], &b""[..], Ordering::Equal),
+            (&b""[..], &b"\0"[..], Ordering::Less),
+            (&b"a"[..], &b"a\0"[..], Ordering::Less),
+            (&b"b"[..], &b"ab"[..], Ordering::Greater),
+            (&long[..], &long[..], Ordering::Equal),
+            (&long[..], &other[..], Ordering::Greater),
+        ] {
+            let (a, b) = (Value::new(left)?, Value::new(right)?);
+            assert_eq!(rt; a.cmp(&b), want, "{left:?} and {right:?}");
+            assert_eq!(rt; a.partial_cmp(&b), Some(want), "{left:?} and {right:?}");
+            assert_eq!(rt; a == b, want == Ordering::Equal, "{left:?} and {right:?}");
+        }
+        Ok(())
+    }
+
+    #[test]
+    fn says_why(rt: HostRuntime) -> Result<(), Fail> {
+        let text = format!(in rt.alloc(); "{}", ValueFault::TooLong)?;
+        assert_eq!(rt; text.as_str(), "a value has at most 64 bytes");
+        Ok(())
+    }
+}

@@ -1,0 +1,27 @@
+-- What is true of a world, in two halves: what its order and its calls say, and what its parts and its store say.
+use Rattle.std.proofs.Common.{◌≡◌, ℕ, [], Bool, true, false, Option, None, Some, IsSomeAnd, slice_get}
+use Rattle.std.specs.List.{list_all}
+use Rattle.std.specs.FinMap.{get}
+use Rattle.jc_model.specs.Cache.{Bytes, entry_at}
+use Rattle.jc_model.specs.Legal.{in_order}
+use Rattle.jc_stripe.specs.State.{State}
+use Rattle.jc_world.specs.declared.event.Part.{Part}
+use Rattle.jc_world.specs.World.{WorldState, stripe_for, cached}
+use Rattle.jc_world.specs.Coherent.{all_hold}
+use Rattle.jc_world.specs.Sound.{IsShaped, number_up_to, CallsFit, IsHeld, AllOwned, KeyTold, IsSoundWorld}
+
+pub record HasOrder (w : WorldState) : Type 0 where
+  pub shape : IsShaped w
+  pub order : in_order w.order ≡ true
+  pub numbers : list_all (number_up_to w.last) w.order ≡ true
+  pub calls : CallsFit w.last w.order w.calls
+  pub owned : (number : ℕ) (s : State) → slice_get w.stripes number ≡ Some s → AllOwned w s.reservations
+
+pub record HasParts (w : WorldState) : Type 0 where
+  pub held : (key : Bytes) (part : Part) → get w.parts key ≡ Some part → IsSomeAnd (stripe_for w key) (λ s. IsHeld w s key part)
+  pub told : all_hold w ≡ true → (key : Bytes) → KeyTold (get w.parts key) (entry_at w.store key) (cached w key)
+  pub fresh : w.fresh ≡ true → (key : Bytes) → (cached w key ≡ None) × (get w.parts key ≡ None)
+  pub idle : w.fresh ≡ true → w.calls ≡ []
+
+pub sound : (w : WorldState) → HasOrder w → HasParts w → IsSoundWorld w
+sound w o p = record { shape = o.shape; order = o.order; numbers = o.numbers; calls = o.calls; held = p.held; owned = o.owned; told = p.told; fresh = p.fresh; idle = p.idle }

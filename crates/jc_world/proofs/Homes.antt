@@ -1,0 +1,200 @@
+-- A stripe caches none but its own keys, so what all stripes cache for a key is what its own stripe does.
+--     homes          a stripe that is reached caches no key of another
+--     gathered       the stripes together cache what the world does
+--     found_next     the stripes that are left, where one was gone through
+--     agrees         an entry of a coherent world doesn't differ
+--     none_differ    so none does
+use Rattle.std.specs.Prelude.{T}
+use Rattle.std.proofs.Common.{◌≡◌, ◌==◌, ◌+◌, ◌%◌, ◌<◌, ℕ, zero, suc, sum, length, List, [], ◌∷◌, ◌++◌, Bool, true, false, cond, not, ◌&&◌, Option, None, Some, IfSome, filter, map, slice_get, get_or, drop, add-one, drop-cons, refl, sym, ap, ◌∙◌, subst, arith}
+use Rattle.std.specs.List.{list_all}
+use Rattle.std.specs.declared.cmp.Ordering.{Ordering}
+use Rattle.std.specs.declared.cmp.Ordering.TheVariants.{Less, Equal, Greater}
+use Rattle.std.specs.Ordering.{eq_by_cmp, is_lt, is_eq}
+use Rattle.std.specs.Cmp.{eq_by_cmp_equiv}
+use Rattle.std.specs.Cmp.Lexicographic.{texts_ties, pointwise}
+use Rattle.std.specs.FinMap.{get, remove, find, is_sorted, entries, entries_sorted, from_entries, get-remove, get-empty, get-entries, get-from_entries}
+use Rattle.std.specs.FinMap.Entries.{below_all}
+use Rattle.std.proofs.lemmas.Bool.{ne_eqb}
+use Rattle.std.proofs.lemmas.Cmp.{nat_list_cmp_total}
+use Rattle.std.proofs.lemmas.List.Folds.{list_all-append}
+use Rattle.jc_types.specs.declared.config.Config.{Config}
+use Rattle.jc_model.specs.declared.event.Event.{Event}
+use Rattle.jc_model.specs.declared.event.Cause.{Cause}
+use Rattle.jc_model.specs.Cache.{Bytes, Cache, key_cmp, entry_at}
+use Rattle.jc_model.specs.Table.{holds, entry_left}
+use Rattle.jc_model.specs.Group.{Group, victim_events, step_event, shared_event, step_place, evicted_events, events_of, history_of, without, before, stepped, evict_own, left_after, cache_after}
+use Rattle.jc_model.specs.Legal.{event_key}
+use Rattle.jc_model.proofs.Lookups.{both, same_key, get-with_entry}
+use Rattle.jc_stripe.specs.State.{State, is_of}
+use Rattle.jc_stripe.specs.Reached.{IsReached, is_own}
+use Rattle.jc_world.specs.World.{WorldState, home, cached, entry_in}
+use Rattle.jc_world.specs.Sound.{IsSoundWorld}
+use Rattle.jc_world.specs.Coherent.{Coherent, is_changed}
+use Rattle.jc_world.specs.Audit.{IsCache, differs, differing}
+use Rattle.jc_world.specs.Gathered.{or_else, found_after}
+
+-- 1. What a group leaves at other keys.
+
+-- a key that isn't there stays out where one goes
+none_removed : (cache : Cache) (key gone : Bytes) → entry_at cache key ≡ None → entry_at (remove cache gone) key ≡ None
+none_removed cache key gone h = get-remove nat_list_cmp_total cache gone key ∙ ap (cond (eq_by_cmp key_cmp key gone) None) h ∙ none (eq_by_cmp key_cmp key gone)
+  where
+    none : (b : Bool) → cond {A = Option Bytes} b None None ≡ None
+    none true = refl
+    none false = refl
+
+-- where a full stripe's victim goes
+none_without : (cache : Cache) (key : Bytes) (gone : Option Bytes) → entry_at cache key ≡ None → entry_at (without cache gone) key ≡ None
+none_without cache key None h = h
+none_without cache key (Some gone) h = none_removed cache key gone h
+
+-- and where the step's own key does
+none_evicted : (cache : Cache) (key own : Bytes) (cause : Option Cause) → entry_at cache key ≡ None → entry_at (evict_own cache own cause) key ≡ None
+none_evicted cache key own None h = h
+none_evicted cache key own (Some cause) h = none_removed cache key own h
+
+-- so it stays out in a group whose step is of another key
+none_left : (cache : Cache) (group : Group) (key : Bytes) → eq_by_cmp key_cmp key group.made.key ≡ false → entry_at cache key ≡ None → entry_at (left_after cache group) key ≡ None
+none_left cache group key apart h = none_evicted (stepped cache group) key group.made.key group.evicted (
+    get-with_entry (before cache group) group.made.key (entry_left (before cache group) group.made) key
+    ∙ ap (λ b. cond b (entry_left (before cache group) group.made) (entry_at (before cache group) key)) apart
+    ∙ none_without cache key group.victim h
+    )
+
+-- what holds of each event of a group holds of its step
+of_step : (p : Event → Bool) (place : ℕ) (group : Group) → list_all p (events_of place group) ≡ true → p (step_event group) ≡ true
+of_step p place group h =
+    let shared = map (shared_event (step_place place group) group.made.key group.made.out.load) group.joined in
+    let own = evicted_events group.made.key group.evicted in
+    let front = victim_events group.victim in
+    let step = step_event group ∷ shared in
+    let most = both (list_all p (front ++ step)) (list_all p own) (sym (list_all-append p (front ++ step) own) ∙ h) in
+    let parts = both (list_all p front) (list_all p step) (sym (list_all-append p front step) ∙ most.0) in
+    (both (p (step_event group)) (list_all p shared) parts.1).0
+
+-- events of other keys leave a key out
+none_after : (p : Event → Bool) (key : Bytes) → ((e : Event) → p e ≡ true → eq_by_cmp key_cmp key (event_key e) ≡ false) → (place : ℕ) (groups : List Group) (cache : Cache)
+    → list_all p (history_of place groups) ≡ true → entry_at cache key ≡ None → entry_at (cache_after cache groups) key ≡ None
+none_after p key f place [] cache h none = none
+none_after p key f place (group ∷ groups) cache h none =
+    let next = place + length (events_of place group) in
+    let parts = both (list_all p (events_of place group)) (list_all p (history_of next groups)) (sym (list_all-append p (events_of place group) (history_of next groups)) ∙ h) in
+    none_after p key f next groups (left_after cache group) parts.1 (none_left cache group key (f (step_event group) (of_step p place group parts.0)) none)
+
+-- 2. What a stripe caches.
+
+-- a key of another stripe isn't one of this stripe's
+other_key : (s : State) (key own : Bytes) → is_of s key ≡ false → is_of s own ≡ true → eq_by_cmp key_cmp key own ≡ false
+other_key s key own off on =
+    elim (eq_by_cmp key_cmp key own) as (λ b. eq_by_cmp key_cmp key own ≡ b → b ≡ false) [
+      | true ↦ λ e. sym on ∙ ap (is_of s) (sym (same_key key own e)) ∙ off
+      | false ↦ λ e. refl
+    ] refl
+
+-- a stripe caches no key of another
+pub homes : (s : State) (key : Bytes) → IsReached s → is_of s key ≡ false → entry_at s.cache key ≡ None
+homes s key reached off =
+    let h = reached.legal in
+    ap (λ c. entry_at c key) h.left
+    ∙ none_after (is_own s) key (λ e own. other_key s key (event_key e) off own) 0 h.groups (from_entries s.opening)
+    (ap (list_all (is_own s)) (sym h.spelled) ∙ reached.own)
+    (ap (λ (o : List (Bytes × Bytes)). entry_at (from_entries o) key) reached.opening ∙ get-empty key_cmp key)
+
+-- 3. What all stripes cache.
+
+-- stripes that cache nothing for a key add nothing
+found_none : (found : Option Bytes) (stripes : List State) (key : Bytes) → ((i : ℕ) (s : State) → slice_get stripes i ≡ Some s → entry_at s.cache key ≡ None) → found_after found stripes key ≡ found
+found_none found [] key h = refl
+found_none found (s ∷ ss) key h = ap (λ o. found_after (or_else o found) ss key) (h 0 s refl) ∙ found_none found ss key (λ i x e. h (suc i) x e)
+
+-- where one alone may, what it caches counts
+found_one : (found : Option Bytes) (stripes : List State) (key : Bytes) (n : ℕ) → ((i : ℕ) (s : State) → slice_get stripes i ≡ Some s → (n ≡ i → ⊥) → entry_at s.cache key ≡ None)
+    → found_after found stripes key ≡ or_else (entry_in (slice_get stripes n) key) found
+found_one found [] key n h = refl
+found_one found (s ∷ ss) key zero h = found_none (or_else (entry_at s.cache key) found) ss key (λ i x e. h (suc i) x e (λ t. absurd (omega arith)))
+found_one found (s ∷ ss) key (suc n) h =
+    ap (λ o. found_after (or_else o found) ss key) (h 0 s refl (λ t. absurd (omega arith)))
+    ∙ found_one found ss key n (λ i x e apart. h (suc i) x e (λ t. apart (omega arith)))
+
+-- nothing was found before the first
+or_none : (o : Option Bytes) → or_else o None ≡ o
+or_none None = refl
+or_none (Some x) = refl
+
+-- so the stripes cache together what the world does
+pub gathered : (w : WorldState) (key : Bytes) → IsSoundWorld w → found_after None w.stripes key ≡ cached w key
+gathered w key old =
+    found_one None w.stripes key (home w key) (λ i s at apart.
+    let h = old.shape.each i s at in
+    homes s key h.reached (ap (λ (c : Config). sum key % c.stripes == s.number) h.config_is ∙ ap (λ n. home w key == n) h.number_is ∙ ne_eqb (home w key) i apart))
+    ∙ or_none (cached w key)
+
+-- the entries of a further stripe
+pub found_next : (stripes : List State) (n : ℕ) (s : State) (here next : Option Bytes) (listed : List (Bytes × Bytes)) (key : Bytes) → n < length stripes → s ≡ get_or stripes n s → from_entries {R = key_cmp} listed ≡ s.cache
+    → next ≡ or_else (find key_cmp key listed) here → found_after next (drop (n + 1) stripes) key ≡ found_after here (drop n stripes) key
+found_next stripes n s here next listed key within is cache e =
+    ap (λ o. found_after o (drop (n + 1) stripes) key) (e ∙ ap (λ o. or_else o here) (sym (get-from_entries nat_list_cmp_total listed key) ∙ ap (λ m. entry_at m key) cache))
+    ∙ ap (λ k. found_after (or_else (entry_at s.cache key) here) (drop k stripes) key) (add-one n)
+    ∙ ap (λ ss. found_after here ss key) (sym (drop-cons stripes n s within ∙ ap (λ t. t ∷ drop (suc n) stripes) (sym is)))
+
+-- 4. What differs.
+
+-- a truth is true
+is_true : (b : Bool) → T b → b ≡ true
+is_true true h = refl
+is_true false h = absurd h
+
+-- what is less isn't equal
+less_not_equal : (r : Ordering) → is_lt r ≡ true → is_eq r ≡ false
+less_not_equal Less h = refl
+less_not_equal Equal h = cc
+less_not_equal Greater h = cc
+
+-- a key below all of a list isn't in it
+none_below : (key : Bytes) (es : List (Bytes × Bytes)) → below_all key_cmp key es ≡ true → find key_cmp key es ≡ None
+none_below key [] h = refl
+none_below key (e ∷ es) h =
+    let parts = both (is_lt (key_cmp key e.0)) (below_all key_cmp key es) h in
+    ap (λ b. cond b (Some e.1) (find key_cmp key es)) (less_not_equal (key_cmp key e.0) parts.0) ∙ none_below key es parts.1
+
+-- what is found in a sorted list is found behind the first, too, if it stands there
+found_behind : (e : Bytes × Bytes) (es : List (Bytes × Bytes)) (key value : Bytes) → below_all key_cmp e.0 es ≡ true → find key_cmp key es ≡ Some value → find key_cmp key (e ∷ es) ≡ Some value
+found_behind e es key value low h =
+    elim (eq_by_cmp key_cmp key e.0) as (λ b. eq_by_cmp key_cmp key e.0 ≡ b → cond b (Some e.1) (find key_cmp key es) ≡ Some value) [
+      | true ↦ λ t. let gone : None ≡ Some value = sym (none_below e.0 es low) ∙ ap (λ k. find key_cmp k es) (sym (same_key key e.0 t)) ∙ h in cc
+      | false ↦ λ t. h
+    ] refl
+
+-- where a test fails at each key with its value, it takes nothing of a sorted list
+takes_none : (p : Bytes × Bytes → Bool) (es : List (Bytes × Bytes)) → is_sorted key_cmp es ≡ true → ((key value : Bytes) → find key_cmp key es ≡ Some value → p (key, value) ≡ false) → filter p es ≡ []
+takes_none p [] sorted h = refl
+takes_none p (e ∷ es) sorted h =
+    let parts = both (below_all key_cmp e.0 es) (is_sorted key_cmp es) sorted in
+    let here : find key_cmp e.0 (e ∷ es) ≡ Some e.1 = ap (λ b. cond b (Some e.1) (find key_cmp e.0 es)) ((eq_by_cmp_equiv nat_list_cmp_total).refl e.0) in
+    ap (λ b. cond b (e ∷ filter p es) (filter p es)) (h e.0 e.1 here)
+    ∙ takes_none p es parts.1 (λ key value found. h key value (found_behind e es key value parts.0 found))
+
+-- a value that is stored is held
+held_true : (stored : Option Bytes) (value : Bytes) → stored ≡ Some value → holds stored value ≡ true
+held_true stored value h = ap (λ o. holds o value) h ∙ texts_ties value value ∙ (eq_by_cmp_equiv nat_list_cmp_total).refl value
+
+-- an entry that is held doesn't differ
+held_apart : (stored : Option Bytes) (value : Bytes) (changed : Bool) → (changed ≡ false → stored ≡ Some value) → (not (holds stored value) && not changed) ≡ false
+held_apart stored value true h = never (not (holds stored value))
+  where
+    never : (b : Bool) → (b && false) ≡ false
+    never true = refl
+    never false = refl
+held_apart stored value false h = ap (λ b. not b && true) (held_true stored value (h refl))
+
+-- an entry that a coherent world caches doesn't differ
+pub agrees : (w : WorldState) (key value : Bytes) → Coherent w → cached w key ≡ Some value → differs w (key, value) ≡ false
+agrees w key value coherent is =
+    let P : Option Bytes → Type 0 = λ o. IfSome o (λ v. entry_at w.store key ≡ Some v) in
+    held_apart (entry_at w.store key) value (is_changed (get w.parts key)) (λ unchanged. subst P is (coherent key unchanged))
+
+-- so none of them does
+pub none_differ : (w : WorldState) (cache : Cache) → IsCache w cache → Coherent w → differing w (entries cache) ≡ []
+none_differ w cache is coherent =
+    ap (map (λ (e : Bytes × Bytes). e.0)) (takes_none (differs w) (entries cache) (is_true (is_sorted key_cmp (entries cache)) (entries_sorted cache))
+    (λ key value found. agrees w key value coherent (sym (is key) ∙ get-entries cache key ∙ found)))

@@ -1,0 +1,725 @@
+-- Each event keeps what the parts and the store of a world say.
+use Rattle.std.proofs.Common.{◌≡◌, ◌==◌, ◌&&◌, ◌||◌, ◌+◌, ℕ, zero, suc, List, [], ◌∷◌, ◌++◌, Bool, true, false, cond, not, Option, None, Some, IsSomeAnd, Ok, find, refl, sym, ap, ◌∙◌, subst, is_none, slice_get, slice_set}
+use Rattle.std.specs.Ordering.{eq_by_cmp}
+use Rattle.std.specs.Cmp.Lexicographic.{texts_ties, pointwise}
+use Rattle.std.proofs.lemmas.Cmp.{nat_list_cmp_total}
+use Rattle.std.proofs.lemmas.Bool.{eqb-true}
+use Rattle.std.specs.FinMap.{get, insert, remove, get-empty, get-insert, get-remove}
+use Rattle.jc_types.specs.declared.config.Config.{Config}
+use Rattle.jc_types.specs.Limits.{checked}
+use Rattle.jc_model.specs.declared.event.Op.{Op}
+use Rattle.jc_model.specs.declared.event.Out.{Out}
+use Rattle.jc_model.specs.declared.event.Event.{Event}
+use Rattle.jc_model.specs.declared.event.Reply.{Reply}
+use Rattle.jc_model.specs.declared.event.Change.{Change}
+use Rattle.jc_model.specs.declared.event.LoadAnswer.{LoadAnswer}
+use Rattle.jc_model.specs.declared.event.LoadAnswer.TheVariants as load
+use Rattle.jc_model.specs.declared.event.WriteAnswer.{WriteAnswer}
+use Rattle.jc_model.specs.declared.event.WriteAnswer.TheVariants as write
+use Rattle.jc_model.specs.declared.event.ProcessAnswer.TheVariants as process
+use Rattle.jc_model.specs.Cache.{Bytes, Cache, key_cmp, entry_at, with_entry}
+use Rattle.jc_model.specs.Table.{new_entry, write_ask, holds, load_given, write_given, alike}
+use Rattle.jc_model.specs.Group.{nothing_said, write_only}
+use Rattle.jc_model.specs.Processor.{found_in}
+use Rattle.jc_model.proofs.Lookups.{both, same_key, get-with_entry}
+use Rattle.jc_stripe.specs.Claim.{Claim, WriteClaim}
+use Rattle.jc_stripe.specs.State.{State, claimed, is_claim, released, is_reserved}
+use Rattle.jc_stripe.specs.Phases.{Begins, Commits, Steps, group_made}
+use Rattle.jc_stripe.specs.declared.begun.Begun.TheVariants as begun
+use Rattle.jc_stripe.specs.declared.ticket.Reserved.{Reserved}
+use Rattle.jc_stripe.specs.declared.ticket.First.{First}
+use Rattle.jc_stripe.specs.declared.ticket.First.TheVariants.{Nobody, Loader, Writer}
+use Rattle.jc_world.specs.declared.event.Command.{Command}
+use Rattle.jc_world.specs.declared.event.Under.{Under}
+use Rattle.jc_world.specs.declared.event.Part.{Part}
+use Rattle.jc_world.specs.declared.event.Premises.{Premises}
+use Rattle.jc_world.specs.declared.event.Shown.{Shown}
+use Rattle.jc_world.specs.declared.event.Shown.TheVariants as shown
+use Rattle.jc_world.specs.declared.event.WorldEvent.TheVariants as event
+use Rattle.jc_world.specs.World.{WorldState, Parts, home, stripe_for, cached, entry_in, empty_stripes, start, under, over, of_call, part_of, asks_loader, asks_writer, waits_for_load, waits_for_report, is_answered, claim_of, out_of, has_number, with_stored}
+use Rattle.jc_world.specs.Premises.{changed_to, is_true_load, is_done, is_true_report, disturbed, premises_hold}
+use Rattle.jc_world.specs.Events.{fits, may_start, answered, changed, reported, new_part, with_stripe, goes_on, call_over, with_part, Starts, Ends}
+use Rattle.jc_world.specs.Coherent.{Coherent, is_changed, all_hold}
+use Rattle.jc_world.specs.Sound.{KindFits, IsHeld, Agrees, IsTold, KeyTold, WrittenFor, IsSoundWorld}
+use Rattle.jc_world.proofs.Halves.{HasParts}
+use Rattle.jc_world.proofs.Places.{at_stripe, stripe_put, home_stripe, found_number, under_left, under_more}
+use Rattle.jc_world.proofs.Reservations.{found_more, out_reserved, passed, was_free, new_out, found_left}
+use Rattle.jc_world.proofs.Entries.{split, tied, agrees_stepped, kept_stepped, writes, loads_asked, writes_asked, loads, asks_nobody, passing_keeps}
+
+-- 1. Small facts.
+
+-- a reservation is the one of a part
+abbrev IsFor : Part → Reserved → Type 0
+IsFor part r = (r.op ≡ part.op) × (r.first ≡ part.first) × (r.call ≡ part.call)
+
+-- a call is on this key
+abbrev IsOn : Bytes → Under → Type 0
+IsOn key u = u.command.key ≡ key
+
+-- a part is held by a stripe, which is there
+abbrev HeldIn : WorldState → Option State → Bytes → Part → Type 0
+HeldIn w o key part = IsSomeAnd o (λ s. IsHeld w s key part)
+
+-- these parts are held in a world
+abbrev AllHeld : WorldState → Parts → Type 0
+AllHeld w parts = (key : Bytes) (part : Part) → get parts key ≡ Some part → HeldIn w (stripe_for w key) key part
+
+-- and what is known of them, with this store
+abbrev AllTold : WorldState → Parts → Cache → Type 0
+AllTold w parts store = (key : Bytes) → KeyTold (get parts key) (entry_at store key) (cached w key)
+
+-- two tests that both pass
+all : (a b : Bool) → a ≡ true → b ≡ true → (a && b) ≡ true
+all a b h k = ap (λ x. x && b) h ∙ k
+
+-- a further premise held, and all the former ones
+hold_loader : (on w l h q : Bool) → (on && (w && (l && h) && q)) ≡ true → ((on && (w && l && q)) ≡ true) × (h ≡ true)
+hold_loader on w l h q e =
+    let a = both on (w && (l && h) && q) e in
+    let b = both (w && (l && h)) q a.1 in
+    let c = both w (l && h) b.0 in
+    let d = both l h c.1 in
+    (all on (w && l && q) a.0 (all (w && l) q (all w l c.0 d.0) b.1), d.1)
+
+-- the same, of the writers
+hold_writer : (on w h l q : Bool) → (on && ((w && h) && l && q)) ≡ true → ((on && (w && l && q)) ≡ true) × (h ≡ true)
+hold_writer on w h l q e =
+    let a = both on ((w && h) && l && q) e in
+    let b = both ((w && h) && l) q a.1 in
+    let c = both (w && h) l b.0 in
+    let d = both w h c.0 in
+    (all on (w && l && q) a.0 (all (w && l) q (all w l d.0 c.1) b.1), d.1)
+
+-- a store that was written by somebody else isn't quiet
+undisturbed : (on w l : Bool) → (on && (w && l && false)) ≡ true → ⊥
+undisturbed on w l h = let t = (both (w && l) false ((both on (w && l && false) h).1)).1 in cc
+
+-- a part of a call at a key is the key's part
+pub is_there : (o : Option Part) (call : ℕ) (part : Part) → of_call call o ≡ Some part → o ≡ Some part
+is_there None call part h = cc
+is_there (Some p) call part h =
+    elim (p.call == call) as (λ b. cond b (Some p) None ≡ Some part → Some p ≡ Some part) [ true ↦ λ h. h | false ↦ λ h. cc ] h
+
+-- and has the call's number
+is_of_call : (o : Option Part) (call : ℕ) (part : Part) → of_call call o ≡ Some part → part.call ≡ call
+is_of_call None call part h = cc
+is_of_call (Some p) call part h =
+    elim (p.call == call) as (λ b. (p.call == call) ≡ b → cond b (Some p) None ≡ Some part → part.call ≡ call) [
+      | true ↦ λ e h. let is : p ≡ part = cc in ap (λ (x : Part). x.call) (sym is) ∙ eqb-true p.call call e
+      | false ↦ λ e h. cc
+    ] refl h
+
+-- a part that is there, where the call has none, is another call's
+other_call : (o : Option Part) (call : ℕ) (part : Part) → o ≡ Some part → is_none (of_call call o) ≡ true → (part.call == call) ≡ false
+other_call None call part is none = cc
+other_call (Some p) call part is none =
+    let same : p ≡ part = cc in
+    let P : Part → Type 0 = λ x. (x.call == call) ≡ false in
+    subst P same (elim (p.call == call) as (λ b. is_none (cond b (Some p) None) ≡ true → b ≡ false) [ true ↦ λ h. cc | false ↦ λ h. refl ] none)
+
+-- what holds of each value holds of what is there
+some_of : {A : Type 0} (o : Option A) (P : A → Type 0) → IsSomeAnd o P → (x : A) × (o ≡ Some x) × P x
+some_of None P h = absurd h
+some_of (Some x) P h = (x, refl, h)
+
+-- and goes on to what follows from it
+some_map : {A : Type 0} (o : Option A) (P Q : A → Type 0) → ((x : A) → P x → Q x) → IsSomeAnd o P → IsSomeAnd o Q
+some_map None P Q f h = h
+some_map (Some x) P Q f h = f x h
+
+-- what is there has what holds of it
+some_at : {A : Type 0} (o : Option A) (P : A → Type 0) (x : A) → o ≡ Some x → P x → IsSomeAnd o P
+some_at o P x e h = subst (λ o. IsSomeAnd o P) (sym e) h
+
+-- and the other way round
+of_some : {A : Type 0} (o : Option A) (P : A → Type 0) (x : A) → o ≡ Some x → IsSomeAnd o P → P x
+of_some o P x e h = subst (λ o. IsSomeAnd o P) e h
+
+-- a part that cannot be there is none
+missing : (o : Option Part) → ((part : Part) → o ≡ Some part → ⊥) → o ≡ None
+missing None h = refl
+missing (Some part) h = absurd (h part refl)
+
+-- an entry that is the same as what is stored agrees with it
+agrees_same : (o : Option Bytes) → Agrees o o
+agrees_same None = tt
+agrees_same (Some x) = refl
+
+-- a value that is held is there
+holds_same : (stored : Option Bytes) (value : Bytes) → holds stored value ≡ true → stored ≡ Some value
+holds_same None value h = cc
+holds_same (Some x) value h = ap Some (same_key x value (sym (texts_ties x value) ∙ h))
+
+-- what an honest loader found is what is stored
+true_found : (answer : LoadAnswer) (stored : Option Bytes) → is_true_load answer stored ≡ true → Agrees (found_in answer) stored
+true_found load.NotAsked stored h = tt
+true_found (load.Found value) stored h = holds_same stored value h
+true_found load.Nothing stored h = tt
+true_found (load.Failed code) stored h = tt
+
+-- tests that answer alike are the same
+alike_same : (a b : Bool) → alike a b ≡ true → b ≡ a
+alike_same true b h = h
+alike_same false true h = cc
+alike_same false false h = refl
+
+-- a test does not pass where its opposite does
+not_true : (b : Bool) → not b ≡ true → b ≡ true → ⊥
+not_true true h k = cc
+not_true false h k = cc
+
+-- what a key's part, its entry and the store say, where the entry goes
+told_on : (o : Option Part) (stored entry next : Option Bytes) → (Agrees entry stored → Agrees next stored) → KeyTold o stored entry → KeyTold o stored next
+told_on None stored entry next f h = f h
+told_on (Some part) stored entry next f h = record { loaded = h.loaded; written = h.written; unwritten = λ e. f (h.unwritten e); honest = h.honest }
+
+-- nothing cached and no part say nothing
+told_none : (o : Option Part) (stored entry : Option Bytes) → o ≡ None → entry ≡ None → KeyTold o stored entry
+told_none None stored None h k = tt
+told_none None stored (Some x) h k = cc
+told_none (Some part) stored entry h k = cc
+
+-- what is known of a key with this part
+told_at : (o : Option Part) (part : Part) (stored entry : Option Bytes) → o ≡ Some part → KeyTold o stored entry → IsTold part stored entry
+told_at o part stored entry e h = let P : Option Part → Type 0 = λ o. KeyTold o stored entry in subst P e h
+
+-- 2. What is known of a sound world.
+
+-- each key has a stripe
+pub stripe_at : (w : WorldState) (key : Bytes) → IsSoundWorld w → (s : State) × (stripe_for w key ≡ Some s)
+stripe_at w key old = home_stripe w key old.shape
+
+-- a key's part is held by its stripe
+held_at : (w : WorldState) (key : Bytes) (part : Part) (s : State) → get w.parts key ≡ Some part → stripe_for w key ≡ Some s → IsSoundWorld w → IsHeld w s key part
+held_at w key part s there at old = of_some (stripe_for w key) (λ s. IsHeld w s key part) s at (old.held key part there)
+
+-- the key of a part that is held is reserved
+is_out_reserved : (w : WorldState) (s : State) (key : Bytes) (part : Part) → IsHeld w s key part → is_reserved s key ≡ true
+is_out_reserved w s key part h = out_reserved (claim_of key part) (IsFor part) s.reservations h.out
+
+-- a key that is not reserved has no part
+pub unheld : (w : WorldState) (key : Bytes) (s : State) → stripe_for w key ≡ Some s → is_reserved s key ≡ false → IsSoundWorld w → get w.parts key ≡ None
+unheld w key s at free old = missing (get w.parts key) (λ p e. let t = is_out_reserved w s key p (held_at w key p s e at old) in cc)
+
+-- a part's ticket is out
+pub out_at : (w : WorldState) (call : ℕ) (key : Bytes) (part : Part) (from : State) → part_of w call key ≡ Some part → stripe_for w key ≡ Some from → IsSoundWorld w → IsSomeAnd (claimed from (claim_of key part)) (λ r. r.first ≡ part.first)
+out_at w call key part from is at old =
+    some_map (claimed from (claim_of key part)) (IsFor part) (λ r. r.first ≡ part.first) (λ r h. h.1) (held_at w key part from (is_there (get w.parts key) call part is) at old).out
+
+-- a key's part has been reserved, so the world is not fresh
+worn : (w : WorldState) (key : Bytes) (part : Part) → get w.parts key ≡ Some part → IsSoundWorld w → w.fresh ≡ true → ⊥
+worn w key part there old fresh = let e : Some part ≡ None = sym there ∙ (old.fresh fresh key).1 in cc
+
+-- where no call is under way, none is found
+none_under : (call : ℕ) (calls : List Under) (u : Under) → calls ≡ [] → find (has_number call) calls ≡ Some u → ⊥
+none_under call calls u none h = let e : None ≡ Some u = ap (find (has_number call)) (sym none) ∙ h in cc
+
+-- a call is under way, so the world is not fresh
+begun_before : (w : WorldState) (call : ℕ) (u : Under) → under w call ≡ Some u → IsSoundWorld w → w.fresh ≡ true → ⊥
+begun_before w call u is old fresh = none_under call w.calls u (old.idle fresh) is
+
+-- all stripes have the configuration of the world
+config_at : (w : WorldState) (number : ℕ) (s : State) → slice_get w.stripes number ≡ Some s → IsSoundWorld w → s.config ≡ w.config
+config_at w number s at old = (old.shape.each number s at).config_is
+
+-- 3. A part is put in place.
+
+-- a further part is held, and all the others
+held_insert : (w : WorldState) (parts : Parts) (key : Bytes) (new : Part) → AllHeld w parts → HeldIn w (stripe_for w key) key new → AllHeld w (insert parts key new)
+held_insert w parts key new all one q part e =
+    split q key (λ b. cond b (Some new) (get parts q) ≡ Some part → HeldIn w (stripe_for w q) q part)
+    (λ same e. let is : new ≡ part = cc in let P : Bytes → Type 0 = λ k. HeldIn w (stripe_for w k) k part in let Q : Part → Type 0 = λ p. HeldIn w (stripe_for w key) key p in subst P (sym same) (subst Q is one))
+    (λ apart e. all q part e)
+    (sym (get-insert nat_list_cmp_total parts key new q) ∙ e)
+
+-- what is known of a further part, and of all the others
+told_insert : (w : WorldState) (parts : Parts) (store : Cache) (key : Bytes) (new : Part) → AllTold w parts store → IsTold new (entry_at store key) (cached w key) → AllTold w (insert parts key new) store
+told_insert w parts store key new all one q =
+    let P : Option Part → Type 0 = λ o. KeyTold o (entry_at store q) (cached w q) in
+    subst P (sym (get-insert nat_list_cmp_total parts key new q))
+    (split q key (λ b. KeyTold (cond b (Some new) (get parts q)) (entry_at store q) (cached w q))
+    (λ same. let Q : Bytes → Type 0 = λ k. IsTold new (entry_at store k) (cached w k) in subst Q (sym same) one)
+    (λ apart. all q))
+
+-- 4. Answers, changes and reports.
+
+-- the same stripes and calls, with another store and other parts
+abbrev aside : WorldState → Cache → Bool → Parts → Premises → WorldState
+aside w store fresh parts premises = record w { store = store; fresh = fresh; parts = parts; premises = premises }
+
+-- all parts stay held
+held_aside : (w : WorldState) (store : Cache) (fresh : Bool) (parts : Parts) (premises : Premises) → IsSoundWorld w → AllHeld (aside w store fresh parts premises) w.parts
+held_aside w store fresh parts premises old q p e =
+    some_map (stripe_for w q) (λ s. IsHeld w s q p) (λ s. IsHeld (aside w store fresh parts premises) s q p) (λ s h. record { out = h.out; kind = h.kind; call = h.call }) (old.held q p e)
+
+-- an answer of the loader changes nothing of what was asked
+kind_said : (first : First) (part : Part) (entry : Option Bytes) (answer : LoadAnswer) → asks_loader first ≡ true → KindFits first part entry → KindFits first (record part { load = answer }) entry
+kind_said Loader part entry answer h kind = kind
+kind_said (Writer change) part entry answer h kind = cc
+kind_said Nobody part entry answer h kind = cc
+
+-- nor does a report of the writer
+kind_reported : (first : First) (part : Part) (entry : Option Bytes) (report : WriteAnswer) → asks_writer first ≡ true → KindFits first part entry → KindFits first (record part { report = report }) entry
+kind_reported Loader part entry report h kind = cc
+kind_reported (Writer change) part entry report h kind = kind
+kind_reported Nobody part entry report h kind = cc
+
+-- nor does its change of the store
+kind_changed : (first : First) (part : Part) (entry : Option Bytes) → asks_writer first ≡ true → KindFits first part entry → KindFits first (record part { is_changed = true }) entry
+kind_changed Loader part entry h kind = cc
+kind_changed (Writer change) part entry h kind = kind
+kind_changed Nobody part entry h kind = cc
+
+-- what the writer was asked was not asked of the loader
+unloaded : (first : First) (part : Part) (entry : Option Bytes) → asks_writer first ≡ true → KindFits first part entry → part.load ≡ load.NotAsked
+unloaded Loader part entry h kind = cc
+unloaded (Writer change) part entry h kind = kind.1
+unloaded Nobody part entry h kind = cc
+
+-- the loader has answered
+pub parts_answered : (w : WorldState) (call : ℕ) (key : Bytes) (part : Part) (answer : LoadAnswer) → part_of w call key ≡ Some part → waits_for_load (part_of w call key) ≡ true → IsSoundWorld w → HasParts (answered w key part answer)
+parts_answered w call key part answer is waits old =
+    let n = answered w key part answer in
+    let new : Part = record part { load = answer } in
+    let there = is_there (get w.parts key) call part is in
+    let asked = both (asks_loader part.first) (not (load_given part.load)) (sym (ap waits_for_load is) ∙ waits) in
+    record {
+      held = held_insert n w.parts key new (held_aside w w.store w.fresh n.parts n.premises old)
+          (some_map (stripe_for w key) (λ s. IsHeld w s key part) (λ s. IsHeld n s key new) (λ s h. record { out = h.out; kind = kind_said part.first part (entry_at s.cache key) answer asked.0 h.kind; call = h.call }) (old.held key part there));
+      told = λ h.
+          let hold = hold_loader w.config.write_through w.premises.writers w.premises.loaders (is_true_load answer (entry_at w.store key)) w.premises.quiet h in
+          let all = old.told hold.0 in
+          let one = told_at (get w.parts key) part (entry_at w.store key) (cached w key) there (all key) in
+          told_insert n w.parts w.store key new all (record { loaded = true_found answer _ hold.1; written = one.written; unwritten = one.unwritten; honest = one.honest });
+      fresh = λ f. absurd (worn w key part there old f);
+      idle = old.idle;
+    }
+
+-- the writer has changed the store
+pub parts_changed : (w : WorldState) (call : ℕ) (key : Bytes) (part : Part) (change : Change) → part_of w call key ≡ Some part → part.first ≡ Writer change → waits_for_report (part_of w call key) ≡ true → IsSoundWorld w → HasParts (changed w key part change)
+parts_changed w call key part change is asks waits old =
+    let n = changed w key part change in
+    let new : Part = record part { is_changed = true } in
+    let there = is_there (get w.parts key) call part is in
+    let asked = both (asks_writer part.first) (not (write_given part.report)) (sym (ap waits_for_report is) ∙ waits) in
+    let at = stripe_at w key old in
+    let held = held_at w key part at.0 there at.1 old in
+    record {
+      held = held_insert n w.parts key new (held_aside w n.store w.fresh n.parts n.premises old)
+          (some_map (stripe_for w key) (λ s. IsHeld w s key part) (λ s. IsHeld n s key new) (λ s h. record { out = h.out; kind = kind_changed part.first part (entry_at s.cache key) asked.0 h.kind; call = h.call }) (old.held key part there));
+      told = λ h q.
+          let P : Option Part → Type 0 = λ o. KeyTold o (entry_at n.store q) (cached w q) in
+          let Q : Option Bytes → Type 0 = λ s. KeyTold (cond (eq_by_cmp key_cmp q key) (Some new) (get w.parts q)) s (cached w q) in
+          subst P (sym (get-insert nat_list_cmp_total w.parts key new q))
+          (subst Q (sym (get-with_entry w.store key (changed_to change) q))
+          (split q key (λ b. KeyTold (cond b (Some new) (get w.parts q)) (cond b (changed_to change) (entry_at w.store q)) (cached w q))
+          (λ same. record {
+            loaded = let L : LoadAnswer → Type 0 = λ a. Agrees (found_in a) (changed_to change) in subst L (sym (unloaded part.first part (entry_at at.0.cache key) asked.0 held.kind)) tt;
+            written = λ e. let W : First → Type 0 = λ f. WrittenFor f (changed_to change) in subst W (sym asks) refl;
+            unwritten = λ e. absurd (let t : true ≡ false = e in cc);
+            honest = λ e. absurd (not_true _ asked.1 e);
+          })
+          (λ apart. old.told h q)));
+      fresh = λ f. absurd (worn w key part there old f);
+      idle = old.idle;
+    }
+
+-- the writer has returned
+pub parts_reported : (w : WorldState) (call : ℕ) (key : Bytes) (part : Part) (report : WriteAnswer) → part_of w call key ≡ Some part → waits_for_report (part_of w call key) ≡ true → IsSoundWorld w → HasParts (reported w key part report)
+parts_reported w call key part report is waits old =
+    let n = reported w key part report in
+    let new : Part = record part { report = report } in
+    let there = is_there (get w.parts key) call part is in
+    let asked = both (asks_writer part.first) (not (write_given part.report)) (sym (ap waits_for_report is) ∙ waits) in
+    record {
+      held = held_insert n w.parts key new (held_aside w w.store w.fresh n.parts n.premises old)
+          (some_map (stripe_for w key) (λ s. IsHeld w s key part) (λ s. IsHeld n s key new) (λ s h. record { out = h.out; kind = kind_reported part.first part (entry_at s.cache key) report asked.0 h.kind; call = h.call }) (old.held key part there));
+      told = λ h.
+          let hold = hold_writer w.config.write_through w.premises.writers (is_true_report report part) w.premises.loaders w.premises.quiet h in
+          let all = old.told hold.0 in
+          let one = told_at (get w.parts key) part (entry_at w.store key) (cached w key) there (all key) in
+          told_insert n w.parts w.store key new all (record { loaded = one.loaded; written = one.written; unwritten = one.unwritten; honest = λ e. alike_same part.is_changed (is_done report) hold.1 });
+      fresh = λ f. absurd (worn w key part there old f);
+      idle = old.idle;
+    }
+
+-- somebody else has written the store
+pub parts_disturbed : (w : WorldState) (store : Cache) → IsSoundWorld w → HasParts (record w { store = store; fresh = false; premises = disturbed w.premises })
+parts_disturbed w store old = record {
+  held = held_aside w store false w.parts (disturbed w.premises) old;
+  told = λ h. absurd (undisturbed w.config.write_through w.premises.writers w.premises.loaders h);
+  fresh = λ f. absurd (let t : false ≡ true = f in cc);
+  idle = λ f. absurd (let t : false ≡ true = f in cc);
+}
+
+-- a value is stored before anything has happened
+pub parts_stored : (w : WorldState) (key value : Bytes) → w.fresh ≡ true → IsSoundWorld w → HasParts (with_stored w key value)
+parts_stored w key value new old = record {
+  held = held_aside w (with_entry w.store key (Some value)) w.fresh w.parts w.premises old;
+  told = λ h q. told_none (get w.parts q) (entry_at (with_entry w.store key (Some value)) q) (cached w q) (old.fresh new q).1 (old.fresh new q).0;
+  fresh = old.fresh;
+  idle = old.idle;
+}
+
+-- 5. A world that begins, and a call that does.
+
+-- an empty stripe caches nothing
+cached_none : (config : Config) (first count number : ℕ) (key : Bytes) → entry_in (slice_get (empty_stripes config first count) number) key ≡ None
+cached_none config first zero number key = refl
+cached_none config first (suc count) zero key = get-empty key_cmp key
+cached_none config first (suc count) (suc number) key = cached_none config (first + 1) count number key
+
+-- nothing is cached, reserved or under way before anything has happened
+pub parts_start : (config : Config) → checked config ≡ Ok tt → HasParts (start config)
+parts_start config fits =
+    let w = start config in
+    let none : (key : Bytes) → cached w key ≡ None = λ key. cached_none config 0 config.stripes (home w key) key in
+    let free : (key : Bytes) → get w.parts key ≡ None = λ key. get-empty key_cmp key in
+    record {
+      held = λ key part there. absurd (let e : Some part ≡ None = sym there ∙ free key in cc);
+      told = λ hold key. told_none (get w.parts key) (entry_at w.store key) (cached w key) (free key) (none key);
+      fresh = λ f key. (none key, free key);
+      idle = λ f. refl;
+    }
+
+-- a call has begun
+pub parts_called : (w : WorldState) (call session : ℕ) (command : Command) → fits w (event.Call call session command) ≡ true → IsSoundWorld w
+    → HasParts (record w { last = Some call; fresh = false; calls = w.calls ++ record { session = session; number = call; command = command } ∷ [] })
+parts_called w call session command fit old =
+    let more : List Under = record { session = session; number = call; command = command } ∷ [] in
+    let n : WorldState = record w { last = Some call; fresh = false; calls = w.calls ++ more } in
+    record {
+      held = λ q p e. some_map (stripe_for w q) (λ s. IsHeld w s q p) (λ s. IsHeld n s q p) (λ s h. record { out = h.out; kind = h.kind; call = under_more p.call (IsOn q) w.calls more h.call }) (old.held q p e);
+      told = old.told;
+      fresh = λ f. absurd (let t : false ≡ true = f in cc);
+      idle = λ f. absurd (let t : false ≡ true = f in cc);
+    }
+
+-- 6. A call that is over leaves the others under way.
+
+-- the calls of these parts are under way
+abbrev StayUnder : Parts → List Under → Type 0
+StayUnder parts calls = (key : Bytes) (part : Part) → get parts key ≡ Some part → IsSomeAnd (find (has_number part.call) calls) (IsOn key)
+
+-- the calls of all parts are under way
+under_at : (w : WorldState) → IsSoundWorld w → StayUnder w.parts w.calls
+under_at w old q p e =
+    let at = some_of (stripe_for w q) (λ s. IsHeld w s q p) (old.held q p e) in
+    at.2.call
+
+-- the call of a number is one
+same_under : (u v : Under) (o : Option Under) → o ≡ Some u → o ≡ Some v → u ≡ v
+same_under u v o h k = let e : Some u ≡ Some v = sym h ∙ k in cc
+
+-- a part that stands at its call's key, and is no part of this call's key, is another call's
+apart_from : (w : WorldState) (call : ℕ) (u : Under) (q : Bytes) (p : Part) → under w call ≡ Some u → get w.parts q ≡ Some p → IsSoundWorld w → (q ≡ u.command.key → (p.call == call) ≡ false) → (p.call == call) ≡ false
+apart_from w call u q p is e old own =
+    let at = some_of (under w p.call) (IsOn q) (under_at w old q p e) in
+    elim (p.call == call) as (λ b. (p.call == call) ≡ b → b ≡ false) [
+      | true ↦ λ t. sym t ∙ own (sym at.2 ∙ ap (λ (v : Under). v.command.key) (same_under at.0 u (under w call) (ap (under w) (sym (eqb-true p.call call t)) ∙ at.1) is))
+      | false ↦ λ t. refl
+    ] refl
+
+-- so it is still under way when this one is over
+left_under : (w : WorldState) (call : ℕ) (u : Under) (q : Bytes) (p : Part) → under w call ≡ Some u → get w.parts q ≡ Some p → IsSoundWorld w → (q ≡ u.command.key → (p.call == call) ≡ false) → IsSomeAnd (find (has_number p.call) (over call w.calls)) (IsOn q)
+left_under w call u q p is e old own = under_left p.call call (IsOn q) w.calls (apart_from w call u q p is e old own) (under_at w old q p e)
+
+-- the call has no part at its key before its first phase
+none_before : (w : WorldState) (call : ℕ) (key : Bytes) (u : Under) → fits w (event.Start call key) ≡ true → under w call ≡ Some u → is_none (part_of w call u.command.key) ≡ true
+none_before w call key u fit is =
+    let parts = both (pointwise ◌==◌ key u.command.key) (is_none (part_of w call key)) (sym (ap (may_start w call key) is) ∙ fit) in
+    ap (λ k. is_none (part_of w call k)) (sym (same_key key u.command.key (sym (texts_ties key u.command.key) ∙ parts.0))) ∙ parts.1
+
+-- all parts stay, where the first phase is the last
+over_started : (w : WorldState) (call : ℕ) (key : Bytes) (u : Under) → fits w (event.Start call key) ≡ true → under w call ≡ Some u → IsSoundWorld w → StayUnder w.parts (over u.number w.calls)
+over_started w call key u fit is old q p e =
+    let P : ℕ → Type 0 = λ n. IsSomeAnd (find (has_number p.call) (over n w.calls)) (IsOn q) in
+    subst P (sym (found_number call w.calls u is))
+    (left_under w call u q p is e old (λ same. other_call (get w.parts q) call p e (ap (λ k. is_none (part_of w call k)) same ∙ none_before w call key u fit is)))
+
+-- a commit's call has no part but the one that goes
+over_ended : (w : WorldState) (call : ℕ) (key : Bytes) (part : Part) → part_of w call key ≡ Some part → IsSoundWorld w
+    → (q : Bytes) (p : Part) → get w.parts q ≡ Some p → eq_by_cmp key_cmp q key ≡ false → IsSomeAnd (find (has_number p.call) (over call w.calls)) (IsOn q)
+over_ended w call key part is old q p e apart =
+    let there = is_there (get w.parts key) call part is in
+    let at = some_of (under w part.call) (IsOn key) (under_at w old key part there) in
+    left_under w call at.0 q p (ap (under w) (sym (is_of_call (get w.parts key) call part is)) ∙ at.1) e old
+    (λ same. absurd (let t : true ≡ false = sym (tied key) ∙ ap (λ k. eq_by_cmp key_cmp k key) (sym (same ∙ at.2)) ∙ apart in cc))
+
+-- 7. The first phase.
+
+-- a part stays held, where its reservation does, its entry is kept and its call goes on
+held_on : (w n : WorldState) (from next : State) (key : Bytes) (part : Part) → entry_at next.cache key ≡ entry_at from.cache key → IsSomeAnd (claimed next (claim_of key part)) (IsFor part) → IsSomeAnd (under n part.call) (IsOn key)
+    → IsHeld w from key part → IsHeld n next key part
+held_on w n from next key part same out call h = record { out = out; kind = let P : Option Bytes → Type 0 = λ e. KindFits part.first part e in subst P (sym same) h.kind; call = call }
+
+-- the same, at a stripe that is none or stays
+held_still : (w n : WorldState) (o : Option State) (key : Bytes) (part : Part) → IsSomeAnd (under n part.call) (IsOn key) → HeldIn w o key part → HeldIn n o key part
+held_still w n o key part call = some_map o (λ s. IsHeld w s key part) (λ s. IsHeld n s key part) (λ s h. record { out = h.out; kind = h.kind; call = call })
+
+-- the phase was refused
+parts_refused : (w : WorldState) (call : ℕ) (u : Under) → under w call ≡ Some u → StayUnder w.parts (over u.number w.calls) → IsSoundWorld w → HasParts (call_over w u.number)
+parts_refused w call u is stay old = record {
+  held = λ q p e. held_still w (call_over w u.number) (stripe_for w q) q p (stay q p e) (old.held q p e);
+  told = old.told;
+  fresh = old.fresh;
+  idle = λ f. absurd (begun_before w call u is old f);
+}
+
+-- a step was put down
+held_stepped : (w n : WorldState) (u : Under) (from next : State) (reply : Reply) (place : ℕ) (q : Bytes) (p : Part) → Begins from u.session u.number u.command.key u.command.op (begun.Done reply place) next
+    → IsSomeAnd (under n p.call) (IsOn q) → IsHeld w from q p → IsHeld n next q p
+held_stepped w n u from next reply place q p begins call h =
+    let steps = begins.2 in
+    let key = u.command.key in
+    let op = u.command.op in
+    let there = is_out_reserved w from q p h in
+    let R : List Reserved → Type 0 = λ rs. IsSomeAnd (find (is_claim (claim_of q p)) rs) (IsFor p) in
+    held_on w n from next q p
+    (kept_stepped from next u.session u.number key op nothing_said reply place q steps
+    (λ same. passing_keeps from.config op (entry_at from.cache key) (passed from u.number key op begins.0 (ap (is_reserved from) (sym same) ∙ there))))
+    (subst R (sym (ap (λ (s : State). s.reservations) steps.goes_on)) h.out) call h
+
+-- and the entries that agreed with the store do so still
+agrees_begun : (u : Under) (from next : State) (reply : Reply) (place : ℕ) (q : Bytes) (stored : Option Bytes) → Begins from u.session u.number u.command.key u.command.op (begun.Done reply place) next
+    → from.config.write_through ≡ true → Agrees (entry_at from.cache q) stored → Agrees (entry_at next.cache q) stored
+agrees_begun u from next reply place q stored begins on agrees =
+    let key = u.command.key in
+    let op = u.command.op in
+    agrees_stepped from next u.session u.number key op nothing_said reply place q stored begins.2
+    (split q key (λ b. Agrees (cond b (new_entry op (entry_at from.cache key) nothing_said) (entry_at from.cache q)) stored)
+    (λ same. asks_nobody from.config op (entry_at from.cache key) stored on begins.1 (let P : Bytes → Type 0 = λ k. Agrees (entry_at from.cache k) stored in subst P same agrees))
+    (λ apart. agrees))
+
+-- so the parts and the store say what they said
+parts_stepped : (w : WorldState) (call : ℕ) (u : Under) (from next : State) (order : List Event) (reply : Reply) (place : ℕ) → under w call ≡ Some u → StayUnder w.parts (over u.number w.calls) → stripe_for w u.command.key ≡ Some from
+    → Begins from u.session u.number u.command.key u.command.op (begun.Done reply place) next → IsSoundWorld w
+    → HasParts (record w { stripes = slice_set w.stripes (home w u.command.key) next; order = order; calls = over u.number w.calls })
+parts_stepped w call u from next order reply place is stay at begins old =
+    let key = u.command.key in
+    let n : WorldState = record w { stripes = slice_set w.stripes (home w key) next; order = order; calls = over u.number w.calls } in
+    record {
+      held = λ q p e.
+          at_stripe w.stripes (home w key) (home w q) from next (λ o x. HeldIn w o q p → HeldIn n x q p) at
+          (λ h. held_stepped w n u from next reply place q p begins (stay q p e) h)
+          (held_still w n (stripe_for w q) q p (stay q p e))
+          (old.held q p e);
+      told = λ hold q.
+          let on : from.config.write_through ≡ true = ap (λ (c : Config). c.write_through) (config_at w (home w key) from at old) ∙ (both w.config.write_through (premises_hold w.premises) hold).0 in
+          at_stripe w.stripes (home w key) (home w q) from next (λ o x. KeyTold (get w.parts q) (entry_at w.store q) (entry_in o q) → KeyTold (get w.parts q) (entry_at w.store q) (entry_in x q)) at
+          (told_on (get w.parts q) (entry_at w.store q) (entry_at from.cache q) (entry_at next.cache q) (agrees_begun u from next reply place q (entry_at w.store q) begins on))
+          (λ h. h)
+          (old.told hold q);
+      fresh = λ f. absurd (begun_before w call u is old f);
+      idle = λ f. absurd (begun_before w call u is old f);
+    }
+
+-- a part that is new: nothing was said yet, and the entry still agrees
+told_new : (part : Part) (stored entry : Option Bytes) → part.load ≡ load.NotAsked → part.is_changed ≡ false → part.report ≡ write.NotAsked → Agrees entry stored → IsTold part stored entry
+told_new part stored entry unloaded unchanged unreported agrees = record {
+  loaded = let L : LoadAnswer → Type 0 = λ a. Agrees (found_in a) stored in subst L (sym unloaded) tt;
+  written = λ e. absurd (let t : true ≡ false = sym e ∙ unchanged in cc);
+  unwritten = λ e. agrees;
+  honest = λ e. absurd (let t : write_given write.NotAsked ≡ true = ap write_given (sym unreported) ∙ e in cc);
+}
+
+-- a key was reserved: its part is new, and the others are held on
+held_reserving : (w n : WorldState) (from next : State) (r : Reserved) (q : Bytes) (p : Part) → next.reservations ≡ from.reservations ++ r ∷ [] → next.cache ≡ from.cache
+    → IsSomeAnd (under n p.call) (IsOn q) → IsHeld w from q p → IsHeld n next q p
+held_reserving w n from next r q p reservations cache call h =
+    let R : List Reserved → Type 0 = λ rs. IsSomeAnd (find (is_claim (claim_of q p)) rs) (IsFor p) in
+    held_on w n from next q p (ap (λ c. entry_at c q) cache) (subst R (sym reservations) (found_more (is_claim (claim_of q p)) (IsFor p) from.reservations (r ∷ []) h.out)) call h
+
+-- so there is one part more
+parts_reserving : (w : WorldState) (key : Bytes) (from next : State) (r : Reserved) (part : Part) → stripe_for w key ≡ Some from → is_reserved from key ≡ false
+    → next.reservations ≡ from.reservations ++ r ∷ [] → next.cache ≡ from.cache → IsHeld (with_part (with_stripe w key next) key part) next key part
+    → part.load ≡ load.NotAsked → part.is_changed ≡ false → part.report ≡ write.NotAsked → (w.fresh ≡ true → ⊥) → IsSoundWorld w
+    → HasParts (with_part (with_stripe w key next) key part)
+parts_reserving w key from next r part at free reservations cache one unloaded unchanged unreported used old =
+    let n = with_part (with_stripe w key next) key part in
+    let on : AllHeld n w.parts = λ q p e.
+    at_stripe w.stripes (home w key) (home w q) from next (λ o x. HeldIn w o q p → HeldIn n x q p) at
+    (λ h. held_reserving w n from next r q p reservations cache (under_at w old q p e) h)
+    (held_still w n (stripe_for w q) q p (under_at w old q p e))
+    (old.held q p e)
+    in
+    record {
+      held = held_insert n w.parts key part on (some_at (stripe_for n key) (λ s. IsHeld n s key part) next (stripe_put w.stripes (home w key) from next at) one);
+      told = λ hold.
+          let all : AllTold n w.parts w.store = λ q.
+          at_stripe w.stripes (home w key) (home w q) from next (λ o x. KeyTold (get w.parts q) (entry_at w.store q) (entry_in o q) → KeyTold (get w.parts q) (entry_at w.store q) (entry_in x q)) at
+          (let C : Cache → Type 0 = λ c. KeyTold (get w.parts q) (entry_at w.store q) (entry_at c q) in λ h. subst C (sym cache) h)
+          (λ h. h)
+          (old.told hold q)
+          in
+          let N : Option Part → Type 0 = λ o. KeyTold o (entry_at w.store key) (cached n key) in
+          told_insert n w.parts w.store key part all (told_new part (entry_at w.store key) (cached n key) unloaded unchanged unreported (subst N (unheld w key from at free old) (all key)));
+      fresh = λ f. absurd (used f);
+      idle = λ f. absurd (used f);
+    }
+
+-- the call's own key, under its number
+own_call : (w : WorldState) (call : ℕ) (u : Under) → under w call ≡ Some u → IsSomeAnd (under w u.number) (IsOn u.command.key)
+own_call w call u is = some_at (under w u.number) (IsOn u.command.key) u (ap (under w) (found_number call w.calls u is) ∙ is) refl
+
+-- a reservation is made of a key that was free: its part has it
+held_new : (w n : WorldState) (u : Under) (from next : State) (first : First) (number : ℕ) → is_reserved from u.command.key ≡ false → number ≡ from.next
+    → next.reservations ≡ from.reservations ++ record { key = u.command.key; number = from.next; session = u.session; call = u.number; op = u.command.op; first = first } ∷ []
+    → KindFits first (new_part u number first) (entry_at next.cache u.command.key) → IsSomeAnd (under n u.number) (IsOn u.command.key) → IsHeld n next u.command.key (new_part u number first)
+held_new w n u from next first number free number_is reservations kind call =
+    let key = u.command.key in
+    let r : Reserved = record { key = key; number = from.next; session = u.session; call = u.number; op = u.command.op; first = first } in
+    let F : Reserved → Type 0 = λ r. (r.op ≡ u.command.op) × (r.first ≡ first) × (r.call ≡ u.number) in
+    let P : List Reserved → Type 0 = λ rs. IsSomeAnd (find (is_claim (record { key = key; number = from.next })) rs) F in
+    let Q : ℕ → Type 0 = λ k. IsSomeAnd (find (is_claim (record { key = key; number = k })) next.reservations) F in
+    record { out = subst Q (sym number_is) (subst P (sym reservations) (new_out from key F r refl refl free (refl, refl, refl))); kind = kind; call = call }
+
+-- the key is reserved, and the loader is asked
+parts_loads : (w : WorldState) (call : ℕ) (u : Under) (from next : State) (ticket : Claim) → under w call ≡ Some u → stripe_for w u.command.key ≡ Some from
+    → Begins from u.session u.number u.command.key u.command.op (begun.Load ticket) next → IsSoundWorld w → HasParts (with_part (with_stripe w u.command.key next) u.command.key (new_part u ticket.number Loader))
+parts_loads w call u from next ticket is at begins old =
+    let key = u.command.key in
+    let r : Reserved = record { key = key; number = from.next; session = u.session; call = u.number; op = u.command.op; first = Loader } in
+    let part = new_part u ticket.number Loader in
+    let n = with_part (with_stripe w key next) key part in
+    let free = was_free from u.number key u.command.op Loader begins.0 begins.1 refl in
+    let reservations = ap (λ (s : State). s.reservations) begins.3 in
+    parts_reserving w key from next r part at free reservations (ap (λ (s : State). s.cache) begins.3)
+    (held_new w n u from next Loader ticket.number free (ap (λ (t : Claim). t.number) begins.2) reservations (loads_asked from.config u.command.op (entry_at from.cache key) begins.1, refl, refl) (own_call w call u is))
+    refl refl refl (begun_before w call u is old) old
+
+-- the key is reserved, and the writer is asked
+parts_asks : (w : WorldState) (call : ℕ) (u : Under) (from next : State) (ticket : WriteClaim) (change : Change) → under w call ≡ Some u → stripe_for w u.command.key ≡ Some from
+    → Begins from u.session u.number u.command.key u.command.op (begun.Write ticket change) next → IsSoundWorld w → HasParts (with_part (with_stripe w u.command.key next) u.command.key (new_part u ticket.claim.number (Writer change)))
+parts_asks w call u from next ticket change is at begins old =
+    let key = u.command.key in
+    let op = u.command.op in
+    let r : Reserved = record { key = key; number = from.next; session = u.session; call = u.number; op = op; first = Writer change } in
+    let part = new_part u ticket.claim.number (Writer change) in
+    let n = with_part (with_stripe w key next) key part in
+    let free = was_free from u.number key op (Writer change) begins.0 begins.1 refl in
+    let reservations = ap (λ (s : State). s.reservations) begins.3 in
+    let cache = ap (λ (s : State). s.cache) begins.3 in
+    parts_reserving w key from next r part at free reservations cache
+    (held_new w n u from next (Writer change) ticket.claim.number free (ap (λ (t : WriteClaim). t.claim.number) begins.2) reservations
+    (ap (λ c. write_ask op (entry_at c key) process.NotAsked) cache ∙ writes_asked from.config op (entry_at from.cache key) change begins.1, refl) (own_call w call u is))
+    refl refl refl (begun_before w call u is old) old
+
+-- the first phase of a call
+pub parts_started : (w new : WorldState) (call : ℕ) (key : Bytes) (u : Under) (from to : State) (seen : Shown) → fits w (event.Start call key) ≡ true → under w call ≡ Some u → stripe_for w u.command.key ≡ Some from
+    → Starts w u from to seen new → IsSoundWorld w → HasParts new
+parts_started w new call key u from to (shown.Refused refusal) fit is at (begins, leaves) old = subst HasParts (sym leaves) (parts_refused w call u is (over_started w call key u fit is old) old)
+parts_started w new call key u from to (shown.Stepped seen) fit is at (begins, shows, leaves) old =
+    subst HasParts (sym leaves) (parts_stepped w call u from to (goes_on w u.command.key from to).order seen.reply seen.place is (over_started w call key u fit is old) at begins old)
+parts_started w new call key u from to shown.Loads fit is at (ticket, begins, leaves) old = subst HasParts (sym leaves) (parts_loads w call u from to ticket is at begins old)
+parts_started w new call key u from to (shown.Asks change) fit is at (ticket, begins, leaves) old = subst HasParts (sym leaves) (parts_asks w call u from to ticket change is at begins old)
+parts_started w new call key u from to seen fit is at h old = absurd h
+
+-- 8. The last phase.
+
+-- a writer's report, once it is true, leaves the entry in agreement
+agrees_written : (op : Op) (entry stored : Option Bytes) (change : Change) (report : WriteAnswer) (was : Bool) → write_ask op entry process.NotAsked ≡ Some change → write_given report ≡ true
+    → (was ≡ true → stored ≡ changed_to change) → (was ≡ false → Agrees entry stored) → is_done report ≡ was → Agrees (new_entry op entry (write_only report)) stored
+agrees_written op entry stored change write.NotAsked was asked given written unwritten honest = cc
+agrees_written op entry stored change (write.Failed code) was asked given written unwritten honest = unwritten (sym honest)
+agrees_written op entry stored change write.Done was asked given written unwritten honest =
+    let P : Option Bytes → Type 0 = λ o. Agrees o stored in
+    subst P (written (sym honest) ∙ sym (writes op entry change asked)) (agrees_same stored)
+
+-- what a commit leaves agrees with the store
+agrees_ended : (first : First) (part : Part) (entry stored : Option Bytes) → part.first ≡ first → KindFits first part entry → ((asks_loader first && load_given part.load) || (asks_writer first && write_given part.report)) ≡ true
+    → IsTold part stored entry → Agrees (new_entry part.op entry (out_of part)) stored
+agrees_ended Nobody part entry stored is kind answered h = absurd kind
+agrees_ended Loader part entry stored is kind answered h =
+    let P : WriteAnswer → Type 0 = λ r. Agrees (new_entry part.op entry (record { load = part.load; write = r; process = process.NotAsked })) stored in
+    subst P (sym kind.2) (loads part.op entry part.load stored kind.0 (h.unwritten kind.1) h.loaded)
+agrees_ended (Writer change) part entry stored is kind answered h =
+    let P : LoadAnswer → Type 0 = λ a. Agrees (new_entry part.op entry (record { load = a; write = part.report; process = process.NotAsked })) stored in
+    let W : First → Type 0 = λ f. WrittenFor f stored in
+    subst P (sym kind.1) (agrees_written part.op entry stored change part.report part.is_changed kind.0 answered (λ e. subst W is (h.written e)) h.unwritten (h.honest answered))
+
+-- a commit keeps the reservations of the other keys, and their entries
+held_ended : (w n : WorldState) (key : Bytes) (r : Reserved) (out : Out) (from next : State) (reply : Reply) (place : ℕ) (q : Bytes) (p : Part) → Steps (released from key) (group_made from.config from.cache r.session r.call key r.op out) reply place next
+    → eq_by_cmp key_cmp q key ≡ false → IsSomeAnd (under n p.call) (IsOn q) → IsHeld w from q p → IsHeld n next q p
+held_ended w n key r out from next reply place q p steps apart call h =
+    let R : List Reserved → Type 0 = λ rs. IsSomeAnd (find (is_claim (claim_of q p)) rs) (IsFor p) in
+    held_on w n from next q p
+    (kept_stepped (released from key) next r.session r.call key r.op out reply place q steps (λ same. absurd (let t : true ≡ false = sym (tied key) ∙ ap (λ k. eq_by_cmp key_cmp k key) (sym same) ∙ apart in cc)))
+    (subst R (sym (ap (λ (s : State). s.reservations) steps.goes_on)) (found_left (claim_of q p) key (IsFor p) from.reservations apart h.out)) call h
+
+-- a commit's own entry agrees with the store, where what the operation leaves does
+agrees_own : (key : Bytes) (r : Reserved) (out : Out) (from next : State) (reply : Reply) (place : ℕ) (stored : Option Bytes) → Steps (released from key) (group_made from.config from.cache r.session r.call key r.op out) reply place next
+    → Agrees (new_entry r.op (entry_at from.cache key) out) stored → Agrees (entry_at next.cache key) stored
+agrees_own key r out from next reply place stored steps h =
+    agrees_stepped (released from key) next r.session r.call key r.op out reply place key stored steps
+    (let P : Bool → Type 0 = λ b. Agrees (cond b (new_entry r.op (entry_at from.cache key) out) (entry_at from.cache key)) stored in subst P (sym (tied key)) h)
+
+-- and the others go on to
+agrees_other : (key : Bytes) (r : Reserved) (out : Out) (from next : State) (reply : Reply) (place : ℕ) (q : Bytes) (stored : Option Bytes) → Steps (released from key) (group_made from.config from.cache r.session r.call key r.op out) reply place next
+    → eq_by_cmp key_cmp q key ≡ false → Agrees (entry_at from.cache q) stored → Agrees (entry_at next.cache q) stored
+agrees_other key r out from next reply place q stored steps apart h =
+    agrees_stepped (released from key) next r.session r.call key r.op out reply place q stored steps
+    (let P : Bool → Type 0 = λ b. Agrees (cond b (new_entry r.op (entry_at from.cache key) out) (entry_at from.cache q)) stored in subst P (sym apart) h)
+
+-- so there is one part less
+parts_committed : (w : WorldState) (call : ℕ) (key : Bytes) (part : Part) (from next : State) (order : List Event) (reply : Reply) (place : ℕ) → part_of w call key ≡ Some part → is_answered (part_of w call key) ≡ true → stripe_for w key ≡ Some from
+    → Commits from (claim_of key part) (out_of part) reply place next → IsSoundWorld w
+    → HasParts (record w { stripes = slice_set w.stripes (home w key) next; order = order; calls = over call w.calls; parts = remove w.parts key })
+parts_committed w call key part from next order reply place is answered at commits old =
+    let n : WorldState = record w { stripes = slice_set w.stripes (home w key) next; order = order; calls = over call w.calls; parts = remove w.parts key } in
+    let there = is_there (get w.parts key) call part is in
+    let one = held_at w key part from there at old in
+    let found = some_of (claimed from (claim_of key part)) (IsFor part) one.out in
+    let r = found.0 in
+    let C : Option Reserved → Type 0 = λ o. IsSomeAnd o (λ r. Steps (released from key) (group_made from.config from.cache r.session r.call key r.op (out_of part)) reply place next) in
+    let steps : Steps (released from key) (group_made from.config from.cache r.session r.call key r.op (out_of part)) reply place next = subst C found.1 commits in
+    record {
+      held = λ q p e.
+          split q key (λ b. cond b None (get w.parts q) ≡ Some p → HeldIn n (stripe_for n q) q p)
+          (λ same e. cc)
+          (λ apart e.
+          let call_on = over_ended w call key part is old q p e apart in
+          at_stripe w.stripes (home w key) (home w q) from next (λ o x. HeldIn w o q p → HeldIn n x q p) at
+          (λ h. held_ended w n key r (out_of part) from next reply place q p steps apart call_on h)
+          (held_still w n (stripe_for w q) q p call_on)
+          (old.held q p e))
+          (sym (get-remove nat_list_cmp_total w.parts key q) ∙ e);
+      told = λ hold q.
+          let all = old.told hold in
+          let P : Option Part → Type 0 = λ o. KeyTold o (entry_at w.store q) (cached n q) in
+          subst P (sym (get-remove nat_list_cmp_total w.parts key q))
+          (split q key (λ b. KeyTold (cond b None (get w.parts q)) (entry_at w.store q) (cached n q))
+          (λ same.
+          let B : Bytes → Type 0 = λ k. Agrees (cached n k) (entry_at w.store k) in
+          let S : Option State → Type 0 = λ o. Agrees (entry_in o key) (entry_at w.store key) in
+          let O : Op → Type 0 = λ op. Agrees (new_entry op (entry_at from.cache key) (out_of part)) (entry_at w.store key) in
+          let T : Option State → Type 0 = λ o. IsTold part (entry_at w.store key) (entry_in o key) in
+          let told = subst T at (told_at (get w.parts key) part (entry_at w.store key) (cached w key) there (all key)) in
+          let left = agrees_ended part.first part (entry_at from.cache key) (entry_at w.store key) refl one.kind (sym (ap is_answered is) ∙ answered) told in
+          subst B (sym same) (subst S (sym (stripe_put w.stripes (home w key) from next at)) (agrees_own key r (out_of part) from next reply place (entry_at w.store key) steps (subst O (sym found.2.0) left))))
+          (λ apart.
+          at_stripe w.stripes (home w key) (home w q) from next (λ o x. KeyTold (get w.parts q) (entry_at w.store q) (entry_in o q) → KeyTold (get w.parts q) (entry_at w.store q) (entry_in x q)) at
+          (told_on (get w.parts q) (entry_at w.store q) (entry_at from.cache q) (entry_at next.cache q) (agrees_other key r (out_of part) from next reply place q (entry_at w.store q) steps apart))
+          (λ h. h)
+          (all q)));
+      fresh = λ f. absurd (worn w key part there old f);
+      idle = λ f. absurd (worn w key part there old f);
+    }
+
+-- the last phase of a call
+pub parts_ended : (w new : WorldState) (call : ℕ) (key : Bytes) (part : Part) (from to : State) (seen : Shown) → fits w (event.Commit call key) ≡ true → part_of w call key ≡ Some part → stripe_for w key ≡ Some from
+    → Ends w call key part from to seen new → IsSoundWorld w → HasParts new
+parts_ended w new call key part from to (shown.Stepped seen) fit is at (commits, shows, leaves) old =
+    subst HasParts (sym leaves) (parts_committed w call key part from to (goes_on w key from to).order seen.reply seen.place is fit at commits old)
+parts_ended w new call key part from to seen fit is at h old = absurd h
+
+-- 9. A sound world is coherent, as long as the premises held.
+
+-- a key that no writer has changed agrees with the store
+key_coherent : (o : Option Part) (stored entry : Option Bytes) → KeyTold o stored entry → is_changed o ≡ false → Agrees entry stored
+key_coherent None stored entry h unchanged = h
+key_coherent (Some part) stored entry h unchanged = h.unwritten unchanged
+
+-- the second half of the headline, for one world
+pub coherent : (w : WorldState) → IsSoundWorld w → all_hold w ≡ true → Coherent w
+coherent w h hold key unchanged = key_coherent (get w.parts key) (entry_at w.store key) (cached w key) (h.told hold key) unchanged

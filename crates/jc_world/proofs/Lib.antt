@@ -1,0 +1,15 @@
+pub mod Halves
+pub mod Shares
+pub mod Underway
+pub mod Callers
+pub mod Places
+pub mod Entries
+pub mod Reservations
+pub mod Kept
+pub mod Listed
+pub mod Numbered
+pub mod Slotted
+pub mod Phased
+pub mod Sounding
+pub mod Runs
+pub mod Homes

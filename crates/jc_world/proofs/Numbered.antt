@@ -1,0 +1,34 @@
+-- Stripes in a list, by their numbers.
+use Rattle.std.proofs.Common.{◌≡◌, ◌∙◌, ℕ, zero, suc, ◌+◌, ◌-◌, ◌<◌, List, [], ◌∷◌, ◌++◌, length, get_or, Option, Some, None, IsSomeAnd, slice_get, refl, sym, ap, subst, arith, append_assoc, append-nil}
+use Rattle.std.proofs.lemmas.Option.{slice_get_read, slice_get_within}
+use Rattle.jc_types.specs.declared.config.Config.{Config}
+use Rattle.jc_stripe.specs.State.{State}
+use Rattle.jc_world.specs.World.{empty_stripe, empty_stripes}
+
+pub some_of : {A : Type 0} (o : Option A) (P : A → Type 0) → IsSomeAnd o P → (x : A) × (o ≡ Some x) × P x
+some_of None P h = absurd h
+some_of (Some x) P h = (x, refl, h)
+
+pub within : (xs : List State) (i : ℕ) (P : State → Type 0) → IsSomeAnd (slice_get xs i) P → i < length xs
+within xs i P h = let found = some_of (slice_get xs i) P h in slice_get_within xs i found.0 found.1
+
+-- what is read at a place is what stands there
+pub at_index : (xs : List State) (i : ℕ) (x : State) (P : State → Type 0) → IsSomeAnd (slice_get xs i) P → x ≡ get_or xs i x → slice_get xs i ≡ Some x
+at_index xs i x P h is = slice_get_read xs _ i x refl (within xs i P h) is
+
+-- the empty stripes from a number on, one by one
+next_empty : (config : Config) (number end : ℕ) → number < end → empty_stripes config number (end - number) ≡ empty_stripe config number ∷ empty_stripes config (number + 1) (end - (number + 1))
+next_empty config number end h = let e : end - number ≡ suc (end - (number + 1)) = omega arith in ap (empty_stripes config number) e
+
+none_left : (config : Config) (number n : ℕ) → n ≡ 0 → empty_stripes config number n ≡ []
+none_left config number n e = ap (empty_stripes config number) e
+
+pub made_more : (config : Config) (made : List State) (s : State) (number end : ℕ) → number < end → s ≡ empty_stripe config number
+    → (made ++ s ∷ []) ++ empty_stripes config (number + 1) (end - (number + 1)) ≡ made ++ empty_stripes config number (end - number)
+made_more config made s number end h is =
+    append_assoc made (s ∷ []) (empty_stripes config (number + 1) (end - (number + 1)))
+    ∙ ap (λ x. made ++ x ∷ empty_stripes config (number + 1) (end - (number + 1))) is
+    ∙ ap (λ xs. made ++ xs) (sym (next_empty config number end h))
+
+pub made_all : (config : Config) (made : List State) (number end : ℕ) → end - number ≡ 0 → made ++ empty_stripes config number (end - number) ≡ empty_stripes config 0 end → made ≡ empty_stripes config 0 end
+made_all config made number end e h = sym (append-nil made) ∙ ap (λ xs. made ++ xs) (sym (none_left config number (end - number) e)) ∙ h

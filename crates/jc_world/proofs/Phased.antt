@@ -1,0 +1,231 @@
+-- What the machine of a world does in a first and a last phase is what the definitions say.
+use Rattle.std.proofs.Common.{◌≡◌, ◌∙◌, ℕ, zero, suc, ◌+◌, ◌<◌, List, [], ◌∷◌, ◌++◌, length, drop, Option, Some, None, IsSomeAnd, Bool, true, false, slice_get, slice_set, refl, sym, ap, subst, arith, append-nil, find, cond}
+use Rattle.std.proofs.lemmas.Option.{slice_get_within}
+use Rattle.std.specs.List.{list_all}
+use Rattle.std.specs.FinMap.{get, insert, remove}
+use Rattle.jc_model.specs.Cache.{Bytes, entry_at}
+use Rattle.jc_model.specs.declared.event.Change.{Change}
+use Rattle.jc_model.specs.declared.event.Reply.{Reply}
+use Rattle.jc_model.specs.declared.event.Event.{Event}
+use Rattle.jc_stripe.specs.Claim.{Claim, WriteClaim}
+use Rattle.jc_stripe.specs.State.{State, claimed}
+use Rattle.jc_stripe.specs.Refusals.{has_phases}
+use Rattle.jc_stripe.specs.Phases.{MayBegin, Begins, Commits}
+use Rattle.jc_stripe.specs.declared.begun.Begun.{Begun}
+use Rattle.jc_stripe.specs.declared.begun.Begun.TheVariants as begun
+use Rattle.jc_stripe.specs.declared.ticket.First.{First}
+use Rattle.jc_stripe.specs.declared.ticket.First.TheVariants.{Loader, Writer}
+use Rattle.jc_stripe.specs.declared.ticket.Origin.TheVariants.{Played}
+use Rattle.jc_stripe.specs.declared.ticket.Reserved.{Reserved}
+use Rattle.jc_types.specs.declared.config.Refusal.{Refusal}
+use Rattle.jc_world.specs.declared.event.Under.{Under}
+use Rattle.jc_world.specs.declared.event.Part.{Part}
+use Rattle.jc_world.specs.declared.event.Stepped.{Stepped}
+use Rattle.jc_world.specs.declared.event.WorldEvent.TheVariants as event
+use Rattle.jc_world.specs.declared.event.Shown.TheVariants as shown
+use Rattle.jc_world.specs.World.{WorldState, Parts, home, stripe_for, under, over, has_number, part_of, claim_of, out_of}
+use Rattle.jc_world.specs.Events.{fits, is_single, Happens, eviction_first, new_part, with_part, with_stripe, goes_on, call_over}
+use Rattle.jc_world.specs.Sound.{CallsFit, IsHeld, KindFits, IsSoundWorld}
+use Rattle.jc_world.proofs.Numbered.{some_of}
+use Rattle.jc_world.proofs.Slotted.{is_part}
+use Rattle.jc_stripe.proofs.Laws.{was_free}
+use Rattle.jc_world.proofs.Callers.{begins_at, single_phases, under_single}
+use Rattle.jc_world.proofs.Kept.{unheld, stripe_at}
+
+-- 1. Before the first phase.
+
+pub may_begin_at : (w : WorldState) (call : ℕ) (key : Bytes) (u : Under) → fits w (event.Start call key) ≡ true → under w call ≡ Some u → IsSoundWorld w → IsSomeAnd (stripe_for w u.command.key) (λ s. MayBegin s u.session u.number u.command.key)
+may_begin_at w call key u fit is sound =
+    let s = stripe_at w u.command.key sound in
+    let P : Option State → Type 0 = λ o. IsSomeAnd o (λ s. MayBegin s u.session u.number u.command.key) in
+    subst P (sym s.1) (begins_at w call key u s.0 fit is s.1 sound)
+
+-- a call under way has phases
+pub phased_at : (w : WorldState) (call : ℕ) (u : Under) → under w call ≡ Some u → IsSoundWorld w → has_phases u.command.op ≡ true
+phased_at w call u is sound = single_phases u.command.op (under_single w call u is sound)
+
+-- 2. The stripe that a phase has changed.
+
+pub get-set : (xs : List State) (i : ℕ) (x y : State) → slice_get xs i ≡ Some x → slice_get (slice_set xs i y) i ≡ Some y
+get-set [] i x y h = cc
+get-set (z ∷ zs) zero x y h = refl
+get-set (z ∷ zs) (suc i) x y h = get-set zs i x y h
+
+-- what a machine knows once it has run a phase
+pub record Phased (v : WorldState) (number : ℕ) (phase : State → State → Type 0) (stripes : List State) (order : List Event) : Type 0 where
+  pub from : State
+  pub at : slice_get v.stripes number ≡ Some from
+  pub to : State
+  pub made : phase from to
+  pub stripes_are : stripes ≡ slice_set v.stripes number to
+  pub order_is : order ≡ v.order ++ drop (length from.history) to.history
+
+-- what it shows of a step
+pub record Shows (stripes : List State) (number : ℕ) (reply : Reply) (place : ℕ) (seen : Stepped) : Type 0 where
+  pub step : (seen.reply ≡ reply) × (seen.place ≡ place) × (seen.stripe ≡ number)
+  pub evicted : IsSomeAnd (slice_get stripes number) (λ s. seen.evicted ≡ eviction_first (drop (place + 1) s.history))
+
+evicted_at : (v : WorldState) (number : ℕ) (from to : State) (stripes : List State) (reply : Reply) (place : ℕ) (seen : Stepped) → slice_get v.stripes number ≡ Some from → stripes ≡ slice_set v.stripes number to → Shows stripes number reply place seen
+    → seen.evicted ≡ eviction_first (drop (seen.place + 1) to.history)
+evicted_at v number from to stripes reply place seen at stripes_are shows =
+    let P : List State → Type 0 = λ xs. IsSomeAnd (slice_get xs number) (λ s. seen.evicted ≡ eviction_first (drop (place + 1) s.history)) in
+    let Q : Option State → Type 0 = λ o. IsSomeAnd o (λ s. seen.evicted ≡ eviction_first (drop (place + 1) s.history)) in
+    let e : seen.evicted ≡ eviction_first (drop (place + 1) to.history) = subst Q (get-set v.stripes number from to at) (subst P stripes_are shows.evicted) in
+    e ∙ ap (λ p. eviction_first (drop (p + 1) to.history)) (sym shows.step.1)
+
+-- 3. A first phase.
+
+abbrev pub BeginsAs : Under → Begun → State → State → Type 0
+BeginsAs u b from to = Begins from u.session u.number u.command.key u.command.op b to
+
+pub started_done : (v next : WorldState) (call : ℕ) (key : Bytes) (u : Under) (number : ℕ) (reply : Reply) (place : ℕ) (seen : Stepped) (stripes : List State) (order : List Event) → under v call ≡ Some u → number ≡ home v u.command.key
+    → Phased v number (BeginsAs u (begun.Done reply place)) stripes order → Shows stripes number reply place seen
+    → next ≡ record v { stripes = stripes; order = order; calls = over u.number v.calls } → Happens v (event.Start call key) (shown.Stepped seen) next
+started_done v next call key u number reply place seen stripes order is home_is p shows next_is =
+    let At : ℕ → Type 0 = λ n. slice_get v.stripes n ≡ Some p.from in
+    let B : Reply → Type 0 = λ r. Begins p.from u.session u.number u.command.key u.command.op (begun.Done r place) p.to in
+    let C : ℕ → Type 0 = λ n. Begins p.from u.session u.number u.command.key u.command.op (begun.Done seen.reply n) p.to in (
+      u,
+      is,
+      p.from,
+      subst At home_is p.at,
+      p.to,
+      (
+        subst C (sym shows.step.1) (subst B (sym shows.step.0) p.made),
+        record { stripe_is = shows.step.2 ∙ home_is; evicted_is = evicted_at v number p.from p.to stripes reply place seen p.at p.stripes_are shows },
+        next_is ∙ (λ i. record v { stripes = (p.stripes_are ∙ ap (λ n. slice_set v.stripes n p.to) home_is) i; order = p.order_is i; calls = over u.number v.calls }),
+      ),
+    )
+
+-- a refused call leaves its stripe
+same_set : (xs : List State) (i : ℕ) (x y : State) → slice_get xs i ≡ Some x → y ≡ x → slice_set xs i y ≡ xs
+same_set [] i x y h e = cc
+same_set (z ∷ zs) zero x y h e = let is : z ≡ x = cc in ap (λ s. s ∷ zs) (e ∙ sym is)
+same_set (z ∷ zs) (suc i) x y h e = ap (λ s. z ∷ s) (same_set zs i x y h e)
+
+-- what a state has not put down
+none_new : (order xs ys : List Event) → xs ≡ ys → order ++ drop (length ys) xs ≡ order
+none_new order xs ys e = ap (λ zs. order ++ drop (length ys) zs) e ∙ ap (λ zs. order ++ zs) (gone ys) ∙ append-nil order
+  where
+    gone : (zs : List Event) → drop (length zs) zs ≡ []
+    gone [] = refl
+    gone (z ∷ zs) = gone zs
+
+pub started_refused : (v next : WorldState) (call : ℕ) (key : Bytes) (u : Under) (number : ℕ) (refusal : Refusal) (stripes : List State) (order : List Event) → under v call ≡ Some u → number ≡ home v u.command.key
+    → Phased v number (BeginsAs u (begun.Refused refusal)) stripes order
+    → next ≡ record v { stripes = stripes; order = order; calls = over u.number v.calls } → Happens v (event.Start call key) (shown.Refused refusal) next
+started_refused v next call key u number refusal stripes order is home_is p next_is =
+    let At : ℕ → Type 0 = λ n. slice_get v.stripes n ≡ Some p.from in (
+      u,
+      is,
+      p.from,
+      subst At home_is p.at,
+      p.to,
+      (
+        p.made,
+        next_is ∙ (λ i. record v {
+          stripes = (p.stripes_are ∙ same_set v.stripes number p.from p.to p.at p.made.1) i;
+          order = (p.order_is ∙ none_new v.order p.to.history p.from.history (ap (λ (s : State). s.history) p.made.1)) i;
+          calls = over u.number v.calls;
+        }),
+      ),
+    )
+
+pub started_loads : (v next : WorldState) (call : ℕ) (key : Bytes) (u : Under) (number : ℕ) (ticket : Claim) (stripes : List State) (order : List Event) (parts : Parts) → under v call ≡ Some u → number ≡ home v u.command.key
+    → Phased v number (BeginsAs u (begun.Load ticket)) stripes order → parts ≡ insert v.parts u.command.key (new_part u ticket.number Loader)
+    → next ≡ record v { stripes = stripes; order = order; parts = parts } → Happens v (event.Start call key) shown.Loads next
+started_loads v next call key u number ticket stripes order parts is home_is p parts_are next_is =
+    let At : ℕ → Type 0 = λ n. slice_get v.stripes n ≡ Some p.from in (
+      u,
+      is,
+      p.from,
+      subst At home_is p.at,
+      p.to,
+      (
+        ticket,
+        p.made,
+        next_is ∙ (λ i. record v {
+          stripes = (p.stripes_are ∙ ap (λ n. slice_set v.stripes n p.to) home_is) i;
+          order = (p.order_is ∙ none_new v.order p.to.history p.from.history (ap (λ (s : State). s.history) p.made.3)) i;
+          parts = parts_are i;
+        }),
+      ),
+    )
+
+pub started_asks : (v next : WorldState) (call : ℕ) (key : Bytes) (u : Under) (number : ℕ) (ticket : WriteClaim) (change : Change) (stripes : List State) (order : List Event) (parts : Parts) → under v call ≡ Some u → number ≡ home v u.command.key
+    → Phased v number (BeginsAs u (begun.Write ticket change)) stripes order → parts ≡ insert v.parts u.command.key (new_part u ticket.claim.number (Writer change))
+    → next ≡ record v { stripes = stripes; order = order; parts = parts } → Happens v (event.Start call key) (shown.Asks change) next
+started_asks v next call key u number ticket change stripes order parts is home_is p parts_are next_is =
+    let At : ℕ → Type 0 = λ n. slice_get v.stripes n ≡ Some p.from in (
+      u,
+      is,
+      p.from,
+      subst At home_is p.at,
+      p.to,
+      (
+        ticket,
+        p.made,
+        next_is ∙ (λ i. record v {
+          stripes = (p.stripes_are ∙ ap (λ n. slice_set v.stripes n p.to) home_is) i;
+          order = (p.order_is ∙ none_new v.order p.to.history p.from.history (ap (λ (s : State). s.history) p.made.3)) i;
+          parts = parts_are i;
+        }),
+      ),
+    )
+
+-- a key for which a ticket is given has no part yet
+pub free_load : (v : WorldState) (u : Under) (number : ℕ) (ticket : Claim) (stripes : List State) (order : List Event) → number ≡ home v u.command.key → Phased v number (BeginsAs u (begun.Load ticket)) stripes order → IsSoundWorld v
+    → (get v.parts u.command.key ≡ None) × (ticket.key ≡ u.command.key)
+free_load v u number ticket stripes order home_is p sound =
+    let At : ℕ → Type 0 = λ n. slice_get v.stripes n ≡ Some p.from in
+    (unheld v u.command.key p.from (subst At home_is p.at) (was_free p.from u.number u.command.key u.command.op Loader p.made.0 p.made.1 refl) sound, ap (λ (t : Claim). t.key) p.made.2)
+
+pub free_write : (v : WorldState) (u : Under) (number : ℕ) (ticket : WriteClaim) (change : Change) (stripes : List State) (order : List Event) → number ≡ home v u.command.key → Phased v number (BeginsAs u (begun.Write ticket change)) stripes order → IsSoundWorld v
+    → (get v.parts u.command.key ≡ None) × (ticket.claim.key ≡ u.command.key) × (ticket.change ≡ change)
+free_write v u number ticket change stripes order home_is p sound =
+    let At : ℕ → Type 0 = λ n. slice_get v.stripes n ≡ Some p.from in
+    (unheld v u.command.key p.from (subst At home_is p.at) (was_free p.from u.number u.command.key u.command.op (Writer change) p.made.0 p.made.1 refl) sound, ap (λ (t : WriteClaim). t.claim.key) p.made.2, ap (λ (t : WriteClaim). t.change) p.made.2)
+
+-- 4. A last phase.
+
+abbrev pub CommitsAs : Bytes → Part → Reply → ℕ → State → State → Type 0
+CommitsAs key part reply place from to = Commits from (claim_of key part) (out_of part) reply place to
+
+pub ended : (v next : WorldState) (call : ℕ) (key : Bytes) (part : Part) (number : ℕ) (reply : Reply) (place : ℕ) (seen : Stepped) (stripes : List State) (order : List Event) (parts : Parts) → part_of v call key ≡ Some part → number ≡ home v key
+    → Phased v number (CommitsAs key part reply place) stripes order → Shows stripes number reply place seen → parts ≡ remove v.parts key
+    → next ≡ record v { stripes = stripes; order = order; calls = over call v.calls; parts = parts } → Happens v (event.Commit call key) (shown.Stepped seen) next
+ended v next call key part number reply place seen stripes order parts is home_is p shows parts_are next_is =
+    let At : ℕ → Type 0 = λ n. slice_get v.stripes n ≡ Some p.from in
+    let B : Reply → Type 0 = λ r. Commits p.from (claim_of key part) (out_of part) r place p.to in
+    let C : ℕ → Type 0 = λ n. Commits p.from (claim_of key part) (out_of part) seen.reply n p.to in (
+      part,
+      is,
+      p.from,
+      subst At home_is p.at,
+      p.to,
+      (
+        subst C (sym shows.step.1) (subst B (sym shows.step.0) p.made),
+        record { stripe_is = shows.step.2 ∙ home_is; evicted_is = evicted_at v number p.from p.to stripes reply place seen p.at p.stripes_are shows },
+        next_is ∙ (λ i. record v { stripes = (p.stripes_are ∙ ap (λ n. slice_set v.stripes n p.to) home_is) i; order = p.order_is i; calls = over call v.calls; parts = parts_are i }),
+      ),
+    )
+
+-- what a commit needs of the stripe
+pub may_end_at : (v : WorldState) (call : ℕ) (key : Bytes) (part : Part) (number : ℕ) → part_of v call key ≡ Some part → number ≡ home v key → IsSoundWorld v
+    → IsSomeAnd (slice_get v.stripes number) (λ s. IsSomeAnd (claimed s (claim_of key part)) (λ r. r.first ≡ part.first) × KindFits part.first part (entry_at s.cache key) × (s.origin ≡ Played))
+may_end_at v call key part number is home_is sound =
+    let found = some_of (stripe_for v key) (λ s. IsHeld v s key part) (sound.held key part (is_part (get v.parts key) call part is)) in
+    let s = found.0 in
+    let held = found.2 in
+    let P : State → Type 0 = λ s. IsSomeAnd (claimed s (claim_of key part)) (λ r. r.first ≡ part.first) × KindFits part.first part (entry_at s.cache key) × (s.origin ≡ Played) in
+    let Q : Option State → Type 0 = λ o. IsSomeAnd o P in
+    let R : ℕ → Type 0 = λ n. IsSomeAnd (slice_get v.stripes n) P in
+    subst R (sym home_is) (subst Q (sym found.1) (
+      some_map (claimed s (claim_of key part)) held.out,
+      held.kind,
+      (sound.shape.each (home v key) s found.1).origin_is,
+    ))
+  where
+    some_map : (o : Option Reserved) → IsSomeAnd o (λ r. (r.op ≡ part.op) × (r.first ≡ part.first) × (r.call ≡ part.call)) → IsSomeAnd o (λ r. r.first ≡ part.first)
+    some_map None h = absurd h
+    some_map (Some r) h = h.1

@@ -1,0 +1,92 @@
+-- The stripes of a world, where one is set, and the calls, where one is over.
+use Rattle.std.proofs.Common.{◌≡◌, ◌==◌, ◌<◌, ◌%◌, ℕ, zero, suc, length, List, [], ◌∷◌, ◌++◌, sum, Bool, true, false, cond, not, Option, Some, IsSomeAnd, Ok, find, refl, sym, ap, ◌∙◌, subst, arith, slice_get, slice_set, nat_le, get_or, Result, Err}
+use Rattle.std.proofs.lemmas.Bool.Decides.{nat_tests}
+use Rattle.std.proofs.lemmas.Bool.{eqb-true}
+use Rattle.std.proofs.lemmas.Option.{slice_get-get_or}
+use Rattle.jc_types.specs.declared.config.Config.{Config}
+use Rattle.jc_types.specs.declared.config.Refusal.{Refusal}
+use Rattle.jc_types.specs.Limits.{checked, between}
+use Rattle.jc_types.specs.declared.config.TheConstants.{STRIPES_MAX}
+use Rattle.jc_model.specs.Cache.{Bytes}
+use Rattle.jc_model.proofs.Lookups.{both}
+use Rattle.jc_stripe.specs.State.{State}
+use Rattle.jc_world.specs.declared.event.Under.{Under}
+use Rattle.jc_world.specs.World.{WorldState, home, stripe_for, empty_stripe, has_number, over}
+use Rattle.jc_world.specs.Sound.{IsShaped}
+
+-- 1. The stripes.
+
+-- what goes on from a stripe to the one that is put in its place goes on at every number
+pub at_stripe : (stripes : List State) (i j : ℕ) (from next : State) (P : Option State → Option State → Type 0) → slice_get stripes i ≡ Some from → P (Some from) (Some next) → P (slice_get stripes j) (slice_get stripes j)
+    → P (slice_get stripes j) (slice_get (slice_set stripes i next) j)
+at_stripe [] i j from next P h same other = cc
+at_stripe (x ∷ xs) zero zero from next P h same other = subst (λ o. P o (Some next)) (sym h) same
+at_stripe (x ∷ xs) zero (suc j) from next P h same other = other
+at_stripe (x ∷ xs) (suc i) zero from next P h same other = other
+at_stripe (x ∷ xs) (suc i) (suc j) from next P h same other = at_stripe xs i j from next P h same other
+
+-- a stripe that is put in place is there
+pub stripe_put : (stripes : List State) (i : ℕ) (from next : State) → slice_get stripes i ≡ Some from → slice_get (slice_set stripes i next) i ≡ Some next
+stripe_put [] i from next h = cc
+stripe_put (x ∷ xs) zero from next h = refl
+stripe_put (x ∷ xs) (suc i) from next h = stripe_put xs i from next h
+
+-- a number that is not refused is within its limits
+in_limits : (b : Bool) (more : Result (Unit {0}) Refusal) (refusal : Refusal) → cond b more (Err refusal) ≡ Ok tt → b ≡ true
+in_limits true more refusal h = refl
+in_limits false more refusal h = cc
+
+-- at least one is above zero
+positive : (n : ℕ) → nat_le 1 n ≡ true → 0 < n
+positive n h = grind (arith, nat_tests)
+
+-- there is a stripe
+some_stripe : (config : Config) → checked config ≡ Ok tt → 0 < config.stripes
+some_stripe config h = positive config.stripes ((both (nat_le 1 config.stripes) (nat_le config.stripes STRIPES_MAX) (in_limits (between 1 STRIPES_MAX config.stripes) _ _ h)).0)
+
+-- a remainder is a place in a list of that length
+within : (n count stripes : ℕ) → 0 < stripes → count ≡ stripes → n % stripes < count
+within n count stripes some same = omega arith
+
+-- each key has a stripe
+pub home_stripe : (w : WorldState) (key : Bytes) → IsShaped w → (s : State) × (stripe_for w key ≡ Some s)
+home_stripe w key shape = (
+  get_or w.stripes (home w key) (empty_stripe w.config 0),
+  slice_get-get_or w.stripes (home w key) (empty_stripe w.config 0) (within (sum key) (length w.stripes) w.config.stripes (some_stripe w.config shape.config_fits) shape.count),
+)
+
+-- 2. The calls.
+
+-- a call that is found has the number
+pub found_number : (n : ℕ) (calls : List Under) (u : Under) → find (has_number n) calls ≡ Some u → u.number ≡ n
+found_number n [] u h = cc
+found_number n (x ∷ xs) u h =
+    elim (x.number == n) as (λ b. (x.number == n) ≡ b → cond b (Some x) (find (has_number n) xs) ≡ Some u → u.number ≡ n) [
+      | true ↦ λ e h. let is : x ≡ u = cc in ap (λ (v : Under). v.number) (sym is) ∙ eqb-true x.number n e
+      | false ↦ λ e h. found_number n xs u h
+    ] refl h
+
+-- two numbers that are one are the same
+number_clash : (a n m : ℕ) → (a == n) ≡ true → (a == m) ≡ true → (n == m) ≡ true
+number_clash a n m h k = grind (arith, nat_tests)
+
+-- another call stays under way
+pub under_left : (n m : ℕ) (P : Under → Type 0) (calls : List Under) → (n == m) ≡ false → IsSomeAnd (find (has_number n) calls) P → IsSomeAnd (find (has_number n) (over m calls)) P
+under_left n m P [] apart h = absurd h
+under_left n m P (x ∷ xs) apart h =
+    elim (x.number == n) as (λ b. (x.number == n) ≡ b → IsSomeAnd (cond b (Some x) (find (has_number n) xs)) P → IsSomeAnd (find (has_number n) (cond (not (x.number == m)) (x ∷ over m xs) (over m xs))) P) [
+      | true ↦ λ e h. elim (x.number == m) as (λ b. (x.number == m) ≡ b → IsSomeAnd (find (has_number n) (cond (not b) (x ∷ over m xs) (over m xs))) P) [
+        | true ↦ λ f. absurd (let t = number_clash x.number n m e f in cc)
+        | false ↦ λ f. let Q : Bool → Type 0 = λ b. IsSomeAnd (cond b (Some x) (find (has_number n) (over m xs))) P in subst Q (sym e) h
+      ] refl
+      | false ↦ λ e h. elim (x.number == m) as (λ b. IsSomeAnd (find (has_number n) (cond (not b) (x ∷ over m xs) (over m xs))) P) [
+        | true ↦ under_left n m P xs apart h
+        | false ↦ let Q : Bool → Type 0 = λ b. IsSomeAnd (cond b (Some x) (find (has_number n) (over m xs))) P in subst Q (sym e) (under_left n m P xs apart h)
+      ]
+    ] refl h
+
+-- a call more keeps those that are found
+pub under_more : (n : ℕ) (P : Under → Type 0) (calls more : List Under) → IsSomeAnd (find (has_number n) calls) P → IsSomeAnd (find (has_number n) (calls ++ more)) P
+under_more n P [] more h = absurd h
+under_more n P (x ∷ xs) more h =
+    elim (x.number == n) as (λ b. IsSomeAnd (cond b (Some x) (find (has_number n) xs)) P → IsSomeAnd (cond b (Some x) (find (has_number n) (xs ++ more))) P) [ true ↦ λ h. h | false ↦ λ h. under_more n P xs more h ] h

@@ -1,0 +1,49 @@
+-- A machine's fields, and the state that they mean.
+use Rattle.std.proofs.Common.{◌≡◌, ◌==◌, ◌&&◌, List, Bool, true, false, cond, not, Option, Some, None, IsSomeAnd, sym, subst, ap, ◌∙◌, refl, ℕ, ◌++◌, ◌∷◌, []}
+use Rattle.std.proofs.lemmas.Cmp.{nat_list_cmp_total}
+use Rattle.std.specs.FinMap as map
+use Rattle.std.specs.FinMap.{get, insert, get-from_entries}
+use Rattle.jc_model.specs.Cache.{Bytes, Cache, key_cmp}
+use Rattle.jc_model.specs.declared.event.Change.{Change}
+use Rattle.jc_model.specs.declared.event.LoadAnswer.{LoadAnswer}
+use Rattle.jc_model.specs.declared.event.WriteAnswer.{WriteAnswer}
+use Rattle.jc_model.specs.Table.{load_given, write_given}
+use Rattle.jc_model.proofs.Lookups.{both, exact}
+use Rattle.jc_stripe.specs.declared.ticket.First.{First}
+use Rattle.jc_stripe.specs.declared.ticket.First.TheVariants.{Nobody, Loader, Writer}
+use Rattle.jc_world.specs.declared.event.Part.{Part}
+use Rattle.jc_world.specs.World.{WorldState, Parts, of_call, part_of, asks_loader, asks_writer, waits_for_load, waits_for_report, is_answered}
+use Rattle.jc_world.specs.Slots.{parts_of, once}
+use Rattle.jc_world.proofs.Listed.{Entry, once-push}
+
+pub is_part : (o : Option Part) (call : ℕ) (part : Part) → of_call call o ≡ Some part → o ≡ Some part
+is_part None call part h = cc
+is_part (Some p) call part h =
+    elim (p.call == call) as (λ b. cond b (Some p) None ≡ Some part → Some p ≡ Some part) [ true ↦ λ h. h | false ↦ λ h. cc ] h
+
+-- a part of a world whose parts are those of the slots is in a slot
+pub in_slots : (slots : List Entry) (v w : WorldState) (call : ℕ) (key : Bytes) (part : Part) → v.parts ≡ parts_of slots → v ≡ w → part_of w call key ≡ Some part → map.find key_cmp key slots ≡ Some part
+in_slots slots v w call key part is same there =
+    sym (get-from_entries nat_list_cmp_total slots key) ∙ ap (λ m. get m key) (sym is) ∙ is_part (get v.parts key) call part (ap (λ (x : WorldState). part_of x call key) same ∙ there)
+
+pub may_set : (o : Option Part) (part new : Part) → o ≡ Some part → new.number ≡ part.number → new.first ≡ part.first → IsSomeAnd o (λ old. (new.number ≡ old.number) × (new.first ≡ old.first))
+may_set o part new is number first = let P : Option Part → Type 0 = λ o. IsSomeAnd o (λ old. (new.number ≡ old.number) × (new.first ≡ old.first)) in subst P (sym is) (number, first)
+
+-- a slot is put behind the others
+pub pushed : (slots items : List Entry) (key : Bytes) (part : Part) → get (parts_of slots) key ≡ None → items ≡ slots ++ (key, part) ∷ [] → once slots ≡ true → (parts_of items ≡ map.insert (parts_of slots) key part) × (once items ≡ true)
+pushed slots items key part none is old =
+    let free : map.find key_cmp key slots ≡ None = sym (get-from_entries nat_list_cmp_total slots key) ∙ none in
+    (ap parts_of is ∙ map.from_entries_push nat_list_cmp_total exact slots key part free, ap once is ∙ once-push slots key part free old)
+
+-- whose writer is waited for was asked for a change
+pub waits_writer : (part : Part) → waits_for_report (Some part) ≡ true → (change : Change) × (part.first ≡ Writer change)
+waits_writer part h = go part.first refl ((both (asks_writer part.first) (not (write_given part.report)) h).0)
+  where
+    go : (first : First) → part.first ≡ first → asks_writer first ≡ true → (change : Change) × (part.first ≡ Writer change)
+    go Nobody e h = cc
+    go Loader e h = cc
+    go (Writer change) e h = (change, e)
+
+pub answered_some : (o : Option Part) → is_answered o ≡ true → (part : Part) × (o ≡ Some part)
+answered_some None h = cc
+answered_some (Some part) h = (part, refl)

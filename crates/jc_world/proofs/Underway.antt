@@ -1,0 +1,245 @@
+-- The calls under way, and the reservations that they own.
+--     find_over       a call that is over leaves the others where they are
+--     calls_over      and they still fit
+--     apart_over      they are of other sessions
+--     calls_pushed    a new call fits beside them
+--     all_owned       what each reservation owns, in another world
+use Rattle.std.proofs.Common.{◌≡◌, ◌==◌, ◌||◌, ℕ, List, [], ◌∷◌, ◌++◌, Bool, true, false, cond, not, Option, None, Some, IsSomeAnd, find, nat_lt, nat_le, refl, sym, ap, ◌∙◌, subst, arith, is_none}
+use Rattle.std.specs.List.{list_all, list_any}
+use Rattle.std.specs.Cmp.Lexicographic.{pointwise, texts_ties}
+use Rattle.std.proofs.lemmas.Bool.{eqb-true}
+use Rattle.std.proofs.lemmas.Bool.Decides.{nat_tests}
+use Rattle.jc_model.specs.declared.event.Event.{Event}
+use Rattle.jc_model.specs.declared.event.Event.TheVariants.{Step, Evict}
+use Rattle.jc_model.specs.Cache.{Bytes}
+use Rattle.jc_model.proofs.Lookups.{both, same_key}
+use Rattle.jc_stripe.specs.declared.ticket.Reserved.{Reserved}
+use Rattle.jc_stripe.specs.State.{is_key, unreserved}
+use Rattle.jc_world.specs.declared.event.Under.{Under}
+use Rattle.jc_world.specs.declared.event.Part.{Part}
+use Rattle.jc_world.specs.World.{WorldState, has_number, is_of, over, of_call}
+use Rattle.jc_world.specs.Events.{is_new}
+use Rattle.jc_world.specs.Sound.{is_up_to, number_up_to, is_before, none_from, is_apart, FitsCall, CallsFit, IsOwned, AllOwned}
+use Rattle.jc_world.proofs.Shares.{all, turned_eq, all_filter, all_imply, found_all, found_test}
+
+-- 1. A call that is over.
+
+-- a call that is found has the number
+pub found_number : (call : ℕ) (calls : List Under) (u : Under) → find (has_number call) calls ≡ Some u → u.number ≡ call
+found_number call calls u h = eqb-true u.number call (found_test (has_number call) calls u h)
+
+-- a number is not two others
+clash : (a b n : ℕ) → (a == b) ≡ false → (n == a) ≡ true → (n == b) ≡ false
+clash a b n h k = grind (arith, nat_tests)
+
+-- the other calls are found as before
+pub find_over : (call other : ℕ) (calls : List Under) → (call == other) ≡ false → find (has_number other) (over call calls) ≡ find (has_number other) calls
+find_over call other [] apart = refl
+find_over call other (x ∷ xs) apart =
+    elim (has_number call x) as (λ b. has_number call x ≡ b → find (has_number other) (cond (not b) (x ∷ over call xs) (over call xs)) ≡ cond (has_number other x) (Some x) (find (has_number other) xs)) [
+      | true ↦ λ e. find_over call other xs apart ∙ sym (ap (λ b. cond b (Some x) (find (has_number other) xs)) (clash call other x.number apart e))
+      | false ↦ λ e. ap (λ r. cond (has_number other x) (Some x) r) (find_over call other xs apart)
+    ] refl
+
+-- a call under way fits
+pub fits_found : (last : Option ℕ) (order : List Event) (p : Under → Bool) (calls : List Under) (u : Under) → find p calls ≡ Some u → CallsFit last order calls → FitsCall last order u
+fits_found last order p [] u h fit = cc
+fits_found last order p (x ∷ xs) u h fit =
+    elim (p x) as (λ b. cond b (Some x) (find p xs) ≡ Some u → FitsCall last order u) [
+      | true ↦ λ h. let is : x ≡ u = cc in subst (FitsCall last order) is fit.0
+      | false ↦ λ h. fits_found last order p xs u h fit.2
+    ] h
+
+-- without a call that is over, the others fit
+pub calls_over : (last : Option ℕ) (order : List Event) (call : ℕ) (calls : List Under) → CallsFit last order calls → CallsFit last order (over call calls)
+calls_over last order call [] fit = tt
+calls_over last order call (x ∷ xs) fit =
+    elim (not (has_number call x)) as (λ b. CallsFit last order (cond b (x ∷ over call xs) (over call xs))) [
+      | true ↦ (fit.0, all_filter (λ u. not (has_number call u)) (is_apart x) xs fit.1, calls_over last order call xs fit.2)
+      | false ↦ calls_over last order call xs fit.2
+    ]
+
+-- of another session
+abbrev pub is_elsewhere : ℕ → Under → Bool
+is_elsewhere session u = not (u.session == session)
+
+-- calls that are apart are of two sessions
+elsewhere : (x u : Under) → is_apart x u ≡ true → is_elsewhere x.session u ≡ true
+elsewhere x u h = (both (not (u.session == x.session)) (not (u.number == x.number)) h).0
+
+-- the calls beside one under way are of other sessions
+pub apart_over : (last : Option ℕ) (order : List Event) (call : ℕ) (calls : List Under) (u : Under) → find (has_number call) calls ≡ Some u → CallsFit last order calls → list_all (is_elsewhere u.session) (over call calls) ≡ true
+apart_over last order call [] u h fit = cc
+apart_over last order call (x ∷ xs) u h fit =
+    elim (has_number call x) as (λ b. cond b (Some x) (find (has_number call) xs) ≡ Some u → list_all (is_elsewhere u.session) (cond (not b) (x ∷ over call xs) (over call xs)) ≡ true) [
+      | true ↦ λ h.
+          let is : x ≡ u = cc in
+          let here = all_filter (λ o. not (has_number call o)) (is_elsewhere x.session) xs (all_imply (is_apart x) (is_elsewhere x.session) xs (elsewhere x) fit.1) in
+          ap (λ (y : Under). list_all (is_elsewhere y.session) (over call xs)) (sym is) ∙ here
+      | false ↦ λ h.
+          let away = elsewhere x u (found_all (has_number call) (is_apart x) xs u h fit.1) in
+          all _ _ (ap not (turned_eq x.session u.session) ∙ away) (apart_over last order call xs u h fit.2)
+    ] h
+
+-- a call under way of another number is of another session
+pub elsewhere_found : (last : Option ℕ) (order : List Event) (call other : ℕ) (calls : List Under) (u v : Under) → CallsFit last order calls → find (has_number call) calls ≡ Some u → find (has_number other) calls ≡ Some v
+    → (call == other) ≡ false → is_elsewhere u.session v ≡ true
+elsewhere_found last order call other calls u v fit one two apart =
+    found_all (has_number other) (is_elsewhere u.session) (over call calls) v (find_over call other calls apart ∙ two) (apart_over last order call calls u one fit)
+
+-- 2. The calls fit another order.
+
+-- each call fits another order, and another last number
+pub calls_on : (last next : Option ℕ) (order more : List Event) (p : Under → Bool) (calls : List Under) → ((u : Under) → p u ≡ true → FitsCall last order u → FitsCall next more u)
+    → list_all p calls ≡ true → CallsFit last order calls → CallsFit next more calls
+calls_on last next order more p [] f h fit = tt
+calls_on last next order more p (x ∷ xs) f h fit = let parts = both (p x) (list_all p xs) h in (f x parts.0 fit.0, fit.1, calls_on last next order more p xs f parts.1 fit.2)
+
+-- 3. A new call.
+
+-- a new number is above each up to the last
+up_to_new : (last : Option ℕ) (call number : ℕ) → is_new last call ≡ true → is_up_to last number ≡ true → nat_lt number call ≡ true
+up_to_new None call number new up = cc
+up_to_new (Some last) call number new up = below last call number new up
+  where
+    below : (last call number : ℕ) → nat_lt last call ≡ true → nat_le number last ≡ true → nat_lt number call ≡ true
+    below last call number new up = grind (arith, nat_tests)
+
+-- a lower number is at most this one
+less_up : (number call : ℕ) → nat_lt number call ≡ true → nat_le number call ≡ true
+less_up number call h = grind (arith, nat_tests)
+
+-- and it is another
+less_not : (number call : ℕ) → nat_lt number call ≡ true → not (call == number) ≡ true
+less_not number call h = grind (arith, nat_tests)
+
+-- what is up to the last is up to the new one
+pub up_more : (last : Option ℕ) (call number : ℕ) → is_new last call ≡ true → is_up_to last number ≡ true → is_up_to (Some call) number ≡ true
+up_more last call number new up = less_up number call (up_to_new last call number new up)
+
+-- the new number is up to itself
+pub up_self : (call : ℕ) → is_up_to (Some call) call ≡ true
+up_self call = go call
+  where
+    go : (call : ℕ) → nat_le call call ≡ true
+    go call = grind (arith, nat_tests)
+
+-- so is the number of an event
+event_more : (last : Option ℕ) (call : ℕ) (e : Event) → is_new last call ≡ true → number_up_to last e ≡ true → number_up_to (Some call) e ≡ true
+event_more last call (Step s n op k out shared reply) new up = up_more last call n new up
+event_more last call (Evict k c) new up = refl
+
+-- and of all events
+pub numbers_more : (last : Option ℕ) (call : ℕ) (order : List Event) → is_new last call ≡ true → list_all (number_up_to last) order ≡ true → list_all (number_up_to (Some call)) order ≡ true
+numbers_more last call order new h = all_imply (number_up_to last) (number_up_to (Some call)) order (λ e. event_more last call e new) h
+
+-- the second test is enough
+or-right : (a b : Bool) → b ≡ true → (a || b) ≡ true
+or-right true b h = refl
+or-right false b h = h
+
+-- an event is before a new call
+event_before : (last : Option ℕ) (session call : ℕ) (e : Event) → is_new last call ≡ true → number_up_to last e ≡ true → is_before session call e ≡ true
+event_before last session call (Step s n op k out shared reply) new up = or-right _ _ (up_to_new last call n new up)
+event_before last session call (Evict k c) new up = refl
+
+-- no step has the number of a new call, or a higher one
+pub none_new : (last : Option ℕ) (session call : ℕ) (order : List Event) → is_new last call ≡ true → list_all (number_up_to last) order ≡ true → none_from order session call ≡ true
+none_new last session call order new h = all_imply (number_up_to last) (is_before session call) order (λ e. event_before last session call e new) h
+
+-- a session that is not busy has no call of these
+not_busy : (session : ℕ) (x : Under) (xs : List Under) → not (list_any (is_of session) (x ∷ xs)) ≡ true → (not (session == x.session) ≡ true) × (not (list_any (is_of session) xs) ≡ true)
+not_busy session x xs h = let parts = neither (is_of session x) (list_any (is_of session) xs) h in (ap not (turned_eq session x.session) ∙ parts.0, parts.1)
+  where
+    neither : (a b : Bool) → not (a || b) ≡ true → (not a ≡ true) × (not b ≡ true)
+    neither true b h = cc
+    neither false b h = (refl, h)
+
+-- a test of each, and of one more
+pushed_apart : (p : Under → Bool) (xs : List Under) (u : Under) → list_all p xs ≡ true → p u ≡ true → list_all p (xs ++ u ∷ []) ≡ true
+pushed_apart p [] u h one = all _ _ one refl
+pushed_apart p (x ∷ xs) u h one = let parts = both (p x) (list_all p xs) h in all _ _ parts.0 (pushed_apart p xs u parts.1 one)
+
+-- the calls fit with a new one
+pub calls_pushed : (last : Option ℕ) (order : List Event) (u : Under) (calls : List Under) → is_new last u.number ≡ true → not (list_any (is_of u.session) calls) ≡ true
+    → FitsCall (Some u.number) order u → CallsFit last order calls → CallsFit (Some u.number) order (calls ++ u ∷ [])
+calls_pushed last order u [] new free fit rest = (fit, refl, tt)
+calls_pushed last order u (x ∷ xs) new free fit rest =
+    let away = not_busy u.session x xs free in (
+      record { single = rest.0.single; number = up_more last u.number x.number new rest.0.number; none = rest.0.none },
+      pushed_apart (is_apart x) xs u rest.1 (all _ _ away.0 (less_not x.number u.number (up_to_new last u.number x.number new rest.0.number))),
+      calls_pushed last order u xs new away.1 fit rest.2,
+    )
+
+-- a call is found among more
+pub find_pushed : (p : Under → Bool) (calls more : List Under) (P : Under → Type 0) → IsSomeAnd (find p calls) P → IsSomeAnd (find p (calls ++ more)) P
+find_pushed p [] more P h = absurd h
+find_pushed p (x ∷ xs) more P h =
+    elim (p x) as (λ b. IsSomeAnd (cond b (Some x) (find p xs)) P → IsSomeAnd (cond b (Some x) (find p (xs ++ more))) P) [ true ↦ λ h. h | false ↦ λ h. find_pushed p xs more P h ] h
+
+-- 4. What the reservations own.
+
+-- what passes a test is owned in another world
+pub all_owned : (w new : WorldState) (p : Reserved → Bool) (rs : List Reserved) → ((r : Reserved) → p r ≡ true → IsOwned w r → IsOwned new r) → list_all p rs ≡ true → AllOwned w rs → AllOwned new rs
+all_owned w new p [] f h owned = tt
+all_owned w new p (r ∷ rs) f h owned = let parts = both (p r) (list_all p rs) h in (f r parts.0 owned.0, all_owned w new p rs f parts.1 owned.1)
+
+-- each reservation is owned in another world
+pub each_owned : (w new : WorldState) (rs : List Reserved) → ((r : Reserved) → IsOwned w r → IsOwned new r) → AllOwned w rs → AllOwned new rs
+each_owned w new [] f owned = tt
+each_owned w new (r ∷ rs) f owned = (f r owned.0, each_owned w new rs f owned.1)
+
+-- one more is owned
+pub owned_pushed : (w : WorldState) (rs : List Reserved) (r : Reserved) → AllOwned w rs → IsOwned w r → AllOwned w (rs ++ r ∷ [])
+owned_pushed w [] r owned one = (one, tt)
+owned_pushed w (x ∷ xs) r owned one = (owned.0, owned_pushed w xs r owned.1 one)
+
+-- those left are owned
+pub owned_left : (w : WorldState) (key : Bytes) (rs : List Reserved) → AllOwned w rs → AllOwned w (unreserved key rs)
+owned_left w key [] owned = tt
+owned_left w key (x ∷ xs) owned =
+    elim (not (is_key key x)) as (λ b. AllOwned w (cond b (x ∷ unreserved key xs) (unreserved key xs))) [ true ↦ (owned.0, owned_left w key xs owned.1) | false ↦ owned_left w key xs owned.1 ]
+
+-- one that is found is owned
+pub owned_found : (w : WorldState) (p : Reserved → Bool) (rs : List Reserved) (r : Reserved) → find p rs ≡ Some r → AllOwned w rs → IsOwned w r
+owned_found w p [] r h owned = cc
+owned_found w p (x ∷ xs) r h owned =
+    elim (p x) as (λ b. cond b (Some x) (find p xs) ≡ Some r → IsOwned w r) [
+      | true ↦ λ h. let is : x ≡ r = cc in subst (IsOwned w) is owned.0
+      | false ↦ λ h. owned_found w p xs r h owned.1
+    ] h
+
+-- the reservations that are left are of other keys
+pub others_left : (key : Bytes) (rs : List Reserved) → list_all (λ r. not (is_key key r)) (unreserved key rs) ≡ true
+others_left key [] = refl
+others_left key (x ∷ xs) =
+    elim (is_key key x) as (λ b. is_key key x ≡ b → list_all (λ r. not (is_key key r)) (cond (not b) (x ∷ unreserved key xs) (unreserved key xs)) ≡ true) [
+      | true ↦ λ e. others_left key xs
+      | false ↦ λ e. all _ _ (ap not e) (others_left key xs)
+    ] refl
+
+-- a condition on each reservation from what it owns
+pub test_owned : (w : WorldState) (p : Reserved → Bool) (rs : List Reserved) → ((r : Reserved) → IsOwned w r → p r ≡ true) → AllOwned w rs → list_all p rs ≡ true
+test_owned w p [] f owned = refl
+test_owned w p (r ∷ rs) f owned = all _ _ (f r owned.0) (test_owned w p rs f owned.1)
+
+-- keys that are equal by test are one
+pub same_bytes : (a b : Bytes) → pointwise ◌==◌ a b ≡ true → a ≡ b
+same_bytes a b h = same_key a b (sym (texts_ties a b) ∙ h)
+
+-- a call's part is the key's, and names the call
+pub of_call-at : (call : ℕ) (o : Option Part) (part : Part) → of_call call o ≡ Some part → (o ≡ Some part) × (part.call ≡ call)
+of_call-at call None part h = cc
+of_call-at call (Some p) part h =
+    elim (p.call == call) as (λ b. (p.call == call) ≡ b → cond b (Some p) None ≡ Some part → (Some p ≡ Some part) × (part.call ≡ call)) [
+      | true ↦ λ e h. let is : p ≡ part = cc in (h, ap (λ (q : Part). q.call) (sym is) ∙ eqb-true p.call call e)
+      | false ↦ λ e h. cc
+    ] refl h
+
+-- where a call has no part, the key has none that names it
+pub of_call-none : (call : ℕ) (o : Option Part) (part : Part) → is_none (of_call call o) ≡ true → o ≡ Some part → (part.call == call) ≡ true → ⊥
+of_call-none call None part none is e = cc
+of_call-none call (Some p) part none is e =
+    let same : p ≡ part = cc in
+    let here : (p.call == call) ≡ true = ap (λ (q : Part). q.call == call) same ∙ e in
+    let t : false ≡ true = sym (ap (λ b. is_none {T = Part} (cond b (Some p) None)) here) ∙ none in cc

@@ -1,0 +1,7 @@
+use Rattle.std.proofs.Common.{◌≡◌, take}
+use Rattle.jc_world.specs.Audit.{differing}
+use Rattle.jc_world.proofs.machine.Machine.differing.Given as goal
+
+-- the keys of the entries so far that differ
+abbrev pub invariant-loop-entry : goal.invariant-loop-entry
+invariant-loop-entry l = l.keys.items ≡ differing l.self (take l.entry-index l.entries)

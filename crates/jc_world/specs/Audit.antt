@@ -1,0 +1,44 @@
+-- What an audit shows of a world.
+--     IsCache      a map of all that is cached, over all stripes
+--     differs      an entry that isn't the store's, while no writer's change of its key waits for its commit
+--     differing    the keys of such entries
+--     cache_at     what each stripe caches
+--     IsOrder      the order is one legal history over all stripes, and what is cached is what it leaves
+--     IsAudit      what an audit says
+use Rattle.std.specs.Prelude.{◌≡◌, ◌↔◌, ℕ, List, Bool, not, ◌&&◌, IsTrue, Option, None, Some, length, map, filter, slice_get}
+use Rattle.std.specs.FinMap.{get, entries, empty}
+use Rattle.jc_model.specs.Cache.{Bytes, Cache, entry_at}
+use Rattle.jc_model.specs.Table.{holds}
+use Rattle.jc_model.specs.Legal.{IsWholeHistory}
+use Rattle.jc_stripe.specs.State.{State}
+use Rattle.jc_world.specs.World.{WorldState, cached}
+use Rattle.jc_world.specs.Coherent.{is_changed}
+
+abbrev pub IsCache : WorldState → Cache → Type 0
+IsCache w cache = (key : Bytes) → entry_at cache key ≡ cached w key
+
+abbrev pub differs : WorldState → Bytes × Bytes → Bool
+differs w entry = not (holds (entry_at w.store entry.0) entry.1) && not (is_changed (get w.parts entry.0))
+
+abbrev pub differing : WorldState → List (Bytes × Bytes) → List Bytes
+differing w entries = map (λ e. e.0) (filter (differs w) entries)
+
+abbrev pub cache_in : Option State → Cache
+cache_in None = empty
+cache_in (Some stripe) = stripe.cache
+
+abbrev pub cache_at : WorldState → ℕ → Cache
+cache_at w number = cache_in (slice_get w.stripes number)
+
+abbrev pub IsOrder : WorldState → Type 0
+IsOrder w = IsWholeHistory w.config (λ number. empty) w.order (cache_at w)
+
+-- the entries stand in the byte order of their keys
+pub record IsAudit (w : WorldState) (cached_entries stored_entries : List (Bytes × Bytes)) (keys : List Bytes) (events : ℕ) (legal : Bool) : Type 0 where
+  pub cache : Cache
+  pub cache_is : IsCache w cache
+  pub entries_are : cached_entries ≡ entries cache
+  pub stored_are : stored_entries ≡ entries w.store
+  pub keys_are : keys ≡ differing w cached_entries
+  pub events_are : events ≡ length w.order
+  pub legal_is : IsTrue legal ↔ IsOrder w

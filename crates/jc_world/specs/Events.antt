@@ -1,0 +1,189 @@
+-- The world as a machine: when an event fits, what it shows, and what it leaves.
+--     fits        whether an event fits
+--     Happens     what an event that fits may show and leave
+--     Step        one event: one that doesn't fit is shown as a fault and changes nothing
+--     Run         events one after another
+use Rattle.std.specs.Prelude.{◌≡◌, ◌==◌, ◌⊎◌, ℕ, ◌+◌, List, [], ◌∷◌, ◌++◌, length, drop, Bool, true, false, not, ◌&&◌, Option, None, Some, is_none, nat_lt, slice_set}
+use Rattle.std.specs.Cmp.Lexicographic.{pointwise}
+use Rattle.std.specs.FinMap.{insert, remove}
+use Rattle.jc_types.specs.Limits.{between}
+use Rattle.jc_model.specs.declared.event.Op.{Op}
+use Rattle.jc_model.specs.declared.event.Op.TheVariants.{Get, ContainsKey, Put, GetAndPut, PutIfAbsent, Remove, RemoveIf, GetAndRemove, Replace, ReplaceIf, GetAndReplace, Clear, LoadAll, Invoke}
+use Rattle.jc_model.specs.declared.event.Change.{Change}
+use Rattle.jc_model.specs.declared.event.Cause.{Cause}
+use Rattle.jc_model.specs.declared.event.Event.{Event}
+use Rattle.jc_model.specs.declared.event.Event.TheVariants as stripe
+use Rattle.jc_model.specs.declared.event.LoadAnswer.{LoadAnswer}
+use Rattle.jc_model.specs.declared.event.LoadAnswer.TheVariants as load
+use Rattle.jc_model.specs.declared.event.WriteAnswer.{WriteAnswer}
+use Rattle.jc_model.specs.declared.event.WriteAnswer.TheVariants as write
+use Rattle.jc_model.specs.Cache.{Bytes, entry_at, with_entry}
+use Rattle.jc_model.specs.Table.{load_given}
+use Rattle.jc_stripe.specs.declared.begun.Begun.TheVariants as begun
+use Rattle.jc_stripe.specs.declared.ticket.First.{First}
+use Rattle.jc_stripe.specs.declared.ticket.First.TheVariants.{Loader, Writer}
+use Rattle.jc_stripe.specs.Claim.{Claim, WriteClaim}
+use Rattle.jc_stripe.specs.State.{State}
+use Rattle.jc_stripe.specs.Phases.{Begins, Commits}
+use Rattle.jc_world.specs.declared.event.WorldEvent.{WorldEvent}
+use Rattle.jc_world.specs.declared.event.WorldEvent.TheVariants as event
+use Rattle.jc_world.specs.declared.event.Shown.{Shown}
+use Rattle.jc_world.specs.declared.event.Shown.TheVariants as shown
+use Rattle.jc_world.specs.declared.event.Stepped.{Stepped}
+use Rattle.jc_world.specs.declared.event.Command.{Command}
+use Rattle.jc_world.specs.declared.event.Under.{Under}
+use Rattle.jc_world.specs.declared.event.Part.{Part}
+use Rattle.jc_world.specs.World.{WorldState, home, stripe_for, is_busy, under, over, part_of, waits_for_load, waits_for_report, is_answered, claim_of, out_of}
+use Rattle.jc_world.specs.Premises.{read_answer, changed_to, report_of, is_true_load, is_true_report, with_loader, with_writer, disturbed}
+
+-- 1. When an event fits.
+
+-- the operations that are calls by themselves: the others are keys of a bulk call, or an entry processor's
+abbrev pub is_single : Op → Bool
+is_single Get = true
+is_single ContainsKey = true
+is_single (Put value) = true
+is_single (GetAndPut value) = true
+is_single (PutIfAbsent value) = true
+is_single Remove = true
+is_single (RemoveIf old) = true
+is_single GetAndRemove = true
+is_single (Replace value) = true
+is_single (ReplaceIf old value) = true
+is_single (GetAndReplace value) = true
+is_single Clear = false
+is_single (LoadAll replace) = false
+is_single Invoke = false
+
+-- there are 32 sessions
+abbrev pub is_session : ℕ → Bool
+is_session session = between 1 32 session
+
+-- the number is above all before it
+abbrev pub is_new : Option ℕ → ℕ → Bool
+is_new None call = true
+is_new (Some last) call = nat_lt last call
+
+-- the key is the call's, and it has no reservation yet
+abbrev pub may_start : WorldState → ℕ → Bytes → Option Under → Bool
+may_start w call key None = false
+may_start w call key (Some u) = pointwise ◌==◌ key u.command.key && is_none (part_of w call key)
+
+-- the call's key is asked of the writer, which hasn't returned
+abbrev pub may_report : WorldState → ℕ → Option Under → Bool
+may_report w call None = false
+may_report w call (Some u) = waits_for_report (part_of w call u.command.key)
+
+abbrev pub fits : WorldState → WorldEvent → Bool
+fits w (event.Call call session command) = is_single command.op && is_session session && is_new w.last call && not (is_busy w session)
+fits w (event.Start call key) = may_start w call key (under w call)
+fits w (event.Read call key) = waits_for_load (part_of w call key)
+fits w (event.Say call key answer) = load_given answer && waits_for_load (part_of w call key)
+fits w (event.Change call key) = waits_for_report (part_of w call key)
+fits w (event.Report call fault) = may_report w call (under w call)
+fits w (event.Commit call key) = is_answered (part_of w call key)
+fits w (event.Foreign key value) = true
+
+-- 2. What a phase leaves.
+
+-- a stripe is at another state
+abbrev pub with_stripe : WorldState → Bytes → State → WorldState
+with_stripe w key to = record w { stripes = slice_set w.stripes (home w key) to }
+
+-- the same, and what it put down stands at the end of the order
+abbrev pub goes_on : WorldState → Bytes → State → State → WorldState
+goes_on w key from to = record w { stripes = slice_set w.stripes (home w key) to; order = w.order ++ drop (length from.history) to.history }
+
+-- the eviction that stands first in these events, if one does
+abbrev pub eviction_first : List Event → Option Cause
+eviction_first [] = None
+eviction_first (stripe.Evict key cause ∷ events) = Some cause
+eviction_first (stripe.Step session number op key out shared_with reply ∷ events) = None
+
+-- what is shown of a step: its stripe, and the eviction directly behind it
+pub record ShowsStep (old : WorldState) (key : Bytes) (to : State) (seen : Stepped) : Type 0 where
+  pub stripe_is : seen.stripe ≡ home old key
+  pub evicted_is : seen.evicted ≡ eviction_first (drop (seen.place + 1) to.history)
+
+abbrev pub call_over : WorldState → ℕ → WorldState
+call_over w call = record w { calls = over call w.calls }
+
+-- what is kept of a key that was reserved
+abbrev pub new_part : Under → ℕ → First → Part
+new_part u number first =
+    record { call = u.number; number = number; op = u.command.op; first = first; load = load.NotAsked; is_changed = false; report = write.NotAsked }
+
+abbrev pub with_part : WorldState → Bytes → Part → WorldState
+with_part w key part = record w { parts = insert w.parts key part }
+
+-- 3. The first phase, and the last.
+
+-- of a call whose stripe is at `from`, and is then at `to`
+abbrev pub Starts : WorldState → Under → State → State → Shown → WorldState → Type 0
+Starts old u from to (shown.Refused refusal) new =
+    Begins from u.session u.number u.command.key u.command.op (begun.Refused refusal) to × (new ≡ call_over old u.number)
+Starts old u from to (shown.Stepped seen) new =
+    Begins from u.session u.number u.command.key u.command.op (begun.Done seen.reply seen.place) to
+    × ShowsStep old u.command.key to seen × (new ≡ call_over (goes_on old u.command.key from to) u.number)
+Starts old u from to shown.Loads new =
+    (ticket : Claim) × Begins from u.session u.number u.command.key u.command.op (begun.Load ticket) to
+    × (new ≡ with_part (with_stripe old u.command.key to) u.command.key (new_part u ticket.number Loader))
+Starts old u from to (shown.Asks change) new =
+    (ticket : WriteClaim) × Begins from u.session u.number u.command.key u.command.op (begun.Write ticket change) to
+    × (new ≡ with_part (with_stripe old u.command.key to) u.command.key (new_part u ticket.claim.number (Writer change)))
+Starts old u from to seen new = ⊥
+
+abbrev pub Ends : WorldState → ℕ → Bytes → Part → State → State → Shown → WorldState → Type 0
+Ends old call key part from to (shown.Stepped seen) new =
+    Commits from (claim_of key part) (out_of part) seen.reply seen.place to
+    × ShowsStep old key to seen × (new ≡ record (call_over (goes_on old key from to) call) { parts = remove old.parts key })
+Ends old call key part from to seen new = ⊥
+
+-- 4. What was said outside.
+
+-- the loader's answer is kept
+abbrev pub answered : WorldState → Bytes → Part → LoadAnswer → WorldState
+answered w key part answer =
+    record (with_part w key (record part { load = answer })) { premises = with_loader w.premises (is_true_load answer (entry_at w.store key)) }
+
+-- the store is as the writer was asked
+abbrev pub changed : WorldState → Bytes → Part → Change → WorldState
+changed w key part change = record (with_part w key (record part { is_changed = true })) { store = with_entry w.store key (changed_to change) }
+
+-- the writer's report is kept
+abbrev pub reported : WorldState → Bytes → Part → WriteAnswer → WorldState
+reported w key part report = record (with_part w key (record part { report = report })) { premises = with_writer w.premises (is_true_report report part) }
+
+-- 5. What an event that fits shows and leaves.
+
+abbrev pub Happens : WorldState → WorldEvent → Shown → WorldState → Type 0
+Happens old (event.Call call session command) seen new =
+    (seen ≡ shown.Begun)
+    × (new ≡ record old { last = Some call; fresh = false; calls = old.calls ++ record { session = session; number = call; command = command } ∷ [] })
+Happens old (event.Start call key) seen new =
+    (u : Under) × (under old call ≡ Some u) × (from : State) × (stripe_for old u.command.key ≡ Some from) × (to : State) × Starts old u from to seen new
+Happens old (event.Read call key) seen new =
+    let answer = read_answer (entry_at old.store key) in
+    (part : Part) × (part_of old call key ≡ Some part) × (seen ≡ shown.Reads answer) × (new ≡ answered old key part answer)
+Happens old (event.Say call key answer) seen new =
+    (part : Part) × (part_of old call key ≡ Some part) × (seen ≡ shown.Says answer) × (new ≡ answered old key part answer)
+Happens old (event.Change call key) seen new =
+    (part : Part) × (change : Change) × (part_of old call key ≡ Some part) × (part.first ≡ Writer change) × (seen ≡ shown.Changed) × (new ≡ changed old key part change)
+Happens old (event.Report call fault) seen new =
+    (u : Under) × (part : Part) × (change : Change) × (under old call ≡ Some u) × (part_of old call u.command.key ≡ Some part) × (part.first ≡ Writer change)
+    × (seen ≡ shown.Reported (record { change = change; is_changed = part.is_changed; fault = fault })) × (new ≡ reported old u.command.key part (report_of fault))
+Happens old (event.Commit call key) seen new =
+    (part : Part) × (part_of old call key ≡ Some part) × (from : State) × (stripe_for old key ≡ Some from) × (to : State) × Ends old call key part from to seen new
+Happens old (event.Foreign key value) seen new =
+    (seen ≡ shown.Written) × (new ≡ record old { store = with_entry old.store key value; fresh = false; premises = disturbed old.premises })
+
+-- 6. Steps and runs.
+
+abbrev pub Step : WorldState → WorldEvent → Shown → WorldState → Type 0
+Step old e seen new = ((fits old e ≡ true) × Happens old e seen new) ⊎ ((fits old e ≡ false) × (seen ≡ shown.Unfit) × (new ≡ old))
+
+abbrev pub Run : WorldState → List WorldEvent → List Shown → WorldState → Type 0
+Run old [] [] new = new ≡ old
+Run old (e ∷ es) (s ∷ ss) new = (mid : WorldState) × Step old e s mid × Run mid es ss new
+Run old [] (s ∷ ss) new = ⊥
+Run old (e ∷ es) [] new = ⊥

@@ -1,0 +1,11 @@
+pub mod World
+pub mod Premises
+pub mod Events
+pub mod Coherent
+pub mod Audit
+pub mod Played
+pub mod Sound
+pub mod Slots
+pub mod Inside
+pub mod Gathered
+pub mod Headline

@@ -1,0 +1,58 @@
+-- Those outside: what is expected of loaders, writers and the store.
+--     read_answer       what a loader that reads the store answers
+--     changed_to        what the store holds at a key once the writer did as it was asked
+--     report_of         the writer's report, from its fault or none
+--     is_true_load      honest loaders: an answer is a failure, or what the store holds for the key
+--     is_true_report    honest writers: a report makes committed exactly what was changed
+--     premises_hold     all of them have held so far, and the store was quiet
+use Rattle.std.specs.Prelude.{ℕ, Bool, true, false, ◌&&◌, Option, None, Some, is_none}
+use Rattle.jc_model.specs.declared.event.Change.{Change}
+use Rattle.jc_model.specs.declared.event.Change.TheVariants.{Write, Delete}
+use Rattle.jc_model.specs.declared.event.LoadAnswer.{LoadAnswer}
+use Rattle.jc_model.specs.declared.event.LoadAnswer.TheVariants as load
+use Rattle.jc_model.specs.declared.event.WriteAnswer.{WriteAnswer}
+use Rattle.jc_model.specs.declared.event.WriteAnswer.TheVariants as write
+use Rattle.jc_model.specs.Cache.{Bytes}
+use Rattle.jc_model.specs.Table.{holds, alike}
+use Rattle.jc_stripe.specs.declared.ticket.First.{First}
+use Rattle.jc_stripe.specs.declared.ticket.First.TheVariants.{Nobody, Loader, Writer}
+use Rattle.jc_world.specs.declared.event.Part.{Part}
+use Rattle.jc_world.specs.declared.event.Premises.{Premises}
+
+abbrev pub read_answer : Option Bytes → LoadAnswer
+read_answer None = load.Nothing
+read_answer (Some value) = load.Found value
+
+abbrev pub changed_to : Change → Option Bytes
+changed_to (Write value) = Some value
+changed_to Delete = None
+
+abbrev pub report_of : Option ℕ → WriteAnswer
+report_of None = write.Done
+report_of (Some code) = write.Failed code
+
+abbrev pub is_true_load : LoadAnswer → Option Bytes → Bool
+is_true_load load.NotAsked stored = true
+is_true_load (load.Found value) stored = holds stored value
+is_true_load load.Nothing stored = is_none stored
+is_true_load (load.Failed code) stored = true
+
+abbrev pub is_done : WriteAnswer → Bool
+is_done write.Done = true
+is_done write.NotAsked = false
+is_done (write.Failed code) = false
+
+abbrev pub is_true_report : WriteAnswer → Part → Bool
+is_true_report report part = alike part.is_changed (is_done report)
+
+abbrev pub with_loader : Premises → Bool → Premises
+with_loader p honest = record p { loaders = p.loaders && honest }
+
+abbrev pub with_writer : Premises → Bool → Premises
+with_writer p honest = record p { writers = p.writers && honest }
+
+abbrev pub disturbed : Premises → Premises
+disturbed p = record p { quiet = false }
+
+abbrev pub premises_hold : Premises → Bool
+premises_hold p = p.writers && p.loaders && p.quiet

@@ -1,0 +1,43 @@
+-- How a world keeps the parts of its calls: a list of slots, each with the ticket of its reservation. No contract of a public call
+-- cites this.
+--     entry_of      the key and the part of a slot
+--     IsSlot        the part is that of the ticket
+--     once          no key stands twice
+--     parts_of      the map that the slots make
+use Rattle.std.specs.Prelude.{◌≡◌, ◌==◌, ℕ, List, [], ◌∷◌, Bool, true, ◌&&◌, is_none}
+use Rattle.std.specs.Cmp.Lexicographic.{pointwise}
+use Rattle.std.specs.FinMap.{find, from_entries}
+use Rattle.jc_model.specs.Cache.{Bytes, key_cmp}
+use Rattle.jc_stripe.specs.Claim.{Claim}
+use Rattle.jc_stripe.specs.declared.ticket.First.{First}
+use Rattle.jc_stripe.specs.declared.ticket.First.TheVariants.{Loader, Writer}
+use Rattle.jc_world.specs.declared.event.Part.{Part}
+use Rattle.jc_world.specs.World.{Parts}
+use Rattle.jc_world.specs.declared.slot.Ticket.{Ticket}
+use Rattle.jc_world.specs.declared.slot.Ticket.TheVariants as ticket
+use Rattle.jc_world.specs.declared.slot.Slot.TheInside.{Inside}
+
+abbrev pub claim_in : Ticket → Claim
+claim_in (ticket.Load claim) = claim
+claim_in (ticket.Write claim) = claim.claim
+
+abbrev pub first_in : Ticket → First
+first_in (ticket.Load claim) = Loader
+first_in (ticket.Write claim) = Writer claim.change
+
+abbrev pub entry_of : Inside → Bytes × Part
+entry_of s = ((claim_in s.ticket).key, s.part)
+
+pub record IsSlot (s : Inside) : Type 0 where
+  pub number : s.part.number ≡ (claim_in s.ticket).number
+  pub first : s.part.first ≡ first_in s.ticket
+
+abbrev pub once : List (Bytes × Part) → Bool
+once [] = true
+once (entry ∷ entries) = is_none (find key_cmp entry.0 entries) && once entries
+
+abbrev pub is_at : Bytes → Bytes × Part → Bool
+is_at key entry = pointwise ◌==◌ key entry.0
+
+abbrev pub parts_of : List (Bytes × Part) → Parts
+parts_of entries = from_entries entries

@@ -1,0 +1,144 @@
+-- A world: a state for each stripe, one store, the calls under way, and one order of all that was put down.
+--     WorldState      the world as a caller may know it
+--     stripe_for      the stripe of a key;  cached      what is cached for a key
+--     under           the call with this number, if it is under way
+--     part_of         what a call has asked and heard for a key that it has reserved
+--     waits_for_load, waits_for_report, is_answered      what of that is still to come
+--     start           a world before anything has happened
+use Rattle.std.specs.Prelude.{◌==◌, ℕ, zero, suc, ◌+◌, ◌%◌, sum, List, [], ◌∷◌, ◌++◌, Bool, true, false, not, ◌&&◌, ◌||◌, Option, None, Some, find, filter, slice_get, slice_set, if◌then◌else◌}
+use Rattle.std.specs.List.{list_any}
+use Rattle.std.specs.FinMap.{FinMap, empty}
+use Rattle.std.specs.FinMap as map
+use Rattle.jc_types.specs.declared.config.Config.{Config}
+use Rattle.jc_model.specs.declared.event.Event.{Event}
+use Rattle.jc_model.specs.declared.event.Out.{Out}
+use Rattle.jc_model.specs.declared.event.ProcessAnswer.TheVariants as process
+use Rattle.jc_model.specs.Cache.{Bytes, Cache, key_cmp, entry_at, with_entry}
+use Rattle.jc_model.specs.Table.{load_given, write_given}
+use Rattle.jc_stripe.specs.declared.ticket.First.{First}
+use Rattle.jc_stripe.specs.declared.ticket.First.TheVariants.{Nobody, Loader, Writer}
+use Rattle.jc_stripe.specs.declared.ticket.Origin.TheVariants.{Played}
+use Rattle.jc_stripe.specs.Claim.{Claim}
+use Rattle.jc_stripe.specs.State.{State}
+use Rattle.jc_world.specs.declared.event.Under.{Under}
+use Rattle.jc_world.specs.declared.event.Part.{Part}
+use Rattle.jc_world.specs.declared.event.Premises.{Premises}
+
+-- by key, what the call that has reserved it asked and heard so far
+abbrev pub Parts : Type 0
+Parts = FinMap key_cmp Part
+
+pub record WorldState : Type 0 where
+  pub config : Config
+  pub stripes : List State
+  pub order : List Event  -- all that was put down, over all stripes
+  pub store : Cache
+  pub fresh : Bool  -- no call has begun, and nobody else has written the store
+  pub last : Option ℕ  -- the highest number of a call so far
+  pub calls : List Under  -- the calls under way, in the order in which they began
+  pub parts : Parts
+  pub premises : Premises  -- what has held so far of those outside
+
+-- 1. Stripes.
+
+-- the stripe that a key belongs to
+abbrev pub home : WorldState → Bytes → ℕ
+home w key = sum key % w.config.stripes
+
+abbrev pub stripe_for : WorldState → Bytes → Option State
+stripe_for w key = slice_get w.stripes (home w key)
+
+abbrev pub entry_in : Option State → Bytes → Option Bytes
+entry_in None key = None
+entry_in (Some stripe) key = entry_at stripe.cache key
+
+abbrev pub cached : WorldState → Bytes → Option Bytes
+cached w key = entry_in (stripe_for w key) key
+
+-- an empty stripe
+abbrev pub empty_stripe : Config → ℕ → State
+empty_stripe config number =
+    record { config = config; number = number; origin = Played; opening = []; cache = empty; reservations = []; history = []; promised = 0; next = 0 }
+
+-- as many, from a number on
+abbrev pub empty_stripes : Config → ℕ → ℕ → List State
+empty_stripes config number zero = []
+empty_stripes config number (suc count) = empty_stripe config number ∷ empty_stripes config (number + 1) count
+
+abbrev pub start : Config → WorldState
+start config =
+    record {
+      config = config;
+      stripes = empty_stripes config 0 config.stripes;
+      order = [];
+      store = empty;
+      fresh = true;
+      last = None;
+      calls = [];
+      parts = empty;
+      premises = record { writers = true; loaders = true; quiet = true };
+    }
+
+-- 2. Calls.
+
+abbrev pub has_number : ℕ → Under → Bool
+has_number call u = u.number == call
+
+abbrev pub is_of : ℕ → Under → Bool
+is_of session u = u.session == session
+
+-- the session has a call under way
+abbrev pub is_busy : WorldState → ℕ → Bool
+is_busy w session = list_any (is_of session) w.calls
+
+abbrev pub under : WorldState → ℕ → Option Under
+under w call = find (has_number call) w.calls
+
+-- the calls without one that is over
+abbrev pub over : ℕ → List Under → List Under
+over call calls = filter (λ u. not (has_number call u)) calls
+
+-- 3. The keys that calls have reserved.
+
+abbrev pub of_call : ℕ → Option Part → Option Part
+of_call call None = None
+of_call call (Some part) = if part.call == call then Some part else None
+
+abbrev pub part_of : WorldState → ℕ → Bytes → Option Part
+part_of w call key = of_call call (map.get w.parts key)
+
+abbrev pub asks_loader : First → Bool
+asks_loader Nobody = false
+asks_loader Loader = true
+asks_loader (Writer change) = false
+
+abbrev pub asks_writer : First → Bool
+asks_writer Nobody = false
+asks_writer Loader = false
+asks_writer (Writer change) = true
+
+-- the loader was asked, and hasn't answered
+abbrev pub waits_for_load : Option Part → Bool
+waits_for_load None = false
+waits_for_load (Some part) = asks_loader part.first && not (load_given part.load)
+
+-- the writer was asked, and hasn't returned
+abbrev pub waits_for_report : Option Part → Bool
+waits_for_report None = false
+waits_for_report (Some part) = asks_writer part.first && not (write_given part.report)
+
+-- all that was asked is answered
+abbrev pub is_answered : Option Part → Bool
+is_answered None = false
+is_answered (Some part) = (asks_loader part.first && load_given part.load) || (asks_writer part.first && write_given part.report)
+
+abbrev pub claim_of : Bytes → Part → Claim
+claim_of key part = record { key = key; number = part.number }
+
+-- what was said outside
+abbrev pub out_of : Part → Out
+out_of part = record { load = part.load; write = part.report; process = process.NotAsked }
+
+-- 4. The store before anything has happened.
+abbrev pub with_stored : WorldState → Bytes → Bytes → WorldState
+with_stored w key value = record w { store = with_entry w.store key (Some value) }

@@ -1,0 +1,66 @@
+//! The calls under way. A session has one at most, so there are never more than there are sessions.
+ghost use Rattle.std.specs.Prelude.{◌≡◌, true, find, IsTrue};
+ghost use Rattle.std.specs.List.{list_any};
+ghost use Rattle.jc_world.specs.World.{has_number, is_of, over, of_call};
+ghost use Rattle.jc_world.specs.Events.{is_single, is_session, is_new};
+
+use crate::event::{Part, Under};
+use jc_model::event::Op;
+
+/// The sessions of a world have the numbers 1 to this.
+pub const SESSIONS_MAX: u32 = 32;
+
+/// Whether an operation is a call by itself.
+pub(crate) fn is_single_op(op: &Op) -> bool
+    ensures { result ≡ is_single op.now }
+{
+    !matches!(op, Op::Clear | Op::LoadAll(_) | Op::Invoke)
+}
+
+/// Whether this is the number of a session.
+pub(crate) fn is_known(session: u32) -> bool
+    ensures { result ≡ is_session session }
+{
+    1 <= session && session <= SESSIONS_MAX
+}
+
+/// Whether a call's number is above all before it.
+pub(crate) fn is_above(last: Option<u64>, call: u64) -> bool
+    ensures { result ≡ is_new last call }
+{
+    match last {
+        Some(last) => last < call,
+        None => true,
+    }
+}
+
+/// Whether a session has a call under way.
+pub(crate) fn has_call(calls: &[Under], session: u32) -> bool
+    ensures { result ≡ list_any (is_of session) calls.now }
+{
+    calls.iter().any(|u| u.session == session)
+}
+
+/// The call with this number.
+pub(crate) fn find_call(calls: &[Under], call: u64) -> Option<Under>
+    ensures { result ≡ find (has_number call) calls.now }
+{
+    calls.iter().copied().find(|u| u.number == call)
+}
+
+/// Takes a call that is over out.
+pub(crate) fn drop_call(calls: &mut Vec<Under>, call: u64)
+    ensures { calls.new.items ≡ over call calls.old.items }
+{
+    calls.retain(|u| u.number != call);
+}
+
+/// A key's part, if it is this call's.
+pub(crate) fn if_of_call(call: u64, part: Option<Part>) -> Option<Part>
+    ensures { result ≡ of_call call part }
+{
+    match part {
+        Some(part) => { if part.call == call { Some(part) } else { None } }
+        None => None,
+    }
+}

@@ -1,0 +1,15 @@
+//! Every interleaving of calls, loaders, writers and others, as a list of events.
+#![tactic(auto)]
+
+pub mod audit;
+pub mod calls;
+pub mod event;
+pub mod headline;
+mod machine;
+mod outside;
+mod room;
+mod slot;
+mod stripes;
+#[cfg(test)]
+mod tests;
+pub mod world;

@@ -1,0 +1,155 @@
+ghost use Rattle.std.specs.Prelude.{[], ◌≡◌, ◌≤◌, ◌⊎◌, ◌<◌, true, IsTrue, IfOk, IfErr, IsOk, OnErr, OnOk, Ok, Err, List, take, length};
+ghost use Rattle.jc_types.specs.Limits.{checked};
+ghost use Rattle.jc_world.specs.declared.event.Shown.{Shown};
+ghost use Rattle.jc_world.specs.World.{start, is_busy, under, part_of, with_stored};
+ghost use Rattle.jc_world.specs.Events.{Run};
+ghost use Rattle.jc_world.specs.Coherent.{all_hold, Coherent};
+ghost use Rattle.jc_world.specs.Audit.{IsOrder, IsAudit};
+
+use crate::audit::Audit;
+use crate::event::{Part, Reported, Shown, Stepped, Under, WorldEvent};
+use crate::machine::Machine;
+use crate::room::push_in_room;
+use jc_model::event::{Change, Event, LoadAnswer, Reply};
+use jc_types::config::{Config, Refusal};
+use jc_types::key::Key;
+use jc_types::value::Value;
+use std::alloc::{AllocError, Global};
+use std::marker::Model;
+
+/// A cache in front of a store, driven by a list of events: every interleaving of calls, loaders, writers and others.
+///
+/// It holds the tickets of reservations that are out, which nobody may let go, so it can't be dropped: `close` ends it.
+pub struct World {
+    machine: Machine,
+    played: usize,
+}
+
+impl Model for World {
+    ghost use Rattle.std.specs.Coded.{codes};
+    ghost use Rattle.std.specs.FinMap.{code};
+    ghost use Rattle.jc_world.specs.Played.{Played};
+    ghost use Rattle.jc_world.specs.Sound.{IsSoundWorld};
+
+    ghost Value = { Played };
+
+    ghost coded = { Prim.hlevel (codes, code) };
+
+    ghost view = { λ w. record { world = w.machine; taken = w.played } };
+
+    ghost invariant = { λ w. IsSoundWorld w.machine };
+}
+
+impl World {
+    /// An empty cache of this shape beside an empty store, and no call.
+    ///
+    /// A shape that `Config::check` refuses is refused with its `BadConfig`, and want of memory with `OutOfMemory`.
+    pub fn new(alloc: Global, config: &Config) -> Result<World, Refusal>
+        ensures made { IfOk result (λ w. w ≡ record { world = start config.now; taken = 0 }) }
+        ensures ok { IsOk result → checked config.now ≡ Ok tt }
+        ensures refused { IfErr result (λ r. (checked config.now ≡ Err r) ⊎ ((r ≡ Refusal.OutOfMemory) × (checked config.now ≡ Ok tt))) }
+    {
+        config.check()?;
+        match Machine::new(alloc, config) {
+            Ok(machine) => Ok(World { machine, played: 0 }),
+            Err(_) => Err(Refusal::OutOfMemory),
+        }
+    }
+
+    /// Gives the store a value, before anything has happened. Where memory is refused nothing changes.
+    pub fn set(&mut self, key: &Key, value: &Value) -> Result<(), AllocError>
+        requires { self.old.world.fresh ≡ true }
+        ensures ok { OnOk result (self.new ≡ record self.old { world = with_stored self.old.world key.now value.now }) }
+        ensures err { OnErr result (self.new ≡ self.old) }
+    {
+        self.machine.store(key, value)
+    }
+
+    /// Plays events in their order, and says what each shows.
+    ///
+    /// An event that doesn't fit is shown as `Unfit` and changes nothing. After an error of memory exactly the first `played` events
+    /// were taken, and nothing of the others.
+    pub fn play(&mut self, alloc: Global, events: &[WorldEvent]) -> Result<Vec<Shown>, AllocError>
+        ensures run { IfOk result (λ seen. Run self.old.world events.now seen.items self.new.world × (self.new.taken ≡ length events.now)) }
+        ensures prefix { OnErr result ((self.new.taken ≤ length events.now) × ((seen : List Shown) × Run self.old.world (take self.new.taken events.now) seen self.new.world)) }
+    {
+        let _types: Option<(Reply, Stepped, Reported, LoadAnswer, Change, Value)> = None;
+        self.played = 0;
+        let mut all = Vec::with_capacity(alloc, events.len())?;
+        for event in events {
+            let seen = self.machine.step(event)?;
+            push_in_room(&mut all, seen);
+            self.played += 1;
+        }
+        Ok(all)
+    }
+
+    /// How many events of the last list were taken.
+    pub fn played(&self) -> usize
+        ensures { result ≡ self.now.taken }
+    {
+        self.played
+    }
+
+    /// All that was put down, over all stripes: one legal history, and what is cached is what it leaves.
+    pub fn order(&self) -> &[Event]
+        ensures order { result.now ≡ self.now.world.order }
+        ensures legal { IsOrder self.now.world }
+    {
+        self.machine.order()
+    }
+
+    /// Whether no call has begun, and nobody else has written the store.
+    pub fn is_fresh(&self) -> bool
+        ensures { result ≡ self.now.world.fresh }
+    {
+        self.machine.is_fresh()
+    }
+
+    /// The highest number of a call so far.
+    pub fn last(&self) -> Option<u64>
+        ensures { result ≡ self.now.world.last }
+    {
+        self.machine.last()
+    }
+
+    /// Whether a session has a call under way.
+    pub fn is_busy(&self, session: u32) -> bool
+        ensures { result ≡ is_busy self.now.world session }
+    {
+        self.machine.is_busy(session)
+    }
+
+    /// The call with this number, if it is under way.
+    pub fn under(&self, call: u64) -> Option<Under>
+        ensures { result ≡ under self.now.world call }
+    {
+        self.machine.under(call)
+    }
+
+    /// What a call has asked and heard for a key that it has reserved.
+    pub fn part(&self, call: u64, key: &Key) -> Option<Part>
+        ensures { result ≡ part_of self.now.world call key.now }
+    {
+        self.machine.part_of(call, key)
+    }
+
+    /// What there is to see of the world.
+    ///
+    /// Where write-through is on, nobody else wrote the store, every failed writer changed only what it reported written, and every
+    /// loader answered what the store held or failed, no key differs: each cached value, with no writer call on its key that changed
+    /// the store and isn't committed, is the store's. It looks at all entries.
+    pub fn audit(&self, alloc: Global) -> Result<Audit, AllocError>
+        ensures audit { IfOk result (λ a. IsAudit self.now.world a.cache.items a.store.items a.differing.items a.events a.is_legal) }
+        ensures coherent { IfOk result (λ a. all_hold self.now.world ≡ true → Coherent self.now.world × (a.differing.items ≡ [])) }
+        ensures legal { IfOk result (λ a. IsTrue a.is_legal) }
+    {
+        self.machine.audit(alloc)
+    }
+
+    /// Ends the world. What it held is given up, and with it the tickets that are still out.
+    pub fn close(self) {
+        let World { machine, played: _ } = self;
+        machine.close();
+    }
+}
