@@ -11,9 +11,9 @@ use Rattle.jc_model.specs.declared.event.Cause.{Cause}
 use Rattle.jc_model.specs.declared.event.Cause.TheVariants.{Full, Memory}
 use Rattle.jc_model.specs.declared.event.Event.{Event}
 use Rattle.jc_model.specs.declared.event.Event.TheVariants.{Step, Evict}
-use Rattle.jc_model.specs.declared.legal.Opened.{Opened}
-use Rattle.jc_model.specs.declared.legal.Stage.{Stage}
-use Rattle.jc_model.specs.declared.legal.Stage.TheVariants.{Outside, Picked, Inside}
+use Rattle.jc_model.specs.declared.reader.Opened.{Opened}
+use Rattle.jc_model.specs.declared.reader.Stage.{Stage}
+use Rattle.jc_model.specs.declared.reader.Stage.TheVariants.{Outside, Picked, Inside}
 use Rattle.jc_model.specs.Cache.{Bytes, Cache, key_cmp, entry_at, with_entry}
 use Rattle.jc_model.specs.Table.{Made, entry_left, cache_left}
 use Rattle.jc_model.specs.Group.{Group, events_of, step_place, shared_event, left_after, evict_own, without, before, stepped}

@@ -5,5 +5,5 @@ pub mod Readings
 pub mod Accepting
 pub mod Order
 mod Rows
-pub mod Stripes
+pub mod OneStripe
 pub mod Whole

@@ -4,8 +4,8 @@ use Rattle.std.specs.FinMap.{len, from_entries}
 use Rattle.jc_types.specs.declared.config.Config.{Config}
 use Rattle.jc_types.specs.Limits.{checked}
 use Rattle.jc_model.specs.declared.event.Event.{Event}
-use Rattle.jc_model.specs.declared.legal.Stage.{Stage}
-use Rattle.jc_model.specs.declared.legal.Stage.TheVariants.{Outside}
+use Rattle.jc_model.specs.declared.reader.Stage.{Stage}
+use Rattle.jc_model.specs.declared.reader.Stage.TheVariants.{Outside}
 use Rattle.jc_model.specs.Cache.{Bytes, Cache, key_cmp}
 use Rattle.jc_model.specs.Listed.{apart}
 use Rattle.jc_model.specs.Group.{cache_after}

@@ -5,7 +5,7 @@
 --     Legal             a legal history of one stripe from an opening, as `legal` checks it
 --     of_stripe         the events whose key is of a stripe
 --     IsWholeHistory    a legal history over all stripes: the part of each stripe is one, places counted in that part
-use Rattle.std.specs.Prelude.{◌≡◌, ◌==◌, ◌≤◌, ◌<◌, ℕ, List, [], ◌∷◌, ◌++◌, length, map, filter, Bool, true, false, not, ◌&&◌, ◌||◌, IsTrue, nat_lt, Ok, sum, ◌%◌}
+use Rattle.std.specs.Prelude.{◌≡◌, ◌==◌, ◌≤◌, ◌<◌, ℕ, List, [], ◌∷◌, ◌++◌, length, map, filter, Bool, true, not, ◌&&◌, ◌||◌, IsTrue, nat_lt, Ok, sum, ◌%◌}
 use Rattle.std.specs.List.{list_all}
 use Rattle.std.specs.Cmp.Lexicographic.{pointwise}
 use Rattle.std.specs.FinMap.{from_entries}

@@ -15,13 +15,12 @@ use Rattle.jc_model.specs.declared.event.Cause.{Cause}
 use Rattle.jc_model.specs.declared.event.Cause.TheVariants.{Full, Memory}
 use Rattle.jc_model.specs.declared.event.Event.{Event}
 use Rattle.jc_model.specs.declared.event.Event.TheVariants.{Step, Evict}
-use Rattle.jc_model.specs.declared.legal.Opened.{Opened}
-use Rattle.jc_model.specs.declared.legal.Stage.{Stage}
-use Rattle.jc_model.specs.declared.legal.Stage.TheVariants.{Outside, Picked, Inside}
+use Rattle.jc_model.specs.declared.reader.Opened.{Opened}
+use Rattle.jc_model.specs.declared.reader.Stage.{Stage}
+use Rattle.jc_model.specs.declared.reader.Stage.TheVariants.{Outside, Picked, Inside}
 use Rattle.jc_model.specs.Cache.{Bytes, Cache}
-use Rattle.jc_model.specs.Table.{Made}
 use Rattle.jc_model.specs.Group.{Group, shared_event, stepped}
-use Rattle.jc_model.specs.Lawful.{victim_fits, is_joinable, inserts, IsLawfulStep}
+use Rattle.jc_model.specs.Lawful.{is_joinable, inserts, IsLawfulStep}
 
 -- a group of which the step was read
 abbrev pub new_group : Option Bytes → ℕ → ℕ → Op → Bytes → Out → Reply → Group

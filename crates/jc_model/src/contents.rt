@@ -1,4 +1,4 @@
-//! A cache's contents: a map from keys to values.
+//! A cache's contents: a map from keys to values (JSR 107, "Fundamentals").
 ghost use Rattle.std.specs.Prelude.{◌≡◌, ◌↔◌, ◌++◌, IsTrue, IfOk, OnOk, OnErr, is_ok, None};
 ghost use Rattle.std.specs.FinMap as map;
 ghost use Rattle.jc_model.specs.Cache.{entry_at, with_entry};
@@ -10,6 +10,8 @@ use std::collections::BTreeMap;
 use std::marker::Model;
 
 /// A map from keys to values, in the byte order of the keys.
+///
+/// Keys and values are kept as copies (JSR 107, "Store-By-Value").
 #[derive(Drop)]
 pub struct Contents {
     map: BTreeMap<Key, Value>,
@@ -30,7 +32,7 @@ impl Model for Contents {
 }
 
 impl Contents {
-    /// The map with no entry.
+    /// The map with no entry. It takes no memory.
     pub fn new(alloc: Global) -> Self
         ensures { result ≡ map.empty }
     {
@@ -39,7 +41,7 @@ impl Contents {
         }
     }
 
-    /// The map of these entries: of two with one key the first counts.
+    /// The map of these entries: of two with one key the first counts. The only error is that memory is refused.
     pub fn of(alloc: Global, entries: &[(Key, Value)]) -> Result<Self, AllocError>
         ensures { IfOk result (λ contents. contents ≡ map.from_entries entries.now) }
     {
@@ -71,7 +73,8 @@ impl Contents {
         self.map.is_empty()
     }
 
-    /// Gives the key this value, or none. Where memory is refused the map is as it was; to take out never fails.
+    /// Gives the key this value, or none, and leaves the other keys as they are. Where memory is refused the map is
+    /// as it was. To take out never fails.
     pub fn set(&mut self, key: &Key, entry: Option<Value>) -> Result<(), AllocError>
         ensures ok { OnOk result (self.new ≡ with_entry self.old key.now entry) }
         ensures err { OnErr result (self.new ≡ self.old) }
@@ -103,7 +106,7 @@ impl Contents {
         Ok(())
     }
 
-    /// The entries, in the byte order of the keys.
+    /// The entries, in the byte order of the keys. The only error is that memory is refused.
     pub fn entries(&self, alloc: Global) -> Result<Vec<(Key, Value)>, AllocError>
         ensures { IfOk result (λ entries. entries.items ≡ map.entries self.now) }
     {

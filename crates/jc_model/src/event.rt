@@ -3,13 +3,15 @@ use jc_types::config::Refusal;
 use jc_types::key::Key;
 use jc_types::value::Value;
 
-/// What a call asks of the cache, at one key: the operations of `javax.cache.Cache`, each on one key.
-/// A bulk call is one of these for each of its keys (JSR 107, "Consistency").
+/// What a call asks of the cache, at one key: the operations of `javax.cache.Cache`.
+///
+/// A bulk call is one of these for each of its keys, and no more: it isn't atomic over them (JSR 107,
+/// "Consistency"). What each asks for outside, leaves and replies is in [`table`](crate::table).
 #[derive(Clone, Copy, Debug, PartialEq, Eq)]
 pub enum Op {
     /// `get`, and each key of `getAll`: the value, loaded where it is missing and read-through is on.
     Get,
-    /// `containsKey`: whether the key has an entry. It never loads.
+    /// `containsKey`: whether the key has an entry. It never loads (JSR 107, "Integration").
     ContainsKey,
     /// `put`, and each mapping of `putAll`.
     Put(Value),
@@ -29,48 +31,51 @@ pub enum Op {
     ReplaceIf(Value, Value),
     /// `getAndReplace`: mutates where the key has an entry.
     GetAndReplace(Value),
-    /// Each key of `clear`: takes the entry out and asks no writer.
+    /// Each key of `clear`: takes the entry out, and asks no writer (JSR 107, "Integration").
     Clear,
-    /// Each key of `loadAll`; with `true`, an entry that is there is loaded again.
+    /// Each key of `loadAll`: loads where the key has no entry, and with `true` also where it has one.
+    /// The loader is asked whether read-through is on or not.
     LoadAll(bool),
-    /// `invoke`, and each key of `invokeAll`: an entry processor runs on the entry.
+    /// `invoke`, and each key of `invokeAll`: an entry processor runs on the entry (JSR 107, "Entry
+    /// Processors").
     Invoke,
 }
 
-/// What the loader said, for one key (`javax.cache.integration.CacheLoader`).
+/// What the loader said, for one key (`javax.cache.integration.CacheLoader`; JSR 107, "Integration").
 #[derive(Clone, Copy, Debug, PartialEq, Eq)]
 pub enum LoadAnswer {
     /// It wasn't asked.
     NotAsked,
     /// It found this value.
     Found(Value),
-    /// It found nothing.
+    /// It found nothing: a `null`, or a key that `loadAll` left out.
     Nothing,
-    /// It failed with this code.
+    /// It failed with this code. The step leaves the entry as it was.
     Failed(u32),
 }
 
-/// What the writer said, for one key (`javax.cache.integration.CacheWriter`).
+/// What the writer said, for one key (`javax.cache.integration.CacheWriter`; JSR 107, "Integration").
 #[derive(Clone, Copy, Debug, PartialEq, Eq)]
 pub enum WriteAnswer {
     /// It wasn't asked.
     NotAsked,
     /// It did as it was asked.
     Done,
-    /// It failed with this code.
+    /// It failed with this code. The step leaves the entry as it was.
     Failed(u32),
 }
 
 /// What the writer is asked to do to the store, at one key.
 #[derive(Clone, Copy, Debug, PartialEq, Eq)]
 pub enum Change {
-    /// `CacheWriter.write`.
+    /// To write this value (`CacheWriter.write`).
     Write(Value),
-    /// `CacheWriter.delete`.
+    /// To delete what is there, if anything (`CacheWriter.delete`).
     Delete,
 }
 
-/// What a processor does to its entry in the end.
+/// What a processor does to its entry in the end, all its calls on the entry taken together. The writer
+/// hears of this alone (JSR 107, "Entry Processors").
 #[derive(Clone, Copy, Debug, PartialEq, Eq)]
 pub enum Effect {
     /// Nothing: the entry is kept as it is, or as it was loaded.
@@ -86,37 +91,43 @@ pub enum Effect {
 pub enum ProcessAnswer {
     /// It wasn't asked.
     NotAsked,
-    /// It ended, with this net effect on its entry and this answer.
+    /// It ended.
     Ended {
+        /// What it does to its entry.
         effect: Effect,
+        /// What it answers the caller.
         outcome: Option<Value>,
     },
-    /// It failed with this code.
+    /// It failed with this code. The step leaves the entry as it was, also where a value was loaded.
     Failed(u32),
 }
 
-/// All that was said outside for one step.
+/// All that was said outside the cache for one step.
 #[derive(Clone, Copy, Debug, PartialEq, Eq)]
 pub struct Out {
+    /// What the loader said.
     pub load: LoadAnswer,
+    /// What the writer said.
     pub write: WriteAnswer,
+    /// What the entry processor said.
     pub process: ProcessAnswer,
 }
 
 /// What a step answers its caller.
 #[derive(Clone, Copy, Debug, PartialEq, Eq)]
 pub enum Reply {
-    /// It is done.
+    /// It is done, and there is nothing to say.
     Unit,
-    /// Yes or no.
+    /// Yes or no: whether the key was there, or whether the operation mutated.
     Flag(bool),
-    /// A value, or none.
+    /// A value, or none where Java has `null`.
     Value(Option<Value>),
-    /// The loader, the processor or the writer failed.
+    /// The loader, the processor or the writer failed, the first of them that did: one of
+    /// `LoaderFailed`, `ProcessorFailed` and `WriterFailed`. The entry is as it was.
     Fault(Refusal),
 }
 
-/// Why an entry was evicted. JSR 107 leaves eviction to the provider.
+/// Why an entry was evicted. JSR 107 leaves eviction to the provider ("Fundamentals").
 #[derive(Clone, Copy, Debug, PartialEq, Eq)]
 pub enum Cause {
     /// The stripe held as many entries as it may.
@@ -134,14 +145,37 @@ pub enum Event {
         session: u32,
         /// The call's number, which rises in its session. The keys of a bulk call share it.
         number: u64,
+        /// What was asked of the cache.
         op: Op,
+        /// The key that it was asked at.
         key: Key,
         /// What was said outside.
         out: Out,
         /// Of a `Get` that joined a load: the place of the step whose load it was.
         shared_with: Option<u32>,
+        /// What the caller was answered.
         reply: Reply,
     },
-    /// An entry goes. No writer is asked.
-    Evict { key: Key, cause: Cause },
+    /// An entry goes. No writer is asked (JSR 107, "Integration").
+    Evict {
+        /// The key whose entry goes.
+        key: Key,
+        /// Why it goes.
+        cause: Cause,
+    },
+}
+
+impl Event {
+    ghost use Rattle.std.specs.Prelude.{◌≡◌};
+    ghost use Rattle.jc_model.specs.Legal.{event_key};
+
+    /// The key of the step, or the key that goes.
+    pub(crate) fn key(&self) -> &Key
+        ensures { result.now ≡ event_key self.now }
+    {
+        match self {
+            Event::Step { key, .. } => key,
+            Event::Evict { key, .. } => key,
+        }
+    }
 }

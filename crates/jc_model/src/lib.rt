@@ -1,9 +1,21 @@
-//! What a cache is: operations, answers, replies, events, and the slow checker of a history.
+//! What a cache is (JSR 107, JCache 1.1): the operations, what a loader, a writer and an entry processor
+//! answer, what a step leaves and replies, and the events of a history.
+//!
+//! - [`event`] has the words that every crate speaks.
+//! - [`table`] says what each operation asks for, leaves and replies, as methods of [`event::Op`].
+//! - [`contents`] has a cache's contents as a map, and [`listed`] as a plain list.
+//! - [`legal`] has the slow checker of one stripe's history. It rests on [`callers`] (the callers'
+//!   order), [`stripes`] (the keys of one stripe) and [`reader`] (reading event by event).
 #![tactic(auto)]
 
+mod callers;
 pub mod contents;
 pub mod event;
 pub mod legal;
 pub mod listed;
+mod reader;
 mod same;
+mod stripes;
 pub mod table;
+#[cfg(test)]
+mod tests;

@@ -1,4 +1,4 @@
-//! Entries kept as a plain list.
+//! Entries kept as a plain list, for a cache that is small or that keeps an order of its own.
 ghost use Rattle.std.specs.Prelude.{◌≡◌, ◌≤◌, vec_len, vec_capacity};
 ghost use Rattle.std.specs.FinMap as map;
 ghost use Rattle.jc_model.specs.Cache.{key_cmp};
@@ -19,7 +19,8 @@ pub fn value_in(entries: &[(Key, Value)], key: &Key) -> Option<Value>
     None
 }
 
-/// Takes a key's entries out, and leaves the others in their order. No memory is taken.
+/// Takes a key's entries out, and leaves the others in their order; without the key the list stays as it was. No
+/// memory is taken or given back.
 pub fn take_out(entries: &mut Vec<(Key, Value)>, key: &Key)
     ensures items { entries.new.items ≡ others key.now entries.old.items }
     ensures len { vec_len entries.new ≤ vec_len entries.old }
@@ -27,4 +28,3 @@ pub fn take_out(entries: &mut Vec<(Key, Value)>, key: &Key)
 {
     entries.retain(|entry| *key != entry.0);
 }
-

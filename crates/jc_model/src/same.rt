@@ -1,3 +1,4 @@
+//! Tests of equality, each with the fact that the two are one.
 ghost use Rattle.std.specs.Prelude.{◌≡◌, ◌↔◌, IsTrue};
 ghost use Rattle.jc_model.specs.Group.{load_only};
 
@@ -10,13 +11,14 @@ pub(crate) fn is_same_reply(first: &Reply, second: &Reply) -> bool
     *first == *second
 }
 
+/// Whether two answers of the loader are one.
 pub(crate) fn is_same_load(first: &LoadAnswer, second: &LoadAnswer) -> bool
     ensures { IsTrue result ↔ (first.now ≡ second.now) }
 {
     *first == *second
 }
 
-/// Whether a load's answer was all that was said.
+/// Whether a loader's answer was all that was said outside.
 pub(crate) fn is_load_only(out: &Out, load: &LoadAnswer) -> bool
     ensures { IsTrue result ↔ (out.now ≡ load_only load.now) }
 {

@@ -1,3 +1,5 @@
+//! The operation table: what an [`Op`] asks of the loader and the writer, which entry it leaves, and what it
+//! replies (JSR 107, "Integration", whose two tables are the first two of these; "Entry Processors").
 ghost use Rattle.std.specs.Prelude.{◌≡◌, ◌↔◌, IsTrue, is_some, is_none, if◌then◌else◌};
 ghost use Rattle.jc_model.specs.Table.{holds, replaced, loaded, load_given, load_fits, write_given, process_given, is_invoke, early_fault, fault_of, write_ask, answers_fit, after_effect, outcome_of, entry_after, reply_of, new_entry, new_reply};
 ghost use Rattle.jc_model.specs.Table.{ask_if, process_ask};
@@ -6,6 +8,7 @@ use crate::event::{Change, Effect, LoadAnswer, Op, Out, ProcessAnswer, Reply, Wr
 use jc_types::config::{Config, Refusal};
 use jc_types::value::Value;
 
+/// Whether the entry has this value.
 fn entry_holds(entry: &Option<Value>, value: &Value) -> bool
     ensures { result ≡ holds entry.now value.now }
 {
@@ -15,6 +18,7 @@ fn entry_holds(entry: &Option<Value>, value: &Value) -> bool
     }
 }
 
+/// The entry with a loaded value, if one was found.
 fn loaded_entry(answer: LoadAnswer, entry: Option<Value>) -> Option<Value>
     ensures { result ≡ loaded answer entry }
 {
@@ -24,6 +28,7 @@ fn loaded_entry(answer: LoadAnswer, entry: Option<Value>) -> Option<Value>
     }
 }
 
+/// Another entry where this one has a value, and else this one.
 fn entry_if(entry: Option<Value>, old: &Value, next: Option<Value>) -> Option<Value>
     ensures { result ≡ (if holds entry old.now then next else entry) }
 {
@@ -34,6 +39,7 @@ fn entry_if(entry: Option<Value>, old: &Value, next: Option<Value>) -> Option<Va
     }
 }
 
+/// A value in the place of the entry, if there is one.
 fn entry_replaced(entry: Option<Value>, value: Value) -> Option<Value>
     ensures { result ≡ replaced entry value }
 {
@@ -43,6 +49,7 @@ fn entry_replaced(entry: Option<Value>, value: Value) -> Option<Value>
     }
 }
 
+/// The entry with what a processor did to it.
 fn effect_entry(answer: ProcessAnswer, entry: Option<Value>) -> Option<Value>
     ensures { result ≡ after_effect answer entry }
 {
@@ -56,6 +63,7 @@ fn effect_entry(answer: ProcessAnswer, entry: Option<Value>) -> Option<Value>
     }
 }
 
+/// What a processor answers the caller.
 fn outcome(answer: ProcessAnswer) -> Option<Value>
     ensures { result ≡ outcome_of answer }
 {
@@ -65,6 +73,7 @@ fn outcome(answer: ProcessAnswer) -> Option<Value>
     }
 }
 
+/// The first fault: the loader's before the processor's before the writer's.
 fn first_fault(out: &Out) -> Option<Refusal>
     ensures { result ≡ fault_of out.now }
 {
@@ -81,6 +90,7 @@ fn first_fault(out: &Out) -> Option<Refusal>
 }
 
 impl Op {
+    /// The entry afterwards, where there was no fault.
     fn entry_without_fault(&self, entry: Option<Value>, out: &Out) -> Option<Value>
         ensures { result ≡ entry_after self.now entry out.now }
     {
@@ -97,6 +107,7 @@ impl Op {
         }
     }
 
+    /// The reply, where there was no fault.
     fn reply_without_fault(&self, entry: Option<Value>, out: &Out) -> Reply
         ensures { result ≡ reply_of self.now entry out.now }
     {
@@ -111,7 +122,8 @@ impl Op {
         }
     }
 
-    /// One step at an entry, with what was said outside: the entry that it leaves.
+    /// The entry that a step leaves where it found this one, with what was said outside. A failed load,
+    /// processor or write leaves it as it was.
     pub fn entry_left(&self, entry: Option<Value>, out: &Out) -> Option<Value>
         ensures { result ≡ new_entry self.now entry out.now }
     {
@@ -121,7 +133,8 @@ impl Op {
         }
     }
 
-    /// What the step answers.
+    /// What the step replies where it found this entry, with what was said outside. A failed load, processor
+    /// or write is the reply, the first of them that failed.
     pub fn reply(&self, entry: Option<Value>, out: &Out) -> Reply
         ensures { result ≡ new_reply self.now entry out.now }
     {
@@ -132,24 +145,29 @@ impl Op {
     }
 }
 
+/// Whether the loader was asked.
 fn was_load_given(answer: LoadAnswer) -> bool
     ensures { result ≡ load_given answer }
 {
     !matches!(answer, LoadAnswer::NotAsked)
 }
 
+/// Whether the writer was asked.
 fn was_write_given(answer: WriteAnswer) -> bool
     ensures { result ≡ write_given answer }
 {
     !matches!(answer, WriteAnswer::NotAsked)
 }
 
+/// Whether the processor was asked.
 fn was_process_given(answer: ProcessAnswer) -> bool
     ensures { result ≡ process_given answer }
 {
     !matches!(answer, ProcessAnswer::NotAsked)
 }
 
+/// The loader table: whether the loader was asked where it is to be, and nowhere else. For `Invoke` the
+/// processor decides, where the entry is missing and read-through is on.
 fn is_load_right(read_through: bool, op: &Op, entry: &Option<Value>, given: bool) -> bool
     ensures { result ≡ load_fits read_through op.now entry.now given }
 {
@@ -161,12 +179,14 @@ fn is_load_right(read_through: bool, op: &Op, entry: &Option<Value>, given: bool
     }
 }
 
+/// The change, where it is asked for.
 fn change_if(asked: bool, change: Change) -> Option<Change>
     ensures { result ≡ ask_if asked change }
 {
     if asked { Some(change) } else { None }
 }
 
+/// What the writer is asked for after a processor.
 fn change_of_effect(answer: &ProcessAnswer) -> Option<Change>
     ensures { result ≡ process_ask answer.now }
 {
@@ -180,6 +200,7 @@ fn change_of_effect(answer: &ProcessAnswer) -> Option<Change>
     }
 }
 
+/// Whether the loader or the processor failed, after which no writer is asked.
 fn has_early_fault(out: &Out) -> bool
     ensures { result ≡ is_some (early_fault out.now) }
 {
@@ -187,7 +208,10 @@ fn has_early_fault(out: &Out) -> bool
 }
 
 impl Op {
-    /// The writer table: what the writer is asked for with write-through on, or nothing.
+    /// The writer table: what the writer is asked for where the step found this entry, or nothing (JSR 107,
+    /// "Integration"). It holds with write-through on; with write-through off, nobody is asked.
+    ///
+    /// Of `Invoke` the processor's answer decides; the other operations don't look at it.
     pub fn change(&self, entry: &Option<Value>, answer: &ProcessAnswer) -> Option<Change>
         ensures { result ≡ write_ask self.now entry.now answer.now }
     {
@@ -207,7 +231,9 @@ impl Op {
         }
     }
 
-    /// Whether exactly those were asked that the tables ask for.
+    /// Whether exactly those answered that a step asks for where it found this entry: the loader and the
+    /// writer by their tables, and of `Invoke` the processor. After a failed load or processor no writer is
+    /// asked. What they answered isn't judged.
     pub fn is_answered(&self, config: &Config, entry: &Option<Value>, out: &Out) -> bool
         ensures { result ≡ answers_fit config.now self.now entry.now out.now }
     {

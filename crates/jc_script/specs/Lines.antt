@@ -1,6 +1,7 @@
 -- The kinds of line: first the shape of the whole line, then its words from the left.
 --     Gives            what a function returned is what the definition says, unless memory ran out
 --     form_named       the operation that a word names
+--     act_named        the kind of line of a call, that a first word names
 --     line_named       the kind of line that a first word names
 --     flags_of         what of read-through and write-through is on
 --     command_of       an operation with its key and values
@@ -60,21 +61,26 @@ form_named word =
     if bytes_eq word (codes "getreplace") then Ok (form.Valued valued.GetReplace) else
     Err BadLine
 
-abbrev pub line_named : List ℕ → Result LineKind Fault
-line_named word =
-    if bytes_eq word (codes "begin") then Ok line.Begin else
+-- of a call that was begun
+abbrev pub act_named : List ℕ → Result LineKind Fault
+act_named word =
     if bytes_eq word (codes "read") then Ok line.Read else
     if bytes_eq word (codes "apply") then Ok line.Apply else
     if bytes_eq word (codes "end") then Ok line.End else
-    if bytes_eq word (codes "open") then Ok line.Open else
-    if bytes_eq word (codes "set") then Ok line.Set else
-    if bytes_eq word (codes "readfail") then Ok (line.Coded coded.ReadFail) else
     if bytes_eq word (codes "say") then Ok line.Say else
+    if bytes_eq word (codes "readfail") then Ok (line.Coded coded.ReadFail) else
     if bytes_eq word (codes "applyfail") then Ok (line.Coded coded.ApplyFail) else
     if bytes_eq word (codes "applylie") then Ok (line.Coded coded.ApplyLie) else
+    Err BadLine
+
+abbrev pub line_named : List ℕ → Result LineKind Fault
+line_named word =
+    if bytes_eq word (codes "begin") then Ok line.Begin else
+    if bytes_eq word (codes "open") then Ok line.Open else
+    if bytes_eq word (codes "set") then Ok line.Set else
     if bytes_eq word (codes "foreign") then Ok line.Foreign else
     if bytes_eq word (codes "audit") then Ok line.Audit else
-    Err BadLine
+    act_named word
 
 abbrev pub flags_of : List (List ℕ) → Result (Bool × Bool) Fault
 flags_of [] = Ok (false, false)

@@ -1,7 +1,7 @@
 //! The kinds of line, and what each asks for.
 ghost use Rattle.std.specs.Prelude.{◌≡◌, map, length, IfOk};
 ghost use Rattle.std.specs.List.{list_all};
-ghost use Rattle.jc_script.specs.Lines.{Gives, form_named, line_named, flags_of, takes_words, bare_op, valued_op, bare_of, valued_of, value_alone_of, replace_if_of, command_of, open_of, set_of, begin_of, number_alone, coded_act, coded_of, say_of, foreign_of, audit_of, line_of, are_words, parsed, is_plain, is_comment, read_line};
+ghost use Rattle.jc_script.specs.Lines.{Gives, form_named, act_named, line_named, flags_of, takes_words, bare_op, valued_op, bare_of, valued_of, value_alone_of, replace_if_of, command_of, open_of, set_of, begin_of, number_alone, coded_act, coded_of, say_of, foreign_of, audit_of, line_of, are_words, parsed, is_plain, is_comment, read_line};
 
 use crate::fault::{Fault, ReadError};
 use crate::line::{Act, Line};
@@ -103,12 +103,9 @@ fn read_form(word: &[u8]) -> Result<Form, Fault>
     Err(Fault::BadLine)
 }
 
-fn read_kind(word: &[u8]) -> Result<LineKind, Fault>
-    ensures { result ≡ line_named word.now }
+fn read_act(word: &[u8]) -> Result<LineKind, Fault>
+    ensures { result ≡ act_named word.now }
 {
-    if is(word, "begin") {
-        return Ok(LineKind::Begin);
-    }
     if is(word, "read") {
         return Ok(LineKind::Read);
     }
@@ -118,17 +115,11 @@ fn read_kind(word: &[u8]) -> Result<LineKind, Fault>
     if is(word, "end") {
         return Ok(LineKind::End);
     }
-    if is(word, "open") {
-        return Ok(LineKind::Open);
-    }
-    if is(word, "set") {
-        return Ok(LineKind::Set);
+    if is(word, "say") {
+        return Ok(LineKind::Say);
     }
     if is(word, "readfail") {
         return Ok(LineKind::Coded(Coded::ReadFail));
-    }
-    if is(word, "say") {
-        return Ok(LineKind::Say);
     }
     if is(word, "applyfail") {
         return Ok(LineKind::Coded(Coded::ApplyFail));
@@ -136,13 +127,28 @@ fn read_kind(word: &[u8]) -> Result<LineKind, Fault>
     if is(word, "applylie") {
         return Ok(LineKind::Coded(Coded::ApplyLie));
     }
+    Err(Fault::BadLine)
+}
+
+fn read_kind(word: &[u8]) -> Result<LineKind, Fault>
+    ensures { result ≡ line_named word.now }
+{
+    if is(word, "begin") {
+        return Ok(LineKind::Begin);
+    }
+    if is(word, "open") {
+        return Ok(LineKind::Open);
+    }
+    if is(word, "set") {
+        return Ok(LineKind::Set);
+    }
     if is(word, "foreign") {
         return Ok(LineKind::Foreign);
     }
     if is(word, "audit") {
         return Ok(LineKind::Audit);
     }
-    Err(Fault::BadLine)
+    read_act(word)
 }
 
 fn flags(words: &[&[u8]]) -> Result<(bool, bool), Fault>

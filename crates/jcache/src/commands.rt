@@ -9,13 +9,16 @@ pub enum Task {
 }
 
 fn command<'a>(alloc: Global) -> Result<Command<'a>, Error> {
-    let run = Command::new(alloc, "run")
-        .about("Plays the script on standard input, and writes its transcript to standard output");
-    Ok(Command::new(alloc, "jcache")
-        .about("A read-through and write-through cache whose consistency rules are proved")
-        .version("0.2.0")
-        .subcommand_required(true)
-        .subcommand(run)?)
+    let run = Command::new(alloc, "run").about(
+        "Plays the script on standard input, and writes its transcript to standard output",
+    );
+    Ok(
+        Command::new(alloc, "jcache")
+            .about("A read-through and write-through cache whose consistency rules are proved")
+            .version("0.2.0")
+            .subcommand_required(true)
+            .subcommand(run)?,
+    )
 }
 
 /// The task of these words; the first is the program's name. The error holds the text to show, for `--help` and `--version`

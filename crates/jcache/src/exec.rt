@@ -1,6 +1,6 @@
 //! What the program does with its words, and the status that it ends with.
 ghost use Rattle.std.specs.Prelude.{◌≡◌, ◌⊎◌, ◌≤◌, ℕ};
-ghost use Rattle.jc_script.specs.Running.{Ran};
+ghost use Rattle.jc_script.specs.Running.{Broke, Ran};
 ghost use Rattle.jc_script.specs.declared.run.RunEnd.TheVariants.{Clean, LineFault};
 
 use crate::commands::{Task, read_task};
@@ -26,14 +26,10 @@ fn complain<E: Write>(err: &mut E, text: &str) {
 }
 
 /// Plays the script, and answers the status.
-fn play<R: Read, W: Write, E: Write>(
-    alloc: Global,
-    reader: &mut R,
-    out: &mut W,
-    err: &mut E,
-) -> u8
+fn play<R: Read, W: Write, E: Write>(alloc: Global, reader: &mut R, out: &mut W, err: &mut E) -> u8
     ensures clean { result ≡ 0 → Ran (R.remaining reader.old) (R.remaining reader.new) (W.contents out.old) (W.contents out.new) Clean }
     ensures fault { result ≡ 1 → (line : ℕ) × Ran (R.remaining reader.old) (R.remaining reader.new) (W.contents out.old) (W.contents out.new) (LineFault line) }
+    ensures streams { result ≡ 3 → Broke (R.remaining reader.old) (R.remaining reader.new) (W.contents out.old) (W.contents out.new) ⊎ (out.new ≡ out.old) }
     ensures memory { result ≡ 4 → out.new ≡ out.old }
     ensures others { (result ≡ 0) ⊎ ((result ≡ 1) ⊎ ((result ≡ 3) ⊎ (result ≡ 4))) }
 {
@@ -74,6 +70,9 @@ pub fn exec<R: Read, W: Write, E: Write>(
 
     // What was written is the transcript up to the faulty line, and that line's fault.
     ensures fault { result ≡ 1 → (line : ℕ) × Ran (R.remaining reader.old) (R.remaining reader.new) (W.contents out.old) (W.contents out.new) (LineFault line) }
+
+    // What was written is a front of the transcript, nothing, or a front of the text that was asked for.
+    ensures streams { result ≡ 3 → Broke (R.remaining reader.old) (R.remaining reader.new) (W.contents out.old) (W.contents out.new) ⊎ ((out.new ≡ out.old) ⊎ (reader.new ≡ reader.old)) }
 
     // Nothing was read, and nothing written but to `err`.
     ensures usage { result ≡ 2 → (reader.new ≡ reader.old) × (out.new ≡ out.old) }

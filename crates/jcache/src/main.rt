@@ -3,6 +3,8 @@
 
 mod commands;
 mod exec;
+#[cfg(test)]
+mod tests;
 
 use std::io;
 use std::process::ExitCode;

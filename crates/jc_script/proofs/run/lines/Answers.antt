@@ -1,17 +1,16 @@
-use Rattle.std.proofs.Common.{◌≡◌, ◌∙◌, ap, ℕ, List, [], ◌++◌, length, rules, arith, append-nil, append_assoc}
+use Rattle.std.proofs.Common.{◌≡◌, ◌∙◌, ap, ℕ, List, [], ◌++◌, length, rules, arith, append-nil}
 use Rattle.jc_script.specs.Transcript.{pieces_of, state_of}
 use Rattle.jc_script.specs.declared.run.RunEnd.TheVariants.{Clean, LineFault}
 use Rattle.jc_script.specs.Printing.{fault_line}
-use Rattle.jc_script.proofs.Pieces.{at_fault, at_line, at_end}
+use Rattle.jc_script.proofs.Pieces.{at_fault, at_end, after_line}
 use Rattle.jc_script.proofs.run.lines.Goals as goal
 
 pub loop-text-preserved : goal.loop-text-preserved
 loop-text-preserved c =
-    let n = c.loop-text.number in
     let told = rw c.in-None.is at c.in_ok-line.ensures in (
       omega (arith, c.loop-text.invariant.0, c.in-Some.ensures.1),
-      λ out end more. rw (told.2, append_assoc) (c.loop-text.invariant.1 (told.0 ++ out) end
-          (at_line (state_of c.loop-text.world) (state_of c.line.new.world) n c.in-Some.text.now c.in-Some.after.now (pieces_of c.loop-text.rest.now) told.0 out end c.in-Some.ensures.0 told.1 more)),
+      after_line c.args.input.now c.loop-text.rest.now (state_of c.loop-text.world) (state_of c.line.new.world) c.loop-text.number c.in-Some.text.now c.in-Some.after.now
+          c.loop-text.out.items told.0 c.line.new.out.items c.loop-text.invariant.1 c.in-Some.ensures.0 told.1 told.2,
     )
 
 pub returns-in-Some-2 : goal.returns-in-Some-2

@@ -1,0 +1,127 @@
+//! How the checker reads a history, event by event: where it stands, and what it keeps of a group.
+ghost use Rattle.std.specs.Prelude.{◌≡◌, ◌↔◌, IsTrue, IfOk};
+ghost use Rattle.std.specs.FinMap.{from_entries};
+ghost use Rattle.jc_model.specs.Listed.{apart};
+ghost use Rattle.jc_model.specs.Reader.{own_goes, victim_of, is_within, fits_evict, may_end, Accepts};
+
+mod fits;
+mod follows;
+
+use crate::contents::Contents;
+use crate::event::{Cause, Event, LoadAnswer};
+use crate::reader::fits::does_fit;
+use crate::reader::follows::go_over;
+use jc_types::config::Config;
+use jc_types::key::Key;
+use jc_types::value::Value;
+use std::alloc::{AllocError, Global};
+
+/// What is kept of a group whose step was read.
+#[derive(Clone, Copy)]
+pub(crate) struct Opened {
+    // The place of the step.
+    place: usize,
+    // The step's key, and what its loader said.
+    key: Key,
+    load: LoadAnswer,
+    // Whether other callers may share the load.
+    is_joinable: bool,
+    // Whether the key was missing before the step and is there after it.
+    is_inserted: bool,
+    // Whether there were as many entries as fit before the step, and none was evicted for it.
+    was_full: bool,
+}
+
+/// Where the reader stands.
+#[derive(Clone, Copy)]
+pub(crate) enum Stage {
+    /// Between two groups, where the last event ended its group for certain.
+    Outside,
+    /// Behind the eviction of this key, which begins a group.
+    Picked(Key),
+    /// Behind the step of a group.
+    Inside(Opened),
+}
+
+impl Opened {
+    /// Whether the step's own key may go.
+    fn does_own_go(&self, key: &Key, cause: Cause) -> bool
+        ensures { result ≡ own_goes self.now key.now cause }
+    {
+        let does_cause_fit = match cause {
+            Cause::Full => self.was_full,
+            Cause::Memory => true,
+        };
+        *key == self.key && self.is_inserted && does_cause_fit
+    }
+}
+
+impl Stage {
+    /// The victim of the group that comes next.
+    fn victim(&self) -> Option<Key>
+        ensures { result ≡ victim_of self.now }
+    {
+        match self {
+            Stage::Picked(key) => Some(*key),
+            _ => None,
+        }
+    }
+
+    /// Whether no more entries are there than fit, at the end of a group.
+    fn is_within(&self, config: &Config, contents: &Contents) -> bool
+        ensures { result ≡ is_within config.now contents.now self.now }
+    {
+        match self {
+            Stage::Inside(_) => contents.len() <= config.capacity,
+            _ => true,
+        }
+    }
+
+    /// Whether an eviction may come next.
+    fn does_evict_fit(&self, config: &Config, contents: &Contents, key: &Key, cause: Cause) -> bool
+        ensures { result ≡ fits_evict config.now contents.now self.now key.now cause }
+    {
+        let is_full = matches!(cause, Cause::Full);
+        match self {
+            Stage::Outside => is_full,
+            Stage::Picked(_) => false,
+            Stage::Inside(kept) => {
+                kept.does_own_go(key, cause) || (is_full && contents.len() <= config.capacity)
+            }
+        }
+    }
+
+    /// Whether the history may end.
+    fn may_end(&self, config: &Config, contents: &Contents) -> bool
+        ensures { result ≡ may_end config.now contents.now self.now }
+    {
+        match self {
+            Stage::Outside => true,
+            Stage::Picked(_) => false,
+            Stage::Inside(_) => contents.len() <= config.capacity,
+        }
+    }
+}
+
+/// Whether the events can be read, each behind those before it.
+pub(crate) fn are_accepted(
+    alloc: Global,
+    config: &Config,
+    opening: &[(Key, Value)],
+    events: &[Event],
+) -> Result<bool, AllocError>
+    requires { IsTrue (apart opening.now) }
+    ensures { IfOk result (λ b. IsTrue b ↔ Accepts config.now 0 (from_entries opening.now) Stage.Outside events.now) }
+{
+    // Names the type that a `Stage` has inside, which the proof of this function doesn't find else.
+    let _names: Option<Opened> = None;
+    let mut contents = Contents::of(alloc, opening)?;
+    let mut stage = Stage::Outside;
+    for (place, event) in events.iter().enumerate() {
+        if !does_fit(config, &contents, &stage, event) {
+            return Ok(false);
+        }
+        stage = go_over(config, &mut contents, &stage, place, event)?;
+    }
+    Ok(stage.may_end(config, &contents))
+}

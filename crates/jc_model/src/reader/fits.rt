@@ -1,0 +1,131 @@
+//! Whether an event may come next.
+ghost use Rattle.std.specs.Prelude.{◌≡◌, ◌↔◌, ◌&&◌, ℕ, IsTrue, is_none, is_some};
+ghost use Rattle.jc_model.specs.Cache.{entry_at};
+ghost use Rattle.jc_model.specs.Table.{answers_fit, new_entry, new_reply};
+ghost use Rattle.jc_model.specs.Group.{without};
+ghost use Rattle.jc_model.specs.Lawful.{victim_fits, IsLawfulStep};
+ghost use Rattle.jc_model.specs.Reader.{new_group, FitsShared, Fits};
+
+use crate::contents::Contents;
+use crate::event::{Event, Op, Out, Reply};
+use crate::reader::Stage;
+use crate::same::{is_load_only, is_same_reply};
+use jc_types::config::Config;
+use jc_types::key::Key;
+use jc_types::value::Value;
+
+/// The entry at a key once the victim, if any, has gone.
+pub(super) fn entry_before(contents: &Contents, victim: &Option<Key>, key: &Key) -> Option<Value>
+    ensures { result ≡ entry_at (without contents.now victim.now) key.now }
+{
+    match victim {
+        Some(gone) => {
+            if *key == *gone {
+                None
+            } else {
+                contents.get(key)
+            }
+        }
+        None => contents.get(key),
+    }
+}
+
+/// Whether a step inserts, at the entry that it found.
+pub(super) fn does_insert(entry: Option<Value>, op: &Op, out: &Out) -> bool
+    ensures { result ≡ (is_none entry && is_some (new_entry op.now entry out.now)) }
+{
+    entry.is_none() && op.entry_left(entry, out).is_some()
+}
+
+/// Whether the victim may go before the step.
+fn does_victim_fit(
+    config: &Config,
+    contents: &Contents,
+    victim: &Option<Key>,
+    op: &Op,
+    key: &Key,
+    out: &Out,
+) -> bool
+    ensures { (reply : _) → result ≡ victim_fits config.now contents.now (new_group victim.now 0 0 op.now key.now out.now reply) victim.now }
+{
+    let entry = entry_before(contents, victim, key);
+    match victim {
+        None => true,
+        Some(victim) => {
+            contents.len() == config.capacity
+                && contents.get(victim).is_some()
+                && *victim != *key
+                && does_insert(entry, op, out)
+        }
+    }
+}
+
+/// Whether the step is one of the operation table, at the entry that it found.
+fn is_made(config: &Config, entry: Option<Value>, op: &Op, out: &Out, reply: &Reply) -> bool
+    ensures { IsTrue result ↔ (IsTrue (answers_fit config.now op.now entry out.now) × (reply.now ≡ new_reply op.now entry out.now)) }
+{
+    op.is_answered(config, &entry, out) && is_same_reply(reply, &op.reply(entry, out))
+}
+
+/// Whether a group may begin with this step.
+fn does_start(
+    config: &Config,
+    contents: &Contents,
+    victim: &Option<Key>,
+    op: &Op,
+    key: &Key,
+    out: &Out,
+    reply: &Reply,
+) -> bool
+    ensures { IsTrue result ↔ IsLawfulStep config.now contents.now (new_group victim.now 0 0 op.now key.now out.now reply.now) }
+{
+    is_made(config, entry_before(contents, victim, key), op, out, reply)
+        && does_victim_fit(config, contents, victim, op, key, out)
+}
+
+/// Whether a step that shares a load may come next.
+fn does_shared_fit(
+    stage: &Stage,
+    op: &Op,
+    key: &Key,
+    out: &Out,
+    shared_with: u32,
+    reply: &Reply,
+) -> bool
+    ensures { (session number : _) → (IsTrue result ↔ FitsShared stage.now (Event.Step session number op.now key.now out.now (Some shared_with) reply.now)) }
+{
+    match stage {
+        Stage::Inside(kept) => {
+            kept.is_joinable
+                && shared_with as usize == kept.place
+                && matches!(op, Op::Get)
+                && *key == kept.key
+                && is_load_only(out, &kept.load)
+                && is_same_reply(reply, &Op::Get.reply(None, out))
+        }
+        _ => false,
+    }
+}
+
+/// Whether an event may come next.
+pub(super) fn does_fit(config: &Config, contents: &Contents, stage: &Stage, event: &Event) -> bool
+    ensures { IsTrue result ↔ Fits config.now contents.now stage.now event.now }
+{
+    match event {
+        Event::Step {
+            op,
+            key,
+            out,
+            shared_with,
+            reply,
+            ..
+        } => match shared_with {
+            None => {
+                stage.is_within(config, contents)
+                    && does_start(config, contents, &stage.victim(), op, key, out, reply)
+            }
+            Some(place) => does_shared_fit(stage, op, key, out, *place, reply),
+        },
+        Event::Evict { key, cause } => stage.does_evict_fit(config, contents, key, *cause),
+    }
+}

@@ -1,0 +1,96 @@
+//! What an event leads to: where the reader stands behind it, and what the cache then has.
+ghost use Rattle.std.specs.Prelude.{◌≡◌, IfOk, OnOk};
+ghost use Rattle.jc_model.specs.Group.{stepped};
+ghost use Rattle.jc_model.specs.Reader.{new_group, opened, then_stage, then_cache};
+
+use crate::contents::Contents;
+use crate::event::{Event, LoadAnswer, Op, Out};
+use crate::reader::fits::{does_insert, entry_before};
+use crate::reader::{Opened, Stage};
+use jc_types::config::Config;
+use jc_types::key::Key;
+use std::alloc::AllocError;
+
+/// What is kept of a group at its step.
+fn opened_by(
+    config: &Config,
+    contents: &Contents,
+    place: usize,
+    victim: &Option<Key>,
+    op: &Op,
+    key: &Key,
+    out: &Out,
+) -> Opened
+    ensures { (reply : _) → result ≡ opened config.now contents.now place (new_group victim.now 0 0 op.now key.now out.now reply) }
+{
+    let entry = entry_before(contents, victim, key);
+    let loads_whole = matches!(op, Op::Get | Op::LoadAll(_));
+    Opened {
+        place,
+        key: *key,
+        load: out.load,
+        is_joinable: config.read_through
+            && loads_whole
+            && entry.is_none()
+            && !matches!(out.load, LoadAnswer::NotAsked),
+        is_inserted: does_insert(entry, op, out),
+        was_full: contents.len() == config.capacity && victim.is_none(),
+    }
+}
+
+/// Takes a victim out, and gives the step's key what the step leaves.
+fn make_step(
+    contents: &mut Contents,
+    victim: &Option<Key>,
+    op: &Op,
+    key: &Key,
+    out: &Out,
+) -> Result<(), AllocError>
+    ensures { (reply : _) → OnOk result (contents.new ≡ stepped contents.old (new_group victim.now 0 0 op.now key.now out.now reply)) }
+{
+    if let Some(victim) = victim {
+        contents.set(victim, None)?;
+    }
+    let left = op.entry_left(contents.get(key), out);
+    contents.set(key, left)?;
+    Ok(())
+}
+
+/// Goes over an event that fits.
+pub(super) fn go_over(
+    config: &Config,
+    contents: &mut Contents,
+    stage: &Stage,
+    place: usize,
+    event: &Event,
+) -> Result<Stage, AllocError>
+    ensures stage { IfOk result (λ next. next ≡ then_stage config.now contents.old place stage.now event.now) }
+    ensures cache { OnOk result (contents.new ≡ then_cache contents.old stage.now event.now) }
+{
+    match event {
+        Event::Step {
+            op,
+            key,
+            out,
+            shared_with,
+            ..
+        } => match shared_with {
+            Some(_) => Ok(*stage),
+            None => {
+                let victim = stage.victim();
+                let kept = opened_by(config, contents, place, &victim, op, key, out);
+                make_step(contents, &victim, op, key, out)?;
+                Ok(Stage::Inside(kept))
+            }
+        },
+        Event::Evict { key, cause } => {
+            if let Stage::Inside(kept) = stage
+                && kept.does_own_go(key, *cause)
+            {
+                contents.set(key, None)?;
+                return Ok(Stage::Outside);
+            }
+            Ok(Stage::Picked(*key))
+        }
+    }
+}
