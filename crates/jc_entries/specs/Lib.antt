@@ -1,0 +1,3 @@
+pub mod ByUse
+pub mod Inserting
+pub mod EntriesInside

@@ -1,0 +1,4 @@
+//! What one stripe caches, in order of use.
+#![tactic(auto)]
+
+pub mod entries;

@@ -1,0 +1,4 @@
+pub mod Table
+pub mod Reserving
+pub mod Sound
+pub mod Inside
