@@ -73,8 +73,9 @@ fn outcome(answer: ProcessAnswer) -> Option<Value>
     }
 }
 
-/// The first fault: the loader's before the processor's before the writer's.
-fn first_fault(out: &Out) -> Option<Refusal>
+/// The first fault of what was said outside: the loader's before the processor's before the writer's. A step with one leaves the
+/// entry as it was.
+pub fn first_fault(out: &Out) -> Option<Refusal>
     ensures { result ≡ fault_of out.now }
 {
     if let LoadAnswer::Failed(code) = out.load {

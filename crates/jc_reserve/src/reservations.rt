@@ -1,5 +1,5 @@
 //! The reservations of a stripe.
-ghost use Rattle.std.specs.Prelude.{◌≡◌, ◌↔◌, ◌==◌, ◌-◌, ◌^◌, [], IsTrue, IsSome, IfOk, IfSome, OnSome, IfNone, length, position};
+ghost use Rattle.std.specs.Prelude.{◌≡◌, ◌≤◌, ◌↔◌, ◌==◌, ◌-◌, ◌^◌, [], IsTrue, IsSome, IfOk, IfSome, OnSome, IfNone, length, position};
 ghost use Rattle.std.specs.Cmp.Lexicographic.{pointwise};
 ghost use Rattle.jc_reserve.specs.Table.{keys_of};
 ghost use Rattle.jc_reserve.specs.Reserving.{is_held, found_at, CanReserve, reserved, released};
@@ -143,7 +143,7 @@ impl<T: Copy> Reservations<T> {
 
     /// Whether the numbers are used up: the next one stands at 2^64 - 1, which is given to no reservation.
     pub fn is_used_up(&self) -> bool
-        ensures { IsTrue result ↔ (self.now.next ≡ 2 ^ 64 - 1) }
+        ensures { IsTrue result ↔ (2 ^ 64 - 1 ≤ self.now.next) }
     {
         self.next == u64::MAX
     }

@@ -21,13 +21,15 @@ use Rattle.jc_script.specs.declared.fault.ReadError.TheVariants as errors
 use Rattle.jc_script.specs.declared.line.Line.{Line}
 use Rattle.jc_script.specs.declared.line.Line.TheVariants.{Open, Set, Begin, OfCall, Foreign, Audit}
 use Rattle.jc_script.specs.declared.line.Act.{Act}
-use Rattle.jc_script.specs.declared.line.Act.TheVariants.{Read, ReadFail, Say, Apply, ApplyFail, ApplyLie, End}
+use Rattle.jc_script.specs.declared.line.Act.TheVariants.{Read, ReadFail, Say, Apply, ApplyFail, ApplyLie, End, Drop, More, Take}
 use Rattle.jc_script.specs.declared.grammar.Bare.{Bare}
 use Rattle.jc_script.specs.declared.grammar.Bare.TheVariants as bare
 use Rattle.jc_script.specs.declared.grammar.Valued.{Valued}
 use Rattle.jc_script.specs.declared.grammar.Valued.TheVariants as valued
 use Rattle.jc_script.specs.declared.grammar.Form.{Form}
 use Rattle.jc_script.specs.declared.grammar.Form.TheVariants as form
+use Rattle.jc_script.specs.declared.grammar.Lone.{Lone}
+use Rattle.jc_script.specs.declared.grammar.Lone.TheVariants as lone
 use Rattle.jc_script.specs.declared.grammar.Coded.{Coded}
 use Rattle.jc_script.specs.declared.grammar.Coded.TheVariants as coded
 use Rattle.jc_script.specs.declared.grammar.LineKind.{LineKind}
@@ -64,9 +66,12 @@ form_named word =
 -- of a call that was begun
 abbrev pub act_named : List ℕ → Result LineKind Fault
 act_named word =
-    if bytes_eq word (codes "read") then Ok line.Read else
-    if bytes_eq word (codes "apply") then Ok line.Apply else
-    if bytes_eq word (codes "end") then Ok line.End else
+    if bytes_eq word (codes "read") then Ok (line.Lone lone.Read) else
+    if bytes_eq word (codes "apply") then Ok (line.Lone lone.Apply) else
+    if bytes_eq word (codes "end") then Ok (line.Lone lone.End) else
+    if bytes_eq word (codes "drop") then Ok (line.Lone lone.Drop) else
+    if bytes_eq word (codes "more") then Ok (line.Lone lone.More) else
+    if bytes_eq word (codes "take") then Ok (line.Lone lone.Take) else
     if bytes_eq word (codes "say") then Ok line.Say else
     if bytes_eq word (codes "readfail") then Ok (line.Coded coded.ReadFail) else
     if bytes_eq word (codes "applyfail") then Ok (line.Coded coded.ApplyFail) else
@@ -188,6 +193,18 @@ number_alone (n ∷ []) = number_of n
 number_alone [] = Err BadLine
 number_alone (n ∷ x ∷ more) = Err BadLine
 
+abbrev pub lone_act : Lone → Act
+lone_act lone.Read = Read
+lone_act lone.Apply = Apply
+lone_act lone.End = End
+lone_act lone.Drop = Drop
+lone_act lone.More = More
+lone_act lone.Take = Take
+
+-- a call's number alone
+abbrev pub lone_of : Lone → List (List ℕ) → Result Line Fault
+lone_of act words = number_alone words >>= λ number. Ok (OfCall number (lone_act act))
+
 abbrev pub coded_act : Coded → ℕ → Act
 coded_act coded.ReadFail code = ReadFail code
 coded_act coded.ApplyFail code = ApplyFail code
@@ -226,11 +243,9 @@ abbrev pub line_of : LineKind → List (List ℕ) → Result Line Fault
 line_of line.Open words = open_of words
 line_of line.Set words = set_of words
 line_of line.Begin words = begin_of words
-line_of line.Read words = number_alone words >>= λ number. Ok (OfCall number Read)
+line_of (line.Lone act) words = lone_of act words
 line_of (line.Coded act) words = coded_of act words
 line_of line.Say words = say_of words
-line_of line.Apply words = number_alone words >>= λ number. Ok (OfCall number Apply)
-line_of line.End words = number_alone words >>= λ number. Ok (OfCall number End)
 line_of line.Foreign words = foreign_of words
 line_of line.Audit words = audit_of words
 

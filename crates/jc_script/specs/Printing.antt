@@ -3,7 +3,7 @@
 --     texts         the same of events one after another
 --     audit_text    what is printed of an audit
 --     fault_line    the line that ends a transcript
-use Rattle.std.specs.Prelude.{◌==◌, ℕ, ◌+◌, List, [], ◌∷◌, ◌++◌, length, codes, decimal, Bool, true, false, Option, None, Some, if◌then◌else◌}
+use Rattle.std.specs.Prelude.{◌==◌, ℕ, ◌-◌, List, [], ◌∷◌, ◌++◌, length, codes, decimal, Bool, true, false, Option, None, Some, if◌then◌else◌}
 use Rattle.std.specs.List.{flat_map}
 use Rattle.jc_types.specs.declared.config.Refusal.{Refusal}
 use Rattle.jc_types.specs.declared.config.Refusal.TheVariants.{HistoryFull, Busy, TooManyInFlight, TooManyJoiners, LoaderFailed, WriterFailed, ProcessorFailed, OutOfMemory, TooManyKeys, BadConfig, NoLoader, NoWriter, TooManySessions, StillReserved}
@@ -21,7 +21,9 @@ use Rattle.jc_world.specs.declared.event.WorldEvent.{WorldEvent}
 use Rattle.jc_world.specs.declared.event.WorldEvent.TheVariants as event
 use Rattle.jc_world.specs.declared.event.Shown.{Shown}
 use Rattle.jc_world.specs.declared.event.Shown.TheVariants as shown
+use Rattle.jc_world.specs.declared.event.Gone.{Gone}
 use Rattle.jc_world.specs.declared.event.Stepped.{Stepped}
+use Rattle.jc_world.specs.declared.event.PickedUp.{PickedUp}
 use Rattle.jc_world.specs.declared.event.Reported.{Reported}
 use Rattle.jc_script.specs.declared.fault.Fault.{Fault}
 use Rattle.jc_script.specs.Faults.{text_of}
@@ -65,9 +67,9 @@ reply_text (reply.Flag flag) = flag_text flag
 reply_text (reply.Value value) = value_or_none_text value
 reply_text (reply.Fault refusal) = refusal_text refusal
 
--- the end of a line that names a place
+-- a stripe, and a place in its history
 unfoldable pub place_text : ℕ → ℕ → List ℕ
-place_text stripe place = codes " at " ++ decimal stripe ++ codes "." ++ decimal place ++ codes "\n"
+place_text stripe place = codes " at " ++ decimal stripe ++ codes "." ++ decimal place
 
 -- 2. What is printed of a call's key, from what was shown.
 
@@ -80,16 +82,31 @@ cause_name Full = codes "full"
 cause_name Memory = codes "memory"
 
 unfoldable pub evict_line : Bytes → Cause → ℕ → ℕ → List ℕ
-evict_line key cause stripe place = codes "evict " ++ key ++ codes " " ++ cause_name cause ++ place_text stripe place
+evict_line key cause stripe place = codes "evict " ++ key ++ codes " " ++ cause_name cause ++ place_text stripe place ++ codes "\n"
 
--- the eviction behind a step
-abbrev pub evicted_text : Bytes → Option Cause → ℕ → ℕ → List ℕ
-evicted_text key None stripe place = []
-evicted_text key (Some cause) stripe place = evict_line key cause stripe (place + 1)
+-- the eviction directly before a step, which made room in a full stripe
+abbrev pub victim_text : Option Bytes → ℕ → ℕ → List ℕ
+victim_text None stripe place = []
+victim_text (Some victim) stripe place = evict_line victim Full stripe (place - 1)
+
+-- the eviction of a step's own key behind it, at its own place
+abbrev pub evicted_text : Bytes → Option Gone → ℕ → List ℕ
+evicted_text key None stripe = []
+evicted_text key (Some gone) stripe = evict_line key gone.cause stripe gone.place
+
+-- what a call's key is, and where
+unfoldable pub outcome_text : ℕ → Bytes → Reply → ℕ → ℕ → List ℕ
+outcome_text call key reply stripe place = subject call key ++ codes " is " ++ reply_text reply ++ place_text stripe place
 
 unfoldable pub stepped_text : ℕ → Bytes → Stepped → List ℕ
 stepped_text call key seen =
-    subject call key ++ codes " is " ++ reply_text seen.reply ++ place_text seen.stripe seen.place ++ evicted_text key seen.evicted seen.stripe seen.place
+    victim_text seen.victim seen.stripe seen.place
+    ++ outcome_text call key seen.reply seen.stripe seen.place ++ codes "\n"
+    ++ evicted_text key seen.evicted seen.stripe
+
+-- the answer of a load that the call had joined, with the place of the step that loaded
+unfoldable pub picked_line : ℕ → Bytes → PickedUp → List ℕ
+picked_line call key seen = outcome_text call key seen.reply seen.stripe seen.place ++ codes " shared " ++ decimal seen.shared ++ codes "\n"
 
 unfoldable pub loads_line : ℕ → Bytes → List ℕ
 loads_line call key = subject call key ++ codes " load\n"
@@ -103,6 +120,18 @@ delete_line call key = subject call key ++ codes " delete\n"
 abbrev pub asks_text : ℕ → Bytes → Change → List ℕ
 asks_text call key (Write value) = write_line call key value
 asks_text call key Delete = delete_line call key
+
+unfoldable pub joined_line : ℕ → Bytes → List ℕ
+joined_line call key = subject call key ++ codes " joined\n"
+
+unfoldable pub waits_line : ℕ → Bytes → List ℕ
+waits_line call key = subject call key ++ codes " waits\n"
+
+unfoldable pub again_line : ℕ → Bytes → List ℕ
+again_line call key = subject call key ++ codes " again\n"
+
+unfoldable pub dropped_line : ℕ → List ℕ
+dropped_line call = decimal call ++ codes " dropped\n"
 
 unfoldable pub refused_line : ℕ → Bytes → Refusal → List ℕ
 refused_line call key refusal = subject call key ++ codes " refused " ++ refusal_name refusal ++ codes "\n"
@@ -139,11 +168,17 @@ shown_text call key shown.Begun = []
 shown_text call key (shown.Stepped seen) = stepped_text call key seen
 shown_text call key shown.Loads = loads_line call key
 shown_text call key (shown.Asks change) = asks_text call key change
+shown_text call key shown.Joins = joined_line call key
 shown_text call key (shown.Refused refusal) = refused_line call key refusal
 shown_text call key (shown.Reads answer) = answer_text call key (codes " reads ") answer
 shown_text call key (shown.Says answer) = answer_text call key (codes " says ") answer
 shown_text call key shown.Changed = []
 shown_text call key (shown.Reported seen) = reported_text call key seen
+shown_text call key shown.Withdrawn = []
+shown_text call key shown.Left = dropped_line call
+shown_text call key (shown.PickedUp seen) = picked_line call key seen
+shown_text call key shown.Waits = waits_line call key
+shown_text call key shown.Again = again_line call key
 shown_text call key shown.Written = []
 shown_text call key shown.Unfit = []
 
@@ -152,7 +187,7 @@ shown_text call key shown.Unfit = []
 unfoldable pub foreign_line : Bytes → Option Bytes → List ℕ
 foreign_line key value = codes "foreign " ++ key ++ codes " " ++ value_or_none_text value ++ codes "\n"
 
--- of one event; a report speaks of the key that its line is about
+-- of one event; a report and a call's leaving speak of the key that their line is about
 abbrev pub told : Bytes → WorldEvent → Shown → List ℕ
 told about (event.Call call session command) seen = []
 told about (event.Start call key) seen = shown_text call key seen
@@ -161,6 +196,9 @@ told about (event.Say call key answer) seen = shown_text call key seen
 told about (event.Change call key) seen = shown_text call key seen
 told about (event.Report call fault) seen = shown_text call about seen
 told about (event.Commit call key) seen = shown_text call key seen
+told about (event.Withdraw call key) seen = shown_text call key seen
+told about (event.Leave call) seen = shown_text call about seen
+told about (event.PickUp call key) seen = shown_text call key seen
 told about (event.Foreign key value) seen = foreign_line key value
 
 abbrev pub texts : Bytes → List WorldEvent → List Shown → List ℕ

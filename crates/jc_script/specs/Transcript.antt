@@ -1,5 +1,6 @@
 -- The transcript of a script, as a relation, since the world may choose.
---     events_of        the events that an act stands for, for a call's number and key
+--     drop_events      the events of a call that is dropped: what is reserved is given back first
+--     events_of        the events that an act stands for, for a call's number and key, and what it asked and heard for the key
 --     begin_events     the events that the begin of a call stands for
 --     PlaysEvents      the world may take these events, and this is printed of them
 --     Audited          what is printed of an audit
@@ -14,11 +15,12 @@ use Rattle.std.specs.List.{slice_split}
 use Rattle.jc_model.specs.Cache.{Bytes}
 use Rattle.jc_model.specs.declared.event.LoadAnswer.TheVariants.{Failed}
 use Rattle.jc_world.specs.declared.event.Command.{Command}
+use Rattle.jc_world.specs.declared.event.Part.{Part}
 use Rattle.jc_world.specs.declared.event.Under.{Under}
 use Rattle.jc_world.specs.declared.event.Shown.{Shown}
 use Rattle.jc_world.specs.declared.event.WorldEvent.{WorldEvent}
 use Rattle.jc_world.specs.declared.event.WorldEvent.TheVariants as event
-use Rattle.jc_world.specs.World.{WorldState, start, under, with_stored}
+use Rattle.jc_world.specs.World.{WorldState, start, under, part_of, with_stored}
 use Rattle.jc_world.specs.Played.{Played}
 use Rattle.jc_world.specs.Events.{Run}
 use Rattle.jc_world.specs.Audit.{IsAudit}
@@ -28,7 +30,7 @@ use Rattle.jc_script.specs.declared.fault.Fault.TheVariants.{CutLine}
 use Rattle.jc_script.specs.declared.line.Line.{Line}
 use Rattle.jc_script.specs.declared.line.Line.TheVariants.{Open, Set, Begin, OfCall, Foreign, Audit}
 use Rattle.jc_script.specs.declared.line.Act.{Act}
-use Rattle.jc_script.specs.declared.line.Act.TheVariants.{Read, ReadFail, Say, Apply, ApplyFail, ApplyLie, End}
+use Rattle.jc_script.specs.declared.line.Act.TheVariants.{Read, ReadFail, Say, Apply, ApplyFail, ApplyLie, End, Drop, More, Take}
 use Rattle.jc_script.specs.declared.run.RunEnd.{RunEnd}
 use Rattle.jc_script.specs.declared.run.RunEnd.TheVariants.{Clean, LineFault}
 use Rattle.jc_script.specs.Words.{said}
@@ -49,14 +51,21 @@ state_of (Some played) = Some played.world
 abbrev pub begin_events : ℕ → ℕ → Command → List WorldEvent
 begin_events number session command = event.Call number session command ∷ event.Start number command.key ∷ []
 
-abbrev pub events_of : ℕ → Bytes → Act → List WorldEvent
-events_of number key Read = event.Read number key ∷ []
-events_of number key (ReadFail code) = event.Say number key (Failed code) ∷ []
-events_of number key (Say pairs) = event.Say number key (said pairs key) ∷ []
-events_of number key Apply = event.Change number key ∷ event.Report number None ∷ []
-events_of number key (ApplyFail code) = event.Report number (Some code) ∷ []
-events_of number key (ApplyLie code) = event.Change number key ∷ event.Report number (Some code) ∷ []
-events_of number key End = event.Commit number key ∷ []
+abbrev pub drop_events : ℕ → Bytes → Option Part → List WorldEvent
+drop_events number key None = event.Leave number ∷ []
+drop_events number key (Some part) = event.Withdraw number key ∷ event.Leave number ∷ []
+
+abbrev pub events_of : ℕ → Bytes → Option Part → Act → List WorldEvent
+events_of number key part Read = event.Read number key ∷ []
+events_of number key part (ReadFail code) = event.Say number key (Failed code) ∷ []
+events_of number key part (Say pairs) = event.Say number key (said pairs key) ∷ []
+events_of number key part Apply = event.Change number key ∷ event.Report number None ∷ []
+events_of number key part (ApplyFail code) = event.Report number (Some code) ∷ []
+events_of number key part (ApplyLie code) = event.Change number key ∷ event.Report number (Some code) ∷ []
+events_of number key part End = event.Commit number key ∷ []
+events_of number key part Drop = drop_events number key part
+events_of number key part More = event.Start number key ∷ []
+events_of number key part Take = event.PickUp number key ∷ []
 
 -- 2. What a line prints, and what it leaves.
 
@@ -71,7 +80,8 @@ pub record PlaysEvents (w : WorldState) (key : Bytes) (events : List WorldEvent)
 -- the call's own key
 abbrev pub PlaysAct : WorldState → ℕ → Act → Option Under → List ℕ → State → Type 0
 PlaysAct w number act None text new = ⊥
-PlaysAct w number act (Some u) text new = PlaysEvents w u.command.key (events_of number u.command.key act) text new
+PlaysAct w number act (Some u) text new =
+    PlaysEvents w u.command.key (events_of number u.command.key (part_of w number u.command.key) act) text new
 
 -- an audit always says legal, and never names a key while write-through is on and the premises have held
 pub record Audited (w : WorldState) (text : List ℕ) : Type 0 where

@@ -1,7 +1,7 @@
 //! The kinds of line, and what each asks for.
 ghost use Rattle.std.specs.Prelude.{◌≡◌, map, length, IfOk};
 ghost use Rattle.std.specs.List.{list_all};
-ghost use Rattle.jc_script.specs.Lines.{Gives, form_named, act_named, line_named, flags_of, takes_words, bare_op, valued_op, bare_of, valued_of, value_alone_of, replace_if_of, command_of, open_of, set_of, begin_of, number_alone, coded_act, coded_of, say_of, foreign_of, audit_of, line_of, are_words, parsed, is_plain, is_comment, read_line};
+ghost use Rattle.jc_script.specs.Lines.{Gives, form_named, act_named, line_named, flags_of, takes_words, bare_op, valued_op, bare_of, valued_of, value_alone_of, replace_if_of, command_of, open_of, set_of, begin_of, number_alone, lone_act, lone_of, coded_act, coded_of, say_of, foreign_of, audit_of, line_of, are_words, parsed, is_plain, is_comment, read_line};
 
 use crate::fault::{Fault, ReadError};
 use crate::line::{Act, Line};
@@ -41,6 +41,17 @@ pub enum Form {
     ReplaceIf,
 }
 
+/// What happens next to a call, with no other word than its number.
+#[derive(Clone, Copy)]
+pub enum Lone {
+    Read,
+    Apply,
+    End,
+    Drop,
+    More,
+    Take,
+}
+
 /// What happens next to a call, with a code.
 #[derive(Clone, Copy)]
 pub enum Coded {
@@ -55,11 +66,9 @@ pub enum LineKind {
     Open,
     Set,
     Begin,
-    Read,
-    Say,
-    Apply,
-    End,
+    Lone(Lone),
     Coded(Coded),
+    Say,
     Foreign,
     Audit,
 }
@@ -107,13 +116,22 @@ fn read_act(word: &[u8]) -> Result<LineKind, Fault>
     ensures { result ≡ act_named word.now }
 {
     if is(word, "read") {
-        return Ok(LineKind::Read);
+        return Ok(LineKind::Lone(Lone::Read));
     }
     if is(word, "apply") {
-        return Ok(LineKind::Apply);
+        return Ok(LineKind::Lone(Lone::Apply));
     }
     if is(word, "end") {
-        return Ok(LineKind::End);
+        return Ok(LineKind::Lone(Lone::End));
+    }
+    if is(word, "drop") {
+        return Ok(LineKind::Lone(Lone::Drop));
+    }
+    if is(word, "more") {
+        return Ok(LineKind::Lone(Lone::More));
+    }
+    if is(word, "take") {
+        return Ok(LineKind::Lone(Lone::Take));
     }
     if is(word, "say") {
         return Ok(LineKind::Say);
@@ -334,6 +352,26 @@ fn lone_number(words: &[&[u8]]) -> Result<u32, Fault>
     }
 }
 
+fn act_lone(lone: Lone) -> Act
+    ensures { result ≡ lone_act lone }
+{
+    match lone {
+        Lone::Read => Act::Read,
+        Lone::Apply => Act::Apply,
+        Lone::End => Act::End,
+        Lone::Drop => Act::Drop,
+        Lone::More => Act::More,
+        Lone::Take => Act::Take,
+    }
+}
+
+fn lone_line(lone: Lone, words: &[&[u8]]) -> Result<Line, Fault>
+    ensures { result ≡ lone_of lone (map (λ w. w.now) words.now) }
+{
+    let n = lone_number(words)?;
+    Ok(Line::OfCall(n, act_lone(lone)))
+}
+
 fn act_coded(coded: Coded, code: u32) -> Act
     ensures { result ≡ coded_act coded code }
 {
@@ -404,11 +442,9 @@ fn line_after(alloc: Global, kind: LineKind, words: &[&[u8]]) -> Result<Line, Re
         LineKind::Open => Ok(open(words)?),
         LineKind::Set => Ok(set(words)?),
         LineKind::Begin => Ok(begin(words)?),
-        LineKind::Read => Ok(Line::OfCall(lone_number(words)?, Act::Read)),
+        LineKind::Lone(lone) => Ok(lone_line(lone, words)?),
         LineKind::Coded(coded) => Ok(coded_line(coded, words)?),
         LineKind::Say => say(alloc, words),
-        LineKind::Apply => Ok(Line::OfCall(lone_number(words)?, Act::Apply)),
-        LineKind::End => Ok(Line::OfCall(lone_number(words)?, Act::End)),
         LineKind::Foreign => Ok(foreign(words)?),
         LineKind::Audit => Ok(audit(words)?),
     }

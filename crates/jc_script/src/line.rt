@@ -22,6 +22,12 @@ pub enum Act {
     ApplyLie(u32),
     /// The call ends.
     End,
+    /// The call gives up, and its reservation is given back.
+    Drop,
+    /// The call begins again.
+    More,
+    /// The call asks for the answer of the load that it has joined.
+    Take,
 }
 
 /// What a line asks for.

@@ -2,9 +2,9 @@
 ghost use Rattle.std.specs.Prelude.{◌≡◌, ◌++◌, ◌∷◌, List, ℕ, [], Some, None, true, Option, OnOk, IfOk, MatchOption};
 ghost use Rattle.jc_types.specs.Limits.{checked};
 ghost use Rattle.jc_world.specs.declared.event.WorldEvent.TheVariants as event;
-ghost use Rattle.jc_world.specs.World.{waits_for_load, waits_for_report, is_answered, under, start};
-ghost use Rattle.jc_script.specs.Faults.{config_fault, is_rising, begin_fault, fits_now, act_fault, state_fault};
-ghost use Rattle.jc_script.specs.Transcript.{State, state_of, begin_events, events_of, PlaysEvents, PlaysAct, Audited, Plays, Prints, fault_of};
+ghost use Rattle.jc_world.specs.World.{waits_for_load, waits_for_report, is_answered, is_untouched, under, part_of, start};
+ghost use Rattle.jc_script.specs.Faults.{config_fault, is_rising, begin_fault, may_drop, may_restart, fits_now, act_fault, state_fault};
+ghost use Rattle.jc_script.specs.Transcript.{State, state_of, begin_events, drop_events, events_of, PlaysEvents, PlaysAct, Audited, Plays, Prints, fault_of};
 
 use crate::fault::{Fault, ReadError};
 use crate::grammar::read;
@@ -61,8 +61,31 @@ fn has_answers(part: &Option<Part>) -> bool
     }
 }
 
-fn waits_for(act: &Act, part: &Option<Part>) -> bool
-    ensures { result ≡ fits_now act.now part.now }
+fn is_silent(part: &Part) -> bool
+    ensures { result ≡ is_untouched (Some part.now) }
+{
+    matches!(&part.load, LoadAnswer::NotAsked)
+        && !part.is_changed
+        && matches!(&part.report, WriteAnswer::NotAsked)
+}
+
+fn may_leave(part: &Option<Part>, is_joined: bool) -> bool
+    ensures { result ≡ may_drop part.now is_joined }
+{
+    match part {
+        Some(part) => !is_joined && is_silent(part),
+        None => !is_joined,
+    }
+}
+
+fn may_begin_again(part: &Option<Part>, is_joined: bool) -> bool
+    ensures { result ≡ may_restart part.now is_joined }
+{
+    !is_joined && part.is_none()
+}
+
+fn waits_for(act: &Act, part: &Option<Part>, is_joined: bool) -> bool
+    ensures { result ≡ fits_now act.now part.now is_joined }
 {
     match act {
         Act::Read => waits_load(part),
@@ -72,6 +95,9 @@ fn waits_for(act: &Act, part: &Option<Part>) -> bool
         Act::ApplyFail(_) => waits_report(part),
         Act::ApplyLie(_) => waits_report(part),
         Act::End => has_answers(part),
+        Act::Drop => may_leave(part, is_joined),
+        Act::More => may_begin_again(part, is_joined),
+        Act::Take => is_joined,
     }
 }
 
@@ -83,7 +109,8 @@ fn fault_of_act(world: &World, number: u32, act: &Act) -> Option<Fault>
         Some(under) => {
             let key = under.command.key;
             let part = world.part(number as u64, &key);
-            if waits_for(act, &part) {
+            let is_joined = world.is_joined(number as u64, &key);
+            if waits_for(act, &part, is_joined) {
                 return None;
             }
             Some(Fault::NotNow)
@@ -169,8 +196,29 @@ fn events_begun(
     Vec::from_slice(alloc, &[call, WorldEvent::Start { call: number, key }])
 }
 
-fn events(alloc: Global, call: u64, key: &Key, act: &Act) -> Result<Vec<WorldEvent>, AllocError>
-    ensures { IfOk result (λ events. events.items ≡ events_of call key.now act.now) }
+fn events_dropped(
+    alloc: Global,
+    call: u64,
+    key: Key,
+    part: &Option<Part>,
+) -> Result<Vec<WorldEvent>, AllocError>
+    ensures { IfOk result (λ events. events.items ≡ drop_events call key part.now) }
+{
+    let leave = WorldEvent::Leave { call };
+    match part {
+        Some(_) => Vec::from_slice(alloc, &[WorldEvent::Withdraw { call, key }, leave]),
+        None => Vec::from_slice(alloc, &[leave]),
+    }
+}
+
+fn events(
+    alloc: Global,
+    call: u64,
+    key: &Key,
+    part: &Option<Part>,
+    act: &Act,
+) -> Result<Vec<WorldEvent>, AllocError>
+    ensures { IfOk result (λ events. events.items ≡ events_of call key.now part.now act.now) }
 {
     let key = *key;
     let change = WorldEvent::Change { call, key };
@@ -197,6 +245,9 @@ fn events(alloc: Global, call: u64, key: &Key, act: &Act) -> Result<Vec<WorldEve
             Vec::from_slice(alloc, &[change, WorldEvent::Report { call, fault }])
         }
         Act::End => Vec::from_slice(alloc, &[WorldEvent::Commit { call, key }]),
+        Act::Drop => events_dropped(alloc, call, key, part),
+        Act::More => Vec::from_slice(alloc, &[WorldEvent::Start { call, key }]),
+        Act::Take => Vec::from_slice(alloc, &[WorldEvent::PickUp { call, key }]),
     }
 }
 
@@ -243,7 +294,8 @@ fn act_on(
         None => Ok(()),
         Some(under) => {
             let key = under.command.key;
-            let events = events(alloc, number as u64, &key, act)?;
+            let part = world.part(number as u64, &key);
+            let events = events(alloc, number as u64, &key, &part, act)?;
             play_events(alloc, world, &key, &events, out)?;
             Ok(())
         }

@@ -1,8 +1,8 @@
 //! What is printed, as bytes at the end of what stands already.
-ghost use Rattle.std.specs.Prelude.{◌≡◌, ◌++◌, ◌+◌, ◌<◌, OnOk, decimal, codes, List, ℕ};
+ghost use Rattle.std.specs.Prelude.{◌≡◌, ◌++◌, ◌-◌, ◌<◌, OnOk, decimal, codes, List, ℕ};
 ghost use Rattle.std.specs.List.{flat_map};
 ghost use Rattle.jc_types.specs.Refusals.{refusal_name};
-ghost use Rattle.jc_script.specs.Printing.{value_text, value_or_none_text, coded_text, refusal_text, flag_text, reply_text, place_text, subject, cause_name, evict_line, evicted_text, stepped_text, loads_line, write_line, delete_line, asks_text, refused_line, fails_line, answer_line, answer_text, done_name, change_name, fails_text, reported_text, shown_text, foreign_line, told, texts, entry_text, entries_line, key_text, differs_line, coherence_text, legal_name, history_line, audit_text, fault_line};
+ghost use Rattle.jc_script.specs.Printing.{value_text, value_or_none_text, coded_text, refusal_text, flag_text, reply_text, place_text, subject, cause_name, evict_line, victim_text, evicted_text, outcome_text, stepped_text, picked_line, loads_line, write_line, delete_line, asks_text, joined_line, waits_line, again_line, dropped_line, refused_line, fails_line, answer_line, answer_text, done_name, change_name, fails_text, reported_text, shown_text, foreign_line, told, texts, entry_text, entries_line, key_text, differs_line, coherence_text, legal_name, history_line, audit_text, fault_line};
 
 use crate::fault::{Fault, text};
 use itoa::Buffer;
@@ -11,7 +11,7 @@ use jc_types::config::Refusal;
 use jc_types::key::Key;
 use jc_types::value::Value;
 use jc_world::audit::Audit;
-use jc_world::event::{Reported, Shown, Stepped, WorldEvent};
+use jc_world::event::{Gone, PickedUp, Reported, Shown, Stepped, WorldEvent};
 use std::alloc::AllocError;
 
 /// A literal text.
@@ -99,14 +99,13 @@ fn put_reply(out: &mut Vec<u8>, reply: &Reply) -> Result<(), AllocError>
 }
 
 #[tactic(auto, unfolding(crate::specs::Printing::place_text))]
-fn put_place(out: &mut Vec<u8>, stripe: usize, place: u64) -> Result<(), AllocError>
+fn put_place(out: &mut Vec<u8>, stripe: usize, place: u32) -> Result<(), AllocError>
     ensures { OnOk result (out.new.items ≡ out.old.items ++ place_text stripe place) }
 {
     put(out, " at ")?;
     put_number(out, stripe as u64)?;
     put(out, ".")?;
-    put_number(out, place)?;
-    put(out, "\n")
+    put_number(out, place as u64)
 }
 
 #[tactic(auto, unfolding(crate::specs::Printing::subject))]
@@ -133,7 +132,7 @@ fn put_evict(
     key: &Key,
     cause: Cause,
     stripe: usize,
-    place: u64,
+    place: u32,
 ) -> Result<(), AllocError>
     ensures { OnOk result (out.new.items ≡ out.old.items ++ evict_line key.now cause stripe place) }
 {
@@ -141,33 +140,73 @@ fn put_evict(
     put_key(out, key)?;
     put(out, " ")?;
     put(out, name_of(cause))?;
-    put_place(out, stripe, place)
+    put_place(out, stripe, place)?;
+    put(out, "\n")
+}
+
+fn put_victim(
+    out: &mut Vec<u8>,
+    victim: &Option<Key>,
+    stripe: usize,
+    place: u32,
+) -> Result<(), AllocError>
+    ensures { OnOk result (out.new.items ≡ out.old.items ++ victim_text victim.now stripe place) }
+{
+    match victim {
+        None => Ok(()),
+        Some(victim) => put_evict(out, victim, Cause::Full, stripe, place.saturating_sub(1)),
+    }
 }
 
 fn put_evicted(
     out: &mut Vec<u8>,
     key: &Key,
-    evicted: Option<Cause>,
+    evicted: &Option<Gone>,
     stripe: usize,
-    place: u32,
 ) -> Result<(), AllocError>
-    ensures { OnOk result (out.new.items ≡ out.old.items ++ evicted_text key.now evicted stripe place) }
+    ensures { OnOk result (out.new.items ≡ out.old.items ++ evicted_text key.now evicted.now stripe) }
 {
     match evicted {
         None => Ok(()),
-        Some(cause) => put_evict(out, key, cause, stripe, place as u64 + 1),
+        Some(gone) => put_evict(out, key, gone.cause, stripe, gone.place),
     }
+}
+
+#[tactic(auto, unfolding(crate::specs::Printing::outcome_text))]
+fn put_outcome(
+    out: &mut Vec<u8>,
+    call: u64,
+    key: &Key,
+    reply: &Reply,
+    stripe: usize,
+    place: u32,
+) -> Result<(), AllocError>
+    ensures { OnOk result (out.new.items ≡ out.old.items ++ outcome_text call key.now reply.now stripe place) }
+{
+    put_subject(out, call, key)?;
+    put(out, " is ")?;
+    put_reply(out, reply)?;
+    put_place(out, stripe, place)
 }
 
 #[tactic(auto, unfolding(crate::specs::Printing::stepped_text))]
 fn put_stepped(out: &mut Vec<u8>, call: u64, key: &Key, seen: &Stepped) -> Result<(), AllocError>
     ensures { OnOk result (out.new.items ≡ out.old.items ++ stepped_text call key.now seen.now) }
 {
-    put_subject(out, call, key)?;
-    put(out, " is ")?;
-    put_reply(out, &seen.reply)?;
-    put_place(out, seen.stripe, seen.place as u64)?;
-    put_evicted(out, key, seen.evicted, seen.stripe, seen.place)
+    put_victim(out, &seen.victim, seen.stripe, seen.place)?;
+    put_outcome(out, call, key, &seen.reply, seen.stripe, seen.place)?;
+    put(out, "\n")?;
+    put_evicted(out, key, &seen.evicted, seen.stripe)
+}
+
+#[tactic(auto, unfolding(crate::specs::Printing::picked_line))]
+fn put_picked(out: &mut Vec<u8>, call: u64, key: &Key, seen: &PickedUp) -> Result<(), AllocError>
+    ensures { OnOk result (out.new.items ≡ out.old.items ++ picked_line call key.now seen.now) }
+{
+    put_outcome(out, call, key, &seen.reply, seen.stripe, seen.place)?;
+    put(out, " shared ")?;
+    put_number(out, seen.shared as u64)?;
+    put(out, "\n")
 }
 
 #[tactic(auto, unfolding(crate::specs::Printing::loads_line))]
@@ -203,6 +242,38 @@ fn put_asks(out: &mut Vec<u8>, call: u64, key: &Key, change: &Change) -> Result<
         Change::Write(value) => put_write(out, call, key, value),
         Change::Delete => put_delete(out, call, key),
     }
+}
+
+#[tactic(auto, unfolding(crate::specs::Printing::joined_line))]
+fn put_joined(out: &mut Vec<u8>, call: u64, key: &Key) -> Result<(), AllocError>
+    ensures { OnOk result (out.new.items ≡ out.old.items ++ joined_line call key.now) }
+{
+    put_subject(out, call, key)?;
+    put(out, " joined\n")
+}
+
+#[tactic(auto, unfolding(crate::specs::Printing::waits_line))]
+fn put_waits(out: &mut Vec<u8>, call: u64, key: &Key) -> Result<(), AllocError>
+    ensures { OnOk result (out.new.items ≡ out.old.items ++ waits_line call key.now) }
+{
+    put_subject(out, call, key)?;
+    put(out, " waits\n")
+}
+
+#[tactic(auto, unfolding(crate::specs::Printing::again_line))]
+fn put_again(out: &mut Vec<u8>, call: u64, key: &Key) -> Result<(), AllocError>
+    ensures { OnOk result (out.new.items ≡ out.old.items ++ again_line call key.now) }
+{
+    put_subject(out, call, key)?;
+    put(out, " again\n")
+}
+
+#[tactic(auto, unfolding(crate::specs::Printing::dropped_line))]
+fn put_dropped(out: &mut Vec<u8>, call: u64) -> Result<(), AllocError>
+    ensures { OnOk result (out.new.items ≡ out.old.items ++ dropped_line call) }
+{
+    put_number(out, call)?;
+    put(out, " dropped\n")
 }
 
 #[tactic(auto, unfolding(crate::specs::Printing::refused_line))]
@@ -300,11 +371,17 @@ fn put_shown(out: &mut Vec<u8>, call: u64, key: &Key, seen: &Shown) -> Result<()
         Shown::Stepped(seen) => put_stepped(out, call, key, seen),
         Shown::Loads => put_loads(out, call, key),
         Shown::Asks(change) => put_asks(out, call, key, change),
+        Shown::Joins => put_joined(out, call, key),
         Shown::Refused(refusal) => put_refused(out, call, key, refusal),
         Shown::Reads(answer) => put_answer(out, call, key, " reads ", answer),
         Shown::Says(answer) => put_answer(out, call, key, " says ", answer),
         Shown::Changed => Ok(()),
         Shown::Reported(seen) => put_reported(out, call, key, seen),
+        Shown::Withdrawn => Ok(()),
+        Shown::Left => put_dropped(out, call),
+        Shown::PickedUp(seen) => put_picked(out, call, key, seen),
+        Shown::Waits => put_waits(out, call, key),
+        Shown::Again => put_again(out, call, key),
         Shown::Written => Ok(()),
         Shown::Unfit => Ok(()),
     }
@@ -337,6 +414,9 @@ fn put_told(
         WorldEvent::Change { call, key } => put_shown(out, *call, key, seen),
         WorldEvent::Report { call, .. } => put_shown(out, *call, about, seen),
         WorldEvent::Commit { call, key } => put_shown(out, *call, key, seen),
+        WorldEvent::Withdraw { call, key } => put_shown(out, *call, key, seen),
+        WorldEvent::Leave { call } => put_shown(out, *call, about, seen),
+        WorldEvent::PickUp { call, key } => put_shown(out, *call, key, seen),
         WorldEvent::Foreign { key, value } => put_foreign(out, key, value),
     }
 }

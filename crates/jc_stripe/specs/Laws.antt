@@ -4,6 +4,7 @@
 --     Grows            a phase appends to the history and changes nothing that stands in it, nor the opening
 --     WasFree          a key that gets a ticket was free
 --     Keeps            a call that a reservation of its key does not stop leaves the entry
+--     KeepsReserved    the entry of a reserved key stays in every phase but its own commit
 use Rattle.std.specs.Prelude.{◌≡◌, ℕ, List, ◌++◌, true, false, Option, None}
 use Rattle.jc_types.specs.declared.config.Config.{Config}
 use Rattle.jc_model.specs.declared.event.Event.{Event}
@@ -15,16 +16,18 @@ use Rattle.jc_model.specs.Table.{new_entry}
 use Rattle.jc_model.specs.Group.{nothing_said}
 use Rattle.jc_model.specs.Legal.{Legal}
 use Rattle.jc_stripe.specs.declared.begun.Begun.{Begun}
-use Rattle.jc_stripe.specs.declared.ticket.First.{First}
-use Rattle.jc_stripe.specs.Claim.{Claim}
-use Rattle.jc_stripe.specs.State.{State, is_reserved}
-use Rattle.jc_stripe.specs.Refusals.{first_asked, first_refusal, has_phases, passes, reserves}
-use Rattle.jc_stripe.specs.Phases.{MayBegin, Begins, Commits}
+use Rattle.jc_stripe.specs.declared.begun.Picked.{Picked}
+use Rattle.jc_stripe.specs.Claim.{Claim, JoinClaim}
+use Rattle.jc_stripe.specs.State.{State, is_reserved, released}
+use Rattle.jc_stripe.specs.Refusals.{first_refusal, has_phases, passes, needs_reservation}
+use Rattle.jc_stripe.specs.Phases.{MayBegin, Begins, Commits, Withdraws, PicksUp}
 use Rattle.jc_stripe.specs.Reached.{IsReached}
 
 pub record StaysReached : Type 0 where
   pub begins : (old new : State) (session call : ℕ) (key : Bytes) (op : Op) (b : Begun) → IsReached old → MayBegin old session call key → has_phases op ≡ true → Begins old session call key op b new → IsReached new
   pub commits : (old new : State) (claim : Claim) (out : Out) (reply : Reply) (place : ℕ) → IsReached old → Commits old claim out reply place new → IsReached new
+  pub withdraws : (old new : State) (claim : Claim) → IsReached old → Withdraws old claim new → IsReached new
+  pub picks_up : (old new : State) (join : JoinClaim) (p : Picked) → IsReached old → PicksUp old join p new → IsReached new
 
 abbrev pub IsLegal : Type 0
 IsLegal = (state : State) → IsReached state → Legal state.config state.opening state.history
@@ -38,10 +41,15 @@ pub record GoesOn (old new : State) : Type 0 where
 pub record Grows : Type 0 where
   pub begins : (old new : State) (session call : ℕ) (key : Bytes) (op : Op) (b : Begun) → Begins old session call key op b new → GoesOn old new
   pub commits : (old new : State) (claim : Claim) (out : Out) (reply : Reply) (place : ℕ) → Commits old claim out reply place new → GoesOn old new
+  pub withdraws : (old new : State) (claim : Claim) → Withdraws old claim new → GoesOn old new
+  pub picks_up : (old new : State) (join : JoinClaim) (p : Picked) → PicksUp old join p new → GoesOn old new
 
 abbrev pub WasFree : Type 0
-WasFree =
-    (s : State) (call : ℕ) (key : Bytes) (op : Op) (first : First) → first_refusal s call key op ≡ None → first_asked s.config op (entry_at s.cache key) ≡ first → reserves first ≡ true → is_reserved s key ≡ false
+WasFree = (s : State) (call : ℕ) (key : Bytes) (op : Op) → first_refusal s call key op ≡ None → needs_reservation s key op ≡ true → is_reserved s key ≡ false
 
 abbrev pub Keeps : Type 0
 Keeps = (config : Config) (op : Op) (entry : Option Bytes) → passes config op entry ≡ true → new_entry op entry nothing_said ≡ entry
+
+pub record KeepsReserved : Type 0 where
+  pub begins : (old new : State) (session call : ℕ) (key : Bytes) (op : Op) (b : Begun) (q : Bytes) → IsReached old → Begins old session call key op b new → is_reserved old q ≡ true → entry_at new.cache q ≡ entry_at old.cache q
+  pub commits : (old new : State) (claim : Claim) (out : Out) (reply : Reply) (place : ℕ) (q : Bytes) → IsReached old → Commits old claim out reply place new → is_reserved (released old claim.key) q ≡ true → entry_at new.cache q ≡ entry_at old.cache q

@@ -1,8 +1,9 @@
 pub mod Claim
 pub mod State
+pub mod OrderOfUse
 pub mod Refusals
 pub mod Phases
 pub mod Reached
-pub mod Entries
+pub mod Putting
 pub mod Inside
 pub mod Laws

@@ -1,18 +1,32 @@
 -- What is true of every stripe.
---     IsReached      its history is legal from its opening and leaves its entries, its tables are within their limits, and each
---                    reservation still asks what it asked and may still put its step down
-use Rattle.std.specs.Prelude.{◌≡◌, ◌*◌, ◌+◌, ◌≤◌, List, [], ◌∷◌, length, Ok, IsTrue, Bool, true, ◌&&◌}
+--     IsReached      its history is legal from its opening and leaves its entries, its tables are within their limits, each
+--                    reservation still asks what it asked, each joiner that waits still finds its load, and the steps of both
+--                    may still come
+use Rattle.std.specs.Prelude.{◌≡◌, ◌==◌, ◌+◌, ◌≤◌, ◌<◌, ℕ, List, [], ◌∷◌, length, Ok, IsTrue, Bool, true, false, not, ◌&&◌, ◌||◌, Option, None, Some, All, AllPairs, slice_get}
 use Rattle.std.specs.List.{list_all}
 use Rattle.std.specs.FinMap.{len, from_entries}
 use Rattle.jc_types.specs.declared.config.Config.{Config}
 use Rattle.jc_types.specs.Limits.{checked}
+use Rattle.jc_model.specs.declared.event.Op.TheVariants.{Get}
+use Rattle.jc_model.specs.declared.event.Out.{Out}
+use Rattle.jc_model.specs.declared.event.Reply.{Reply}
 use Rattle.jc_model.specs.declared.event.Event.{Event}
-use Rattle.jc_model.specs.Cache.{Cache, entry_at}
+use Rattle.jc_model.specs.declared.event.Event.TheVariants.{Step}
+use Rattle.jc_model.specs.Cache.{Bytes, Cache, entry_at}
+use Rattle.jc_model.specs.Listed.{apart}
 use Rattle.jc_model.specs.Legal.{IsHistory, is_of_stripe, may_come}
-use Rattle.jc_stripe.specs.declared.ticket.Reserved.{Reserved}
-use Rattle.jc_stripe.specs.State.{State, is_of}
+use Rattle.jc_inflight.specs.declared.joiner.Joiner.{Joiner}
+use Rattle.jc_inflight.specs.declared.joiner.JoinState.{JoinState}
+use Rattle.jc_inflight.specs.declared.joiner.JoinState.TheVariants.{Waiting, Parked}
+use Rattle.jc_inflight.specs.declared.joiner.Parked.TheVariants as parked
+use Rattle.jc_stripe.specs.declared.ticket.First.TheVariants.{Loader}
+use Rattle.jc_stripe.specs.Claim.{Claim}
+use Rattle.jc_stripe.specs.State.{State, Reserved, is_of, is_key, waits, promised, IsOut}
 use Rattle.jc_stripe.specs.Refusals.{first_asked}
-use Rattle.jc_stripe.specs.Phases.{is_beside}
+use Rattle.jc_stripe.specs.OrderOfUse.{by_use}
+use Rattle.jc_stripe.specs.Phases.{is_beside, is_apart}
+
+-- 1. Reservations.
 
 -- a reservation still asks what it asked at first
 abbrev pub AllAsk : Config → Cache → List Reserved → Type 0
@@ -28,20 +42,78 @@ abbrev pub are_beside : List Reserved → Bool
 are_beside [] = true
 are_beside (r ∷ rs) = list_all (is_beside r.session r.call r.key) rs && are_beside rs
 
+-- no key and no number stands twice, and the numbers are below the next one
+pub record AreNumbered (next : ℕ) (rs : List Reserved) : Type 0 where
+  pub once : AllPairs (λ r later. is_key r.key later ≡ false) rs
+  pub numbers : AllPairs (λ r later. (r.number == later.number) ≡ false) rs
+  pub below : All (λ r. r.number < next) rs
+
+-- 2. Joiners.
+
+abbrev pub claim_joined : Joiner → Claim
+claim_joined j = record { key = j.key; number = j.load }
+
+-- one that waits finds the reservation of its load, which asked the loader; the key is missing, and read-through is on
+pub record FindsLoad (state : State) (j : Joiner) : Type 0 where
+  pub load : IsOut state (claim_joined j) Loader
+  pub missing : entry_at state.cache j.key ≡ None
+  pub read_through : state.config.read_through ≡ true
+
+-- one for whom an answer is parked has its step in the history
+abbrev pub HasStep : List Event → Joiner → ℕ → ℕ → Type 0
+HasStep history j place shared =
+    (out : Out) × (reply : Reply) × (slice_get history place ≡ Some (Step j.session j.number Get j.key out (Some shared) reply))
+
+abbrev pub JoinFits : State → Joiner → JoinState → Type 0
+JoinFits state j Waiting = FindsLoad state j
+JoinFits state j (Parked (parked.Answer place shared)) = HasStep state.history j place shared
+JoinFits state j (Parked parked.Again) = Unit {0}
+
+abbrev pub AllJoin : State → List Joiner → Type 0
+AllJoin state [] = Unit {0}
+AllJoin state (j ∷ js) = JoinFits state j j.state × AllJoin state js
+
+-- the shared step of a joiner that waits may come behind these events
+abbrev pub may_share : List Event → Joiner → Bool
+may_share history j = not (waits j) || list_all (λ e. may_come e j.session j.number j.key) history
+
+-- no two joiners of a session have different numbers, or the same key
+abbrev pub are_apart : List Joiner → Bool
+are_apart [] = true
+are_apart (j ∷ js) = list_all (is_apart j.session j.number j.key) js && are_apart js
+
+-- and no reservation and joiner
+abbrev pub all_apart : List Reserved → List Joiner → Bool
+all_apart rs js = list_all (λ r. list_all (is_apart r.session r.call r.key) js) rs
+
+-- 3. The stripe.
+
 -- the stripe's events are of its keys
 abbrev pub is_own : State → Event → Bool
 is_own state event = is_of_stripe state.config.stripes state.number event
+
+-- the entries by use are what is cached, each key once, and they are of the stripe's keys
+pub record IsUsed (state : State) : Type 0 where
+  pub once : IsTrue (apart (by_use state.opening state.history))
+  pub own : IsTrue (list_all (λ entry. is_of state entry.0) (by_use state.opening state.history))
+  pub cache : state.cache ≡ from_entries (by_use state.opening state.history)
 
 pub record IsReached (state : State) : Type 0 where
   pub config_fits : checked state.config ≡ Ok tt
   pub opening : state.opening ≡ []
   pub legal : IsHistory state.config (from_entries state.opening) state.history state.cache
+  pub used : IsUsed state
   pub own : IsTrue (list_all (is_own state) state.history)
   pub keys : IsTrue (list_all (λ r. is_of state r.key) state.reservations)
   pub few_entries : len state.cache ≤ state.config.capacity
   pub few_reservations : length state.reservations ≤ 64
-  pub places : length state.history + state.promised ≤ state.config.history
-  pub three_each : state.promised ≡ 3 * length state.reservations
+  pub few_joiners : length state.joiners ≤ 64
+  pub places : length state.history + promised state ≤ state.config.history
+  pub numbered : AreNumbered state.next state.reservations
   pub asks : AllAsk state.config state.cache state.reservations
   pub ends : IsTrue (list_all (may_end state.history) state.reservations)
   pub beside : IsTrue (are_beside state.reservations)
+  pub joins : AllJoin state state.joiners
+  pub shares : IsTrue (list_all (may_share state.history) state.joiners)
+  pub apart : IsTrue (are_apart state.joiners)
+  pub between : IsTrue (all_apart state.reservations state.joiners)

@@ -1,9 +1,10 @@
 -- When a first phase is refused.
 --     first_asked       whom a call asks first, by the loader and the writer table
 --     passes            a call that a reservation of its key does not stop: it answers from the cached entry
---     places            the free places of the history that a call needs: 1 where it passes, and else 3
---     first_refusal     the first refusal whose condition holds: history full, then busy, then too many in flight
-use Rattle.std.specs.Prelude.{◌^◌, ◌-◌, ℕ, ◌+◌, length, Bool, true, false, not, ◌&&◌, ◌||◌, Option, None, Some, is_some, is_none, nat_lt, nat_le, if◌then◌else◌}
+--     load_joined       the load that a call joins: a `Get` whose key is missing and is being loaded, with read-through on
+--     places            the free places of the history that a call needs: 1 where it passes or joins, and else 3
+--     first_refusal     the first refusal whose condition holds: history full, busy, too many in flight, too many joiners
+use Rattle.std.specs.Prelude.{◌^◌, ◌-◌, ℕ, ◌+◌, length, find, Bool, true, false, not, ◌&&◌, ◌||◌, Option, None, Some, is_some, is_none, nat_lt, nat_le, if◌then◌else◌}
 use Rattle.jc_types.specs.declared.config.Config.{Config}
 use Rattle.jc_types.specs.declared.config.Refusal.{Refusal}
 use Rattle.jc_types.specs.declared.config.Refusal.TheVariants as refusal
@@ -15,7 +16,7 @@ use Rattle.jc_model.specs.Cache.{Bytes, entry_at}
 use Rattle.jc_model.specs.Table.{write_ask}
 use Rattle.jc_stripe.specs.declared.ticket.First.{First}
 use Rattle.jc_stripe.specs.declared.ticket.First.TheVariants.{Nobody, Loader, Writer}
-use Rattle.jc_stripe.specs.State.{State, is_reserved}
+use Rattle.jc_stripe.specs.State.{State, Reserved, is_key, is_reserved, promised}
 
 -- 1. Whom a call asks first.
 
@@ -66,6 +67,25 @@ passes config ContainsKey entry = true
 passes config Get entry = is_some entry || not config.read_through
 passes config op entry = false
 
+-- the load of a reservation, if it asked the loader
+abbrev pub load_of : First → ℕ → Option ℕ
+load_of Nobody number = None
+load_of Loader number = Some number
+load_of (Writer change) number = None
+
+abbrev pub load_at : Option Reserved → Option ℕ
+load_at None = None
+load_at (Some r) = load_of r.first r.number
+
+abbrev pub load_joined : State → Bytes → Op → Option ℕ
+load_joined state key Get =
+    if state.config.read_through && is_none (entry_at state.cache key) then load_at (find (is_key key) state.reservations) else None
+load_joined state key op = None
+
+-- a call that goes on though its key is reserved
+abbrev pub goes_on : State → Bytes → Op → Bool
+goes_on state key op = passes state.config op (entry_at state.cache key) || is_some (load_joined state key op)
+
 abbrev pub places : Bool → ℕ
 places true = 1
 places false = 3
@@ -76,13 +96,17 @@ last_number = 2 ^ 64 - 1
 
 -- the history has these places free, beside those that are promised, and the numbers are not at their end
 abbrev pub has_room : State → ℕ → ℕ → Bool
-has_room state call needed = nat_le (length state.history + state.promised + needed) state.config.history && nat_lt call last_number && nat_lt state.next last_number
+has_room state call needed = nat_le (length state.history + promised state + needed) state.config.history && nat_lt call last_number && nat_lt state.next last_number
 
 -- 3. The refusals, in their order.
 
+-- the call reserves its key
+abbrev pub needs_reservation : State → Bytes → Op → Bool
+needs_reservation state key op = reserves (first_asked state.config op (entry_at state.cache key)) && is_none (load_joined state key op)
+
 abbrev pub first_refusal : State → ℕ → Bytes → Op → Option Refusal
 first_refusal state call key op =
-    let entry = entry_at state.cache key in
-    if not (has_room state call (places (passes state.config op entry))) then Some refusal.HistoryFull
-    else (if is_reserved state key && not (passes state.config op entry) then Some refusal.Busy
-    else (if reserves (first_asked state.config op entry) && nat_le 64 (length state.reservations) then Some refusal.TooManyInFlight else None))
+    if not (has_room state call (places (goes_on state key op))) then Some refusal.HistoryFull
+    else (if is_reserved state key && not (goes_on state key op) then Some refusal.Busy
+    else (if needs_reservation state key op && nat_le 64 (length state.reservations) then Some refusal.TooManyInFlight
+    else (if is_some (load_joined state key op) && nat_le 64 (length state.joiners) then Some refusal.TooManyJoiners else None)))

@@ -1,8 +1,8 @@
 //! The end of a stripe.
 use crate::stripe::Stripe;
-use crate::ticket::{LoadTicket, WriteTicket};
+use crate::ticket::{Join, LoadTicket, WriteTicket};
 
-/// A stripe that is closed: it takes no phase any more, and lets the tickets go that were still out.
+/// A stripe that is closed: it takes no phase any more, and lets the tickets and joins go that were still out.
 #[derive(Drop)]
 pub struct ClosedStripe {
     stripe: Stripe,
@@ -24,5 +24,10 @@ impl ClosedStripe {
     /// Lets a writer's ticket go.
     pub fn end_write(&self, ticket: WriteTicket) {
         ticket.spend();
+    }
+
+    /// Lets a join go.
+    pub fn end_join(&self, join: Join) {
+        join.spend();
     }
 }

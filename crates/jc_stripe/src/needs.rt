@@ -1,16 +1,13 @@
 //! What a call needs of a stripe.
-ghost use Rattle.std.specs.Prelude.{◌≡◌, ◌&&◌, ◌==◌, find, vec_capacity};
-ghost use Rattle.std.specs.List.{list_any};
-ghost use Rattle.jc_stripe.specs.State.{is_key, is_claim, unreserved};
-ghost use Rattle.jc_stripe.specs.Refusals.{passes, places, first_asked, reserves, loader_if, writer_if, writer_for};
+ghost use Rattle.std.specs.Prelude.{◌≡◌, ◌&&◌, Option};
+ghost use Rattle.jc_stripe.specs.Refusals.{passes, places, first_asked, reserves, loader_if, writer_if, writer_for, load_of};
 
-use crate::ticket::{First, Reserved};
+use crate::ticket::First;
 use jc_model::event::{Change, Op, ProcessAnswer};
 use jc_types::config::Config;
-use jc_types::key::Key;
 use jc_types::value::Value;
 
-/// Whether a call goes on though its key is reserved.
+/// Whether a call goes on though its key is reserved, by the cached entry.
 pub(crate) fn does_pass(config: &Config, op: &Op, entry: &Option<Value>) -> bool
     ensures { result ≡ passes config.now op.now entry.now }
 {
@@ -22,10 +19,20 @@ pub(crate) fn does_pass(config: &Config, op: &Op, entry: &Option<Value>) -> bool
 }
 
 /// The free places that a call needs in the history.
-pub(crate) fn places_for(passing: bool) -> usize
-    ensures { result ≡ places passing }
+pub(crate) fn places_for(light: bool) -> usize
+    ensures { result ≡ places light }
 {
-    if passing { 1 } else { 3 }
+    if light { 1 } else { 3 }
+}
+
+/// The load of a reservation, if it asked the loader.
+pub(crate) fn load_in(first: &First, number: u64) -> Option<u64>
+    ensures { result ≡ load_of first.now number }
+{
+    match first {
+        First::Loader => Some(number),
+        _ => None,
+    }
 }
 
 fn loader_where(asked: bool) -> First
@@ -65,29 +72,4 @@ pub(crate) fn does_reserve(first: &First) -> bool
     ensures { result ≡ reserves first.now }
 {
     !matches!(first, First::Nobody)
-}
-
-/// Whether the key is reserved.
-pub(crate) fn has_key(reservations: &[Reserved], key: &Key) -> bool
-    ensures { result ≡ list_any (is_key key.now) reservations.now }
-{
-    reservations.iter().any(|r| *key == r.key)
-}
-
-/// The reservation with this key and number.
-pub(crate) fn find_claimed(reservations: &[Reserved], key: &Key, number: u64) -> Option<Reserved>
-    ensures { result ≡ find (is_claim (record { key = key.now; number = number })) reservations.now }
-{
-    reservations
-        .iter()
-        .copied()
-        .find(|r| *key == r.key && r.number == number)
-}
-
-/// Takes a key's reservation out.
-pub(crate) fn drop_reserved(reservations: &mut Vec<Reserved>, key: &Key)
-    ensures items { reservations.new.items ≡ unreserved key.now reservations.old.items }
-    ensures capacity { vec_capacity reservations.new ≡ vec_capacity reservations.old }
-{
-    reservations.retain(|r| *key != r.key);
 }

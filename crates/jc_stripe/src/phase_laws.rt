@@ -1,5 +1,5 @@
 //! The laws of the phases, over every stripe. Each function does nothing: what it says is its contract.
-ghost use Rattle.jc_stripe.specs.Laws.{StaysReached, IsLegal, Grows, WasFree, Keeps};
+ghost use Rattle.jc_stripe.specs.Laws.{StaysReached, IsLegal, Grows, WasFree, Keeps, KeepsReserved};
 
 /// Whatever phase a stripe makes, it stays as every stripe is: its history is legal from its opening and leaves its entries, its
 /// tables are within their limits, and each reservation still asks what it asked and may still put its step down.
@@ -25,4 +25,9 @@ pub fn was_free()
 /// A call that a reservation of its key does not stop leaves the entry as it is, for the call that has the key reserved.
 pub fn keeps()
     ensures { Keeps }
+{}
+
+/// No phase but a reservation's own commit changes the entry of its key: it is neither evicted nor mutated meanwhile.
+pub fn keeps_reserved()
+    ensures { KeepsReserved }
 {}

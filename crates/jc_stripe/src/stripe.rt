@@ -1,38 +1,42 @@
 //! A stripe and its phases.
-ghost use Rattle.std.specs.Prelude.{◌≡◌, ◌≤◌, ◌<◌, ◌+◌, ◌^◌, ◌-◌, [], true, IsTrue, IfOk, Ok, length};
+ghost use Rattle.std.specs.Prelude.{◌≡◌, ◌≤◌, ◌<◌, ◌+◌, ◌^◌, ◌-◌, [], true, IsTrue, IfOk, IsSome, IsSomeAnd, Ok, None, Some, Option, is_some, length, find, nat_le, slice_get};
 ghost use Rattle.std.specs.FinMap as map;
 ghost use Rattle.jc_types.specs.Limits.{checked};
+ghost use Rattle.jc_model.specs.declared.event.Op.TheVariants.{Get};
 ghost use Rattle.jc_model.specs.Cache.{entry_at};
 ghost use Rattle.jc_model.specs.Listed.{apart};
-ghost use Rattle.jc_model.specs.Table.{answers_fit, new_entry, load_given, write_given};
-ghost use Rattle.jc_model.specs.Group.{load_only, write_only, events_of};
+ghost use Rattle.jc_model.specs.Table.{load_given, write_given};
+ghost use Rattle.jc_model.specs.Group.{load_only, write_only, nothing_said};
 ghost use Rattle.jc_model.specs.Legal.{Legal};
-ghost use Rattle.jc_stripe.specs.State.{is_reserved, reserved, released, claimed, IsOut};
-ghost use Rattle.jc_stripe.specs.Refusals.{has_phases, first_refusal, first_asked};
-ghost use Rattle.jc_stripe.specs.Phases.{MayBegin, group_made, Steps, Begins, Commits};
-ghost use Rattle.jc_stripe.specs.declared.ticket.First.TheVariants.{Loader, Writer};
+ghost use Rattle.jc_inflight.specs.Joined.{is_joined};
+ghost use Rattle.jc_inflight.specs.Taking.{told_to, after_take};
+ghost use Rattle.jc_stripe.specs.Claim.{JoinClaim};
+ghost use Rattle.jc_stripe.specs.State.{is_key, is_reserved, reserved, claimed, promised, IsOut};
+ghost use Rattle.jc_stripe.specs.OrderOfUse.{by_use};
+ghost use Rattle.jc_stripe.specs.Refusals.{has_phases, has_room, goes_on, first_refusal, first_asked, load_at, load_joined, needs_reservation};
+ghost use Rattle.jc_stripe.specs.Putting.{reply_in, SaidFor, ToldStep};
+ghost use Rattle.jc_stripe.specs.Phases.{MayBegin, Steps, Begins, Commits, Withdraws, PicksUp, joined_by};
+ghost use Rattle.jc_stripe.specs.declared.ticket.First.TheVariants.{Nobody, Loader, Writer};
 
-use crate::begun::Begun;
-use crate::entries::Entries;
-use crate::group::put_down;
-use crate::needs::{
-    does_pass, does_reserve, drop_reserved, find_claimed, first_for, has_key, places_for,
-};
-use crate::room::push_in_room;
+use crate::begun::{Begun, Picked};
+use crate::needs::{does_pass, does_reserve, first_for, load_in, places_for};
+use crate::putting::{Putting, keep, put_down};
 use crate::ticket::{
-    Caller, First, LoadDone, LoadTicket, Origin, Reserved, WriteDone, WriteTicket,
+    Caller, First, Join, LoadDone, LoadTicket, Note, Origin, WriteDone, WriteTicket,
 };
+use jc_entries::entries::Entries;
+use jc_history::history::History;
+use jc_inflight::joiner::Taken;
+use jc_inflight::joiners::{JOINERS_MAX, Joiners};
 use jc_model::event::{Change, Event, LoadAnswer, Op, Out, ProcessAnswer, Reply, WriteAnswer};
+use jc_reserve::reservations::{RESERVATIONS_MAX, Reservations};
 use jc_types::config::{Config, Refusal};
 use jc_types::key::Key;
 use jc_types::value::Value;
 use std::alloc::{AllocError, Global};
 use std::marker::Model;
 
-/// The most reservations that are out at once.
-pub const RESERVATIONS_MAX: usize = 64;
-
-/// One stripe of a cache: what is cached, the keys that calls have reserved, and the history.
+/// One stripe of a cache: what is cached, the keys that calls have reserved, who has joined a load, and the history.
 ///
 /// Each of its calls is one phase, and none of them takes memory: all room is made by `new`.
 #[derive(Drop)]
@@ -41,10 +45,9 @@ pub struct Stripe {
     number: usize,
     origin: Origin,
     entries: Entries,
-    reservations: Vec<Reserved>,
-    history: Vec<Event>,
-    promised: usize,
-    next: u64,
+    reservations: Reservations<Note>,
+    joiners: Joiners,
+    history: History,
 }
 
 impl Model for Stripe {
@@ -69,6 +72,39 @@ const NOTHING_SAID: Out = Out {
     process: ProcessAnswer::NotAsked,
 };
 
+/// What the loader alone said.
+fn load_alone(answer: LoadAnswer) -> Out
+    ensures { result ≡ load_only answer }
+{
+    Out {
+        load: answer,
+        write: WriteAnswer::NotAsked,
+        process: ProcessAnswer::NotAsked,
+    }
+}
+
+/// What the writer alone said.
+fn write_alone(answer: WriteAnswer) -> Out
+    ensures { result ≡ write_only answer }
+{
+    Out {
+        load: LoadAnswer::NotAsked,
+        write: answer,
+        process: ProcessAnswer::NotAsked,
+    }
+}
+
+/// The reply of the step at a place.
+fn reply_at(events: &[Event], place: u32) -> Reply
+    requires { IsSome (reply_in (slice_get events.now place)) }
+    ensures { reply_in (slice_get events.now place) ≡ Some result }
+{
+    match events.get(place as usize) {
+        Some(Event::Step { reply, .. }) => *reply,
+        _ => unreachable!(),
+    }
+}
+
 impl Stripe {
     ghost use Rattle.jc_stripe.specs.Reached.{IsReached};
 
@@ -81,125 +117,246 @@ impl Stripe {
         origin: Origin,
     ) -> Result<Self, AllocError>
         requires { checked config.now ≡ Ok tt }
-        ensures { IfOk result (λ s. s ≡ record { config = config.now; number = number; origin = origin; opening = []; cache = map.empty; reservations = []; history = []; promised = 0; next = 0 }) }
+        ensures { IfOk result (λ s. s ≡ record { config = config.now; number = number; origin = origin; opening = []; cache = map.empty; reservations = []; joiners = []; history = []; next = 0 }) }
     {
-        let entries = Entries::with_room(alloc, config.capacity + 1)?;
-        let reservations = Vec::with_capacity(alloc, RESERVATIONS_MAX)?;
-        let history = Vec::with_capacity(alloc, config.history)?;
+        let entries = Entries::new(alloc, config.capacity)?;
+        let reservations = Reservations::new(alloc)?;
+        let joiners = Joiners::new(alloc)?;
+        let history = History::new(alloc, config.history)?;
         Ok(Stripe {
             config: *config,
             number,
             origin,
             entries,
             reservations,
+            joiners,
             history,
-            promised: 0,
-            next: 0,
         })
     }
 
-    /// The first refusal that a call meets here, if any.
-    fn refusal(&self, who: Caller, key: &Key, op: &Op) -> Option<Refusal>
-        ensures { result ≡ first_refusal self.now who.number key.now op.now }
+    /// The key's value, or none.
+    fn entry(&self, key: &Key) -> Option<Value>
+        ensures { result ≡ entry_at self.now.cache key.now }
     {
-        let entry = self.entries.get(key);
-        let passing = does_pass(&self.config, op, &entry);
-        let needed = places_for(passing);
-        let taken = self.history.len() + self.promised;
-        let room = taken + needed <= self.config.history;
-        if !(room && who.number < u64::MAX && self.next < u64::MAX) {
-            return Some(Refusal::HistoryFull);
+        self.entries.peek(key)
+    }
+
+    /// The load of the key's reservation, if the key is reserved and the loader was asked.
+    fn load_of(&self, key: &Key) -> Option<u64>
+        ensures { result ≡ load_at (find (is_key key.now) self.now.reservations) }
+    {
+        let _types: Option<Change> = None;
+        let (number, note) = self.reservations.find(key)?;
+        load_in(&note.first, number)
+    }
+
+    /// The load that a call joins here, if there is one.
+    fn load_joined(&self, key: &Key, op: &Op) -> Option<u64>
+        ensures { result ≡ load_joined self.now key.now op.now }
+    {
+        match op {
+            Op::Get => {
+                if self.config.read_through && self.entry(key).is_none() {
+                    self.load_of(key)
+                } else {
+                    None
+                }
+            }
+            _ => None,
         }
-        if has_key(&self.reservations, key) && !passing {
-            return Some(Refusal::Busy);
-        }
-        let reserving = does_reserve(&first_for(&self.config, op, &entry));
-        if reserving && RESERVATIONS_MAX <= self.reservations.len() {
-            return Some(Refusal::TooManyInFlight);
-        }
-        None
+    }
+
+    /// Whether a call goes on though its key is reserved.
+    fn does_go_on(&self, key: &Key, op: &Op) -> bool
+        ensures { result ≡ goes_on self.now key.now op.now }
+    {
+        let passing = does_pass(&self.config, op, &self.entry(key));
+        let joining = self.load_joined(key, op).is_some();
+        passing || joining
     }
 
     /// Whom a call asks first here.
     fn first(&self, key: &Key, op: &Op) -> First
         ensures { result ≡ first_asked self.now.config op.now (entry_at self.now.cache key.now) }
     {
-        let entry = self.entries.get(key);
-        first_for(&self.config, op, &entry)
+        first_for(&self.config, op, &self.entry(key))
+    }
+
+    /// Whether so many places of the history are free, and the numbers aren't at their end.
+    fn has_room(&self, call: u64, needed: usize) -> bool
+        ensures { result ≡ has_room self.now call needed }
+    {
+        if !self.history.has_room(needed) {
+            return false;
+        }
+        call < u64::MAX && !self.reservations.is_used_up()
+    }
+
+    /// Whether the key is reserved.
+    fn is_reserved(&self, key: &Key) -> bool
+        ensures { result ≡ is_reserved self.now key.now }
+    {
+        self.reservations.is_reserved(key)
+    }
+
+    /// Whether a call reserves its key here.
+    fn needs_reservation(&self, key: &Key, op: &Op) -> bool
+        ensures { result ≡ needs_reservation self.now key.now op.now }
+    {
+        let reserving = does_reserve(&self.first(key, op));
+        reserving && self.load_joined(key, op).is_none()
+    }
+
+    /// Whether no further reservation can be made.
+    fn is_reserving_full(&self) -> bool
+        ensures { result ≡ nat_le 64 (length self.now.reservations) }
+    {
+        RESERVATIONS_MAX <= self.reservations.len()
+    }
+
+    /// Whether no further call can join a load.
+    fn is_joining_full(&self) -> bool
+        ensures { result ≡ nat_le 64 (length self.now.joiners) }
+    {
+        JOINERS_MAX <= self.joiners.len()
+    }
+
+    /// The first refusal that a call meets here, if any.
+    fn refusal(&self, who: Caller, key: &Key, op: &Op) -> Option<Refusal>
+        ensures { result ≡ first_refusal self.now who.number key.now op.now }
+    {
+        let light = self.does_go_on(key, op);
+        if !self.has_room(who.number, places_for(light)) {
+            return Some(Refusal::HistoryFull);
+        }
+        if self.is_reserved(key) && !light {
+            return Some(Refusal::Busy);
+        }
+        if self.needs_reservation(key, op) && self.is_reserving_full() {
+            return Some(Refusal::TooManyInFlight);
+        }
+        if self.load_joined(key, op).is_some() && self.is_joining_full() {
+            return Some(Refusal::TooManyJoiners);
+        }
+        None
     }
 
     /// Reserves a key, and keeps three places of the history free for its commit.
     fn reserve(&mut self, who: Caller, key: &Key, op: &Op, first: First) -> u64
-        requires few { length self.old.reservations < 64 }
-        requires places { length self.old.history + self.old.promised + 3 ≤ self.old.config.history }
-        requires next { self.old.next < 2 ^ 64 - 1 }
+        requires free { first_refusal self.old who.number key.now op.now ≡ None }
+        requires alone { load_joined self.old key.now op.now ≡ None }
+        requires needs { needs_reservation self.old key.now op.now ≡ true }
         requires asks { first_asked self.old.config op.now (entry_at self.old.cache key.now) ≡ first }
         requires begins { MayBegin self.old who.session who.number key.now }
         ensures number { result ≡ self.old.next }
         ensures reserved { self.new ≡ reserved self.old who.session who.number key.now op.now first }
     {
-        // The prover's plan for this body needs the type `Change`, which stands here only inside `First` and `Op`.
         let _types: Option<Change> = None;
-        let number = self.next;
-        push_in_room(
-            &mut self.reservations,
-            Reserved {
-                key: *key,
-                number,
-                session: who.session,
-                call: who.number,
-                op: *op,
-                first,
-            },
-        );
-        self.promised += 3;
-        self.next += 1;
-        number
+        let note = Note {
+            session: who.session,
+            call: who.number,
+            op: *op,
+            first,
+        };
+        let _ = self.history.promise(3);
+        match self.reservations.reserve(key, note) {
+            Some(number) => number,
+            None => unreachable!(),
+        }
     }
 
-    /// Puts a step down.
-    fn finish(&mut self, who: Caller, key: &Key, op: &Op, out: &Out) -> (Reply, u32)
-        requires answers { IsTrue (answers_fit self.old.config op.now (entry_at self.old.cache key.now) out.now) }
-        requires places { let group = group_made self.old.config self.old.cache who.session who.number key.now op.now out.now in
-            length self.old.history + self.old.promised + length (events_of (length self.old.history) group) ≤ self.old.config.history }
-        requires keeps { is_reserved self.old key.now ≡ true → new_entry op.now (entry_at self.old.cache key.now) out.now ≡ entry_at self.old.cache key.now }
+    /// Joins a load, and keeps a place of the history free for the shared step.
+    fn join(&mut self, who: Caller, key: &Key, op: &Op, load: u64) -> Join
+        requires free { first_refusal self.old who.number key.now op.now ≡ None }
+        requires load { load_joined self.old key.now op.now ≡ Some load }
         requires begins { MayBegin self.old who.session who.number key.now }
-        ensures { Steps self.old (group_made self.old.config self.old.cache who.session who.number key.now op.now out.now) result.0 result.1 self.new }
+        ensures join { result ≡ record { session = who.session; call = who.number; key = key.now } }
+        ensures joined { self.new ≡ joined_by self.old (record { session = who.session; call = who.number; key = key.now }) load }
     {
-        put_down(
-            &self.config,
-            &mut self.entries,
-            &mut self.history,
+        let _ = self.history.promise(1);
+        let _ = self.joiners.join(who.session, who.number, key, load);
+        Join::new(who, key)
+    }
+
+    /// Does a call at once that asks nobody.
+    fn finish(&mut self, who: Caller, key: &Key, op: &Op) -> (Reply, u32)
+        requires free { first_refusal self.old who.number key.now op.now ≡ None }
+        requires asks { first_asked self.old.config op.now (entry_at self.old.cache key.now) ≡ Nobody }
+        requires op { IsTrue (has_phases op.now) }
+        requires begins { MayBegin self.old who.session who.number key.now }
+        ensures { Steps self.old who.session who.number key.now op.now nothing_said [] result.0 result.1 self.new }
+    {
+        let kept = places_for(self.does_go_on(key, op));
+        let reply = op.reply(self.entry(key), &NOTHING_SAID);
+        let told = reply;
+        let _ = self.history.promise(kept);
+        let pinned = self.reservations.keys();
+        let (victim, evicted) = keep(&mut self.entries, pinned, key, op, &NOTHING_SAID);
+        let made = Putting {
             who,
-            key,
-            op,
-            out,
-        )
+            key: *key,
+            op: *op,
+            out: NOTHING_SAID,
+            reply,
+            victim,
+            evicted,
+        };
+        let place = put_down(&mut self.history, &self.joiners, None, &made, kept);
+        (told, place)
     }
 
-    /// The reservation with this key and number.
-    fn claimed(&self, key: &Key, number: u64) -> Option<Reserved>
-        ensures found { result ≡ claimed self.now (record { key = key.now; number = number }) }
-        ensures reached { IsReached self.now }
+    /// Ends a reservation, and puts its step down and those of its joiners.
+    fn commit(&mut self, key: &Key, number: u64, out: &Out) -> (Reply, u32)
+        requires out { IsSomeAnd (claimed self.old (record { key = key.now; number = number })) (λ r. SaidFor r.first out.now) }
+        ensures { Commits self.old (record { key = key.now; number = number }) out.now result.0 result.1 self.new }
     {
-        find_claimed(&self.reservations, key, number)
+        let _types: Option<Change> = None;
+        match self.reservations.release(key) {
+            Some((_, note)) => {
+                let kept = 3 + self.joiners.waiting(number) as usize;
+                let reply = note.op.reply(self.entries.peek(key), out);
+                let told = reply;
+                let pinned = self.reservations.keys();
+                let (victim, evicted) = keep(&mut self.entries, pinned, key, &note.op, out);
+                let made = Putting {
+                    who: Caller {
+                        session: note.session,
+                        number: note.call,
+                    },
+                    key: *key,
+                    op: note.op,
+                    out: *out,
+                    reply,
+                    victim,
+                    evicted,
+                };
+                let place = put_down(&mut self.history, &self.joiners, Some(number), &made, kept);
+                let _ = self.joiners.resolve(number, place);
+                (told, place)
+            }
+            None => unreachable!(),
+        }
     }
 
-    /// Ends a key's reservation, and gives its places back.
-    fn release(&mut self, key: &Key)
-        ensures { self.new ≡ released self.old key.now }
+    /// Gives a reservation back.
+    fn give_back(&mut self, key: &Key, number: u64)
+        requires { IsTrue (is_some (claimed self.old (record { key = key.now; number = number }))) }
+        ensures { Withdraws self.old (record { key = key.now; number = number }) self.new }
     {
-        drop_reserved(&mut self.reservations, key);
-        self.promised = 3 * self.reservations.len();
+        let _types: Option<Change> = None;
+        let _ = self.reservations.release(key);
+        let waiting = self.joiners.dissolve(number);
+        self.history.unpromise(3 + waiting as usize);
     }
 
     /// The first phase of a call, on one key.
     ///
-    /// It answers `Done` where nobody is asked, and else reserves the key. It is refused, and nothing is done, where the history
-    /// lacks the places or a number stands at its end (`HistoryFull`), where the key is reserved and the call needs it free
-    /// (`Busy`), and where 64 reservations are out and it needs one (`TooManyInFlight`), tested in this order. A
-    /// `containsKey`, and a `get` that finds the entry or doesn't read through, answer from the entry even while another call has
-    /// the key reserved (JSR 107, "Default Consistency").
+    /// It answers `Done` where nobody is asked, `Joined` where it is a `get` whose key is missing and is being loaded by another
+    /// call, with read-through on, and else reserves the key. It is refused, and nothing is done, where the history lacks the
+    /// places or a number stands at its end (`HistoryFull`), where the key is reserved and the call needs it free (`Busy`), where
+    /// 64 reservations are out and it needs one (`TooManyInFlight`), and where 64 joiners and parked answers are there and it
+    /// would join (`TooManyJoiners`), tested in this order. A `containsKey`, and a `get` that finds the entry or doesn't read
+    /// through, answer from the entry even while another call has the key reserved (JSR 107, "Default Consistency").
     pub fn begin(&mut self, who: Caller, key: &Key, op: &Op) -> Begun
         requires op { IsTrue (has_phases op.now) }
         requires begins { MayBegin self.old who.session who.number key.now }
@@ -208,9 +365,12 @@ impl Stripe {
         if let Some(refusal) = self.refusal(who, key, op) {
             return Begun::Refused(refusal);
         }
+        if let Some(load) = self.load_joined(key, op) {
+            return Begun::Joined(self.join(who, key, op, load));
+        }
         match self.first(key, op) {
             First::Nobody => {
-                let (reply, place) = self.finish(who, key, op, &NOTHING_SAID);
+                let (reply, place) = self.finish(who, key, op);
                 Begun::Done(reply, place)
             }
             First::Loader => {
@@ -227,7 +387,8 @@ impl Stripe {
     }
 
     /// The last phase of a call whose loader was asked: its reservation ends, and its step is put down with the loader's answer.
-    /// A failed load leaves the entry as it was, and is the step's reply.
+    /// A failed load leaves the entry as it was, and is the step's reply. Each that has joined the load and waits shares it: its
+    /// step is put down directly behind, in the order of joining, and its answer is parked until it is picked up.
     pub fn commit_load(&mut self, ticket: LoadTicket, done: LoadDone) -> (Reply, u32)
         requires out { IsOut self.old ticket Loader }
         requires claim { done.claim ≡ ticket }
@@ -237,23 +398,7 @@ impl Stripe {
     {
         let ask = ticket.ask();
         ticket.spend();
-        let answer = done.into_answer();
-        match self.claimed(&ask.key, ask.number) {
-            Some(reserved) => {
-                self.release(&ask.key);
-                let who = Caller {
-                    session: reserved.session,
-                    number: reserved.call,
-                };
-                let out = Out {
-                    load: answer,
-                    write: WriteAnswer::NotAsked,
-                    process: ProcessAnswer::NotAsked,
-                };
-                self.finish(who, &ask.key, &reserved.op, &out)
-            }
-            None => unreachable!(),
-        }
+        self.commit(&ask.key, ask.number, &load_alone(done.into_answer()))
     }
 
     /// The last phase of a call whose writer was asked: its reservation ends, and its step is put down with the writer's report.
@@ -268,27 +413,67 @@ impl Stripe {
     {
         let ask = ticket.ask();
         ticket.spend();
-        let answer = done.into_answer();
-        match self.claimed(&ask.key, ask.number) {
-            Some(reserved) => {
-                self.release(&ask.key);
-                let who = Caller {
-                    session: reserved.session,
-                    number: reserved.call,
-                };
-                let out = Out {
-                    load: LoadAnswer::NotAsked,
-                    write: answer,
-                    process: ProcessAnswer::NotAsked,
-                };
-                self.finish(who, &ask.key, &reserved.op, &out)
-            }
+        self.commit(&ask.key, ask.number, &write_alone(done.into_answer()))
+    }
+
+    /// Gives a loader's ticket back that was never used: nothing is put down, and the entry stays. Each that has joined the load
+    /// and waits is to begin again.
+    pub fn withdraw_load(&mut self, ticket: LoadTicket)
+        requires { IsOut self.old ticket Loader }
+        ensures { Withdraws self.old ticket self.new }
+    {
+        let ask = ticket.ask();
+        ticket.spend();
+        self.give_back(&ask.key, ask.number);
+    }
+
+    /// Gives a writer's ticket back that was never used: nothing is put down, and the entry stays.
+    pub fn withdraw_write(&mut self, ticket: WriteTicket)
+        requires { IsOut self.old ticket.claim (Writer ticket.change) }
+        ensures { Withdraws self.old ticket.claim self.new }
+    {
+        let ask = ticket.ask();
+        ticket.spend();
+        self.give_back(&ask.key, ask.number);
+    }
+
+    /// What a call that has joined a load is told. It is a joiner no more where its load is over.
+    fn take(&mut self, join: &Join) -> Taken
+        requires { is_joined join.now.session join.now.call join.now.key self.old.joiners ≡ true }
+        ensures told { told_to join.now.session join.now.call join.now.key self.old.joiners ≡ Some result }
+        ensures step { ToldStep self.old join.now result }
+        ensures left { self.new ≡ record self.old { joiners = after_take join.now.session join.now.call join.now.key self.old.joiners } }
+    {
+        let who = join.caller();
+        match self.joiners.take(who.session, who.number, &join.key()) {
+            Some(told) => told,
             None => unreachable!(),
+        }
+    }
+
+    /// Takes the answer of the load that a call has joined. Where the load isn't over the join comes back, and nothing changes;
+    /// where it was withdrawn the call is told to begin again.
+    pub fn pick_up(&mut self, join: Join) -> Picked
+        requires { is_joined join.session join.call join.key self.old.joiners ≡ true }
+        ensures { PicksUp self.old join result self.new }
+    {
+        match self.take(&join) {
+            Taken::Answer { place, shared_with } => {
+                join.spend();
+                let reply = reply_at(self.events(), place);
+                Picked::Answer(reply, place, shared_with)
+            }
+            Taken::Again => {
+                join.spend();
+                Picked::Again
+            }
+            Taken::NotYet => Picked::NotYet(join),
         }
     }
 
     /// What is cached: each key once.
     pub fn entries(&self) -> &[(Key, Value)]
+        ensures by_use { result.now ≡ by_use self.now.opening self.now.history }
         ensures cache { map.from_entries result.now ≡ self.now.cache }
         ensures once { IsTrue (apart result.now) }
     {
@@ -301,7 +486,7 @@ impl Stripe {
         ensures legal { Legal self.now.config self.now.opening self.now.history }
         ensures reached { IsReached self.now }
     {
-        &self.history
+        self.history.events()
     }
 }
 

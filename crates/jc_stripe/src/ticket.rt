@@ -1,7 +1,8 @@
 //! What a first phase gives, and what a last phase takes.
 //!
-//! A ticket stands for a reservation. It can't be dropped or copied: it is spent by the one commit that ends its reservation, or
-//! together with its stripe. A done value is what was said outside for one reservation; it is spent by the same commit.
+//! A ticket stands for a reservation. It can't be dropped or copied: it is spent by the one commit or withdrawal that ends its
+//! reservation, or together with its stripe. A done value is what was said outside for one reservation; it is spent by the same
+//! commit. A join stands for a call that shares another call's load: it is spent when its answer is picked up.
 ghost use Rattle.std.specs.Prelude.{◌≡◌};
 ghost use Rattle.jc_stripe.specs.declared.ticket.Origin.TheVariants.{Played};
 
@@ -38,13 +39,9 @@ pub enum First {
     Writer(Change),
 }
 
-/// A key that a call has reserved.
+/// What a stripe notes of a reservation: who reserved the key, for what, and whom it asked first.
 #[derive(Clone, Copy, Debug, PartialEq, Eq)]
-pub struct Reserved {
-    /// The key.
-    pub key: Key,
-    /// The reservation's number. A stripe's numbers rise and are never used again.
-    pub number: u64,
+pub struct Note {
     /// The session that calls.
     pub session: u32,
     /// The call's number.
@@ -160,6 +157,61 @@ impl WriteTicket {
             key: _,
             number: _,
             change: _,
+        } = self;
+    }
+}
+
+/// A call has joined the load of its key, and its answer is to be picked up.
+pub struct Join {
+    session: u32,
+    number: u64,
+    key: Key,
+}
+
+impl Model for Join {
+    ghost use Rattle.jc_stripe.specs.Claim.{JoinClaim};
+
+    ghost Value = { JoinClaim };
+
+    ghost view = { λ j. record { session = j.session; call = j.number; key = j.key } };
+}
+
+impl Join {
+    /// The join of a call.
+    pub(crate) fn new(who: Caller, key: &Key) -> Self
+        ensures { result ≡ record { session = who.session; call = who.number; key = key.now } }
+    {
+        Join {
+            session: who.session,
+            number: who.number,
+            key: *key,
+        }
+    }
+
+    /// The call that has joined.
+    pub fn caller(&self) -> Caller
+        ensures session { result.session ≡ self.now.session }
+        ensures number { result.number ≡ self.now.call }
+    {
+        Caller {
+            session: self.session,
+            number: self.number,
+        }
+    }
+
+    /// The key whose load it has joined.
+    pub fn key(&self) -> Key
+        ensures { result ≡ self.now.key }
+    {
+        self.key
+    }
+
+    /// The join is spent.
+    pub(crate) fn spend(self) {
+        let Join {
+            session: _,
+            number: _,
+            key: _,
         } = self;
     }
 }

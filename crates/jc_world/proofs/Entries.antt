@@ -1,8 +1,9 @@
 -- What a step leaves of each entry, and what of that the store says.
-use Rattle.std.proofs.Common.{◌≡◌, ◌&&◌, ℕ, Bool, true, false, cond, Option, None, Some, refl, sym, ap, ◌∙◌, subst}
+use Rattle.std.proofs.Common.{◌≡◌, ◌==◌, ◌&&◌, ℕ, List, Bool, true, false, cond, Option, None, Some, is_some, is_none, refl, sym, ap, ◌∙◌, subst}
 use Rattle.std.specs.Ordering.{eq_by_cmp}
 use Rattle.std.specs.Cmp.{eq_by_cmp_equiv}
 use Rattle.std.proofs.lemmas.Cmp.{nat_list_cmp_total}
+use Rattle.std.specs.FinMap.{remove, len, get-remove}
 use Rattle.jc_types.specs.declared.config.Config.{Config}
 use Rattle.jc_model.specs.declared.event.Op.{Op}
 use Rattle.jc_model.specs.declared.event.Op.TheVariants.{Get, ContainsKey, Put, GetAndPut, PutIfAbsent, Remove, RemoveIf, GetAndRemove, Replace, ReplaceIf, GetAndReplace, Clear, LoadAll, Invoke}
@@ -14,17 +15,18 @@ use Rattle.jc_model.specs.declared.event.LoadAnswer.TheVariants as load
 use Rattle.jc_model.specs.declared.event.WriteAnswer.TheVariants as write
 use Rattle.jc_model.specs.declared.event.ProcessAnswer.TheVariants as process
 use Rattle.jc_model.specs.declared.event.Reply.{Reply}
-use Rattle.jc_model.specs.Cache.{Bytes, Cache, key_cmp, entry_at}
+use Rattle.jc_model.specs.declared.event.Cause.{Cause}
+use Rattle.jc_model.specs.Cache.{Bytes, Cache, key_cmp, entry_at, with_entry}
 use Rattle.jc_model.specs.Table.{new_entry, write_ask, holds, entry_after, ask_if}
-use Rattle.jc_model.specs.Group.{nothing_said, left_after, write_only, load_only}
+use Rattle.jc_model.specs.Group.{nothing_said, without, evict_own, write_only, load_only}
 use Rattle.jc_model.specs.Lawful.{loads_whole}
 use Rattle.jc_model.specs.Processor.{found_in}
 use Rattle.jc_model.proofs.Lookups.{both, none_is, same_key, get-with_entry}
 use Rattle.jc_stripe.specs.State.{State}
-use Rattle.jc_stripe.specs.Refusals.{first_asked, loader_if, writer_if, passes}
-use Rattle.jc_stripe.specs.Phases.{Steps, group_made, overflows}
+use Rattle.jc_stripe.specs.Refusals.{first_asked, loader_if, writer_if}
+use Rattle.jc_stripe.specs.OrderOfUse.{least_used}
+use Rattle.jc_stripe.specs.Phases.{Steps, group_made, overflows, victim_of}
 use Rattle.jc_stripe.specs.declared.ticket.First.TheVariants.{Nobody, Loader, Writer}
-use Rattle.jc_stripe.proofs.Made.{left-over, left-within}
 use Rattle.jc_world.specs.Premises.{changed_to}
 use Rattle.jc_world.specs.Sound.{Agrees}
 
@@ -39,46 +41,62 @@ tied key = (eq_by_cmp_equiv nat_list_cmp_total).refl key
 
 -- 1. The entries behind the group of a step.
 
--- a key whose group evicts it again was missing before
-came : (a b c : Bool) → (a && b && c) ≡ true → a ≡ true
+-- nothing agrees with every store
+gone_agrees : (b : Bool) (entry stored : Option Bytes) → Agrees entry stored → Agrees (cond b None entry) stored
+gone_agrees true entry stored h = tt
+gone_agrees false entry stored h = h
+
+-- where an entry goes, the others agree as before
+agrees_removed : (cache : Cache) (key q : Bytes) (stored : Option Bytes) → Agrees (entry_at cache q) stored → Agrees (entry_at (remove cache key) q) stored
+agrees_removed cache key q stored h = let P : Option Bytes → Type 0 = λ o. Agrees o stored in subst P (sym (get-remove nat_list_cmp_total cache key q)) (gone_agrees (eq_by_cmp key_cmp q key) _ stored h)
+
+-- also where it is a group's victim
+agrees_without : (cache : Cache) (victim : Option Bytes) (q : Bytes) (stored : Option Bytes) → Agrees (entry_at cache q) stored → Agrees (entry_at (without cache victim) q) stored
+agrees_without cache None q stored h = h
+agrees_without cache (Some key) q stored h = agrees_removed cache key q stored h
+
+-- or the step's own
+agrees_evicted : (cache : Cache) (key : Bytes) (cause : Option Cause) (q : Bytes) (stored : Option Bytes) → Agrees (entry_at cache q) stored → Agrees (entry_at (evict_own cache key cause) q) stored
+agrees_evicted cache key None q stored h = h
+agrees_evicted cache key (Some cause) q stored h = agrees_removed cache key q stored h
+
+-- nothing is nothing, on a condition too
+none_if : (b : Bool) (entry : Option Bytes) → entry ≡ None → cond b None entry ≡ entry
+none_if true entry h = sym h
+none_if false entry h = refl
+
+-- a step that has a victim finds its key missing, so it finds without the victim what it found with it
+found_without : (cache : Cache) (key : Bytes) (b : Bool) (victim : Option Bytes) → (b ≡ true → entry_at cache key ≡ None) → entry_at (without cache (cond b victim None)) key ≡ entry_at cache key
+found_without cache key false victim h = refl
+found_without cache key true None h = refl
+found_without cache key true (Some other) h = get-remove nat_list_cmp_total cache other key ∙ none_if (eq_by_cmp key_cmp key other) (entry_at cache key) (h refl)
+
+-- a step that inserts into a full stripe finds its key missing
+came : (a b c : Bool) → ((a && b) && c) ≡ true → a ≡ true
 came a b c h = (both a b ((both (a && b) c h).0)).0
 
--- what is left of each entry agrees with what is stored, where the step's own entry and the old ones do
-agrees_left : (config : Config) (cache : Cache) (session call : ℕ) (key : Bytes) (op : Op) (out : Out) (q : Bytes) (stored : Option Bytes) (b : Bool) → overflows config cache key op out ≡ b
-    → Agrees (cond (eq_by_cmp key_cmp q key) (new_entry op (entry_at cache key) out) (entry_at cache q)) stored → Agrees (entry_at (left_after cache (group_made config cache session call key op out)) q) stored
-agrees_left config cache session call key op out q stored true over h =
-    let P : Option Bytes → Type 0 = λ o. Agrees o stored in
-    let gone : entry_at cache key ≡ None = none_is _ (came _ _ _ over) in
-    subst P (sym (ap (λ c. entry_at c q) (left-over config cache session call key op out over)))
-    (split q key (λ b. Agrees (cond b (new_entry op (entry_at cache key) out) (entry_at cache q)) stored → Agrees (entry_at cache q) stored)
-    (λ same h. subst P (sym (ap (entry_at cache) same ∙ gone)) tt)
-    (λ apart h. h) h)
-agrees_left config cache session call key op out q stored false within h =
-    let P : Option Bytes → Type 0 = λ o. Agrees o stored in
-    subst P (sym (ap (λ c. entry_at c q) (left-within config cache session call key op out within) ∙ get-with_entry cache key (new_entry op (entry_at cache key) out) q)) h
+-- what the step finds at its key
+found_before : (s : State) (key : Bytes) (op : Op) (out : Out) → entry_at (without s.cache (victim_of s key op out)) key ≡ entry_at s.cache key
+found_before s key op out =
+    found_without s.cache key (overflows s key op out) (least_used s)
+    (λ over. none_is (entry_at s.cache key) (came (is_none (entry_at s.cache key)) (is_some (new_entry op (entry_at s.cache key) out)) (len s.cache == s.config.capacity) over))
 
 -- a step's entries agree with what is stored where its own and the others' do
-pub agrees_stepped : (old new : State) (session call : ℕ) (key : Bytes) (op : Op) (out : Out) (reply : Reply) (place : ℕ) (q : Bytes) (stored : Option Bytes) → Steps old (group_made old.config old.cache session call key op out) reply place new
+pub agrees_stepped : (old new : State) (session call : ℕ) (key : Bytes) (op : Op) (out : Out) (callers : List (ℕ × ℕ)) (reply : Reply) (place : ℕ) (q : Bytes) (stored : Option Bytes) → Steps old session call key op out callers reply place new
     → Agrees (cond (eq_by_cmp key_cmp q key) (new_entry op (entry_at old.cache key) out) (entry_at old.cache q)) stored → Agrees (entry_at new.cache q) stored
-agrees_stepped old new session call key op out reply place q stored steps h =
+agrees_stepped old new session call key op out callers reply place q stored steps h =
     let P : State → Type 0 = λ s. Agrees (entry_at s.cache q) stored in
-    subst P (sym steps.goes_on) (agrees_left old.config old.cache session call key op out q stored (overflows old.config old.cache key op out) refl h)
-
--- an entry is kept where it is not the step's own, or the step leaves it
-kept_left : (config : Config) (cache : Cache) (session call : ℕ) (key : Bytes) (op : Op) (out : Out) (q : Bytes) (b : Bool) → overflows config cache key op out ≡ b
-    → (q ≡ key → new_entry op (entry_at cache key) out ≡ entry_at cache key) → entry_at (left_after cache (group_made config cache session call key op out)) q ≡ entry_at cache q
-kept_left config cache session call key op out q true over same = ap (λ c. entry_at c q) (left-over config cache session call key op out over)
-kept_left config cache session call key op out q false within same =
-    ap (λ c. entry_at c q) (left-within config cache session call key op out within)
-    ∙ get-with_entry cache key (new_entry op (entry_at cache key) out) q
-    ∙ split q key (λ b. cond b (new_entry op (entry_at cache key) out) (entry_at cache q) ≡ entry_at cache q) (λ e. same e ∙ ap (entry_at cache) (sym e)) (λ e. refl)
-
--- a step keeps the entry of a key that is not its own, or whose entry it leaves
-pub kept_stepped : (old new : State) (session call : ℕ) (key : Bytes) (op : Op) (out : Out) (reply : Reply) (place : ℕ) (q : Bytes) → Steps old (group_made old.config old.cache session call key op out) reply place new
-    → (q ≡ key → new_entry op (entry_at old.cache key) out ≡ entry_at old.cache key) → entry_at new.cache q ≡ entry_at old.cache q
-kept_stepped old new session call key op out reply place q steps same =
-    ap (λ (s : State). entry_at s.cache q) steps.goes_on
-    ∙ kept_left old.config old.cache session call key op out q (overflows old.config old.cache key op out) refl same
+    let Q : Option Bytes → Type 0 = λ o. Agrees o stored in
+    let group = group_made old session call key op out callers steps.short in
+    let left : Cache = without old.cache (victim_of old key op out) in
+    let found = found_before old key op out in
+    let made : Agrees (cond (eq_by_cmp key_cmp q key) (new_entry op (entry_at left key) out) (entry_at left q)) stored =
+    split q key (λ b. Agrees (cond b (new_entry op (entry_at old.cache key) out) (entry_at old.cache q)) stored → Agrees (cond b (new_entry op (entry_at left key) out) (entry_at left q)) stored)
+    (λ same h. subst Q (ap (λ e. new_entry op e out) (sym found)) h)
+    (λ apart h. agrees_without old.cache (victim_of old key op out) q stored h) h
+    in
+    subst P (sym steps.goes_on)
+    (agrees_evicted (with_entry left key (new_entry op (entry_at left key) out)) key group.evicted q stored (subst Q (sym (get-with_entry left key (new_entry op (entry_at left key) out) q)) made))
 
 -- 2. The tables: what a write leaves is what was asked for.
 
@@ -196,9 +214,3 @@ pub asks_nobody : (config : Config) (op : Op) (entry stored : Option Bytes) → 
 asks_nobody config Get entry stored on h kept = kept
 asks_nobody config (LoadAll replace) entry stored on h kept = kept
 asks_nobody config op entry stored on h kept = keeps op entry stored (unasked config.write_through (write_ask op entry process.NotAsked) h on) kept
-
--- what passes keeps the entry  -- also a law of jc_stripe
-pub passing_keeps : (config : Config) (op : Op) (entry : Option Bytes) → passes config op entry ≡ true → new_entry op entry nothing_said ≡ entry
-passing_keeps config Get entry h = refl
-passing_keeps config ContainsKey entry h = refl
-passing_keeps config op entry h = cc

@@ -1,4 +1,4 @@
--- What is true of a world, in two halves: what its order and its calls say, and what its parts and its store say.
+-- What is true of a world, in three parts: what its order and its calls say, what its parts and its store say, and what its joins say.
 use Rattle.std.proofs.Common.{◌≡◌, ℕ, [], Bool, true, false, Option, None, Some, IsSomeAnd, slice_get}
 use Rattle.std.specs.List.{list_all}
 use Rattle.std.specs.FinMap.{get}
@@ -8,13 +8,13 @@ use Rattle.jc_stripe.specs.State.{State}
 use Rattle.jc_world.specs.declared.event.Part.{Part}
 use Rattle.jc_world.specs.World.{WorldState, stripe_for, cached}
 use Rattle.jc_world.specs.Coherent.{all_hold}
-use Rattle.jc_world.specs.Sound.{IsShaped, number_up_to, CallsFit, IsHeld, AllOwned, KeyTold, IsSoundWorld}
+use Rattle.jc_world.specs.Sound.{IsShaped, number_up_to, CallsFit, IsHeld, AllOwned, AllWaitedFor, joined_once, AllCalled, KeyTold, IsSoundWorld}
 
 pub record HasOrder (w : WorldState) : Type 0 where
   pub shape : IsShaped w
   pub order : in_order w.order ≡ true
   pub numbers : list_all (number_up_to w.last) w.order ≡ true
-  pub calls : CallsFit w.last w.order w.calls
+  pub calls : CallsFit w w.calls
   pub owned : (number : ℕ) (s : State) → slice_get w.stripes number ≡ Some s → AllOwned w s.reservations
 
 pub record HasParts (w : WorldState) : Type 0 where
@@ -23,5 +23,24 @@ pub record HasParts (w : WorldState) : Type 0 where
   pub fresh : w.fresh ≡ true → (key : Bytes) → (cached w key ≡ None) × (get w.parts key ≡ None)
   pub idle : w.fresh ≡ true → w.calls ≡ []
 
-pub sound : (w : WorldState) → HasOrder w → HasParts w → IsSoundWorld w
-sound w o p = record { shape = o.shape; order = o.order; numbers = o.numbers; calls = o.calls; held = p.held; owned = o.owned; told = p.told; fresh = p.fresh; idle = p.idle }
+pub record HasJoins (w : WorldState) : Type 0 where
+  pub joins : AllWaitedFor w w.joins
+  pub once : joined_once w.joins ≡ true
+  pub called : (number : ℕ) (s : State) → slice_get w.stripes number ≡ Some s → AllCalled w number s.joiners
+  pub alone : w.fresh ≡ true → w.joins ≡ []
+
+pub sound : (w : WorldState) → HasOrder w → HasParts w → HasJoins w → IsSoundWorld w
+sound w o p j = record {
+  shape = o.shape;
+  order = o.order;
+  numbers = o.numbers;
+  calls = o.calls;
+  held = p.held;
+  owned = o.owned;
+  joins = j.joins;
+  once = j.once;
+  called = j.called;
+  told = p.told;
+  fresh = p.fresh;
+  idle = λ f. (p.idle f, j.alone f);
+}

@@ -22,11 +22,13 @@ use Rattle.jc_model.specs.Table.{new_entry, write_ask, holds, load_given, write_
 use Rattle.jc_model.specs.Group.{nothing_said, write_only}
 use Rattle.jc_model.specs.Processor.{found_in}
 use Rattle.jc_model.proofs.Lookups.{both, same_key, get-with_entry}
-use Rattle.jc_stripe.specs.Claim.{Claim, WriteClaim}
-use Rattle.jc_stripe.specs.State.{State, claimed, is_claim, released, is_reserved}
-use Rattle.jc_stripe.specs.Phases.{Begins, Commits, Steps, group_made}
+use Rattle.jc_inflight.specs.Joined.{callers_of}
+use Rattle.jc_stripe.specs.Claim.{Claim, WriteClaim, JoinClaim}
+use Rattle.jc_stripe.specs.State.{State, Reserved, claimed, is_claim, released, unreserved, is_reserved}
+use Rattle.jc_stripe.specs.Phases.{Begins, Commits, Withdraws, PicksUp, Steps, settled}
+use Rattle.jc_stripe.specs.Reached.{IsReached}
+use Rattle.jc_stripe.specs.Laws.{KeepsReserved}
 use Rattle.jc_stripe.specs.declared.begun.Begun.TheVariants as begun
-use Rattle.jc_stripe.specs.declared.ticket.Reserved.{Reserved}
 use Rattle.jc_stripe.specs.declared.ticket.First.{First}
 use Rattle.jc_stripe.specs.declared.ticket.First.TheVariants.{Nobody, Loader, Writer}
 use Rattle.jc_world.specs.declared.event.Command.{Command}
@@ -36,15 +38,16 @@ use Rattle.jc_world.specs.declared.event.Premises.{Premises}
 use Rattle.jc_world.specs.declared.event.Shown.{Shown}
 use Rattle.jc_world.specs.declared.event.Shown.TheVariants as shown
 use Rattle.jc_world.specs.declared.event.WorldEvent.TheVariants as event
-use Rattle.jc_world.specs.World.{WorldState, Parts, home, stripe_for, cached, entry_in, empty_stripes, start, under, over, of_call, part_of, asks_loader, asks_writer, waits_for_load, waits_for_report, is_answered, claim_of, out_of, has_number, with_stored}
+use Rattle.jc_world.specs.World.{WorldState, Parts, home, stripe_for, cached, entry_in, empty_stripes, start, under, over, of_call, part_of, asks_loader, asks_writer, waits_for_load, waits_for_report, is_answered, is_untouched, join_of, is_joined, unjoined, claim_of, out_of, has_number, with_stored}
 use Rattle.jc_world.specs.Premises.{changed_to, is_true_load, is_done, is_true_report, disturbed, premises_hold}
-use Rattle.jc_world.specs.Events.{fits, may_start, answered, changed, reported, new_part, with_stripe, goes_on, call_over, with_part, Starts, Ends}
+use Rattle.jc_world.specs.Events.{fits, is_free, may_start, may_leave, answered, changed, reported, new_part, with_stripe, goes_on, call_over, with_part, without_part, with_join, without_join, Starts, Ends, Picks}
 use Rattle.jc_world.specs.Coherent.{Coherent, is_changed, all_hold}
 use Rattle.jc_world.specs.Sound.{KindFits, IsHeld, Agrees, IsTold, KeyTold, WrittenFor, IsSoundWorld}
 use Rattle.jc_world.proofs.Halves.{HasParts}
 use Rattle.jc_world.proofs.Places.{at_stripe, stripe_put, home_stripe, found_number, under_left, under_more}
-use Rattle.jc_world.proofs.Reservations.{found_more, out_reserved, passed, was_free, new_out, found_left}
-use Rattle.jc_world.proofs.Entries.{split, tied, agrees_stepped, kept_stepped, writes, loads_asked, writes_asked, loads, asks_nobody, passing_keeps}
+use Rattle.jc_world.proofs.Reservations.{found_more, out_reserved, was_free, writer_alone, new_out, found_left}
+use Rattle.jc_world.proofs.Entries.{split, tied, agrees_stepped, writes, loads_asked, writes_asked, loads, asks_nobody}
+use Rattle.jc_world.proofs.Callers.{Picking, picking}
 
 -- 1. Small facts.
 
@@ -216,7 +219,7 @@ none_under call calls u none h = let e : None ≡ Some u = ap (find (has_number 
 
 -- a call is under way, so the world is not fresh
 begun_before : (w : WorldState) (call : ℕ) (u : Under) → under w call ≡ Some u → IsSoundWorld w → w.fresh ≡ true → ⊥
-begun_before w call u is old fresh = none_under call w.calls u (old.idle fresh) is
+begun_before w call u is old fresh = none_under call w.calls u (old.idle fresh).0 is
 
 -- all stripes have the configuration of the world
 config_at : (w : WorldState) (number : ℕ) (s : State) → slice_get w.stripes number ≡ Some s → IsSoundWorld w → s.config ≡ w.config
@@ -292,7 +295,7 @@ parts_answered w call key part answer is waits old =
           let one = told_at (get w.parts key) part (entry_at w.store key) (cached w key) there (all key) in
           told_insert n w.parts w.store key new all (record { loaded = true_found answer _ hold.1; written = one.written; unwritten = one.unwritten; honest = one.honest });
       fresh = λ f. absurd (worn w key part there old f);
-      idle = old.idle;
+      idle = λ f. (old.idle f).0;
     }
 
 -- the writer has changed the store
@@ -321,7 +324,7 @@ parts_changed w call key part change is asks waits old =
           })
           (λ apart. old.told h q)));
       fresh = λ f. absurd (worn w key part there old f);
-      idle = old.idle;
+      idle = λ f. (old.idle f).0;
     }
 
 -- the writer has returned
@@ -340,7 +343,7 @@ parts_reported w call key part report is waits old =
           let one = told_at (get w.parts key) part (entry_at w.store key) (cached w key) there (all key) in
           told_insert n w.parts w.store key new all (record { loaded = one.loaded; written = one.written; unwritten = one.unwritten; honest = λ e. alike_same part.is_changed (is_done report) hold.1 });
       fresh = λ f. absurd (worn w key part there old f);
-      idle = old.idle;
+      idle = λ f. (old.idle f).0;
     }
 
 -- somebody else has written the store
@@ -358,7 +361,7 @@ parts_stored w key value new old = record {
   held = held_aside w (with_entry w.store key (Some value)) w.fresh w.parts w.premises old;
   told = λ h q. told_none (get w.parts q) (entry_at (with_entry w.store key (Some value)) q) (cached w q) (old.fresh new q).1 (old.fresh new q).0;
   fresh = old.fresh;
-  idle = old.idle;
+  idle = λ f. (old.idle f).0;
 }
 
 -- 5. A world that begins, and a call that does.
@@ -427,15 +430,18 @@ left_under w call u q p is e old own = under_left p.call call (IsOn q) w.calls (
 -- the call has no part at its key before its first phase
 none_before : (w : WorldState) (call : ℕ) (key : Bytes) (u : Under) → fits w (event.Start call key) ≡ true → under w call ≡ Some u → is_none (part_of w call u.command.key) ≡ true
 none_before w call key u fit is =
-    let parts = both (pointwise ◌==◌ key u.command.key) (is_none (part_of w call key)) (sym (ap (may_start w call key) is) ∙ fit) in
-    ap (λ k. is_none (part_of w call k)) (sym (same_key key u.command.key (sym (texts_ties key u.command.key) ∙ parts.0))) ∙ parts.1
+    let parts = both (pointwise ◌==◌ key u.command.key) (is_free w call key) (sym (ap (may_start w call key) is) ∙ fit) in
+    ap (λ k. is_none (part_of w call k)) (sym (same_key key u.command.key (sym (texts_ties key u.command.key) ∙ parts.0))) ∙ (both (is_none (part_of w call key)) (not (is_joined w call key)) parts.1).0
 
--- all parts stay, where the first phase is the last
+-- all parts stay, where a call without a part is over
+over_free : (w : WorldState) (call : ℕ) (u : Under) → under w call ≡ Some u → is_none (part_of w call u.command.key) ≡ true → IsSoundWorld w → StayUnder w.parts (over call w.calls)
+over_free w call u is none old q p e = left_under w call u q p is e old (λ same. other_call (get w.parts q) call p e (ap (λ k. is_none (part_of w call k)) same ∙ none))
+
+-- so where the first phase is the last
 over_started : (w : WorldState) (call : ℕ) (key : Bytes) (u : Under) → fits w (event.Start call key) ≡ true → under w call ≡ Some u → IsSoundWorld w → StayUnder w.parts (over u.number w.calls)
-over_started w call key u fit is old q p e =
-    let P : ℕ → Type 0 = λ n. IsSomeAnd (find (has_number p.call) (over n w.calls)) (IsOn q) in
-    subst P (sym (found_number call w.calls u is))
-    (left_under w call u q p is e old (λ same. other_call (get w.parts q) call p e (ap (λ k. is_none (part_of w call k)) same ∙ none_before w call key u fit is)))
+over_started w call key u fit is old =
+    let P : ℕ → Type 0 = λ n. StayUnder w.parts (over n w.calls) in
+    subst P (sym (found_number call w.calls u is)) (over_free w call u is (none_before w call key u fit is) old)
 
 -- a commit's call has no part but the one that goes
 over_ended : (w : WorldState) (call : ℕ) (key : Bytes) (part : Part) → part_of w call key ≡ Some part → IsSoundWorld w
@@ -467,18 +473,13 @@ parts_refused w call u is stay old = record {
 }
 
 -- a step was put down
-held_stepped : (w n : WorldState) (u : Under) (from next : State) (reply : Reply) (place : ℕ) (q : Bytes) (p : Part) → Begins from u.session u.number u.command.key u.command.op (begun.Done reply place) next
+held_stepped : KeepsReserved → (w n : WorldState) (u : Under) (from next : State) (reply : Reply) (place : ℕ) (q : Bytes) (p : Part) → IsReached from → Begins from u.session u.number u.command.key u.command.op (begun.Done reply place) next
     → IsSomeAnd (under n p.call) (IsOn q) → IsHeld w from q p → IsHeld n next q p
-held_stepped w n u from next reply place q p begins call h =
-    let steps = begins.2 in
-    let key = u.command.key in
-    let op = u.command.op in
-    let there = is_out_reserved w from q p h in
+held_stepped kept w n u from next reply place q p reached begins call h =
     let R : List Reserved → Type 0 = λ rs. IsSomeAnd (find (is_claim (claim_of q p)) rs) (IsFor p) in
     held_on w n from next q p
-    (kept_stepped from next u.session u.number key op nothing_said reply place q steps
-    (λ same. passing_keeps from.config op (entry_at from.cache key) (passed from u.number key op begins.0 (ap (is_reserved from) (sym same) ∙ there))))
-    (subst R (sym (ap (λ (s : State). s.reservations) steps.goes_on)) h.out) call h
+    (kept.begins from next u.session u.number u.command.key u.command.op (begun.Done reply place) q reached begins (is_out_reserved w from q p h))
+    (subst R (sym (ap (λ (s : State). s.reservations) begins.2.goes_on)) h.out) call h
 
 -- and the entries that agreed with the store do so still
 agrees_begun : (u : Under) (from next : State) (reply : Reply) (place : ℕ) (q : Bytes) (stored : Option Bytes) → Begins from u.session u.number u.command.key u.command.op (begun.Done reply place) next
@@ -486,22 +487,22 @@ agrees_begun : (u : Under) (from next : State) (reply : Reply) (place : ℕ) (q 
 agrees_begun u from next reply place q stored begins on agrees =
     let key = u.command.key in
     let op = u.command.op in
-    agrees_stepped from next u.session u.number key op nothing_said reply place q stored begins.2
+    agrees_stepped from next u.session u.number key op nothing_said [] reply place q stored begins.2
     (split q key (λ b. Agrees (cond b (new_entry op (entry_at from.cache key) nothing_said) (entry_at from.cache q)) stored)
     (λ same. asks_nobody from.config op (entry_at from.cache key) stored on begins.1 (let P : Bytes → Type 0 = λ k. Agrees (entry_at from.cache k) stored in subst P same agrees))
     (λ apart. agrees))
 
 -- so the parts and the store say what they said
-parts_stepped : (w : WorldState) (call : ℕ) (u : Under) (from next : State) (order : List Event) (reply : Reply) (place : ℕ) → under w call ≡ Some u → StayUnder w.parts (over u.number w.calls) → stripe_for w u.command.key ≡ Some from
+parts_stepped : KeepsReserved → (w : WorldState) (call : ℕ) (u : Under) (from next : State) (order : List Event) (reply : Reply) (place : ℕ) → under w call ≡ Some u → StayUnder w.parts (over u.number w.calls) → stripe_for w u.command.key ≡ Some from
     → Begins from u.session u.number u.command.key u.command.op (begun.Done reply place) next → IsSoundWorld w
     → HasParts (record w { stripes = slice_set w.stripes (home w u.command.key) next; order = order; calls = over u.number w.calls })
-parts_stepped w call u from next order reply place is stay at begins old =
+parts_stepped kept w call u from next order reply place is stay at begins old =
     let key = u.command.key in
     let n : WorldState = record w { stripes = slice_set w.stripes (home w key) next; order = order; calls = over u.number w.calls } in
     record {
       held = λ q p e.
           at_stripe w.stripes (home w key) (home w q) from next (λ o x. HeldIn w o q p → HeldIn n x q p) at
-          (λ h. held_stepped w n u from next reply place q p begins (stay q p e) h)
+          (λ h. held_stepped kept w n u from next reply place q p (old.shape.each (home w key) from at).reached begins (stay q p e) h)
           (held_still w n (stripe_for w q) q p (stay q p e))
           (old.held q p e);
       told = λ hold q.
@@ -582,10 +583,10 @@ parts_loads w call u from next ticket is at begins old =
     let r : Reserved = record { key = key; number = from.next; session = u.session; call = u.number; op = u.command.op; first = Loader } in
     let part = new_part u ticket.number Loader in
     let n = with_part (with_stripe w key next) key part in
-    let free = was_free from u.number key u.command.op Loader begins.0 begins.1 refl in
-    let reservations = ap (λ (s : State). s.reservations) begins.3 in
-    parts_reserving w key from next r part at free reservations (ap (λ (s : State). s.cache) begins.3)
-    (held_new w n u from next Loader ticket.number free (ap (λ (t : Claim). t.number) begins.2) reservations (loads_asked from.config u.command.op (entry_at from.cache key) begins.1, refl, refl) (own_call w call u is))
+    let free = was_free from u.number key u.command.op Loader begins.0 begins.1 begins.2 refl in
+    let reservations = ap (λ (s : State). s.reservations) begins.4 in
+    parts_reserving w key from next r part at free reservations (ap (λ (s : State). s.cache) begins.4)
+    (held_new w n u from next Loader ticket.number free (ap (λ (t : Claim). t.number) begins.3) reservations (loads_asked from.config u.command.op (entry_at from.cache key) begins.2, refl, refl) (own_call w call u is))
     refl refl refl (begun_before w call u is old) old
 
 -- the key is reserved, and the writer is asked
@@ -597,7 +598,7 @@ parts_asks w call u from next ticket change is at begins old =
     let r : Reserved = record { key = key; number = from.next; session = u.session; call = u.number; op = op; first = Writer change } in
     let part = new_part u ticket.claim.number (Writer change) in
     let n = with_part (with_stripe w key next) key part in
-    let free = was_free from u.number key op (Writer change) begins.0 begins.1 refl in
+    let free = was_free from u.number key op (Writer change) begins.0 (writer_alone from key op change begins.1) begins.1 refl in
     let reservations = ap (λ (s : State). s.reservations) begins.3 in
     let cache = ap (λ (s : State). s.cache) begins.3 in
     parts_reserving w key from next r part at free reservations cache
@@ -605,15 +606,39 @@ parts_asks w call u from next ticket change is at begins old =
     (ap (λ c. write_ask op (entry_at c key) process.NotAsked) cache ∙ writes_asked from.config op (entry_at from.cache key) change begins.1, refl) (own_call w call u is))
     refl refl refl (begun_before w call u is old) old
 
+-- a stripe is another, whose entries and reservations are the same
+parts_aside : (w : WorldState) (key : Bytes) (from next : State) (calls : List Under) (joins : List JoinClaim) → stripe_for w key ≡ Some from → next.cache ≡ from.cache → next.reservations ≡ from.reservations → StayUnder w.parts calls → (w.fresh ≡ true → ⊥) → IsSoundWorld w
+    → HasParts (record w { stripes = slice_set w.stripes (home w key) next; calls = calls; joins = joins })
+parts_aside w key from next calls joins at cache reservations stay used old =
+    let n : WorldState = record w { stripes = slice_set w.stripes (home w key) next; calls = calls; joins = joins } in
+    record {
+      held = λ q p e.
+          at_stripe w.stripes (home w key) (home w q) from next (λ o x. HeldIn w o q p → HeldIn n x q p) at
+          (λ h. let R : List Reserved → Type 0 = λ rs. IsSomeAnd (find (is_claim (claim_of q p)) rs) (IsFor p) in held_on w n from next q p (ap (λ c. entry_at c q) cache) (subst R (sym reservations) h.out) (stay q p e) h)
+          (held_still w n (stripe_for w q) q p (stay q p e))
+          (old.held q p e);
+      told = λ hold q.
+          at_stripe w.stripes (home w key) (home w q) from next (λ o x. KeyTold (get w.parts q) (entry_at w.store q) (entry_in o q) → KeyTold (get w.parts q) (entry_at w.store q) (entry_in x q)) at
+          (let C : Cache → Type 0 = λ c. KeyTold (get w.parts q) (entry_at w.store q) (entry_at c q) in λ h. subst C (sym cache) h)
+          (λ h. h)
+          (old.told hold q);
+      fresh = λ f. absurd (used f);
+      idle = λ f. absurd (used f);
+    }
+
 -- the first phase of a call
-pub parts_started : (w new : WorldState) (call : ℕ) (key : Bytes) (u : Under) (from to : State) (seen : Shown) → fits w (event.Start call key) ≡ true → under w call ≡ Some u → stripe_for w u.command.key ≡ Some from
+pub parts_started : KeepsReserved → (w new : WorldState) (call : ℕ) (key : Bytes) (u : Under) (from to : State) (seen : Shown) → fits w (event.Start call key) ≡ true → under w call ≡ Some u → stripe_for w u.command.key ≡ Some from
     → Starts w u from to seen new → IsSoundWorld w → HasParts new
-parts_started w new call key u from to (shown.Refused refusal) fit is at (begins, leaves) old = subst HasParts (sym leaves) (parts_refused w call u is (over_started w call key u fit is old) old)
-parts_started w new call key u from to (shown.Stepped seen) fit is at (begins, shows, leaves) old =
-    subst HasParts (sym leaves) (parts_stepped w call u from to (goes_on w u.command.key from to).order seen.reply seen.place is (over_started w call key u fit is old) at begins old)
-parts_started w new call key u from to shown.Loads fit is at (ticket, begins, leaves) old = subst HasParts (sym leaves) (parts_loads w call u from to ticket is at begins old)
-parts_started w new call key u from to (shown.Asks change) fit is at (ticket, begins, leaves) old = subst HasParts (sym leaves) (parts_asks w call u from to ticket change is at begins old)
-parts_started w new call key u from to seen fit is at h old = absurd h
+parts_started kept w new call key u from to (shown.Refused refusal) fit is at (begins, leaves) old = subst HasParts (sym leaves) (parts_refused w call u is (over_started w call key u fit is old) old)
+parts_started kept w new call key u from to (shown.Stepped seen) fit is at (begins, shows, leaves) old =
+    subst HasParts (sym leaves) (parts_stepped kept w call u from to (goes_on w u.command.key from to).order seen.reply seen.place is (over_started w call key u fit is old) at begins old)
+parts_started kept w new call key u from to shown.Loads fit is at (ticket, begins, leaves) old = subst HasParts (sym leaves) (parts_loads w call u from to ticket is at begins old)
+parts_started kept w new call key u from to (shown.Asks change) fit is at (ticket, begins, leaves) old = subst HasParts (sym leaves) (parts_asks w call u from to ticket change is at begins old)
+parts_started kept w new call key u from to shown.Joins fit is at (join, begins, leaves) old =
+    let load = begins.1 in
+    subst HasParts (sym leaves)
+    (parts_aside w u.command.key from to w.calls (w.joins ++ join ∷ []) at (ap (λ (s : State). s.cache) load.3) (ap (λ (s : State). s.reservations) load.3) (under_at w old) (begun_before w call u is old) old)
+parts_started kept w new call key u from to seen fit is at h old = absurd h
 
 -- 8. The last phase.
 
@@ -639,40 +664,46 @@ agrees_ended (Writer change) part entry stored is kind answered h =
     subst P (sym kind.1) (agrees_written part.op entry stored change part.report part.is_changed kind.0 answered (λ e. subst W is (h.written e)) h.unwritten (h.honest answered))
 
 -- a commit keeps the reservations of the other keys, and their entries
-held_ended : (w n : WorldState) (key : Bytes) (r : Reserved) (out : Out) (from next : State) (reply : Reply) (place : ℕ) (q : Bytes) (p : Part) → Steps (released from key) (group_made from.config from.cache r.session r.call key r.op out) reply place next
-    → eq_by_cmp key_cmp q key ≡ false → IsSomeAnd (under n p.call) (IsOn q) → IsHeld w from q p → IsHeld n next q p
-held_ended w n key r out from next reply place q p steps apart call h =
+held_ended : KeepsReserved → (w n : WorldState) (key : Bytes) (part : Part) (from next : State) (reply : Reply) (place : ℕ) (q : Bytes) (p : Part) → IsReached from → Commits from (claim_of key part) (out_of part) reply place next
+    → next.reservations ≡ unreserved key from.reservations → eq_by_cmp key_cmp q key ≡ false → IsSomeAnd (under n p.call) (IsOn q) → IsHeld w from q p → IsHeld n next q p
+held_ended kept w n key part from next reply place q p reached commits left apart call h =
     let R : List Reserved → Type 0 = λ rs. IsSomeAnd (find (is_claim (claim_of q p)) rs) (IsFor p) in
+    let out = found_left (claim_of q p) key (IsFor p) from.reservations apart h.out in
     held_on w n from next q p
-    (kept_stepped (released from key) next r.session r.call key r.op out reply place q steps (λ same. absurd (let t : true ≡ false = sym (tied key) ∙ ap (λ k. eq_by_cmp key_cmp k key) (sym same) ∙ apart in cc)))
-    (subst R (sym (ap (λ (s : State). s.reservations) steps.goes_on)) (found_left (claim_of q p) key (IsFor p) from.reservations apart h.out)) call h
+    (kept.commits from next (claim_of key part) (out_of part) reply place q reached commits (out_reserved (claim_of q p) (IsFor p) (unreserved key from.reservations) out))
+    (subst R (sym left) out) call h
+
+-- the step of a commit
+abbrev EndsBy : Bytes → Part → State → State → Reply → ℕ → Reserved → Type 0
+EndsBy key part from next reply place r = Steps (settled from (claim_of key part) place) r.session r.call key r.op (out_of part) (callers_of part.number from.joiners) reply place next
 
 -- a commit's own entry agrees with the store, where what the operation leaves does
-agrees_own : (key : Bytes) (r : Reserved) (out : Out) (from next : State) (reply : Reply) (place : ℕ) (stored : Option Bytes) → Steps (released from key) (group_made from.config from.cache r.session r.call key r.op out) reply place next
-    → Agrees (new_entry r.op (entry_at from.cache key) out) stored → Agrees (entry_at next.cache key) stored
-agrees_own key r out from next reply place stored steps h =
-    agrees_stepped (released from key) next r.session r.call key r.op out reply place key stored steps
-    (let P : Bool → Type 0 = λ b. Agrees (cond b (new_entry r.op (entry_at from.cache key) out) (entry_at from.cache key)) stored in subst P (sym (tied key)) h)
+agrees_own : (key : Bytes) (part : Part) (r : Reserved) (from next : State) (reply : Reply) (place : ℕ) (stored : Option Bytes) → EndsBy key part from next reply place r
+    → Agrees (new_entry r.op (entry_at from.cache key) (out_of part)) stored → Agrees (entry_at next.cache key) stored
+agrees_own key part r from next reply place stored steps h =
+    agrees_stepped (settled from (claim_of key part) place) next r.session r.call key r.op (out_of part) (callers_of part.number from.joiners) reply place key stored steps
+    (let P : Bool → Type 0 = λ b. Agrees (cond b (new_entry r.op (entry_at from.cache key) (out_of part)) (entry_at from.cache key)) stored in subst P (sym (tied key)) h)
 
 -- and the others go on to
-agrees_other : (key : Bytes) (r : Reserved) (out : Out) (from next : State) (reply : Reply) (place : ℕ) (q : Bytes) (stored : Option Bytes) → Steps (released from key) (group_made from.config from.cache r.session r.call key r.op out) reply place next
+agrees_other : (key : Bytes) (part : Part) (r : Reserved) (from next : State) (reply : Reply) (place : ℕ) (q : Bytes) (stored : Option Bytes) → EndsBy key part from next reply place r
     → eq_by_cmp key_cmp q key ≡ false → Agrees (entry_at from.cache q) stored → Agrees (entry_at next.cache q) stored
-agrees_other key r out from next reply place q stored steps apart h =
-    agrees_stepped (released from key) next r.session r.call key r.op out reply place q stored steps
-    (let P : Bool → Type 0 = λ b. Agrees (cond b (new_entry r.op (entry_at from.cache key) out) (entry_at from.cache q)) stored in subst P (sym apart) h)
+agrees_other key part r from next reply place q stored steps apart h =
+    agrees_stepped (settled from (claim_of key part) place) next r.session r.call key r.op (out_of part) (callers_of part.number from.joiners) reply place q stored steps
+    (let P : Bool → Type 0 = λ b. Agrees (cond b (new_entry r.op (entry_at from.cache key) (out_of part)) (entry_at from.cache q)) stored in subst P (sym apart) h)
 
 -- so there is one part less
-parts_committed : (w : WorldState) (call : ℕ) (key : Bytes) (part : Part) (from next : State) (order : List Event) (reply : Reply) (place : ℕ) → part_of w call key ≡ Some part → is_answered (part_of w call key) ≡ true → stripe_for w key ≡ Some from
+parts_committed : KeepsReserved → (w : WorldState) (call : ℕ) (key : Bytes) (part : Part) (from next : State) (order : List Event) (reply : Reply) (place : ℕ) → part_of w call key ≡ Some part → is_answered (part_of w call key) ≡ true → stripe_for w key ≡ Some from
     → Commits from (claim_of key part) (out_of part) reply place next → IsSoundWorld w
     → HasParts (record w { stripes = slice_set w.stripes (home w key) next; order = order; calls = over call w.calls; parts = remove w.parts key })
-parts_committed w call key part from next order reply place is answered at commits old =
+parts_committed kept w call key part from next order reply place is answered at commits old =
     let n : WorldState = record w { stripes = slice_set w.stripes (home w key) next; order = order; calls = over call w.calls; parts = remove w.parts key } in
     let there = is_there (get w.parts key) call part is in
     let one = held_at w key part from there at old in
     let found = some_of (claimed from (claim_of key part)) (IsFor part) one.out in
     let r = found.0 in
-    let C : Option Reserved → Type 0 = λ o. IsSomeAnd o (λ r. Steps (released from key) (group_made from.config from.cache r.session r.call key r.op (out_of part)) reply place next) in
-    let steps : Steps (released from key) (group_made from.config from.cache r.session r.call key r.op (out_of part)) reply place next = subst C found.1 commits in
+    let steps : EndsBy key part from next reply place r = of_some (claimed from (claim_of key part)) (EndsBy key part from next reply place) r found.1 commits in
+    let left : next.reservations ≡ unreserved key from.reservations = ap (λ (s : State). s.reservations) steps.goes_on in
+    let reached = (old.shape.each (home w key) from at).reached in
     record {
       held = λ q p e.
           split q key (λ b. cond b None (get w.parts q) ≡ Some p → HeldIn n (stripe_for n q) q p)
@@ -680,7 +711,7 @@ parts_committed w call key part from next order reply place is answered at commi
           (λ apart e.
           let call_on = over_ended w call key part is old q p e apart in
           at_stripe w.stripes (home w key) (home w q) from next (λ o x. HeldIn w o q p → HeldIn n x q p) at
-          (λ h. held_ended w n key r (out_of part) from next reply place q p steps apart call_on h)
+          (λ h. held_ended kept w n key part from next reply place q p reached commits left apart call_on h)
           (held_still w n (stripe_for w q) q p call_on)
           (old.held q p e))
           (sym (get-remove nat_list_cmp_total w.parts key q) ∙ e);
@@ -695,11 +726,11 @@ parts_committed w call key part from next order reply place is answered at commi
           let O : Op → Type 0 = λ op. Agrees (new_entry op (entry_at from.cache key) (out_of part)) (entry_at w.store key) in
           let T : Option State → Type 0 = λ o. IsTold part (entry_at w.store key) (entry_in o key) in
           let told = subst T at (told_at (get w.parts key) part (entry_at w.store key) (cached w key) there (all key)) in
-          let left = agrees_ended part.first part (entry_at from.cache key) (entry_at w.store key) refl one.kind (sym (ap is_answered is) ∙ answered) told in
-          subst B (sym same) (subst S (sym (stripe_put w.stripes (home w key) from next at)) (agrees_own key r (out_of part) from next reply place (entry_at w.store key) steps (subst O (sym found.2.0) left))))
+          let leaves = agrees_ended part.first part (entry_at from.cache key) (entry_at w.store key) refl one.kind (sym (ap is_answered is) ∙ answered) told in
+          subst B (sym same) (subst S (sym (stripe_put w.stripes (home w key) from next at)) (agrees_own key part r from next reply place (entry_at w.store key) steps (subst O (sym found.2.0) leaves))))
           (λ apart.
           at_stripe w.stripes (home w key) (home w q) from next (λ o x. KeyTold (get w.parts q) (entry_at w.store q) (entry_in o q) → KeyTold (get w.parts q) (entry_at w.store q) (entry_in x q)) at
-          (told_on (get w.parts q) (entry_at w.store q) (entry_at from.cache q) (entry_at next.cache q) (agrees_other key r (out_of part) from next reply place q (entry_at w.store q) steps apart))
+          (told_on (get w.parts q) (entry_at w.store q) (entry_at from.cache q) (entry_at next.cache q) (agrees_other key part r from next reply place q (entry_at w.store q) steps apart))
           (λ h. h)
           (all q)));
       fresh = λ f. absurd (worn w key part there old f);
@@ -707,13 +738,98 @@ parts_committed w call key part from next order reply place is answered at commi
     }
 
 -- the last phase of a call
-pub parts_ended : (w new : WorldState) (call : ℕ) (key : Bytes) (part : Part) (from to : State) (seen : Shown) → fits w (event.Commit call key) ≡ true → part_of w call key ≡ Some part → stripe_for w key ≡ Some from
+pub parts_ended : KeepsReserved → (w new : WorldState) (call : ℕ) (key : Bytes) (part : Part) (from to : State) (seen : Shown) → fits w (event.Commit call key) ≡ true → part_of w call key ≡ Some part → stripe_for w key ≡ Some from
     → Ends w call key part from to seen new → IsSoundWorld w → HasParts new
-parts_ended w new call key part from to (shown.Stepped seen) fit is at (commits, shows, leaves) old =
-    subst HasParts (sym leaves) (parts_committed w call key part from to (goes_on w key from to).order seen.reply seen.place is fit at commits old)
-parts_ended w new call key part from to seen fit is at h old = absurd h
+parts_ended kept w new call key part from to (shown.Stepped seen) fit is at (commits, shows, leaves) old =
+    subst HasParts (sym leaves) (parts_committed kept w call key part from to (goes_on w key from to).order seen.reply seen.place is fit at commits old)
+parts_ended kept w new call key part from to seen fit is at h old = absurd h
 
--- 9. A sound world is coherent, as long as the premises held.
+-- 9. A reservation is given back, a call leaves, and an answer is picked up.
+
+-- of what is untouched the store is as it was
+unchanged : (o : Option Part) (part : Part) → o ≡ Some part → is_untouched o ≡ true → part.is_changed ≡ false
+unchanged None part is h = cc
+unchanged (Some p) part is h =
+    let same : p ≡ part = cc in
+    let parts = both (not (load_given p.load) && not p.is_changed) (not (write_given p.report)) h in
+    ap (λ (x : Part). x.is_changed) (sym same) ∙ go p.is_changed (both (not (load_given p.load)) (not p.is_changed) parts.0).1
+  where
+    go : (b : Bool) → not b ≡ true → b ≡ false
+    go true h = cc
+    go false h = refl
+
+-- a reservation is given back, and with it its part
+pub parts_withdrawn : (w : WorldState) (call : ℕ) (key : Bytes) (part : Part) (from next : State) → is_untouched (part_of w call key) ≡ true → part_of w call key ≡ Some part → stripe_for w key ≡ Some from
+    → Withdraws from (claim_of key part) next → IsSoundWorld w → HasParts (without_part (with_stripe w key next) key)
+parts_withdrawn w call key part from next fit is at withdraws old =
+    let n : WorldState = without_part (with_stripe w key next) key in
+    let there = is_there (get w.parts key) call part is in
+    let left : next.reservations ≡ unreserved key from.reservations = ap (λ (s : State). s.reservations) withdraws.1 in
+    let cache : next.cache ≡ from.cache = ap (λ (s : State). s.cache) withdraws.1 in
+    let same : (q : Bytes) → cached n q ≡ cached w q = λ q.
+    at_stripe w.stripes (home w key) (home w q) from next (λ o x. entry_in x q ≡ entry_in o q) at (ap (λ c. entry_at c q) cache) refl
+    in
+    record {
+      held = λ q p e.
+          split q key (λ b. cond b None (get w.parts q) ≡ Some p → HeldIn n (stripe_for n q) q p)
+          (λ same e. cc)
+          (λ apart e.
+          at_stripe w.stripes (home w key) (home w q) from next (λ o x. HeldIn w o q p → HeldIn n x q p) at
+          (λ h.
+          let R : List Reserved → Type 0 = λ rs. IsSomeAnd (find (is_claim (claim_of q p)) rs) (IsFor p) in
+          held_on w n from next q p (ap (λ c. entry_at c q) cache) (subst R (sym left) (found_left (claim_of q p) key (IsFor p) from.reservations apart h.out)) h.call h)
+          (some_map (stripe_for w q) (λ s. IsHeld w s q p) (λ s. IsHeld n s q p) (λ s h. record { out = h.out; kind = h.kind; call = h.call }))
+          (old.held q p e))
+          (sym (get-remove nat_list_cmp_total w.parts key q) ∙ e);
+      told = λ hold q.
+          let P : Option Part → Type 0 = λ o. KeyTold o (entry_at w.store q) (cached n q) in
+          let C : Option Bytes → Type 0 = λ c. KeyTold (cond (eq_by_cmp key_cmp q key) None (get w.parts q)) (entry_at w.store q) c in
+          subst P (sym (get-remove nat_list_cmp_total w.parts key q))
+          (subst C (sym (same q))
+          (split q key (λ b. KeyTold (cond b None (get w.parts q)) (entry_at w.store q) (cached w q))
+          (λ e.
+          let T : Option Part → Type 0 = λ o. KeyTold o (entry_at w.store q) (cached w q) in
+          let told : IsTold part (entry_at w.store q) (cached w q) = subst T (ap (get w.parts) e ∙ there) (old.told hold q) in
+          told.unwritten (unchanged (part_of w call key) part is fit))
+          (λ apart. old.told hold q)));
+      fresh = λ f. absurd (worn w key part there old f);
+      idle = λ f. absurd (worn w key part there old f);
+    }
+
+-- a call leaves
+pub parts_left : (w : WorldState) (call : ℕ) → may_leave w call (under w call) ≡ true → IsSoundWorld w → HasParts (call_over w call)
+parts_left w call fit old = go (under w call) refl
+  where
+    go : (o : Option Under) → under w call ≡ o → HasParts (call_over w call)
+    go None e = let t : false ≡ true = ap (may_leave w call) (sym e) ∙ fit in cc
+    go (Some u) e =
+        let free : is_free w call u.command.key ≡ true = ap (may_leave w call) (sym e) ∙ fit in
+        let P : ℕ → Type 0 = λ n. HasParts (call_over w n) in
+        let Q : ℕ → Type 0 = λ n. StayUnder w.parts (over n w.calls) in
+        let number = found_number call w.calls u e in
+        subst P number
+        (parts_refused w call u e (subst Q (sym number) (over_free w call u e (both (is_none (part_of w call u.command.key)) (not (is_joined w call u.command.key)) free).0 old)) old)
+
+-- the half of a sound world
+parts_of_sound : (w : WorldState) → IsSoundWorld w → HasParts w
+parts_of_sound w h = record { held = h.held; told = h.told; fresh = h.fresh; idle = λ f. (h.idle f).0 }
+
+-- by what is shown of a pick-up
+pub parts_picks : (w new : WorldState) (call : ℕ) (key : Bytes) (join : JoinClaim) (from to : State) (seen : Shown) → join_of w call key ≡ Some join → stripe_for w key ≡ Some from → Picks w call key join from to seen new → IsSoundWorld w → HasParts new
+parts_picks w new call key join from to (shown.PickedUp seen) joined at h old =
+    let p = picking w call key join joined old in
+    let is = h.0.2 in
+    subst HasParts (sym h.2)
+    (parts_aside w key from to (over call w.calls) (unjoined call key w.joins) at (ap (λ (s : State). s.cache) is) (ap (λ (s : State). s.reservations) is) (over_free w call p.u p.here (ap is_none p.none) old) (begun_before w call p.u p.here old) old)
+parts_picks w new call key join from to shown.Again joined at h old =
+    let p = picking w call key join joined old in
+    let is = h.0.1 in
+    subst HasParts (sym h.1)
+    (parts_aside w key from to w.calls (unjoined call key w.joins) at (ap (λ (s : State). s.cache) is) (ap (λ (s : State). s.reservations) is) (under_at w old) (begun_before w call p.u p.here old) old)
+parts_picks w new call key join from to shown.Waits joined at h old = subst HasParts (sym h.1) (parts_of_sound w old)
+parts_picks w new call key join from to seen joined at h old = absurd h
+
+-- 10. A sound world is coherent, as long as the premises held.
 
 -- a key that no writer has changed agrees with the store
 key_coherent : (o : Option Part) (stored entry : Option Bytes) → KeyTold o stored entry → is_changed o ≡ false → Agrees entry stored

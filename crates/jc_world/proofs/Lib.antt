@@ -1,7 +1,9 @@
 pub mod Halves
 pub mod Shares
 pub mod Underway
+pub mod Joiners
 pub mod Callers
+pub mod Joins
 pub mod Places
 pub mod Entries
 pub mod Reservations
@@ -9,6 +11,7 @@ pub mod Kept
 pub mod Listed
 pub mod Numbered
 pub mod Slotted
+pub mod Lengths
 pub mod Phased
 pub mod Sounding
 pub mod Runs

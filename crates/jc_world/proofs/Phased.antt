@@ -7,28 +7,35 @@ use Rattle.jc_model.specs.Cache.{Bytes, entry_at}
 use Rattle.jc_model.specs.declared.event.Change.{Change}
 use Rattle.jc_model.specs.declared.event.Reply.{Reply}
 use Rattle.jc_model.specs.declared.event.Event.{Event}
-use Rattle.jc_stripe.specs.Claim.{Claim, WriteClaim}
-use Rattle.jc_stripe.specs.State.{State, claimed}
+use Rattle.jc_inflight.specs.Joined.{is_joined as has_joined}
+use Rattle.jc_stripe.specs.Claim.{Claim, WriteClaim, JoinClaim}
+use Rattle.jc_stripe.specs.State.{State, Reserved, claimed}
 use Rattle.jc_stripe.specs.Refusals.{has_phases}
-use Rattle.jc_stripe.specs.Phases.{MayBegin, Begins, Commits}
+use Rattle.jc_stripe.specs.Phases.{MayBegin, Begins, Commits, Withdraws, PicksUp}
+use Rattle.jc_stripe.specs.declared.begun.Picked.{Picked}
+use Rattle.jc_stripe.specs.declared.begun.Picked.TheVariants as picked
 use Rattle.jc_stripe.specs.declared.begun.Begun.{Begun}
 use Rattle.jc_stripe.specs.declared.begun.Begun.TheVariants as begun
 use Rattle.jc_stripe.specs.declared.ticket.First.{First}
 use Rattle.jc_stripe.specs.declared.ticket.First.TheVariants.{Loader, Writer}
 use Rattle.jc_stripe.specs.declared.ticket.Origin.TheVariants.{Played}
-use Rattle.jc_stripe.specs.declared.ticket.Reserved.{Reserved}
 use Rattle.jc_types.specs.declared.config.Refusal.{Refusal}
 use Rattle.jc_world.specs.declared.event.Under.{Under}
 use Rattle.jc_world.specs.declared.event.Part.{Part}
 use Rattle.jc_world.specs.declared.event.Stepped.{Stepped}
+use Rattle.jc_world.specs.declared.event.PickedUp.{PickedUp}
+use Rattle.jc_world.specs.declared.event.Shown.{Shown}
 use Rattle.jc_world.specs.declared.event.WorldEvent.TheVariants as event
 use Rattle.jc_world.specs.declared.event.Shown.TheVariants as shown
-use Rattle.jc_world.specs.World.{WorldState, Parts, home, stripe_for, under, over, has_number, part_of, claim_of, out_of}
-use Rattle.jc_world.specs.Events.{fits, is_single, Happens, eviction_first, new_part, with_part, with_stripe, goes_on, call_over}
+use Rattle.jc_world.specs.World.{WorldState, Parts, home, stripe_for, under, over, has_number, part_of, join_of, unjoined, claim_of, out_of}
+use Rattle.jc_world.specs.Events.{fits, is_single, Happens, ShowsStep, victim_first, gone_last, new_part, with_part, with_stripe, goes_on, call_over}
 use Rattle.jc_world.specs.Sound.{CallsFit, IsHeld, KindFits, IsSoundWorld}
+use Rattle.jc_world.specs.World.{is_join}
 use Rattle.jc_world.proofs.Numbered.{some_of}
 use Rattle.jc_world.proofs.Slotted.{is_part}
-use Rattle.jc_stripe.proofs.Laws.{was_free}
+use Rattle.jc_world.proofs.Reservations.{was_free, writer_alone}
+use Rattle.jc_world.proofs.Joiners.{waited_found, join_is}
+use Rattle.jc_world.proofs.Shares.{found_test}
 use Rattle.jc_world.proofs.Callers.{begins_at, single_phases, under_single}
 use Rattle.jc_world.proofs.Kept.{unheld, stripe_at}
 
@@ -60,28 +67,37 @@ pub record Phased (v : WorldState) (number : ℕ) (phase : State → State → T
   pub stripes_are : stripes ≡ slice_set v.stripes number to
   pub order_is : order ≡ v.order ++ drop (length from.history) to.history
 
--- what it shows of a step
-pub record Shows (stripes : List State) (number : ℕ) (reply : Reply) (place : ℕ) (seen : Stepped) : Type 0 where
+-- what it shows of a step, of a stripe that had so many events before
+pub record Shows (stripes : List State) (number before : ℕ) (reply : Reply) (place : ℕ) (seen : Stepped) : Type 0 where
   pub step : (seen.reply ≡ reply) × (seen.place ≡ place) × (seen.stripe ≡ number)
-  pub evicted : IsSomeAnd (slice_get stripes number) (λ s. seen.evicted ≡ eviction_first (drop (place + 1) s.history))
+  pub victim : IsSomeAnd (slice_get stripes number) (λ s. seen.victim ≡ victim_first (drop before s.history))
+  pub evicted : IsSomeAnd (slice_get stripes number) (λ s. seen.evicted ≡ gone_last place s.history)
 
-evicted_at : (v : WorldState) (number : ℕ) (from to : State) (stripes : List State) (reply : Reply) (place : ℕ) (seen : Stepped) → slice_get v.stripes number ≡ Some from → stripes ≡ slice_set v.stripes number to → Shows stripes number reply place seen
-    → seen.evicted ≡ eviction_first (drop (seen.place + 1) to.history)
-evicted_at v number from to stripes reply place seen at stripes_are shows =
-    let P : List State → Type 0 = λ xs. IsSomeAnd (slice_get xs number) (λ s. seen.evicted ≡ eviction_first (drop (place + 1) s.history)) in
-    let Q : Option State → Type 0 = λ o. IsSomeAnd o (λ s. seen.evicted ≡ eviction_first (drop (place + 1) s.history)) in
-    let e : seen.evicted ≡ eviction_first (drop (place + 1) to.history) = subst Q (get-set v.stripes number from to at) (subst P stripes_are shows.evicted) in
-    e ∙ ap (λ p. eviction_first (drop (p + 1) to.history)) (sym shows.step.1)
+-- what holds of the stripe that was set
+of_set : (v : WorldState) (number : ℕ) (from to : State) (stripes : List State) (P : State → Type 0) → slice_get v.stripes number ≡ Some from → stripes ≡ slice_set v.stripes number to → IsSomeAnd (slice_get stripes number) P → P to
+of_set v number from to stripes P at stripes_are h =
+    let Q : List State → Type 0 = λ xs. IsSomeAnd (slice_get xs number) P in
+    let R : Option State → Type 0 = λ o. IsSomeAnd o P in
+    subst R (get-set v.stripes number from to at) (subst Q stripes_are h)
+
+-- so what is shown is what the definition says
+pub shows_step : (v : WorldState) (key : Bytes) (number before : ℕ) (from to : State) (stripes : List State) (reply : Reply) (place : ℕ) (seen : Stepped) → slice_get v.stripes number ≡ Some from → stripes ≡ slice_set v.stripes number to → number ≡ home v key → before ≡ length from.history
+    → Shows stripes number before reply place seen → ShowsStep v key from to seen
+shows_step v key number before from to stripes reply place seen at stripes_are home_is before_is shows = record {
+  stripe_is = shows.step.2 ∙ home_is;
+  victim_is = of_set v number from to stripes (λ s. seen.victim ≡ victim_first (drop before s.history)) at stripes_are shows.victim ∙ ap (λ n. victim_first (drop n to.history)) before_is;
+  evicted_is = of_set v number from to stripes (λ s. seen.evicted ≡ gone_last place s.history) at stripes_are shows.evicted ∙ ap (λ n. gone_last n to.history) (sym shows.step.1);
+}
 
 -- 3. A first phase.
 
 abbrev pub BeginsAs : Under → Begun → State → State → Type 0
 BeginsAs u b from to = Begins from u.session u.number u.command.key u.command.op b to
 
-pub started_done : (v next : WorldState) (call : ℕ) (key : Bytes) (u : Under) (number : ℕ) (reply : Reply) (place : ℕ) (seen : Stepped) (stripes : List State) (order : List Event) → under v call ≡ Some u → number ≡ home v u.command.key
-    → Phased v number (BeginsAs u (begun.Done reply place)) stripes order → Shows stripes number reply place seen
+pub started_done : (v next : WorldState) (call : ℕ) (key : Bytes) (u : Under) (number before : ℕ) (reply : Reply) (place : ℕ) (seen : Stepped) (stripes : List State) (order : List Event) → under v call ≡ Some u → number ≡ home v u.command.key
+    → (p : Phased v number (BeginsAs u (begun.Done reply place)) stripes order) → before ≡ length p.from.history → Shows stripes number before reply place seen
     → next ≡ record v { stripes = stripes; order = order; calls = over u.number v.calls } → Happens v (event.Start call key) (shown.Stepped seen) next
-started_done v next call key u number reply place seen stripes order is home_is p shows next_is =
+started_done v next call key u number before reply place seen stripes order is home_is p before_is shows next_is =
     let At : ℕ → Type 0 = λ n. slice_get v.stripes n ≡ Some p.from in
     let B : Reply → Type 0 = λ r. Begins p.from u.session u.number u.command.key u.command.op (begun.Done r place) p.to in
     let C : ℕ → Type 0 = λ n. Begins p.from u.session u.number u.command.key u.command.op (begun.Done seen.reply n) p.to in (
@@ -92,7 +108,7 @@ started_done v next call key u number reply place seen stripes order is home_is 
       p.to,
       (
         subst C (sym shows.step.1) (subst B (sym shows.step.0) p.made),
-        record { stripe_is = shows.step.2 ∙ home_is; evicted_is = evicted_at v number p.from p.to stripes reply place seen p.at p.stripes_are shows },
+        shows_step v u.command.key number before p.from p.to stripes reply place seen p.at p.stripes_are home_is before_is shows,
         next_is ∙ (λ i. record v { stripes = (p.stripes_are ∙ ap (λ n. slice_set v.stripes n p.to) home_is) i; order = p.order_is i; calls = over u.number v.calls }),
       ),
     )
@@ -146,8 +162,30 @@ started_loads v next call key u number ticket stripes order parts is home_is p p
         p.made,
         next_is ∙ (λ i. record v {
           stripes = (p.stripes_are ∙ ap (λ n. slice_set v.stripes n p.to) home_is) i;
-          order = (p.order_is ∙ none_new v.order p.to.history p.from.history (ap (λ (s : State). s.history) p.made.3)) i;
+          order = (p.order_is ∙ none_new v.order p.to.history p.from.history (ap (λ (s : State). s.history) p.made.4)) i;
           parts = parts_are i;
+        }),
+      ),
+    )
+
+pub started_joins : (v next : WorldState) (call : ℕ) (key : Bytes) (u : Under) (number : ℕ) (join : JoinClaim) (stripes : List State) (order : List Event) (joins : List JoinClaim) → under v call ≡ Some u → number ≡ home v u.command.key
+    → Phased v number (BeginsAs u (begun.Joined join)) stripes order → joins ≡ v.joins ++ join ∷ []
+    → next ≡ record v { stripes = stripes; order = order; joins = joins } → Happens v (event.Start call key) shown.Joins next
+started_joins v next call key u number join stripes order joins is home_is p joins_are next_is =
+    let At : ℕ → Type 0 = λ n. slice_get v.stripes n ≡ Some p.from in
+    let load = p.made.1 in (
+      u,
+      is,
+      p.from,
+      subst At home_is p.at,
+      p.to,
+      (
+        join,
+        p.made,
+        next_is ∙ (λ i. record v {
+          stripes = (p.stripes_are ∙ ap (λ n. slice_set v.stripes n p.to) home_is) i;
+          order = (p.order_is ∙ none_new v.order p.to.history p.from.history (ap (λ (s : State). s.history) load.3)) i;
+          joins = joins_are i;
         }),
       ),
     )
@@ -178,23 +216,23 @@ pub free_load : (v : WorldState) (u : Under) (number : ℕ) (ticket : Claim) (st
     → (get v.parts u.command.key ≡ None) × (ticket.key ≡ u.command.key)
 free_load v u number ticket stripes order home_is p sound =
     let At : ℕ → Type 0 = λ n. slice_get v.stripes n ≡ Some p.from in
-    (unheld v u.command.key p.from (subst At home_is p.at) (was_free p.from u.number u.command.key u.command.op Loader p.made.0 p.made.1 refl) sound, ap (λ (t : Claim). t.key) p.made.2)
+    (unheld v u.command.key p.from (subst At home_is p.at) (was_free p.from u.number u.command.key u.command.op Loader p.made.0 p.made.1 p.made.2 refl) sound, ap (λ (t : Claim). t.key) p.made.3)
 
 pub free_write : (v : WorldState) (u : Under) (number : ℕ) (ticket : WriteClaim) (change : Change) (stripes : List State) (order : List Event) → number ≡ home v u.command.key → Phased v number (BeginsAs u (begun.Write ticket change)) stripes order → IsSoundWorld v
     → (get v.parts u.command.key ≡ None) × (ticket.claim.key ≡ u.command.key) × (ticket.change ≡ change)
 free_write v u number ticket change stripes order home_is p sound =
     let At : ℕ → Type 0 = λ n. slice_get v.stripes n ≡ Some p.from in
-    (unheld v u.command.key p.from (subst At home_is p.at) (was_free p.from u.number u.command.key u.command.op (Writer change) p.made.0 p.made.1 refl) sound, ap (λ (t : WriteClaim). t.claim.key) p.made.2, ap (λ (t : WriteClaim). t.change) p.made.2)
+    (unheld v u.command.key p.from (subst At home_is p.at) (was_free p.from u.number u.command.key u.command.op (Writer change) p.made.0 (writer_alone p.from u.command.key u.command.op change p.made.1) p.made.1 refl) sound, ap (λ (t : WriteClaim). t.claim.key) p.made.2, ap (λ (t : WriteClaim). t.change) p.made.2)
 
 -- 4. A last phase.
 
 abbrev pub CommitsAs : Bytes → Part → Reply → ℕ → State → State → Type 0
 CommitsAs key part reply place from to = Commits from (claim_of key part) (out_of part) reply place to
 
-pub ended : (v next : WorldState) (call : ℕ) (key : Bytes) (part : Part) (number : ℕ) (reply : Reply) (place : ℕ) (seen : Stepped) (stripes : List State) (order : List Event) (parts : Parts) → part_of v call key ≡ Some part → number ≡ home v key
-    → Phased v number (CommitsAs key part reply place) stripes order → Shows stripes number reply place seen → parts ≡ remove v.parts key
+pub ended : (v next : WorldState) (call : ℕ) (key : Bytes) (part : Part) (number before : ℕ) (reply : Reply) (place : ℕ) (seen : Stepped) (stripes : List State) (order : List Event) (parts : Parts) → part_of v call key ≡ Some part → number ≡ home v key
+    → (p : Phased v number (CommitsAs key part reply place) stripes order) → before ≡ length p.from.history → Shows stripes number before reply place seen → parts ≡ remove v.parts key
     → next ≡ record v { stripes = stripes; order = order; calls = over call v.calls; parts = parts } → Happens v (event.Commit call key) (shown.Stepped seen) next
-ended v next call key part number reply place seen stripes order parts is home_is p shows parts_are next_is =
+ended v next call key part number before reply place seen stripes order parts is home_is p before_is shows parts_are next_is =
     let At : ℕ → Type 0 = λ n. slice_get v.stripes n ≡ Some p.from in
     let B : Reply → Type 0 = λ r. Commits p.from (claim_of key part) (out_of part) r place p.to in
     let C : ℕ → Type 0 = λ n. Commits p.from (claim_of key part) (out_of part) seen.reply n p.to in (
@@ -205,7 +243,7 @@ ended v next call key part number reply place seen stripes order parts is home_i
       p.to,
       (
         subst C (sym shows.step.1) (subst B (sym shows.step.0) p.made),
-        record { stripe_is = shows.step.2 ∙ home_is; evicted_is = evicted_at v number p.from p.to stripes reply place seen p.at p.stripes_are shows },
+        shows_step v key number before p.from p.to stripes reply place seen p.at p.stripes_are home_is before_is shows,
         next_is ∙ (λ i. record v { stripes = (p.stripes_are ∙ ap (λ n. slice_set v.stripes n p.to) home_is) i; order = p.order_is i; calls = over call v.calls; parts = parts_are i }),
       ),
     )
@@ -229,3 +267,95 @@ may_end_at v call key part number is home_is sound =
     some_map : (o : Option Reserved) → IsSomeAnd o (λ r. (r.op ≡ part.op) × (r.first ≡ part.first) × (r.call ≡ part.call)) → IsSomeAnd o (λ r. r.first ≡ part.first)
     some_map None h = absurd h
     some_map (Some r) h = h.1
+
+-- 5. A reservation that is given back.
+
+-- the stripe of a phase that puts nothing down
+pub record Changed (v : WorldState) (number : ℕ) (phase : State → State → Type 0) (stripes : List State) : Type 0 where
+  pub from : State
+  pub at : slice_get v.stripes number ≡ Some from
+  pub to : State
+  pub made : phase from to
+  pub stripes_are : stripes ≡ slice_set v.stripes number to
+
+-- what it needs of the stripe
+pub may_withdraw_at : (v : WorldState) (call : ℕ) (key : Bytes) (part : Part) (number : ℕ) → part_of v call key ≡ Some part → number ≡ home v key → IsSoundWorld v
+    → IsSomeAnd (slice_get v.stripes number) (λ s. IsSomeAnd (claimed s (claim_of key part)) (λ r. r.first ≡ part.first))
+may_withdraw_at v call key part number is home_is sound =
+    weaker (slice_get v.stripes number) (may_end_at v call key part number is home_is sound)
+  where
+    weaker : (o : Option State) → IsSomeAnd o (λ s. IsSomeAnd (claimed s (claim_of key part)) (λ r. r.first ≡ part.first) × KindFits part.first part (entry_at s.cache key) × (s.origin ≡ Played)) → IsSomeAnd o (λ s. IsSomeAnd (claimed s (claim_of key part)) (λ r. r.first ≡ part.first))
+    weaker None h = h
+    weaker (Some s) h = h.0
+
+pub withdrawn_at : (v next : WorldState) (call : ℕ) (key : Bytes) (part : Part) (number : ℕ) (stripes : List State) (parts : Parts) → part_of v call key ≡ Some part → number ≡ home v key
+    → Changed v number (λ from to. Withdraws from (claim_of key part) to) stripes → parts ≡ remove v.parts key
+    → next ≡ record v { stripes = stripes; parts = parts } → Happens v (event.Withdraw call key) shown.Withdrawn next
+withdrawn_at v next call key part number stripes parts is home_is p parts_are next_is =
+    let At : ℕ → Type 0 = λ n. slice_get v.stripes n ≡ Some p.from in (
+      part,
+      is,
+      p.from,
+      subst At home_is p.at,
+      p.to,
+      p.made,
+      refl,
+      next_is ∙ (λ i. record v { stripes = (p.stripes_are ∙ ap (λ n. slice_set v.stripes n p.to) home_is) i; parts = parts_are i }),
+    )
+
+-- 6. An answer that is picked up.
+
+-- the joiner of a join is in the stripe of its key
+pub joiner_at : (v : WorldState) (call : ℕ) (key : Bytes) (join : JoinClaim) (number : ℕ) → join_of v call key ≡ Some join → number ≡ home v key → IsSoundWorld v → IsSomeAnd (slice_get v.stripes number) (λ s. has_joined join.session join.call join.key s.joiners ≡ true)
+joiner_at v call key join number is home_is sound =
+    let h = waited_found v (is_join call key) v.joins join is sound.joins in
+    let key_is = (join_is call key join (found_test (is_join call key) v.joins join is)).1 in
+    let P : ℕ → Type 0 = λ n. IsSomeAnd (slice_get v.stripes n) (λ s. has_joined join.session join.call join.key s.joiners ≡ true) in
+    subst P (ap (home v) key_is ∙ sym home_is) h.out
+
+abbrev pub PicksAs : JoinClaim → Picked → State → State → Type 0
+PicksAs join p from to = PicksUp from join p to
+
+pub picked_answer : (v next : WorldState) (call : ℕ) (key : Bytes) (join : JoinClaim) (number : ℕ) (seen : PickedUp) (stripes : List State) → join_of v call key ≡ Some join → number ≡ home v key → seen.stripe ≡ number
+    → Changed v number (PicksAs join (picked.Answer seen.reply seen.place seen.shared)) stripes
+    → next ≡ record v { stripes = stripes; joins = unjoined call key v.joins; calls = over call v.calls } → Happens v (event.PickUp call key) (shown.PickedUp seen) next
+picked_answer v next call key join number seen stripes is home_is stripe_is p next_is =
+    let At : ℕ → Type 0 = λ n. slice_get v.stripes n ≡ Some p.from in (
+      join,
+      is,
+      p.from,
+      subst At home_is p.at,
+      p.to,
+      (
+        p.made,
+        stripe_is ∙ home_is,
+        next_is ∙ (λ i. record v { stripes = (p.stripes_are ∙ ap (λ n. slice_set v.stripes n p.to) home_is) i; joins = unjoined call key v.joins; calls = over call v.calls }),
+      ),
+    )
+
+pub picked_again : (v next : WorldState) (call : ℕ) (key : Bytes) (join : JoinClaim) (number : ℕ) (stripes : List State) → join_of v call key ≡ Some join → number ≡ home v key
+    → Changed v number (PicksAs join picked.Again) stripes
+    → next ≡ record v { stripes = stripes; joins = unjoined call key v.joins } → Happens v (event.PickUp call key) shown.Again next
+picked_again v next call key join number stripes is home_is p next_is =
+    let At : ℕ → Type 0 = λ n. slice_get v.stripes n ≡ Some p.from in (
+      join,
+      is,
+      p.from,
+      subst At home_is p.at,
+      p.to,
+      (p.made, next_is ∙ (λ i. record v { stripes = (p.stripes_are ∙ ap (λ n. slice_set v.stripes n p.to) home_is) i; joins = unjoined call key v.joins })),
+    )
+
+pub picked_nothing : (v next : WorldState) (call : ℕ) (key : Bytes) (join back : JoinClaim) (number : ℕ) (stripes : List State) → join_of v call key ≡ Some join → number ≡ home v key
+    → Changed v number (PicksAs join (picked.NotYet back)) stripes
+    → next ≡ record v { stripes = stripes } → Happens v (event.PickUp call key) shown.Waits next
+picked_nothing v next call key join back number stripes is home_is p next_is =
+    let At : ℕ → Type 0 = λ n. slice_get v.stripes n ≡ Some p.from in
+    let made : PicksUp p.from join (picked.NotYet join) p.to = (p.made.0, refl, p.made.2) in (
+      join,
+      is,
+      p.from,
+      subst At home_is p.at,
+      p.to,
+      (made, next_is ∙ (λ i. record v { stripes = (p.stripes_are ∙ same_set v.stripes number p.from p.to p.at p.made.2) i })),
+    )

@@ -7,16 +7,16 @@ use Rattle.std.proofs.lemmas.Cmp.{nat_list_eq_equiv, nat_eq_equiv}
 use Rattle.jc_types.specs.declared.config.Config.{Config}
 use Rattle.jc_types.specs.declared.config.Refusal.{Refusal}
 use Rattle.jc_types.specs.declared.config.Refusal.TheVariants as refusal
+use Rattle.jc_model.specs.declared.event.Change.{Change}
 use Rattle.jc_model.specs.declared.event.Op.{Op}
 use Rattle.jc_model.specs.declared.event.Op.TheVariants.{Get, ContainsKey}
 use Rattle.jc_model.specs.Cache.{Bytes, key_cmp, entry_at}
 use Rattle.jc_model.proofs.Lookups.{both, same_key}
 use Rattle.jc_stripe.specs.Claim.{Claim}
-use Rattle.jc_stripe.specs.State.{State, is_key, is_claim, is_reserved, unreserved}
-use Rattle.jc_stripe.specs.Refusals.{first_refusal, first_asked, loader_if, writer_if, reserves, has_room, places, passes}
-use Rattle.jc_stripe.specs.declared.ticket.Reserved.{Reserved}
+use Rattle.jc_stripe.specs.State.{State, Reserved, is_key, is_claim, is_reserved, unreserved}
+use Rattle.jc_stripe.specs.Refusals.{first_refusal, first_asked, loader_if, writer_if, reserves, has_room, places, passes, goes_on, load_joined}
 use Rattle.jc_stripe.specs.declared.ticket.First.{First}
-use Rattle.jc_stripe.specs.declared.ticket.First.TheVariants.{Nobody}
+use Rattle.jc_stripe.specs.declared.ticket.First.TheVariants.{Nobody, Writer}
 
 -- what is found is found in a longer list
 pub found_more : (p : Reserved → Bool) (P : Reserved → Type 0) (xs ys : List Reserved) → IsSomeAnd (find p xs) P → IsSomeAnd (find p (xs ++ ys)) P
@@ -33,17 +33,16 @@ out_reserved claim P (x ∷ xs) h =
       | false ↦ λ h. out_reserved claim P xs h
     ] h
 
--- only what passes is not refused as busy
-pick : (room is_there pass : Bool) (other : Option Refusal) → cond (not room) (Some refusal.HistoryFull) (cond (is_there && not pass) (Some refusal.Busy) other) ≡ None → is_there ≡ true → pass ≡ true
-pick false is_there pass other h e = cc
-pick true false pass other h e = cc
+-- only what goes on is not refused as busy
+pick : (room is_there light : Bool) (other : Option Refusal) → cond (not room) (Some refusal.HistoryFull) (cond (is_there && not light) (Some refusal.Busy) other) ≡ None → is_there ≡ true → light ≡ true
+pick false is_there light other h e = cc
+pick true false light other h e = cc
 pick true true true other h e = refl
 pick true true false other h e = cc
 
--- a call that is not refused at a reserved key passes
-pub passed : (s : State) (call : ℕ) (key : Bytes) (op : Op) → first_refusal s call key op ≡ None → is_reserved s key ≡ true → passes s.config op (entry_at s.cache key) ≡ true
-passed s call key op none there =
-    pick (has_room s call (places (passes s.config op (entry_at s.cache key)))) (is_reserved s key) (passes s.config op (entry_at s.cache key)) _ none there
+-- a call that is not refused at a reserved key goes on
+gone_on : (s : State) (call : ℕ) (key : Bytes) (op : Op) → first_refusal s call key op ≡ None → is_reserved s key ≡ true → goes_on s key op ≡ true
+gone_on s call key op none there = pick (has_room s call (places (goes_on s key op))) (is_reserved s key) (goes_on s key op) _ none there
 
 -- where there is nothing to write, nobody is asked
 asks_none : (b : Bool) → writer_if b None ≡ Nobody
@@ -57,7 +56,7 @@ get_asks true None h = cc
 get_asks false entry h = refl
 
 -- what passes asks nobody
-pub passing_asks : (config : Config) (op : Op) (entry : Option Bytes) → passes config op entry ≡ true → first_asked config op entry ≡ Nobody
+passing_asks : (config : Config) (op : Op) (entry : Option Bytes) → passes config op entry ≡ true → first_asked config op entry ≡ Nobody
 passing_asks config Get entry h = get_asks config.read_through entry h
 passing_asks config ContainsKey entry h = asks_none config.write_through
 passing_asks config op entry h = cc
@@ -67,10 +66,27 @@ not_reserved : (b : Bool) → (b ≡ true → ⊥) → b ≡ false
 not_reserved true h = absurd (h refl)
 not_reserved false h = refl
 
--- a key that gets a ticket was free  -- also a law of jc_stripe
-pub was_free : (s : State) (call : ℕ) (key : Bytes) (op : Op) (first : First) → first_refusal s call key op ≡ None → first_asked s.config op (entry_at s.cache key) ≡ first → reserves first ≡ true → is_reserved s key ≡ false
-was_free s call key op first none asks due =
-    not_reserved (is_reserved s key) (λ there. let e = passing_asks s.config op (entry_at s.cache key) (passed s call key op none there) in let f : reserves Nobody ≡ true = ap reserves (sym e ∙ asks) ∙ due in cc)
+-- what goes on and joins no load passes
+only_passes : (pass : Bool) (load : Option ℕ) → (pass || is_some load) ≡ true → load ≡ None → pass ≡ true
+only_passes true load h none = refl
+only_passes false load h none = let t : is_some {T = ℕ} None ≡ true = ap is_some (sym none) ∙ h in cc
+
+-- a key that gets a ticket was free
+pub was_free : (s : State) (call : ℕ) (key : Bytes) (op : Op) (first : First) → first_refusal s call key op ≡ None → load_joined s key op ≡ None → first_asked s.config op (entry_at s.cache key) ≡ first → reserves first ≡ true → is_reserved s key ≡ false
+was_free s call key op first none alone asks due =
+    not_reserved (is_reserved s key) (λ there.
+        let passing = only_passes (passes s.config op (entry_at s.cache key)) (load_joined s key op) (gone_on s call key op none there) alone in
+        let e = passing_asks s.config op (entry_at s.cache key) passing in
+        let f : reserves Nobody ≡ true = ap reserves (sym e ∙ asks) ∙ due in cc)
+
+-- what asks the writer is no `Get`, so it joins no load
+pub writer_alone : (s : State) (key : Bytes) (op : Op) (change : Change) → first_asked s.config op (entry_at s.cache key) ≡ Writer change → load_joined s key op ≡ None
+writer_alone s key Get change h = loads_only (s.config.read_through && is_none (entry_at s.cache key)) h
+  where
+    loads_only : (b : Bool) → loader_if b ≡ Writer change → load_joined s key Get ≡ None
+    loads_only true h = cc
+    loads_only false h = cc
+writer_alone s key op change h = refl
 
 -- two tests that both fail
 neither : (a b : Bool) → (a || b) ≡ false → (a ≡ false) × (b ≡ false)

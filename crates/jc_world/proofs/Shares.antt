@@ -1,31 +1,31 @@
 -- The order's parts: what a stripe puts down stands in its own part, and behind what may stand before it.
---     put_down       the events of a step: the step, and the eviction of its key where there is one
---     GoesOn         a stripe puts a step down
+--     GoesOn         a stripe puts more events down
 --     shape_set      the shape of a world, where one stripe is another and the order is that stripe's longer one
---     none_order     the step of a call under way may stand at the end of the order
-use Rattle.std.proofs.Common.{◌≡◌, ◌==◌, ◌&&◌, ◌||◌, ◌%◌, ℕ, zero, suc, sum, List, [], ◌∷◌, ◌++◌, length, drop, Bool, true, false, cond, not, Option, None, Some, IsSomeAnd, filter, find, nat_lt, slice_get, slice_set, refl, sym, ap, ◌∙◌, subst, arith, append-nil}
+--     AllBy          each step among events is of such a session and number
+--     added_order    steps of calls whose numbers are not in the order may stand at its end
+use Rattle.std.proofs.Common.{◌≡◌, ◌==◌, ◌&&◌, ◌||◌, ◌%◌, ℕ, zero, suc, sum, List, [], ◌∷◌, ◌++◌, length, drop, Bool, true, false, cond, not, Option, None, Some, IsSomeAnd, filter, find, map, nat_lt, slice_get, slice_set, refl, sym, ap, ◌∙◌, subst, arith, append-nil}
 use Rattle.std.specs.List.{list_all}
 use Rattle.std.proofs.Math.Seq.{drop-append_seam}
-use Rattle.std.proofs.lemmas.Bool.{ne_eqb}
+use Rattle.std.proofs.lemmas.Bool.{ne_eqb, eqb-true}
 use Rattle.std.proofs.lemmas.Bool.Decides.{nat_tests}
-use Rattle.std.proofs.lemmas.Cmp.{nat_eq_equiv}
 use Rattle.std.proofs.lemmas.List.Elements.{filter-append}
 use Rattle.std.proofs.lemmas.List.Folds.{list_all-append}
+use Rattle.jc_types.specs.declared.config.Config.{Config}
+use Rattle.jc_types.specs.Limits.{checked}
 use Rattle.jc_model.specs.declared.event.Op.{Op}
 use Rattle.jc_model.specs.declared.event.Out.{Out}
+use Rattle.jc_model.specs.declared.event.LoadAnswer.{LoadAnswer}
 use Rattle.jc_model.specs.declared.event.Reply.{Reply}
 use Rattle.jc_model.specs.declared.event.Cause.{Cause}
 use Rattle.jc_model.specs.declared.event.Event.{Event}
 use Rattle.jc_model.specs.declared.event.Event.TheVariants.{Step, Evict}
 use Rattle.jc_model.specs.Cache.{Bytes}
-use Rattle.jc_model.specs.Group.{evicted_events}
-use Rattle.jc_model.specs.Legal.{may_come, in_order, is_of_stripe, of_stripe}
+use Rattle.jc_model.specs.Group.{Group, victim_events, step_event, step_place, shared_event, evicted_events, events_of}
+use Rattle.jc_model.specs.Legal.{may_come, may_follow, in_order, event_key, is_of_stripe, of_stripe}
 use Rattle.jc_model.proofs.Lookups.{both}
-use Rattle.jc_model.proofs.Order.{order-step}
 use Rattle.jc_stripe.specs.State.{State}
 use Rattle.jc_stripe.specs.Reached.{IsReached}
-use Rattle.jc_world.specs.declared.event.Under.{Under}
-use Rattle.jc_world.specs.World.{WorldState, Parts, home, stripe_for}
+use Rattle.jc_world.specs.World.{WorldState, home, stripe_for}
 use Rattle.jc_world.specs.Sound.{IsStripe, IsShaped, is_up_to, number_up_to, is_before, none_from}
 
 -- 1. Small facts.
@@ -93,126 +93,219 @@ found_test p (y ∷ ys) x h =
       | false ↦ λ e h. found_test p ys x h
     ] refl h
 
+-- a fact of each of a list
+abbrev pub Each : {A : Type 0} → (A → Type 0) → List A → Type 0
+Each P [] = Unit {0}
+Each P (x ∷ xs) = P x × Each P xs
+
+-- and another that follows from it
+pub each_map : {A : Type 0} (P Q : A → Type 0) (xs : List A) → ((x : A) → P x → Q x) → Each P xs → Each Q xs
+each_map P Q [] f h = tt
+each_map P Q (x ∷ xs) f h = (f x h.0, each_map P Q xs f h.1)
+
 -- 2. What a stripe puts down.
 
--- the events of a step
-abbrev pub put_down : ℕ → ℕ → Bytes → Op → Out → Reply → Option Cause → List Event
-put_down session number key op out reply cause = Step session number op key out None reply ∷ evicted_events key cause
-
-pub record GoesOn (from to : State) (session number : ℕ) (key : Bytes) : Type 0 where
-  pub op : Op
-  pub out : Out
-  pub reply : Reply
-  pub cause : Option Cause
+pub record GoesOn (from to : State) : Type 0 where
+  pub more : List Event
   pub config_is : to.config ≡ from.config
   pub number_is : to.number ≡ from.number
   pub origin_is : to.origin ≡ from.origin
-  pub history_is : to.history ≡ from.history ++ put_down session number key op out reply cause
+  pub history_is : to.history ≡ from.history ++ more
 
 -- what a stripe put down
 abbrev pub added : State → State → List Event
 added from to = drop (length from.history) to.history
 
--- which is the step with its eviction
-pub added_is : (from to : State) (session number : ℕ) (key : Bytes) (g : GoesOn from to session number key) → added from to ≡ put_down session number key g.op g.out g.reply g.cause
-added_is from to session number key g = ap (drop (length from.history)) g.history_is ∙ drop-append_seam from.history (put_down session number key g.op g.out g.reply g.cause)
+pub added_is : (from to : State) (g : GoesOn from to) → added from to ≡ g.more
+added_is from to g = ap (drop (length from.history)) g.history_is ∙ drop-append_seam from.history g.more
 
--- the events of a step are all of the key's stripe
-mine : (stripes n session number : ℕ) (key : Bytes) (op : Op) (out : Out) (reply : Reply) (cause : Option Cause) → (sum key % stripes == n) ≡ true
-    → of_stripe stripes n (put_down session number key op out reply cause) ≡ put_down session number key op out reply cause
-mine stripes n session number key op out reply None h = ap (λ b. cond b (Step session number op key out None reply ∷ []) []) h
-mine stripes n session number key op out reply (Some cause) h =
-    ap (λ b. cond b (Step session number op key out None reply ∷ cond b (Evict key cause ∷ []) []) (cond b (Evict key cause ∷ []) [])) h
+-- the second of two lists
+all_back : {A : Type 0} (p : A → Bool) (xs ys : List A) → list_all p (xs ++ ys) ≡ true → list_all p ys ≡ true
+all_back p xs ys h = (both (list_all p xs) (list_all p ys) (sym (list_all-append p xs ys) ∙ h)).1
 
--- and none is of another stripe
-others : (stripes n session number : ℕ) (key : Bytes) (op : Op) (out : Out) (reply : Reply) (cause : Option Cause) → (sum key % stripes == n) ≡ false
-    → of_stripe stripes n (put_down session number key op out reply cause) ≡ []
-others stripes n session number key op out reply None h = ap (λ b. cond b (Step session number op key out None reply ∷ []) []) h
-others stripes n session number key op out reply (Some cause) h =
-    ap (λ b. cond b (Step session number op key out None reply ∷ cond b (Evict key cause ∷ []) []) (cond b (Evict key cause ∷ []) [])) h
+-- all that pass are kept
+all_kept : {A : Type 0} (p : A → Bool) (xs : List A) → list_all p xs ≡ true → filter p xs ≡ xs
+all_kept p [] h = refl
+all_kept p (x ∷ xs) h = let parts = both (p x) (list_all p xs) h in ap (λ b. cond b (x ∷ filter p xs) (filter p xs)) parts.0 ∙ ap (λ ys. x ∷ ys) (all_kept p xs parts.1)
 
--- so the stripe's part of the order grows by them
-pub share_grows : (stripes : ℕ) (order : List Event) (from to : State) (session number : ℕ) (key : Bytes) → GoesOn from to session number key
-    → of_stripe stripes (sum key % stripes) order ≡ from.history → of_stripe stripes (sum key % stripes) (order ++ added from to) ≡ to.history
-share_grows stripes order from to session number key g share =
-    ap (λ more. of_stripe stripes (sum key % stripes) (order ++ more)) (added_is from to session number key g)
-    ∙ filter-append (is_of_stripe stripes (sum key % stripes)) order (put_down session number key g.op g.out g.reply g.cause)
-    ∙ ap (λ h. h ++ of_stripe stripes (sum key % stripes) (put_down session number key g.op g.out g.reply g.cause)) share
-    ∙ ap (λ more. from.history ++ more) (mine stripes (sum key % stripes) session number key g.op g.out g.reply g.cause (nat_eq_equiv.refl (sum key % stripes)))
+-- and none that pass where another test fails then
+none_kept : {A : Type 0} (p q : A → Bool) (xs : List A) → ((x : A) → p x ≡ true → q x ≡ false) → list_all p xs ≡ true → filter q xs ≡ []
+none_kept p q [] f h = refl
+none_kept p q (x ∷ xs) f h = let parts = both (p x) (list_all p xs) h in ap (λ b. cond b (x ∷ filter q xs) (filter q xs)) (f x parts.0) ∙ none_kept p q xs f parts.1
+
+-- what a stripe that is reached puts down is of its keys
+own_added : (w : WorldState) (n : ℕ) (from to : State) (g : GoesOn from to) → IsStripe w n from → IsReached to → list_all (is_of_stripe w.config.stripes n) g.more ≡ true
+own_added w n from to g at reached =
+    let s : to.config.stripes ≡ w.config.stripes = ap (λ (c : Config). c.stripes) (g.config_is ∙ at.config_is) in
+    let m : to.number ≡ n = g.number_is ∙ at.number_is in
+    let e : list_all (is_of_stripe to.config.stripes to.number) to.history ≡ list_all (is_of_stripe w.config.stripes n) (from.history ++ g.more) = λ i. list_all (is_of_stripe (s i) (m i)) (g.history_is i) in
+    all_back (is_of_stripe w.config.stripes n) from.history g.more (sym e ∙ reached.own)
+
+-- so the stripe's part of the order grows by it
+pub share_grows : (w : WorldState) (n : ℕ) (from to : State) → GoesOn from to → IsStripe w n from → IsReached to → of_stripe w.config.stripes n (w.order ++ added from to) ≡ to.history
+share_grows w n from to g at reached =
+    ap (λ more. of_stripe w.config.stripes n (w.order ++ more)) (added_is from to g)
+    ∙ filter-append (is_of_stripe w.config.stripes n) w.order g.more
+    ∙ ap (λ h. h ++ of_stripe w.config.stripes n g.more) at.share
+    ∙ ap (λ more. from.history ++ more) (all_kept (is_of_stripe w.config.stripes n) g.more (own_added w n from to g at reached))
     ∙ sym g.history_is
 
+-- an event is of one stripe
+one_stripe : (stripes n m : ℕ) (e : Event) → (n ≡ m → ⊥) → is_of_stripe stripes n e ≡ true → is_of_stripe stripes m e ≡ false
+one_stripe stripes n m e apart h = ne_eqb (sum (event_key e) % stripes) m (λ is. apart (sym (eqb-true (sum (event_key e) % stripes) n h) ∙ is))
+
 -- and the others' parts stay
-pub share_stays : (stripes n : ℕ) (order : List Event) (from to : State) (session number : ℕ) (key : Bytes) → GoesOn from to session number key
-    → (sum key % stripes ≡ n → ⊥) → of_stripe stripes n (order ++ added from to) ≡ of_stripe stripes n order
-share_stays stripes n order from to session number key g apart =
-    ap (λ more. of_stripe stripes n (order ++ more)) (added_is from to session number key g)
-    ∙ filter-append (is_of_stripe stripes n) order (put_down session number key g.op g.out g.reply g.cause)
-    ∙ ap (λ more. of_stripe stripes n order ++ more) (others stripes n session number key g.op g.out g.reply g.cause (ne_eqb (sum key % stripes) n apart))
-    ∙ append-nil (of_stripe stripes n order)
+pub share_stays : (w : WorldState) (n m : ℕ) (from to : State) → GoesOn from to → IsStripe w n from → IsReached to → (n ≡ m → ⊥) → of_stripe w.config.stripes m (w.order ++ added from to) ≡ of_stripe w.config.stripes m w.order
+share_stays w n m from to g at reached apart =
+    ap (λ more. of_stripe w.config.stripes m (w.order ++ more)) (added_is from to g)
+    ∙ filter-append (is_of_stripe w.config.stripes m) w.order g.more
+    ∙ ap (λ more. of_stripe w.config.stripes m w.order ++ more)
+    (none_kept (is_of_stripe w.config.stripes n) (is_of_stripe w.config.stripes m) g.more (λ e. one_stripe w.config.stripes n m e apart) (own_added w n from to g at reached))
+    ∙ append-nil (of_stripe w.config.stripes m w.order)
 
 -- 3. The shape.
 
+-- the same stripes and the same order
+pub shape_same : (w n : WorldState) → n.config ≡ w.config → n.stripes ≡ w.stripes → n.order ≡ w.order → IsShaped w → IsShaped n
+shape_same w n config stripes order shape = record {
+  config_fits = ap checked config ∙ shape.config_fits;
+  count = ap length stripes ∙ shape.count ∙ ap (λ (c : Config). c.stripes) (sym config);
+  each = λ k s here.
+      let h = shape.each k s (ap (λ xs. slice_get xs k) (sym stripes) ∙ here) in
+      let share : of_stripe n.config.stripes k n.order ≡ of_stripe w.config.stripes k w.order = λ i. of_stripe (config i).stripes k (order i) in
+      record { config_is = h.config_is ∙ sym config; number_is = h.number_is; origin_is = h.origin_is; reached = h.reached; share = share ∙ h.share };
+}
+
 -- one stripe is another, and the order has all that it put down
-pub shape_set : (w : WorldState) (key : Bytes) (from to : State) (order : List Event) (calls : List Under) (parts : Parts) → IsShaped w → stripe_for w key ≡ Some from
+pub shape_set : (w n : WorldState) (key : Bytes) (from to : State) → n.config ≡ w.config → n.stripes ≡ slice_set w.stripes (home w key) to → IsShaped w → stripe_for w key ≡ Some from
     → to.config ≡ from.config → to.number ≡ from.number → to.origin ≡ from.origin → IsReached to
-    → of_stripe w.config.stripes (home w key) order ≡ to.history
-    → ((n : ℕ) → (home w key ≡ n → ⊥) → of_stripe w.config.stripes n order ≡ of_stripe w.config.stripes n w.order)
-    → IsShaped (record w { stripes = slice_set w.stripes (home w key) to; order = order; calls = calls; parts = parts })
-shape_set w key from to order calls parts shape there config number origin reached share rest =
-    let new : WorldState = record w { stripes = slice_set w.stripes (home w key) to; order = order; calls = calls; parts = parts } in
+    → of_stripe w.config.stripes (home w key) n.order ≡ to.history
+    → ((m : ℕ) → (home w key ≡ m → ⊥) → of_stripe w.config.stripes m n.order ≡ of_stripe w.config.stripes m w.order) → IsShaped n
+shape_set w n key from to config_is stripes_are shape there config number origin reached share rest =
     let old = shape.each (home w key) from there in
-    let mine : IsStripe new (home w key) to =
-    record { config_is = config ∙ old.config_is; number_is = number ∙ old.number_is; origin_is = origin ∙ old.origin_is; reached = reached; share = share } in
+    let count_is : n.config.stripes ≡ w.config.stripes = ap (λ (c : Config). c.stripes) config_is in
+    let mine : IsStripe n (home w key) to =
+    record { config_is = config ∙ old.config_is ∙ sym config_is; number_is = number ∙ old.number_is; origin_is = origin ∙ old.origin_is; reached = reached; share = ap (λ c. of_stripe c (home w key) n.order) count_is ∙ share } in
     record {
-      config_fits = shape.config_fits;
-      count = length-slice_set w.stripes (home w key) to ∙ shape.count;
-      each = λ n s. set_cases w.stripes (home w key) n to s
-          (λ same is. let P : ℕ → Type 0 = λ n. IsStripe new n s in let Q : State → Type 0 = λ s. IsStripe new (home w key) s in subst P same (subst Q is mine))
-          (λ apart here. let h = shape.each n s here in record { config_is = h.config_is; number_is = h.number_is; origin_is = h.origin_is; reached = h.reached; share = rest n apart ∙ h.share });
+      config_fits = ap checked config_is ∙ shape.config_fits;
+      count = ap length stripes_are ∙ length-slice_set w.stripes (home w key) to ∙ shape.count ∙ sym count_is;
+      each = λ m s here. set_cases w.stripes (home w key) m to s
+          (λ same is. let P : ℕ → Type 0 = λ m. IsStripe n m s in let Q : State → Type 0 = λ s. IsStripe n (home w key) s in subst P same (subst Q is mine))
+          (λ apart here.
+          let h = shape.each m s here in
+          record { config_is = h.config_is ∙ sym config_is; number_is = h.number_is; origin_is = h.origin_is; reached = h.reached; share = ap (λ c. of_stripe c m n.order) count_is ∙ rest m apart ∙ h.share })
+          (ap (λ xs. slice_get xs m) (sym stripes_are) ∙ here);
     }
 
 -- 4. The callers' order.
 
 -- a step may come behind what has lower numbers of its session
+first_two : (a b c : Bool) → (a || b) ≡ true → (a || b || c) ≡ true
+first_two true b c h = refl
+first_two false true c h = refl
+first_two false false c h = cc
+
 before_comes : (session number : ℕ) (key : Bytes) (event : Event) → is_before session number event ≡ true → may_come event session number key ≡ true
 before_comes session number key (Step s n op k out shared reply) h = first_two (not (s == session)) (nat_lt n number) _ h
-  where
-    first_two : (a b c : Bool) → (a || b) ≡ true → (a || b || c) ≡ true
-    first_two true b c h = refl
-    first_two false true c h = refl
-    first_two false false c h = cc
 before_comes session number key (Evict k cause) h = refl
 
 -- so it may come behind an order without its number
 pub all_come : (order : List Event) (session number : ℕ) (key : Bytes) → none_from order session number ≡ true → list_all (λ e. may_come e session number key) order ≡ true
 all_come order session number key none = all_imply (is_before session number) (λ e. may_come e session number key) order (before_comes session number key) none
 
--- the order with a step of a call that no step of its session reaches
-pub none_order : (order : List Event) (from to : State) (session number : ℕ) (key : Bytes) → GoesOn from to session number key → in_order order ≡ true → none_from order session number ≡ true → in_order (order ++ added from to) ≡ true
-none_order order from to session number key g h none =
-    ap (λ more. in_order (order ++ more)) (added_is from to session number key g)
-    ∙ order-step order session number g.op key g.out g.reply g.cause h (all_come order session number key none)
+-- each step among these events is of such a session and number
+abbrev pub AllBy : (ℕ → ℕ → Type 0) → List Event → Type 0
+AllBy P [] = Unit {0}
+AllBy P (Step s n op key out shared reply ∷ events) = P s n × AllBy P events
+AllBy P (Evict key cause ∷ events) = AllBy P events
 
--- a fact of each event, where it holds of the step
-all_put : (p : Event → Bool) (session number : ℕ) (key : Bytes) (op : Op) (out : Out) (reply : Reply) (cause : Option Cause) → p (Step session number op key out None reply) ≡ true
-    → ((k : Bytes) (c : Cause) → p (Evict k c) ≡ true) → list_all p (put_down session number key op out reply cause) ≡ true
-all_put p session number key op out reply None here gone = all _ _ here refl
-all_put p session number key op out reply (Some cause) here gone = all _ _ here (all _ _ (gone key cause) refl)
+pub by_map : (P Q : ℕ → ℕ → Type 0) (es : List Event) → ((s n : ℕ) → P s n → Q s n) → AllBy P es → AllBy Q es
+by_map P Q [] f h = tt
+by_map P Q (Step s n op key out shared reply ∷ es) f h = (f s n h.0, by_map P Q es f h.1)
+by_map P Q (Evict key cause ∷ es) f h = by_map P Q es f h
 
--- a fact of each event of the order, and of the step
-all_added : (p : Event → Bool) (order : List Event) (from to : State) (session number : ℕ) (key : Bytes) (g : GoesOn from to session number key) → list_all p order ≡ true
-    → p (Step session number g.op key g.out None g.reply) ≡ true → ((k : Bytes) (c : Cause) → p (Evict k c) ≡ true) → list_all p (order ++ added from to) ≡ true
-all_added p order from to session number key g before here gone =
-    list_all-append p order (added from to)
-    ∙ all _ _ before (ap (list_all p) (added_is from to session number key g) ∙ all_put p session number key g.op g.out g.reply g.cause here gone)
+by_append : (P : ℕ → ℕ → Type 0) (xs ys : List Event) → AllBy P xs → AllBy P ys → AllBy P (xs ++ ys)
+by_append P [] ys h k = k
+by_append P (Step s n op key out shared reply ∷ xs) ys h k = (h.0, by_append P xs ys h.1 k)
+by_append P (Evict key cause ∷ xs) ys h k = by_append P xs ys h k
 
--- the step's number is at most the last
-pub numbers_added : (last : Option ℕ) (order : List Event) (from to : State) (session number : ℕ) (key : Bytes) → GoesOn from to session number key → list_all (number_up_to last) order ≡ true → is_up_to last number ≡ true
-    → list_all (number_up_to last) (order ++ added from to) ≡ true
-numbers_added last order from to session number key g before here = all_added (number_up_to last) order from to session number key g before here (λ k c. refl)
+-- the evictions of a group are of nobody
+by_victim : (P : ℕ → ℕ → Type 0) (victim : Option Bytes) → AllBy P (victim_events victim)
+by_victim P None = tt
+by_victim P (Some key) = tt
 
--- another session's call is still above all steps of its session
-pub none_added : (order : List Event) (from to : State) (session number : ℕ) (key : Bytes) (s n : ℕ) → GoesOn from to session number key → none_from order s n ≡ true → not (s == session) ≡ true → none_from (order ++ added from to) s n ≡ true
-none_added order from to session number key s n g before apart =
-    all_added (is_before s n) order from to session number key g before
-    (ap (λ b. b || nat_lt number n) (ap not (turned_eq session s) ∙ apart)) (λ k c. refl)
+by_evicted : (P : ℕ → ℕ → Type 0) (key : Bytes) (cause : Option Cause) → AllBy P (evicted_events key cause)
+by_evicted P key None = tt
+by_evicted P key (Some cause) = tt
+
+-- each caller's shared step is its own
+by_shared : (P : ℕ → ℕ → Type 0) (place : ℕ) (key : Bytes) (answer : LoadAnswer) (callers : List (ℕ × ℕ)) → Each (λ (c : ℕ × ℕ). P c.0 c.1) callers → AllBy P (map (shared_event place key answer) callers)
+by_shared P place key answer [] h = tt
+by_shared P place key answer (c ∷ cs) h = (h.0, by_shared P place key answer cs h.1)
+
+-- the events of a group are of its call and of the callers that share its load
+pub by_group : (P : ℕ → ℕ → Type 0) (place : ℕ) (group : Group) → P group.session group.number → Each (λ (c : ℕ × ℕ). P c.0 c.1) group.joined → AllBy P (events_of place group)
+by_group P place group one callers =
+    let front = victim_events group.victim in
+    let steps = step_event group ∷ map (shared_event (step_place place group) group.made.key group.made.out.load) group.joined in
+    let all_steps : AllBy P steps = (one, by_shared P (step_place place group) group.made.key group.made.out.load group.joined callers) in
+    by_append P (front ++ steps) (evicted_events group.made.key group.evicted) (by_append P front steps (by_victim P group.victim) all_steps) (by_evicted P group.made.key group.evicted)
+
+-- a fact of each event, where it holds of each step
+pub all_by : (P : ℕ → ℕ → Type 0) (p : Event → Bool) (es : List Event) → ((s n : ℕ) (op : Op) (key : Bytes) (out : Out) (shared : Option ℕ) (reply : Reply) → P s n → p (Step s n op key out shared reply) ≡ true)
+    → ((key : Bytes) (cause : Cause) → p (Evict key cause) ≡ true) → AllBy P es → list_all p es ≡ true
+all_by P p [] f g h = refl
+all_by P p (Step s n op key out shared reply ∷ es) f g h = all _ _ (f s n op key out shared reply h.0) (all_by P p es f g h.1)
+all_by P p (Evict key cause ∷ es) f g h = all _ _ (g key cause) (all_by P p es f g h)
+
+-- what is before such a step may stand before it
+before_follows : (x : Event) (s n : ℕ) (op : Op) (key : Bytes) (out : Out) (shared : Option ℕ) (reply : Reply) → is_before s n x ≡ true → may_follow x (Step s n op key out shared reply) ≡ true
+before_follows (Step s' n' op' key' out' shared' reply') s n op key out shared reply h = first_two (not (s' == s)) (nat_lt n' n) _ h
+before_follows (Evict key' cause) s n op key out shared reply h = refl
+
+-- and everything before an eviction
+before_evict : (x : Event) (key : Bytes) (cause : Cause) → may_follow x (Evict key cause) ≡ true
+before_evict (Step s n op key' out shared reply) key cause = refl
+before_evict (Evict key' cause') key cause = refl
+
+-- events may stand behind an order without their numbers
+all_follow : (xs ys : List Event) → AllBy (λ s n. none_from xs s n ≡ true) ys → list_all (λ x. list_all (may_follow x) ys) xs ≡ true
+all_follow [] ys h = refl
+all_follow (x ∷ xs) ys h = all _ _
+    (all_by (λ s n. none_from (x ∷ xs) s n ≡ true) (may_follow x) ys
+    (λ s n op key out shared reply k. before_follows x s n op key out shared reply (both (is_before s n x) (none_from xs s n) k).0) (before_evict x) h)
+    (all_follow xs ys (by_map (λ s n. none_from (x ∷ xs) s n ≡ true) (λ s n. none_from xs s n ≡ true) ys (λ s n k. (both (is_before s n x) (none_from xs s n) k).1) h))
+
+-- two parts in order, of which the one may stand behind the other
+order_joined : (xs ys : List Event) → in_order xs ≡ true → in_order ys ≡ true → list_all (λ x. list_all (may_follow x) ys) xs ≡ true → in_order (xs ++ ys) ≡ true
+order_joined [] ys h k f = k
+order_joined (x ∷ xs) ys h k f =
+    let parts = both (list_all (may_follow x) xs) (in_order xs) h in
+    let fits = both (list_all (may_follow x) ys) (list_all (λ x. list_all (may_follow x) ys) xs) f in
+    all _ _ (list_all-append (may_follow x) xs ys ∙ all _ _ parts.0 fits.0) (order_joined xs ys parts.1 k fits.1)
+
+-- the second part of what is in order is in order
+order_back : (xs ys : List Event) → in_order (xs ++ ys) ≡ true → in_order ys ≡ true
+order_back [] ys h = h
+order_back (x ∷ xs) ys h = order_back xs ys (both (list_all (may_follow x) (xs ++ ys)) (in_order (xs ++ ys)) h).1
+
+-- the order with the steps of calls whose numbers it doesn't have
+pub added_order : (order : List Event) (from to : State) (g : GoesOn from to) → IsReached to → in_order order ≡ true → AllBy (λ s n. none_from order s n ≡ true) g.more → in_order (order ++ added from to) ≡ true
+added_order order from to g reached h none =
+    ap (λ more. in_order (order ++ more)) (added_is from to g)
+    ∙ order_joined order g.more h (order_back from.history g.more (sym (ap in_order g.history_is) ∙ reached.legal.order)) (all_follow order g.more none)
+
+-- a fact of each event of the order, and of what is added
+added_all : (p : Event → Bool) (order : List Event) (from to : State) (g : GoesOn from to) → list_all p order ≡ true → list_all p g.more ≡ true → list_all p (order ++ added from to) ≡ true
+added_all p order from to g before here = list_all-append p order (added from to) ∙ all _ _ before (ap (list_all p) (added_is from to g) ∙ here)
+
+-- the numbers of the steps are at most the last
+pub numbers_added : (last : Option ℕ) (order : List Event) (from to : State) (g : GoesOn from to) → list_all (number_up_to last) order ≡ true → AllBy (λ s n. is_up_to last n ≡ true) g.more → list_all (number_up_to last) (order ++ added from to) ≡ true
+numbers_added last order from to g before here =
+    added_all (number_up_to last) order from to g before (all_by (λ s n. is_up_to last n ≡ true) (number_up_to last) g.more (λ s n op key out shared reply h. h) (λ key cause. refl) here)
+
+-- a call of another session is still above all steps of its session
+pub none_added : (order : List Event) (from to : State) (session number : ℕ) (g : GoesOn from to) → none_from order session number ≡ true → AllBy (λ s n. not (s == session) ≡ true) g.more → none_from (order ++ added from to) session number ≡ true
+none_added order from to session number g before here =
+    added_all (is_before session number) order from to g before
+    (all_by (λ s n. not (s == session) ≡ true) (is_before session number) g.more (λ s n op key out shared reply h. ap (λ b. b || nat_lt n number) h) (λ key cause. refl) here)

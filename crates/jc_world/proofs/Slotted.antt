@@ -2,7 +2,7 @@
 use Rattle.std.proofs.Common.{◌≡◌, ◌==◌, ◌&&◌, List, Bool, true, false, cond, not, Option, Some, None, IsSomeAnd, sym, subst, ap, ◌∙◌, refl, ℕ, ◌++◌, ◌∷◌, []}
 use Rattle.std.proofs.lemmas.Cmp.{nat_list_cmp_total}
 use Rattle.std.specs.FinMap as map
-use Rattle.std.specs.FinMap.{get, insert, get-from_entries}
+use Rattle.std.specs.FinMap.{get, insert, find, get-from_entries}
 use Rattle.jc_model.specs.Cache.{Bytes, Cache, key_cmp}
 use Rattle.jc_model.specs.declared.event.Change.{Change}
 use Rattle.jc_model.specs.declared.event.LoadAnswer.{LoadAnswer}
@@ -12,7 +12,9 @@ use Rattle.jc_model.proofs.Lookups.{both, exact}
 use Rattle.jc_stripe.specs.declared.ticket.First.{First}
 use Rattle.jc_stripe.specs.declared.ticket.First.TheVariants.{Nobody, Loader, Writer}
 use Rattle.jc_world.specs.declared.event.Part.{Part}
-use Rattle.jc_world.specs.World.{WorldState, Parts, of_call, part_of, asks_loader, asks_writer, waits_for_load, waits_for_report, is_answered}
+use Rattle.jc_world.specs.World.{WorldState, Parts, of_call, part_of, asks_loader, asks_writer, waits_for_load, waits_for_report, is_answered, is_untouched}
+use Rattle.jc_world.specs.declared.event.WorldEvent.TheVariants as event
+use Rattle.jc_world.specs.Events.{fits}
 use Rattle.jc_world.specs.Slots.{parts_of, once}
 use Rattle.jc_world.proofs.Listed.{Entry, once-push}
 
@@ -47,3 +49,28 @@ waits_writer part h = go part.first refl ((both (asks_writer part.first) (not (w
 pub answered_some : (o : Option Part) → is_answered o ≡ true → (part : Part) × (o ≡ Some part)
 answered_some None h = cc
 answered_some (Some part) h = (part, refl)
+
+untouched_some : (o : Option Part) → is_untouched o ≡ true → (part : Part) × (o ≡ Some part)
+untouched_some None h = cc
+untouched_some (Some part) h = (part, refl)
+
+-- the slot that was taken out is the part's
+pub taken_is : (slots : List Entry) (v : WorldState) (call : ℕ) (key : Bytes) (slot : Entry) (part : Part) → v.parts ≡ parts_of slots → part_of v call key ≡ Some part → find key_cmp key slots ≡ Some slot.1 → slot.0 ≡ key → slot ≡ (key, part)
+taken_is slots v call key slot part is there found key_is =
+    let e : Some slot.1 ≡ Some part = sym found ∙ in_slots slots v v call key part is refl there in
+    let same : slot.1 ≡ part = cc in
+    λ i. (key_is i, same i)
+
+-- the part of a call whose commit fits
+pub answered_part : (v : WorldState) (w : WorldState) (call : ℕ) (key : Bytes) → v ≡ w → fits w (event.Commit call key) ≡ true → (part : Part) × (part_of v call key ≡ Some part) × (is_answered (Some part) ≡ true)
+answered_part v w call key same fit =
+    let A : WorldState → Type 0 = λ x. is_answered (part_of x call key) ≡ true in
+    let answered = subst A (sym same) fit in
+    let one = answered_some (part_of v call key) answered in
+    (one.0, one.1, sym (ap is_answered one.1) ∙ answered)
+
+-- the part of a call that may be withdrawn
+pub untouched_part : (v : WorldState) (w : WorldState) (call : ℕ) (key : Bytes) → v ≡ w → fits w (event.Withdraw call key) ≡ true → (part : Part) × (part_of v call key ≡ Some part)
+untouched_part v w call key same fit =
+    let A : WorldState → Type 0 = λ x. is_untouched (part_of x call key) ≡ true in
+    untouched_some (part_of v call key) (subst A (sym same) fit)

@@ -1,26 +1,27 @@
 -- The calls under way, and the reservations that they own.
 --     find_over       a call that is over leaves the others where they are
---     calls_over      and they still fit
---     apart_over      they are of other sessions
+--     calls_filter    and they still fit
+--     each_found      each call is found by its number
+--     apart_over      the others are of other sessions
 --     calls_pushed    a new call fits beside them
 --     all_owned       what each reservation owns, in another world
-use Rattle.std.proofs.Common.{◌≡◌, ◌==◌, ◌||◌, ℕ, List, [], ◌∷◌, ◌++◌, Bool, true, false, cond, not, Option, None, Some, IsSomeAnd, find, nat_lt, nat_le, refl, sym, ap, ◌∙◌, subst, arith, is_none}
+use Rattle.std.proofs.Common.{◌≡◌, ◌==◌, ◌||◌, ℕ, List, [], ◌∷◌, ◌++◌, Bool, true, false, cond, not, Option, None, Some, IsSomeAnd, find, filter, nat_lt, nat_le, refl, sym, ap, ◌∙◌, subst, arith, is_none}
 use Rattle.std.specs.List.{list_all, list_any}
 use Rattle.std.specs.Cmp.Lexicographic.{pointwise, texts_ties}
 use Rattle.std.proofs.lemmas.Bool.{eqb-true}
+use Rattle.std.proofs.lemmas.Cmp.{nat_eq_equiv}
 use Rattle.std.proofs.lemmas.Bool.Decides.{nat_tests}
 use Rattle.jc_model.specs.declared.event.Event.{Event}
 use Rattle.jc_model.specs.declared.event.Event.TheVariants.{Step, Evict}
 use Rattle.jc_model.specs.Cache.{Bytes}
 use Rattle.jc_model.proofs.Lookups.{both, same_key}
-use Rattle.jc_stripe.specs.declared.ticket.Reserved.{Reserved}
-use Rattle.jc_stripe.specs.State.{is_key, unreserved}
+use Rattle.jc_stripe.specs.State.{Reserved, is_key, unreserved}
 use Rattle.jc_world.specs.declared.event.Under.{Under}
 use Rattle.jc_world.specs.declared.event.Part.{Part}
 use Rattle.jc_world.specs.World.{WorldState, has_number, is_of, over, of_call}
 use Rattle.jc_world.specs.Events.{is_new}
 use Rattle.jc_world.specs.Sound.{is_up_to, number_up_to, is_before, none_from, is_apart, FitsCall, CallsFit, IsOwned, AllOwned}
-use Rattle.jc_world.proofs.Shares.{all, turned_eq, all_filter, all_imply, found_all, found_test}
+use Rattle.jc_world.proofs.Shares.{all, turned_eq, all_filter, all_imply, found_all, found_test, Each, each_map}
 
 -- 1. A call that is over.
 
@@ -42,22 +43,49 @@ find_over call other (x ∷ xs) apart =
     ] refl
 
 -- a call under way fits
-pub fits_found : (last : Option ℕ) (order : List Event) (p : Under → Bool) (calls : List Under) (u : Under) → find p calls ≡ Some u → CallsFit last order calls → FitsCall last order u
-fits_found last order p [] u h fit = cc
-fits_found last order p (x ∷ xs) u h fit =
-    elim (p x) as (λ b. cond b (Some x) (find p xs) ≡ Some u → FitsCall last order u) [
-      | true ↦ λ h. let is : x ≡ u = cc in subst (FitsCall last order) is fit.0
-      | false ↦ λ h. fits_found last order p xs u h fit.2
+pub fits_found : (w : WorldState) (p : Under → Bool) (calls : List Under) (u : Under) → find p calls ≡ Some u → CallsFit w calls → FitsCall w u
+fits_found w p [] u h fit = cc
+fits_found w p (x ∷ xs) u h fit =
+    elim (p x) as (λ b. cond b (Some x) (find p xs) ≡ Some u → FitsCall w u) [
+      | true ↦ λ h. let is : x ≡ u = cc in subst (FitsCall w) is fit.0
+      | false ↦ λ h. fits_found w p xs u h fit.2
     ] h
 
--- without a call that is over, the others fit
-pub calls_over : (last : Option ℕ) (order : List Event) (call : ℕ) (calls : List Under) → CallsFit last order calls → CallsFit last order (over call calls)
-calls_over last order call [] fit = tt
-calls_over last order call (x ∷ xs) fit =
-    elim (not (has_number call x)) as (λ b. CallsFit last order (cond b (x ∷ over call xs) (over call xs))) [
-      | true ↦ (fit.0, all_filter (λ u. not (has_number call u)) (is_apart x) xs fit.1, calls_over last order call xs fit.2)
-      | false ↦ calls_over last order call xs fit.2
-    ]
+-- the calls that pass a test fit another world
+pub calls_filter : (w n : WorldState) (p : Under → Bool) (P : Under → Type 0) (calls : List Under) → ((u : Under) → p u ≡ true → P u → FitsCall w u → FitsCall n u) → Each P calls → CallsFit w calls → CallsFit n (filter p calls)
+calls_filter w n p P [] f each fit = tt
+calls_filter w n p P (x ∷ xs) f each fit =
+    elim (p x) as (λ b. p x ≡ b → CallsFit n (cond b (x ∷ filter p xs) (filter p xs))) [
+      | true ↦ λ e. (f x e each.0 fit.0, all_filter p (is_apart x) xs fit.1, calls_filter w n p P xs f each.1 fit.2)
+      | false ↦ λ e. calls_filter w n p P xs f each.1 fit.2
+    ] refl
+
+-- all calls fit another world
+pub calls_on : (w n : WorldState) (P : Under → Type 0) (calls : List Under) → ((u : Under) → P u → FitsCall w u → FitsCall n u) → Each P calls → CallsFit w calls → CallsFit n calls
+calls_on w n P [] f each fit = tt
+calls_on w n P (x ∷ xs) f each fit = (f x each.0 fit.0, fit.1, calls_on w n P xs f each.1 fit.2)
+
+-- a call of another number is not found
+number_apart : (x u : Under) → is_apart x u ≡ true → has_number u.number x ≡ false
+number_apart x u h = go (x.number == u.number) (ap not (turned_eq x.number u.number) ∙ (both (not (u.session == x.session)) (not (u.number == x.number)) h).1)
+  where
+    go : (b : Bool) → not b ≡ true → b ≡ false
+    go true h = cc
+    go false h = refl
+
+-- each call is found by its number
+pub each_found : (w : WorldState) (calls : List Under) → CallsFit w calls → Each (λ (u : Under). find (has_number u.number) calls ≡ Some u) calls
+each_found w [] fit = tt
+each_found w (x ∷ xs) fit = (
+  ap (λ b. cond b (Some x) (find (has_number x.number) xs)) (nat_eq_equiv.refl x.number),
+  behind xs (each_found w xs fit.2) fit.1,
+)
+  where
+    behind : (ys : List Under) → Each (λ (u : Under). find (has_number u.number) xs ≡ Some u) ys → list_all (is_apart x) ys ≡ true → Each (λ (u : Under). find (has_number u.number) (x ∷ xs) ≡ Some u) ys
+    behind [] h apart = tt
+    behind (y ∷ ys) h apart =
+        let parts = both (is_apart x y) (list_all (is_apart x) ys) apart in
+        (ap (λ b. cond b (Some x) (find (has_number y.number) xs)) (number_apart x y parts.0) ∙ h.0, behind ys h.1 parts.1)
 
 -- of another session
 abbrev pub is_elsewhere : ℕ → Under → Bool
@@ -68,9 +96,9 @@ elsewhere : (x u : Under) → is_apart x u ≡ true → is_elsewhere x.session u
 elsewhere x u h = (both (not (u.session == x.session)) (not (u.number == x.number)) h).0
 
 -- the calls beside one under way are of other sessions
-pub apart_over : (last : Option ℕ) (order : List Event) (call : ℕ) (calls : List Under) (u : Under) → find (has_number call) calls ≡ Some u → CallsFit last order calls → list_all (is_elsewhere u.session) (over call calls) ≡ true
-apart_over last order call [] u h fit = cc
-apart_over last order call (x ∷ xs) u h fit =
+pub apart_over : (w : WorldState) (call : ℕ) (calls : List Under) (u : Under) → find (has_number call) calls ≡ Some u → CallsFit w calls → list_all (is_elsewhere u.session) (over call calls) ≡ true
+apart_over w call [] u h fit = cc
+apart_over w call (x ∷ xs) u h fit =
     elim (has_number call x) as (λ b. cond b (Some x) (find (has_number call) xs) ≡ Some u → list_all (is_elsewhere u.session) (cond (not b) (x ∷ over call xs) (over call xs)) ≡ true) [
       | true ↦ λ h.
           let is : x ≡ u = cc in
@@ -78,22 +106,14 @@ apart_over last order call (x ∷ xs) u h fit =
           ap (λ (y : Under). list_all (is_elsewhere y.session) (over call xs)) (sym is) ∙ here
       | false ↦ λ h.
           let away = elsewhere x u (found_all (has_number call) (is_apart x) xs u h fit.1) in
-          all _ _ (ap not (turned_eq x.session u.session) ∙ away) (apart_over last order call xs u h fit.2)
+          all _ _ (ap not (turned_eq x.session u.session) ∙ away) (apart_over w call xs u h fit.2)
     ] h
 
 -- a call under way of another number is of another session
-pub elsewhere_found : (last : Option ℕ) (order : List Event) (call other : ℕ) (calls : List Under) (u v : Under) → CallsFit last order calls → find (has_number call) calls ≡ Some u → find (has_number other) calls ≡ Some v
+pub elsewhere_found : (w : WorldState) (call other : ℕ) (calls : List Under) (u v : Under) → CallsFit w calls → find (has_number call) calls ≡ Some u → find (has_number other) calls ≡ Some v
     → (call == other) ≡ false → is_elsewhere u.session v ≡ true
-elsewhere_found last order call other calls u v fit one two apart =
-    found_all (has_number other) (is_elsewhere u.session) (over call calls) v (find_over call other calls apart ∙ two) (apart_over last order call calls u one fit)
-
--- 2. The calls fit another order.
-
--- each call fits another order, and another last number
-pub calls_on : (last next : Option ℕ) (order more : List Event) (p : Under → Bool) (calls : List Under) → ((u : Under) → p u ≡ true → FitsCall last order u → FitsCall next more u)
-    → list_all p calls ≡ true → CallsFit last order calls → CallsFit next more calls
-calls_on last next order more p [] f h fit = tt
-calls_on last next order more p (x ∷ xs) f h fit = let parts = both (p x) (list_all p xs) h in (f x parts.0 fit.0, fit.1, calls_on last next order more p xs f parts.1 fit.2)
+elsewhere_found w call other calls u v fit one two apart =
+    found_all (has_number other) (is_elsewhere u.session) (over call calls) v (find_over call other calls apart ∙ two) (apart_over w call calls u one fit)
 
 -- 3. A new call.
 
@@ -161,14 +181,14 @@ pushed_apart p [] u h one = all _ _ one refl
 pushed_apart p (x ∷ xs) u h one = let parts = both (p x) (list_all p xs) h in all _ _ parts.0 (pushed_apart p xs u parts.1 one)
 
 -- the calls fit with a new one
-pub calls_pushed : (last : Option ℕ) (order : List Event) (u : Under) (calls : List Under) → is_new last u.number ≡ true → not (list_any (is_of u.session) calls) ≡ true
-    → FitsCall (Some u.number) order u → CallsFit last order calls → CallsFit (Some u.number) order (calls ++ u ∷ [])
-calls_pushed last order u [] new free fit rest = (fit, refl, tt)
-calls_pushed last order u (x ∷ xs) new free fit rest =
+pub calls_pushed : (w n : WorldState) (u : Under) (calls : List Under) → is_new w.last u.number ≡ true → not (list_any (is_of u.session) calls) ≡ true
+    → ((x : Under) → FitsCall w x → FitsCall n x) → FitsCall n u → CallsFit w calls → CallsFit n (calls ++ u ∷ [])
+calls_pushed w n u [] new free f fit rest = (fit, refl, tt)
+calls_pushed w n u (x ∷ xs) new free f fit rest =
     let away = not_busy u.session x xs free in (
-      record { single = rest.0.single; number = up_more last u.number x.number new rest.0.number; none = rest.0.none },
-      pushed_apart (is_apart x) xs u rest.1 (all _ _ away.0 (less_not x.number u.number (up_to_new last u.number x.number new rest.0.number))),
-      calls_pushed last order u xs new away.1 fit rest.2,
+      f x rest.0,
+      pushed_apart (is_apart x) xs u rest.1 (all _ _ away.0 (less_not x.number u.number (up_to_new w.last u.number x.number new rest.0.number))),
+      calls_pushed w n u xs new away.1 f fit rest.2,
     )
 
 -- a call is found among more

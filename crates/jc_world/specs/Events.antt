@@ -3,7 +3,7 @@
 --     Happens     what an event that fits may show and leave
 --     Step        one event: one that doesn't fit is shown as a fault and changes nothing
 --     Run         events one after another
-use Rattle.std.specs.Prelude.{◌≡◌, ◌==◌, ◌⊎◌, ℕ, ◌+◌, List, [], ◌∷◌, ◌++◌, length, drop, Bool, true, false, not, ◌&&◌, Option, None, Some, is_none, nat_lt, slice_set}
+use Rattle.std.specs.Prelude.{◌≡◌, ◌==◌, ◌⊎◌, ℕ, ◌+◌, List, [], ◌∷◌, ◌++◌, length, drop, Bool, true, false, not, ◌&&◌, Option, None, Some, is_none, nat_lt, slice_get, slice_set, ◌-◌, if◌then◌else◌}
 use Rattle.std.specs.Cmp.Lexicographic.{pointwise}
 use Rattle.std.specs.FinMap.{insert, remove}
 use Rattle.jc_types.specs.Limits.{between}
@@ -22,18 +22,20 @@ use Rattle.jc_model.specs.Table.{load_given}
 use Rattle.jc_stripe.specs.declared.begun.Begun.TheVariants as begun
 use Rattle.jc_stripe.specs.declared.ticket.First.{First}
 use Rattle.jc_stripe.specs.declared.ticket.First.TheVariants.{Loader, Writer}
-use Rattle.jc_stripe.specs.Claim.{Claim, WriteClaim}
+use Rattle.jc_stripe.specs.declared.begun.Picked.TheVariants as picked
+use Rattle.jc_stripe.specs.Claim.{Claim, WriteClaim, JoinClaim}
 use Rattle.jc_stripe.specs.State.{State}
-use Rattle.jc_stripe.specs.Phases.{Begins, Commits}
+use Rattle.jc_stripe.specs.Phases.{Begins, Commits, Withdraws, PicksUp}
 use Rattle.jc_world.specs.declared.event.WorldEvent.{WorldEvent}
 use Rattle.jc_world.specs.declared.event.WorldEvent.TheVariants as event
 use Rattle.jc_world.specs.declared.event.Shown.{Shown}
 use Rattle.jc_world.specs.declared.event.Shown.TheVariants as shown
 use Rattle.jc_world.specs.declared.event.Stepped.{Stepped}
+use Rattle.jc_world.specs.declared.event.Gone.{Gone}
 use Rattle.jc_world.specs.declared.event.Command.{Command}
 use Rattle.jc_world.specs.declared.event.Under.{Under}
 use Rattle.jc_world.specs.declared.event.Part.{Part}
-use Rattle.jc_world.specs.World.{WorldState, home, stripe_for, is_busy, under, over, part_of, waits_for_load, waits_for_report, is_answered, claim_of, out_of}
+use Rattle.jc_world.specs.World.{WorldState, home, stripe_for, is_busy, under, over, part_of, waits_for_load, waits_for_report, is_answered, is_untouched, join_of, is_joined, unjoined, claim_of, out_of}
 use Rattle.jc_world.specs.Premises.{read_answer, changed_to, report_of, is_true_load, is_true_report, with_loader, with_writer, disturbed}
 
 -- 1. When an event fits.
@@ -64,10 +66,19 @@ abbrev pub is_new : Option ℕ → ℕ → Bool
 is_new None call = true
 is_new (Some last) call = nat_lt last call
 
--- the key is the call's, and it has no reservation yet
+-- the call has neither a reservation nor a join of this key
+abbrev pub is_free : WorldState → ℕ → Bytes → Bool
+is_free w call key = is_none (part_of w call key) && not (is_joined w call key)
+
+-- the key is the call's, and it has neither a reservation nor a join
 abbrev pub may_start : WorldState → ℕ → Bytes → Option Under → Bool
 may_start w call key None = false
-may_start w call key (Some u) = pointwise ◌==◌ key u.command.key && is_none (part_of w call key)
+may_start w call key (Some u) = pointwise ◌==◌ key u.command.key && is_free w call key
+
+-- the call has neither a reservation nor a join
+abbrev pub may_leave : WorldState → ℕ → Option Under → Bool
+may_leave w call None = false
+may_leave w call (Some u) = is_free w call u.command.key
 
 -- the call's key is asked of the writer, which hasn't returned
 abbrev pub may_report : WorldState → ℕ → Option Under → Bool
@@ -82,6 +93,9 @@ fits w (event.Say call key answer) = load_given answer && waits_for_load (part_o
 fits w (event.Change call key) = waits_for_report (part_of w call key)
 fits w (event.Report call fault) = may_report w call (under w call)
 fits w (event.Commit call key) = is_answered (part_of w call key)
+fits w (event.Withdraw call key) = is_untouched (part_of w call key)
+fits w (event.Leave call) = may_leave w call (under w call)
+fits w (event.PickUp call key) = is_joined w call key
 fits w (event.Foreign key value) = true
 
 -- 2. What a phase leaves.
@@ -94,16 +108,27 @@ with_stripe w key to = record w { stripes = slice_set w.stripes (home w key) to 
 abbrev pub goes_on : WorldState → Bytes → State → State → WorldState
 goes_on w key from to = record w { stripes = slice_set w.stripes (home w key) to; order = w.order ++ drop (length from.history) to.history }
 
--- the eviction that stands first in these events, if one does
-abbrev pub eviction_first : List Event → Option Cause
-eviction_first [] = None
-eviction_first (stripe.Evict key cause ∷ events) = Some cause
-eviction_first (stripe.Step session number op key out shared_with reply ∷ events) = None
+-- who goes first in these events, if one does
+abbrev pub victim_first : List Event → Option Bytes
+victim_first [] = None
+victim_first (stripe.Evict key cause ∷ events) = Some key
+victim_first (stripe.Step session number op key out shared_with reply ∷ events) = None
 
--- what is shown of a step: its stripe, and the eviction directly behind it
-pub record ShowsStep (old : WorldState) (key : Bytes) (to : State) (seen : Stepped) : Type 0 where
+-- the event at a place, if it is an eviction behind a step
+abbrev pub gone_at : ℕ → ℕ → Option Event → Option Gone
+gone_at step place None = None
+gone_at step place (Some (stripe.Evict key cause)) = if nat_lt step place then Some (record { cause = cause; place = place }) else None
+gone_at step place (Some (stripe.Step session number op key out shared_with reply)) = None
+
+-- the last event, if it is an eviction behind the step at a place
+abbrev pub gone_last : ℕ → List Event → Option Gone
+gone_last step events = gone_at step (length events - 1) (slice_get events (length events - 1))
+
+-- what is shown of a step: its stripe, and the evictions that were put down with it
+pub record ShowsStep (old : WorldState) (key : Bytes) (from to : State) (seen : Stepped) : Type 0 where
   pub stripe_is : seen.stripe ≡ home old key
-  pub evicted_is : seen.evicted ≡ eviction_first (drop (seen.place + 1) to.history)
+  pub victim_is : seen.victim ≡ victim_first (drop (length from.history) to.history)
+  pub evicted_is : seen.evicted ≡ gone_last seen.place to.history
 
 abbrev pub call_over : WorldState → ℕ → WorldState
 call_over w call = record w { calls = over call w.calls }
@@ -116,6 +141,15 @@ new_part u number first =
 abbrev pub with_part : WorldState → Bytes → Part → WorldState
 with_part w key part = record w { parts = insert w.parts key part }
 
+abbrev pub without_part : WorldState → Bytes → WorldState
+without_part w key = record w { parts = remove w.parts key }
+
+abbrev pub with_join : WorldState → JoinClaim → WorldState
+with_join w join = record w { joins = w.joins ++ join ∷ [] }
+
+abbrev pub without_join : WorldState → ℕ → Bytes → WorldState
+without_join w call key = record w { joins = unjoined call key w.joins }
+
 -- 3. The first phase, and the last.
 
 -- of a call whose stripe is at `from`, and is then at `to`
@@ -124,20 +158,32 @@ Starts old u from to (shown.Refused refusal) new =
     Begins from u.session u.number u.command.key u.command.op (begun.Refused refusal) to × (new ≡ call_over old u.number)
 Starts old u from to (shown.Stepped seen) new =
     Begins from u.session u.number u.command.key u.command.op (begun.Done seen.reply seen.place) to
-    × ShowsStep old u.command.key to seen × (new ≡ call_over (goes_on old u.command.key from to) u.number)
+    × ShowsStep old u.command.key from to seen × (new ≡ call_over (goes_on old u.command.key from to) u.number)
 Starts old u from to shown.Loads new =
     (ticket : Claim) × Begins from u.session u.number u.command.key u.command.op (begun.Load ticket) to
     × (new ≡ with_part (with_stripe old u.command.key to) u.command.key (new_part u ticket.number Loader))
 Starts old u from to (shown.Asks change) new =
     (ticket : WriteClaim) × Begins from u.session u.number u.command.key u.command.op (begun.Write ticket change) to
     × (new ≡ with_part (with_stripe old u.command.key to) u.command.key (new_part u ticket.claim.number (Writer change)))
+Starts old u from to shown.Joins new =
+    (join : JoinClaim) × Begins from u.session u.number u.command.key u.command.op (begun.Joined join) to
+    × (new ≡ with_join (with_stripe old u.command.key to) join)
 Starts old u from to seen new = ⊥
 
 abbrev pub Ends : WorldState → ℕ → Bytes → Part → State → State → Shown → WorldState → Type 0
 Ends old call key part from to (shown.Stepped seen) new =
     Commits from (claim_of key part) (out_of part) seen.reply seen.place to
-    × ShowsStep old key to seen × (new ≡ record (call_over (goes_on old key from to) call) { parts = remove old.parts key })
+    × ShowsStep old key from to seen × (new ≡ without_part (call_over (goes_on old key from to) call) key)
 Ends old call key part from to seen new = ⊥
+
+-- of a call that has joined the load of a key: its answer, with which the call is over, or leave to begin again, or nothing yet
+abbrev pub Picks : WorldState → ℕ → Bytes → JoinClaim → State → State → Shown → WorldState → Type 0
+Picks old call key join from to (shown.PickedUp seen) new =
+    PicksUp from join (picked.Answer seen.reply seen.place seen.shared) to × (seen.stripe ≡ home old key)
+    × (new ≡ call_over (without_join (with_stripe old key to) call key) call)
+Picks old call key join from to shown.Again new = PicksUp from join picked.Again to × (new ≡ without_join (with_stripe old key to) call key)
+Picks old call key join from to shown.Waits new = PicksUp from join (picked.NotYet join) to × (new ≡ old)
+Picks old call key join from to seen new = ⊥
 
 -- 4. What was said outside.
 
@@ -174,6 +220,12 @@ Happens old (event.Report call fault) seen new =
     × (seen ≡ shown.Reported (record { change = change; is_changed = part.is_changed; fault = fault })) × (new ≡ reported old u.command.key part (report_of fault))
 Happens old (event.Commit call key) seen new =
     (part : Part) × (part_of old call key ≡ Some part) × (from : State) × (stripe_for old key ≡ Some from) × (to : State) × Ends old call key part from to seen new
+Happens old (event.Withdraw call key) seen new =
+    (part : Part) × (part_of old call key ≡ Some part) × (from : State) × (stripe_for old key ≡ Some from) × (to : State) × Withdraws from (claim_of key part) to
+    × (seen ≡ shown.Withdrawn) × (new ≡ without_part (with_stripe old key to) key)
+Happens old (event.Leave call) seen new = (seen ≡ shown.Left) × (new ≡ call_over old call)
+Happens old (event.PickUp call key) seen new =
+    (join : JoinClaim) × (join_of old call key ≡ Some join) × (from : State) × (stripe_for old key ≡ Some from) × (to : State) × Picks old call key join from to seen new
 Happens old (event.Foreign key value) seen new =
     (seen ≡ shown.Written) × (new ≡ record old { store = with_entry old.store key value; fresh = false; premises = disturbed old.premises })
 

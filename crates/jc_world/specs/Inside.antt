@@ -17,6 +17,7 @@ world_of m =
       last = m.last;
       calls = m.calls.items;
       parts = parts_of m.slots.items;
+      joins = m.joins.items;
       premises = m.premises;
     }
 

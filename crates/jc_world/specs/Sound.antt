@@ -2,13 +2,17 @@
 --     IsStripe       a stripe of the world: it is reached, and its history is its part of the order
 --     IsShaped       there is a stripe for each number
 --     none_from      no step of a session has this number or a higher one
---     CallsFit       the calls under way: their numbers are not used in the order yet, and no two are of one session
+--     is_served      the answer of a load that it has joined is parked for a call
+--     CallsFit       the calls under way: their numbers are not used in the order yet, but for those that are served, and no two are of
+--                    one session
 --     IsHeld         a part has its reservation and its call
 --     AllOwned       each reservation has its part and its call
+--     IsWaitedFor    a join has its joiner and its call, which has no part
+--     AllCalled      each joiner has its join and its call
 --     KeyTold        as long as the premises hold: what is known of a key's part, the store's value and the cached one
 --     IsSoundWorld   all of it
 use Rattle.std.specs.Prelude.{◌≡◌, ◌==◌, ℕ, List, [], ◌∷◌, length, Ok, Bool, true, false, not, ◌&&◌, ◌||◌, Option, None, Some, is_some, IfSome, IsSomeAnd, slice_get, nat_le, nat_lt}
-use Rattle.std.specs.List.{list_all}
+use Rattle.std.specs.List.{list_all, list_any}
 use Rattle.std.specs.FinMap.{get, contains_key}
 use Rattle.jc_types.specs.Limits.{checked}
 use Rattle.jc_model.specs.declared.event.Change.{Change}
@@ -25,12 +29,18 @@ use Rattle.jc_model.specs.Processor.{found_in}
 use Rattle.jc_stripe.specs.declared.ticket.First.{First}
 use Rattle.jc_stripe.specs.declared.ticket.First.TheVariants.{Nobody, Loader, Writer}
 use Rattle.jc_stripe.specs.declared.ticket.Origin.TheVariants.{Played}
-use Rattle.jc_stripe.specs.declared.ticket.Reserved.{Reserved}
-use Rattle.jc_stripe.specs.State.{State, claimed}
+use Rattle.jc_inflight.specs.declared.joiner.Joiner.{Joiner}
+use Rattle.jc_inflight.specs.declared.joiner.JoinState.{JoinState}
+use Rattle.jc_inflight.specs.declared.joiner.JoinState.TheVariants.{Waiting, Parked}
+use Rattle.jc_inflight.specs.declared.joiner.Parked.TheVariants as parked
+use Rattle.jc_inflight.specs.Joined.{is_joined as has_joined}
+use Rattle.jc_inflight.specs.Taking.{joiner_of}
+use Rattle.jc_stripe.specs.Claim.{JoinClaim}
+use Rattle.jc_stripe.specs.State.{State, Reserved, claimed}
 use Rattle.jc_stripe.specs.Reached.{IsReached}
 use Rattle.jc_world.specs.declared.event.Under.{Under}
 use Rattle.jc_world.specs.declared.event.Part.{Part}
-use Rattle.jc_world.specs.World.{WorldState, Parts, stripe_for, cached, under, claim_of}
+use Rattle.jc_world.specs.World.{WorldState, Parts, home, stripe_for, cached, under, part_of, is_join, is_joined, claim_of}
 use Rattle.jc_world.specs.Premises.{changed_to, is_done}
 use Rattle.jc_world.specs.Events.{is_single}
 use Rattle.jc_world.specs.Coherent.{all_hold}
@@ -67,18 +77,37 @@ is_before session number (stripe.Evict key cause) = true
 abbrev pub none_from : List Event → ℕ → ℕ → Bool
 none_from order session number = list_all (is_before session number) order
 
+-- an answer is parked
+abbrev pub has_answer : JoinState → Bool
+has_answer Waiting = false
+has_answer (Parked (parked.Answer place shared)) = true
+has_answer (Parked parked.Again) = false
+
+abbrev pub is_told : Option Joiner → Bool
+is_told None = false
+is_told (Some j) = has_answer j.state
+
+-- at the stripe of its key
+abbrev pub is_served_in : Option State → Under → Bool
+is_served_in None u = false
+is_served_in (Some s) u = is_told (joiner_of u.session u.number u.command.key s.joiners)
+
+abbrev pub is_served : WorldState → Under → Bool
+is_served w u = is_served_in (stripe_for w u.command.key) u
+
 -- another session's call, with another number
 abbrev pub is_apart : Under → Under → Bool
 is_apart u other = not (other.session == u.session) && not (other.number == u.number)
 
-pub record FitsCall (last : Option ℕ) (order : List Event) (u : Under) : Type 0 where
+-- a call that is served has its step in the order
+pub record FitsCall (w : WorldState) (u : Under) : Type 0 where
   pub single : is_single u.command.op ≡ true
-  pub number : is_up_to last u.number ≡ true
-  pub none : none_from order u.session u.number ≡ true
+  pub number : is_up_to w.last u.number ≡ true
+  pub none : is_served w u ≡ false → none_from w.order u.session u.number ≡ true
 
-abbrev pub CallsFit : Option ℕ → List Event → List Under → Type 0
-CallsFit last order [] = Unit {0}
-CallsFit last order (u ∷ us) = FitsCall last order u × (list_all (is_apart u) us ≡ true) × CallsFit last order us
+abbrev pub CallsFit : WorldState → List Under → Type 0
+CallsFit w [] = Unit {0}
+CallsFit w (u ∷ us) = FitsCall w u × (list_all (is_apart u) us ≡ true) × CallsFit w us
 
 -- 3. The keys that calls have reserved.
 
@@ -103,7 +132,34 @@ abbrev pub AllOwned : WorldState → List Reserved → Type 0
 AllOwned w [] = Unit {0}
 AllOwned w (r ∷ rs) = IsOwned w r × AllOwned w rs
 
--- 4. As long as the premises hold.
+-- 4. The calls that have joined a load.
+
+-- the joiner is in the stripe of its key, and the call is under way with no part
+pub record IsWaitedFor (w : WorldState) (join : JoinClaim) : Type 0 where
+  pub out : IsSomeAnd (stripe_for w join.key) (λ s. has_joined join.session join.call join.key s.joiners ≡ true)
+  pub call : IsSomeAnd (under w join.call) (λ u. (u.session ≡ join.session) × (u.command.key ≡ join.key))
+  pub no_part : part_of w join.call join.key ≡ None
+
+abbrev pub AllWaitedFor : WorldState → List JoinClaim → Type 0
+AllWaitedFor w [] = Unit {0}
+AllWaitedFor w (j ∷ js) = IsWaitedFor w j × AllWaitedFor w js
+
+-- no two joins are of one call and one key
+abbrev pub joined_once : List JoinClaim → Bool
+joined_once [] = true
+joined_once (j ∷ js) = not (list_any (is_join j.call j.key) js) && joined_once js
+
+-- the joiner of a call under way, with its join, in the stripe of its key
+pub record IsCalled (w : WorldState) (number : ℕ) (j : Joiner) : Type 0 where
+  pub home_is : home w j.key ≡ number
+  pub join : is_joined w j.number j.key ≡ true
+  pub call : IsSomeAnd (under w j.number) (λ u. (u.session ≡ j.session) × (u.command.key ≡ j.key))
+
+abbrev pub AllCalled : WorldState → ℕ → List Joiner → Type 0
+AllCalled w number [] = Unit {0}
+AllCalled w number (j ∷ js) = IsCalled w number j × AllCalled w number js
+
+-- 5. As long as the premises hold.
 
 abbrev pub Agrees : Option Bytes → Option Bytes → Type 0
 Agrees entry stored = IfSome entry (λ value. stored ≡ Some value)
@@ -124,14 +180,17 @@ abbrev pub KeyTold : Option Part → Option Bytes → Option Bytes → Type 0
 KeyTold None stored entry = Agrees entry stored
 KeyTold (Some part) stored entry = IsTold part stored entry
 
--- 5. The world. While it is fresh, nothing is cached, reserved or under way.
+-- 6. The world. While it is fresh, nothing is cached, reserved, joined or under way.
 pub record IsSoundWorld (w : WorldState) : Type 0 where
   pub shape : IsShaped w
   pub order : in_order w.order ≡ true
   pub numbers : list_all (number_up_to w.last) w.order ≡ true
-  pub calls : CallsFit w.last w.order w.calls
+  pub calls : CallsFit w w.calls
   pub held : (key : Bytes) (part : Part) → get w.parts key ≡ Some part → IsSomeAnd (stripe_for w key) (λ s. IsHeld w s key part)
   pub owned : (number : ℕ) (s : State) → slice_get w.stripes number ≡ Some s → AllOwned w s.reservations
+  pub joins : AllWaitedFor w w.joins
+  pub once : joined_once w.joins ≡ true
+  pub called : (number : ℕ) (s : State) → slice_get w.stripes number ≡ Some s → AllCalled w number s.joiners
   pub told : all_hold w ≡ true → (key : Bytes) → KeyTold (get w.parts key) (entry_at w.store key) (cached w key)
   pub fresh : w.fresh ≡ true → (key : Bytes) → (cached w key ≡ None) × (get w.parts key ≡ None)
-  pub idle : w.fresh ≡ true → w.calls ≡ []
+  pub idle : w.fresh ≡ true → (w.calls ≡ []) × (w.joins ≡ [])

@@ -3,10 +3,12 @@
 --     stripe_for      the stripe of a key;  cached      what is cached for a key
 --     under           the call with this number, if it is under way
 --     part_of         what a call has asked and heard for a key that it has reserved
---     waits_for_load, waits_for_report, is_answered      what of that is still to come
+--     waits_for_load, waits_for_report, is_answered, is_untouched      what of that has come
+--     is_joined       a call has joined a load of a key, and hasn't its answer
 --     start           a world before anything has happened
 use Rattle.std.specs.Prelude.{◌==◌, ℕ, zero, suc, ◌+◌, ◌%◌, sum, List, [], ◌∷◌, ◌++◌, Bool, true, false, not, ◌&&◌, ◌||◌, Option, None, Some, find, filter, slice_get, slice_set, if◌then◌else◌}
 use Rattle.std.specs.List.{list_any}
+use Rattle.std.specs.Cmp.Lexicographic.{pointwise}
 use Rattle.std.specs.FinMap.{FinMap, empty}
 use Rattle.std.specs.FinMap as map
 use Rattle.jc_types.specs.declared.config.Config.{Config}
@@ -18,7 +20,7 @@ use Rattle.jc_model.specs.Table.{load_given, write_given}
 use Rattle.jc_stripe.specs.declared.ticket.First.{First}
 use Rattle.jc_stripe.specs.declared.ticket.First.TheVariants.{Nobody, Loader, Writer}
 use Rattle.jc_stripe.specs.declared.ticket.Origin.TheVariants.{Played}
-use Rattle.jc_stripe.specs.Claim.{Claim}
+use Rattle.jc_stripe.specs.Claim.{Claim, JoinClaim}
 use Rattle.jc_stripe.specs.State.{State}
 use Rattle.jc_world.specs.declared.event.Under.{Under}
 use Rattle.jc_world.specs.declared.event.Part.{Part}
@@ -37,6 +39,7 @@ pub record WorldState : Type 0 where
   pub last : Option ℕ  -- the highest number of a call so far
   pub calls : List Under  -- the calls under way, in the order in which they began
   pub parts : Parts
+  pub joins : List JoinClaim  -- the calls that have joined a load and haven't its answer, in the order in which they joined
   pub premises : Premises  -- what has held so far of those outside
 
 -- 1. Stripes.
@@ -58,7 +61,7 @@ cached w key = entry_in (stripe_for w key) key
 -- an empty stripe
 abbrev pub empty_stripe : Config → ℕ → State
 empty_stripe config number =
-    record { config = config; number = number; origin = Played; opening = []; cache = empty; reservations = []; history = []; promised = 0; next = 0 }
+    record { config = config; number = number; origin = Played; opening = []; cache = empty; reservations = []; joiners = []; history = []; next = 0 }
 
 -- as many, from a number on
 abbrev pub empty_stripes : Config → ℕ → ℕ → List State
@@ -76,6 +79,7 @@ start config =
       last = None;
       calls = [];
       parts = empty;
+      joins = [];
       premises = record { writers = true; loaders = true; quiet = true };
     }
 
@@ -132,6 +136,11 @@ abbrev pub is_answered : Option Part → Bool
 is_answered None = false
 is_answered (Some part) = (asks_loader part.first && load_given part.load) || (asks_writer part.first && write_given part.report)
 
+-- nothing was said outside, and nothing done
+abbrev pub is_untouched : Option Part → Bool
+is_untouched None = false
+is_untouched (Some part) = not (load_given part.load) && not part.is_changed && not (write_given part.report)
+
 abbrev pub claim_of : Bytes → Part → Claim
 claim_of key part = record { key = key; number = part.number }
 
@@ -139,6 +148,21 @@ claim_of key part = record { key = key; number = part.number }
 abbrev pub out_of : Part → Out
 out_of part = record { load = part.load; write = part.report; process = process.NotAsked }
 
--- 4. The store before anything has happened.
+-- 4. The calls that have joined a load.
+
+abbrev pub is_join : ℕ → Bytes → JoinClaim → Bool
+is_join call key join = (join.call == call) && pointwise ◌==◌ key join.key
+
+abbrev pub join_of : WorldState → ℕ → Bytes → Option JoinClaim
+join_of w call key = find (is_join call key) w.joins
+
+abbrev pub is_joined : WorldState → ℕ → Bytes → Bool
+is_joined w call key = list_any (is_join call key) w.joins
+
+-- the joins of the others
+abbrev pub unjoined : ℕ → Bytes → List JoinClaim → List JoinClaim
+unjoined call key joins = filter (λ j. not (is_join call key j)) joins
+
+-- 5. The store before anything has happened.
 abbrev pub with_stored : WorldState → Bytes → Bytes → WorldState
 with_stored w key value = record w { store = with_entry w.store key (Some value) }

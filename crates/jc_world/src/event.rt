@@ -52,11 +52,34 @@ pub enum WorldEvent {
         call: u64,
         key: Key,
     },
+    /// The reservation of the call's key is given back. Nothing was said outside for it.
+    Withdraw {
+        call: u64,
+        key: Key,
+    },
+    /// The call is over, without a reply.
+    Leave {
+        call: u64,
+    },
+    /// A call that has joined a load asks for its answer.
+    PickUp {
+        call: u64,
+        key: Key,
+    },
     /// Somebody else writes or deletes in the store.
     Foreign {
         key: Key,
         value: Option<Value>,
     },
+}
+
+/// An eviction of what a step had inserted.
+#[derive(Clone, Copy, Debug, PartialEq, Eq)]
+pub struct Gone {
+    /// Why it went.
+    pub cause: Cause,
+    /// The place of the eviction in the stripe's history. Between it and the step stand those that share the step's load.
+    pub place: u32,
 }
 
 /// A step that was put down.
@@ -66,8 +89,21 @@ pub struct Stepped {
     /// The stripe, and the place of the step in the stripe's history.
     pub stripe: usize,
     pub place: u32,
-    /// Why the step's key was evicted directly after it, if it was.
-    pub evicted: Option<Cause>,
+    /// Who was evicted directly before the step, since the stripe was full.
+    pub victim: Option<Key>,
+    /// The eviction of the step's own key after it, if it was evicted.
+    pub evicted: Option<Gone>,
+}
+
+/// The answer of a load that a call had joined.
+#[derive(Clone, Copy, Debug, PartialEq, Eq)]
+pub struct PickedUp {
+    pub reply: Reply,
+    /// The stripe, and the place of the call's own step in the stripe's history.
+    pub stripe: usize,
+    pub place: u32,
+    /// The place of the step that loaded.
+    pub shared: u32,
 }
 
 /// What the writer's return says of the key that it was asked for.
@@ -92,6 +128,8 @@ pub enum Shown {
     Loads,
     /// The key is reserved, and the writer is asked for this.
     Asks(Change),
+    /// The key is being loaded by another call, and this one has joined that load.
+    Joins,
     /// The first phase was refused, and the call is over.
     Refused(Refusal),
     /// The loader read this.
@@ -102,6 +140,16 @@ pub enum Shown {
     Changed,
     /// The writer has returned.
     Reported(Reported),
+    /// The reservation is given back.
+    Withdrawn,
+    /// The call is over, without a reply.
+    Left,
+    /// The load that the call had joined is committed, and this is its answer. The call is over.
+    PickedUp(PickedUp),
+    /// The load that the call has joined isn't over.
+    Waits,
+    /// The load that the call had joined was withdrawn: the call is to begin again.
+    Again,
     /// Somebody else has written the store.
     Written,
     /// The event doesn't fit, and nothing was changed.

@@ -1,15 +1,23 @@
 //! The headline, as laws over every run.
 ghost use Rattle.jc_world.specs.Headline.{StaysLegal, StaysCoherent};
 
+use jc_stripe::phase_laws::{keeps_reserved, stays_reached};
+
 /// Over every interleaving of phases, loader answers, writer failures and others' writes, each completed call is one step of the
 /// sequential cache at its place in one legal history, and what is cached is what that history leaves.
 pub fn stays_legal()
     ensures { StaysLegal }
-{}
+{
+    stays_reached();
+    keeps_reserved();
+}
 
 /// Where write-through is on, nobody else writes the store, failed writers changed only what they reported written, and loaders
 /// answered what the store held or failed: each cached value, with no writer call on its key that changed the store and isn't
 /// committed, is the store's.
 pub fn stays_coherent()
     ensures { StaysCoherent }
-{}
+{
+    stays_reached();
+    keeps_reserved();
+}

@@ -5,6 +5,7 @@ pub mod audit;
 pub mod calls;
 pub mod event;
 pub mod headline;
+mod joining;
 mod machine;
 mod outside;
 mod room;

@@ -9,29 +9,32 @@ ghost use Rattle.jc_model.specs.declared.event.Change.{Change};
 ghost use Rattle.jc_world.specs.declared.event.WorldEvent.TheVariants as event;
 ghost use Rattle.jc_world.specs.declared.event.Shown.TheVariants as shown;
 ghost use Rattle.jc_world.specs.declared.event.Part.{Part};
-ghost use Rattle.jc_world.specs.World.{start, is_busy, under, of_call, part_of, waits_for_load, waits_for_report, is_answered, with_stored};
+ghost use Rattle.jc_world.specs.World.{start, is_busy, under, of_call, part_of, waits_for_load, waits_for_report, is_answered, is_joined, with_stored};
 ghost use Rattle.jc_world.specs.Premises.{read_answer, report_of, disturbed};
-ghost use Rattle.jc_world.specs.Events.{is_single, is_session, is_new, may_start, may_report, fits, answered, changed, reported, Happens, Step};
+ghost use Rattle.jc_world.specs.Events.{is_single, is_session, is_new, may_start, may_leave, is_free, may_report, fits, answered, changed, reported, Happens, Step};
 ghost use Rattle.jc_world.specs.Sound.{IsSoundWorld};
 ghost use Rattle.jc_world.specs.Coherent.{is_changed, all_hold, Coherent};
 ghost use Rattle.jc_world.specs.Audit.{differs, differing, IsAudit};
 
 use crate::audit::{Audit, gather};
 use crate::calls::{drop_call, find_call, has_call, if_of_call, is_above, is_known, is_single_op};
-use crate::event::{Command, Part, Premises, Reported, Shown, Under, WorldEvent};
+use crate::event::{Command, Part, PickedUp, Premises, Reported, Shown, Under, WorldEvent};
+use crate::joining::{has_joined, let_go_joins, put_back, take_join};
 use crate::outside::{
     and_now, answer_of, entry_after, is_all_answered, is_honest_load, is_honest_report,
-    is_load_given, is_waiting_for_load, is_waiting_for_report, report_with,
+    is_load_given, is_never_touched, is_waiting_for_load, is_waiting_for_report, report_with,
 };
 use crate::room::push_in_room;
 use crate::slot::{Slot, part_at, set_part, take_slot};
-use crate::stripes::{EVENTS_MAX, begin_at, commit_at, make_stripes, shown_at};
+use crate::stripes::{
+    EVENTS_MAX, begin_at, commit_at, make_stripes, pick_up_at, shown_at, withdraw_at,
+};
 use jc_model::contents::Contents;
 use jc_model::event::{Change, Event, LoadAnswer, Op, WriteAnswer};
-use jc_stripe::begun::Begun;
+use jc_stripe::begun::{Begun, Picked};
 use jc_stripe::closed::ClosedStripe;
 use jc_stripe::stripe::Stripe;
-use jc_stripe::ticket::First;
+use jc_stripe::ticket::{First, Join};
 use jc_types::config::Config;
 use jc_types::key::{Key, stripe_of};
 use jc_types::value::Value;
@@ -48,6 +51,7 @@ pub(crate) struct Machine {
     last: Option<u64>,
     calls: Vec<Under>,
     slots: Vec<Slot>,
+    joins: Vec<Join>,
     premises: Premises,
 }
 
@@ -117,6 +121,7 @@ impl Machine {
             last: None,
             calls: Vec::new(alloc),
             slots: Vec::new(alloc),
+            joins: Vec::new(alloc),
             premises: Premises {
                 writers: true,
                 loaders: true,
@@ -285,16 +290,19 @@ impl Machine {
         ensures ok { IfOk result (λ seen. Happens self.old (event.Start call key.now) seen self.new) }
         ensures err { OnErr result (self.new ≡ self.old) }
     {
+        let _types: Option<Change> = None;
         self.slots.try_reserve(1)?;
+        self.joins.try_reserve(1)?;
         self.order.try_reserve(EVENTS_MAX)?;
         let Some(u) = self.under(call) else {
             unreachable!()
         };
         let number = stripe_of(&u.command.key, self.config.stripes);
-        match begin_at(&mut self.stripes, &mut self.order, number, &u) {
+        let (begun, before) = begin_at(&mut self.stripes, &mut self.order, number, &u);
+        match begun {
             Begun::Done(reply, place) => {
                 drop_call(&mut self.calls, u.number);
-                Ok(Shown::Stepped(shown_at(&self.stripes, number, reply, place)))
+                Ok(Shown::Stepped(shown_at(&self.stripes, number, before, reply, place)))
             }
             Begun::Load(ticket) => {
                 push_in_room(&mut self.slots, Slot::loading(ticket, &u));
@@ -303,6 +311,10 @@ impl Machine {
             Begun::Write(ticket, change) => {
                 push_in_room(&mut self.slots, Slot::writing(ticket, &u));
                 Ok(Shown::Asks(change))
+            }
+            Begun::Joined(join) => {
+                push_in_room(&mut self.joins, join);
+                Ok(Shown::Joins)
             }
             Begun::Refused(refusal) => {
                 drop_call(&mut self.calls, u.number);
@@ -322,15 +334,75 @@ impl Machine {
         let number = stripe_of(key, self.config.stripes);
         let slot = take_slot(&mut self.slots, key);
         drop_call(&mut self.calls, call);
-        let (reply, place) = commit_at(&mut self.stripes, &mut self.order, number, slot);
-        Ok(Shown::Stepped(shown_at(&self.stripes, number, reply, place)))
+        let (reply, place, before) = commit_at(&mut self.stripes, &mut self.order, number, slot);
+        Ok(Shown::Stepped(shown_at(&self.stripes, number, before, reply, place)))
+    }
+
+    /// The reservation of a key is given back.
+    fn withdraw(&mut self, call: u64, key: &Key)
+        requires sound { IsSoundWorld self.old }
+        requires fits { fits self.old (event.Withdraw call key.now) ≡ true }
+        ensures { Happens self.old (event.Withdraw call key.now) shown.Withdrawn self.new }
+    {
+        let number = stripe_of(key, self.config.stripes);
+        let slot = take_slot(&mut self.slots, key);
+        withdraw_at(&mut self.stripes, number, slot);
+    }
+
+    /// A call that has joined a load asks for its answer.
+    fn pick_up(&mut self, call: u64, key: &Key) -> Shown
+        requires sound { IsSoundWorld self.old }
+        requires fits { fits self.old (event.PickUp call key.now) ≡ true }
+        ensures { Happens self.old (event.PickUp call key.now) result self.new }
+    {
+        let stripe = stripe_of(key, self.config.stripes);
+        let (join, place) = take_join(&mut self.joins, call, key);
+        match pick_up_at(&mut self.stripes, stripe, join) {
+            Picked::Answer(reply, step, shared) => {
+                drop_call(&mut self.calls, call);
+                Shown::PickedUp(PickedUp {
+                    reply,
+                    stripe,
+                    place: step,
+                    shared,
+                })
+            }
+            Picked::Again => Shown::Again,
+            Picked::NotYet(join) => {
+                put_back(&mut self.joins, join, place);
+                Shown::Waits
+            }
+        }
+    }
+
+    /// Whether a call has joined a load of a key, and hasn't its answer.
+    pub(crate) fn is_joined(&self, call: u64, key: &Key) -> bool
+        ensures { result ≡ is_joined self.now call key.now }
+    {
+        has_joined(&self.joins, call, key)
+    }
+
+    /// Whether a call has neither a reservation nor a join of a key.
+    fn is_free(&self, call: u64, key: &Key) -> bool
+        ensures { result ≡ is_free self.now call key.now }
+    {
+        self.part_of(call, key).is_none() && !self.is_joined(call, key)
     }
 
     fn may_start(&self, call: u64, key: &Key) -> bool
         ensures { result ≡ may_start self.now call key.now (under self.now call) }
     {
         match self.under(call) {
-            Some(u) => *key == u.command.key && self.part_of(call, key).is_none(),
+            Some(u) => *key == u.command.key && self.is_free(call, key),
+            None => false,
+        }
+    }
+
+    fn may_leave(&self, call: u64) -> bool
+        ensures { result ≡ may_leave self.now call (under self.now call) }
+    {
+        match self.under(call) {
+            Some(u) => self.is_free(call, &u.command.key),
             None => false,
         }
     }
@@ -369,6 +441,9 @@ impl Machine {
             WorldEvent::Change { call, key } => is_waiting_for_report(self.part_of(*call, key)),
             WorldEvent::Report { call, fault: _ } => self.may_report(*call),
             WorldEvent::Commit { call, key } => is_all_answered(self.part_of(*call, key)),
+            WorldEvent::Withdraw { call, key } => is_never_touched(self.part_of(*call, key)),
+            WorldEvent::Leave { call } => self.may_leave(*call),
+            WorldEvent::PickUp { call, key } => self.is_joined(*call, key),
             WorldEvent::Foreign { key: _, value: _ } => true,
         }
     }
@@ -411,6 +486,15 @@ impl Machine {
                 Ok(Shown::Reported(self.report(*call, &u.command.key, *fault)))
             }
             WorldEvent::Commit { call, key } => self.end(*call, key),
+            WorldEvent::Withdraw { call, key } => {
+                self.withdraw(*call, key);
+                Ok(Shown::Withdrawn)
+            }
+            WorldEvent::Leave { call } => {
+                drop_call(&mut self.calls, *call);
+                Ok(Shown::Left)
+            }
+            WorldEvent::PickUp { call, key } => Ok(self.pick_up(*call, key)),
             WorldEvent::Foreign { key, value } => {
                 self.disturb(key, *value)?;
                 Ok(Shown::Written)
@@ -485,10 +569,15 @@ impl Machine {
             last: _,
             calls: _,
             slots,
+            joins,
             premises: _,
         } = self;
         match stripes.pop() {
-            Some(stripe) => let_go_all(slots, &stripe.close()),
+            Some(stripe) => {
+                let closed = stripe.close();
+                let_go_all(slots, &closed);
+                let_go_joins(joins, &closed);
+            }
             None => unreachable!(),
         }
     }

@@ -1,7 +1,7 @@
 //! What loaders and writers say, and whether they are honest.
 ghost use Rattle.std.specs.Prelude.{◌≡◌, ◌&&◌};
 ghost use Rattle.jc_model.specs.Table.{load_given, write_given, alike};
-ghost use Rattle.jc_world.specs.World.{asks_loader, asks_writer, waits_for_load, waits_for_report, is_answered};
+ghost use Rattle.jc_world.specs.World.{asks_loader, asks_writer, waits_for_load, waits_for_report, is_answered, is_untouched};
 ghost use Rattle.jc_world.specs.Premises.{read_answer, changed_to, report_of, is_true_load, is_done, is_true_report};
 
 use crate::event::Part;
@@ -87,6 +87,18 @@ pub(crate) fn is_all_answered(part: Option<Part>) -> bool
         Some(part) => {
             (is_loader(&part.first) && is_load_given(part.load))
                 || (is_writer(&part.first) && is_write_given(part.report))
+        }
+        None => false,
+    }
+}
+
+/// Whether a key is reserved, and nothing was said outside for it and nothing done.
+pub(crate) fn is_never_touched(part: Option<Part>) -> bool
+    ensures { result ≡ is_untouched part }
+{
+    match part {
+        Some(part) => {
+            !is_load_given(part.load) && !part.is_changed && !is_write_given(part.report)
         }
         None => false,
     }

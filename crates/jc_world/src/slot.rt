@@ -3,7 +3,7 @@ ghost use Rattle.std.specs.Prelude.{◌≡◌, true, Option, None, Some, positio
 ghost use Rattle.std.specs.FinMap as map;
 ghost use Rattle.jc_model.specs.Cache.{key_cmp, entry_at};
 ghost use Rattle.jc_stripe.specs.State.{claimed};
-ghost use Rattle.jc_stripe.specs.Phases.{Commits};
+ghost use Rattle.jc_stripe.specs.Phases.{Commits, Withdraws};
 ghost use Rattle.jc_stripe.specs.declared.ticket.First.TheVariants.{Loader, Writer};
 ghost use Rattle.jc_stripe.specs.declared.ticket.Origin.TheVariants.{Played};
 ghost use Rattle.jc_world.specs.World.{claim_of, out_of, is_answered};
@@ -128,6 +128,18 @@ impl Slot {
                 let done = played_write(&ticket.ask(), part.report);
                 stripe.commit_write(ticket, done)
             }
+        }
+    }
+
+    /// The reservation is given back.
+    pub(crate) fn withdraw(self, stripe: &mut Stripe)
+        requires { IsSomeAnd (claimed stripe.old (claim_of self.0 self.1)) (λ r. r.first ≡ self.1.first) }
+        ensures { Withdraws stripe.old (claim_of self.0 self.1) stripe.new }
+    {
+        let Slot { ticket, part: _ } = self;
+        match ticket {
+            Ticket::Load(ticket) => stripe.withdraw_load(ticket),
+            Ticket::Write(ticket) => stripe.withdraw_write(ticket),
         }
     }
 

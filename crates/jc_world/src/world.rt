@@ -1,16 +1,17 @@
 ghost use Rattle.std.specs.Prelude.{[], ◌≡◌, ◌≤◌, ◌⊎◌, ◌<◌, true, IsTrue, IfOk, IfErr, IsOk, OnErr, OnOk, Ok, Err, List, take, length};
 ghost use Rattle.jc_types.specs.Limits.{checked};
 ghost use Rattle.jc_world.specs.declared.event.Shown.{Shown};
-ghost use Rattle.jc_world.specs.World.{start, is_busy, under, part_of, with_stored};
+ghost use Rattle.jc_world.specs.World.{start, is_busy, under, part_of, is_joined, with_stored};
 ghost use Rattle.jc_world.specs.Events.{Run};
 ghost use Rattle.jc_world.specs.Coherent.{all_hold, Coherent};
 ghost use Rattle.jc_world.specs.Audit.{IsOrder, IsAudit};
 
 use crate::audit::Audit;
-use crate::event::{Part, Reported, Shown, Stepped, Under, WorldEvent};
+use crate::event::{Gone, Part, PickedUp, Reported, Shown, Stepped, Under, WorldEvent};
 use crate::machine::Machine;
 use crate::room::push_in_room;
 use jc_model::event::{Change, Event, LoadAnswer, Reply};
+use jc_stripe::phase_laws::{keeps_reserved, stays_reached};
 use jc_types::config::{Config, Refusal};
 use jc_types::key::Key;
 use jc_types::value::Value;
@@ -73,7 +74,9 @@ impl World {
         ensures run { IfOk result (λ seen. Run self.old.world events.now seen.items self.new.world × (self.new.taken ≡ length events.now)) }
         ensures prefix { OnErr result ((self.new.taken ≤ length events.now) × ((seen : List Shown) × Run self.old.world (take self.new.taken events.now) seen self.new.world)) }
     {
-        let _types: Option<(Reply, Stepped, Reported, LoadAnswer, Change, Value)> = None;
+        let _types: Option<(Reply, Stepped, Gone, PickedUp, Reported, LoadAnswer, Change, Value)> = None;
+        stays_reached();
+        keeps_reserved();
         self.played = 0;
         let mut all = Vec::with_capacity(alloc, events.len())?;
         for event in events {
@@ -132,6 +135,13 @@ impl World {
         ensures { result ≡ part_of self.now.world call key.now }
     {
         self.machine.part_of(call, key)
+    }
+
+    /// Whether a call has joined a load of a key, and hasn't its answer.
+    pub fn is_joined(&self, call: u64, key: &Key) -> bool
+        ensures { result ≡ is_joined self.now.world call key.now }
+    {
+        self.machine.is_joined(call, key)
     }
 
     /// What there is to see of the world.

@@ -1,4 +1,4 @@
-use Rattle.jc_stripe.proofs.Laws.{passing_keeps}
+use Rattle.jc_stripe.proofs.Refusing.{passing_keeps}
 use Rattle.jc_stripe.proofs.phase_laws.keeps.Goals as goal
 
 pub returns : goal.returns

@@ -1,56 +1,61 @@
-use Rattle.std.proofs.Common.{◌≡◌, ◌≤◌, ◌+◌, true, length, IsTrue, sym, subst, arith}
+use Rattle.std.proofs.Common.{◌≡◌, ◌≤◌, ◌+◌, ◌∙◌, [], Option, None, true, length, sym, subst, ap}
 use Rattle.jc_model.specs.Cache.{entry_at}
-use Rattle.jc_model.specs.Table.{answers_fit, new_entry}
-use Rattle.jc_model.specs.Group.{events_of}
-use Rattle.jc_stripe.specs.State.{State, is_reserved}
-use Rattle.jc_stripe.specs.Phases.{MayBegin, group_made, Steps}
-use Rattle.jc_stripe.specs.Inside.{state_of}
-use Rattle.jc_stripe.proofs.Reaching.{reached_stepped, steps_made}
+use Rattle.jc_model.specs.Table.{new_reply}
+use Rattle.jc_model.specs.Group.{nothing_said}
+use Rattle.jc_history.specs.Past.{Past, promising}
+use Rattle.jc_stripe.specs.declared.ticket.First.TheVariants.{Nobody}
+use Rattle.jc_stripe.specs.State.{State, promised}
+use Rattle.jc_stripe.specs.Refusals.{first_refusal, first_asked, goes_on, places}
+use Rattle.jc_stripe.specs.Phases.{MayBegin, Steps}
+use Rattle.jc_stripe.specs.Inside.{IsSound, state_of}
+use Rattle.jc_stripe.specs.declared.stripe.Stripe.TheInside.{Inside}
+use Rattle.jc_stripe.proofs.Inner.{entries_len}
+use Rattle.jc_stripe.proofs.Fitting.{nobody_fits}
+use Rattle.jc_stripe.proofs.Refusing.{not_refused, roomy}
+use Rattle.jc_stripe.proofs.Making.{promised_so, room_so}
+use Rattle.jc_stripe.proofs.Finishing.{done_at, done_steps, done_sound}
 use Rattle.jc_stripe.proofs.stripe.Stripe.finish.Goals as goal
+
+pub keep-evicted-requires : goal.keep-evicted-requires
+keep-evicted-requires c = entries_len c.self.inside c.self.invariant
+
+-- the places that the call needs were promised
+promises : (c : goal.After-put_down-place) → c.promise.new.self ≡ promising c.places_for-kept.result c.self.inside.history
+promises c =
+    let Free : State → Type 0 = λ s. first_refusal s c.args.who.number c.args.key.now c.args.op.now ≡ None in
+    let free = subst Free (sym c.self.view_is) c.requires.free in
+    let kept : places (goes_on (state_of c.self.inside) c.args.key.now c.args.op.now) ≡ c.places_for-kept.result =
+    ap (λ (s : State). places (goes_on s c.args.key.now c.args.op.now)) c.self.view_is ∙ sym (c.places_for-kept.ensures ∙ ap places c.does_go_on.ensures) in
+    promised_so c.places_for-kept.result c.self.inside.history c.promise.new.self c.promise.result c.promise.ensures.fits c.promise.ensures.after
+    (room_so c.self.inside c.places_for-kept.result c.self.invariant
+    (subst (λ n. length (state_of c.self.inside).history + promised (state_of c.self.inside) + n ≤ (state_of c.self.inside).config.history) kept
+    (roomy (state_of c.self.inside) c.args.who.number _ (not_refused (state_of c.self.inside) c.args.who.number c.args.key.now c.args.op.now free).room)))
+
+-- what the call asks, in the fields' state
+asked : (c : goal.After-put_down-place) → first_asked c.self.inside.config c.args.op.now (entry_at (state_of c.self.inside).cache c.args.key.now) ≡ Nobody
+asked c = ap (λ (s : State). first_asked s.config c.args.op.now (entry_at s.cache c.args.key.now)) c.self.view_is ∙ c.requires.asks
+
+replied : (c : goal.After-put_down-place) → c.reply-reply.result ≡ new_reply c.args.op.now (entry_at (state_of c.self.inside).cache c.args.key.now) nothing_said
+replied c = c.reply-reply.ensures ∙ ap (λ o. new_reply c.args.op.now o nothing_said) (c.entry.ensures ∙ sym (ap (λ (s : State). entry_at s.cache c.args.key.now) c.self.view_is))
+
+steps : (c : goal.After-put_down-place)
+    → Steps (state_of c.self.inside) c.args.who.session c.args.who.number c.args.key.now c.args.op.now nothing_said [] c.reply-reply.result c.put_down-place.result (state_of (done_at c.self.inside c.keep-evicted.new.entries c.put_down-place.new.history))
+steps c =
+    done_steps c.self.inside c.keep-evicted.new.entries c.promise.new.self c.put_down-place.new.history c.keys-pinned.result.now c.args.who.session c.args.who.number c.args.key.now c.args.op.now c.reply-reply.result
+    c.keep-evicted.result.0 c.keep-evicted.result.1 c.put_down-place.result c.places_for-kept.result c.self.invariant
+    (nobody_fits c.self.inside.config c.args.op.now (entry_at (state_of c.self.inside).cache c.args.key.now) (asked c) c.requires.op)
+    c.keys-pinned.ensures.keys (replied c) c.keep-evicted.ensures (promises c) c.put_down-place.ensures.place c.put_down-place.ensures.history
 
 pub invariant_of-self : goal.invariant_of-self
 invariant_of-self c =
-    let old = c.self.invariant in
     let back = sym c.self.view_is in
-    let Answers : State → Type 0 = λ s. IsTrue (answers_fit s.config c.args.op.now (entry_at s.cache c.args.key.now) c.args.out.now) in
-    let Keeps : State → Type 0 = λ s. is_reserved s c.args.key.now ≡ true → new_entry c.args.op.now (entry_at s.cache c.args.key.now) c.args.out.now ≡ entry_at s.cache c.args.key.now in
-    let Places : State → Type 0 = λ s. length s.history + s.promised + length (events_of (length s.history) (group_made s.config s.cache c.args.who.session c.args.who.number c.args.key.now c.args.op.now c.args.out.now)) ≤ s.config.history in
-    let Begins : State → Type 0 = λ s. MayBegin s c.args.who.session c.args.who.number c.args.key.now in
-    record {
-      entries_room = let h = c.put_down.ensures.entries_room in omega arith;
-      reservations_room = old.reservations_room;
-      history_room = let h = c.put_down.ensures.history_room in omega arith;
-      state = reached_stepped (state_of c.self.inside) c.args.who.session c.args.who.number c.args.key.now c.args.op.now c.args.out.now _ _ old.state
-          (record { answers = subst Answers back c.requires.answers; keeps = subst Keeps back c.requires.keeps; places = subst Places back c.requires.places; begins = subst Begins back c.requires.begins })
-          c.put_down.ensures.cache c.put_down.ensures.history;
-    }
+    let Free : State → Type 0 = λ s. first_refusal s c.args.who.number c.args.key.now c.args.op.now ≡ None in
+    let May : State → Type 0 = λ s. MayBegin s c.args.who.session c.args.who.number c.args.key.now in
+    done_sound c.self.inside c.keep-evicted.new.entries c.promise.new.self c.put_down-place.new.history c.keys-pinned.result.now c.args.who.session c.args.who.number c.args.key.now c.args.op.now c.reply-reply.result
+    c.keep-evicted.result.0 c.keep-evicted.result.1 c.put_down-place.result c.places_for-kept.result c.self.invariant (subst Free back c.requires.free) (asked c) (subst May back c.requires.begins)
+    c.keys-pinned.ensures.keys (replied c) c.keep-evicted.ensures (promises c) c.put_down-place.ensures.history (steps c)
 
 pub returns : goal.returns
 returns c =
-    let back = sym c.self.view_is in
-    let Answers : State → Type 0 = λ s. IsTrue (answers_fit s.config c.args.op.now (entry_at s.cache c.args.key.now) c.args.out.now) in
-    let next : State = record {
-      config = c.self.inside.config;
-      number = c.self.inside.number;
-      origin = c.self.inside.origin;
-      opening = (state_of c.self.inside).opening;
-      cache = c.put_down.new.entries.cache;
-      reservations = c.self.inside.reservations.items;
-      history = c.put_down.new.history.items;
-      promised = c.self.inside.promised;
-      next = c.self.inside.next;
-    } in
-    let P : State → Type 0 = λ s. Steps s (group_made s.config s.cache c.args.who.session c.args.who.number c.args.key.now c.args.op.now c.args.out.now) c.put_down.result.0 c.put_down.result.1 next in
-    subst P c.self.view_is (steps_made (state_of c.self.inside) next c.args.who.session c.args.who.number c.args.key.now c.args.op.now c.args.out.now _ _ c.self.invariant.state
-    (subst Answers back c.requires.answers) c.put_down.ensures.reply c.put_down.ensures.place
-    (λ i. record {
-      config = c.self.inside.config;
-      number = c.self.inside.number;
-      origin = c.self.inside.origin;
-      opening = (state_of c.self.inside).opening;
-      cache = c.put_down.ensures.cache i;
-      reservations = c.self.inside.reservations.items;
-      history = c.put_down.ensures.history i;
-      promised = c.self.inside.promised;
-      next = c.self.inside.next;
-    }))
+    let P : State → Type 0 = λ s. Steps s c.args.who.session c.args.who.number c.args.key.now c.args.op.now nothing_said [] c.reply-reply.result c.put_down-place.result (state_of (done_at c.self.inside c.keep-evicted.new.entries c.put_down-place.new.history)) in
+    subst P c.self.view_is (steps c)

@@ -15,29 +15,14 @@ use Rattle.jc_world.specs.declared.event.Shown.{Shown}
 use Rattle.jc_world.specs.declared.event.Shown.TheVariants as shown
 use Rattle.jc_world.specs.declared.event.WorldEvent.TheVariants as event
 use Rattle.jc_world.specs.World.{WorldState, Parts, home, under, over, part_of, claim_of, out_of, is_answered}
-use Rattle.jc_world.specs.Events.{fits, new_part, Happens, eviction_first}
+use Rattle.jc_world.specs.Events.{fits, new_part, Happens, victim_first, gone_last}
 use Rattle.jc_world.specs.Sound.{IsSoundWorld, KindFits}
 use Rattle.jc_world.specs.Inside.{world_of}
 use Rattle.jc_world.specs.Slots.{parts_of, once}
 use Rattle.jc_world.proofs.Listed.{Entry}
-use Rattle.jc_world.proofs.Slotted.{in_slots, pushed, answered_some}
+use Rattle.jc_world.proofs.Slotted.{in_slots, taken_is, answered_part}
 use Rattle.jc_world.proofs.Phased.{may_begin_at, phased_at, Phased, Shows, BeginsAs, CommitsAs, started_done, started_refused, started_loads, started_asks, free_load, free_write, ended, may_end_at}
 use Rattle.jc_world.proofs.machine.Machine.end.Goals as goal
-
--- the slot that was taken out is the part's
-taken_is : (slots : List Entry) (v : WorldState) (call : ℕ) (key : Bytes) (slot : Entry) (part : Part) → v.parts ≡ parts_of slots → part_of v call key ≡ Some part → find key_cmp key slots ≡ Some slot.1 → slot.0 ≡ key → slot ≡ (key, part)
-taken_is slots v call key slot part is there found key_is =
-    let e : Some slot.1 ≡ Some part = sym found ∙ in_slots slots v v call key part is refl there in
-    let same : slot.1 ≡ part = cc in
-    λ i. (key_is i, same i)
-
--- the part of a call whose commit fits
-answered_part : (v : WorldState) (w : WorldState) (call : ℕ) (key : Bytes) → v ≡ w → fits w (event.Commit call key) ≡ true → (part : Part) × (part_of v call key ≡ Some part) × (is_answered (Some part) ≡ true)
-answered_part v w call key same fit =
-    let A : WorldState → Type 0 = λ x. is_answered (part_of x call key) ≡ true in
-    let answered = subst A (sym same) fit in
-    let one = answered_some (part_of v call key) answered in
-    (one.0, one.1, sym (ap is_answered one.1) ∙ answered)
 
 pub take_slot-slot-requires-clause-there : goal.take_slot-slot-requires-clause-there
 take_slot-slot-requires-clause-there c =
@@ -77,12 +62,19 @@ returns-clause-ok c =
       at = t.1;
       to = t.2;
       made = subst C is t.3;
-      stripes_are = t.4;
-      order_is = t.5 ∙ ap (λ o. o ++ drop (length (t.0).history) (t.2).history) c.in_ok-try_reserve.ensures.items;
+      stripes_are = t.5;
+      order_is = t.6 ∙ ap (λ o. o ++ drop (length (t.0).history) (t.2).history) c.in_ok-try_reserve.ensures.items;
     } in
-    let E : List State → Type 0 = λ xs. IsSomeAnd (slice_get xs c.stripe_of-number.result) (λ s. c.shown_at.result.evicted ≡ eviction_first (drop (place + 1) s.history)) in
-    let shows : Shows c.commit_at-reply.new.stripes.items c.stripe_of-number.result reply place c.shown_at.result = record { step = c.shown_at.ensures.step; evicted = subst E c.deref.ensures.value c.shown_at.ensures.evicted } in
+    let number = c.stripe_of-number.result in
+    let before = c.commit_at-reply.result.2 in
+    let V : List State → Type 0 = λ xs. IsSomeAnd (slice_get xs number) (λ s. c.shown_at.result.victim ≡ victim_first (drop before s.history)) in
+    let E : List State → Type 0 = λ xs. IsSomeAnd (slice_get xs number) (λ s. c.shown_at.result.evicted ≡ gone_last place s.history) in
+    let shows : Shows c.commit_at-reply.new.stripes.items number before reply place c.shown_at.result = record {
+      step = c.shown_at.ensures.step;
+      victim = subst V c.deref.ensures.value c.shown_at.ensures.victim;
+      evicted = subst E c.deref.ensures.value c.shown_at.ensures.evicted;
+    } in
     let next = world_of (record c.self.inside { stripes = c.commit_at-reply.new.stripes; order = c.commit_at-reply.new.order; calls = c.drop_call.new.calls; slots = c.take_slot-slot.new.slots }) in
     let R : WorldState → Type 0 = λ x. Happens x (event.Commit c.args.call key) (shown.Stepped c.shown_at.result) next in
-    subst R c.self.view_is (ended v next c.args.call key one.0 c.stripe_of-number.result reply place c.shown_at.result _ _ _ one.1 c.stripe_of-number.ensures p shows c.take_slot-slot.ensures.parts
+    subst R c.self.view_is (ended v next c.args.call key one.0 number before reply place c.shown_at.result _ _ _ one.1 c.stripe_of-number.ensures p t.4 shows c.take_slot-slot.ensures.parts
     (λ i. record v { stripes = c.commit_at-reply.new.stripes.items; order = c.commit_at-reply.new.order.items; calls = c.drop_call.ensures i; parts = parts_of c.take_slot-slot.new.slots.items }))

@@ -1,0 +1,162 @@
+-- What an insertion leaves of the entries is what the order of use says.
+use Rattle.std.proofs.Common.{◌≡◌, ◌≤◌, ◌<◌, ◌+◌, ◌==◌, ◌||◌, ◌&&◌, ℕ, List, [], ◌∷◌, length, Bool, true, false, cond, not, nat_lt, Option, Some, None, IsSome, is_some, is_none, refl, sym, ap, ◌∙◌, subst, arith}
+use Rattle.std.specs.Cmp.Lexicographic.{pointwise, texts_ties}
+use Rattle.std.specs.Ordering.{eq_by_cmp}
+use Rattle.std.specs.FinMap as finite
+use Rattle.std.proofs.lemmas.Bool.Decides.{nat_tests}
+use Rattle.std.proofs.lemmas.Cmp.{nat_list_eq_equiv}
+use Rattle.jc_model.specs.declared.event.Op.{Op}
+use Rattle.jc_model.specs.declared.event.Out.{Out}
+use Rattle.jc_model.specs.declared.event.Cause.{Cause}
+use Rattle.jc_model.specs.declared.event.Cause.TheVariants.{Full, Memory}
+use Rattle.jc_model.specs.Cache.{Bytes, key_cmp}
+use Rattle.jc_model.specs.Listed.{others, listed}
+use Rattle.jc_model.specs.Table.{new_entry}
+use Rattle.jc_model.proofs.Lookups.{both, find-others}
+use Rattle.jc_entries.specs.ByUse.{ByUse, evicted_of, without}
+use Rattle.jc_entries.specs.Inserting.{has_place, IsKeptAfter, IsPinnedOut, IsOutOfMemory, Inserts}
+use Rattle.jc_entries.specs.declared.entries.Inserted.TheVariants.{NotKept}
+use Rattle.jc_entries.proofs.UseLemmas.{others-missing}
+use Rattle.jc_stripe.specs.OrderOfUse.{is_use, used_at}
+use Rattle.jc_stripe.specs.Phases.{own_cause}
+use Rattle.jc_stripe.specs.Putting.{IsKeptSo, inserts_into, overflows_in, victim_in, entries_left, own_gone}
+
+-- a step that uses an entry and leaves this one, of a list that is not too long
+pub record Uses (old : ByUse) (key value : Bytes) (op : Op) (out : Out) : Type 0 where
+  pub few : length old.list ≤ old.capacity
+  pub is_use : is_use op out ≡ true
+  pub entry : new_entry op (finite.find key_cmp key old.list) out ≡ Some value
+
+none_both : (b : Bool) → cond {A = Option Bytes} b None None ≡ None
+none_both true = refl
+none_both false = refl
+
+-- a key that is missing is missing without the victim
+missing_without : (victim : Option Bytes) (key : Bytes) (entries : List (Bytes × Bytes)) → finite.find key_cmp key entries ≡ None → finite.find key_cmp key (without victim entries) ≡ None
+missing_without None key entries h = h
+missing_without (Some v) key entries h = find-others v entries key ∙ ap (cond (eq_by_cmp key_cmp key v) None) h ∙ none_both (eq_by_cmp key_cmp key v)
+
+-- the step's entry stands in front of the others, of which none has its key
+used_new : (entries : List (Bytes × Bytes)) (key value : Bytes) (op : Op) (out : Out) → is_use op out ≡ true → finite.find key_cmp key entries ≡ None → new_entry op None out ≡ Some value → used_at entries key op out ≡ (key, value) ∷ entries
+used_new entries key value op out is_used missing entry =
+    ap (λ b. cond b (listed key (new_entry op (finite.find key_cmp key entries) out) entries) entries) is_used
+    ∙ ap (λ o. listed key (new_entry op o out) entries) missing
+    ∙ ap (λ o. listed key o entries) entry
+    ∙ ap (λ es. (key, value) ∷ es) (others-missing key entries missing)
+
+others_front : (key value : Bytes) (entries : List (Bytes × Bytes)) → finite.find key_cmp key entries ≡ None → others key ((key, value) ∷ entries) ≡ entries
+others_front key value entries missing = ap (λ b. cond (not b) ((key, value) ∷ others key entries) (others key entries)) (nat_list_eq_equiv.refl key) ∙ others-missing key entries missing
+
+is_full : (n capacity : ℕ) → n ≤ capacity → nat_lt n capacity ≡ false → (n == capacity) ≡ true
+is_full n capacity few h = grind (arith, nat_tests)
+
+not_full : (n capacity : ℕ) → nat_lt n capacity ≡ true → (n == capacity) ≡ false
+not_full n capacity h = grind (arith, nat_tests)
+
+neither : (a b : Bool) → (a || b) ≡ false → (a ≡ false) × (b ≡ false)
+neither true b h = cc
+neither false b h = (refl, h)
+
+is_none_then : (o : Option Bytes) → is_some o ≡ false → o ≡ None
+is_none_then None h = refl
+is_none_then (Some x) h = cc
+
+-- what is known where there is no place
+pub record IsCrowded (old : ByUse) (key : Bytes) (op : Op) (out : Out) : Type 0 where
+  pub missing : finite.find key_cmp key old.list ≡ None
+  pub inserts : inserts_into old.list key op out ≡ true
+  pub full : overflows_in old key op out ≡ true
+
+inserts_new : (entries : List (Bytes × Bytes)) (key value : Bytes) (op : Op) (out : Out) → finite.find key_cmp key entries ≡ None → new_entry op (finite.find key_cmp key entries) out ≡ Some value → inserts_into entries key op out ≡ true
+inserts_new entries key value op out missing entry = ap (λ o. is_none o && is_some (new_entry op (finite.find key_cmp key entries) out)) missing ∙ ap is_some entry
+
+crowded : (old : ByUse) (key value : Bytes) (op : Op) (out : Out) → Uses old key value op out → has_place key old ≡ false → IsCrowded old key op out
+crowded old key value op out uses h =
+    let parts = neither (is_some (finite.find key_cmp key old.list)) (nat_lt (length old.list) old.capacity) h in
+    let missing = is_none_then (finite.find key_cmp key old.list) parts.0 in
+    let inserts = inserts_new old.list key value op out missing uses.entry in
+    record {
+      missing = missing;
+      inserts = inserts;
+      full = ap (λ b. b && (length old.list == old.capacity)) inserts ∙ is_full (length old.list) old.capacity uses.few parts.1;
+    }
+
+-- the entry of a missing key
+entry_new : (old : ByUse) (key value : Bytes) (op : Op) (out : Out) → finite.find key_cmp key old.list ≡ None → Uses old key value op out → new_entry op None out ≡ Some value
+entry_new old key value op out missing uses = ap (λ o. new_entry op o out) (sym missing) ∙ uses.entry
+
+-- another entry went for it
+pub kept_after : (old new : ByUse) (key value : Bytes) (pinned : List Bytes) (victim : Bytes) (op : Op) (out : Out) → Uses old key value op out → IsKeptAfter old new key value pinned victim
+    → IsKeptSo old pinned key op out (Some victim) None new
+kept_after old new key value pinned victim op out uses h =
+    let known = crowded old key value op out uses h.place in
+    let victim_is : victim_in old pinned key op out ≡ Some victim = ap (λ b. cond b (evicted_of old.list pinned) None) known.full ∙ h.victim_is in
+    let missing = missing_without (Some victim) key old.list known.missing in
+    record {
+      short = false;
+      victim_is = sym victim_is;
+      evicted_is = sym ((λ i. own_cause (known.inserts i) (known.full i) (is_some (victim_is i)) false));
+      left = h.after ∙ ap (λ es. record old { list = es }) (sym (used_new (others victim old.list) key value op out uses.is_use missing (entry_new old key value op out known.missing uses)));
+    }
+
+-- nobody could go, or there was no memory for it
+goes_again : (old : ByUse) (key value : Bytes) (victim : Option Bytes) (cause : Cause) (op : Op) (out : Out) → Uses old key value op out → finite.find key_cmp key old.list ≡ None
+    → entries_left old.list key op out victim (Some cause) ≡ without victim old.list
+goes_again old key value victim cause op out uses missing =
+    let away = missing_without victim key old.list missing in
+    ap (others key) (used_new (without victim old.list) key value op out uses.is_use away (entry_new old key value op out missing uses))
+    ∙ others_front key value (without victim old.list) away
+
+pinned_out : (old new : ByUse) (key value : Bytes) (pinned : List Bytes) (evicted : Option Bytes) (op : Op) (out : Out) → Uses old key value op out → IsPinnedOut old new key pinned evicted
+    → IsKeptSo old pinned key op out evicted (Some Full) new
+pinned_out old new key value pinned evicted op out uses h =
+    let known = crowded old key value op out uses h.place in
+    let victim_is : victim_in old pinned key op out ≡ None = ap (λ b. cond b (evicted_of old.list pinned) None) known.full ∙ h.no_victim in
+    record {
+      short = false;
+      victim_is = h.nobody ∙ sym victim_is;
+      evicted_is = sym ((λ i. own_cause (known.inserts i) (known.full i) (is_some (victim_is i)) false));
+      left = h.after ∙ ap (λ es. record old { list = es }) (sym (goes_again old key value evicted Full op out uses known.missing ∙ ap (λ v. without v old.list) h.nobody));
+    }
+
+-- whether there was a place, and who went
+record Short (old : ByUse) (key : Bytes) (pinned : List Bytes) (evicted : Option Bytes) (op : Op) (out : Out) : Type 0 where
+  victim : victim_in old pinned key op out ≡ evicted
+  cause : own_cause (inserts_into old.list key op out) (overflows_in old key op out) (is_some (victim_in old pinned key op out)) true ≡ Some Memory
+
+short_memory : (old : ByUse) (key value : Bytes) (pinned : List Bytes) (evicted : Option Bytes) (op : Op) (out : Out) (place : Bool) → Uses old key value op out → finite.find key_cmp key old.list ≡ None
+    → has_place key old ≡ place → evicted ≡ cond place None (evicted_of old.list pinned) → (place ≡ false → IsSome evicted) → Short old key pinned evicted op out
+short_memory old key value pinned evicted op out true uses missing place is some =
+    let roomy : nat_lt (length old.list) old.capacity ≡ true = ap (λ o. is_some o || nat_lt (length old.list) old.capacity) (sym missing) ∙ place in
+    let inserts = inserts_new old.list key value op out missing uses.entry in
+    let full : overflows_in old key op out ≡ false = ap (λ b. b && (length old.list == old.capacity)) inserts ∙ not_full (length old.list) old.capacity roomy in
+    let victim_is : victim_in old pinned key op out ≡ None = ap (λ b. cond b (evicted_of old.list pinned) None) full in
+    record { victim = victim_is ∙ sym is; cause = λ i. own_cause (inserts i) (full i) (is_some (victim_is i)) true }
+short_memory old key value pinned evicted op out false uses missing place is some =
+    let known = crowded old key value op out uses place in
+    let victim_is : victim_in old pinned key op out ≡ evicted = ap (λ b. cond b (evicted_of old.list pinned) None) known.full ∙ sym is in
+    record { victim = victim_is; cause = (λ i. own_cause (known.inserts i) (known.full i) (is_some (victim_is i)) true) ∙ gone evicted (some refl) }
+  where
+    gone : (o : Option Bytes) → IsSome o → own_cause true true (is_some o) true ≡ Some Memory
+    gone None h = cc
+    gone (Some x) h = refl
+
+out_of_memory : (old new : ByUse) (key value : Bytes) (pinned : List Bytes) (evicted : Option Bytes) (op : Op) (out : Out) → Uses old key value op out → IsOutOfMemory old new key pinned evicted
+    → IsKeptSo old pinned key op out evicted (Some Memory) new
+out_of_memory old new key value pinned evicted op out uses h =
+    let known = short_memory old key value pinned evicted op out (has_place key old) uses h.is_new refl h.victim_is h.not_pinned_out in
+    record {
+      short = true;
+      victim_is = sym known.victim;
+      evicted_is = sym known.cause;
+      left = h.after ∙ ap (λ es. record old { list = es }) (sym (goes_again old key value evicted Memory op out uses h.is_new));
+    }
+
+pub not_kept : (old new : ByUse) (key value : Bytes) (pinned : List Bytes) (cause : Cause) (evicted : Option Bytes) (op : Op) (out : Out) → Uses old key value op out → Inserts old new key value pinned (NotKept cause evicted)
+    → IsKeptSo old pinned key op out evicted (Some cause) new
+not_kept old new key value pinned Full evicted op out uses h = pinned_out old new key value pinned evicted op out uses h
+not_kept old new key value pinned Memory evicted op out uses h = out_of_memory old new key value pinned evicted op out uses h
+
+-- a test that was made
+pub use_is : {A : Type 0} (fault fault_is : Option A) (used used_is : Bool) → fault ≡ fault_is → used ≡ used_is → is_some fault ≡ false → used ≡ true → (is_none fault_is && used_is) ≡ true
+use_is fault fault_is used used_is f u g h = ap (λ o. is_none o && used_is) (sym f) ∙ ap (λ b. not b && used_is) g ∙ sym u ∙ h

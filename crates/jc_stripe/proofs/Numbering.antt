@@ -1,0 +1,138 @@
+-- What keeps the keys and the numbers of reservations apart, and what a claim tells of its reservation.
+use Rattle.std.proofs.Common.{◌≡◌, ◌==◌, ◌<◌, ◌+◌, ◌&&◌, ◌||◌, ℕ, suc, List, [], ◌∷◌, ◌++◌, length, get_or, Bool, true, false, cond, not, Some, find, refl, sym, ap, ◌∙◌, subst, arith}
+use Rattle.std.proofs.lemmas.Bool.Decides.{nat_tests}
+use Rattle.std.proofs.lemmas.Bool.{eqb-true}
+use Rattle.std.proofs.lemmas.Cmp.{nat_list_eq_equiv}
+use Rattle.std.proofs.lemmas.List.Elements.{All-head, All-tail, All-push, All-filter}
+use Rattle.std.proofs.lemmas.List.Folds.{list_any_at}
+use Rattle.std.proofs.lemmas.List.Kept.{AllPairs-filter}
+use Rattle.std.proofs.lemmas.List.Quantifiers.{all_pairs_push}
+use Rattle.std.specs.List.{AllPairs, All, list_any}
+use Rattle.std.specs.Cmp.Lexicographic.{same_text}
+use Rattle.jc_model.specs.Cache.{Bytes}
+use Rattle.jc_model.proofs.Lookups.{both}
+use Rattle.jc_stripe.specs.Claim.{Claim}
+use Rattle.jc_stripe.specs.State.{Reserved, is_key, is_claim, unreserved}
+use Rattle.jc_stripe.specs.Reached.{AreNumbered}
+
+-- 1. What is found.
+
+-- what is found passes the test
+pub found_test : {X : Type 0} (p : X → Bool) (xs : List X) (r : X) → find p xs ≡ Some r → p r ≡ true
+found_test p [] r h = cc
+found_test p (x ∷ xs) r h =
+    elim (p x) as (λ b. p x ≡ b → cond b (Some x) (find p xs) ≡ Some r → p r ≡ true) [
+      | true ↦ λ e h. let is : x ≡ r = cc in ap p (sym is) ∙ e
+      | false ↦ λ e h. found_test p xs r h
+    ] refl h
+
+-- what holds of each holds of what is found
+pub found_holds : {X : Type 0} (p : X → Bool) (P : X → Type 0) (xs : List X) (r : X) → find p xs ≡ Some r → All P xs → P r
+found_holds p P [] r h all = cc
+found_holds {X} p P (x ∷ xs) r h all =
+    elim (p x) as (λ b. cond b (Some x) (find p xs) ≡ Some r → P r) [
+      | true ↦ λ h. let is : x ≡ r = cc in subst P is (All-head P x xs all)
+      | false ↦ λ h. found_holds p P xs r h (All-tail P x xs all)
+    ] h
+
+pub later_pairs : {X : Type 0} (R : X → X → Type 0) (x : X) (xs : List X) → AllPairs R (x ∷ xs) → AllPairs R xs
+later_pairs R x xs h i j d lt within = h (suc i) (suc j) d (omega arith) (omega arith)
+
+pub first_pairs : {X : Type 0} (R : X → X → Type 0) (x : X) (xs : List X) → AllPairs R (x ∷ xs) → All (λ y. R x y) xs
+first_pairs R x xs h k d within = h 0 (suc k) d (omega arith) (omega arith)
+
+-- two that are found are one, where no two have in common what these have
+pub found_once : {X : Type 0} (e : X → X → Bool) (p q : X → Bool) (xs : List X) (r s : X) → AllPairs (λ x y. e x y ≡ false) xs → find p xs ≡ Some r → find q xs ≡ Some s → e r s ≡ true → e s r ≡ true → r ≡ s
+found_once e p q [] r s once h g t u = cc
+found_once {X} e p q (x ∷ xs) r s once h g t u =
+    let later = later_pairs (λ x y. e x y ≡ false) x xs once in
+    let first = first_pairs (λ x y. e x y ≡ false) x xs once in
+    elim (p x) as (λ b. cond b (Some x) (find p xs) ≡ Some r → r ≡ s) [
+      | true ↦ λ h. let is : x ≡ r = cc in elim (q x) as (λ b. cond b (Some x) (find q xs) ≡ Some s → r ≡ s) [
+        | true ↦ λ g. cc
+        | false ↦ λ g. let no : e x s ≡ false = found_holds q (λ y. e x y ≡ false) xs s g first in cc
+      ] g
+      | false ↦ λ h. elim (q x) as (λ b. cond b (Some x) (find q xs) ≡ Some s → r ≡ s) [
+        | true ↦ λ g. let is : x ≡ s = cc in let no : e x r ≡ false = found_holds p (λ y. e x y ≡ false) xs r h first in cc
+        | false ↦ λ g. found_once e p q xs r s later h g t u
+      ] g
+    ] h
+
+-- 2. What a claim tells.
+
+-- what is claimed has the claim's key and number
+pub claim_test : (claim : Claim) (r : Reserved) → is_claim claim r ≡ true → (claim.key ≡ r.key) × (r.number ≡ claim.number)
+claim_test claim r h =
+    let parts = both (is_key claim.key r) (r.number == claim.number) h in
+    (same_text claim.key r.key (sym parts.0), eqb-true r.number claim.number parts.1)
+
+pub claim_key : (claim : Claim) (rs : List Reserved) (r : Reserved) → find (is_claim claim) rs ≡ Some r → claim.key ≡ r.key
+claim_key claim rs r h = (claim_test claim r (found_test (is_claim claim) rs r h)).0
+
+pub claim_number : (claim : Claim) (rs : List Reserved) (r : Reserved) → find (is_claim claim) rs ≡ Some r → r.number ≡ claim.number
+claim_number claim rs r h = (claim_test claim r (found_test (is_claim claim) rs r h)).1
+
+same_number : (m n : ℕ) → m ≡ n → (m == n) ≡ true
+same_number m n e = grind (arith, nat_tests)
+
+-- a number is claimed once
+pub claimed_once : (next : ℕ) (rs : List Reserved) (one other : Claim) (r s : Reserved) → AreNumbered next rs → find (is_claim one) rs ≡ Some r → find (is_claim other) rs ≡ Some s → one.number ≡ other.number → r ≡ s
+claimed_once next rs one other r s numbered h g e =
+    let m = claim_number one rs r h in
+    let n = claim_number other rs s g in
+    found_once (λ (x : Reserved) (y : Reserved). x.number == y.number) (is_claim one) (is_claim other) rs r s numbered.numbers h g (same_number _ _ (m ∙ e ∙ sym n)) (same_number _ _ (n ∙ sym e ∙ sym m))
+
+-- what is claimed is what is found at its key
+pub claimed_at_key : (next : ℕ) (rs : List Reserved) (claim : Claim) (r : Reserved) → AreNumbered next rs → find (is_claim claim) rs ≡ Some r → find (is_key claim.key) rs ≡ Some r
+claimed_at_key next rs claim r numbered h = go rs r numbered.once h
+  where
+    go : (rs : List Reserved) (r : Reserved) → AllPairs (λ r later. is_key r.key later ≡ false) rs → find (is_claim claim) rs ≡ Some r → find (is_key claim.key) rs ≡ Some r
+    go [] r once h = cc
+    go (x ∷ xs) r once h =
+        let later = later_pairs (λ (r : Reserved) (later : Reserved). is_key r.key later ≡ false) x xs once in
+        let first = first_pairs (λ (r : Reserved) (later : Reserved). is_key r.key later ≡ false) x xs once in
+        elim (is_key claim.key x) as (λ b. is_key claim.key x ≡ b → cond (b && (x.number == claim.number)) (Some x) (find (is_claim claim) xs) ≡ Some r → cond b (Some x) (find (is_key claim.key) xs) ≡ Some r) [
+          | true ↦ λ k. elim (x.number == claim.number) as (λ b. cond b (Some x) (find (is_claim claim) xs) ≡ Some r → Some x ≡ Some r) [
+            | true ↦ λ h. h
+            | false ↦ λ h.
+                let no : is_key x.key r ≡ false = found_holds (is_claim claim) (λ y. is_key x.key y ≡ false) xs r h first in
+                let yes : is_key claim.key r ≡ true = (both _ _ (found_test (is_claim claim) xs r h)).0 in
+                let same : claim.key ≡ x.key = same_text claim.key x.key (sym k) in
+                let bad : true ≡ false = sym yes ∙ ap (λ q. is_key q r) same ∙ no in cc
+          ]
+          | false ↦ λ k h. go xs r later h
+        ] refl h
+
+-- a key that is found is reserved
+pub found_any : {X : Type 0} (p : X → Bool) (xs : List X) (r : X) → find p xs ≡ Some r → list_any p xs ≡ true
+found_any p [] r h = cc
+found_any p (x ∷ xs) r h =
+    elim (p x) as (λ b. cond b (Some x) (find p xs) ≡ Some r → (b || list_any p xs) ≡ true) [ true ↦ λ h. refl | false ↦ λ h. found_any p xs r h ] h
+
+-- 3. A reservation more, and less.
+
+-- a key that is free is no reservation's
+other_key : (rs : List Reserved) (r : Reserved) (k : ℕ) (d : Reserved) → k < length rs → list_any (is_key r.key) rs ≡ false → is_key (get_or rs k d).key r ≡ false
+other_key rs r k d within free =
+    let x = get_or rs k d in
+    elim (is_key r.key x) as (λ b. is_key r.key x ≡ b → is_key x.key r ≡ false) [
+      | true ↦ λ e. let found = list_any_at (is_key r.key) rs k d within e in cc
+      | false ↦ λ e. nat_list_eq_equiv.symm x.key r.key ∙ e
+    ] refl
+
+below_other : (m n : ℕ) → m < n → (m == n) ≡ false
+below_other m n h = grind (arith, nat_tests)
+
+pub numbered-push : (next : ℕ) (rs : List Reserved) (r : Reserved) → AreNumbered next rs → r.number ≡ next → list_any (is_key r.key) rs ≡ false → AreNumbered (next + 1) (rs ++ r ∷ [])
+numbered-push next rs r old number free = record {
+  once = all_pairs_push (λ r later. is_key r.key later ≡ false) rs r old.once (λ k d l. other_key rs r k d l free);
+  numbers = all_pairs_push (λ r later. (r.number == later.number) ≡ false) rs r old.numbers (λ k d l. let b = old.below k d l in below_other _ _ (omega arith));
+  below = All-push (λ r. r.number < next + 1) rs r (λ k d l. let b = old.below k d l in omega arith) (omega arith);
+}
+
+pub numbered-left : (next : ℕ) (rs : List Reserved) (key : Bytes) → AreNumbered next rs → AreNumbered next (unreserved key rs)
+numbered-left next rs key old = record {
+  once = AllPairs-filter (λ r later. is_key r.key later ≡ false) (λ r. not (is_key key r)) rs old.once;
+  numbers = AllPairs-filter (λ r later. (r.number == later.number) ≡ false) (λ r. not (is_key key r)) rs old.numbers;
+  below = All-filter (λ r. not (is_key key r)) (λ r. r.number < next) rs old.below;
+}

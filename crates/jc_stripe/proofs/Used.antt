@@ -1,0 +1,132 @@
+-- What a step and its group leave of the entries by use, and of the cache that these make.
+use Rattle.std.proofs.Common.{◌≡◌, ◌==◌, ◌&&◌, ℕ, List, [], ◌∷◌, ◌++◌, map, Bool, true, false, cond, IsTrue, Option, Some, None, is_some, is_none, refl, sym, ap, ◌∙◌, not}
+use Rattle.std.specs.Ordering.{eq_by_cmp}
+use Rattle.std.proofs.lemmas.Cmp.{nat_list_cmp_total}
+use Rattle.std.specs.FinMap as finite
+use Rattle.std.specs.FinMap.{from_entries, get-from_entries, remove}
+use Rattle.jc_types.specs.declared.config.Refusal.{Refusal}
+use Rattle.jc_model.specs.declared.event.Cause.{Cause}
+use Rattle.jc_model.specs.declared.event.Event.{Event}
+use Rattle.jc_model.specs.declared.event.Op.{Op}
+use Rattle.jc_model.specs.declared.event.Op.TheVariants.{Get, ContainsKey, Put, GetAndPut, PutIfAbsent, Remove, RemoveIf, GetAndRemove, Replace, ReplaceIf, GetAndReplace, Clear, LoadAll, Invoke}
+use Rattle.jc_model.specs.declared.event.Out.{Out}
+use Rattle.jc_model.specs.declared.event.LoadAnswer.{LoadAnswer}
+use Rattle.jc_model.specs.declared.event.LoadAnswer.TheVariants.{NotAsked, Found, Nothing, Failed}
+use Rattle.jc_model.specs.Cache.{Bytes, Cache, key_cmp, entry_at, with_entry}
+use Rattle.jc_model.specs.Listed.{apart, others, listed}
+use Rattle.jc_model.specs.Table.{Made, fault_of, entry_after, new_entry, left_by, loaded, cache_left}
+use Rattle.jc_model.specs.Processor.{found_in}
+use Rattle.jc_model.specs.Group.{Group, victim_events, shared_event, evicted_events, events_of, step_event, step_place, left_after, evict_own}
+use Rattle.jc_model.specs.Group as group
+use Rattle.jc_model.proofs.Lookups.{from_entries-others, from_entries-listed, apart-others, apart-listed, same_cache, get-with_entry, same_key}
+use Rattle.jc_entries.specs.ByUse.{without}
+use Rattle.jc_stripe.specs.OrderOfUse.{uses, is_use, used_at, used, by_use}
+use Rattle.jc_stripe.specs.Putting.{own_gone, entries_left}
+
+-- 1. The events of a group, one after another.
+
+pub by_use-append : (entries : List (Bytes × Bytes)) (xs ys : List Event) → by_use entries (xs ++ ys) ≡ by_use (by_use entries xs) ys
+by_use-append entries [] ys = refl
+by_use-append entries (x ∷ xs) ys = by_use-append (used entries x) xs ys
+
+-- shared steps leave the entries
+pub by_use-shared : (entries : List (Bytes × Bytes)) (place : ℕ) (key : Bytes) (answer : LoadAnswer) (callers : List (ℕ × ℕ)) → by_use entries (map (shared_event place key answer) callers) ≡ entries
+by_use-shared entries place key answer [] = refl
+by_use-shared entries place key answer (c ∷ cs) = by_use-shared entries place key answer cs
+
+by_use-victim : (entries : List (Bytes × Bytes)) (victim : Option Bytes) → by_use entries (victim_events victim) ≡ without victim entries
+by_use-victim entries None = refl
+by_use-victim entries (Some key) = refl
+
+by_use-evicted : (entries : List (Bytes × Bytes)) (key : Bytes) (cause : Option Cause) → by_use entries (evicted_events key cause) ≡ own_gone key cause entries
+by_use-evicted entries key None = refl
+by_use-evicted entries key (Some cause) = refl
+
+-- a group leaves the entries without its victim, with the step's, and without what goes again
+pub by_use-group : (entries : List (Bytes × Bytes)) (place : ℕ) (g : Group) → by_use entries (events_of place g) ≡ entries_left entries g.made.key g.made.op g.made.out g.victim g.evicted
+by_use-group entries place g =
+    let shared : List Event = map (shared_event (step_place place g) g.made.key g.made.out.load) g.joined in
+    let own : List Event = evicted_events g.made.key g.evicted in
+    let at : List (Bytes × Bytes) = used_at (without g.victim entries) g.made.key g.made.op g.made.out in
+    by_use-append entries (victim_events g.victim ++ step_event g ∷ shared) own
+    ∙ ap (λ es. by_use es own)
+    (by_use-append entries (victim_events g.victim) (step_event g ∷ shared)
+    ∙ ap (λ es. by_use es (step_event g ∷ shared)) (by_use-victim entries g.victim)
+    ∙ by_use-shared at (step_place place g) g.made.key g.made.out.load g.joined)
+    ∙ by_use-evicted at g.made.key g.evicted
+
+-- 2. The entries, each key once.
+
+apart-without : (victim : Option Bytes) (entries : List (Bytes × Bytes)) → apart entries ≡ true → apart (without victim entries) ≡ true
+apart-without None entries h = h
+apart-without (Some key) entries h = apart-others key entries h
+
+apart-used_at : (entries : List (Bytes × Bytes)) (key : Bytes) (op : Op) (out : Out) → apart entries ≡ true → apart (used_at entries key op out) ≡ true
+apart-used_at entries key op out h = elim (is_use op out) as (λ b. apart (cond b (listed key (new_entry op (finite.find key_cmp key entries) out) entries) entries) ≡ true) [
+  | true ↦ apart-listed key (new_entry op (finite.find key_cmp key entries) out) entries h
+  | false ↦ h
+]
+
+apart-own_gone : (key : Bytes) (cause : Option Cause) (entries : List (Bytes × Bytes)) → apart entries ≡ true → apart (own_gone key cause entries) ≡ true
+apart-own_gone key None entries h = h
+apart-own_gone key (Some cause) entries h = apart-others key entries h
+
+pub apart-left : (entries : List (Bytes × Bytes)) (key : Bytes) (op : Op) (out : Out) (victim : Option Bytes) (evicted : Option Cause) → apart entries ≡ true → apart (entries_left entries key op out victim evicted) ≡ true
+apart-left entries key op out victim evicted h = apart-own_gone key evicted _ (apart-used_at (without victim entries) key op out (apart-without victim entries h))
+
+-- 3. The cache that they make.
+
+pub find-entry : (entries : List (Bytes × Bytes)) (key : Bytes) → finite.find key_cmp key entries ≡ entry_at (from_entries {R = key_cmp} entries) key
+find-entry entries key = sym (get-from_entries nat_list_cmp_total entries key)
+
+from-without : (victim : Option Bytes) (entries : List (Bytes × Bytes)) → from_entries {R = key_cmp} (without victim entries) ≡ group.without (from_entries entries) victim
+from-without None entries = refl
+from-without (Some key) entries = from_entries-others key entries
+
+-- an entry that is put where it is leaves the cache
+chosen : {A : Type 0} (b : Bool) (x y : A) → (b ≡ true → x ≡ y) → cond b x y ≡ y
+chosen true x y h = h refl
+chosen false x y h = refl
+
+pub same-entry : (cache : Cache) (key : Bytes) (entry : Option Bytes) → entry ≡ entry_at cache key → with_entry cache key entry ≡ cache
+same-entry cache key entry h = same_cache _ _ (λ q. get-with_entry cache key entry q ∙ chosen (eq_by_cmp key_cmp q key) entry (entry_at cache q) (λ e. h ∙ ap (entry_at cache) (sym (same_key q key e))))
+
+-- a step that is no use leaves its entry
+not_found : (answer : LoadAnswer) (entry : Option Bytes) → is_some (found_in answer) ≡ false → loaded answer entry ≡ entry
+not_found NotAsked entry h = refl
+not_found (Found value) entry h = cc
+not_found Nothing entry h = refl
+not_found (Failed code) entry h = refl
+
+unused_after : (op : Op) (entry : Option Bytes) (out : Out) → uses op out.load ≡ false → entry_after op entry out ≡ entry
+unused_after ContainsKey entry out h = refl
+unused_after (LoadAll replace) entry out h = not_found out.load entry h
+unused_after op entry out h = cc
+
+unused_left : (fault : Option Refusal) (used : Bool) (entry after : Option Bytes) → (is_none fault && used) ≡ false → (used ≡ false → after ≡ entry) → left_by fault entry after ≡ entry
+unused_left (Some fault) used entry after h later = refl
+unused_left None used entry after h later = later h
+
+pub unused_keeps : (op : Op) (entry : Option Bytes) (out : Out) → is_use op out ≡ false → new_entry op entry out ≡ entry
+unused_keeps op entry out h = unused_left (fault_of out) (uses op out.load) entry (entry_after op entry out) h (unused_after op entry out)
+
+from-used_at : (entries : List (Bytes × Bytes)) (key : Bytes) (op : Op) (out : Out)
+    → from_entries {R = key_cmp} (used_at entries key op out) ≡ with_entry (from_entries entries) key (new_entry op (entry_at (from_entries entries) key) out)
+from-used_at entries key op out = go (is_use op out) refl
+  where
+    cache : Cache
+    cache = from_entries entries
+
+    go : (b : Bool) → is_use op out ≡ b → from_entries {R = key_cmp} (cond b (listed key (new_entry op (finite.find key_cmp key entries) out) entries) entries) ≡ with_entry (from_entries entries) key (new_entry op (entry_at (from_entries entries) key) out)
+    go true e = from_entries-listed key (new_entry op (finite.find key_cmp key entries) out) entries ∙ ap (λ o. with_entry (from_entries entries) key (new_entry op o out)) (find-entry entries key)
+    go false e = sym (same-entry (from_entries entries) key _ (unused_keeps op (entry_at (from_entries entries) key) out e))
+
+from-own_gone : (key : Bytes) (cause : Option Cause) (entries : List (Bytes × Bytes)) → from_entries {R = key_cmp} (own_gone key cause entries) ≡ evict_own (from_entries entries) key cause
+from-own_gone key None entries = refl
+from-own_gone key (Some cause) entries = from_entries-others key entries
+
+-- the entries that a group leaves make the cache that it leaves
+pub from-left : (entries : List (Bytes × Bytes)) (g : Group) → from_entries {R = key_cmp} (entries_left entries g.made.key g.made.op g.made.out g.victim g.evicted) ≡ left_after (from_entries entries) g
+from-left entries g =
+    from-own_gone g.made.key g.evicted (used_at (without g.victim entries) g.made.key g.made.op g.made.out)
+    ∙ ap (λ c. evict_own c g.made.key g.evicted) (from-used_at (without g.victim entries) g.made.key g.made.op g.made.out ∙ ap (λ c. cache_left c g.made) (from-without g.victim entries))

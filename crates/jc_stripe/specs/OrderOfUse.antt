@@ -1,0 +1,56 @@
+-- The order in which a stripe's entries were used, from its opening and its events alone.
+--     is_use         whether a step makes the entry that it leaves the most recently used: it has no fault, and is neither a
+--                    `ContainsKey` nor a `LoadAll` that kept no value
+--     used           the entries behind an event, the most recently used first
+--     by_use         the entries behind a history
+--     pinned         the keys that are reserved: their entries can't be evicted
+--     least_used     the key that has to go where there is no room: the least recently used that isn't pinned, if there is one
+use Rattle.std.specs.Prelude.{List, [], ◌∷◌, map, Bool, true, false, ◌&&◌, Option, None, Some, is_none, is_some, if◌then◌else◌}
+use Rattle.std.specs.FinMap as finite
+use Rattle.jc_model.specs.declared.event.Op.{Op}
+use Rattle.jc_model.specs.declared.event.Op.TheVariants.{ContainsKey, LoadAll}
+use Rattle.jc_model.specs.declared.event.Out.{Out}
+use Rattle.jc_model.specs.declared.event.LoadAnswer.{LoadAnswer}
+use Rattle.jc_model.specs.declared.event.Event.{Event}
+use Rattle.jc_model.specs.declared.event.Event.TheVariants.{Step, Evict}
+use Rattle.jc_model.specs.Cache.{Bytes, key_cmp}
+use Rattle.jc_model.specs.Listed.{others, listed}
+use Rattle.jc_model.specs.Table.{fault_of, new_entry}
+use Rattle.jc_model.specs.Processor.{found_in}
+use Rattle.jc_entries.specs.ByUse.{evicted_of}
+use Rattle.jc_stripe.specs.State.{State, Reserved}
+
+-- 1. What a step uses.
+
+-- an operation that was made without a fault, and heard this of the loader
+abbrev pub uses : Op → LoadAnswer → Bool
+uses ContainsKey load = false
+uses (LoadAll replace) load = is_some (found_in load)
+uses op load = true
+
+abbrev pub is_use : Op → Out → Bool
+is_use op out = is_none (fault_of out) && uses op out.load
+
+-- the entries behind a step at a key: its entry is moved or put to the front, or goes
+abbrev pub used_at : List (Bytes × Bytes) → Bytes → Op → Out → List (Bytes × Bytes)
+used_at entries key op out = if is_use op out then listed key (new_entry op (finite.find key_cmp key entries) out) entries else entries
+
+-- 2. What a history uses.
+
+-- a shared step finds its entry, where there is one, in front
+abbrev pub used : List (Bytes × Bytes) → Event → List (Bytes × Bytes)
+used entries (Step session number op key out None reply) = used_at entries key op out
+used entries (Step session number op key out (Some place) reply) = entries
+used entries (Evict key cause) = others key entries
+
+abbrev pub by_use : List (Bytes × Bytes) → List Event → List (Bytes × Bytes)
+by_use entries [] = entries
+by_use entries (event ∷ events) = by_use (used entries event) events
+
+-- 3. Who has to go.
+
+abbrev pub pinned : List Reserved → List Bytes
+pinned reservations = map (λ r. r.key) reservations
+
+abbrev pub least_used : State → Option Bytes
+least_used state = evicted_of (by_use state.opening state.history) (pinned state.reservations)

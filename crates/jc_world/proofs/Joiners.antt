@@ -1,0 +1,460 @@
+-- The calls that have joined a load, and the joiners that they have.
+--     told_resolved, told_dissolved, told_pushed      what is parked for a call stays parked
+--     told_waiting      a commit parks an answer for each that waits for its load
+--     called_on, waited_on      each joiner, and each join, in another world
+--     joined_at         a join, with what is true of it
+--     other_call        a call that is over has no join, so no joiner and no join of another call is its
+use Rattle.std.proofs.Common.{◌≡◌, ◌==◌, ◌&&◌, ◌||◌, ◌+◌, ℕ, zero, suc, List, [], ◌∷◌, ◌++◌, Bool, true, false, cond, not, Option, None, Some, IsSomeAnd, find, filter, map, position, slice_get, refl, sym, ap, ◌∙◌, subst, arith, is_none, is_some}
+use Rattle.std.specs.List.{list_all, list_any, position_from}
+use Rattle.std.specs.List.{insert as insert_at, remove as remove_at}
+use Rattle.std.proofs.lemmas.Iterator.Adapters.{position_from-zero}
+use Rattle.std.specs.Ordering.{eq_by_cmp}
+use Rattle.std.specs.Cmp.Lexicographic.{pointwise}
+use Rattle.std.specs.FinMap.{get, insert, remove, get-insert, get-remove}
+use Rattle.std.proofs.lemmas.Bool.{eq-eqb, eqb-true}
+use Rattle.std.proofs.lemmas.Cmp.{nat_list_cmp_total, nat_eq_equiv, nat_list_eq_equiv}
+use Rattle.jc_model.specs.Cache.{Bytes, key_cmp}
+use Rattle.jc_model.proofs.Lookups.{both, same_key}
+use Rattle.jc_inflight.specs.declared.joiner.Joiner.{Joiner}
+use Rattle.jc_inflight.specs.declared.joiner.JoinState.{JoinState}
+use Rattle.jc_inflight.specs.declared.joiner.JoinState.TheVariants.{Waiting, Parked}
+use Rattle.jc_inflight.specs.declared.joiner.Parked.TheVariants as parked
+use Rattle.jc_inflight.specs.Joined.{is_of, is_waiting, waits_for, callers_of, is_joined as has_joined}
+use Rattle.jc_inflight.specs.Resolving.{answered, answered_from}
+use Rattle.jc_inflight.specs.Dissolving.{sent_away, dissolved}
+use Rattle.jc_inflight.specs.Taking.{joiner_of, without}
+use Rattle.jc_stripe.specs.Claim.{JoinClaim}
+use Rattle.jc_stripe.specs.State.{State}
+use Rattle.jc_stripe.specs.Phases.{is_apart}
+use Rattle.jc_stripe.specs.Reached.{are_apart}
+use Rattle.jc_world.specs.declared.event.Under.{Under}
+use Rattle.jc_world.specs.declared.event.Part.{Part}
+use Rattle.jc_world.specs.World.{WorldState, Parts, home, stripe_for, has_number, under, over, of_call, part_of, is_join, join_of, is_joined, unjoined}
+use Rattle.jc_world.specs.Sound.{has_answer, is_told, is_served_in, IsWaitedFor, AllWaitedFor, joined_once, IsCalled, AllCalled}
+use Rattle.jc_world.proofs.Shares.{all, some_of, turned_eq, Each, each_map}
+use Rattle.jc_world.proofs.Underway.{same_bytes}
+
+-- 1. What is parked.
+
+-- what waits has no answer
+pub unanswered : (s : JoinState) → is_waiting s ≡ true → has_answer s ≡ true → ⊥
+unanswered Waiting h k = cc
+unanswered (Parked p) h k = cc
+
+-- an answer that is parked stays where others are parked
+pub told_resolved : (load step place session number : ℕ) (key : Bytes) (js : List Joiner) → is_told (joiner_of session number key js) ≡ true → is_told (joiner_of session number key (answered_from load step place js)) ≡ true
+told_resolved load step place session number key [] h = h
+told_resolved load step place session number key (x ∷ xs) h =
+    let p = is_of session number key in
+    elim (waits_for load x) as (λ b. is_told (find p (cond b (answered place step x ∷ answered_from load step (place + 1) xs) (x ∷ answered_from load step place xs))) ≡ true) [
+      | true ↦ elim (p x) as (λ b. is_told (cond b (Some x) (find p xs)) ≡ true → is_told (cond b (Some (answered place step x)) (find p (answered_from load step (place + 1) xs))) ≡ true) [
+        | true ↦ λ h. refl
+        | false ↦ λ h. told_resolved load step (place + 1) session number key xs h
+      ] h
+      | false ↦ elim (p x) as (λ b. is_told (cond b (Some x) (find p xs)) ≡ true → is_told (cond b (Some x) (find p (answered_from load step place xs))) ≡ true) [
+        | true ↦ λ h. h
+        | false ↦ λ h. told_resolved load step place session number key xs h
+      ] h
+    ]
+
+-- one that is found and waits for the load gets its answer
+pub told_waiting : (load step place session number : ℕ) (key : Bytes) (js : List Joiner) (j : Joiner) → joiner_of session number key js ≡ Some j → waits_for load j ≡ true → is_told (joiner_of session number key (answered_from load step place js)) ≡ true
+told_waiting load step place session number key [] j h waits = cc
+told_waiting load step place session number key (x ∷ xs) j h waits =
+    let p = is_of session number key in
+    elim (waits_for load x) as (λ b. waits_for load x ≡ b → is_told (find p (cond b (answered place step x ∷ answered_from load step (place + 1) xs) (x ∷ answered_from load step place xs))) ≡ true) [
+      | true ↦ λ e. elim (p x) as (λ b. cond b (Some x) (find p xs) ≡ Some j → is_told (cond b (Some (answered place step x)) (find p (answered_from load step (place + 1) xs))) ≡ true) [
+        | true ↦ λ h. refl
+        | false ↦ λ h. told_waiting load step (place + 1) session number key xs j h waits
+      ] h
+      | false ↦ λ e. elim (p x) as (λ b. cond b (Some x) (find p xs) ≡ Some j → is_told (cond b (Some x) (find p (answered_from load step place xs))) ≡ true) [
+        | true ↦ λ h. let is : x ≡ j = cc in let t : true ≡ false = sym waits ∙ ap (waits_for load) (sym is) ∙ e in cc
+        | false ↦ λ h. told_waiting load step place session number key xs j h waits
+      ] h
+    ] refl
+
+-- an answer that is parked stays where a load is withdrawn
+pub told_dissolved : (load session number : ℕ) (key : Bytes) (js : List Joiner) → is_told (joiner_of session number key js) ≡ true → is_told (joiner_of session number key (dissolved load js)) ≡ true
+told_dissolved load session number key [] h = h
+told_dissolved load session number key (x ∷ xs) h =
+    let p = is_of session number key in
+    elim (waits_for load x) as (λ b. waits_for load x ≡ b → is_told (find p (cond b (record x { state = Parked parked.Again }) x ∷ dissolved load xs)) ≡ true) [
+      | true ↦ λ e. elim (p x) as (λ b. is_told (cond b (Some x) (find p xs)) ≡ true → is_told (cond b (Some (record x { state = Parked parked.Again })) (find p (dissolved load xs))) ≡ true) [
+        | true ↦ λ h. absurd (unanswered x.state (both (x.load == load) (is_waiting x.state) e).1 h)
+        | false ↦ λ h. told_dissolved load session number key xs h
+      ] h
+      | false ↦ λ e. elim (p x) as (λ b. is_told (cond b (Some x) (find p xs)) ≡ true → is_told (cond b (Some x) (find p (dissolved load xs))) ≡ true) [
+        | true ↦ λ h. h
+        | false ↦ λ h. told_dissolved load session number key xs h
+      ] h
+    ] refl
+
+-- and where one more joins
+pub told_pushed : (session number : ℕ) (key : Bytes) (js more : List Joiner) → is_told (joiner_of session number key js) ≡ true → is_told (joiner_of session number key (js ++ more)) ≡ true
+told_pushed session number key [] more h = cc
+told_pushed session number key (x ∷ xs) more h =
+    let p = is_of session number key in
+    elim (p x) as (λ b. is_told (cond b (Some x) (find p xs)) ≡ true → is_told (cond b (Some x) (find p (xs ++ more))) ≡ true) [
+      | true ↦ λ h. h
+      | false ↦ λ h. told_pushed session number key xs more h
+    ] h
+
+-- what passes one test is found among what passes another that follows
+pub find_kept : {A : Type 0} (p q : A → Bool) (xs : List A) → ((x : A) → p x ≡ true → q x ≡ true) → find p (filter q xs) ≡ find p xs
+find_kept p q [] f = refl
+find_kept p q (x ∷ xs) f =
+    elim (q x) as (λ b. q x ≡ b → find p (cond b (x ∷ filter q xs) (filter q xs)) ≡ cond (p x) (Some x) (find p xs)) [
+      | true ↦ λ e. ap (cond (p x) (Some x)) (find_kept p q xs f)
+      | false ↦ λ e. find_kept p q xs f ∙ sym (ap (λ b. cond b (Some x) (find p xs)) (fails (p x) (λ t. let u : true ≡ false = sym (f x t) ∙ e in cc)))
+    ] refl
+  where
+    fails : (b : Bool) → (b ≡ true → ⊥) → b ≡ false
+    fails true h = absurd (h refl)
+    fails false h = refl
+
+-- one is there where one is found
+pub any_kept : {A : Type 0} (p q : A → Bool) (xs : List A) → ((x : A) → p x ≡ true → q x ≡ true) → list_any p xs ≡ true → list_any p (filter q xs) ≡ true
+any_kept p q [] f h = h
+any_kept p q (x ∷ xs) f h =
+    elim (q x) as (λ b. q x ≡ b → list_any p (cond b (x ∷ filter q xs) (filter q xs)) ≡ true) [
+      | true ↦ λ e. elim (p x) as (λ b. (b || list_any p xs) ≡ true → (b || list_any p (filter q xs)) ≡ true) [ true ↦ λ h. refl | false ↦ λ h. any_kept p q xs f h ] h
+      | false ↦ λ e. elim (p x) as (λ b. p x ≡ b → (b || list_any p xs) ≡ true → list_any p (filter q xs) ≡ true) [
+        | true ↦ λ t h. let u : true ≡ false = sym (f x t) ∙ e in cc
+        | false ↦ λ t h. any_kept p q xs f h
+      ] refl h
+    ] refl
+
+-- 2. A joiner is found.
+
+-- two joiners that are apart are not one
+not_of : (x j : Joiner) → is_apart x.session x.number x.key j ≡ true → is_of j.session j.number j.key x ≡ false
+not_of x j h =
+    (λ i. (turned_eq x.session j.session i && turned_eq x.number j.number i) && pointwise ◌==◌ j.key x.key)
+    ∙ go (j.session == x.session) (j.number == x.number) (pointwise ◌==◌ j.key x.key) h
+  where
+    go : (s n k : Bool) → (not s || (n && not k)) ≡ true → ((s && n) && k) ≡ false
+    go false n k h = refl
+    go true false k h = refl
+    go true true false h = refl
+    go true true true h = cc
+
+-- each joiner is found by its session, number and key
+pub each_own : (js : List Joiner) → are_apart js ≡ true → Each (λ (j : Joiner). joiner_of j.session j.number j.key js ≡ Some j) js
+each_own [] h = tt
+each_own (x ∷ xs) h =
+    let parts = both (list_all (is_apart x.session x.number x.key) xs) (are_apart xs) h in (
+      ap (λ b. cond b (Some x) (find (is_of x.session x.number x.key) xs)) (all _ _ (all _ _ (nat_eq_equiv.refl x.session) (nat_eq_equiv.refl x.number)) (nat_list_eq_equiv.refl x.key)),
+      behind xs (each_own xs parts.1) parts.0,
+    )
+  where
+    behind : (ys : List Joiner) → Each (λ (j : Joiner). joiner_of j.session j.number j.key xs ≡ Some j) ys → list_all (is_apart x.session x.number x.key) ys ≡ true → Each (λ (j : Joiner). joiner_of j.session j.number j.key (x ∷ xs) ≡ Some j) ys
+    behind [] h apart = tt
+    behind (y ∷ ys) h apart =
+        let parts = both (is_apart x.session x.number x.key y) (list_all (is_apart x.session x.number x.key) ys) apart in
+        (ap (λ b. cond b (Some x) (find (is_of y.session y.number y.key) xs)) (not_of x y parts.0) ∙ h.0, behind ys h.1 parts.1)
+
+-- the callers of a load, from the joiners that wait for it
+pub each_caller : (P : ℕ → ℕ → Type 0) (load : ℕ) (js : List Joiner) → Each (λ (j : Joiner). waits_for load j ≡ true → P j.session j.number) js → Each (λ (c : ℕ × ℕ). P c.0 c.1) (callers_of load js)
+each_caller P load [] h = tt
+each_caller P load (x ∷ xs) h =
+    elim (waits_for load x) as (λ b. waits_for load x ≡ b → Each (λ (c : ℕ × ℕ). P c.0 c.1) (map (λ (j : Joiner). (j.session, j.number)) (cond b (x ∷ filter (waits_for load) xs) (filter (waits_for load) xs)))) [
+      | true ↦ λ e. (h.0 e, each_caller P load xs h.1)
+      | false ↦ λ e. each_caller P load xs h.1
+    ] refl
+
+-- 3. A joiner is there.
+
+-- who is there is there where some are answered
+pub any_resolved : (load step place session number : ℕ) (key : Bytes) (js : List Joiner) → has_joined session number key js ≡ true → has_joined session number key (answered_from load step place js) ≡ true
+any_resolved load step place session number key [] h = h
+any_resolved load step place session number key (x ∷ xs) h =
+    let p = is_of session number key in
+    elim (waits_for load x) as (λ b. list_any p (cond b (answered place step x ∷ answered_from load step (place + 1) xs) (x ∷ answered_from load step place xs)) ≡ true) [
+      | true ↦ elim (p x) as (λ b. (b || list_any p xs) ≡ true → (b || list_any p (answered_from load step (place + 1) xs)) ≡ true) [ true ↦ λ h. refl | false ↦ λ h. any_resolved load step (place + 1) session number key xs h ] h
+      | false ↦ elim (p x) as (λ b. (b || list_any p xs) ≡ true → (b || list_any p (answered_from load step place xs)) ≡ true) [ true ↦ λ h. refl | false ↦ λ h. any_resolved load step place session number key xs h ] h
+    ]
+
+-- or are to begin again
+pub any_dissolved : (load session number : ℕ) (key : Bytes) (js : List Joiner) → has_joined session number key js ≡ true → has_joined session number key (dissolved load js) ≡ true
+any_dissolved load session number key [] h = h
+any_dissolved load session number key (x ∷ xs) h =
+    let p = is_of session number key in
+    elim (waits_for load x) as (λ b. list_any p (cond b (record x { state = Parked parked.Again }) x ∷ dissolved load xs) ≡ true) [
+      | true ↦ elim (p x) as (λ b. (b || list_any p xs) ≡ true → (b || list_any p (dissolved load xs)) ≡ true) [ true ↦ λ h. refl | false ↦ λ h. any_dissolved load session number key xs h ] h
+      | false ↦ elim (p x) as (λ b. (b || list_any p xs) ≡ true → (b || list_any p (dissolved load xs)) ≡ true) [ true ↦ λ h. refl | false ↦ λ h. any_dissolved load session number key xs h ] h
+    ]
+
+-- one is there where more are
+pub any_front : {A : Type 0} (p : A → Bool) (xs ys : List A) → list_any p xs ≡ true → list_any p (xs ++ ys) ≡ true
+any_front p [] ys h = cc
+any_front p (x ∷ xs) ys h = elim (p x) as (λ b. (b || list_any p xs) ≡ true → (b || list_any p (xs ++ ys)) ≡ true) [ true ↦ λ h. refl | false ↦ λ h. any_front p xs ys h ] h
+
+-- and the last is
+pub any_last : {A : Type 0} (p : A → Bool) (xs : List A) (y : A) → p y ≡ true → list_any p (xs ++ y ∷ []) ≡ true
+any_last p [] y h = ap (λ b. b || false) h
+any_last p (x ∷ xs) y h = elim (p x) as (λ b. (b || list_any p (xs ++ y ∷ [])) ≡ true) [ true ↦ refl | false ↦ any_last p xs y h ]
+
+-- 4. Each joiner has its join and its call.
+
+-- each that passes a test, in another world
+pub called_on : (w n : WorldState) (m : ℕ) (p : Joiner → Bool) (js : List Joiner) → ((j : Joiner) → p j ≡ true → IsCalled w m j → IsCalled n m j) → AllCalled w m js → AllCalled n m (filter p js)
+called_on w n m p [] f h = tt
+called_on w n m p (x ∷ xs) f h =
+    elim (p x) as (λ b. p x ≡ b → AllCalled n m (cond b (x ∷ filter p xs) (filter p xs))) [
+      | true ↦ λ e. (f x e h.0, called_on w n m p xs f h.1)
+      | false ↦ λ e. called_on w n m p xs f h.1
+    ] refl
+
+-- each
+pub called_all : (w n : WorldState) (m : ℕ) (js : List Joiner) → ((j : Joiner) → IsCalled w m j → IsCalled n m j) → AllCalled w m js → AllCalled n m js
+called_all w n m [] f h = tt
+called_all w n m (x ∷ xs) f h = (f x h.0, called_all w n m xs f h.1)
+
+pub called_resolved : (w : WorldState) (m load step place : ℕ) (js : List Joiner) → AllCalled w m js → AllCalled w m (answered_from load step place js)
+called_resolved w m load step place [] h = tt
+called_resolved w m load step place (x ∷ xs) h =
+    elim (waits_for load x) as (λ b. AllCalled w m (cond b (answered place step x ∷ answered_from load step (place + 1) xs) (x ∷ answered_from load step place xs))) [
+      | true ↦ (record { home_is = h.0.home_is; join = h.0.join; call = h.0.call }, called_resolved w m load step (place + 1) xs h.1)
+      | false ↦ (h.0, called_resolved w m load step place xs h.1)
+    ]
+
+pub called_dissolved : (w : WorldState) (m load : ℕ) (js : List Joiner) → AllCalled w m js → AllCalled w m (dissolved load js)
+called_dissolved w m load [] h = tt
+called_dissolved w m load (x ∷ xs) h =
+    elim (waits_for load x) as (λ b. AllCalled w m (cond b (record x { state = Parked parked.Again }) x ∷ dissolved load xs)) [
+      | true ↦ (record { home_is = h.0.home_is; join = h.0.join; call = h.0.call }, called_dissolved w m load xs h.1)
+      | false ↦ (h.0, called_dissolved w m load xs h.1)
+    ]
+
+pub called_pushed : (w : WorldState) (m : ℕ) (js : List Joiner) (j : Joiner) → AllCalled w m js → IsCalled w m j → AllCalled w m (js ++ j ∷ [])
+called_pushed w m [] j h one = (one, tt)
+called_pushed w m (x ∷ xs) j h one = (h.0, called_pushed w m xs j h.1 one)
+
+-- one that is found
+pub called_found : (w : WorldState) (m : ℕ) (p : Joiner → Bool) (js : List Joiner) (j : Joiner) → find p js ≡ Some j → AllCalled w m js → IsCalled w m j
+called_found w m p [] j h called = cc
+called_found w m p (x ∷ xs) j h called =
+    elim (p x) as (λ b. cond b (Some x) (find p xs) ≡ Some j → IsCalled w m j) [
+      | true ↦ λ h. let is : x ≡ j = cc in subst (IsCalled w m) is called.0
+      | false ↦ λ h. called_found w m p xs j h called.1
+    ] h
+
+-- what holds of each
+pub called_each : (w : WorldState) (m : ℕ) (P : Joiner → Type 0) (js : List Joiner) → ((j : Joiner) → IsCalled w m j → P j) → AllCalled w m js → Each P js
+called_each w m P [] f h = tt
+called_each w m P (x ∷ xs) f h = (f x h.0, called_each w m P xs f h.1)
+
+-- a test of each
+pub called_test : (w : WorldState) (m : ℕ) (p : Joiner → Bool) (js : List Joiner) → ((j : Joiner) → IsCalled w m j → p j ≡ true) → AllCalled w m js → list_all p js ≡ true
+called_test w m p [] f h = refl
+called_test w m p (x ∷ xs) f h = all _ _ (f x h.0) (called_test w m p xs f h.1)
+
+-- two facts of each
+pub each_both : {A : Type 0} (P Q R : A → Type 0) (xs : List A) → ((x : A) → P x → Q x → R x) → Each P xs → Each Q xs → Each R xs
+each_both P Q R [] f h k = tt
+each_both P Q R (x ∷ xs) f h k = (f x h.0 k.0, each_both P Q R xs f h.1 k.1)
+
+-- 5. Each join has its joiner and its call.
+
+-- each that passes a test, in another world
+pub waited_on : (w n : WorldState) (p : JoinClaim → Bool) (P : JoinClaim → Type 0) (js : List JoinClaim) → ((j : JoinClaim) → p j ≡ true → P j → IsWaitedFor w j → IsWaitedFor n j) → Each P js → AllWaitedFor w js → AllWaitedFor n (filter p js)
+waited_on w n p P [] f each h = tt
+waited_on w n p P (x ∷ xs) f each h =
+    elim (p x) as (λ b. p x ≡ b → AllWaitedFor n (cond b (x ∷ filter p xs) (filter p xs))) [
+      | true ↦ λ e. (f x e each.0 h.0, waited_on w n p P xs f each.1 h.1)
+      | false ↦ λ e. waited_on w n p P xs f each.1 h.1
+    ] refl
+
+-- each
+pub waited_all : (w n : WorldState) (P : JoinClaim → Type 0) (js : List JoinClaim) → ((j : JoinClaim) → P j → IsWaitedFor w j → IsWaitedFor n j) → Each P js → AllWaitedFor w js → AllWaitedFor n js
+waited_all w n P [] f each h = tt
+waited_all w n P (x ∷ xs) f each h = (f x each.0 h.0, waited_all w n P xs f each.1 h.1)
+
+pub waited_pushed : (w : WorldState) (js : List JoinClaim) (j : JoinClaim) → AllWaitedFor w js → IsWaitedFor w j → AllWaitedFor w (js ++ j ∷ [])
+waited_pushed w [] j h one = (one, tt)
+waited_pushed w (x ∷ xs) j h one = (h.0, waited_pushed w xs j h.1 one)
+
+-- each join is there, by its call and its key
+pub each_joined : (js : List JoinClaim) → Each (λ (j : JoinClaim). list_any (is_join j.call j.key) js ≡ true) js
+each_joined [] = tt
+each_joined (x ∷ xs) = (
+  ap (λ b. b || list_any (is_join x.call x.key) xs) (all _ _ (nat_eq_equiv.refl x.call) (nat_list_eq_equiv.refl x.key)),
+  each_map (λ (j : JoinClaim). list_any (is_join j.call j.key) xs ≡ true) (λ (j : JoinClaim). (is_join j.call j.key x || list_any (is_join j.call j.key) xs) ≡ true) xs
+  (λ j h. or_second (is_join j.call j.key x) (list_any (is_join j.call j.key) xs) h) (each_joined xs),
+)
+  where
+    or_second : (a b : Bool) → b ≡ true → (a || b) ≡ true
+    or_second true b h = refl
+    or_second false b h = h
+
+-- one that passes a test, with what is true of it
+pub join_any : (w : WorldState) (p : JoinClaim → Bool) (js : List JoinClaim) → list_any p js ≡ true → AllWaitedFor w js → (j : JoinClaim) × (find p js ≡ Some j) × (p j ≡ true) × IsWaitedFor w j
+join_any w p [] h waited = cc
+join_any w p (x ∷ xs) h waited =
+    elim (p x) as (λ b. p x ≡ b → (b || list_any p xs) ≡ true → (j : JoinClaim) × (cond b (Some x) (find p xs) ≡ Some j) × (p j ≡ true) × IsWaitedFor w j) [
+      | true ↦ λ e h. (x, refl, e, waited.0)
+      | false ↦ λ e h. join_any w p xs h waited.1
+    ] refl h
+
+-- one that is found
+pub waited_found : (w : WorldState) (p : JoinClaim → Bool) (js : List JoinClaim) (j : JoinClaim) → find p js ≡ Some j → AllWaitedFor w js → IsWaitedFor w j
+waited_found w p [] j h waited = cc
+waited_found w p (x ∷ xs) j h waited =
+    elim (p x) as (λ b. cond b (Some x) (find p xs) ≡ Some j → IsWaitedFor w j) [
+      | true ↦ λ h. let is : x ≡ j = cc in subst (IsWaitedFor w) is waited.0
+      | false ↦ λ h. waited_found w p xs j h waited.1
+    ] h
+
+-- a join is of its call and its key
+pub join_is : (call : ℕ) (key : Bytes) (j : JoinClaim) → is_join call key j ≡ true → (j.call ≡ call) × (j.key ≡ key)
+join_is call key j h = let parts = both (j.call == call) (pointwise ◌==◌ key j.key) h in (eqb-true j.call call parts.0, sym (same_bytes key j.key parts.1))
+
+-- where a call has joined, it has no part
+pub joined_no_part : (w : WorldState) (call : ℕ) (key : Bytes) → is_joined w call key ≡ true → AllWaitedFor w w.joins → part_of w call key ≡ None
+joined_no_part w call key h waited =
+    let j = join_any w (is_join call key) w.joins h waited in
+    let is = join_is call key j.0 j.2 in
+    (λ i. part_of w (sym is.0 i) (sym is.1 i)) ∙ j.3.no_part
+
+-- a call without a join of its key is none that has joined
+pub other_call : (w : WorldState) (call : ℕ) (u : Under) → under w call ≡ Some u → is_joined w call u.command.key ≡ false → (number session : ℕ) (key : Bytes) → is_joined w number key ≡ true
+    → IsSomeAnd (under w number) (λ v. (v.session ≡ session) × (v.command.key ≡ key)) → (number == call) ≡ false
+other_call w call u is free number session key joined h =
+    let v = some_of (under w number) (λ v. (v.session ≡ session) × (v.command.key ≡ key)) h in
+    refuted (number == call) (λ same.
+        let one : number ≡ call = eqb-true number call same in
+        let t : Some v.0 ≡ Some u = sym v.1 ∙ ap (under w) one ∙ is in
+        let same_call : v.0 ≡ u = cc in
+        let key_is : key ≡ u.command.key = sym v.2.1 ∙ ap (λ (x : Under). x.command.key) same_call in
+        let t : true ≡ false = sym joined ∙ (λ i. is_joined w (one i) (key_is i)) ∙ free in cc)
+  where
+    refuted : (b : Bool) → (b ≡ true → ⊥) → b ≡ false
+    refuted true h = absurd (h refl)
+    refuted false h = refl
+
+-- a test that fails of each of a list fails of what is left of it
+none_left : (p q : JoinClaim → Bool) (js : List JoinClaim) → not (list_any p js) ≡ true → not (list_any p (filter q js)) ≡ true
+none_left p q [] h = h
+none_left p q (x ∷ xs) h =
+    elim (p x) as (λ b. p x ≡ b → not (b || list_any p xs) ≡ true → not (list_any p (cond (q x) (x ∷ filter q xs) (filter q xs))) ≡ true) [
+      | true ↦ λ e h. cc
+      | false ↦ λ e h. elim (q x) as (λ b. not (list_any p (cond b (x ∷ filter q xs) (filter q xs))) ≡ true) [
+        | true ↦ ap (λ b. not (b || list_any p (filter q xs))) e ∙ none_left p q xs h
+        | false ↦ none_left p q xs h
+      ]
+    ] refl h
+
+-- no two of those that are left are of one call and one key
+pub once_filter : (q : JoinClaim → Bool) (js : List JoinClaim) → joined_once js ≡ true → joined_once (filter q js) ≡ true
+once_filter q [] h = h
+once_filter q (x ∷ xs) h =
+    let parts = both (not (list_any (is_join x.call x.key) xs)) (joined_once xs) h in
+    elim (q x) as (λ b. joined_once (cond b (x ∷ filter q xs) (filter q xs)) ≡ true) [
+      | true ↦ all _ _ (none_left (is_join x.call x.key) q xs parts.0) (once_filter q xs parts.1)
+      | false ↦ once_filter q xs parts.1
+    ]
+
+-- a join of another call or key is no join of this one
+not_joined : (j x : JoinClaim) → is_join j.call j.key x ≡ false → is_join x.call x.key j ≡ false
+not_joined j x h = (λ i. turned_eq j.call x.call i && turned_key x.key j.key i) ∙ h
+  where
+    turned_key : (a b : Bytes) → pointwise ◌==◌ a b ≡ pointwise ◌==◌ b a
+    turned_key a b = nat_list_eq_equiv.symm a b
+
+-- nor with one more, which is of another
+pub once_pushed : (js : List JoinClaim) (j : JoinClaim) → not (list_any (is_join j.call j.key) js) ≡ true → joined_once js ≡ true → joined_once (js ++ j ∷ []) ≡ true
+once_pushed [] j h o = refl
+once_pushed (x ∷ xs) j h o =
+    let parts = both (not (list_any (is_join x.call x.key) xs)) (joined_once xs) o in
+    elim (is_join j.call j.key x) as (λ b. is_join j.call j.key x ≡ b → not (b || list_any (is_join j.call j.key) xs) ≡ true → (not (list_any (is_join x.call x.key) (xs ++ j ∷ [])) && joined_once (xs ++ j ∷ [])) ≡ true) [
+      | true ↦ λ e h. cc
+      | false ↦ λ e h. all _ _ (none_more (is_join x.call x.key) xs j parts.0 (not_joined j x e)) (once_pushed xs j h parts.1)
+    ] refl h
+  where
+    none_more : (p : JoinClaim → Bool) (ys : List JoinClaim) (y : JoinClaim) → not (list_any p ys) ≡ true → p y ≡ false → not (list_any p (ys ++ y ∷ [])) ≡ true
+    none_more p [] y h e = ap (λ b. not (b || false)) e
+    none_more p (z ∷ zs) y h e = elim (p z) as (λ b. not (b || list_any p zs) ≡ true → not (b || list_any p (zs ++ y ∷ [])) ≡ true) [ true ↦ λ h. cc | false ↦ λ h. none_more p zs y h e ] h
+
+-- 6. The parts of calls that have joined.
+
+-- a call has no part where another's is put
+pub none_inserted : (parts : Parts) (key q : Bytes) (part : Part) (call : ℕ) → of_call call (get parts q) ≡ None → (q ≡ key → (part.call == call) ≡ false) → of_call call (get (insert parts key part) q) ≡ None
+none_inserted parts key q part call none other =
+    ap (of_call call) (get-insert nat_list_cmp_total parts key part q)
+    ∙ (elim (eq_by_cmp key_cmp q key) as (λ b. eq_by_cmp key_cmp q key ≡ b → of_call call (cond b (Some part) (get parts q)) ≡ None) [
+      | true ↦ λ e. ap (λ b. cond b (Some part) None) (other (same_key q key e))
+      | false ↦ λ e. none
+    ] refl)
+
+-- nor where one goes
+pub none_removed : (parts : Parts) (key q : Bytes) (call : ℕ) → of_call call (get parts q) ≡ None → of_call call (get (remove parts key) q) ≡ None
+none_removed parts key q call none =
+    ap (of_call call) (get-remove nat_list_cmp_total parts key q) ∙ (elim (eq_by_cmp key_cmp q key) as (λ b. of_call call (cond b None (get parts q)) ≡ None) [ true ↦ refl | false ↦ none ])
+
+-- a part whose call has none at this key is another's
+pub part_other : (o : Option Part) (old : Part) (call : ℕ) → o ≡ Some old → of_call call o ≡ None → (old.call == call) ≡ false
+part_other None old call is none = cc
+part_other (Some p) old call is none =
+    let same : p ≡ old = cc in
+    let P : Part → Type 0 = λ x. (x.call == call) ≡ false in
+    subst P same (elim (p.call == call) as (λ b. cond b (Some p) None ≡ None → b ≡ false) [ true ↦ λ h. cc | false ↦ λ h. refl ] none)
+
+-- 7. A join in the list.
+
+-- where a call's join of a key stands: it is the first, and without it all others are left
+pub record Stands (call : ℕ) (key : Bytes) (js : List JoinClaim) (place : ℕ) : Type 0 where
+  pub join : JoinClaim
+  pub here : slice_get js place ≡ Some join
+  pub first : find (is_join call key) js ≡ Some join
+  pub others : remove_at js place ≡ unjoined call key js
+
+-- all are kept that are of another call or key
+all_others : (p : JoinClaim → Bool) (js : List JoinClaim) → not (list_any p js) ≡ true → filter (λ j. not (p j)) js ≡ js
+all_others p [] h = refl
+all_others p (x ∷ xs) h = elim (p x) as (λ b. not (b || list_any p xs) ≡ true → cond (not b) (x ∷ filter (λ j. not (p j)) xs) (filter (λ j. not (p j)) xs) ≡ x ∷ xs) [ true ↦ λ h. cc | false ↦ λ h. ap (λ ys. x ∷ ys) (all_others p xs h) ] h
+
+stands_from : (call : ℕ) (key : Bytes) (js : List JoinClaim) (k i : ℕ) → position_from (is_join call key) k js ≡ Some i → joined_once js ≡ true → (j : ℕ) × (i ≡ k + j) × Stands call key js j
+stands_from call key [] k i h o = cc
+stands_from call key (x ∷ xs) k i h o =
+    let p = is_join call key in
+    let parts = both (not (list_any (is_join x.call x.key) xs)) (joined_once xs) o in
+    elim (p x) as (λ b. p x ≡ b → cond b (Some k) (position_from p (k + 1) xs) ≡ Some i → (j : ℕ) × (i ≡ k + j) × Stands call key (x ∷ xs) j) [
+      | true ↦ λ e h.
+          let is : k ≡ i = cc in
+          let same = join_is call key x e in
+          let alone : not (list_any p xs) ≡ true = (λ i. not (list_any (is_join (sym same.0 i) (sym same.1 i)) xs)) ∙ parts.0 in
+          (0, omega arith, record {
+            join = x;
+            here = refl;
+            first = ap (λ b. cond b (Some x) (find p xs)) e;
+            others = sym (ap (λ b. cond (not b) (x ∷ unjoined call key xs) (unjoined call key xs)) e ∙ all_others p xs alone);
+          })
+      | false ↦ λ e h.
+          let rest = stands_from call key xs (k + 1) i h parts.1 in
+          (suc rest.0, omega arith, record {
+            join = rest.2.join;
+            here = rest.2.here;
+            first = ap (λ b. cond b (Some x) (find p xs)) e ∙ rest.2.first;
+            others = ap (λ ys. x ∷ ys) rest.2.others ∙ sym (ap (λ b. cond (not b) (x ∷ unjoined call key xs) (unjoined call key xs)) e);
+          })
+    ] refl h
+
+pub stands_at : (call : ℕ) (key : Bytes) (js : List JoinClaim) (i : ℕ) → position (is_join call key) js ≡ Some i → joined_once js ≡ true → Stands call key js i
+stands_at call key js i h o =
+    let found = stands_from call key js 0 i (sym (position_from-zero (is_join call key) js) ∙ h) o in
+    let is : found.0 ≡ i = omega arith in
+    subst (Stands call key js) is found.2
+
+-- what is taken out and put back at its place
+pub put_back_at : (js : List JoinClaim) (i : ℕ) (j : JoinClaim) → slice_get js i ≡ Some j → insert_at (remove_at js i) i j ≡ js
+put_back_at [] i j h = cc
+put_back_at (x ∷ xs) zero j h = let is : x ≡ j = cc in ap (λ (y : JoinClaim). y ∷ xs) (sym is)
+put_back_at (x ∷ xs) (suc i) j h = ap (λ ys. x ∷ ys) (put_back_at xs i j h)
+
+-- one that passes a test has a place
+any_from : {A : Type 0} (p : A → Bool) (xs : List A) (k : ℕ) → is_some (position_from p k xs) ≡ list_any p xs
+any_from p [] k = refl
+any_from p (x ∷ xs) k = elim (p x) as (λ b. is_some (cond b (Some k) (position_from p (k + 1) xs)) ≡ (b || list_any p xs)) [ true ↦ refl | false ↦ any_from p xs (k + 1) ]
+
+pub any_position : {A : Type 0} (p : A → Bool) (xs : List A) → is_some (position p xs) ≡ list_any p xs
+any_position p xs = ap is_some (position_from-zero p xs) ∙ any_from p xs 0

@@ -1,0 +1,389 @@
+-- Each event keeps what the joins and the joiners of a world say.
+--     joins_called, joins_over, joins_phase, joins_joined, joins_picks, joins_parted, joins_stored     by the kind of the event
+--     joins_start, joins_happens       before anything has happened, and after any event that fits
+use Rattle.std.proofs.Common.{◌≡◌, ◌==◌, ◌&&◌, ◌+◌, ℕ, List, [], ◌∷◌, ◌++◌, Ok, Bool, true, false, cond, not, Option, None, Some, IsSomeAnd, find, filter, slice_get, slice_set, refl, sym, ap, ◌∙◌, subst, is_none}
+use Rattle.std.specs.List.{list_any}
+use Rattle.std.specs.Cmp.Lexicographic.{pointwise}
+use Rattle.std.specs.FinMap.{get, insert, remove}
+use Rattle.std.proofs.lemmas.Bool.{eq-eqb, eqb-true}
+use Rattle.std.proofs.lemmas.Cmp.{nat_eq_equiv, nat_list_eq_equiv}
+use Rattle.jc_types.specs.declared.config.Config.{Config}
+use Rattle.jc_types.specs.Limits.{checked}
+use Rattle.jc_model.specs.declared.event.Event.{Event}
+use Rattle.jc_model.specs.declared.event.Reply.{Reply}
+use Rattle.jc_model.specs.Cache.{Bytes, Cache}
+use Rattle.jc_model.proofs.Lookups.{both, none_is}
+use Rattle.jc_inflight.specs.declared.joiner.Joiner.{Joiner}
+use Rattle.jc_inflight.specs.declared.joiner.JoinState.TheVariants.{Waiting}
+use Rattle.jc_inflight.specs.Joined.{is_of as is_joiner_of, callers_of, is_joined as has_joined}
+use Rattle.jc_inflight.specs.Resolving.{resolved}
+use Rattle.jc_inflight.specs.Taking.{without}
+use Rattle.jc_stripe.specs.declared.begun.Begun.TheVariants as begun
+use Rattle.jc_stripe.specs.declared.begun.Picked.TheVariants as picked
+use Rattle.jc_stripe.specs.declared.ticket.First.TheVariants.{Loader, Writer}
+use Rattle.jc_stripe.specs.Claim.{Claim, JoinClaim}
+use Rattle.jc_stripe.specs.State.{State, Reserved, claimed}
+use Rattle.jc_stripe.specs.Phases.{Begins, Commits, Withdraws, PicksUp, Steps, settled, joined_by, left_by}
+use Rattle.jc_world.specs.declared.event.Command.{Command}
+use Rattle.jc_world.specs.declared.event.Part.{Part}
+use Rattle.jc_world.specs.declared.event.Premises.{Premises}
+use Rattle.jc_world.specs.declared.event.Shown.{Shown}
+use Rattle.jc_world.specs.declared.event.Shown.TheVariants as shown
+use Rattle.jc_world.specs.declared.event.Under.{Under}
+use Rattle.jc_world.specs.declared.event.WorldEvent.{WorldEvent}
+use Rattle.jc_world.specs.declared.event.WorldEvent.TheVariants as event
+use Rattle.jc_world.specs.World.{WorldState, Parts, home, stripe_for, empty_stripe, start, has_number, under, over, of_call, part_of, is_join, join_of, is_joined, unjoined, claim_of, out_of, with_stored}
+use Rattle.jc_world.specs.Events.{may_leave, fits, with_stripe, goes_on, call_over, new_part, with_part, without_part, with_join, without_join, Starts, Ends, Picks, Happens}
+use Rattle.jc_world.specs.Sound.{IsHeld, IsWaitedFor, AllWaitedFor, IsCalled, AllCalled, IsSoundWorld}
+use Rattle.jc_world.proofs.Halves.{HasJoins}
+use Rattle.jc_world.proofs.Places.{at_stripe, stripe_put}
+use Rattle.jc_world.proofs.Shares.{all, some_of, is_some_and, set_cases, found_test, turned_eq, Each}
+use Rattle.jc_world.proofs.Underway.{found_number, find_over, find_pushed, of_call-at, same_bytes}
+use Rattle.jc_world.proofs.Joiners.{any_kept, any_front, any_last, any_resolved, any_dissolved, called_on, called_all, called_resolved, called_dissolved, called_pushed, once_pushed, once_filter, waited_on, waited_all, waited_pushed, waited_found, each_joined, join_is, joined_no_part, other_call, none_inserted, none_removed, part_other}
+use Rattle.jc_world.proofs.Callers.{MayStart, may_start_at, may_leave_at, start_is, refuted, Picking, picking}
+
+-- 1. What goes on.
+
+-- a joiner is of its session, its call and its key
+joiner_is : (session number : ℕ) (key : Bytes) (j : Joiner) → is_joiner_of session number key j ≡ true → (j.session ≡ session) × (j.number ≡ number) × (j.key ≡ key)
+joiner_is session number key j h =
+    let parts = both ((j.session == session) && (j.number == number)) (pointwise ◌==◌ key j.key) h in
+    let pair = both (j.session == session) (j.number == number) parts.0 in
+    (eqb-true j.session session pair.0, eqb-true j.number number pair.1, sym (same_bytes key j.key parts.1))
+
+-- a call of this session on this key
+abbrev IsOf : ℕ → Bytes → Under → Type 0
+IsOf session key u = (u.session ≡ session) × (u.command.key ≡ key)
+
+-- each join goes on to another world, with the same joins
+kept_joins : (w n : WorldState) → ((j : JoinClaim) → is_joined w j.call j.key ≡ true → IsWaitedFor w j → IsWaitedFor n j) → IsSoundWorld w → AllWaitedFor n w.joins
+kept_joins w n f old = waited_all w n (λ (j : JoinClaim). is_joined w j.call j.key ≡ true) w.joins f (each_joined w.joins) old.joins
+
+-- what is there stays there where the stripe of a key is another
+out_on : (w : WorldState) (key : Bytes) (from to : State) (j : JoinClaim) → stripe_for w key ≡ Some from → (has_joined j.session j.call j.key from.joiners ≡ true → has_joined j.session j.call j.key to.joiners ≡ true)
+    → IsSomeAnd (stripe_for w j.key) (λ s. has_joined j.session j.call j.key s.joiners ≡ true) → IsSomeAnd (slice_get (slice_set w.stripes (home w key) to) (home w j.key)) (λ s. has_joined j.session j.call j.key s.joiners ≡ true)
+out_on w key from to j there keeps =
+    let F : State → Type 0 = λ s. has_joined j.session j.call j.key s.joiners ≡ true in
+    at_stripe w.stripes (home w key) (home w j.key) from to (λ o x. IsSomeAnd o F → IsSomeAnd x F) there keeps (λ h. h)
+
+-- each joiner goes on where the stripe of a key is another
+called_set : (w n : WorldState) (key : Bytes) (from to : State) → stripe_for w key ≡ Some from → (AllCalled w (home w key) from.joiners → AllCalled n (home w key) to.joiners)
+    → ((m : ℕ) (js : List Joiner) → (home w key ≡ m → ⊥) → AllCalled w m js → AllCalled n m js) → IsSoundWorld w
+    → (m : ℕ) (s : State) → slice_get (slice_set w.stripes (home w key) to) m ≡ Some s → AllCalled n m s.joiners
+called_set w n key from to there here rest old m s =
+    let P : ℕ → Type 0 = λ m. AllCalled n m s.joiners in
+    let Q : State → Type 0 = λ s. AllCalled n (home w key) s.joiners in
+    set_cases w.stripes (home w key) m to s (λ same is. subst P same (subst Q is (here (old.called (home w key) from there)))) (λ apart at. rest m s.joiners apart (old.called m s at))
+
+-- 2. What leaves the stripes.
+
+-- the store changes
+pub joins_stored : (w : WorldState) (store : Cache) (premises : Premises) (fresh : Bool) → (fresh ≡ true → w.fresh ≡ true) → IsSoundWorld w → HasJoins (record w { store = store; fresh = fresh; premises = premises })
+joins_stored w store premises fresh goes old =
+    let new : WorldState = record w { store = store; fresh = fresh; premises = premises } in
+    record {
+      joins = kept_joins w new (λ j t h. record { out = h.out; call = h.call; no_part = h.no_part }) old;
+      called = λ m s at. called_all w new m s.joiners (λ j h. record { home_is = h.home_is; join = h.join; call = h.call }) (old.called m s at);
+      once = old.once;
+      alone = λ f. (old.idle (goes f)).1;
+    }
+
+-- a key's part goes on
+joins_parted : (w : WorldState) (call : ℕ) (key : Bytes) (was part : Part) (premises : Premises) (store : Cache) → part_of w call key ≡ Some was → part.call ≡ was.call → IsSoundWorld w
+    → HasJoins (record w { parts = insert w.parts key part; premises = premises; store = store })
+joins_parted w call key was part premises store is same old =
+    let new : WorldState = record w { parts = insert w.parts key part; premises = premises; store = store } in
+    let there = (of_call-at call (get w.parts key) was is).0 in
+    record {
+      joins = kept_joins w new
+          (λ j t h. record {
+            out = h.out;
+            call = h.call;
+            no_part = none_inserted w.parts key j.key part j.call h.no_part (λ e. ap (λ c. c == j.call) same ∙ part_other (get w.parts key) was j.call there (ap (λ k. of_call j.call (get w.parts k)) (sym e) ∙ h.no_part));
+          }) old;
+      called = λ m s at. called_all w new m s.joiners (λ j h. record { home_is = h.home_is; join = h.join; call = h.call }) (old.called m s at);
+      once = old.once;
+      alone = λ f. (old.idle f).1;
+    }
+
+-- a call begins
+joins_called : (w : WorldState) (call session : ℕ) (command : Command) → IsSoundWorld w → HasJoins (record w { last = Some call; fresh = false; calls = w.calls ++ record { session = session; number = call; command = command } ∷ [] })
+joins_called w call session command old =
+    let more : List Under = record { session = session; number = call; command = command } ∷ [] in
+    let new : WorldState = record w { last = Some call; fresh = false; calls = w.calls ++ more } in
+    record {
+      joins = kept_joins w new (λ j t h. record { out = h.out; call = find_pushed (has_number j.call) w.calls more (IsOf j.session j.key) h.call; no_part = h.no_part }) old;
+      called = λ m s at. called_all w new m s.joiners (λ j h. record { home_is = h.home_is; join = h.join; call = find_pushed (has_number j.number) w.calls more (IsOf j.session j.key) h.call }) (old.called m s at);
+      once = old.once;
+      alone = λ f. let t : false ≡ true = f in cc;
+    }
+
+-- a call that has joined goes on where one that hasn't is over
+still_under : (w : WorldState) (call : ℕ) (u : Under) → under w call ≡ Some u → is_joined w call u.command.key ≡ false → (number session : ℕ) (key : Bytes) → is_joined w number key ≡ true
+    → IsSomeAnd (under w number) (IsOf session key) → IsSomeAnd (find (has_number number) (over call w.calls)) (IsOf session key)
+still_under w call u is free number session key joined h =
+    let P : Option Under → Type 0 = λ o. IsSomeAnd o (IsOf session key) in
+    subst P (sym (find_over call number w.calls (turned_eq call number ∙ other_call w call u is free number session key joined h))) h
+
+-- a call without a join is over
+pub joins_over : (w : WorldState) (call : ℕ) (u : Under) → under w call ≡ Some u → is_joined w call u.command.key ≡ false → IsSoundWorld w → HasJoins (call_over w call)
+joins_over w call u is free old =
+    let new = call_over w call in
+    record {
+      joins = kept_joins w new (λ j t h. record { out = h.out; call = still_under w call u is free j.call j.session j.key t h.call; no_part = h.no_part }) old;
+      called = λ m s at. called_all w new m s.joiners (λ j h. record { home_is = h.home_is; join = h.join; call = still_under w call u is free j.number j.session j.key h.join h.call }) (old.called m s at);
+      once = old.once;
+      alone = λ f. (old.idle f).1;
+    }
+
+-- 3. A phase that changes no join.
+
+-- the world with a stripe, an order, calls and parts that are others
+abbrev phase_world : WorldState → Bytes → State → List Event → List Under → Parts → WorldState
+phase_world w key to order calls parts = record w { stripes = slice_set w.stripes (home w key) to; order = order; calls = calls; parts = parts }
+
+-- the stripe keeps its joiners, and the calls that have joined go on without a part
+joins_phase : (w : WorldState) (key : Bytes) (from to : State) (order : List Event) (calls : List Under) (parts : Parts) → stripe_for w key ≡ Some from
+    → ((s k : ℕ) (q : Bytes) → has_joined s k q from.joiners ≡ true → has_joined s k q to.joiners ≡ true)
+    → ((n : WorldState) → AllCalled n (home w key) from.joiners → AllCalled n (home w key) to.joiners)
+    → ((number session : ℕ) (q : Bytes) → is_joined w number q ≡ true → IsSomeAnd (under w number) (IsOf session q) → IsSomeAnd (find (has_number number) calls) (IsOf session q))
+    → ((number : ℕ) (q : Bytes) → is_joined w number q ≡ true → part_of w number q ≡ None → of_call number (get parts q) ≡ None)
+    → IsSoundWorld w → HasJoins (phase_world w key to order calls parts)
+joins_phase w key from to order calls parts there keeps here still none old =
+    let new = phase_world w key to order calls parts in
+    let on : (m : ℕ) (j : Joiner) → IsCalled w m j → IsCalled new m j = λ m j h. record { home_is = h.home_is; join = h.join; call = still j.number j.session j.key h.join h.call } in
+    record {
+      joins = kept_joins w new
+          (λ j t h. record {
+            out = out_on w key from to j there (keeps j.session j.call j.key) h.out;
+            call = still j.call j.session j.key t h.call;
+            no_part = none j.call j.key t h.no_part;
+          }) old;
+      called = called_set w new key from to there (λ h. here new (called_all w new (home w key) from.joiners (on (home w key)) h)) (λ m js apart h. called_all w new m js (on m) h) old;
+      once = old.once;
+      alone = λ f. (old.idle f).1;
+    }
+
+-- a call is under way, so the world is not fresh
+begun_before : (w : WorldState) (u : Under) → under w u.number ≡ Some u → w.fresh ≡ true → IsSoundWorld w → ⊥
+begun_before w u here f old = let t : None ≡ Some u = ap (find (has_number u.number)) (sym (old.idle f).0) ∙ here in cc
+
+-- joiners that stay
+same_joiners : (from to : State) → to.joiners ≡ from.joiners → (s k : ℕ) (q : Bytes) → has_joined s k q from.joiners ≡ true → has_joined s k q to.joiners ≡ true
+same_joiners from to same s k q h = ap (has_joined s k q) same ∙ h
+
+same_called : (m : ℕ) (from to : State) → to.joiners ≡ from.joiners → (n : WorldState) → AllCalled n m from.joiners → AllCalled n m to.joiners
+same_called m from to same n h = subst (AllCalled n m) (sym same) h
+
+-- the part of a call that hasn't joined is another's
+none_reserved : (w : WorldState) (u : Under) (part : Part) → part.call ≡ u.number → is_joined w u.number u.command.key ≡ false → (number : ℕ) (q : Bytes) → is_joined w number q ≡ true → part_of w number q ≡ None
+    → of_call number (get (insert w.parts u.command.key part) q) ≡ None
+none_reserved w u part call_is free number q joined none =
+    none_inserted w.parts u.command.key q part number none (λ same. ap (λ c. c == number) call_is ∙ refuted (u.number == number) (λ e.
+        let t : true ≡ false = sym joined ∙ (λ i. is_joined w (sym (eqb-true u.number number e) i) (same i)) ∙ free in cc))
+
+-- 4. The first phase.
+
+-- the call has joined a load
+joins_joined : (w : WorldState) (u : Under) (from to : State) (join : JoinClaim) (load : ℕ) → stripe_for w u.command.key ≡ Some from → join ≡ record { session = u.session; call = u.number; key = u.command.key } → to ≡ joined_by from join load
+    → MayStart w u → IsSoundWorld w → HasJoins (with_join (with_stripe w u.command.key to) join)
+joins_joined w u from to join load there join_is to_is may old =
+    let key = u.command.key in
+    let new : WorldState = with_join (with_stripe w key to) join in
+    let next : Joiner = record { session = join.session; number = join.call; key = join.key; load = load; state = Waiting } in
+    let joiners : to.joiners ≡ from.joiners ++ next ∷ [] = ap (λ (s : State). s.joiners) to_is in
+    let keeps : (s k : ℕ) (q : Bytes) → has_joined s k q from.joiners ≡ true → has_joined s k q to.joiners ≡ true = λ s k q t. ap (has_joined s k q) joiners ∙ any_front (is_joiner_of s k q) from.joiners (next ∷ []) t in
+    let session_is : join.session ≡ u.session = ap (λ (j : JoinClaim). j.session) join_is in
+    let call_is : join.call ≡ u.number = ap (λ (j : JoinClaim). j.call) join_is in
+    let key_is : join.key ≡ key = ap (λ (j : JoinClaim). j.key) join_is in
+    let on : (m : ℕ) (j : Joiner) → IsCalled w m j → IsCalled new m j = λ m j h. record { home_is = h.home_is; join = any_front (is_join j.number j.key) w.joins (join ∷ []) h.join; call = h.call } in
+    let its_call : IsSomeAnd (under w join.call) (IsOf join.session join.key) = is_some_and (under w join.call) (IsOf join.session join.key) u (ap (under w) call_is ∙ may.here) (sym session_is, sym key_is) in
+    let one : IsCalled new (home w key) next = record {
+      home_is = ap (home w) key_is;
+      join = any_last (is_join join.call join.key) w.joins join (all _ _ (nat_eq_equiv.refl join.call) (nat_list_eq_equiv.refl join.key));
+      call = its_call;
+    } in
+    let F : State → Type 0 = λ s. has_joined join.session join.call join.key s.joiners ≡ true in
+    let waits : IsWaitedFor new join = record {
+      out = is_some_and (stripe_for new join.key) F to (ap (λ k. slice_get new.stripes (home w k)) key_is ∙ stripe_put w.stripes (home w key) from to there)
+          (ap (has_joined join.session join.call join.key) joiners
+          ∙ any_last (is_joiner_of join.session join.call join.key) from.joiners next (all _ _ (all _ _ (nat_eq_equiv.refl join.session) (nat_eq_equiv.refl join.call)) (nat_list_eq_equiv.refl join.key)));
+      call = its_call;
+      no_part = (λ i. part_of w (call_is i) (key_is i)) ∙ none_is (part_of w u.number key) may.none;
+    } in
+    record {
+      joins = waited_pushed new w.joins join (kept_joins w new (λ j t h. record { out = out_on w key from to j there (keeps j.session j.call j.key) h.out; call = h.call; no_part = h.no_part }) old) waits;
+      called = called_set w new key from to there
+          (λ h. subst (AllCalled new (home w key)) (sym joiners) (called_pushed new (home w key) from.joiners next (called_all w new (home w key) from.joiners (on (home w key)) h) one))
+          (λ m js apart h. called_all w new m js (on m) h) old;
+      once = once_pushed w.joins join (ap not ((λ i. list_any (is_join (call_is i) (key_is i)) w.joins) ∙ may.alone)) old.once;
+      alone = λ f. absurd (begun_before w u may.here f old);
+    }
+
+joins_started : (w new : WorldState) (u : Under) (from to : State) (seen : Shown) → stripe_for w u.command.key ≡ Some from → Starts w u from to seen new → MayStart w u → IsSoundWorld w → HasJoins new
+joins_started w new u from to (shown.Refused refusal) there h may old = subst HasJoins (sym h.1) (joins_over w u.number u may.here may.alone old)
+joins_started w new u from to (shown.Stepped seen) there h may old =
+    let same : to.joiners ≡ from.joiners = ap (λ (s : State). s.joiners) h.0.2.goes_on in
+    subst HasJoins (sym h.2)
+    (joins_phase w u.command.key from to (goes_on w u.command.key from to).order (over u.number w.calls) w.parts there (same_joiners from to same) (same_called (home w u.command.key) from to same)
+    (λ number session q t k. still_under w u.number u may.here may.alone number session q t k) (λ number q t k. k) old)
+joins_started w new u from to shown.Loads there h may old =
+    let same : to.joiners ≡ from.joiners = ap (λ (s : State). s.joiners) h.1.4 in
+    let part = new_part u h.0.number Loader in
+    subst HasJoins (sym h.2)
+    (joins_phase w u.command.key from to w.order w.calls (insert w.parts u.command.key part) there (same_joiners from to same) (same_called (home w u.command.key) from to same) (λ number session q t k. k) (none_reserved w u part refl may.alone) old)
+joins_started w new u from to (shown.Asks change) there h may old =
+    let same : to.joiners ≡ from.joiners = ap (λ (s : State). s.joiners) h.1.3 in
+    let part = new_part u h.0.claim.number (Writer change) in
+    subst HasJoins (sym h.2)
+    (joins_phase w u.command.key from to w.order w.calls (insert w.parts u.command.key part) there (same_joiners from to same) (same_called (home w u.command.key) from to same) (λ number session q t k. k) (none_reserved w u part refl may.alone) old)
+joins_started w new u from to shown.Joins there h may old = subst HasJoins (sym h.2) (joins_joined w u from to h.0 h.1.1.0 there h.1.1.2 h.1.1.3 may old)
+joins_started w new u from to seen there h may old = absurd h
+
+-- 5. The last phase, and a reservation that is given back.
+
+-- a call with a part has no join of its key
+unjoined_part : (w : WorldState) (call : ℕ) (key : Bytes) (part : Part) → part_of w call key ≡ Some part → IsSoundWorld w → is_joined w call key ≡ false
+unjoined_part w call key part is old = refuted (is_joined w call key) (λ t. let e : Some part ≡ None = sym is ∙ joined_no_part w call key t old.joins in cc)
+
+-- the call of a part is on its key
+part_under : (w : WorldState) (call : ℕ) (key : Bytes) (part : Part) → part_of w call key ≡ Some part → IsSoundWorld w → IsSomeAnd (under w call) (λ u. u.command.key ≡ key)
+part_under w call key part is old =
+    let at = of_call-at call (get w.parts key) part is in
+    let held = some_of (stripe_for w key) (λ s. IsHeld w s key part) (old.held key part at.0) in
+    let P : ℕ → Type 0 = λ n. IsSomeAnd (under w n) (λ u. u.command.key ≡ key) in
+    subst P at.1 held.2.call
+
+joins_ended : (w new : WorldState) (call : ℕ) (key : Bytes) (part : Part) (from to : State) (seen : Shown) → part_of w call key ≡ Some part → stripe_for w key ≡ Some from → Ends w call key part from to seen new → IsSoundWorld w → HasJoins new
+joins_ended w new call key part from to (shown.Stepped seen) is there h old =
+    let S : Reserved → Type 0 = λ r. Steps (settled from (claim_of key part) seen.place) r.session r.call key r.op (out_of part) (callers_of part.number from.joiners) seen.reply seen.place to in
+    let c = some_of (claimed from (claim_of key part)) S h.0 in
+    let joiners : to.joiners ≡ resolved part.number seen.place from.joiners = ap (λ (s : State). s.joiners) (c.2).goes_on in
+    let u = some_of (under w call) (λ u. u.command.key ≡ key) (part_under w call key part is old) in
+    let free : is_joined w call u.0.command.key ≡ false = ap (is_joined w call) u.2 ∙ unjoined_part w call key part is old in
+    subst HasJoins (sym h.2)
+    (joins_phase w key from to (goes_on w key from to).order (over call w.calls) (remove w.parts key) there
+    (λ s k q t. ap (has_joined s k q) joiners ∙ any_resolved part.number seen.place (seen.place + 1) s k q from.joiners t)
+    (λ n t. subst (AllCalled n (home w key)) (sym joiners) (called_resolved n (home w key) part.number seen.place (seen.place + 1) from.joiners t))
+    (λ number session q t k. still_under w call u.0 u.1 free number session q t k) (λ number q t k. none_removed w.parts key q number k) old)
+joins_ended w new call key part from to seen is there h old = absurd h
+
+joins_withdrawn : (w : WorldState) (key : Bytes) (claim : Claim) (from to : State) → stripe_for w key ≡ Some from → Withdraws from claim to → IsSoundWorld w → HasJoins (without_part (with_stripe w key to) key)
+joins_withdrawn w key claim from to there h old =
+    let joiners = ap (λ (s : State). s.joiners) h.1 in
+    joins_phase w key from to w.order w.calls (remove w.parts key) there
+    (λ s k q t. ap (has_joined s k q) joiners ∙ any_dissolved claim.number s k q from.joiners t)
+    (λ n t. subst (AllCalled n (home w key)) (sym joiners) (called_dissolved n (home w key) claim.number from.joiners t))
+    (λ number session q t k. k) (λ number q t k. none_removed w.parts key q number k) old
+
+-- 6. An answer is picked up.
+
+-- the calls that go on: all of them, or those of other numbers
+record GoOn (w : WorldState) (call : ℕ) (calls : List Under) : Type 0 where
+  keeps : (number session : ℕ) (key : Bytes) → (number == call) ≡ false → IsSomeAnd (under w number) (IsOf session key) → IsSomeAnd (find (has_number number) calls) (IsOf session key)
+
+all_go_on : (w : WorldState) (call : ℕ) → GoOn w call w.calls
+all_go_on w call = record { keeps = λ number session key apart h. h }
+
+others_go_on : (w : WorldState) (call : ℕ) → GoOn w call (over call w.calls)
+others_go_on w call = record {
+  keeps = λ number session key apart h.
+      let P : Option Under → Type 0 = λ o. IsSomeAnd o (IsOf session key) in
+      subst P (sym (find_over call number w.calls (turned_eq call number ∙ apart))) h;
+}
+
+-- a call that has joined, and isn't on this key, is another
+apart_from : (w : WorldState) (call : ℕ) (key : Bytes) (join : JoinClaim) → Picking w call key join → (number session : ℕ) (q : Bytes) → (q ≡ key → number ≡ call → session ≡ join.session → ⊥) → IsSomeAnd (under w number) (IsOf session q) → (number == call) ≡ false
+apart_from w call key join p number session q other h = refuted (number == call) (λ e.
+    let v = some_of (under w number) (IsOf session q) h in
+    let same : number ≡ call = eqb-true number call e in
+    let t : Some v.0 ≡ Some p.u = sym v.1 ∙ ap (under w) same ∙ p.here in
+    let is : v.0 ≡ p.u = cc in
+    other (sym v.2.1 ∙ ap (λ (x : Under). x.command.key) is ∙ p.key_is) same (sym v.2.0 ∙ ap (λ (x : Under). x.session) is ∙ p.session_is))
+
+-- a test that is passed by what is so
+join_of_is : (call number : ℕ) (key q : Bytes) → q ≡ key → number ≡ call → ((number == call) && pointwise ◌==◌ key q) ≡ true
+join_of_is call number key q e f = all _ _ (eq-eqb number call f) (ap (pointwise ◌==◌ key) e ∙ nat_list_eq_equiv.refl key)
+
+-- what is not true is not so
+denied : (b : Bool) → not b ≡ true → b ≡ true → ⊥
+denied true h k = cc
+denied false h k = cc
+
+-- the join is gone, and its joiner
+joins_picked : (w : WorldState) (call : ℕ) (key : Bytes) (join : JoinClaim) (from to : State) (calls : List Under) → join_of w call key ≡ Some join → stripe_for w key ≡ Some from → to ≡ left_by from join → GoOn w call calls → IsSoundWorld w
+    → HasJoins (record w { stripes = slice_set w.stripes (home w key) to; joins = unjoined call key w.joins; calls = calls })
+joins_picked w call key join from to calls joined there is go old =
+    let new : WorldState = record w { stripes = slice_set w.stripes (home w key) to; joins = unjoined call key w.joins; calls = calls } in
+    let p = picking w call key join joined old in
+    let its : Joiner → Bool = is_joiner_of join.session join.call join.key in
+    let joiners : to.joiners ≡ without join.session join.call join.key from.joiners = ap (λ (s : State). s.joiners) is in
+    let out : (j : JoinClaim) → not (is_join call key j) ≡ true → has_joined j.session j.call j.key from.joiners ≡ true → has_joined j.session j.call j.key to.joiners ≡ true = λ j other h.
+    ap (has_joined j.session j.call j.key) joiners
+    ∙ any_kept (is_joiner_of j.session j.call j.key) (λ x. not (its x)) from.joiners (λ x t. ap not (refuted (its x) (λ e.
+        let mine = joiner_is j.session j.call j.key x t in
+        let same = joiner_is join.session join.call join.key x e in
+        denied (is_join call key j) other (join_of_is call j.call key j.key (sym mine.2 ∙ same.2 ∙ p.join_key) (sym mine.1 ∙ same.1 ∙ p.call_is))))) h
+    in
+    let on : (m : ℕ) (j : Joiner) → (j.key ≡ key → j.number ≡ call → j.session ≡ join.session → ⊥) → IsCalled w m j → IsCalled new m j = λ m j other h.
+    let apart = apart_from w call key join p j.number j.session j.key other h.call in
+    record {
+      home_is = h.home_is;
+      join = any_kept (is_join j.number j.key) (λ x. not (is_join call key x)) w.joins (λ x t. ap not (refuted (is_join call key x) (λ e.
+          let mine = join_is j.number j.key x t in
+          let same = join_is call key x e in
+          let t : true ≡ false = sym (eq-eqb j.number call (sym mine.0 ∙ same.0)) ∙ apart in cc))) h.join;
+      call = go.keeps j.number j.session j.key apart h.call;
+    } in
+    record {
+      joins = waited_on w new (λ j. not (is_join call key j)) (λ (j : JoinClaim). is_joined w j.call j.key ≡ true) w.joins
+          (λ j other t h. record {
+            out = out_on w key from to j there (out j other) h.out;
+            call = go.keeps j.call j.session j.key (apart_from w call key join p j.call j.session j.key (λ e f g. denied (is_join call key j) other (join_of_is call j.call key j.key e f)) h.call) h.call;
+            no_part = h.no_part;
+          }) (each_joined w.joins) old.joins;
+      called = called_set w new key from to there
+          (λ h. subst (AllCalled new (home w key)) (sym joiners) (called_on w new (home w key) (λ j. not (its j)) from.joiners
+          (λ j other k. on (home w key) j (λ e f g. denied (its j) other (all _ _ (all _ _ (eq-eqb j.session join.session g) (eq-eqb j.number join.call (f ∙ sym p.call_is))) (ap (pointwise ◌==◌ join.key) (e ∙ sym p.join_key) ∙ nat_list_eq_equiv.refl join.key))) k) h))
+          (λ m js apart h. called_all w new m js (λ j k. on m j (λ e f g. apart (ap (home w) (sym e) ∙ k.home_is)) k) h) old;
+      once = once_filter (λ j. not (is_join call key j)) w.joins old.once;
+      alone = λ f. absurd (let t : None ≡ Some p.u = ap (find (has_number call)) (sym (old.idle f).0) ∙ p.here in cc);
+    }
+
+joins_picks : (w new : WorldState) (call : ℕ) (key : Bytes) (join : JoinClaim) (from to : State) (seen : Shown) → join_of w call key ≡ Some join → stripe_for w key ≡ Some from → Picks w call key join from to seen new → IsSoundWorld w → HasJoins new
+joins_picks w new call key join from to (shown.PickedUp seen) joined there h old = subst HasJoins (sym h.2) (joins_picked w call key join from to (over call w.calls) joined there h.0.2 (others_go_on w call) old)
+joins_picks w new call key join from to shown.Again joined there h old = subst HasJoins (sym h.1) (joins_picked w call key join from to w.calls joined there h.0.1 (all_go_on w call) old)
+joins_picks w new call key join from to shown.Waits joined there h old = subst HasJoins (sym h.1) (record { joins = old.joins; once = old.once; called = old.called; alone = λ f. (old.idle f).1 })
+joins_picks w new call key join from to seen joined there h old = absurd h
+
+-- 7. Before anything has happened, and any event that fits.
+
+pub joins_start : (config : Config) → checked config ≡ Ok tt → HasJoins (start config)
+joins_start config fits = record {
+  joins = tt;
+  called = λ n s here. let P : State → Type 0 = λ s. AllCalled (start config) n s.joiners in subst P (sym (start_is config n s here)) tt;
+  once = refl;
+  alone = λ f. refl;
+}
+
+joins_left : (w : WorldState) (call : ℕ) → may_leave w call (under w call) ≡ true → IsSoundWorld w → HasJoins (call_over w call)
+joins_left w call fit old = go (under w call) refl
+  where
+    go : (o : Option Under) → under w call ≡ o → HasJoins (call_over w call)
+    go None e = let t : false ≡ true = ap (may_leave w call) (sym e) ∙ fit in cc
+    go (Some u) e =
+        let may = may_leave_at w call u fit e old in
+        joins_over w call u e (ap (λ n. is_joined w n u.command.key) (sym (found_number call w.calls u e)) ∙ may.alone) old
+
+pub joins_happens : (w new : WorldState) (e : WorldEvent) (seen : Shown) → fits w e ≡ true → Happens w e seen new → IsSoundWorld w → HasJoins new
+joins_happens w new (event.Call call session command) seen fit h old = subst HasJoins (sym h.1) (joins_called w call session command old)
+joins_happens w new (event.Start call key) seen fit h old = joins_started w new h.0 h.2 h.4 seen h.3 h.5 (may_start_at w call key h.0 fit h.1 old) old
+joins_happens w new (event.Read call key) seen fit h old = subst HasJoins (sym h.3) (joins_parted w call key h.0 _ _ w.store h.1 refl old)
+joins_happens w new (event.Say call key answer) seen fit h old = subst HasJoins (sym h.3) (joins_parted w call key h.0 _ _ w.store h.1 refl old)
+joins_happens w new (event.Change call key) seen fit h old = subst HasJoins (sym h.5) (joins_parted w call key h.0 _ w.premises _ h.2 refl old)
+joins_happens w new (event.Report call fault) seen fit h old = subst HasJoins (sym h.7) (joins_parted w call h.0.command.key h.1 _ _ w.store h.4 refl old)
+joins_happens w new (event.Commit call key) seen fit h old = joins_ended w new call key h.0 h.2 h.4 seen h.1 h.3 h.5 old
+joins_happens w new (event.Withdraw call key) seen fit h old = subst HasJoins (sym h.7) (joins_withdrawn w key (claim_of key h.0) h.2 h.4 h.3 h.5 old)
+joins_happens w new (event.Leave call) seen fit h old = subst HasJoins (sym h.1) (joins_left w call fit old)
+joins_happens w new (event.PickUp call key) seen fit h old = joins_picks w new call key h.0 h.2 h.4 seen h.1 h.3 h.5 old
+joins_happens w new (event.Foreign key value) seen fit h old = subst HasJoins (sym h.1) (joins_stored w _ _ false (λ f. let t : false ≡ true = f in cc) old)

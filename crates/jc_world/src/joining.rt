@@ -1,0 +1,61 @@
+//! The calls that have joined a load and haven't its answer, with their joins.
+ghost use Rattle.std.specs.Prelude.{◌≡◌, ◌<◌, ◌≤◌, true, Option, Some, find, insert, position, vec_len, vec_capacity};
+ghost use Rattle.std.specs.List.{list_any};
+ghost use Rattle.jc_world.specs.World.{is_join, unjoined};
+ghost use Rattle.jc_world.specs.Sound.{joined_once};
+
+use jc_stripe::closed::ClosedStripe;
+use jc_stripe::ticket::Join;
+use jc_types::key::Key;
+
+/// Where a call's join of a key is.
+fn place_of(joins: &[Join], call: u64, key: &Key) -> Option<usize>
+    ensures { result ≡ position (is_join call key.now) joins.now }
+{
+    joins
+        .iter()
+        .position(|join| join.caller().number == call && *key == join.key())
+}
+
+/// Whether a call has joined a load of a key.
+pub(crate) fn has_joined(joins: &[Join], call: u64, key: &Key) -> bool
+    ensures { result ≡ list_any (is_join call key.now) joins.now }
+{
+    place_of(joins, call, key).is_some()
+}
+
+/// Takes a call's join of a key out, and says where it stood.
+pub(crate) fn take_join(joins: &mut Vec<Join>, call: u64, key: &Key) -> (Join, usize)
+    requires there { list_any (is_join call key.now) joins.old.items ≡ true }
+    requires once { joined_once joins.old.items ≡ true }
+    ensures join { find (is_join call key.now) joins.old.items ≡ Some result.0 }
+    ensures others { joins.new.items ≡ unjoined call key.now joins.old.items }
+    ensures place { result.1 ≤ vec_len joins.new }
+    ensures back { insert joins.new.items result.1 result.0 ≡ joins.old.items }
+    ensures room { vec_len joins.new < vec_capacity joins.new }
+{
+    match place_of(joins, call, key) {
+        Some(place) => (joins.remove(place), place),
+        None => unreachable!(),
+    }
+}
+
+/// Puts a join back where it stood.
+pub(crate) fn put_back(joins: &mut Vec<Join>, join: Join, place: usize)
+    requires place { place ≤ vec_len joins.old }
+    requires room { vec_len joins.old < vec_capacity joins.old }
+    ensures { joins.new.items ≡ insert joins.old.items place join }
+{
+    match joins.insert(place, join) {
+        Ok(()) => {}
+        Err(_failed) => unreachable!(),
+    }
+}
+
+/// Lets all joins go.
+pub(crate) fn let_go_joins(mut joins: Vec<Join>, stripe: &ClosedStripe) {
+    while let Some(join) = joins.pop() {
+        stripe.end_join(join);
+    }
+    joins.destroy_empty();
+}
