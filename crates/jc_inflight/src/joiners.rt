@@ -141,6 +141,14 @@ impl Joiners {
         self.joiners.iter().any(|j| j.is_of(session, number, key))
     }
 
+    /// The joiners, in the order of joining.
+    pub fn list(&self) -> &[Joiner]
+        ensures list { result.now ≡ self.now }
+        ensures sound { IsSound self.now }
+    {
+        &self.joiners
+    }
+
     /// How many joiners there are, at most [`JOINERS_MAX`].
     pub fn len(&self) -> usize
         ensures len { result ≡ length self.now }

@@ -26,7 +26,7 @@ use Rattle.jc_stripe.proofs.Stepped.{kept_on}
 
 -- 1. The history grows.
 
-same_on : (old new : State) → new.opening ≡ old.opening → new.history ≡ old.history → GoesOn old new
+pub same_on : (old new : State) → new.opening ≡ old.opening → new.history ≡ old.history → GoesOn old new
 same_on old new opening history = record { opening = opening; more = []; history = history ∙ sym (append-nil old.history) }
 
 steps_on : (old new : State) (session call : ℕ) (key : Bytes) (op : Op) (out : Out) (callers : List (ℕ × ℕ)) (reply : Reply) (place : ℕ) → Steps old session call key op out callers reply place new → GoesOn old new

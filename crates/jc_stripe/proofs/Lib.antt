@@ -20,3 +20,4 @@ pub mod Making
 pub mod Picking
 pub mod Fitting
 pub mod Finishing
+pub mod Uniform

@@ -143,8 +143,8 @@ split false A f g = g refl
 pub alone_passes : (state : State) (key : Bytes) (op : Op) → first_asked state.config op (entry_at state.cache key) ≡ Nobody → goes_on state key op ≡ true → passes state.config op (entry_at state.cache key) ≡ true
 alone_passes state key op nobody goes =
     split (passes state.config op (entry_at state.cache key)) _ (λ e. e) (λ e.
-        let joined = joins_some (load_joined state key op) (either (passes state.config op (entry_at state.cache key)) (is_some (load_joined state key op)) goes e) in
-        is_loader _ nobody (joins_known state key op joined.0 joined.1).asks _)
+    let joined = joins_some (load_joined state key op) (either (passes state.config op (entry_at state.cache key)) (is_some (load_joined state key op)) goes e) in
+    is_loader _ nobody (joins_known state key op joined.0 joined.1).asks _)
 
 -- a call that needs a reservation does not go on at a reserved key
 pub needing_stops : (state : State) (key : Bytes) (op : Op) → needs_reservation state key op ≡ true → goes_on state key op ≡ false

@@ -76,13 +76,15 @@ one_shares old claim r j reached found w fits =
     let s : Reserved = out.0 in
     let same : s ≡ r = claimed_once old.next old.reservations (claim_joined j) claim s r reached.numbered out.1 found (eqb-true j.load claim.number parts.0) in
     let key : j.key ≡ claim.key = claim_key (claim_joined j) old.reservations s out.1 ∙ ap (λ (x : Reserved). x.key) same ∙ sym (claim_key claim old.reservations r found) in
-    let first : r.first ≡ Loader = ap (λ (x : Reserved). x.first) (sym same) ∙ out.2 in
-    (key, record {
-      read_through = finds.read_through;
-      missing = ap (entry_at old.cache) (sym key) ∙ finds.missing;
-      first = first;
-      whole = whole_load old claim r reached found first;
-    })
+    let first : r.first ≡ Loader = ap (λ (x : Reserved). x.first) (sym same) ∙ out.2 in (
+      key,
+      record {
+        read_through = finds.read_through;
+        missing = ap (entry_at old.cache) (sym key) ∙ finds.missing;
+        first = first;
+        whole = whole_load old claim r reached found first;
+      },
+    )
 
 -- where anybody waits for the load, its key is missing, read-through is on, and the loader was asked for the key whole
 pub shares_with : (old : State) (claim : Claim) (r : Reserved) (c : ℕ × ℕ) (cs : List (ℕ × ℕ)) → IsReached old → claimed old claim ≡ Some r → callers_of claim.number old.joiners ≡ c ∷ cs → Shares old claim r
@@ -261,7 +263,7 @@ waiting_left load step place key (j ∷ js) k h =
       | false ↦ λ e.
           all_both (λ (c : ℕ × ℕ). if_left c.0 c.1 key j) (λ (c : ℕ × ℕ). list_all (if_left c.0 c.1 key) (answered_from load step place js)) (callers_of load js)
           (callers_then load key (is_apart j.session j.number j.key) (λ c. if_left c.0 c.1 key j) js
-            (λ x w q h. or_right (not (waits j)) _ (ap (λ k. is_apart x.session x.number k j) (sym q) ∙ sym (apart_turned j x) ∙ h)) keys.1 parts.0)
+          (λ x w q h. or_right (not (waits j)) _ (ap (λ k. is_apart x.session x.number k j) (sym q) ∙ sym (apart_turned j x) ∙ h)) keys.1 parts.0)
           (waiting_left load step place key js keys.1 parts.1)
     ] keys.0
 
@@ -377,7 +379,7 @@ pub joins_settled : (old new : State) (claim : Claim) (r : Reserved) (place : �
 joins_settled old new claim r place more reached found config left grows same shared =
     join-answered old new more claim.number place (place + 1) claim.key old.joiners grows
     (λ j w n f. finds_on old new j config (λ q e. same q (ap (list_any (is_key q)) (sym left) ∙ e))
-      (λ s h. ap (find (is_claim (claim_joined j))) left ∙ still_there old.next old.reservations claim r j reached.numbered found w n s h) f)
+    (λ s h. ap (find (is_claim (claim_joined j))) left ∙ still_there old.next old.reservations claim r j reached.numbered found w n s h) f)
     (keyed_callers old claim r reached found) shared reached.joins
 
 -- the joiners behind a step that is done at once

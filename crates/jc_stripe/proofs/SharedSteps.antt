@@ -21,8 +21,7 @@ pub shared-at : (before after : List Event) (shared : ℕ) (key : Bytes) (answer
 shared-at before after shared key answer [] history place is at = tt
 shared-at before after shared key answer (c ∷ cs) history place is at =
     let event : Event = shared_event shared key answer c in
-    let rest : List Event = map (shared_event shared key answer) cs ++ after in
-    (
+    let rest : List Event = map (shared_event shared key answer) cs ++ after in (
       (load_only answer, new_reply Get None (load_only answer), ap (slice_get history) at ∙ ap (λ h. slice_get h (length before)) is ∙ stands_at before event rest),
       shared-at (before ++ event ∷ []) after shared key answer cs history (place + 1) (is ∙ sym (append_assoc before (event ∷ []) rest)) (omega (arith, length-append before (event ∷ []))),
     )

@@ -213,8 +213,8 @@ reached_joined state session call key op load old begins tells few places =
       ends = old.ends;
       beside = old.beside;
       joins = join-push new state.joiners j
-        (join_on state new [] state.joiners (same_history state.history) (λ i w f. finds_on state new i refl (λ q e. refl) (λ x h. h) f) old.joins)
-        (record { load = found_out (find (is_claim claim) state.reservations) (λ x. x.first ≡ Loader) r there known.found.2; missing = known.missing; read_through = known.read_through });
+          (join_on state new [] state.joiners (same_history state.history) (λ i w f. finds_on state new i refl (λ q e. refl) (λ x h. h) f) old.joins)
+          (record { load = found_out (find (is_claim claim) state.reservations) (λ x. x.first ≡ Loader) r there known.found.2; missing = known.missing; read_through = known.read_through });
       shares = all-push (may_share state.history) state.joiners j old.shares begins.behind;
       apart = apart-push state.joiners j old.apart begins.apart;
       between = between-push state.reservations state.joiners j old.between begins.beside;
@@ -269,7 +269,7 @@ reached_dissolved state claim r old found =
       ends = all_left (may_end state.history) claim.key state.reservations old.ends;
       beside = beside_left claim.key state.reservations old.beside;
       joins = join-dissolved state new claim.number state.joiners (same_history state.history)
-        (λ j w n f. finds_on state new j refl (λ q e. refl) (still_there state.next state.reservations claim r j old.numbered found w n) f) old.joins;
+          (λ j w n f. finds_on state new j refl (λ q e. refl) (still_there state.next state.reservations claim r j old.numbered found w n) f) old.joins;
       shares = share-dissolved state.history claim.number state.joiners old.shares;
       apart = sym (apart-alike state.joiners js calls) ∙ old.apart;
       between = between-alike rs state.joiners js calls (between_left claim.key state.reservations state.joiners old.between);

@@ -7,3 +7,4 @@ pub mod Reached
 pub mod Putting
 pub mod Inside
 pub mod Laws
+pub mod OnePhase

@@ -1,5 +1,6 @@
 //! The laws of the phases, over every stripe. Each function does nothing: what it says is its contract.
 ghost use Rattle.jc_stripe.specs.Laws.{StaysReached, IsLegal, Grows, WasFree, Keeps, KeepsReserved};
+ghost use Rattle.jc_stripe.specs.OnePhase.{OnePhase};
 
 /// Whatever phase a stripe makes, it stays as every stripe is: its history is legal from its opening and leaves its entries, its
 /// tables are within their limits, and each reservation still asks what it asked and may still put its step down.
@@ -30,4 +31,10 @@ pub fn keeps()
 /// No phase but a reservation's own commit changes the entry of its key: it is neither evicted nor mutated meanwhile.
 pub fn keeps_reserved()
     ensures { KeepsReserved }
+{}
+
+/// Whatever phase of one session a stripe makes, or none, it stays as every stripe is, its history grows, the numbers of its
+/// reservations don't fall, and the own steps of every other session are the same: those of its steps whose answer isn't parked.
+pub fn is_uniform()
+    ensures { OnePhase }
 {}

@@ -18,7 +18,7 @@ use Rattle.jc_model.specs.declared.event.Op.TheVariants.{Get, ContainsKey, Put, 
 use Rattle.jc_model.specs.declared.event.Out.{Out}
 use Rattle.jc_model.specs.declared.event.Reply.{Reply}
 use Rattle.jc_model.specs.declared.event.Event.{Event}
-use Rattle.jc_model.specs.Cache.{Bytes, Cache, key_cmp, entry_at}
+use Rattle.jc_model.specs.Cache.{Bytes, Cache, key_cmp}
 use Rattle.jc_model.specs.Group.{nothing_said, events_of}
 use Rattle.jc_model.specs.Legal.{IsHistory, is_of_stripe, of_stripe, may_come}
 use Rattle.jc_model.proofs.Lookups.{both, same_key}
@@ -32,15 +32,14 @@ use Rattle.jc_inflight.specs.declared.joiner.Parked.TheVariants as parked
 use Rattle.jc_inflight.specs.declared.joiner.Taken.{Taken}
 use Rattle.jc_inflight.specs.declared.joiner.Taken.TheVariants as taken
 use Rattle.jc_inflight.specs.Joined.{is_of as is_joiner_of, is_waiting, waits_for, callers_of}
-use Rattle.jc_inflight.specs.Resolving.{answered_from, resolved}
-use Rattle.jc_inflight.specs.Dissolving.{dissolved}
-use Rattle.jc_inflight.specs.Taking.{told, joiner_of, told_to, without}
+use Rattle.jc_inflight.specs.Resolving.{resolved}
+use Rattle.jc_inflight.specs.Taking.{told, joiner_of, without}
 use Rattle.jc_stripe.specs.declared.begun.Picked.{Picked}
 use Rattle.jc_stripe.specs.declared.begun.Picked.TheVariants as picked
 use Rattle.jc_stripe.specs.Claim.{Claim, JoinClaim}
-use Rattle.jc_stripe.specs.State.{State, Reserved, claimed, is_claim, is_key, is_of, is_reserved, released, reserved, unreserved}
-use Rattle.jc_stripe.specs.Refusals.{has_phases, first_refusal, first_asked, load_joined, reserves}
-use Rattle.jc_stripe.specs.Phases.{MayBegin, Begins, Commits, Withdraws, PicksUp, Steps, group_made, settled, withdrawn, joined_by, left_by, is_beside, is_apart as is_join_apart}
+use Rattle.jc_stripe.specs.State.{State, Reserved, claimed, is_claim, is_key, is_of, is_reserved, reserved, unreserved}
+use Rattle.jc_stripe.specs.Refusals.{has_phases}
+use Rattle.jc_stripe.specs.Phases.{MayBegin, Begins, Commits, Withdraws, PicksUp, Steps, group_made, settled, joined_by, left_by, is_beside, is_apart as is_join_apart}
 use Rattle.jc_stripe.specs.Reached.{IsReached}
 use Rattle.jc_stripe.specs.Laws.{StaysReached}
 use Rattle.jc_world.specs.declared.event.Command.{Command}
@@ -54,13 +53,13 @@ use Rattle.jc_world.specs.declared.event.WorldEvent.TheVariants as event
 use Rattle.jc_world.specs.World.{WorldState, Parts, home, stripe_for, empty_stripe, empty_stripes, start, has_number, is_busy, under, over, part_of, is_joined, is_join, join_of, unjoined, claim_of, out_of, with_stored}
 use Rattle.jc_world.specs.Events.{is_single, is_session, is_new, is_free, may_start, may_leave, fits, with_stripe, goes_on, call_over, new_part, with_part, without_part, with_join, without_join, Starts, Ends, Picks, Happens}
 use Rattle.jc_world.specs.Audit.{cache_in, cache_at, IsOrder}
-use Rattle.jc_world.specs.Sound.{IsStripe, IsShaped, is_up_to, none_from, has_answer, is_told, is_served_in, is_served, FitsCall, CallsFit, IsHeld, IsOwned, AllOwned, IsCalled, AllCalled, IsSoundWorld}
+use Rattle.jc_world.specs.Sound.{IsStripe, is_up_to, none_from, has_answer, is_told, is_served_in, is_served, FitsCall, CallsFit, IsHeld, IsOwned, AllOwned, IsCalled, AllCalled, IsSoundWorld}
 use Rattle.jc_world.proofs.Halves.{HasOrder}
 use Rattle.jc_world.proofs.Places.{at_stripe, stripe_put}
 use Rattle.jc_world.proofs.Reservations.{was_free, writer_alone}
-use Rattle.jc_world.proofs.Shares.{some_of, is_some_and, set_cases, all_filter, all_imply, found_test, turned_eq, Each, each_map, GoesOn, added, share_grows, share_stays, shape_same, shape_set, all_come, AllBy, by_map, by_group, added_order, numbers_added, none_added}
+use Rattle.jc_world.proofs.Shares.{some_of, is_some_and, set_cases, all_filter, all_imply, found_test, turned_eq, Each, GoesOn, added, share_grows, share_stays, shape_same, shape_set, all_come, AllBy, by_map, by_group, added_order, numbers_added, none_added}
 use Rattle.jc_world.proofs.Underway.{found_number, find_over, fits_found, calls_filter, calls_on, each_found, elsewhere_found, up_self, up_more, numbers_more, none_new, calls_pushed, find_pushed, all_owned, each_owned, owned_pushed, owned_left, owned_found, others_left, test_owned, same_bytes, of_call-at, of_call-none}
-use Rattle.jc_world.proofs.Joiners.{unanswered, waited_found, told_resolved, told_waiting, told_dissolved, told_pushed, find_kept, each_own, each_caller, each_both, called_each, called_found, called_test, join_is, joined_no_part, join_any, other_call}
+use Rattle.jc_world.proofs.Joiners.{unanswered, waited_found, told_resolved, told_waiting, told_dissolved, told_pushed, find_kept, each_own, each_caller, each_both, called_each, called_found, called_test, join_is, joined_no_part, other_call}
 
 -- 1. What changes nothing of the callers' order.
 
@@ -301,6 +300,7 @@ unserved w u number is free old = go (stripe_for w u.command.key) refl
         let same : j.number ≡ number = eqb-true j.number u.number (both (j.session == u.session) (j.number == u.number) test.0).1 ∙ is in
         let keys : j.key ≡ u.command.key = sym (same_bytes u.command.key j.key test.1) in
         let t : true ≡ false = sym h.join ∙ (λ i. is_joined w (same i) (keys i)) ∙ free in cc
+
     go : (o : Option State) → stripe_for w u.command.key ≡ o → is_served_in o u ≡ false
     go None e = refl
     go (Some s) e = none_found s (joiner_of u.session u.number u.command.key s.joiners) refl (old.called (home w u.command.key) s e)
@@ -764,10 +764,10 @@ order_withdrawn stays w key claim from to key_is there h old =
 told_without : (session call number : ℕ) (key k : Bytes) (s : ℕ) (js : List Joiner) → (number == call) ≡ false → is_told (joiner_of s number k js) ≡ true → is_told (joiner_of s number k (without session call key js)) ≡ true
 told_without session call number key k s js apart h =
     ap is_told (find_kept (is_joiner_of s number k) (λ j. not (is_joiner_of session call key j)) js (λ x t.
-        ap not (refuted (is_joiner_of session call key x) (λ e.
-            let mine : x.number ≡ number = eqb-true x.number number (both (x.session == s) (x.number == number) (both ((x.session == s) && (x.number == number)) (pointwise ◌==◌ k x.key) t).0).1 in
-            let its : x.number ≡ call = eqb-true x.number call (both (x.session == session) (x.number == call) (both ((x.session == session) && (x.number == call)) (pointwise ◌==◌ key x.key) e).0).1 in
-            let c : true ≡ false = sym (eq-eqb number call (sym mine ∙ its)) ∙ apart in cc))))
+    ap not (refuted (is_joiner_of session call key x) (λ e.
+    let mine : x.number ≡ number = eqb-true x.number number (both (x.session == s) (x.number == number) (both ((x.session == s) && (x.number == number)) (pointwise ◌==◌ k x.key) t).0).1 in
+    let its : x.number ≡ call = eqb-true x.number call (both (x.session == session) (x.number == call) (both ((x.session == session) && (x.number == call)) (pointwise ◌==◌ key x.key) e).0).1 in
+    let c : true ≡ false = sym (eq-eqb number call (sym mine ∙ its)) ∙ apart in cc))))
     ∙ h
 
 -- what a pick-up rests on: the join and its call
@@ -841,6 +841,7 @@ again_untold (Some j) h = go j.state (same_some (told j.state) taken.Again h)
   where
     same_some : (x y : Taken) → Some x ≡ Some y → x ≡ y
     same_some x y e = cc
+
     go : (s : JoinState) → told s ≡ taken.Again → has_answer s ≡ false
     go Waiting h = refl
     go (Parked (parked.Answer place shared)) h = cc

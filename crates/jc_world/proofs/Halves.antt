@@ -1,5 +1,5 @@
 -- What is true of a world, in three parts: what its order and its calls say, what its parts and its store say, and what its joins say.
-use Rattle.std.proofs.Common.{◌≡◌, ℕ, [], Bool, true, false, Option, None, Some, IsSomeAnd, slice_get}
+use Rattle.std.proofs.Common.{◌≡◌, ℕ, [], true, None, Some, IsSomeAnd, slice_get}
 use Rattle.std.specs.List.{list_all}
 use Rattle.std.specs.FinMap.{get}
 use Rattle.jc_model.specs.Cache.{Bytes, entry_at}

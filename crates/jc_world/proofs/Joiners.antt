@@ -2,16 +2,18 @@
 --     told_resolved, told_dissolved, told_pushed      what is parked for a call stays parked
 --     told_waiting      a commit parks an answer for each that waits for its load
 --     called_on, waited_on      each joiner, and each join, in another world
---     joined_at         a join, with what is true of it
+--     once_filter, once_pushed      no two joins are of one call and one key
+--     join_any, waited_found        a join, with what is true of it
 --     other_call        a call that is over has no join, so no joiner and no join of another call is its
-use Rattle.std.proofs.Common.{◌≡◌, ◌==◌, ◌&&◌, ◌||◌, ◌+◌, ℕ, zero, suc, List, [], ◌∷◌, ◌++◌, Bool, true, false, cond, not, Option, None, Some, IsSomeAnd, find, filter, map, position, slice_get, refl, sym, ap, ◌∙◌, subst, arith, is_none, is_some}
+--     stands_at         where a join stands in the list
+use Rattle.std.proofs.Common.{◌≡◌, ◌==◌, ◌&&◌, ◌||◌, ◌+◌, ℕ, zero, suc, List, [], ◌∷◌, ◌++◌, Bool, true, false, cond, not, Option, None, Some, IsSomeAnd, find, filter, map, position, slice_get, refl, sym, ap, ◌∙◌, subst, arith, is_some}
 use Rattle.std.specs.List.{list_all, list_any, position_from}
 use Rattle.std.specs.List.{insert as insert_at, remove as remove_at}
 use Rattle.std.proofs.lemmas.Iterator.Adapters.{position_from-zero}
 use Rattle.std.specs.Ordering.{eq_by_cmp}
 use Rattle.std.specs.Cmp.Lexicographic.{pointwise}
 use Rattle.std.specs.FinMap.{get, insert, remove, get-insert, get-remove}
-use Rattle.std.proofs.lemmas.Bool.{eq-eqb, eqb-true}
+use Rattle.std.proofs.lemmas.Bool.{eqb-true}
 use Rattle.std.proofs.lemmas.Cmp.{nat_list_cmp_total, nat_eq_equiv, nat_list_eq_equiv}
 use Rattle.jc_model.specs.Cache.{Bytes, key_cmp}
 use Rattle.jc_model.proofs.Lookups.{both, same_key}
@@ -21,16 +23,15 @@ use Rattle.jc_inflight.specs.declared.joiner.JoinState.TheVariants.{Waiting, Par
 use Rattle.jc_inflight.specs.declared.joiner.Parked.TheVariants as parked
 use Rattle.jc_inflight.specs.Joined.{is_of, is_waiting, waits_for, callers_of, is_joined as has_joined}
 use Rattle.jc_inflight.specs.Resolving.{answered, answered_from}
-use Rattle.jc_inflight.specs.Dissolving.{sent_away, dissolved}
-use Rattle.jc_inflight.specs.Taking.{joiner_of, without}
+use Rattle.jc_inflight.specs.Dissolving.{dissolved}
+use Rattle.jc_inflight.specs.Taking.{joiner_of}
 use Rattle.jc_stripe.specs.Claim.{JoinClaim}
-use Rattle.jc_stripe.specs.State.{State}
 use Rattle.jc_stripe.specs.Phases.{is_apart}
 use Rattle.jc_stripe.specs.Reached.{are_apart}
 use Rattle.jc_world.specs.declared.event.Under.{Under}
 use Rattle.jc_world.specs.declared.event.Part.{Part}
-use Rattle.jc_world.specs.World.{WorldState, Parts, home, stripe_for, has_number, under, over, of_call, part_of, is_join, join_of, is_joined, unjoined}
-use Rattle.jc_world.specs.Sound.{has_answer, is_told, is_served_in, IsWaitedFor, AllWaitedFor, joined_once, IsCalled, AllCalled}
+use Rattle.jc_world.specs.World.{WorldState, Parts, under, of_call, part_of, is_join, is_joined, unjoined}
+use Rattle.jc_world.specs.Sound.{has_answer, is_told, IsWaitedFor, AllWaitedFor, joined_once, IsCalled, AllCalled}
 use Rattle.jc_world.proofs.Shares.{all, some_of, turned_eq, Each, each_map}
 use Rattle.jc_world.proofs.Underway.{same_bytes}
 
@@ -210,6 +211,7 @@ pub called_all : (w n : WorldState) (m : ℕ) (js : List Joiner) → ((j : Joine
 called_all w n m [] f h = tt
 called_all w n m (x ∷ xs) f h = (f x h.0, called_all w n m xs f h.1)
 
+-- those that were answered
 pub called_resolved : (w : WorldState) (m load step place : ℕ) (js : List Joiner) → AllCalled w m js → AllCalled w m (answered_from load step place js)
 called_resolved w m load step place [] h = tt
 called_resolved w m load step place (x ∷ xs) h =
@@ -218,6 +220,7 @@ called_resolved w m load step place (x ∷ xs) h =
       | false ↦ (h.0, called_resolved w m load step place xs h.1)
     ]
 
+-- and those that are to begin again
 pub called_dissolved : (w : WorldState) (m load : ℕ) (js : List Joiner) → AllCalled w m js → AllCalled w m (dissolved load js)
 called_dissolved w m load [] h = tt
 called_dissolved w m load (x ∷ xs) h =
@@ -226,6 +229,7 @@ called_dissolved w m load (x ∷ xs) h =
       | false ↦ (h.0, called_dissolved w m load xs h.1)
     ]
 
+-- one more
 pub called_pushed : (w : WorldState) (m : ℕ) (js : List Joiner) (j : Joiner) → AllCalled w m js → IsCalled w m j → AllCalled w m (js ++ j ∷ [])
 called_pushed w m [] j h one = (one, tt)
 called_pushed w m (x ∷ xs) j h one = (h.0, called_pushed w m xs j h.1 one)
@@ -270,6 +274,7 @@ pub waited_all : (w n : WorldState) (P : JoinClaim → Type 0) (js : List JoinCl
 waited_all w n P [] f each h = tt
 waited_all w n P (x ∷ xs) f each h = (f x each.0 h.0, waited_all w n P xs f each.1 h.1)
 
+-- one more
 pub waited_pushed : (w : WorldState) (js : List JoinClaim) (j : JoinClaim) → AllWaitedFor w js → IsWaitedFor w j → AllWaitedFor w (js ++ j ∷ [])
 waited_pushed w [] j h one = (one, tt)
 waited_pushed w (x ∷ xs) j h one = (h.0, waited_pushed w xs j h.1 one)
@@ -280,7 +285,7 @@ each_joined [] = tt
 each_joined (x ∷ xs) = (
   ap (λ b. b || list_any (is_join x.call x.key) xs) (all _ _ (nat_eq_equiv.refl x.call) (nat_list_eq_equiv.refl x.key)),
   each_map (λ (j : JoinClaim). list_any (is_join j.call j.key) xs ≡ true) (λ (j : JoinClaim). (is_join j.call j.key x || list_any (is_join j.call j.key) xs) ≡ true) xs
-  (λ j h. or_second (is_join j.call j.key x) (list_any (is_join j.call j.key) xs) h) (each_joined xs),
+      (λ j h. or_second (is_join j.call j.key x) (list_any (is_join j.call j.key) xs) h) (each_joined xs),
 )
   where
     or_second : (a b : Bool) → b ≡ true → (a || b) ≡ true
@@ -322,11 +327,11 @@ pub other_call : (w : WorldState) (call : ℕ) (u : Under) → under w call ≡ 
 other_call w call u is free number session key joined h =
     let v = some_of (under w number) (λ v. (v.session ≡ session) × (v.command.key ≡ key)) h in
     refuted (number == call) (λ same.
-        let one : number ≡ call = eqb-true number call same in
-        let t : Some v.0 ≡ Some u = sym v.1 ∙ ap (under w) one ∙ is in
-        let same_call : v.0 ≡ u = cc in
-        let key_is : key ≡ u.command.key = sym v.2.1 ∙ ap (λ (x : Under). x.command.key) same_call in
-        let t : true ≡ false = sym joined ∙ (λ i. is_joined w (one i) (key_is i)) ∙ free in cc)
+    let one : number ≡ call = eqb-true number call same in
+    let t : Some v.0 ≡ Some u = sym v.1 ∙ ap (under w) one ∙ is in
+    let same_call : v.0 ≡ u = cc in
+    let key_is : key ≡ u.command.key = sym v.2.1 ∙ ap (λ (x : Under). x.command.key) same_call in
+    let t : true ≡ false = sym joined ∙ (λ i. is_joined w (one i) (key_is i)) ∙ free in cc)
   where
     refuted : (b : Bool) → (b ≡ true → ⊥) → b ≡ false
     refuted true h = absurd (h refl)
@@ -413,6 +418,7 @@ all_others : (p : JoinClaim → Bool) (js : List JoinClaim) → not (list_any p 
 all_others p [] h = refl
 all_others p (x ∷ xs) h = elim (p x) as (λ b. not (b || list_any p xs) ≡ true → cond (not b) (x ∷ filter (λ j. not (p j)) xs) (filter (λ j. not (p j)) xs) ≡ x ∷ xs) [ true ↦ λ h. cc | false ↦ λ h. ap (λ ys. x ∷ ys) (all_others p xs h) ] h
 
+-- by the place from a number on
 stands_from : (call : ℕ) (key : Bytes) (js : List JoinClaim) (k i : ℕ) → position_from (is_join call key) k js ≡ Some i → joined_once js ≡ true → (j : ℕ) × (i ≡ k + j) × Stands call key js j
 stands_from call key [] k i h o = cc
 stands_from call key (x ∷ xs) k i h o =
@@ -422,23 +428,30 @@ stands_from call key (x ∷ xs) k i h o =
       | true ↦ λ e h.
           let is : k ≡ i = cc in
           let same = join_is call key x e in
-          let alone : not (list_any p xs) ≡ true = (λ i. not (list_any (is_join (sym same.0 i) (sym same.1 i)) xs)) ∙ parts.0 in
-          (0, omega arith, record {
-            join = x;
-            here = refl;
-            first = ap (λ b. cond b (Some x) (find p xs)) e;
-            others = sym (ap (λ b. cond (not b) (x ∷ unjoined call key xs) (unjoined call key xs)) e ∙ all_others p xs alone);
-          })
+          let alone : not (list_any p xs) ≡ true = (λ i. not (list_any (is_join (sym same.0 i) (sym same.1 i)) xs)) ∙ parts.0 in (
+            0,
+            omega arith,
+            record {
+              join = x;
+              here = refl;
+              first = ap (λ b. cond b (Some x) (find p xs)) e;
+              others = sym (ap (λ b. cond (not b) (x ∷ unjoined call key xs) (unjoined call key xs)) e ∙ all_others p xs alone);
+            },
+          )
       | false ↦ λ e h.
-          let rest = stands_from call key xs (k + 1) i h parts.1 in
-          (suc rest.0, omega arith, record {
-            join = rest.2.join;
-            here = rest.2.here;
-            first = ap (λ b. cond b (Some x) (find p xs)) e ∙ rest.2.first;
-            others = ap (λ ys. x ∷ ys) rest.2.others ∙ sym (ap (λ b. cond (not b) (x ∷ unjoined call key xs) (unjoined call key xs)) e);
-          })
+          let rest = stands_from call key xs (k + 1) i h parts.1 in (
+            suc rest.0,
+            omega arith,
+            record {
+              join = rest.2.join;
+              here = rest.2.here;
+              first = ap (λ b. cond b (Some x) (find p xs)) e ∙ rest.2.first;
+              others = ap (λ ys. x ∷ ys) rest.2.others ∙ sym (ap (λ b. cond (not b) (x ∷ unjoined call key xs) (unjoined call key xs)) e);
+            },
+          )
     ] refl h
 
+-- by the place in the whole list
 pub stands_at : (call : ℕ) (key : Bytes) (js : List JoinClaim) (i : ℕ) → position (is_join call key) js ≡ Some i → joined_once js ≡ true → Stands call key js i
 stands_at call key js i h o =
     let found = stands_from call key js 0 i (sym (position_from-zero (is_join call key) js) ∙ h) o in

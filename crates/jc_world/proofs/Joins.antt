@@ -1,7 +1,7 @@
 -- Each event keeps what the joins and the joiners of a world say.
 --     joins_called, joins_over, joins_phase, joins_joined, joins_picks, joins_parted, joins_stored     by the kind of the event
 --     joins_start, joins_happens       before anything has happened, and after any event that fits
-use Rattle.std.proofs.Common.{◌≡◌, ◌==◌, ◌&&◌, ◌+◌, ℕ, List, [], ◌∷◌, ◌++◌, Ok, Bool, true, false, cond, not, Option, None, Some, IsSomeAnd, find, filter, slice_get, slice_set, refl, sym, ap, ◌∙◌, subst, is_none}
+use Rattle.std.proofs.Common.{◌≡◌, ◌==◌, ◌&&◌, ◌+◌, ℕ, List, [], ◌∷◌, ◌++◌, Ok, Bool, true, false, not, Option, None, Some, IsSomeAnd, find, slice_get, slice_set, refl, sym, ap, ◌∙◌, subst}
 use Rattle.std.specs.List.{list_any}
 use Rattle.std.specs.Cmp.Lexicographic.{pointwise}
 use Rattle.std.specs.FinMap.{get, insert, remove}
@@ -10,7 +10,6 @@ use Rattle.std.proofs.lemmas.Cmp.{nat_eq_equiv, nat_list_eq_equiv}
 use Rattle.jc_types.specs.declared.config.Config.{Config}
 use Rattle.jc_types.specs.Limits.{checked}
 use Rattle.jc_model.specs.declared.event.Event.{Event}
-use Rattle.jc_model.specs.declared.event.Reply.{Reply}
 use Rattle.jc_model.specs.Cache.{Bytes, Cache}
 use Rattle.jc_model.proofs.Lookups.{both, none_is}
 use Rattle.jc_inflight.specs.declared.joiner.Joiner.{Joiner}
@@ -18,12 +17,10 @@ use Rattle.jc_inflight.specs.declared.joiner.JoinState.TheVariants.{Waiting}
 use Rattle.jc_inflight.specs.Joined.{is_of as is_joiner_of, callers_of, is_joined as has_joined}
 use Rattle.jc_inflight.specs.Resolving.{resolved}
 use Rattle.jc_inflight.specs.Taking.{without}
-use Rattle.jc_stripe.specs.declared.begun.Begun.TheVariants as begun
-use Rattle.jc_stripe.specs.declared.begun.Picked.TheVariants as picked
 use Rattle.jc_stripe.specs.declared.ticket.First.TheVariants.{Loader, Writer}
 use Rattle.jc_stripe.specs.Claim.{Claim, JoinClaim}
 use Rattle.jc_stripe.specs.State.{State, Reserved, claimed}
-use Rattle.jc_stripe.specs.Phases.{Begins, Commits, Withdraws, PicksUp, Steps, settled, joined_by, left_by}
+use Rattle.jc_stripe.specs.Phases.{Withdraws, Steps, settled, joined_by, left_by}
 use Rattle.jc_world.specs.declared.event.Command.{Command}
 use Rattle.jc_world.specs.declared.event.Part.{Part}
 use Rattle.jc_world.specs.declared.event.Premises.{Premises}
@@ -32,14 +29,14 @@ use Rattle.jc_world.specs.declared.event.Shown.TheVariants as shown
 use Rattle.jc_world.specs.declared.event.Under.{Under}
 use Rattle.jc_world.specs.declared.event.WorldEvent.{WorldEvent}
 use Rattle.jc_world.specs.declared.event.WorldEvent.TheVariants as event
-use Rattle.jc_world.specs.World.{WorldState, Parts, home, stripe_for, empty_stripe, start, has_number, under, over, of_call, part_of, is_join, join_of, is_joined, unjoined, claim_of, out_of, with_stored}
-use Rattle.jc_world.specs.Events.{may_leave, fits, with_stripe, goes_on, call_over, new_part, with_part, without_part, with_join, without_join, Starts, Ends, Picks, Happens}
+use Rattle.jc_world.specs.World.{WorldState, Parts, home, stripe_for, start, has_number, under, over, of_call, part_of, is_join, join_of, is_joined, unjoined, claim_of, out_of}
+use Rattle.jc_world.specs.Events.{may_leave, fits, with_stripe, goes_on, call_over, new_part, without_part, with_join, Starts, Ends, Picks, Happens}
 use Rattle.jc_world.specs.Sound.{IsHeld, IsWaitedFor, AllWaitedFor, IsCalled, AllCalled, IsSoundWorld}
 use Rattle.jc_world.proofs.Halves.{HasJoins}
 use Rattle.jc_world.proofs.Places.{at_stripe, stripe_put}
-use Rattle.jc_world.proofs.Shares.{all, some_of, is_some_and, set_cases, found_test, turned_eq, Each}
+use Rattle.jc_world.proofs.Shares.{all, some_of, is_some_and, set_cases, turned_eq}
 use Rattle.jc_world.proofs.Underway.{found_number, find_over, find_pushed, of_call-at, same_bytes}
-use Rattle.jc_world.proofs.Joiners.{any_kept, any_front, any_last, any_resolved, any_dissolved, called_on, called_all, called_resolved, called_dissolved, called_pushed, once_pushed, once_filter, waited_on, waited_all, waited_pushed, waited_found, each_joined, join_is, joined_no_part, other_call, none_inserted, none_removed, part_other}
+use Rattle.jc_world.proofs.Joiners.{any_kept, any_front, any_last, any_resolved, any_dissolved, called_on, called_all, called_resolved, called_dissolved, called_pushed, once_pushed, once_filter, waited_on, waited_all, waited_pushed, each_joined, join_is, joined_no_part, other_call, none_inserted, none_removed, part_other}
 use Rattle.jc_world.proofs.Callers.{MayStart, may_start_at, may_leave_at, start_is, refuted, Picking, picking}
 
 -- 1. What goes on.
@@ -172,6 +169,7 @@ begun_before w u here f old = let t : None ≡ Some u = ap (find (has_number u.n
 same_joiners : (from to : State) → to.joiners ≡ from.joiners → (s k : ℕ) (q : Bytes) → has_joined s k q from.joiners ≡ true → has_joined s k q to.joiners ≡ true
 same_joiners from to same s k q h = ap (has_joined s k q) same ∙ h
 
+-- and so stay what they have
 same_called : (m : ℕ) (from to : State) → to.joiners ≡ from.joiners → (n : WorldState) → AllCalled n m from.joiners → AllCalled n m to.joiners
 same_called m from to same n h = subst (AllCalled n m) (sym same) h
 
@@ -180,7 +178,7 @@ none_reserved : (w : WorldState) (u : Under) (part : Part) → part.call ≡ u.n
     → of_call number (get (insert w.parts u.command.key part) q) ≡ None
 none_reserved w u part call_is free number q joined none =
     none_inserted w.parts u.command.key q part number none (λ same. ap (λ c. c == number) call_is ∙ refuted (u.number == number) (λ e.
-        let t : true ≡ false = sym joined ∙ (λ i. is_joined w (sym (eqb-true u.number number e) i) (same i)) ∙ free in cc))
+    let t : true ≡ false = sym joined ∙ (λ i. is_joined w (sym (eqb-true u.number number e) i) (same i)) ∙ free in cc))
 
 -- 4. The first phase.
 
@@ -220,6 +218,7 @@ joins_joined w u from to join load there join_is to_is may old =
       alone = λ f. absurd (begun_before w u may.here f old);
     }
 
+-- by what is shown of the first phase
 joins_started : (w new : WorldState) (u : Under) (from to : State) (seen : Shown) → stripe_for w u.command.key ≡ Some from → Starts w u from to seen new → MayStart w u → IsSoundWorld w → HasJoins new
 joins_started w new u from to (shown.Refused refusal) there h may old = subst HasJoins (sym h.1) (joins_over w u.number u may.here may.alone old)
 joins_started w new u from to (shown.Stepped seen) there h may old =
@@ -254,6 +253,7 @@ part_under w call key part is old =
     let P : ℕ → Type 0 = λ n. IsSomeAnd (under w n) (λ u. u.command.key ≡ key) in
     subst P at.1 held.2.call
 
+-- by what is shown of the last phase
 joins_ended : (w new : WorldState) (call : ℕ) (key : Bytes) (part : Part) (from to : State) (seen : Shown) → part_of w call key ≡ Some part → stripe_for w key ≡ Some from → Ends w call key part from to seen new → IsSoundWorld w → HasJoins new
 joins_ended w new call key part from to (shown.Stepped seen) is there h old =
     let S : Reserved → Type 0 = λ r. Steps (settled from (claim_of key part) seen.place) r.session r.call key r.op (out_of part) (callers_of part.number from.joiners) seen.reply seen.place to in
@@ -268,6 +268,7 @@ joins_ended w new call key part from to (shown.Stepped seen) is there h old =
     (λ number session q t k. still_under w call u.0 u.1 free number session q t k) (λ number q t k. none_removed w.parts key q number k) old)
 joins_ended w new call key part from to seen is there h old = absurd h
 
+-- a reservation is given back
 joins_withdrawn : (w : WorldState) (key : Bytes) (claim : Claim) (from to : State) → stripe_for w key ≡ Some from → Withdraws from claim to → IsSoundWorld w → HasJoins (without_part (with_stripe w key to) key)
 joins_withdrawn w key claim from to there h old =
     let joiners = ap (λ (s : State). s.joiners) h.1 in
@@ -282,9 +283,11 @@ joins_withdrawn w key claim from to there h old =
 record GoOn (w : WorldState) (call : ℕ) (calls : List Under) : Type 0 where
   keeps : (number session : ℕ) (key : Bytes) → (number == call) ≡ false → IsSomeAnd (under w number) (IsOf session key) → IsSomeAnd (find (has_number number) calls) (IsOf session key)
 
+-- all do
 all_go_on : (w : WorldState) (call : ℕ) → GoOn w call w.calls
 all_go_on w call = record { keeps = λ number session key apart h. h }
 
+-- the others do, where the call is over
 others_go_on : (w : WorldState) (call : ℕ) → GoOn w call (over call w.calls)
 others_go_on w call = record {
   keeps = λ number session key apart h.
@@ -321,9 +324,9 @@ joins_picked w call key join from to calls joined there is go old =
     let out : (j : JoinClaim) → not (is_join call key j) ≡ true → has_joined j.session j.call j.key from.joiners ≡ true → has_joined j.session j.call j.key to.joiners ≡ true = λ j other h.
     ap (has_joined j.session j.call j.key) joiners
     ∙ any_kept (is_joiner_of j.session j.call j.key) (λ x. not (its x)) from.joiners (λ x t. ap not (refuted (its x) (λ e.
-        let mine = joiner_is j.session j.call j.key x t in
-        let same = joiner_is join.session join.call join.key x e in
-        denied (is_join call key j) other (join_of_is call j.call key j.key (sym mine.2 ∙ same.2 ∙ p.join_key) (sym mine.1 ∙ same.1 ∙ p.call_is))))) h
+    let mine = joiner_is j.session j.call j.key x t in
+    let same = joiner_is join.session join.call join.key x e in
+    denied (is_join call key j) other (join_of_is call j.call key j.key (sym mine.2 ∙ same.2 ∙ p.join_key) (sym mine.1 ∙ same.1 ∙ p.call_is))))) h
     in
     let on : (m : ℕ) (j : Joiner) → (j.key ≡ key → j.number ≡ call → j.session ≡ join.session → ⊥) → IsCalled w m j → IsCalled new m j = λ m j other h.
     let apart = apart_from w call key join p j.number j.session j.key other h.call in
@@ -350,6 +353,7 @@ joins_picked w call key join from to calls joined there is go old =
       alone = λ f. absurd (let t : None ≡ Some p.u = ap (find (has_number call)) (sym (old.idle f).0) ∙ p.here in cc);
     }
 
+-- by what is shown of a pick-up
 joins_picks : (w new : WorldState) (call : ℕ) (key : Bytes) (join : JoinClaim) (from to : State) (seen : Shown) → join_of w call key ≡ Some join → stripe_for w key ≡ Some from → Picks w call key join from to seen new → IsSoundWorld w → HasJoins new
 joins_picks w new call key join from to (shown.PickedUp seen) joined there h old = subst HasJoins (sym h.2) (joins_picked w call key join from to (over call w.calls) joined there h.0.2 (others_go_on w call) old)
 joins_picks w new call key join from to shown.Again joined there h old = subst HasJoins (sym h.1) (joins_picked w call key join from to w.calls joined there h.0.1 (all_go_on w call) old)
@@ -358,6 +362,7 @@ joins_picks w new call key join from to seen joined there h old = absurd h
 
 -- 7. Before anything has happened, and any event that fits.
 
+-- before anything has happened
 pub joins_start : (config : Config) → checked config ≡ Ok tt → HasJoins (start config)
 joins_start config fits = record {
   joins = tt;
@@ -366,6 +371,7 @@ joins_start config fits = record {
   alone = λ f. refl;
 }
 
+-- a call leaves
 joins_left : (w : WorldState) (call : ℕ) → may_leave w call (under w call) ≡ true → IsSoundWorld w → HasJoins (call_over w call)
 joins_left w call fit old = go (under w call) refl
   where
@@ -375,6 +381,7 @@ joins_left w call fit old = go (under w call) refl
         let may = may_leave_at w call u fit e old in
         joins_over w call u e (ap (λ n. is_joined w n u.command.key) (sym (found_number call w.calls u e)) ∙ may.alone) old
 
+-- by the kind of the event
 pub joins_happens : (w new : WorldState) (e : WorldEvent) (seen : Shown) → fits w e ≡ true → Happens w e seen new → IsSoundWorld w → HasJoins new
 joins_happens w new (event.Call call session command) seen fit h old = subst HasJoins (sym h.1) (joins_called w call session command old)
 joins_happens w new (event.Start call key) seen fit h old = joins_started w new h.0 h.2 h.4 seen h.3 h.5 (may_start_at w call key h.0 fit h.1 old) old

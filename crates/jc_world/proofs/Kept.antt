@@ -8,7 +8,6 @@ use Rattle.std.specs.FinMap.{get, insert, remove, get-empty, get-insert, get-rem
 use Rattle.jc_types.specs.declared.config.Config.{Config}
 use Rattle.jc_types.specs.Limits.{checked}
 use Rattle.jc_model.specs.declared.event.Op.{Op}
-use Rattle.jc_model.specs.declared.event.Out.{Out}
 use Rattle.jc_model.specs.declared.event.Event.{Event}
 use Rattle.jc_model.specs.declared.event.Reply.{Reply}
 use Rattle.jc_model.specs.declared.event.Change.{Change}
@@ -24,8 +23,8 @@ use Rattle.jc_model.specs.Processor.{found_in}
 use Rattle.jc_model.proofs.Lookups.{both, same_key, get-with_entry}
 use Rattle.jc_inflight.specs.Joined.{callers_of}
 use Rattle.jc_stripe.specs.Claim.{Claim, WriteClaim, JoinClaim}
-use Rattle.jc_stripe.specs.State.{State, Reserved, claimed, is_claim, released, unreserved, is_reserved}
-use Rattle.jc_stripe.specs.Phases.{Begins, Commits, Withdraws, PicksUp, Steps, settled}
+use Rattle.jc_stripe.specs.State.{State, Reserved, claimed, is_claim, unreserved, is_reserved}
+use Rattle.jc_stripe.specs.Phases.{Begins, Commits, Withdraws, Steps, settled}
 use Rattle.jc_stripe.specs.Reached.{IsReached}
 use Rattle.jc_stripe.specs.Laws.{KeepsReserved}
 use Rattle.jc_stripe.specs.declared.begun.Begun.TheVariants as begun
@@ -40,14 +39,14 @@ use Rattle.jc_world.specs.declared.event.Shown.TheVariants as shown
 use Rattle.jc_world.specs.declared.event.WorldEvent.TheVariants as event
 use Rattle.jc_world.specs.World.{WorldState, Parts, home, stripe_for, cached, entry_in, empty_stripes, start, under, over, of_call, part_of, asks_loader, asks_writer, waits_for_load, waits_for_report, is_answered, is_untouched, join_of, is_joined, unjoined, claim_of, out_of, has_number, with_stored}
 use Rattle.jc_world.specs.Premises.{changed_to, is_true_load, is_done, is_true_report, disturbed, premises_hold}
-use Rattle.jc_world.specs.Events.{fits, is_free, may_start, may_leave, answered, changed, reported, new_part, with_stripe, goes_on, call_over, with_part, without_part, with_join, without_join, Starts, Ends, Picks}
+use Rattle.jc_world.specs.Events.{fits, is_free, may_start, may_leave, answered, changed, reported, new_part, with_stripe, goes_on, call_over, with_part, without_part, Starts, Ends, Picks}
 use Rattle.jc_world.specs.Coherent.{Coherent, is_changed, all_hold}
 use Rattle.jc_world.specs.Sound.{KindFits, IsHeld, Agrees, IsTold, KeyTold, WrittenFor, IsSoundWorld}
 use Rattle.jc_world.proofs.Halves.{HasParts}
 use Rattle.jc_world.proofs.Places.{at_stripe, stripe_put, home_stripe, found_number, under_left, under_more}
 use Rattle.jc_world.proofs.Reservations.{found_more, out_reserved, was_free, writer_alone, new_out, found_left}
 use Rattle.jc_world.proofs.Entries.{split, tied, agrees_stepped, writes, loads_asked, writes_asked, loads, asks_nobody}
-use Rattle.jc_world.proofs.Callers.{Picking, picking}
+use Rattle.jc_world.proofs.Callers.{picking}
 
 -- 1. Small facts.
 

@@ -1,16 +1,15 @@
 -- How many events a phase puts down.
 --     begun_length, ended_length     at most 67: a victim, a step, the steps of at most 64 that share its load, and an eviction of its key
 --     few_events                     a stripe's history is within its limit
-use Rattle.std.proofs.Common.{◌≡◌, ◌+◌, ◌≤◌, ◌<◌, ◌^◌, ◌&&◌, ℕ, suc, List, [], ◌∷◌, ◌++◌, length, map, filter, Bool, true, false, cond, Option, None, Some, IsSomeAnd, Result, Ok, Err, nat_le, refl, sym, ap, ◌∙◌, subst, arith, length-append, length-drop, take, drop, ◌-◌}
+--     has_room                       an order that has room for 67 events has it for what a phase puts down
+use Rattle.std.proofs.Common.{◌≡◌, ◌+◌, ◌≤◌, ℕ, suc, List, [], ◌∷◌, ◌++◌, length, map, filter, Bool, true, false, cond, Option, None, Some, Result, Ok, Err, nat_le, refl, ap, arith, length-append, length-drop, take, drop, ◌-◌}
 use Rattle.std.proofs.lemmas.Bool.Decides.{nat_tests}
 use Rattle.std.proofs.lemmas.List.{take_rest}
-use Rattle.jc_types.specs.declared.config.Config.{Config}
 use Rattle.jc_types.specs.declared.config.Refusal.{Refusal}
-use Rattle.jc_types.specs.Limits.{checked, between}
+use Rattle.jc_types.specs.Limits.{between}
 use Rattle.jc_types.specs.declared.config.TheConstants.{STRIPES_MAX, CAPACITY_MAX, HISTORY_MIN, HISTORY_MAX}
 use Rattle.jc_model.specs.declared.event.Op.{Op}
 use Rattle.jc_model.specs.declared.event.Out.{Out}
-use Rattle.jc_model.specs.declared.event.LoadAnswer.{LoadAnswer}
 use Rattle.jc_model.specs.declared.event.Reply.{Reply}
 use Rattle.jc_model.specs.declared.event.Cause.{Cause}
 use Rattle.jc_model.specs.declared.event.Event.{Event}
@@ -22,23 +21,27 @@ use Rattle.jc_inflight.specs.Joined.{waits_for, callers_of}
 use Rattle.jc_stripe.specs.declared.begun.Begun.{Begun}
 use Rattle.jc_stripe.specs.declared.begun.Begun.TheVariants as begun
 use Rattle.jc_stripe.specs.Claim.{Claim}
-use Rattle.jc_stripe.specs.State.{State, Reserved, claimed}
+use Rattle.jc_stripe.specs.State.{State, claimed}
 use Rattle.jc_stripe.specs.Phases.{Steps, Begins, Commits, group_made, settled}
 use Rattle.jc_stripe.specs.Reached.{IsReached}
 use Rattle.jc_world.proofs.Shares.{some_of}
 
+-- at most one is evicted before a step
 victim_length : (victim : Option Bytes) → length (victim_events victim) ≤ 1
 victim_length None = omega arith
 victim_length (Some key) = omega arith
 
+-- and at most one behind it
 evicted_length : (key : Bytes) (cause : Option Cause) → length (evicted_events key cause) ≤ 1
 evicted_length key None = omega arith
 evicted_length key (Some cause) = omega arith
 
+-- as many as before
 map_length : {A B : Type 0} (f : A → B) (xs : List A) → length (map f xs) ≡ length xs
 map_length f [] = refl
 map_length f (x ∷ xs) = ap suc (map_length f xs)
 
+-- at most as many
 filter_length : {A : Type 0} (p : A → Bool) (xs : List A) → length (filter p xs) ≤ length xs
 filter_length p [] = omega arith
 filter_length p (x ∷ xs) =
@@ -58,6 +61,7 @@ group_length place group =
     let m = map_length (shared_event (step_place place group) group.made.key group.made.out.load) group.joined in
     omega arith
 
+-- a load has at most as many callers as there are joiners
 callers_length : (load : ℕ) (js : List Joiner) → length (callers_of load js) ≤ length js
 callers_length load js =
     let m : length (callers_of load js) ≡ length (filter (waits_for load) js) = map_length (λ (j : Joiner). (j.session, j.number)) (filter (waits_for load) js) in
@@ -77,6 +81,7 @@ steps_length old new session call key op out callers reply place steps few =
 same_length : (old new : State) → new.history ≡ old.history → length new.history ≤ length old.history + 67
 same_length old new same = let e = ap length same in omega arith
 
+-- a first phase
 pub begun_length : (old new : State) (session call : ℕ) (key : Bytes) (op : Op) (b : Begun) → Begins old session call key op b new → length new.history ≤ length old.history + 67
 begun_length old new session call key op (begun.Refused refusal) h = same_length old new (ap (λ (s : State). s.history) h.1)
 begun_length old new session call key op (begun.Done reply place) h = steps_length old new session call key op nothing_said [] reply place h.2 (omega arith)
@@ -84,6 +89,7 @@ begun_length old new session call key op (begun.Load ticket) h = same_length old
 begun_length old new session call key op (begun.Write ticket change) h = same_length old new (ap (λ (s : State). s.history) h.3)
 begun_length old new session call key op (begun.Joined join) h = same_length old new (ap (λ (s : State). s.history) h.1.3)
 
+-- a last phase
 pub ended_length : (old new : State) (claim : Claim) (out : Out) (reply : Reply) (place : ℕ) → IsReached old → Commits old claim out reply place new → length new.history ≤ length old.history + 67
 ended_length old new claim out reply place reached h =
     let r = some_of (claimed old claim) (λ r. Steps (settled old claim place) r.session r.call claim.key r.op out (callers_of claim.number old.joiners) reply place new) h in
@@ -95,6 +101,7 @@ in_limits : (b : Bool) (more : Result (Unit {0}) Refusal) (refusal : Refusal) �
 in_limits true more refusal h = (refl, h)
 in_limits false more refusal h = cc
 
+-- a limit that was tested
 at_most : (n limit : ℕ) → nat_le n limit ≡ true → n ≤ limit
 at_most n limit h = grind (arith, nat_tests)
 

@@ -15,4 +15,5 @@ pub mod Lengths
 pub mod Phased
 pub mod Sounding
 pub mod Runs
+pub mod Loads
 pub mod Homes

@@ -1,18 +1,17 @@
 -- Slots in a list, and the map that they make.
-use Rattle.std.proofs.Common.{◌≡◌, ◌==◌, ◌&&◌, ◌+◌, ℕ, List, [], ◌∷◌, ◌++◌, Bool, true, false, cond, not, Option, None, Some, suc, zero, refl, sym, ap, ◌∙◌, subst, arith, is_some, is_none, position, slice_get, slice_set, remove, get_or}
+use Rattle.std.proofs.Common.{◌≡◌, ◌&&◌, ◌+◌, ℕ, List, [], ◌∷◌, ◌++◌, Bool, true, false, cond, Option, None, Some, suc, zero, refl, sym, ap, ◌∙◌, subst, arith, is_none, position, slice_get, slice_set, remove, get_or}
 use Rattle.std.specs.List.{position_from}
 use Rattle.std.proofs.lemmas.Iterator.Adapters.{position_from-zero}
 use Rattle.std.proofs.lemmas.Option.{slice_get_read, slice_get_within, same_Some}
 use Rattle.std.specs.Ordering.{eq_by_cmp}
 use Rattle.std.specs.Cmp.{eq_by_cmp_equiv}
-use Rattle.std.specs.Cmp.Lexicographic.{pointwise, texts_ties}
+use Rattle.std.specs.Cmp.Lexicographic.{texts_ties}
 use Rattle.std.proofs.lemmas.Cmp.{nat_list_cmp_total}
 use Rattle.std.specs.FinMap as map
-use Rattle.std.specs.FinMap.{find, get, insert, from_entries, same_map, get-from_entries, get-insert, get-remove}
+use Rattle.std.specs.FinMap.{find, insert, from_entries, same_map, get-from_entries, get-insert, get-remove}
 use Rattle.jc_model.specs.Cache.{Bytes, key_cmp}
 use Rattle.jc_model.proofs.Lookups.{both, same_key, exact, none_is}
 use Rattle.jc_world.specs.declared.event.Part.{Part}
-use Rattle.jc_world.specs.World.{Parts}
 use Rattle.jc_world.specs.Slots.{once, is_at}
 
 -- by cases on whether two keys are one

@@ -1,7 +1,5 @@
 -- What the machine of a world does in a first and a last phase is what the definitions say.
-use Rattle.std.proofs.Common.{◌≡◌, ◌∙◌, ℕ, zero, suc, ◌+◌, ◌<◌, List, [], ◌∷◌, ◌++◌, length, drop, Option, Some, None, IsSomeAnd, Bool, true, false, slice_get, slice_set, refl, sym, ap, subst, arith, append-nil, find, cond}
-use Rattle.std.proofs.lemmas.Option.{slice_get_within}
-use Rattle.std.specs.List.{list_all}
+use Rattle.std.proofs.Common.{◌≡◌, ◌∙◌, ℕ, zero, suc, List, [], ◌∷◌, ◌++◌, length, drop, Option, Some, None, IsSomeAnd, true, slice_get, slice_set, refl, sym, ap, subst, append-nil}
 use Rattle.std.specs.FinMap.{get, insert, remove}
 use Rattle.jc_model.specs.Cache.{Bytes, entry_at}
 use Rattle.jc_model.specs.declared.event.Change.{Change}
@@ -16,7 +14,6 @@ use Rattle.jc_stripe.specs.declared.begun.Picked.{Picked}
 use Rattle.jc_stripe.specs.declared.begun.Picked.TheVariants as picked
 use Rattle.jc_stripe.specs.declared.begun.Begun.{Begun}
 use Rattle.jc_stripe.specs.declared.begun.Begun.TheVariants as begun
-use Rattle.jc_stripe.specs.declared.ticket.First.{First}
 use Rattle.jc_stripe.specs.declared.ticket.First.TheVariants.{Loader, Writer}
 use Rattle.jc_stripe.specs.declared.ticket.Origin.TheVariants.{Played}
 use Rattle.jc_types.specs.declared.config.Refusal.{Refusal}
@@ -24,12 +21,11 @@ use Rattle.jc_world.specs.declared.event.Under.{Under}
 use Rattle.jc_world.specs.declared.event.Part.{Part}
 use Rattle.jc_world.specs.declared.event.Stepped.{Stepped}
 use Rattle.jc_world.specs.declared.event.PickedUp.{PickedUp}
-use Rattle.jc_world.specs.declared.event.Shown.{Shown}
 use Rattle.jc_world.specs.declared.event.WorldEvent.TheVariants as event
 use Rattle.jc_world.specs.declared.event.Shown.TheVariants as shown
-use Rattle.jc_world.specs.World.{WorldState, Parts, home, stripe_for, under, over, has_number, part_of, join_of, unjoined, claim_of, out_of}
-use Rattle.jc_world.specs.Events.{fits, is_single, Happens, ShowsStep, victim_first, gone_last, new_part, with_part, with_stripe, goes_on, call_over}
-use Rattle.jc_world.specs.Sound.{CallsFit, IsHeld, KindFits, IsSoundWorld}
+use Rattle.jc_world.specs.World.{WorldState, Parts, home, stripe_for, under, over, part_of, join_of, unjoined, claim_of, out_of}
+use Rattle.jc_world.specs.Events.{fits, Happens, ShowsStep, victim_first, gone_last, new_part}
+use Rattle.jc_world.specs.Sound.{IsHeld, KindFits, IsSoundWorld}
 use Rattle.jc_world.specs.World.{is_join}
 use Rattle.jc_world.proofs.Numbered.{some_of}
 use Rattle.jc_world.proofs.Slotted.{is_part}
@@ -168,6 +164,7 @@ started_loads v next call key u number ticket stripes order parts is home_is p p
       ),
     )
 
+-- a call has joined a load
 pub started_joins : (v next : WorldState) (call : ℕ) (key : Bytes) (u : Under) (number : ℕ) (join : JoinClaim) (stripes : List State) (order : List Event) (joins : List JoinClaim) → under v call ≡ Some u → number ≡ home v u.command.key
     → Phased v number (BeginsAs u (begun.Joined join)) stripes order → joins ≡ v.joins ++ join ∷ []
     → next ≡ record v { stripes = stripes; order = order; joins = joins } → Happens v (event.Start call key) shown.Joins next
@@ -288,6 +285,7 @@ may_withdraw_at v call key part number is home_is sound =
     weaker None h = h
     weaker (Some s) h = h.0
 
+-- the reservation was given back
 pub withdrawn_at : (v next : WorldState) (call : ℕ) (key : Bytes) (part : Part) (number : ℕ) (stripes : List State) (parts : Parts) → part_of v call key ≡ Some part → number ≡ home v key
     → Changed v number (λ from to. Withdraws from (claim_of key part) to) stripes → parts ≡ remove v.parts key
     → next ≡ record v { stripes = stripes; parts = parts } → Happens v (event.Withdraw call key) shown.Withdrawn next
@@ -313,9 +311,11 @@ joiner_at v call key join number is home_is sound =
     let P : ℕ → Type 0 = λ n. IsSomeAnd (slice_get v.stripes n) (λ s. has_joined join.session join.call join.key s.joiners ≡ true) in
     subst P (ap (home v) key_is ∙ sym home_is) h.out
 
+-- a pick-up of this join
 abbrev pub PicksAs : JoinClaim → Picked → State → State → Type 0
 PicksAs join p from to = PicksUp from join p to
 
+-- the answer was there
 pub picked_answer : (v next : WorldState) (call : ℕ) (key : Bytes) (join : JoinClaim) (number : ℕ) (seen : PickedUp) (stripes : List State) → join_of v call key ≡ Some join → number ≡ home v key → seen.stripe ≡ number
     → Changed v number (PicksAs join (picked.Answer seen.reply seen.place seen.shared)) stripes
     → next ≡ record v { stripes = stripes; joins = unjoined call key v.joins; calls = over call v.calls } → Happens v (event.PickUp call key) (shown.PickedUp seen) next
@@ -333,6 +333,7 @@ picked_answer v next call key join number seen stripes is home_is stripe_is p ne
       ),
     )
 
+-- the load was withdrawn
 pub picked_again : (v next : WorldState) (call : ℕ) (key : Bytes) (join : JoinClaim) (number : ℕ) (stripes : List State) → join_of v call key ≡ Some join → number ≡ home v key
     → Changed v number (PicksAs join picked.Again) stripes
     → next ≡ record v { stripes = stripes; joins = unjoined call key v.joins } → Happens v (event.PickUp call key) shown.Again next
@@ -346,6 +347,7 @@ picked_again v next call key join number stripes is home_is p next_is =
       (p.made, next_is ∙ (λ i. record v { stripes = (p.stripes_are ∙ ap (λ n. slice_set v.stripes n p.to) home_is) i; joins = unjoined call key v.joins })),
     )
 
+-- the load isn't over
 pub picked_nothing : (v next : WorldState) (call : ℕ) (key : Bytes) (join back : JoinClaim) (number : ℕ) (stripes : List State) → join_of v call key ≡ Some join → number ≡ home v key
     → Changed v number (PicksAs join (picked.NotYet back)) stripes
     → next ≡ record v { stripes = stripes } → Happens v (event.PickUp call key) shown.Waits next

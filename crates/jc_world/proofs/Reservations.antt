@@ -75,9 +75,9 @@ only_passes false load h none = let t : is_some {T = ℕ} None ≡ true = ap is_
 pub was_free : (s : State) (call : ℕ) (key : Bytes) (op : Op) (first : First) → first_refusal s call key op ≡ None → load_joined s key op ≡ None → first_asked s.config op (entry_at s.cache key) ≡ first → reserves first ≡ true → is_reserved s key ≡ false
 was_free s call key op first none alone asks due =
     not_reserved (is_reserved s key) (λ there.
-        let passing = only_passes (passes s.config op (entry_at s.cache key)) (load_joined s key op) (gone_on s call key op none there) alone in
-        let e = passing_asks s.config op (entry_at s.cache key) passing in
-        let f : reserves Nobody ≡ true = ap reserves (sym e ∙ asks) ∙ due in cc)
+    let passing = only_passes (passes s.config op (entry_at s.cache key)) (load_joined s key op) (gone_on s call key op none there) alone in
+    let e = passing_asks s.config op (entry_at s.cache key) passing in
+    let f : reserves Nobody ≡ true = ap reserves (sym e ∙ asks) ∙ due in cc)
 
 -- what asks the writer is no `Get`, so it joins no load
 pub writer_alone : (s : State) (key : Bytes) (op : Op) (change : Change) → first_asked s.config op (entry_at s.cache key) ≡ Writer change → load_joined s key op ≡ None

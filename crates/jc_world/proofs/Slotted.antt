@@ -1,18 +1,16 @@
 -- A machine's fields, and the state that they mean.
-use Rattle.std.proofs.Common.{◌≡◌, ◌==◌, ◌&&◌, List, Bool, true, false, cond, not, Option, Some, None, IsSomeAnd, sym, subst, ap, ◌∙◌, refl, ℕ, ◌++◌, ◌∷◌, []}
+use Rattle.std.proofs.Common.{◌≡◌, ◌==◌, List, true, false, cond, not, Option, Some, None, IsSomeAnd, sym, subst, ap, ◌∙◌, refl, ℕ, ◌++◌, ◌∷◌, []}
 use Rattle.std.proofs.lemmas.Cmp.{nat_list_cmp_total}
 use Rattle.std.specs.FinMap as map
 use Rattle.std.specs.FinMap.{get, insert, find, get-from_entries}
-use Rattle.jc_model.specs.Cache.{Bytes, Cache, key_cmp}
+use Rattle.jc_model.specs.Cache.{Bytes, key_cmp}
 use Rattle.jc_model.specs.declared.event.Change.{Change}
-use Rattle.jc_model.specs.declared.event.LoadAnswer.{LoadAnswer}
-use Rattle.jc_model.specs.declared.event.WriteAnswer.{WriteAnswer}
-use Rattle.jc_model.specs.Table.{load_given, write_given}
+use Rattle.jc_model.specs.Table.{write_given}
 use Rattle.jc_model.proofs.Lookups.{both, exact}
 use Rattle.jc_stripe.specs.declared.ticket.First.{First}
 use Rattle.jc_stripe.specs.declared.ticket.First.TheVariants.{Nobody, Loader, Writer}
 use Rattle.jc_world.specs.declared.event.Part.{Part}
-use Rattle.jc_world.specs.World.{WorldState, Parts, of_call, part_of, asks_loader, asks_writer, waits_for_load, waits_for_report, is_answered, is_untouched}
+use Rattle.jc_world.specs.World.{WorldState, of_call, part_of, asks_writer, waits_for_report, is_answered, is_untouched}
 use Rattle.jc_world.specs.declared.event.WorldEvent.TheVariants as event
 use Rattle.jc_world.specs.Events.{fits}
 use Rattle.jc_world.specs.Slots.{parts_of, once}

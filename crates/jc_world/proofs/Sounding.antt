@@ -1,13 +1,11 @@
 -- Each event leads from a sound world to a sound one, and so does each run.
-use Rattle.std.proofs.Common.{inl, inr, ◌≡◌, ◌∙◌, ℕ, List, [], ◌∷◌, Bool, true, false, Option, Some, None, Result, Ok, Err, OnOk, OnErr, sym, subst, ap, refl}
-use Rattle.std.specs.FinMap.{get, empty}
+use Rattle.std.proofs.Common.{inl, inr, ◌≡◌, ◌∙◌, ℕ, List, [], ◌∷◌, true, Some, Result, Ok, Err, OnOk, OnErr, sym, subst, ap, refl}
 use Rattle.jc_types.specs.declared.config.Config.{Config}
 use Rattle.jc_types.specs.Limits.{checked}
 use Rattle.jc_model.specs.Cache.{Bytes, entry_at, with_entry}
 use Rattle.jc_model.specs.Table.{load_given}
 use Rattle.jc_model.proofs.Lookups.{both}
 use Rattle.jc_world.specs.declared.event.Under.{Under}
-use Rattle.jc_world.specs.declared.event.Part.{Part}
 use Rattle.jc_world.specs.declared.event.Shown.{Shown}
 use Rattle.jc_world.specs.declared.event.WorldEvent.{WorldEvent}
 use Rattle.jc_world.specs.declared.event.WorldEvent.TheVariants as event

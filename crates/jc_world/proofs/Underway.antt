@@ -21,7 +21,7 @@ use Rattle.jc_world.specs.declared.event.Part.{Part}
 use Rattle.jc_world.specs.World.{WorldState, has_number, is_of, over, of_call}
 use Rattle.jc_world.specs.Events.{is_new}
 use Rattle.jc_world.specs.Sound.{is_up_to, number_up_to, is_before, none_from, is_apart, FitsCall, CallsFit, IsOwned, AllOwned}
-use Rattle.jc_world.proofs.Shares.{all, turned_eq, all_filter, all_imply, found_all, found_test, Each, each_map}
+use Rattle.jc_world.proofs.Shares.{all, turned_eq, all_filter, all_imply, found_all, found_test, Each}
 
 -- 1. A call that is over.
 

@@ -2,7 +2,7 @@
 --     is_changed     a writer changed the store for this key, and its call isn't committed
 --     Coherent       each cached value whose key has no such call is the store's
 --     all_hold       write-through is on, and the premises have held so far
-use Rattle.std.specs.Prelude.{◌≡◌, List, Bool, true, false, ◌&&◌, Ok, Option, None, Some, IfSome}
+use Rattle.std.specs.Prelude.{◌≡◌, Bool, false, ◌&&◌, Option, None, Some, IfSome}
 use Rattle.std.specs.FinMap.{get}
 use Rattle.jc_model.specs.Cache.{Bytes, entry_at}
 use Rattle.jc_world.specs.declared.event.Part.{Part}

@@ -1,12 +1,22 @@
 -- The headline, over every run.
 --     StaysLegal       after every list of events the order is one legal history, and what is cached is what it leaves
 --     StaysCoherent    after every list of events, as long as the premises held, the world is coherent
-use Rattle.std.specs.Prelude.{◌≡◌, List, [], ◌∷◌, true, Ok}
+--     CountsLoads      after every list of events, each answer that a loader gave for a key stands in one step of its own, or is still
+--                      kept for its commit: those that joined a load have made no other
+use Rattle.std.specs.Prelude.{◌≡◌, ◌==◌, ◌+◌, ◌&&◌, List, [], ◌∷◌, zip, count_by, Bool, true, false, Option, None, Some, Ok, if◌then◌else◌}
+use Rattle.std.specs.Cmp.Lexicographic.{pointwise}
+use Rattle.std.specs.FinMap.{get}
 use Rattle.jc_types.specs.declared.config.Config.{Config}
 use Rattle.jc_types.specs.Limits.{checked}
+use Rattle.jc_model.specs.declared.event.Event.{Event}
+use Rattle.jc_model.specs.declared.event.Event.TheVariants as stripe
 use Rattle.jc_model.specs.Cache.{Bytes}
+use Rattle.jc_model.specs.Table.{load_given}
+use Rattle.jc_world.specs.declared.event.Part.{Part}
 use Rattle.jc_world.specs.declared.event.WorldEvent.{WorldEvent}
+use Rattle.jc_world.specs.declared.event.WorldEvent.TheVariants as event
 use Rattle.jc_world.specs.declared.event.Shown.{Shown}
+use Rattle.jc_world.specs.declared.event.Shown.TheVariants as shown
 use Rattle.jc_world.specs.World.{WorldState, start, with_stored}
 use Rattle.jc_world.specs.Events.{Run}
 use Rattle.jc_world.specs.Coherent.{Coherent, all_hold}
@@ -22,3 +32,24 @@ StaysLegal = (config : Config) (stored : List (Bytes × Bytes)) (events : List W
 
 abbrev pub StaysCoherent : Type 0
 StaysCoherent = (config : Config) (stored : List (Bytes × Bytes)) (events : List WorldEvent) (seen : List Shown) (new : WorldState) → checked config ≡ Ok tt → Run (opened config stored) events seen new → all_hold new ≡ true → Coherent new
+
+-- an answer of the loader for a key, which was taken
+abbrev pub is_answer : Bytes → WorldEvent → Shown → Bool
+is_answer key (event.Read call k) (shown.Reads answer) = pointwise ◌==◌ key k
+is_answer key (event.Say call k said) (shown.Says answer) = pointwise ◌==◌ key k
+is_answer key e seen = false
+
+-- a step of a key that has an answer of the loader, which it shares with no step before it
+abbrev pub is_load : Bytes → Event → Bool
+is_load key (stripe.Step session number op k out None reply) = pointwise ◌==◌ key k && load_given out.load
+is_load key (stripe.Step session number op k out (Some place) reply) = false
+is_load key (stripe.Evict k cause) = false
+
+-- an answer of the loader is kept for the commit
+abbrev pub is_loaded : Option Part → Bool
+is_loaded None = false
+is_loaded (Some part) = load_given part.load
+
+abbrev pub CountsLoads : Type 0
+CountsLoads = (config : Config) (stored : List (Bytes × Bytes)) (events : List WorldEvent) (seen : List Shown) (new : WorldState) (key : Bytes) → checked config ≡ Ok tt → Run (opened config stored) events seen new
+    → count_by (λ e. is_answer key e.0 e.1) (zip events seen) ≡ count_by (is_load key) new.order + (if is_loaded (get new.parts key) then 1 else 0)

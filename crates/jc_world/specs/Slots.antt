@@ -4,7 +4,7 @@
 --     IsSlot        the part is that of the ticket
 --     once          no key stands twice
 --     parts_of      the map that the slots make
-use Rattle.std.specs.Prelude.{◌≡◌, ◌==◌, ℕ, List, [], ◌∷◌, Bool, true, ◌&&◌, is_none}
+use Rattle.std.specs.Prelude.{◌≡◌, ◌==◌, List, [], ◌∷◌, Bool, true, ◌&&◌, is_none}
 use Rattle.std.specs.Cmp.Lexicographic.{pointwise}
 use Rattle.std.specs.FinMap.{find, from_entries}
 use Rattle.jc_model.specs.Cache.{Bytes, key_cmp}

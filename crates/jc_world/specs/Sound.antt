@@ -11,17 +11,16 @@
 --     AllCalled      each joiner has its join and its call
 --     KeyTold        as long as the premises hold: what is known of a key's part, the store's value and the cached one
 --     IsSoundWorld   all of it
-use Rattle.std.specs.Prelude.{◌≡◌, ◌==◌, ℕ, List, [], ◌∷◌, length, Ok, Bool, true, false, not, ◌&&◌, ◌||◌, Option, None, Some, is_some, IfSome, IsSomeAnd, slice_get, nat_le, nat_lt}
+use Rattle.std.specs.Prelude.{◌≡◌, ◌==◌, ℕ, List, [], ◌∷◌, length, Ok, Bool, true, false, not, ◌&&◌, ◌||◌, Option, None, Some, IfSome, IsSomeAnd, slice_get, nat_le, nat_lt}
 use Rattle.std.specs.List.{list_all, list_any}
-use Rattle.std.specs.FinMap.{get, contains_key}
+use Rattle.std.specs.FinMap.{get}
 use Rattle.jc_types.specs.Limits.{checked}
-use Rattle.jc_model.specs.declared.event.Change.{Change}
 use Rattle.jc_model.specs.declared.event.Event.{Event}
 use Rattle.jc_model.specs.declared.event.Event.TheVariants as stripe
 use Rattle.jc_model.specs.declared.event.LoadAnswer.TheVariants as load
 use Rattle.jc_model.specs.declared.event.WriteAnswer.TheVariants as write
 use Rattle.jc_model.specs.declared.event.ProcessAnswer.TheVariants as process
-use Rattle.jc_model.specs.Cache.{Bytes, Cache, entry_at}
+use Rattle.jc_model.specs.Cache.{Bytes, entry_at}
 use Rattle.jc_model.specs.Table.{write_ask, write_given}
 use Rattle.jc_model.specs.Lawful.{loads_whole}
 use Rattle.jc_model.specs.Legal.{in_order, of_stripe}
@@ -40,7 +39,7 @@ use Rattle.jc_stripe.specs.State.{State, Reserved, claimed}
 use Rattle.jc_stripe.specs.Reached.{IsReached}
 use Rattle.jc_world.specs.declared.event.Under.{Under}
 use Rattle.jc_world.specs.declared.event.Part.{Part}
-use Rattle.jc_world.specs.World.{WorldState, Parts, home, stripe_for, cached, under, part_of, is_join, is_joined, claim_of}
+use Rattle.jc_world.specs.World.{WorldState, home, stripe_for, cached, under, part_of, is_join, is_joined, claim_of}
 use Rattle.jc_world.specs.Premises.{changed_to, is_done}
 use Rattle.jc_world.specs.Events.{is_single}
 use Rattle.jc_world.specs.Coherent.{all_hold}

@@ -1,5 +1,5 @@
 //! The headline, as laws over every run.
-ghost use Rattle.jc_world.specs.Headline.{StaysLegal, StaysCoherent};
+ghost use Rattle.jc_world.specs.Headline.{StaysLegal, StaysCoherent, CountsLoads};
 
 use jc_stripe::phase_laws::{keeps_reserved, stays_reached};
 
@@ -17,6 +17,15 @@ pub fn stays_legal()
 /// committed, is the store's.
 pub fn stays_coherent()
     ensures { StaysCoherent }
+{
+    stays_reached();
+    keeps_reserved();
+}
+
+/// Of each answer that a loader gave for a key, one step was made with it, or it is still kept for the commit of its reservation:
+/// those that join a load share its step's answer, and no load is asked twice for one step.
+pub fn counts_loads()
+    ensures { CountsLoads }
 {
     stays_reached();
     keeps_reserved();

@@ -1,6 +1,6 @@
 //! Runs of a world. Each ends with `close`, since a world can't be dropped.
 use crate::calls::SESSIONS_MAX;
-use crate::event::{Command, Part, Reported, Shown, Stepped, Under, WorldEvent};
+use crate::event::{Command, Gone, Part, PickedUp, Reported, Shown, Stepped, Under, WorldEvent};
 use crate::world::World;
 use jc_model::event::{Cause, Change, Event, LoadAnswer, Op, Reply, WriteAnswer};
 use jc_model::legal::legal;
@@ -54,12 +54,39 @@ fn commit(call: u64, key: Key) -> WorldEvent {
     WorldEvent::Commit { call, key }
 }
 
+fn withdraw(call: u64, key: Key) -> WorldEvent {
+    WorldEvent::Withdraw { call, key }
+}
+
+fn leave(call: u64) -> WorldEvent {
+    WorldEvent::Leave { call }
+}
+
+fn pick_up(call: u64, key: Key) -> WorldEvent {
+    WorldEvent::PickUp { call, key }
+}
+
 fn stepped(stripe: usize, place: u32, reply: Reply) -> Shown {
     Shown::Stepped(Stepped {
         reply,
         stripe,
         place,
+        victim: None,
         evicted: None,
+    })
+}
+
+fn found(value: Value) -> Reply {
+    Reply::Value(Some(value))
+}
+
+/// The answer of a load that a call had joined, in the one stripe.
+fn picked_up(place: u32, shared: u32, reply: Reply) -> Shown {
+    Shown::PickedUp(PickedUp {
+        reply,
+        stripe: 0,
+        place,
+        shared,
     })
 }
 
@@ -345,6 +372,142 @@ fn refuses_a_key_that_is_reserved(rt: HostRuntime) {
 }
 
 #[test]
+fn shares_a_load_with_those_that_join(rt: HostRuntime) {
+    let a = key(&rt, b"a");
+    let one = value(&rt, 1);
+    let mut world = opened(&rt, rt.alloc(), &shape(2), &[(a, one)]);
+    plays(
+        &rt,
+        rt.alloc(),
+        &mut world,
+        &[
+            (call(1, 1, Op::Get, a), Shown::Begun),
+            (start(1, a), Shown::Loads),
+            (call(2, 2, Op::Get, a), Shown::Begun),
+            (pick_up(2, a), Shown::Unfit),
+            (start(2, a), Shown::Joins),
+            (start(2, a), Shown::Unfit),
+            (leave(2), Shown::Unfit),
+            (call(3, 3, Op::Get, a), Shown::Begun),
+            (start(3, a), Shown::Joins),
+            (pick_up(2, a), Shown::Waits),
+            (read(1, a), Shown::Reads(LoadAnswer::Found(one))),
+            (withdraw(1, a), Shown::Unfit),
+            (commit(1, a), stepped(0, 0, found(one))),
+            (call(4, 2, Op::Get, a), Shown::Unfit),
+            (pick_up(3, a), picked_up(2, 0, found(one))),
+            (pick_up(3, a), Shown::Unfit),
+            (pick_up(2, a), picked_up(1, 0, found(one))),
+            (call(4, 2, Op::Get, a), Shown::Begun),
+            (start(4, a), stepped(0, 3, found(one))),
+        ],
+    );
+    let wanted = Wanted {
+        cache: &[(a, one)],
+        store: &[(a, one)],
+        differing: &[],
+        events: 4,
+    };
+    audits(&rt, rt.alloc(), &world, &wanted);
+    world.close();
+}
+
+#[test]
+fn begins_again_where_a_load_is_withdrawn(rt: HostRuntime) {
+    let a = key(&rt, b"a");
+    let one = value(&rt, 1);
+    let mut world = opened(&rt, rt.alloc(), &shape(2), &[(a, one)]);
+    plays(
+        &rt,
+        rt.alloc(),
+        &mut world,
+        &[
+            (call(1, 1, Op::Get, a), Shown::Begun),
+            (withdraw(1, a), Shown::Unfit),
+            (start(1, a), Shown::Loads),
+            (leave(1), Shown::Unfit),
+            (call(2, 2, Op::Get, a), Shown::Begun),
+            (start(2, a), Shown::Joins),
+            (withdraw(1, a), Shown::Withdrawn),
+            (commit(1, a), Shown::Unfit),
+            (leave(1), Shown::Left),
+            (leave(1), Shown::Unfit),
+            (pick_up(2, a), Shown::Again),
+            (pick_up(2, a), Shown::Unfit),
+            (start(2, a), Shown::Loads),
+            (read(2, a), Shown::Reads(LoadAnswer::Found(one))),
+            (commit(2, a), stepped(0, 0, Reply::Value(Some(one)))),
+        ],
+    );
+    let wanted = Wanted {
+        cache: &[(a, one)],
+        store: &[(a, one)],
+        differing: &[],
+        events: 1,
+    };
+    audits(&rt, rt.alloc(), &world, &wanted);
+    // A join that is out goes with the world, too.
+    let b = key(&rt, b"b");
+    plays(
+        &rt,
+        rt.alloc(),
+        &mut world,
+        &[
+            (call(5, 1, Op::Get, b), Shown::Begun),
+            (start(5, b), Shown::Loads),
+            (call(6, 2, Op::Get, b), Shown::Begun),
+            (start(6, b), Shown::Joins),
+        ],
+    );
+    world.close();
+}
+
+#[test]
+fn lets_go_what_finds_no_place(rt: HostRuntime) {
+    let a = key(&rt, b"a");
+    let b = key(&rt, b"b");
+    let one = value(&rt, 1);
+    let two = value(&rt, 2);
+    let mut world = opened(&rt, rt.alloc(), &shape(1), &[(a, one), (b, two)]);
+    loads_first(&rt, rt.alloc(), &mut world, a, one);
+    // The only entry is reserved, so it stays, and what is loaded goes again, behind the step that shares the load.
+    let gone = Shown::Stepped(Stepped {
+        reply: found(two),
+        stripe: 0,
+        place: 1,
+        victim: None,
+        evicted: Some(Gone {
+            cause: Cause::Full,
+            place: 3,
+        }),
+    });
+    plays(
+        &rt,
+        rt.alloc(),
+        &mut world,
+        &[
+            (call(2, 1, Op::Put(two), a), Shown::Begun),
+            (start(2, a), Shown::Asks(Change::Write(two))),
+            (call(3, 2, Op::Get, b), Shown::Begun),
+            (start(3, b), Shown::Loads),
+            (call(4, 3, Op::Get, b), Shown::Begun),
+            (start(4, b), Shown::Joins),
+            (read(3, b), Shown::Reads(LoadAnswer::Found(two))),
+            (commit(3, b), gone),
+            (pick_up(4, b), picked_up(2, 1, found(two))),
+        ],
+    );
+    let wanted = Wanted {
+        cache: &[(a, one)],
+        store: &[(a, one), (b, two)],
+        differing: &[],
+        events: 4,
+    };
+    audits(&rt, rt.alloc(), &world, &wanted);
+    world.close();
+}
+
+#[test]
 fn keeps_the_entry_of_a_failed_write(rt: HostRuntime) {
     let a = key(&rt, b"a");
     let one = value(&rt, 1);
@@ -491,11 +654,13 @@ fn has_one_order_over_its_stripes(rt: HostRuntime) {
     let ab = key(&rt, b"ab");
     let e = key(&rt, b"e");
     let one = value(&rt, 1);
-    let evicted = Shown::Stepped(Stepped {
+    // The one that was used least goes before the step.
+    let evicts = Shown::Stepped(Stepped {
         reply: Reply::Unit,
         stripe: 1,
-        place: 1,
-        evicted: Some(Cause::Full),
+        place: 2,
+        victim: Some(a),
+        evicted: None,
     });
     let mut world = opened(&rt, rt.alloc(), &config, &[]);
     plays(
@@ -510,17 +675,17 @@ fn has_one_order_over_its_stripes(rt: HostRuntime) {
             (call(3, 1, Op::Put(one), ab), Shown::Begun),
             (start(3, ab), stepped(3, 0, Reply::Unit)),
             (call(4, 2, Op::Put(one), e), Shown::Begun),
-            (start(4, e), evicted),
+            (start(4, e), evicts),
             (call(5, 1, Op::Get, a), Shown::Begun),
-            (start(5, a), stepped(1, 3, Reply::Value(Some(one)))),
+            (start(5, a), stepped(1, 3, Reply::Value(None))),
         ],
     );
     let keys = keys_of(&rt, rt.alloc(), world.order());
-    assert_eq!(rt; keys.as_slice(), [a, b, ab, e, e, a].as_slice());
+    assert_eq!(rt; keys.as_slice(), [a, b, ab, a, e, a].as_slice());
     let wanted = Wanted {
-        cache: &[(a, one), (ab, one), (b, one)],
+        cache: &[(ab, one), (b, one), (e, one)],
         store: &[],
-        differing: &[a, ab, b],
+        differing: &[ab, b, e],
         events: 6,
     };
     audits(&rt, rt.alloc(), &world, &wanted);

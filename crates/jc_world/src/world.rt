@@ -74,7 +74,18 @@ impl World {
         ensures run { IfOk result (λ seen. Run self.old.world events.now seen.items self.new.world × (self.new.taken ≡ length events.now)) }
         ensures prefix { OnErr result ((self.new.taken ≤ length events.now) × ((seen : List Shown) × Run self.old.world (take self.new.taken events.now) seen self.new.world)) }
     {
-        let _types: Option<(Reply, Stepped, Gone, PickedUp, Reported, LoadAnswer, Change, Value)> = None;
+        let _types: Option<
+            (
+                Reply,
+                Stepped,
+                Gone,
+                PickedUp,
+                Reported,
+                LoadAnswer,
+                Change,
+                Value,
+            ),
+        > = None;
         stays_reached();
         keeps_reserved();
         self.played = 0;

@@ -1,5 +1,5 @@
 use Rattle.jc_world.proofs.Kept.{coherent}
-use Rattle.jc_world.proofs.Sounding.{Laws, sound_run, sound_opened}
+use Rattle.jc_world.proofs.Sounding.{sound_run, sound_opened}
 use Rattle.jc_world.specs.Headline.{opened}
 use Rattle.jc_world.proofs.headline.stays_coherent.Goals as goal
 

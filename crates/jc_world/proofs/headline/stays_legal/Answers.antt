@@ -1,5 +1,5 @@
 use Rattle.jc_world.proofs.Callers.{order_is}
-use Rattle.jc_world.proofs.Sounding.{Laws, sound_run, sound_opened}
+use Rattle.jc_world.proofs.Sounding.{sound_run, sound_opened}
 use Rattle.jc_world.specs.Headline.{opened}
 use Rattle.jc_world.proofs.headline.stays_legal.Goals as goal
 

@@ -1,4 +1,4 @@
-use Rattle.std.proofs.Common.{◌≡◌, ◌∙◌, is_some, ap, sym}
+use Rattle.std.proofs.Common.{◌∙◌, is_some, ap}
 use Rattle.jc_world.specs.World.{is_join}
 use Rattle.jc_world.proofs.Joiners.{any_position}
 use Rattle.jc_world.proofs.joining.has_joined.Goals as goal

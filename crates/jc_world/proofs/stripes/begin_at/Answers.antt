@@ -1,4 +1,4 @@
-use Rattle.std.proofs.Common.{◌≡◌, ◌∙◌, ◌++◌, drop, length, refl, ap}
+use Rattle.std.proofs.Common.{◌∙◌, ◌++◌, drop, length, refl, ap}
 use Rattle.std.proofs.lemmas.List.{take_rest}
 use Rattle.jc_stripe.specs.Phases.{MayBegin}
 use Rattle.jc_world.proofs.Numbered.{at_index}

@@ -31,5 +31,5 @@ returns c =
     let claim : Claim = record { key = c.args.key.now; number = c.args.number } in (
       c.requires,
       state-withdrawn c.self.inside claim c.release.new.self c.dissolve-waiting.new.self c.unpromise.new.self _ c.release.ensures.released c.dissolve-waiting.ensures.dissolved c.unpromise.ensures.after
-      ∙ ap (λ (s : State). withdrawn s claim) c.self.view_is,
+          ∙ ap (λ (s : State). withdrawn s claim) c.self.view_is,
     )

@@ -1,10 +1,8 @@
-use Rattle.std.proofs.Common.{◌≡◌, true, Option, Some, None, sym, subst, ap, ◌∙◌, refl}
+use Rattle.std.proofs.Common.{◌≡◌, true, Some, sym, ap, ◌∙◌, refl}
 use Rattle.std.specs.FinMap.{insert}
-use Rattle.jc_model.specs.Cache.{Cache, with_entry}
-use Rattle.jc_model.specs.declared.event.Change.{Change}
-use Rattle.jc_stripe.specs.declared.ticket.First.TheVariants.{Writer}
+use Rattle.jc_model.specs.Cache.{with_entry}
 use Rattle.jc_world.specs.declared.event.Part.{Part}
-use Rattle.jc_world.specs.World.{WorldState, Parts, part_of, waits_for_report}
+use Rattle.jc_world.specs.World.{WorldState, part_of, waits_for_report}
 use Rattle.jc_world.specs.Events.{changed}
 use Rattle.jc_world.specs.Inside.{world_of}
 use Rattle.jc_world.proofs.Slotted.{in_slots, may_set, waits_writer}

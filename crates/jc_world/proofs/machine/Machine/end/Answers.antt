@@ -1,27 +1,18 @@
-use Rattle.std.proofs.Common.{◌≡◌, ◌+◌, ◌++◌, ◌∷◌, [], ◌%◌, sum, length, drop, ℕ, List, Option, Some, None, IsSomeAnd, true, is_some, slice_get, slice_set, sym, subst, ap, ◌∙◌, refl}
-use Rattle.std.specs.FinMap.{find, insert}
-use Rattle.jc_model.specs.Cache.{Bytes, key_cmp, entry_at}
-use Rattle.jc_model.specs.declared.event.Event.{Event}
-use Rattle.jc_stripe.specs.Claim.{Claim, WriteClaim}
+use Rattle.std.proofs.Common.{◌≡◌, ◌++◌, length, drop, List, Some, IsSomeAnd, true, is_some, slice_get, sym, subst, ap, ◌∙◌, refl}
+use Rattle.jc_model.specs.Cache.{entry_at}
 use Rattle.jc_stripe.specs.State.{State, claimed}
-use Rattle.jc_stripe.specs.Phases.{MayBegin, Begins, Commits}
-use Rattle.jc_stripe.specs.declared.begun.Begun.{Begun}
-use Rattle.jc_stripe.specs.declared.begun.Begun.TheVariants as begun
-use Rattle.jc_stripe.specs.declared.ticket.First.TheVariants.{Loader, Writer}
+use Rattle.jc_stripe.specs.Phases.{Commits}
 use Rattle.jc_stripe.specs.declared.ticket.Origin.TheVariants.{Played}
-use Rattle.jc_world.specs.declared.event.Under.{Under}
-use Rattle.jc_world.specs.declared.event.Part.{Part}
-use Rattle.jc_world.specs.declared.event.Shown.{Shown}
 use Rattle.jc_world.specs.declared.event.Shown.TheVariants as shown
 use Rattle.jc_world.specs.declared.event.WorldEvent.TheVariants as event
-use Rattle.jc_world.specs.World.{WorldState, Parts, home, under, over, part_of, claim_of, out_of, is_answered}
-use Rattle.jc_world.specs.Events.{fits, new_part, Happens, victim_first, gone_last}
+use Rattle.jc_world.specs.World.{WorldState, claim_of, out_of, is_answered}
+use Rattle.jc_world.specs.Events.{Happens, victim_first, gone_last}
 use Rattle.jc_world.specs.Sound.{IsSoundWorld, KindFits}
 use Rattle.jc_world.specs.Inside.{world_of}
-use Rattle.jc_world.specs.Slots.{parts_of, once}
+use Rattle.jc_world.specs.Slots.{parts_of}
 use Rattle.jc_world.proofs.Listed.{Entry}
 use Rattle.jc_world.proofs.Slotted.{in_slots, taken_is, answered_part}
-use Rattle.jc_world.proofs.Phased.{may_begin_at, phased_at, Phased, Shows, BeginsAs, CommitsAs, started_done, started_refused, started_loads, started_asks, free_load, free_write, ended, may_end_at}
+use Rattle.jc_world.proofs.Phased.{Phased, Shows, CommitsAs, ended, may_end_at}
 use Rattle.jc_world.proofs.machine.Machine.end.Goals as goal
 
 pub take_slot-slot-requires-clause-there : goal.take_slot-slot-requires-clause-there

@@ -1,17 +1,15 @@
-use Rattle.std.proofs.Common.{◌≡◌, ℕ, List, Option, Some, None, IsSomeAnd, true, find, insert, slice_get, slice_set, sym, subst, ap, ◌∙◌, refl}
-use Rattle.jc_model.specs.declared.event.Reply.{Reply}
+use Rattle.std.proofs.Common.{◌≡◌, ℕ, List, Some, insert, slice_get, slice_set, sym, subst, ap, ◌∙◌, refl}
 use Rattle.jc_stripe.specs.Claim.{JoinClaim}
 use Rattle.jc_stripe.specs.State.{State}
 use Rattle.jc_stripe.specs.Phases.{PicksUp}
 use Rattle.jc_stripe.specs.declared.begun.Picked.{Picked}
 use Rattle.jc_stripe.specs.declared.begun.Picked.TheVariants as picked
-use Rattle.jc_inflight.specs.Joined.{is_joined as has_joined}
 use Rattle.jc_world.specs.declared.event.PickedUp.{PickedUp}
 use Rattle.jc_world.specs.declared.event.WorldEvent.TheVariants as event
 use Rattle.jc_world.specs.declared.event.Shown.TheVariants as shown
-use Rattle.jc_world.specs.World.{WorldState, is_join, join_of, is_joined}
-use Rattle.jc_world.specs.Events.{fits, Happens}
-use Rattle.jc_world.specs.Sound.{IsSoundWorld, joined_once}
+use Rattle.jc_world.specs.World.{WorldState}
+use Rattle.jc_world.specs.Events.{Happens}
+use Rattle.jc_world.specs.Sound.{IsSoundWorld}
 use Rattle.jc_world.specs.Inside.{world_of}
 use Rattle.jc_world.proofs.Phased.{Changed, PicksAs, joiner_at, picked_answer, picked_again, picked_nothing}
 use Rattle.jc_world.proofs.machine.Machine.pick_up.Goals as goal

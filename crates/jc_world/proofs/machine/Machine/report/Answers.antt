@@ -1,8 +1,7 @@
-use Rattle.std.proofs.Common.{◌≡◌, ◌&&◌, true, Option, Some, None, sym, subst, ap, ◌∙◌, refl}
+use Rattle.std.proofs.Common.{◌≡◌, ◌&&◌, Some, sym, ap, ◌∙◌, refl}
 use Rattle.std.specs.FinMap.{insert}
-use Rattle.jc_stripe.specs.declared.ticket.First.TheVariants.{Writer}
 use Rattle.jc_world.specs.declared.event.Part.{Part}
-use Rattle.jc_world.specs.World.{WorldState, Parts, part_of, waits_for_report}
+use Rattle.jc_world.specs.World.{WorldState, part_of, waits_for_report}
 use Rattle.jc_world.specs.Premises.{report_of, is_true_report}
 use Rattle.jc_world.specs.Events.{reported}
 use Rattle.jc_world.specs.Inside.{world_of}

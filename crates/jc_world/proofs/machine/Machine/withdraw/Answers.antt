@@ -1,13 +1,10 @@
-use Rattle.std.proofs.Common.{◌≡◌, ◌&&◌, List, Bool, Option, Some, None, IsSomeAnd, true, is_some, slice_get, slice_set, sym, subst, ap, ◌∙◌, refl, ℕ}
-use Rattle.std.specs.FinMap.{find}
-use Rattle.jc_model.specs.Cache.{Bytes, key_cmp}
-use Rattle.jc_stripe.specs.State.{State, claimed}
+use Rattle.std.proofs.Common.{◌≡◌, IsSomeAnd, is_some, slice_get, sym, subst, ap, refl}
+use Rattle.jc_stripe.specs.State.{claimed}
 use Rattle.jc_stripe.specs.Phases.{Withdraws}
-use Rattle.jc_world.specs.declared.event.Part.{Part}
 use Rattle.jc_world.specs.declared.event.WorldEvent.TheVariants as event
 use Rattle.jc_world.specs.declared.event.Shown.TheVariants as shown
-use Rattle.jc_world.specs.World.{WorldState, part_of, is_untouched, claim_of}
-use Rattle.jc_world.specs.Events.{fits, Happens}
+use Rattle.jc_world.specs.World.{WorldState, claim_of}
+use Rattle.jc_world.specs.Events.{Happens}
 use Rattle.jc_world.specs.Sound.{IsSoundWorld}
 use Rattle.jc_world.specs.Inside.{world_of}
 use Rattle.jc_world.specs.Slots.{parts_of}

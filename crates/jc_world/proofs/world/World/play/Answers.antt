@@ -2,7 +2,7 @@ use Rattle.std.proofs.Common.{◌+◌, take, List, sym, subst, ap, ◌∙◌, ar
 use Rattle.jc_world.specs.declared.event.Shown.{Shown}
 use Rattle.jc_world.specs.Events.{Run}
 use Rattle.jc_world.proofs.Runs.{run-more}
-use Rattle.jc_world.proofs.Sounding.{Laws, sound_step}
+use Rattle.jc_world.proofs.Sounding.{sound_step}
 use Rattle.jc_world.proofs.world.World.play.Goals as goal
 
 pub loop-event-preserved : goal.loop-event-preserved

@@ -1,4 +1,4 @@
-use Rattle.std.proofs.Common.{◌≡◌, true, sym, subst, ap, ◌∙◌}
+use Rattle.std.proofs.Common.{ap, ◌∙◌}
 use Rattle.jc_world.specs.Played.{Played}
 use Rattle.jc_world.proofs.Sounding.{sound_set}
 use Rattle.jc_world.proofs.world.World.set.Goals as goal

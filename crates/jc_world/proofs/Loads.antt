@@ -1,0 +1,280 @@
+-- Each answer of a loader stands in one step, or is kept for its commit.
+--     total          how many steps of a key have an answer of their own, and one more where one is kept
+--     total_step     each event raises that by one where it is an answer for the key, and else leaves it
+--     total_run      so a run raises it by its answers
+use Rattle.std.proofs.Common.{inl, inr, ◌≡◌, ◌==◌, ◌&&◌, ◌+◌, ℕ, List, [], ◌∷◌, ◌++◌, length, map, drop, zip, count_by, Bool, true, false, cond, not, Option, None, Some, refl, sym, ap, ◌∙◌, arith}
+use Rattle.std.specs.Ordering.{eq_by_cmp}
+use Rattle.std.specs.Cmp.Lexicographic.{pointwise, texts_ties}
+use Rattle.std.specs.FinMap.{get, insert, remove, get-empty, get-insert, get-remove}
+use Rattle.std.proofs.lemmas.Cmp.{nat_list_cmp_total}
+use Rattle.std.proofs.lemmas.List.Sums.{sum_by-cons, sum_by-append}
+use Rattle.std.proofs.Math.Seq.{drop-append_seam}
+use Rattle.jc_types.specs.declared.config.Config.{Config}
+use Rattle.jc_model.specs.declared.event.Op.{Op}
+use Rattle.jc_model.specs.declared.event.Out.{Out}
+use Rattle.jc_model.specs.declared.event.Event.{Event}
+use Rattle.jc_model.specs.declared.event.Cause.{Cause}
+use Rattle.jc_model.specs.declared.event.LoadAnswer.{LoadAnswer}
+use Rattle.jc_model.specs.declared.event.Reply.{Reply}
+use Rattle.jc_model.specs.Cache.{Bytes, key_cmp, entry_at}
+use Rattle.jc_model.specs.Table.{load_given, write_given}
+use Rattle.jc_model.specs.Group.{Group, nothing_said, victim_events, step_event, step_place, shared_event, evicted_events, events_of}
+use Rattle.jc_model.proofs.Lookups.{both}
+use Rattle.jc_inflight.specs.Joined.{callers_of}
+use Rattle.jc_stripe.specs.declared.ticket.First.TheVariants.{Loader, Writer}
+use Rattle.jc_stripe.specs.Claim.{JoinClaim}
+use Rattle.jc_stripe.specs.State.{State, Reserved, claimed}
+use Rattle.jc_stripe.specs.Phases.{Steps, group_made, settled}
+use Rattle.jc_world.specs.declared.event.Under.{Under}
+use Rattle.jc_world.specs.declared.event.Part.{Part}
+use Rattle.jc_world.specs.declared.event.Shown.{Shown}
+use Rattle.jc_world.specs.declared.event.Shown.TheVariants as shown
+use Rattle.jc_world.specs.declared.event.WorldEvent.{WorldEvent}
+use Rattle.jc_world.specs.declared.event.WorldEvent.TheVariants as event
+use Rattle.jc_world.specs.World.{WorldState, Parts, stripe_for, part_of, waits_for_load, asks_loader, is_untouched, claim_of, out_of}
+use Rattle.jc_world.specs.Premises.{read_answer, report_of}
+use Rattle.jc_world.specs.Events.{fits, new_part, Starts, Ends, Picks, Happens, Step, Run}
+use Rattle.jc_world.specs.Sound.{IsSoundWorld}
+use Rattle.jc_world.specs.Headline.{opened, is_answer, is_load, is_loaded}
+use Rattle.jc_world.proofs.Shares.{some_of, added}
+use Rattle.jc_world.proofs.Reservations.{was_free, writer_alone}
+use Rattle.jc_world.proofs.Entries.{split}
+use Rattle.jc_world.proofs.Kept.{is_there, unheld}
+use Rattle.jc_world.proofs.Sounding.{Laws, sound_step}
+
+-- 1. What is counted.
+
+-- one, or none
+abbrev one_if : Bool → ℕ
+one_if b = cond b 1 0
+
+abbrev pub total : WorldState → Bytes → ℕ
+total w key = count_by (is_load key) w.order + one_if (is_loaded (get w.parts key))
+
+-- the steps of two lists
+none_append : (key : Bytes) (xs ys : List Event) → count_by (is_load key) (xs ++ ys) ≡ count_by (is_load key) xs + count_by (is_load key) ys
+none_append key xs ys = sum_by-append (λ e. cond (is_load key e) 1 0) xs ys
+
+-- an eviction loads nothing
+none_victim : (key : Bytes) (victim : Option Bytes) → count_by (is_load key) (victim_events victim) ≡ 0
+none_victim key None = refl
+none_victim key (Some k) = refl
+
+-- nor one behind the step
+none_evicted : (key k : Bytes) (cause : Option Cause) → count_by (is_load key) (evicted_events k cause) ≡ 0
+none_evicted key k None = refl
+none_evicted key k (Some cause) = refl
+
+-- nor does a step that shares a load
+none_shared : (key : Bytes) (place : ℕ) (k : Bytes) (answer : LoadAnswer) (callers : List (ℕ × ℕ)) → count_by (is_load key) (map (shared_event place k answer) callers) ≡ 0
+none_shared key place k answer [] = refl
+none_shared key place k answer (c ∷ cs) =
+    sum_by-cons (λ e. cond (is_load key e) 1 0) (shared_event place k answer c) (map (shared_event place k answer) cs) ∙ ap (λ n. 0 + n) (none_shared key place k answer cs)
+
+-- a group loads once, if its step has an answer
+group_loads : (key : Bytes) (place : ℕ) (group : Group) → count_by (is_load key) (events_of place group) ≡ one_if (pointwise ◌==◌ key group.made.key && load_given group.made.out.load)
+group_loads key place group =
+    let front = victim_events group.victim in
+    let shared = map (shared_event (step_place place group) group.made.key group.made.out.load) group.joined in
+    let own = evicted_events group.made.key group.evicted in
+    let a = none_append key (front ++ (step_event group ∷ shared)) own in
+    let b = none_append key front (step_event group ∷ shared) in
+    let c : count_by (is_load key) (step_event group ∷ shared) ≡ one_if (is_load key (step_event group)) + count_by (is_load key) shared = sum_by-cons (λ e. cond (is_load key e) 1 0) (step_event group) shared in
+    let v = none_victim key group.victim in
+    let s : count_by (is_load key) shared ≡ 0 = none_shared key (step_place place group) group.made.key group.made.out.load group.joined in
+    let o = none_evicted key group.made.key group.evicted in
+    omega arith
+
+-- so does a step of a stripe
+step_loads : (old new : State) (session call : ℕ) (key : Bytes) (op : Op) (out : Out) (callers : List (ℕ × ℕ)) (reply : Reply) (place : ℕ) (q : Bytes) → Steps old session call key op out callers reply place new
+    → count_by (is_load q) (added old new) ≡ one_if (pointwise ◌==◌ q key && load_given out.load)
+step_loads old new session call key op out callers reply place q steps =
+    let group = group_made old session call key op out callers steps.short in
+    let events = events_of (length old.history) group in
+    let history : new.history ≡ old.history ++ events = ap (λ (s : State). s.history) steps.goes_on in
+    ap (λ h. count_by (is_load q) (drop (length old.history) h)) history
+    ∙ ap (count_by (is_load q)) (drop-append_seam old.history events)
+    ∙ group_loads q (length old.history) group
+
+-- 2. What is kept.
+
+-- an event that is no answer, and changes neither the order nor what is kept
+unanswered : (b : Bool) (n m : ℕ) → b ≡ false → n ≡ m → n ≡ one_if b + m
+unanswered b n m none same = let e : one_if b ≡ 0 = ap one_if none in omega arith
+
+-- two tests, of which the second fails
+and_false : (b : Bool) → (b && false) ≡ false
+and_false true = refl
+and_false false = refl
+
+-- what is kept of a key whose part is put in place
+loaded_inserted : (parts : Parts) (key q : Bytes) (part : Part) → (q ≡ key → load_given part.load ≡ is_loaded (get parts q)) → is_loaded (get (insert parts key part) q) ≡ is_loaded (get parts q)
+loaded_inserted parts key q part same =
+    ap is_loaded (get-insert nat_list_cmp_total parts key part q)
+    ∙ split q key (λ b. is_loaded (cond b (Some part) (get parts q)) ≡ is_loaded (get parts q)) same (λ apart. refl)
+
+-- and where one goes for which nothing is kept
+loaded_removed : (parts : Parts) (key q : Bytes) → (q ≡ key → is_loaded (get parts q) ≡ false) → is_loaded (get (remove parts key) q) ≡ is_loaded (get parts q)
+loaded_removed parts key q none =
+    ap is_loaded (get-remove nat_list_cmp_total parts key q)
+    ∙ split q key (λ b. is_loaded (cond b None (get parts q)) ≡ is_loaded (get parts q)) (λ same. sym (none same)) (λ apart. refl)
+
+-- the part of a key has this answer, or none
+loaded_at : (w : WorldState) (key q : Bytes) (part : Part) → get w.parts key ≡ Some part → q ≡ key → is_loaded (get w.parts q) ≡ load_given part.load
+loaded_at w key q part there same = ap is_loaded (ap (get w.parts) same ∙ there)
+
+-- a test whose converse holds
+not_true : (b : Bool) → not b ≡ true → b ≡ false
+not_true true h = cc
+not_true false h = refl
+
+-- a loader that is waited for has given no answer
+no_answer : (o : Option Part) (part : Part) → o ≡ Some part → waits_for_load o ≡ true → load_given part.load ≡ false
+no_answer o part is waits = not_true (load_given part.load) (both (asks_loader part.first) (not (load_given part.load)) (sym (ap waits_for_load is) ∙ waits)).1
+
+-- what is untouched has none
+no_touch : (o : Option Part) (part : Part) → o ≡ Some part → is_untouched o ≡ true → load_given part.load ≡ false
+no_touch o part is untouched =
+    let parts = both (not (load_given part.load) && not part.is_changed) (not (write_given part.report)) (sym (ap is_untouched is) ∙ untouched) in
+    not_true (load_given part.load) (both (not (load_given part.load)) (not part.is_changed) parts.0).0
+
+-- a loader that reads the store has answered
+read_given : (stored : Option Bytes) → load_given (read_answer stored) ≡ true
+read_given None = refl
+read_given (Some value) = refl
+
+-- 3. Each event.
+
+-- an answer is kept
+total_answered : (w : WorldState) (call : ℕ) (key q : Bytes) (part : Part) (answer : LoadAnswer) → part_of w call key ≡ Some part → waits_for_load (part_of w call key) ≡ true → load_given answer ≡ true
+    → count_by (is_load q) w.order + one_if (is_loaded (get (insert w.parts key (record part { load = answer })) q)) ≡ one_if (pointwise ◌==◌ q key) + total w q
+total_answered w call key q part answer is waits given =
+    let there = is_there (get w.parts key) call part is in
+    let n = count_by (is_load q) w.order in
+    let P : Bool → Type 0 = λ b. n + one_if (is_loaded (cond b (Some (record part { load = answer })) (get w.parts q))) ≡ one_if b + (n + one_if (is_loaded (get w.parts q))) in
+    ap (λ o. n + one_if (is_loaded o)) (get-insert nat_list_cmp_total w.parts key (record part { load = answer }) q)
+    ∙ split q key P
+    (λ same. let was : one_if (is_loaded (get w.parts q)) ≡ 0 = ap one_if (loaded_at w key q part there same ∙ no_answer (part_of w call key) part is waits) in let now : one_if (load_given answer) ≡ 1 = ap one_if given in omega arith)
+    (λ apart. omega arith)
+    ∙ ap (λ b. one_if b + total w q) (sym (texts_ties q key))
+
+-- the first phase
+total_started : (w new : WorldState) (u : Under) (from to : State) (seen : Shown) (q : Bytes) → stripe_for w u.command.key ≡ Some from → Starts w u from to seen new → IsSoundWorld w → total new q ≡ total w q
+total_started w new u from to (shown.Refused refusal) q there h old = ap (λ (x : WorldState). total x q) h.1
+total_started w new u from to (shown.Stepped seen) q there h old =
+    let key = u.command.key in
+    let steps = h.0.2 in
+    let added_is = step_loads from to u.session u.number key u.command.op nothing_said [] seen.reply seen.place q steps in
+    let none : one_if (pointwise ◌==◌ q key && false) ≡ 0 = ap one_if (and_false (pointwise ◌==◌ q key)) in
+    let more = none_append q w.order (added from to) in
+    let kept = one_if (is_loaded (get w.parts q)) in
+    let grows : count_by (is_load q) (w.order ++ added from to) + kept ≡ count_by (is_load q) w.order + kept = ap (λ n. n + kept) (let e : count_by (is_load q) (w.order ++ added from to) ≡ count_by (is_load q) w.order = omega arith in e) in
+    ap (λ (x : WorldState). total x q) h.2 ∙ grows
+total_started w new u from to shown.Loads q there h old =
+    let key = u.command.key in
+    let part = new_part u h.0.number Loader in
+    let free = was_free from u.number key u.command.op Loader h.1.0 h.1.1 h.1.2 refl in
+    let none = unheld w key from there free old in
+    ap (λ (x : WorldState). total x q) h.2
+    ∙ ap (λ b. count_by (is_load q) w.order + one_if b) (loaded_inserted w.parts key q part (λ same. sym (ap is_loaded (ap (get w.parts) same ∙ none))))
+total_started w new u from to (shown.Asks change) q there h old =
+    let key = u.command.key in
+    let part = new_part u h.0.claim.number (Writer change) in
+    let free = was_free from u.number key u.command.op (Writer change) h.1.0 (writer_alone from key u.command.op change h.1.1) h.1.1 refl in
+    let none = unheld w key from there free old in
+    ap (λ (x : WorldState). total x q) h.2
+    ∙ ap (λ b. count_by (is_load q) w.order + one_if b) (loaded_inserted w.parts key q part (λ same. sym (ap is_loaded (ap (get w.parts) same ∙ none))))
+total_started w new u from to shown.Joins q there h old = ap (λ (x : WorldState). total x q) h.2
+total_started w new u from to seen q there h old = absurd h
+
+-- the last phase: what was kept stands in the step
+total_ended : (w new : WorldState) (call : ℕ) (key : Bytes) (part : Part) (from to : State) (seen : Shown) (q : Bytes) → part_of w call key ≡ Some part → Ends w call key part from to seen new → total new q ≡ total w q
+total_ended w new call key part from to (shown.Stepped seen) q is h =
+    let S : Reserved → Type 0 = λ r. Steps (settled from (claim_of key part) seen.place) r.session r.call key r.op (out_of part) (callers_of part.number from.joiners) seen.reply seen.place to in
+    let c = some_of (claimed from (claim_of key part)) S h.0 in
+    let r = c.0 in
+    let there = is_there (get w.parts key) call part is in
+    let mid = settled from (claim_of key part) seen.place in
+    let added_is : count_by (is_load q) (added from to) ≡ one_if (pointwise ◌==◌ q key && load_given part.load) = step_loads mid to r.session r.call key r.op (out_of part) (callers_of part.number from.joiners) seen.reply seen.place q c.2 in
+    let tied = ap (λ b. one_if (b && load_given part.load)) (texts_ties q key) in
+    let more = none_append q w.order (added from to) in
+    let n = count_by (is_load q) w.order in
+    let grows : count_by (is_load q) (w.order ++ added from to) ≡ n + one_if (eq_by_cmp key_cmp q key && load_given part.load) = omega arith in
+    let P : Bool → Type 0 = λ b. (n + one_if (b && load_given part.load)) + one_if (is_loaded (cond b None (get w.parts q))) ≡ n + one_if (is_loaded (get w.parts q)) in
+    ap (λ (x : WorldState). total x q) h.2
+    ∙ ap (λ m. m + one_if (is_loaded (get (remove w.parts key) q))) grows
+    ∙ ap (λ o. (n + one_if (eq_by_cmp key_cmp q key && load_given part.load)) + one_if (is_loaded o)) (get-remove nat_list_cmp_total w.parts key q)
+    ∙ split q key P
+    (λ same. let was : one_if (is_loaded (get w.parts q)) ≡ one_if (load_given part.load) = ap one_if (loaded_at w key q part there same) in omega arith)
+    (λ apart. omega arith)
+total_ended w new call key part from to seen q is h = absurd h
+
+-- an answer is picked up
+total_picks : (w new : WorldState) (call : ℕ) (key : Bytes) (join : JoinClaim) (from to : State) (seen : Shown) (q : Bytes) → Picks w call key join from to seen new → total new q ≡ total w q
+total_picks w new call key join from to (shown.PickedUp seen) q h = ap (λ (x : WorldState). total x q) h.2
+total_picks w new call key join from to shown.Again q h = ap (λ (x : WorldState). total x q) h.1
+total_picks w new call key join from to shown.Waits q h = ap (λ (x : WorldState). total x q) h.1
+total_picks w new call key join from to seen q h = absurd h
+
+-- by the kind of the event
+total_happens : (w new : WorldState) (e : WorldEvent) (seen : Shown) (q : Bytes) → fits w e ≡ true → Happens w e seen new → IsSoundWorld w → total new q ≡ one_if (is_answer q e seen) + total w q
+total_happens w new (event.Call call session command) seen q fit h old = unanswered false (total new q) (total w q) refl (ap (λ (x : WorldState). total x q) h.1)
+total_happens w new (event.Start call key) seen q fit h old = unanswered false (total new q) (total w q) refl (total_started w new h.0 h.2 h.4 seen q h.3 h.5 old)
+total_happens w new (event.Read call key) seen q fit h old =
+    ap (λ (x : WorldState). total x q) h.3 ∙ total_answered w call key q h.0 (read_answer (entry_at w.store key)) h.1 fit (read_given (entry_at w.store key))
+    ∙ ap (λ s. one_if (is_answer q (event.Read call key) s) + total w q) (sym h.2)
+total_happens w new (event.Say call key answer) seen q fit h old =
+    let ok = both (load_given answer) (waits_for_load (part_of w call key)) fit in
+    ap (λ (x : WorldState). total x q) h.3 ∙ total_answered w call key q h.0 answer h.1 ok.1 ok.0
+    ∙ ap (λ s. one_if (is_answer q (event.Say call key answer) s) + total w q) (sym h.2)
+total_happens w new (event.Change call key) seen q fit h old =
+    let there = is_there (get w.parts key) call h.0 h.2 in
+    unanswered false (total new q) (total w q) refl
+    (ap (λ (x : WorldState). total x q) h.5 ∙ ap (λ b. count_by (is_load q) w.order + one_if b) (loaded_inserted w.parts key q (record h.0 { is_changed = true }) (λ same. sym (loaded_at w key q h.0 there same))))
+total_happens w new (event.Report call fault) seen q fit h old =
+    let key = h.0.command.key in
+    let there = is_there (get w.parts key) call h.1 h.4 in
+    unanswered false (total new q) (total w q) refl
+    (ap (λ (x : WorldState). total x q) h.7 ∙ ap (λ b. count_by (is_load q) w.order + one_if b) (loaded_inserted w.parts key q (record h.1 { report = report_of fault }) (λ same. sym (loaded_at w key q h.1 there same))))
+total_happens w new (event.Commit call key) seen q fit h old = unanswered false (total new q) (total w q) refl (total_ended w new call key h.0 h.2 h.4 seen q h.1 h.5)
+total_happens w new (event.Withdraw call key) seen q fit h old =
+    let there = is_there (get w.parts key) call h.0 h.1 in
+    unanswered false (total new q) (total w q) refl
+    (ap (λ (x : WorldState). total x q) h.7
+    ∙ ap (λ b. count_by (is_load q) w.order + one_if b) (loaded_removed w.parts key q (λ same. loaded_at w key q h.0 there same ∙ no_touch (part_of w call key) h.0 h.1 fit)))
+total_happens w new (event.Leave call) seen q fit h old = unanswered false (total new q) (total w q) refl (ap (λ (x : WorldState). total x q) h.1)
+total_happens w new (event.PickUp call key) seen q fit h old = unanswered false (total new q) (total w q) refl (total_picks w new call key h.0 h.2 h.4 seen q h.5)
+total_happens w new (event.Foreign key value) seen q fit h old = unanswered false (total new q) (total w q) refl (ap (λ (x : WorldState). total x q) h.1)
+
+-- what doesn't fit is no answer
+unfit_answer : (q : Bytes) (e : WorldEvent) → is_answer q e shown.Unfit ≡ false
+unfit_answer q (event.Read call key) = refl
+unfit_answer q (event.Say call key answer) = refl
+unfit_answer q e = refl
+
+-- any event, also one that doesn't fit
+total_step : (w new : WorldState) (e : WorldEvent) (seen : Shown) (q : Bytes) → Step w e seen new → IsSoundWorld w → total new q ≡ one_if (is_answer q e seen) + total w q
+total_step w new e seen q (inl (fit, happens)) old = total_happens w new e seen q fit happens old
+total_step w new e seen q (inr (unfit, shows, is)) old = unanswered (is_answer q e seen) (total new q) (total w q) (ap (is_answer q e) shows ∙ unfit_answer q e) (ap (λ (x : WorldState). total x q) is)
+
+-- 4. A run.
+
+-- the answers of a run
+abbrev answers : Bytes → List WorldEvent → List Shown → ℕ
+answers q es ss = count_by (λ (e : WorldEvent × Shown). is_answer q e.0 e.1) (zip es ss)
+
+-- and so a run
+pub total_run : Laws → (w new : WorldState) (es : List WorldEvent) (ss : List Shown) (q : Bytes) → Run w es ss new → IsSoundWorld w → total new q ≡ answers q es ss + total w q
+total_run laws w new [] [] q run old = let e : total new q ≡ total w q = ap (λ (x : WorldState). total x q) run in omega arith
+total_run laws w new [] (s ∷ ss) q run old = absurd run
+total_run laws w new (e ∷ es) [] q run old = absurd run
+total_run laws w new (e ∷ es) (s ∷ ss) q (mid, step, rest) old =
+    let one = total_step w mid e s q step old in
+    let more = total_run laws mid new es ss q rest (sound_step laws w e s mid step old) in
+    let split_off : answers q (e ∷ es) (s ∷ ss) ≡ one_if (is_answer q e s) + answers q es ss = sum_by-cons (λ (x : WorldEvent × Shown). cond (is_answer q x.0 x.1) 1 0) (e, s) (zip es ss) in
+    omega arith
+
+-- nothing was counted before anything has happened
+pub total_opened : (config : Config) (stored : List (Bytes × Bytes)) (q : Bytes) → total (opened config stored) q ≡ 0
+total_opened config [] q = ap (λ o. 0 + one_if (is_loaded o)) (get-empty key_cmp q)
+total_opened config (e ∷ es) q = total_opened config es q
