@@ -21,3 +21,4 @@ pub mod Picking
 pub mod Fitting
 pub mod Finishing
 pub mod Uniform
+pub mod Testing

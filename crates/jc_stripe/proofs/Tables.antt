@@ -180,7 +180,7 @@ joined_tells state key Get load h =
 joined_tells state key op load h = cc
 
 -- what is found at a key is claimed by its number
-claimed_there : (claim : Claim) (rs : List Reserved) (r : Reserved) → find (is_key claim.key) rs ≡ Some r → (r.number == claim.number) ≡ true → find (is_claim claim) rs ≡ Some r
+pub claimed_there : (claim : Claim) (rs : List Reserved) (r : Reserved) → find (is_key claim.key) rs ≡ Some r → (r.number == claim.number) ≡ true → find (is_claim claim) rs ≡ Some r
 claimed_there claim [] r h n = cc
 claimed_there claim (x ∷ xs) r h n =
     elim (is_key claim.key x) as (λ b. cond b (Some x) (find (is_key claim.key) xs) ≡ Some r → cond (b && (x.number == claim.number)) (Some x) (find (is_claim claim) xs) ≡ Some r) [
@@ -188,7 +188,7 @@ claimed_there claim (x ∷ xs) r h n =
       | false ↦ λ h. claimed_there claim xs r h n
     ] h
 
-same_number : (m n : ℕ) → m ≡ n → (m == n) ≡ true
+pub same_number : (m n : ℕ) → m ≡ n → (m == n) ≡ true
 same_number m n e = grind (arith, nat_tests)
 
 pub reached_joined : (state : State) (session call : ℕ) (key : Bytes) (op : Op) (load : ℕ) → IsReached state → MayBegin state session call key → load_joined state key op ≡ Some load → length state.joiners < 64

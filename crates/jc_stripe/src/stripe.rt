@@ -1,5 +1,5 @@
 //! A stripe and its phases.
-ghost use Rattle.std.specs.Prelude.{◌≡◌, ◌≤◌, ◌<◌, ◌+◌, ◌^◌, ◌-◌, [], true, IsTrue, IfOk, IsSome, IsSomeAnd, Ok, None, Some, Option, is_some, length, find, nat_le, slice_get};
+ghost use Rattle.std.specs.Prelude.{ℕ, ◌≡◌, ◌≤◌, ◌<◌, ◌+◌, ◌^◌, ◌-◌, [], true, IsTrue, IfOk, IsSome, IsSomeAnd, Ok, None, Some, Option, is_some, length, find, nat_le, slice_get};
 ghost use Rattle.std.specs.FinMap as map;
 ghost use Rattle.jc_types.specs.Limits.{checked};
 ghost use Rattle.jc_model.specs.declared.event.Op.TheVariants.{Get};
@@ -16,6 +16,7 @@ ghost use Rattle.jc_stripe.specs.OrderOfUse.{by_use};
 ghost use Rattle.jc_stripe.specs.Refusals.{has_phases, has_room, goes_on, first_refusal, first_asked, load_at, load_joined, needs_reservation};
 ghost use Rattle.jc_stripe.specs.Putting.{reply_in, SaidFor, ToldStep};
 ghost use Rattle.jc_stripe.specs.Phases.{MayBegin, Steps, Begins, Commits, Withdraws, PicksUp, joined_by};
+ghost use Rattle.jc_stripe.specs.OnePhase.{IsPhaseOf};
 ghost use Rattle.jc_stripe.specs.declared.ticket.First.TheVariants.{Nobody, Loader, Writer};
 
 use crate::begun::{Begun, Picked};
@@ -360,6 +361,16 @@ impl Stripe {
     pub fn begin(&mut self, who: Caller, key: &Key, op: &Op) -> Begun
         requires op { IsTrue (has_phases op.now) }
         requires begins { MayBegin self.old who.session who.number key.now }
+        ensures begins { Begins self.old who.session who.number key.now op.now result self.new }
+        ensures phase { IsPhaseOf who.session self.old self.new }
+    {
+        self.first_phase(who, key, op)
+    }
+
+    /// What a first phase gives, and what it leaves.
+    fn first_phase(&mut self, who: Caller, key: &Key, op: &Op) -> Begun
+        requires op { IsTrue (has_phases op.now) }
+        requires begins { MayBegin self.old who.session who.number key.now }
         ensures { Begins self.old who.session who.number key.now op.now result self.new }
     {
         if let Some(refusal) = self.refusal(who, key, op) {
@@ -394,7 +405,8 @@ impl Stripe {
         requires claim { done.claim ≡ ticket }
         requires origin { done.origin ≡ self.old.origin }
         requires given { load_given done.answer ≡ true }
-        ensures { Commits self.old ticket (load_only done.answer) result.0 result.1 self.new }
+        ensures commits { Commits self.old ticket (load_only done.answer) result.0 result.1 self.new }
+        ensures phase { (session : ℕ) → IsSomeAnd (claimed self.old ticket) (λ r. r.session ≡ session) → IsPhaseOf session self.old self.new }
     {
         let ask = ticket.ask();
         ticket.spend();
@@ -409,7 +421,8 @@ impl Stripe {
         requires change { done.change ≡ ticket.change }
         requires origin { done.origin ≡ self.old.origin }
         requires given { write_given done.answer ≡ true }
-        ensures { Commits self.old ticket.claim (write_only done.answer) result.0 result.1 self.new }
+        ensures commits { Commits self.old ticket.claim (write_only done.answer) result.0 result.1 self.new }
+        ensures phase { (session : ℕ) → IsSomeAnd (claimed self.old ticket.claim) (λ r. r.session ≡ session) → IsPhaseOf session self.old self.new }
     {
         let ask = ticket.ask();
         ticket.spend();
@@ -420,7 +433,8 @@ impl Stripe {
     /// and waits is to begin again.
     pub fn withdraw_load(&mut self, ticket: LoadTicket)
         requires { IsOut self.old ticket Loader }
-        ensures { Withdraws self.old ticket self.new }
+        ensures withdraws { Withdraws self.old ticket self.new }
+        ensures phase { (session : ℕ) → IsSomeAnd (claimed self.old ticket) (λ r. r.session ≡ session) → IsPhaseOf session self.old self.new }
     {
         let ask = ticket.ask();
         ticket.spend();
@@ -430,7 +444,8 @@ impl Stripe {
     /// Gives a writer's ticket back that was never used: nothing is put down, and the entry stays.
     pub fn withdraw_write(&mut self, ticket: WriteTicket)
         requires { IsOut self.old ticket.claim (Writer ticket.change) }
-        ensures { Withdraws self.old ticket.claim self.new }
+        ensures withdraws { Withdraws self.old ticket.claim self.new }
+        ensures phase { (session : ℕ) → IsSomeAnd (claimed self.old ticket.claim) (λ r. r.session ≡ session) → IsPhaseOf session self.old self.new }
     {
         let ask = ticket.ask();
         ticket.spend();
@@ -454,6 +469,15 @@ impl Stripe {
     /// Takes the answer of the load that a call has joined. Where the load isn't over the join comes back, and nothing changes;
     /// where it was withdrawn the call is told to begin again.
     pub fn pick_up(&mut self, join: Join) -> Picked
+        requires { is_joined join.session join.call join.key self.old.joiners ≡ true }
+        ensures picks_up { PicksUp self.old join result self.new }
+        ensures phase { IsPhaseOf join.session self.old self.new }
+    {
+        self.answer(join)
+    }
+
+    /// The answer of a joiner, and what is left once it was told.
+    fn answer(&mut self, join: Join) -> Picked
         requires { is_joined join.session join.call join.key self.old.joiners ≡ true }
         ensures { PicksUp self.old join result self.new }
     {

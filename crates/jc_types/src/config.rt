@@ -125,8 +125,8 @@ pub struct Config {
     /// How many stripes the cache has, from 1 to [`STRIPES_MAX`]. Each key belongs to one of them,
     /// by [`stripe_of`](crate::key::stripe_of), and calls on different stripes don't meet.
     pub stripes: usize,
-    /// How many entries one stripe keeps, from 1 to [`CAPACITY_MAX`]. For now, a new entry beyond them is
-    /// evicted directly after its step.
+    /// How many entries one stripe keeps, from 1 to [`CAPACITY_MAX`]. A new entry beyond them first evicts
+    /// the least recently used one that no call has reserved.
     pub capacity: usize,
     /// How many events the history of one stripe has room for, from [`HISTORY_MIN`] to
     /// [`HISTORY_MAX`].

@@ -12,6 +12,8 @@ use std::alloc::Global;
 use std::process::Abort;
 use std::test::Fail;
 
+mod random;
+
 // 1. The words of a run.
 
 fn key(rt: &impl Abort, bytes: &[u8]) -> Key {

@@ -1,8 +1,9 @@
 //! What the phases require, as tests of a stripe.
-ghost use Rattle.std.specs.Prelude.{◌≡◌, true, IsTrue, map};
+ghost use Rattle.std.specs.Prelude.{◌≡◌, true, false, IsTrue, map, unwrap_or, option_map};
 ghost use Rattle.std.specs.List.{list_all};
 ghost use Rattle.jc_model.specs.Legal.{may_come};
 ghost use Rattle.jc_model.specs.Table.{load_given, write_given};
+ghost use Rattle.jc_reserve.specs.Reserving.{found_at};
 ghost use Rattle.jc_stripe.specs.Inside.{reserved_of};
 ghost use Rattle.jc_stripe.specs.State.{is_of, IsOut};
 ghost use Rattle.jc_stripe.specs.Refusals.{has_phases};
@@ -10,8 +11,8 @@ ghost use Rattle.jc_stripe.specs.Phases.{MayBegin, is_beside, is_apart};
 ghost use Rattle.jc_stripe.specs.declared.ticket.Origin.TheVariants.{Played};
 
 use crate::stripe::Stripe;
-use crate::stripe::tests::run::Pending;
 use crate::ticket::{Caller, First, Note, Origin};
+use jc_inflight::joiner::Joiner;
 use jc_inflight::joiners::Joiners;
 use jc_model::event::{Change, Event, LoadAnswer, Op, WriteAnswer};
 use jc_reserve::reservations::Reservations;
@@ -47,8 +48,10 @@ fn is_behind(history: &[Event], who: Caller, key: &Key) -> bool
     history.iter().all(|e| comes(e, who, key))
 }
 
-/// Whether the reservation of a key is another session's, or the same call's for another key.
-fn stands_beside(reservations: &Reservations<Note>, there: &Key, who: Caller, key: &Key) -> bool {
+/// Whether a key is reserved, and that by another session, or by the same call for another key.
+fn stands_beside(reservations: &Reservations<Note>, there: &Key, who: Caller, key: &Key) -> bool
+    ensures { result ≡ unwrap_or (option_map (λ f. is_beside who.session who.number key.now (reserved_of (record { key = there.now; number = f.0; note = f.1 }))) (found_at reservations.now there.now)) false }
+{
     let _types: Option<Change> = None;
     match reservations.find(there) {
         Some((_, note)) => {
@@ -58,54 +61,40 @@ fn stands_beside(reservations: &Reservations<Note>, there: &Key, who: Caller, ke
     }
 }
 
-fn all_beside(reservations: &Reservations<Note>, who: Caller, key: &Key) -> bool
-    ensures { IsTrue result → IsTrue (list_all (is_beside who.session who.number key.now) (map reserved_of reservations.now.held)) }
+/// Whether all of these keys are reserved, and that so.
+fn all_stand_beside(reservations: &Reservations<Note>, keys: &[Key], who: Caller, key: &Key) -> bool
+    ensures { result ≡ list_all (λ there. unwrap_or (option_map (λ f. is_beside who.session who.number key.now (reserved_of (record { key = there; number = f.0; note = f.1 }))) (found_at reservations.now there)) false) keys.now }
 {
-    reservations
-        .keys()
-        .iter()
+    keys.iter()
         .all(|there| stands_beside(reservations, there, who, key))
 }
 
-fn stands_apart(there: &Pending, who: Caller, key: &Key) -> bool {
-    there.who.session != who.session || (there.who.number == who.number && there.key != *key)
-}
-
-fn is_joined(joiners: &Joiners, there: &Pending) -> bool {
-    joiners.has_joined(there.who.session, there.who.number, &there.key)
-}
-
-fn all_once(out: &[Pending]) -> bool {
-    for (k, pending) in out.iter().enumerate() {
-        if out
-            .iter()
-            .take(k)
-            .any(|other| other.is_of(pending.who, &pending.key))
-        {
-            return false;
-        }
-    }
-    true
-}
-
-/// Whether each joiner is another session's, or the same call's for another key. Those that are out are all the joiners, since none
-/// of them is there twice and as many of them have joined.
-fn all_apart(joiners: &Joiners, out: &[Pending], who: Caller, key: &Key) -> bool
-    ensures { IsTrue result → IsTrue (list_all (is_apart who.session who.number key.now) joiners.now) }
+fn all_beside(reservations: &Reservations<Note>, who: Caller, key: &Key) -> bool
+    ensures { IsTrue result → IsTrue (list_all (is_beside who.session who.number key.now) (map reserved_of reservations.now.held)) }
 {
-    let joined = out.iter().filter(|there| is_joined(joiners, there)).count();
-    joined == joiners.len()
-        && all_once(out)
-        && out.iter().all(|there| stands_apart(there, who, key))
+    all_stand_beside(reservations, reservations.keys(), who, key)
 }
 
-pub(super) fn may_begin(stripe: &Stripe, out: &[Pending], who: Caller, key: &Key) -> bool
+/// Whether a joiner is another session's, or the same call's for another key.
+fn stands_apart(joiner: &Joiner, who: Caller, key: &Key) -> bool
+    ensures { result ≡ is_apart who.session who.number key.now joiner.now }
+{
+    joiner.session != who.session || (joiner.number == who.number && joiner.key != *key)
+}
+
+fn all_apart(joiners: &Joiners, who: Caller, key: &Key) -> bool
+    ensures { result ≡ list_all (is_apart who.session who.number key.now) joiners.now }
+{
+    joiners.list().iter().all(|j| stands_apart(j, who, key))
+}
+
+pub(super) fn may_begin(stripe: &Stripe, who: Caller, key: &Key) -> bool
     ensures { IsTrue result → MayBegin stripe.now who.session who.number key.now }
 {
     is_own(stripe, key)
         && is_behind(stripe.events(), who, key)
         && all_beside(&stripe.reservations, who, key)
-        && all_apart(&stripe.joiners, out, who, key)
+        && all_apart(&stripe.joiners, who, key)
 }
 
 pub(super) fn is_phased(op: &Op) -> bool

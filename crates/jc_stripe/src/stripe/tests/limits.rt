@@ -167,7 +167,7 @@ fn needs(rt: &impl Abort, alloc: Global, config: &Config, op: &Op, free: u32) {
         HISTORY_FULL,
         "{op:?} with {free} free"
     );
-    let mut run = with_free(rt, alloc, config, free - 1);
+    let mut run = with_free(rt, alloc, config, free.saturating_sub(1));
     assert_eq!(rt;
         run.act(rt, who, &a, &call),
         HISTORY_FULL,

@@ -256,14 +256,11 @@ impl Run {
     }
 
     pub(super) fn may_begin(&self, who: Caller, key: &Key) -> bool {
-        may_begin(&self.stripe, &self.out, who, key)
+        may_begin(&self.stripe, who, key)
     }
 
     fn begin(&mut self, rt: &impl Abort, who: Caller, key: &Key, op: &Op) -> Told {
-        assert!(rt;
-            may_begin(&self.stripe, &self.out, who, key),
-            "{who:?} may begin"
-        );
+        assert!(rt; may_begin(&self.stripe, who, key), "{who:?} may begin");
         assert!(rt; is_phased(op), "{op:?} has phases");
         match self.stripe.begin(who, key, op) {
             Begun::Done(reply, place) => Told::Done(reply, place),
@@ -372,9 +369,8 @@ impl Run {
 
     /// Each of these keys is loaded with the value by a `get` of session 1, whose calls are numbered from 1 on.
     pub(super) fn loads(&mut self, rt: &impl Abort, keys: &[u8], value: &Value) {
-        let mut number = 0;
-        for byte in keys {
-            number += 1;
+        for (k, byte) in keys.iter().enumerate() {
+            let number = k as u64 + 1;
             let who = Caller { session: 1, number };
             let there = key(rt, *byte);
             let begun = self.act(rt, who, &there, &Act::Begin(Op::Get));

@@ -10,7 +10,7 @@ append_in_room-requires c =
     let from = c.index_mut-stripe.result.now in
     let to = c.begin-begun.new.self in
     has_room _ _ c.events-before.result.now c.events.result.now from.history to.history c.requires.room c.events-before.ensures.events c.events.ensures.events
-    (begun_length from to c.args.u.now.session c.args.u.now.number c.args.u.now.command.key c.args.u.now.command.op _ c.begin-begun.ensures)
+    (begun_length from to c.args.u.now.session c.args.u.now.number c.args.u.now.command.key c.args.u.now.command.op _ c.begin-begun.ensures.begins)
 
 pub returns : goal.returns
 returns c =
@@ -18,7 +18,7 @@ returns c =
       from,
       at_index c.args.stripes.now.items c.args.number from (λ s. MayBegin s c.args.u.now.session c.args.u.now.number c.args.u.now.command.key) c.requires.begins c.index_mut-stripe.ensures.value,
       c.begin-begun.new.self,
-      c.begin-begun.ensures,
+      c.begin-begun.ensures.begins,
       ap length c.events-before.ensures.events,
       refl,
       c.append_in_room.ensures ∙ ap (λ xs. c.args.order.now.items ++ xs) (take_rest c.events.result.now (length c.events-before.result.now))

@@ -10,6 +10,6 @@ returns c =
       from,
       at_index c.args.stripes.now.items c.args.number from (λ s. has_joined join.session join.call join.key s.joiners ≡ true) c.requires c.index_mut-stripe.ensures.value,
       c.pick_up.new.self,
-      c.pick_up.ensures,
+      c.pick_up.ensures.picks_up,
       refl,
     )

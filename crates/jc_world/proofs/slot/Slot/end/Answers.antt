@@ -51,9 +51,9 @@ ended_write s t i claim self entry answer reply place view slot is kind answer_i
 pub returns-in-Load : goal.returns-in-Load
 returns-in-Load c =
     ended_load c.args.stripe.now c.commit_load.new.self c.self.inside c.in-Load.ticket c.args.self _ c.played_load-done.result.answer _ _ c.self.view_is c.self.invariant c.in-Load.is c.requires.kind
-    (ap (λ d. d.answer) c.played_load-done.ensures) c.commit_load.ensures
+    (ap (λ d. d.answer) c.played_load-done.ensures) c.commit_load.ensures.commits
 
 pub returns-in-Write : goal.returns-in-Write
 returns-in-Write c =
     ended_write c.args.stripe.now c.commit_write.new.self c.self.inside c.in-Write.ticket c.args.self _ c.played_write-done.result.answer _ _ c.self.view_is c.self.invariant c.in-Write.is c.requires.kind
-    (ap (λ d. d.answer) c.played_write-done.ensures) c.commit_write.ensures
+    (ap (λ d. d.answer) c.played_write-done.ensures) c.commit_write.ensures.commits
