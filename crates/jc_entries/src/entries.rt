@@ -116,7 +116,8 @@ impl Entries {
     fn has_place(&self, key: &Key) -> bool
         ensures { result ≡ has_place key.now self.now }
     {
-        self.peek(key).is_some() || self.list.len() < self.capacity
+        let has_room = self.list.len() < self.capacity;
+        has_room || self.peek(key).is_some()
     }
 
     /// Takes the key's entry out, and answers its value, or none where there was no entry. The others

@@ -1,5 +1,5 @@
 //! Lines, played on a world.
-ghost use Rattle.std.specs.Prelude.{◌≡◌, ◌++◌, ◌∷◌, List, ℕ, [], Some, None, true, Option, OnOk, IfOk, MatchOption};
+ghost use Rattle.std.specs.Prelude.{◌≡◌, ◌++◌, ◌∷◌, List, ℕ, [], Some, None, true, Option, option_copied, OnOk, IfOk, MatchOption};
 ghost use Rattle.jc_types.specs.Limits.{checked};
 ghost use Rattle.jc_world.specs.declared.event.WorldEvent.TheVariants as event;
 ghost use Rattle.jc_world.specs.World.{waits_for_load, waits_for_report, is_answered, is_untouched, under, part_of, start};
@@ -26,8 +26,8 @@ pub fn close(world: Option<World>) {
     }
 }
 
-fn waits_load(part: &Option<Part>) -> bool
-    ensures { result ≡ waits_for_load part.now }
+fn waits_load(part: Option<&Part>) -> bool
+    ensures { result ≡ waits_for_load (option_copied part.entry) }
 {
     match part {
         Some(part) => {
@@ -37,8 +37,8 @@ fn waits_load(part: &Option<Part>) -> bool
     }
 }
 
-fn waits_report(part: &Option<Part>) -> bool
-    ensures { result ≡ waits_for_report part.now }
+fn waits_report(part: Option<&Part>) -> bool
+    ensures { result ≡ waits_for_report (option_copied part.entry) }
 {
     match part {
         Some(part) => {
@@ -48,8 +48,8 @@ fn waits_report(part: &Option<Part>) -> bool
     }
 }
 
-fn has_answers(part: &Option<Part>) -> bool
-    ensures { result ≡ is_answered part.now }
+fn has_answers(part: Option<&Part>) -> bool
+    ensures { result ≡ is_answered (option_copied part.entry) }
 {
     match part {
         Some(part) => match &part.first {
@@ -69,8 +69,8 @@ fn is_silent(part: &Part) -> bool
         && matches!(&part.report, WriteAnswer::NotAsked)
 }
 
-fn may_leave(part: &Option<Part>, is_joined: bool) -> bool
-    ensures { result ≡ may_drop part.now is_joined }
+fn may_leave(part: Option<&Part>, is_joined: bool) -> bool
+    ensures { result ≡ may_drop (option_copied part.entry) is_joined }
 {
     match part {
         Some(part) => !is_joined && is_silent(part),
@@ -78,14 +78,14 @@ fn may_leave(part: &Option<Part>, is_joined: bool) -> bool
     }
 }
 
-fn may_begin_again(part: &Option<Part>, is_joined: bool) -> bool
-    ensures { result ≡ may_restart part.now is_joined }
+fn may_begin_again(part: Option<&Part>, is_joined: bool) -> bool
+    ensures { result ≡ may_restart (option_copied part.entry) is_joined }
 {
     !is_joined && part.is_none()
 }
 
-fn waits_for(act: &Act, part: &Option<Part>, is_joined: bool) -> bool
-    ensures { result ≡ fits_now act.now part.now is_joined }
+fn waits_for(act: &Act, part: Option<&Part>, is_joined: bool) -> bool
+    ensures { result ≡ fits_now act.now (option_copied part.entry) is_joined }
 {
     match act {
         Act::Read => waits_load(part),
@@ -110,7 +110,7 @@ fn fault_of_act(world: &World, number: u32, act: &Act) -> Option<Fault>
             let key = under.command.key;
             let part = world.part(number as u64, &key);
             let is_joined = world.is_joined(number as u64, &key);
-            if waits_for(act, &part, is_joined) {
+            if waits_for(act, part, is_joined) {
                 return None;
             }
             Some(Fault::NotNow)
@@ -200,9 +200,9 @@ fn events_dropped(
     alloc: Global,
     call: u64,
     key: Key,
-    part: &Option<Part>,
+    part: Option<&Part>,
 ) -> Result<Vec<WorldEvent>, AllocError>
-    ensures { IfOk result (λ events. events.items ≡ drop_events call key part.now) }
+    ensures { IfOk result (λ events. events.items ≡ drop_events call key (option_copied part.entry)) }
 {
     let leave = WorldEvent::Leave { call };
     match part {
@@ -215,10 +215,10 @@ fn events(
     alloc: Global,
     call: u64,
     key: &Key,
-    part: &Option<Part>,
+    part: Option<&Part>,
     act: &Act,
 ) -> Result<Vec<WorldEvent>, AllocError>
-    ensures { IfOk result (λ events. events.items ≡ events_of call key.now part.now act.now) }
+    ensures { IfOk result (λ events. events.items ≡ events_of call key.now (option_copied part.entry) act.now) }
 {
     let key = *key;
     let change = WorldEvent::Change { call, key };
@@ -295,7 +295,7 @@ fn act_on(
         Some(under) => {
             let key = under.command.key;
             let part = world.part(number as u64, &key);
-            let events = events(alloc, number as u64, &key, &part, act)?;
+            let events = events(alloc, number as u64, &key, part, act)?;
             play_events(alloc, world, &key, &events, out)?;
             Ok(())
         }

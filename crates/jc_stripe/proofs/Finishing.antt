@@ -1,44 +1,41 @@
 -- A step that was put down keeps a stripe's fields sound.
-use Rattle.std.proofs.Common.{◌≡◌, ◌≤◌, ◌+◌, ◌-◌, ◌*◌, ℕ, List, [], ◌∷◌, ◌++◌, map, filter, length, count_by, Bool, true, false, IsTrue, ◌↔◌, Option, Some, None, find, option_map, refl, sym, ap, ◌∙◌, subst, arith, if◌then◌else◌}
-use Rattle.std.specs.FinMap as finite
+use Rattle.std.proofs.Common.{◌≡◌, ◌≤◌, ◌+◌, ◌-◌, ℕ, List, [], ◌∷◌, ◌++◌, map, length, count_by, Bool, true, false, IsTrue, Option, Some, None, find, option_map, refl, sym, ap, ◌∙◌, arith}
 use Rattle.std.specs.FinMap.{from_entries}
 use Rattle.jc_model.specs.declared.event.Op.{Op}
 use Rattle.jc_model.specs.declared.event.Out.{Out}
 use Rattle.jc_model.specs.declared.event.Reply.{Reply}
 use Rattle.jc_model.specs.declared.event.Cause.{Cause}
-use Rattle.jc_model.specs.Cache.{Bytes, key_cmp, entry_at}
+use Rattle.jc_model.specs.Cache.{Bytes, entry_at}
 use Rattle.jc_model.specs.Table.{answers_fit, new_reply}
 use Rattle.jc_model.specs.Group.{Group, victim_events, events_of, nothing_said}
 use Rattle.jc_entries.specs.ByUse.{ByUse}
-use Rattle.jc_history.specs.Past.{Past, used, promising}
-use Rattle.jc_reserve.specs.Table.{Table, Held, keys_of}
+use Rattle.jc_history.specs.Past.{Past, promising}
+use Rattle.jc_reserve.specs.Table.{Table, keys_of}
 use Rattle.jc_reserve.specs.Reserving.{found_at}
 use Rattle.jc_reserve.specs.Reserving as reserving
 use Rattle.jc_inflight.specs.declared.joiner.Joiner.{Joiner}
 use Rattle.jc_inflight.specs.Joined.{callers_of, waits_for}
 use Rattle.jc_inflight.specs.Resolving.{resolved}
 use Rattle.jc_stripe.specs.declared.ticket.Note.{Note}
-use Rattle.jc_stripe.specs.declared.ticket.First.TheVariants.{Nobody, Loader}
+use Rattle.jc_stripe.specs.declared.ticket.First.TheVariants.{Nobody}
 use Rattle.jc_stripe.specs.declared.putting.Putting.{Putting}
 use Rattle.jc_stripe.specs.declared.stripe.Stripe.TheInside.{Inside}
 use Rattle.jc_stripe.specs.Claim.{Claim}
-use Rattle.jc_stripe.specs.State.{State, Reserved, is_key, claimed, promised, unreserved, waits}
+use Rattle.jc_stripe.specs.State.{State, Reserved, is_key, claimed, unreserved, waits}
 use Rattle.jc_stripe.specs.OrderOfUse.{by_use, pinned}
-use Rattle.jc_stripe.specs.Refusals.{first_refusal, first_asked, has_phases, goes_on, places}
+use Rattle.jc_stripe.specs.Refusals.{first_refusal, first_asked, goes_on, places}
 use Rattle.jc_stripe.specs.Phases.{MayBegin, Steps, group_made, settled}
-use Rattle.jc_stripe.specs.Reached.{IsReached, IsUsed}
 use Rattle.jc_stripe.specs.Putting.{IsKeptSo, SaidFor, put_events, events_put}
 use Rattle.jc_stripe.specs.Inside.{IsSound, state_of, reserved_of}
-use Rattle.jc_stripe.proofs.Used.{find-entry}
 use Rattle.jc_stripe.proofs.Lawfully.{MayShare}
 use Rattle.jc_stripe.proofs.Fields.{note_of, found-reserved_of, left-reserved_of, pinned-reserved_of}
 use Rattle.jc_stripe.proofs.Fitting.{said_fits, said_given}
-use Rattle.jc_stripe.proofs.Settled.{Shares, shares_with, claim_asks, count_left}
+use Rattle.jc_stripe.proofs.Settled.{shares_with, claim_asks, count_left}
 use Rattle.jc_stripe.proofs.Sharing.{length-callers}
-use Rattle.jc_stripe.proofs.Stepping.{AreEntries, IsMade, group_is, steps_put, by_use_put, few_put}
+use Rattle.jc_stripe.proofs.Stepping.{AreEntries, group_is, steps_put, by_use_put, few_put}
 use Rattle.jc_stripe.proofs.Refusing.{alone_passes, passing_keeps}
 use Rattle.jc_stripe.proofs.Stepped.{one_event}
-use Rattle.jc_stripe.proofs.Making.{one_exactly, promised_so, room_so}
+use Rattle.jc_stripe.proofs.Making.{one_exactly}
 use Rattle.jc_stripe.proofs.Reaching.{begins_done, commits_found}
 
 -- what was put down of a call

@@ -1,17 +1,16 @@
 -- What a stripe's fields say of its state.
-use Rattle.std.proofs.Common.{◌≡◌, ◌≤◌, ◌<◌, ◌+◌, ◌*◌, ◌&&◌, ℕ, List, [], ◌∷◌, ◌++◌, map, length, count_by, Bool, true, false, not, IsTrue, ◌↔◌, Option, Some, None, option_map, find, nat_le, nat_lt, refl, sym, ap, ◌∙◌, arith}
+use Rattle.std.proofs.Common.{◌≡◌, ◌≤◌, ◌<◌, ◌+◌, ◌&&◌, ℕ, length, Bool, true, false, not, IsTrue, ◌↔◌, Option, Some, None, option_map, find, nat_le, nat_lt, refl, sym, ap, ◌∙◌, arith}
 use Rattle.std.proofs.lemmas.Bool.Decides.{nat_tests}
 use Rattle.std.specs.FinMap.{len, from_entries}
 use Rattle.jc_model.specs.Cache.{Bytes, key_cmp}
 use Rattle.jc_model.specs.Listed.{apart}
 use Rattle.jc_model.proofs.Lookups.{len-apart}
-use Rattle.jc_history.specs.Past.{Past, used, promising}
+use Rattle.jc_history.specs.Past.{used}
 use Rattle.jc_reserve.specs.Reserving.{found_at}
 use Rattle.jc_stripe.specs.declared.ticket.Note.{Note}
 use Rattle.jc_stripe.specs.declared.stripe.Stripe.TheInside.{Inside}
-use Rattle.jc_stripe.specs.State.{State, Reserved, is_key, promised}
+use Rattle.jc_stripe.specs.State.{Reserved, is_key, promised}
 use Rattle.jc_stripe.specs.Refusals.{has_room, last_number, load_at, load_of}
-use Rattle.jc_stripe.specs.OrderOfUse.{by_use}
 use Rattle.jc_stripe.specs.Inside.{IsSound, state_of}
 use Rattle.jc_stripe.proofs.Fields.{note_of, found-reserved_of}
 

@@ -1,6 +1,5 @@
 -- What an insertion leaves of the entries is what the order of use says.
-use Rattle.std.proofs.Common.{◌≡◌, ◌≤◌, ◌<◌, ◌+◌, ◌==◌, ◌||◌, ◌&&◌, ℕ, List, [], ◌∷◌, length, Bool, true, false, cond, not, nat_lt, Option, Some, None, IsSome, is_some, is_none, refl, sym, ap, ◌∙◌, subst, arith}
-use Rattle.std.specs.Cmp.Lexicographic.{pointwise, texts_ties}
+use Rattle.std.proofs.Common.{◌≡◌, ◌≤◌, ◌==◌, ◌||◌, ◌&&◌, ℕ, List, ◌∷◌, length, Bool, true, false, cond, not, nat_lt, Option, Some, None, IsSome, is_some, is_none, refl, sym, ap, ◌∙◌, arith}
 use Rattle.std.specs.Ordering.{eq_by_cmp}
 use Rattle.std.specs.FinMap as finite
 use Rattle.std.proofs.lemmas.Bool.Decides.{nat_tests}
@@ -12,14 +11,14 @@ use Rattle.jc_model.specs.declared.event.Cause.TheVariants.{Full, Memory}
 use Rattle.jc_model.specs.Cache.{Bytes, key_cmp}
 use Rattle.jc_model.specs.Listed.{others, listed}
 use Rattle.jc_model.specs.Table.{new_entry}
-use Rattle.jc_model.proofs.Lookups.{both, find-others}
+use Rattle.jc_model.proofs.Lookups.{find-others}
 use Rattle.jc_entries.specs.ByUse.{ByUse, evicted_of, without}
 use Rattle.jc_entries.specs.Inserting.{has_place, IsKeptAfter, IsPinnedOut, IsOutOfMemory, Inserts}
 use Rattle.jc_entries.specs.declared.entries.Inserted.TheVariants.{NotKept}
 use Rattle.jc_entries.proofs.UseLemmas.{others-missing}
 use Rattle.jc_stripe.specs.OrderOfUse.{is_use, used_at}
 use Rattle.jc_stripe.specs.Phases.{own_cause}
-use Rattle.jc_stripe.specs.Putting.{IsKeptSo, inserts_into, overflows_in, victim_in, entries_left, own_gone}
+use Rattle.jc_stripe.specs.Putting.{IsKeptSo, inserts_into, overflows_in, victim_in, entries_left}
 
 -- a step that uses an entry and leaves this one, of a list that is not too long
 pub record Uses (old : ByUse) (key value : Bytes) (op : Op) (out : Out) : Type 0 where

@@ -1,27 +1,24 @@
 -- A run of lawful groups goes on by one more, and the group of a step is lawful.
-use Rattle.std.proofs.Common.{◌≡◌, ◌≤◌, ◌+◌, ◌==◌, ◌&&◌, ◌-◌, ℕ, List, [], ◌∷◌, ◌++◌, length, map, Bool, true, false, cond, not, IsTrue, Option, None, Some, is_none, is_some, refl, sym, ap, ◌∙◌, arith, append_assoc, append-nil, add-zero, subst}
+use Rattle.std.proofs.Common.{◌≡◌, ◌≤◌, ◌+◌, ◌==◌, ◌&&◌, ◌-◌, ℕ, List, [], ◌∷◌, ◌++◌, length, Bool, true, false, cond, not, IsTrue, Option, None, Some, is_none, is_some, refl, sym, ap, ◌∙◌, arith, append_assoc, append-nil, add-zero}
 use Rattle.std.specs.Cmp.Lexicographic.{pointwise, texts_ties}
 use Rattle.std.specs.Ordering.{eq_by_cmp}
 use Rattle.std.specs.Cmp.{eq_by_cmp_equiv}
 use Rattle.std.proofs.lemmas.Bool.Decides.{nat_tests}
 use Rattle.std.proofs.lemmas.List.{length-append}
 use Rattle.std.proofs.lemmas.Cmp.{nat_list_cmp_total}
-use Rattle.std.specs.FinMap as finite
-use Rattle.std.specs.FinMap.{insert, remove, len, len-insert, len-remove, contains_key, from_entries, get-from_entries, get-remove}
+use Rattle.std.specs.FinMap.{insert, remove, len, len-insert, len-remove, contains_key, get-remove}
 use Rattle.jc_types.specs.declared.config.Config.{Config}
 use Rattle.jc_model.specs.declared.event.Cause.{Cause}
 use Rattle.jc_model.specs.declared.event.Cause.TheVariants.{Full, Memory}
 use Rattle.jc_model.specs.declared.event.Op.{Op}
 use Rattle.jc_model.specs.declared.event.Out.{Out}
-use Rattle.jc_model.specs.declared.event.LoadAnswer.{LoadAnswer}
 use Rattle.jc_model.specs.Cache.{Bytes, Cache, key_cmp, entry_at, with_entry}
-use Rattle.jc_model.specs.Table.{Made, new_entry, new_reply, answers_fit, load_given, cache_left, entry_left}
+use Rattle.jc_model.specs.Table.{new_entry, new_reply, answers_fit, load_given}
 use Rattle.jc_model.specs.Group.{Group, events_of, history_of, left_after, cache_after, evict_own}
 use Rattle.jc_model.specs.Group as group
-use Rattle.jc_model.specs.Lawful.{IsLawful, IsLawfulStep, AreLawful, evicted_fits, victim_fits, inserts, joined_fits, is_joinable, loads_whole}
+use Rattle.jc_model.specs.Lawful.{IsLawful, AreLawful, evicted_fits, victim_fits, inserts, joined_fits, loads_whole}
 use Rattle.jc_model.proofs.Lookups.{same_cache, both, none_is, same_key, get-with_entry, insert-remove}
-use Rattle.jc_entries.specs.ByUse.{evicted_of}
-use Rattle.jc_entries.proofs.UseLemmas.{evicted_of-found, evicted_of-free}
+use Rattle.jc_entries.proofs.UseLemmas.{evicted_of-found}
 use Rattle.jc_stripe.specs.State.{State}
 use Rattle.jc_stripe.specs.OrderOfUse.{by_use, least_used, pinned}
 use Rattle.jc_stripe.specs.Phases.{group_made, inserts_here, overflows, victim_of, own_cause}

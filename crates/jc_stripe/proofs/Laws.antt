@@ -1,21 +1,18 @@
 -- The laws of the phases.
-use Rattle.std.proofs.Common.{◌≡◌, ◌==◌, ℕ, List, [], ◌++◌, length, Bool, true, false, IsSomeAnd, append-nil, refl, sym, ap, ◌∙◌, subst}
+use Rattle.std.proofs.Common.{◌≡◌, ℕ, List, [], length, Bool, true, false, append-nil, sym, ap, ◌∙◌}
 use Rattle.std.specs.List.{list_any}
 use Rattle.jc_model.specs.declared.event.Op.{Op}
 use Rattle.jc_model.specs.declared.event.Out.{Out}
 use Rattle.jc_model.specs.declared.event.Reply.{Reply}
 use Rattle.jc_model.specs.Cache.{Bytes, entry_at}
-use Rattle.jc_model.specs.Table.{new_entry}
 use Rattle.jc_model.specs.Group.{events_of, nothing_said}
 use Rattle.jc_inflight.specs.Joined.{callers_of}
 use Rattle.jc_stripe.specs.declared.begun.Begun.{Begun}
 use Rattle.jc_stripe.specs.declared.begun.Begun.TheVariants as begun
 use Rattle.jc_stripe.specs.declared.begun.Picked.{Picked}
 use Rattle.jc_stripe.specs.declared.begun.Picked.TheVariants as picked
-use Rattle.jc_stripe.specs.declared.ticket.First.{First}
 use Rattle.jc_stripe.specs.Claim.{Claim, JoinClaim}
-use Rattle.jc_stripe.specs.State.{State, Reserved, is_key, is_reserved, claimed, released, reserved, unreserved}
-use Rattle.jc_stripe.specs.Refusals.{first_refusal, first_asked}
+use Rattle.jc_stripe.specs.State.{State, Reserved, is_key, is_reserved, claimed, released, unreserved}
 use Rattle.jc_stripe.specs.Phases.{group_made, settled, Steps, Begins, Commits, Withdraws, PicksUp}
 use Rattle.jc_stripe.specs.Reached.{IsReached, IsUsed}
 use Rattle.jc_stripe.specs.Laws.{GoesOn}

@@ -1,34 +1,31 @@
 -- What each phase makes of a stripe's fields keeps them sound.
-use Rattle.std.proofs.Common.{◌≡◌, ◌≤◌, ◌<◌, ◌+◌, ◌-◌, ◌*◌, ◌==◌, ◌&&◌, ◌||◌, ◌^◌, ℕ, suc, List, [], ◌∷◌, ◌++◌, map, filter, length, count_by, Bool, true, false, cond, not, IsTrue, ◌↔◌, Option, Some, None, is_some, find, refl, sym, ap, ◌∙◌, subst, arith, AllPairs, All, nat_le, if◌then◌else◌}
+use Rattle.std.proofs.Common.{◌≡◌, ◌≤◌, ◌<◌, ◌+◌, ◌-◌, ◌==◌, ◌&&◌, ◌||◌, ℕ, suc, List, [], ◌∷◌, map, length, count_by, Bool, true, false, cond, not, IsTrue, ◌↔◌, Option, Some, None, is_some, find, refl, sym, ap, ◌∙◌, subst, arith, AllPairs, All, if◌then◌else◌}
 use Rattle.std.specs.List.{list_any, list_all}
 use Rattle.std.specs.Bool.{OnTrue}
 use Rattle.std.specs.Cmp.Lexicographic.{pointwise, texts_ties}
-use Rattle.std.proofs.lemmas.Bool.Decides.{nat_tests}
 use Rattle.std.proofs.lemmas.Cmp.{nat_list_eq_equiv}
 use Rattle.std.proofs.lemmas.List.{length-append}
-use Rattle.jc_types.specs.declared.config.Config.{Config}
-use Rattle.jc_types.specs.Limits.{checked, between}
 use Rattle.jc_model.specs.declared.event.Op.{Op}
 use Rattle.jc_model.specs.Cache.{Bytes, entry_at}
 use Rattle.jc_model.proofs.Lookups.{both, same_key}
 use Rattle.jc_history.specs.Past.{Past, used, promising, unpromising}
-use Rattle.jc_reserve.specs.Table.{Table, Held}
+use Rattle.jc_reserve.specs.Table.{Table}
 use Rattle.jc_reserve.specs.Reserving.{CanReserve, is_held}
 use Rattle.jc_reserve.specs.Reserving as reserving
 use Rattle.jc_inflight.specs.declared.joiner.Joiner.{Joiner}
 use Rattle.jc_inflight.specs.declared.joiner.Parked.TheVariants.{Again}
 use Rattle.jc_inflight.specs.declared.joiner.JoinState.TheVariants.{Waiting, Parked}
-use Rattle.jc_inflight.specs.Joined.{is_of, is_joined, joined, waits_for, is_waiting}
+use Rattle.jc_inflight.specs.Joined.{is_of, is_joined, joined, waits_for}
 use Rattle.jc_inflight.specs.Dissolving.{dissolved, sent_away}
 use Rattle.jc_stripe.specs.declared.ticket.Note.{Note}
 use Rattle.jc_stripe.specs.declared.ticket.First.{First}
 use Rattle.jc_stripe.specs.declared.stripe.Stripe.TheInside.{Inside}
 use Rattle.jc_stripe.specs.Claim.{Claim, JoinClaim}
-use Rattle.jc_stripe.specs.State.{State, Reserved, is_key, is_reserved, claimed, promised, reserved, unreserved, released, waits}
+use Rattle.jc_stripe.specs.State.{State, Reserved, is_key, is_reserved, claimed, promised, reserved, unreserved, waits}
 use Rattle.jc_stripe.specs.OrderOfUse.{by_use}
-use Rattle.jc_stripe.specs.Refusals.{first_refusal, first_asked, needs_reservation, load_joined, last_number, goes_on, places}
+use Rattle.jc_stripe.specs.Refusals.{first_refusal, first_asked, needs_reservation, load_joined, goes_on, places}
 use Rattle.jc_stripe.specs.Phases.{MayBegin, is_apart, joined_by, withdrawn}
-use Rattle.jc_stripe.specs.Reached.{IsReached, AreNumbered}
+use Rattle.jc_stripe.specs.Reached.{IsReached}
 use Rattle.jc_stripe.specs.Inside.{IsSound, state_of, reserved_of}
 use Rattle.jc_stripe.proofs.Inner.{used_of}
 use Rattle.jc_stripe.proofs.Fields.{push-reserved_of, length-reserved_of, left-reserved_of, held-reserved_of}

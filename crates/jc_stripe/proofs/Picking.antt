@@ -1,5 +1,5 @@
 -- What a joiner is told, and what that leaves.
-use Rattle.std.proofs.Common.{◌≡◌, ◌==◌, ◌&&◌, ◌||◌, ◌+◌, ◌*◌, zero-add, ℕ, List, [], ◌∷◌, map, length, count_by, filter, Bool, true, false, cond, not, Option, Some, None, IsSome, IsSomeAnd, find, option_map, refl, sym, ap, ◌∙◌, subst, slice_get, arith, if◌then◌else◌}
+use Rattle.std.proofs.Common.{◌≡◌, ◌==◌, ◌&&◌, ◌||◌, ◌+◌, ◌*◌, zero-add, ℕ, List, [], ◌∷◌, length, count_by, Bool, true, false, cond, not, Option, Some, None, IsSome, IsSomeAnd, find, option_map, refl, sym, ap, ◌∙◌, subst, slice_get}
 use Rattle.std.specs.List.{list_any, list_all}
 use Rattle.std.specs.Cmp.Lexicographic.{pointwise, texts_ties}
 use Rattle.std.proofs.lemmas.Bool.{eqb-true}
@@ -25,13 +25,12 @@ use Rattle.jc_inflight.specs.Taking.{told, told_to, joiner_of, is_ready, is_over
 use Rattle.jc_stripe.specs.declared.ticket.First.TheVariants.{Loader, Writer}
 use Rattle.jc_model.specs.declared.event.Change.{Change}
 use Rattle.jc_stripe.specs.Claim.{JoinClaim}
-use Rattle.jc_stripe.specs.State.{State, Reserved, waits, promised}
-use Rattle.jc_stripe.specs.declared.begun.Picked.{Picked}
+use Rattle.jc_stripe.specs.State.{State, Reserved, waits}
 use Rattle.jc_stripe.specs.declared.begun.Picked.TheVariants as picked
 use Rattle.jc_stripe.specs.declared.stripe.Stripe.TheInside.{Inside}
 use Rattle.jc_stripe.specs.Inside.{IsSound, state_of}
-use Rattle.jc_stripe.specs.Phases.{IsSharedStep, PicksUp, is_apart, left_by}
-use Rattle.jc_stripe.specs.Reached.{IsReached, AllJoin, JoinFits, HasStep, are_apart}
+use Rattle.jc_stripe.specs.Phases.{PicksUp, is_apart}
+use Rattle.jc_stripe.specs.Reached.{IsReached, AllJoin, JoinFits, are_apart}
 use Rattle.jc_stripe.specs.Putting.{SaidFor, ToldStep, reply_in}
 use Rattle.jc_stripe.proofs.Numbering.{found_test}
 use Rattle.jc_stripe.proofs.Joining.{count-cons}

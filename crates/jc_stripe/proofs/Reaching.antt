@@ -1,16 +1,15 @@
 -- Each phase leads from a reached state to a reached one.
-use Rattle.std.proofs.Common.{◌≡◌, ◌≤◌, ◌<◌, ◌+◌, ◌*◌, ◌==◌, ◌||◌, ◌&&◌, ◌%◌, sum, ℕ, List, [], ◌∷◌, ◌++◌, map, length, count_by, Bool, true, false, not, IsTrue, IsSomeAnd, Option, Some, None, is_some, find, refl, sym, ap, ◌∙◌, subst, arith}
+use Rattle.std.proofs.Common.{◌≡◌, ◌≤◌, ◌+◌, ◌==◌, ◌||◌, ◌%◌, sum, ℕ, List, [], ◌∷◌, ◌++◌, map, length, Bool, true, false, not, Some, None, refl, sym, ap, ◌∙◌, subst, arith}
 use Rattle.std.specs.List.{list_all, list_any}
 use Rattle.std.specs.FinMap.{from_entries}
 use Rattle.std.proofs.lemmas.List.{length-append}
 use Rattle.std.proofs.lemmas.List.Folds.{list_all-map}
 use Rattle.std.proofs.lemmas.Bool.{eqb-true}
-use Rattle.jc_types.specs.declared.config.Config.{Config}
 use Rattle.jc_model.specs.declared.event.Op.{Op}
 use Rattle.jc_model.specs.declared.event.Out.{Out}
 use Rattle.jc_model.specs.declared.event.Reply.{Reply}
 use Rattle.jc_model.specs.declared.event.Event.{Event}
-use Rattle.jc_model.specs.Cache.{Bytes, Cache, entry_at}
+use Rattle.jc_model.specs.Cache.{Bytes, entry_at}
 use Rattle.jc_model.specs.Table.{new_entry}
 use Rattle.jc_model.specs.Group.{Group, nothing_said, events_of}
 use Rattle.jc_model.specs.Legal.{Legal, IsHistory, of_one_stripe, event_key}
@@ -23,17 +22,17 @@ use Rattle.jc_inflight.specs.Resolving.{resolved}
 use Rattle.jc_stripe.specs.declared.ticket.First.{First}
 use Rattle.jc_stripe.specs.declared.ticket.First.TheVariants.{Nobody, Loader, Writer}
 use Rattle.jc_stripe.specs.Claim.{Claim, JoinClaim}
-use Rattle.jc_stripe.specs.State.{State, Reserved, is_of, is_key, is_reserved, claimed, released, reserved, unreserved, promised, waits}
-use Rattle.jc_stripe.specs.Refusals.{first_refusal, first_asked, has_phases, goes_on, places, passes, load_joined, needs_reservation}
+use Rattle.jc_stripe.specs.State.{State, Reserved, is_key, is_reserved, claimed, reserved, unreserved, waits}
+use Rattle.jc_stripe.specs.Refusals.{first_refusal, first_asked, has_phases, goes_on, places, needs_reservation}
 use Rattle.jc_stripe.specs.Phases.{MayBegin, is_beside, is_apart, group_made, gone_on, Steps, Begins, Commits, joined_by, settled}
-use Rattle.jc_stripe.specs.Reached.{IsReached, IsUsed, is_own, may_end, may_share}
+use Rattle.jc_stripe.specs.Reached.{IsReached, IsUsed}
 use Rattle.jc_stripe.proofs.Refusing.{not_refused, roomy, alone_passes, passing_keeps, was_free, ticket_places, few_out, join_places, few_joined, loader_needs, writer_needs}
 use Rattle.jc_stripe.proofs.Tables.{reached_reserved, reached_joined}
 use Rattle.jc_stripe.proofs.Beside.{ask_same, all_then, or_right, none_left}
 use Rattle.jc_stripe.proofs.Joining.{out_found}
 use Rattle.jc_stripe.proofs.Settled.{SharedAt, joins_same, joins_settled, remains_settled, may_commit, beside_found, callers_behind, callers_other, callers_apart, callers_beside, callers_left, claim_left_waiting, one_less_claimed, count_left, length_left}
 use Rattle.jc_stripe.proofs.SharedSteps.{shared-group}
-use Rattle.jc_stripe.proofs.Ordered.{MayPut, order-group}
+use Rattle.jc_stripe.proofs.Ordered.{order-group}
 use Rattle.jc_stripe.proofs.Stepped.{legal_on, used_on, own_on, kept_on, all_swap, ends_on, shares_on, few_events, one_event}
 
 -- 1. A reached state's history is legal.

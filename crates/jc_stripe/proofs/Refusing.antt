@@ -3,19 +3,18 @@ use Rattle.std.proofs.Common.{◌≡◌, ◌≤◌, ◌<◌, ◌+◌, ◌||◌, 
 use Rattle.std.specs.List.{list_any}
 use Rattle.std.proofs.lemmas.Bool.Decides.{nat_tests}
 use Rattle.jc_types.specs.declared.config.Config.{Config}
-use Rattle.jc_types.specs.declared.config.Refusal.{Refusal}
 use Rattle.jc_types.specs.declared.config.Refusal.TheVariants as refusal
 use Rattle.jc_model.specs.declared.event.Op.{Op}
-use Rattle.jc_model.specs.declared.event.Op.TheVariants.{Get, ContainsKey, LoadAll}
+use Rattle.jc_model.specs.declared.event.Op.TheVariants.{Get, ContainsKey}
 use Rattle.jc_model.specs.declared.event.Change.{Change}
 use Rattle.jc_model.specs.Cache.{Bytes, entry_at}
 use Rattle.jc_model.specs.Table.{new_entry}
 use Rattle.jc_model.specs.Group.{nothing_said}
-use Rattle.jc_model.proofs.Lookups.{both, none_is}
+use Rattle.jc_model.proofs.Lookups.{both}
 use Rattle.jc_stripe.specs.declared.ticket.First.{First}
 use Rattle.jc_stripe.specs.declared.ticket.First.TheVariants.{Nobody, Loader, Writer}
 use Rattle.jc_stripe.specs.State.{State, Reserved, is_key, is_reserved, promised}
-use Rattle.jc_stripe.specs.Refusals.{first_asked, first_refusal, goes_on, has_room, last_number, load_at, load_joined, load_of, loader_if, needs_reservation, passes, places, reserves, writer_if}
+use Rattle.jc_stripe.specs.Refusals.{first_asked, first_refusal, goes_on, has_room, last_number, load_at, load_joined, loader_if, needs_reservation, passes, places, reserves, writer_if}
 use Rattle.jc_stripe.proofs.Numbering.{found_any}
 
 -- 1. None of the conditions holds.

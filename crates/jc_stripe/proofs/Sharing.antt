@@ -1,5 +1,5 @@
 -- Events put into promised places, one after another.
-use Rattle.std.proofs.Common.{◌≡◌, ◌≤◌, ◌<◌, ◌+◌, ◌-◌, ℕ, zero, suc, List, [], ◌∷◌, ◌++◌, map, length, take, count_by, Option, Some, None, refl, sym, ap, ◌∙◌, arith, append_assoc, append-nil, filter, slice_get, add-one}
+use Rattle.std.proofs.Common.{◌≡◌, ◌<◌, ◌+◌, ◌-◌, ℕ, zero, suc, List, [], ◌∷◌, ◌++◌, map, length, take, count_by, Some, None, sym, ap, ◌∙◌, arith, append_assoc, append-nil, filter, slice_get, add-one}
 use Rattle.std.proofs.lemmas.List.{length-append, length-map, map-append}
 use Rattle.std.proofs.lemmas.List.Sums.{length-filter}
 use Rattle.std.proofs.lemmas.Option.{slice_get-get_or}

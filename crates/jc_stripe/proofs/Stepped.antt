@@ -1,21 +1,18 @@
 -- What holds behind a step, from what holds before it.
-use Rattle.std.proofs.Common.{◌≡◌, ◌≤◌, ◌<◌, ◌+◌, ◌==◌, ◌||◌, ◌&&◌, ℕ, suc, List, [], ◌∷◌, ◌++◌, map, length, Bool, true, false, cond, not, IsTrue, Option, None, Some, is_some, is_none, refl, sym, ap, ◌∙◌, subst, arith, append_assoc, zero-add, add-zero, slice_get, if◌then◌else◌}
+use Rattle.std.proofs.Common.{◌≡◌, ◌≤◌, ◌+◌, ◌==◌, ◌||◌, ◌&&◌, ℕ, suc, List, [], ◌∷◌, ◌++◌, map, length, Bool, true, false, cond, not, Option, None, Some, is_some, is_none, refl, sym, ap, ◌∙◌, subst, arith, zero-add}
 use Rattle.std.specs.List.{list_any, list_all}
-use Rattle.std.specs.Cmp.Lexicographic.{pointwise, texts_ties}
+use Rattle.std.specs.Cmp.Lexicographic.{pointwise}
 use Rattle.std.specs.Ordering.{eq_by_cmp}
 use Rattle.std.specs.Cmp.{eq_by_cmp_equiv}
-use Rattle.std.specs.FinMap.{from_entries, len, remove, get-remove}
+use Rattle.std.specs.FinMap.{from_entries, len, get-remove}
 use Rattle.std.proofs.lemmas.List.{length-append}
 use Rattle.std.proofs.lemmas.List.Folds.{list_all-append}
 use Rattle.std.proofs.lemmas.Cmp.{nat_list_cmp_total, nat_list_eq_equiv}
 use Rattle.jc_model.specs.declared.event.Event.{Event}
-use Rattle.jc_model.specs.declared.event.Event.TheVariants.{Step, Evict}
+use Rattle.jc_model.specs.declared.event.Event.TheVariants.{Step}
 use Rattle.jc_model.specs.declared.event.Op.{Op}
-use Rattle.jc_model.specs.declared.event.Op.TheVariants.{Get}
 use Rattle.jc_model.specs.declared.event.Out.{Out}
-use Rattle.jc_model.specs.declared.event.Reply.{Reply}
 use Rattle.jc_model.specs.declared.event.Cause.{Cause}
-use Rattle.jc_model.specs.declared.event.Cause.TheVariants.{Full, Memory}
 use Rattle.jc_model.specs.declared.event.LoadAnswer.{LoadAnswer}
 use Rattle.jc_model.specs.Cache.{Bytes, Cache, key_cmp, entry_at, with_entry}
 use Rattle.jc_model.specs.Table.{new_entry, new_reply}
@@ -23,7 +20,7 @@ use Rattle.jc_model.specs.Group.{Group, load_only, victim_events, step_event, st
 use Rattle.jc_model.specs.Group as group
 use Rattle.jc_model.specs.Lawful.{IsLawful}
 use Rattle.jc_model.specs.Legal.{IsHistory, in_order}
-use Rattle.jc_model.proofs.Lookups.{both, none_is, same_key, get-with_entry}
+use Rattle.jc_model.proofs.Lookups.{both, same_key, get-with_entry}
 use Rattle.jc_entries.specs.ByUse.{is_pinned}
 use Rattle.jc_entries.proofs.UseLemmas.{evicted_of-free}
 use Rattle.jc_inflight.specs.declared.joiner.Joiner.{Joiner}
@@ -34,7 +31,7 @@ use Rattle.jc_stripe.specs.Reached.{IsUsed, may_end, may_share, is_own}
 use Rattle.jc_stripe.specs.Putting.{entries_left}
 use Rattle.jc_stripe.proofs.Used.{by_use-append, by_use-group, apart-left, from-left}
 use Rattle.jc_stripe.proofs.Lawfully.{history-push, lawful-push, cache_after-push, victim_known, own_entry}
-use Rattle.jc_stripe.proofs.Ordered.{join_and, comes_behind, behind-append, behind-group, beside_callers, own_least, own_left, own-group}
+use Rattle.jc_stripe.proofs.Ordered.{join_and, comes_behind, behind-append, behind-group, own_least, own_left, own-group}
 
 -- 1. The history, and what it leaves.
 

@@ -1,13 +1,10 @@
 -- A step that was made in the entries and put down is a step of the phase machine.
-use Rattle.std.proofs.Common.{◌≡◌, ◌≤◌, ◌+◌, ◌==◌, ◌&&◌, ◌∷◌, ◌++◌, [], ℕ, List, length, map, Bool, true, false, cond, IsTrue, Option, Some, None, is_some, is_none, refl, sym, ap, ◌∙◌, subst, arith}
-use Rattle.std.specs.FinMap as finite
+use Rattle.std.proofs.Common.{◌≡◌, ◌≤◌, ◌+◌, ◌==◌, ◌&&◌, ◌++◌, ℕ, List, length, cond, IsTrue, None, is_some, is_none, sym, ap, ◌∙◌}
 use Rattle.std.specs.FinMap.{len, from_entries}
 use Rattle.jc_model.specs.declared.event.Op.{Op}
 use Rattle.jc_model.specs.declared.event.Out.{Out}
 use Rattle.jc_model.specs.declared.event.Reply.{Reply}
-use Rattle.jc_model.specs.declared.event.Event.{Event}
-use Rattle.jc_model.specs.declared.event.Cause.{Cause}
-use Rattle.jc_model.specs.Cache.{Bytes, Cache, key_cmp, entry_at}
+use Rattle.jc_model.specs.Cache.{Bytes, key_cmp, entry_at}
 use Rattle.jc_model.specs.Listed.{apart}
 use Rattle.jc_model.specs.Table.{answers_fit, new_entry, new_reply}
 use Rattle.jc_model.specs.Group.{Group, victim_events, events_of, step_place, left_after}
@@ -15,8 +12,8 @@ use Rattle.jc_model.proofs.Lookups.{len-apart}
 use Rattle.jc_entries.specs.ByUse.{ByUse, evicted_of}
 use Rattle.jc_stripe.specs.declared.putting.Putting.{Putting}
 use Rattle.jc_stripe.specs.State.{State}
-use Rattle.jc_stripe.specs.OrderOfUse.{by_use, least_used, pinned}
-use Rattle.jc_stripe.specs.Phases.{group_made, gone_on, inserts_here, overflows, victim_of, own_cause, Steps}
+use Rattle.jc_stripe.specs.OrderOfUse.{by_use, pinned}
+use Rattle.jc_stripe.specs.Phases.{group_made, inserts_here, overflows, victim_of, own_cause, Steps}
 use Rattle.jc_stripe.specs.Reached.{IsUsed}
 use Rattle.jc_stripe.specs.Putting.{IsKeptSo, inserts_into, overflows_in, victim_in, put_events, entries_left}
 use Rattle.jc_stripe.proofs.Used.{find-entry, from-left}

@@ -1,20 +1,20 @@
 -- What a step and its group leave of the entries by use, and of the cache that these make.
-use Rattle.std.proofs.Common.{◌≡◌, ◌==◌, ◌&&◌, ℕ, List, [], ◌∷◌, ◌++◌, map, Bool, true, false, cond, IsTrue, Option, Some, None, is_some, is_none, refl, sym, ap, ◌∙◌, not}
+use Rattle.std.proofs.Common.{◌≡◌, ◌&&◌, ℕ, List, [], ◌∷◌, ◌++◌, map, Bool, true, false, cond, Option, Some, None, is_some, is_none, refl, sym, ap, ◌∙◌}
 use Rattle.std.specs.Ordering.{eq_by_cmp}
 use Rattle.std.proofs.lemmas.Cmp.{nat_list_cmp_total}
 use Rattle.std.specs.FinMap as finite
-use Rattle.std.specs.FinMap.{from_entries, get-from_entries, remove}
+use Rattle.std.specs.FinMap.{from_entries, get-from_entries}
 use Rattle.jc_types.specs.declared.config.Refusal.{Refusal}
 use Rattle.jc_model.specs.declared.event.Cause.{Cause}
 use Rattle.jc_model.specs.declared.event.Event.{Event}
 use Rattle.jc_model.specs.declared.event.Op.{Op}
-use Rattle.jc_model.specs.declared.event.Op.TheVariants.{Get, ContainsKey, Put, GetAndPut, PutIfAbsent, Remove, RemoveIf, GetAndRemove, Replace, ReplaceIf, GetAndReplace, Clear, LoadAll, Invoke}
+use Rattle.jc_model.specs.declared.event.Op.TheVariants.{ContainsKey, LoadAll}
 use Rattle.jc_model.specs.declared.event.Out.{Out}
 use Rattle.jc_model.specs.declared.event.LoadAnswer.{LoadAnswer}
 use Rattle.jc_model.specs.declared.event.LoadAnswer.TheVariants.{NotAsked, Found, Nothing, Failed}
 use Rattle.jc_model.specs.Cache.{Bytes, Cache, key_cmp, entry_at, with_entry}
-use Rattle.jc_model.specs.Listed.{apart, others, listed}
-use Rattle.jc_model.specs.Table.{Made, fault_of, entry_after, new_entry, left_by, loaded, cache_left}
+use Rattle.jc_model.specs.Listed.{apart, listed}
+use Rattle.jc_model.specs.Table.{fault_of, entry_after, new_entry, left_by, loaded, cache_left}
 use Rattle.jc_model.specs.Processor.{found_in}
 use Rattle.jc_model.specs.Group.{Group, victim_events, shared_event, evicted_events, events_of, step_event, step_place, left_after, evict_own}
 use Rattle.jc_model.specs.Group as group

@@ -2,6 +2,7 @@ pub mod Claim
 pub mod State
 pub mod OrderOfUse
 pub mod Refusals
+pub mod Finding
 pub mod Phases
 pub mod Reached
 pub mod Putting

@@ -2,7 +2,7 @@
 --     IsReached      its history is legal from its opening and leaves its entries, its tables are within their limits, each
 --                    reservation still asks what it asked, each joiner that waits still finds its load, and the steps of both
 --                    may still come
-use Rattle.std.specs.Prelude.{◌≡◌, ◌==◌, ◌+◌, ◌≤◌, ◌<◌, ℕ, List, [], ◌∷◌, length, Ok, IsTrue, Bool, true, false, not, ◌&&◌, ◌||◌, Option, None, Some, All, AllPairs, slice_get}
+use Rattle.std.specs.Prelude.{◌≡◌, ◌==◌, ◌+◌, ◌≤◌, ◌<◌, ℕ, List, [], ◌∷◌, length, Ok, IsTrue, Bool, true, false, not, ◌&&◌, ◌||◌, None, Some, All, AllPairs, slice_get}
 use Rattle.std.specs.List.{list_all}
 use Rattle.std.specs.FinMap.{len, from_entries}
 use Rattle.jc_types.specs.declared.config.Config.{Config}
@@ -12,7 +12,7 @@ use Rattle.jc_model.specs.declared.event.Out.{Out}
 use Rattle.jc_model.specs.declared.event.Reply.{Reply}
 use Rattle.jc_model.specs.declared.event.Event.{Event}
 use Rattle.jc_model.specs.declared.event.Event.TheVariants.{Step}
-use Rattle.jc_model.specs.Cache.{Bytes, Cache, entry_at}
+use Rattle.jc_model.specs.Cache.{Cache, entry_at}
 use Rattle.jc_model.specs.Listed.{apart}
 use Rattle.jc_model.specs.Legal.{IsHistory, is_of_stripe, may_come}
 use Rattle.jc_inflight.specs.declared.joiner.Joiner.{Joiner}

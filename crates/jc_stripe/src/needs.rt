@@ -1,13 +1,26 @@
 //! What a call needs of a stripe.
 ghost use Rattle.std.specs.Prelude.{◌≡◌, ◌&&◌, Option};
-ghost use Rattle.jc_stripe.specs.Refusals.{passes, places, first_asked, reserves, loader_if, writer_if, writer_for, load_of};
+ghost use Rattle.jc_stripe.specs.Refusals.{passes, places, first_asked, loader_if, writer_if, writer_for, load_of};
+ghost use Rattle.jc_stripe.specs.Finding.{needs_in};
 
 use crate::ticket::First;
 use jc_model::event::{Change, Op, ProcessAnswer};
 use jc_types::config::Config;
 use jc_types::value::Value;
 
-/// Whether a call goes on though its key is reserved, by the cached entry.
+/// What a call finds at its key, before anything is done.
+#[derive(Clone, Copy)]
+pub(crate) struct Found {
+    pub(crate) entry: Option<Value>,
+    /// The load that the call joins, if there is one.
+    pub(crate) load: Option<u64>,
+    /// Whom the call asks first, unless it joins a load.
+    pub(crate) first: First,
+    /// Whether the call goes on though its key is reserved.
+    pub(crate) goes_on: bool,
+}
+
+/// Whether the cached entry alone lets a call go on though its key is reserved.
 pub(crate) fn does_pass(config: &Config, op: &Op, entry: &Option<Value>) -> bool
     ensures { result ≡ passes config.now op.now entry.now }
 {
@@ -67,9 +80,9 @@ pub(crate) fn first_for(config: &Config, op: &Op, entry: &Option<Value>) -> Firs
     }
 }
 
-/// Whether a reservation is made.
-pub(crate) fn does_reserve(first: &First) -> bool
-    ensures { result ≡ reserves first.now }
+/// Whether a call reserves its key.
+pub(crate) fn needs_reservation(found: &Found) -> bool
+    ensures { result ≡ needs_in found.now }
 {
-    !matches!(first, First::Nobody)
+    found.load.is_none() && !matches!(found.first, First::Nobody)
 }

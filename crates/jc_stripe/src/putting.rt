@@ -1,5 +1,7 @@
 //! What a step leaves of the entries, and what is put down of it.
 ghost use Rattle.std.specs.Prelude.{◌≡◌, ◌+◌, ◌≤◌, ◌<◌, ◌^◌, [], ◌∷◌, ◌++◌, map, length, Bool, Option, IsTrue};
+ghost use Rattle.std.specs.FinMap as finite;
+ghost use Rattle.jc_model.specs.Cache.{key_cmp};
 ghost use Rattle.jc_model.specs.Group.{victim_events, shared_event, evicted_events};
 ghost use Rattle.jc_model.specs.declared.event.Event.TheVariants.{Step};
 ghost use Rattle.jc_inflight.specs.Joined.{callers_of};
@@ -13,6 +15,7 @@ use jc_inflight::joiners::Joiners;
 use jc_model::event::{Cause, Event, LoadAnswer, Op, Out, ProcessAnswer, Reply, WriteAnswer};
 use jc_model::table::first_fault;
 use jc_types::key::Key;
+use jc_types::value::Value;
 
 /// A step, and who goes before and after it.
 #[derive(Clone, Copy)]
@@ -39,21 +42,23 @@ fn does_use(op: &Op, load: &LoadAnswer) -> bool
     }
 }
 
-/// Makes a step in the entries, and says who went before it and why its own key went after it.
+/// Makes a step in the entries, where the key has this entry, and says who went before it and why its own key went after it.
 pub(crate) fn keep(
     entries: &mut Entries,
     pinned: &[Key],
     key: &Key,
+    entry: Option<Value>,
     op: &Op,
     out: &Out,
 ) -> (Option<Key>, Option<Cause>)
-    requires { length entries.old.list ≤ entries.old.capacity }
+    requires room { length entries.old.list ≤ entries.old.capacity }
+    requires entry { entry ≡ finite.find key_cmp key.now entries.old.list }
     ensures { IsKeptSo entries.old pinned.now key.now op.now out.now result.0 result.1 entries.new }
 {
     if first_fault(out).is_some() || !does_use(op, &out.load) {
         return (None, None);
     }
-    match op.entry_left(entries.peek(key), out) {
+    match op.entry_left(entry, out) {
         Some(value) => match entries.insert(key, &value, pinned) {
             Inserted::Kept => (None, None),
             Inserted::KeptAfter(victim) => (Some(victim), None),

@@ -14,13 +14,14 @@ ghost use Rattle.jc_stripe.specs.Claim.{JoinClaim};
 ghost use Rattle.jc_stripe.specs.State.{is_key, is_reserved, reserved, claimed, promised, IsOut};
 ghost use Rattle.jc_stripe.specs.OrderOfUse.{by_use};
 ghost use Rattle.jc_stripe.specs.Refusals.{has_phases, has_room, goes_on, first_refusal, first_asked, load_at, load_joined, needs_reservation};
+ghost use Rattle.jc_stripe.specs.Finding.{found_at};
 ghost use Rattle.jc_stripe.specs.Putting.{reply_in, SaidFor, ToldStep};
 ghost use Rattle.jc_stripe.specs.Phases.{MayBegin, Steps, Begins, Commits, Withdraws, PicksUp, joined_by};
 ghost use Rattle.jc_stripe.specs.OnePhase.{IsPhaseOf};
 ghost use Rattle.jc_stripe.specs.declared.ticket.First.TheVariants.{Nobody, Loader, Writer};
 
 use crate::begun::{Begun, Picked};
-use crate::needs::{does_pass, does_reserve, first_for, load_in, places_for};
+use crate::needs::{Found, does_pass, first_for, load_in, needs_reservation, places_for};
 use crate::putting::{Putting, keep, put_down};
 use crate::ticket::{
     Caller, First, Join, LoadDone, LoadTicket, Note, Origin, WriteDone, WriteTicket,
@@ -151,13 +152,14 @@ impl Stripe {
         load_in(&note.first, number)
     }
 
-    /// The load that a call joins here, if there is one.
-    fn load_joined(&self, key: &Key, op: &Op) -> Option<u64>
+    /// The load that a call joins here, if there is one, by the key's entry.
+    fn load_joined(&self, key: &Key, op: &Op, entry: &Option<Value>) -> Option<u64>
+        requires { entry.now ≡ entry_at self.now.cache key.now }
         ensures { result ≡ load_joined self.now key.now op.now }
     {
         match op {
             Op::Get => {
-                if self.config.read_through && self.entry(key).is_none() {
+                if self.config.read_through && entry.is_none() {
                     self.load_of(key)
                 } else {
                     None
@@ -167,20 +169,21 @@ impl Stripe {
         }
     }
 
-    /// Whether a call goes on though its key is reserved.
-    fn does_go_on(&self, key: &Key, op: &Op) -> bool
-        ensures { result ≡ goes_on self.now key.now op.now }
+    /// What a call finds at its key.
+    fn find(&self, key: &Key, op: &Op) -> Found
+        ensures { result ≡ found_at self.now key.now op.now }
     {
-        let passing = does_pass(&self.config, op, &self.entry(key));
-        let joining = self.load_joined(key, op).is_some();
-        passing || joining
-    }
-
-    /// Whom a call asks first here.
-    fn first(&self, key: &Key, op: &Op) -> First
-        ensures { result ≡ first_asked self.now.config op.now (entry_at self.now.cache key.now) }
-    {
-        first_for(&self.config, op, &self.entry(key))
+        let entry = self.entry(key);
+        let load = self.load_joined(key, op, &entry);
+        let first = first_for(&self.config, op, &entry);
+        let passing = does_pass(&self.config, op, &entry);
+        let joining = load.is_some();
+        Found {
+            entry,
+            load,
+            first,
+            goes_on: passing || joining,
+        }
     }
 
     /// Whether so many places of the history are free, and the numbers aren't at their end.
@@ -200,14 +203,6 @@ impl Stripe {
         self.reservations.is_reserved(key)
     }
 
-    /// Whether a call reserves its key here.
-    fn needs_reservation(&self, key: &Key, op: &Op) -> bool
-        ensures { result ≡ needs_reservation self.now key.now op.now }
-    {
-        let reserving = does_reserve(&self.first(key, op));
-        reserving && self.load_joined(key, op).is_none()
-    }
-
     /// Whether no further reservation can be made.
     fn is_reserving_full(&self) -> bool
         ensures { result ≡ nat_le 64 (length self.now.reservations) }
@@ -222,21 +217,20 @@ impl Stripe {
         JOINERS_MAX <= self.joiners.len()
     }
 
-    /// The first refusal that a call meets here, if any.
-    fn refusal(&self, who: Caller, key: &Key, op: &Op) -> Option<Refusal>
-        ensures { result ≡ first_refusal self.now who.number key.now op.now }
+    /// The first refusal that a call meets here, if any, by what it finds at its key.
+    fn refusal(&self, who: Caller, key: &Key, found: &Found) -> Option<Refusal>
+        ensures { (op : Op) → found.now ≡ found_at self.now key.now op → result ≡ first_refusal self.now who.number key.now op }
     {
-        let light = self.does_go_on(key, op);
-        if !self.has_room(who.number, places_for(light)) {
+        if !self.has_room(who.number, places_for(found.goes_on)) {
             return Some(Refusal::HistoryFull);
         }
-        if self.is_reserved(key) && !light {
+        if !found.goes_on && self.is_reserved(key) {
             return Some(Refusal::Busy);
         }
-        if self.needs_reservation(key, op) && self.is_reserving_full() {
+        if needs_reservation(found) && self.is_reserving_full() {
             return Some(Refusal::TooManyInFlight);
         }
-        if self.load_joined(key, op).is_some() && self.is_joining_full() {
+        if found.load.is_some() && self.is_joining_full() {
             return Some(Refusal::TooManyJoiners);
         }
         None
@@ -280,19 +274,27 @@ impl Stripe {
     }
 
     /// Does a call at once that asks nobody.
-    fn finish(&mut self, who: Caller, key: &Key, op: &Op) -> (Reply, u32)
+    fn finish(&mut self, who: Caller, key: &Key, op: &Op, found: &Found) -> (Reply, u32)
+        requires found { found.now ≡ found_at self.old key.now op.now }
         requires free { first_refusal self.old who.number key.now op.now ≡ None }
         requires asks { first_asked self.old.config op.now (entry_at self.old.cache key.now) ≡ Nobody }
         requires op { IsTrue (has_phases op.now) }
         requires begins { MayBegin self.old who.session who.number key.now }
         ensures { Steps self.old who.session who.number key.now op.now nothing_said [] result.0 result.1 self.new }
     {
-        let kept = places_for(self.does_go_on(key, op));
-        let reply = op.reply(self.entry(key), &NOTHING_SAID);
+        let kept = places_for(found.goes_on);
+        let reply = op.reply(found.entry, &NOTHING_SAID);
         let told = reply;
         let _ = self.history.promise(kept);
         let pinned = self.reservations.keys();
-        let (victim, evicted) = keep(&mut self.entries, pinned, key, op, &NOTHING_SAID);
+        let (victim, evicted) = keep(
+            &mut self.entries,
+            pinned,
+            key,
+            found.entry,
+            op,
+            &NOTHING_SAID,
+        );
         let made = Putting {
             who,
             key: *key,
@@ -315,10 +317,12 @@ impl Stripe {
         match self.reservations.release(key) {
             Some((_, note)) => {
                 let kept = 3 + self.joiners.waiting(number) as usize;
-                let reply = note.op.reply(self.entries.peek(key), out);
+                let entry = self.entries.peek(key);
+                let asked = entry;
+                let reply = note.op.reply(entry, out);
                 let told = reply;
                 let pinned = self.reservations.keys();
-                let (victim, evicted) = keep(&mut self.entries, pinned, key, &note.op, out);
+                let (victim, evicted) = keep(&mut self.entries, pinned, key, asked, &note.op, out);
                 let made = Putting {
                     who: Caller {
                         session: note.session,
@@ -373,15 +377,16 @@ impl Stripe {
         requires begins { MayBegin self.old who.session who.number key.now }
         ensures { Begins self.old who.session who.number key.now op.now result self.new }
     {
-        if let Some(refusal) = self.refusal(who, key, op) {
+        let found = self.find(key, op);
+        if let Some(refusal) = self.refusal(who, key, &found) {
             return Begun::Refused(refusal);
         }
-        if let Some(load) = self.load_joined(key, op) {
+        if let Some(load) = found.load {
             return Begun::Joined(self.join(who, key, op, load));
         }
-        match self.first(key, op) {
+        match found.first {
             First::Nobody => {
-                let (reply, place) = self.finish(who, key, op);
+                let (reply, place) = self.finish(who, key, op, &found);
                 Begun::Done(reply, place)
             }
             First::Loader => {

@@ -1,6 +1,6 @@
 -- Slots in a list, and the map that they make.
-use Rattle.std.proofs.Common.{◌≡◌, ◌&&◌, ◌+◌, ℕ, List, [], ◌∷◌, ◌++◌, Bool, true, false, cond, Option, None, Some, suc, zero, refl, sym, ap, ◌∙◌, subst, arith, is_none, position, slice_get, slice_set, remove, get_or}
-use Rattle.std.specs.List.{position_from}
+use Rattle.std.proofs.Common.{◌≡◌, ◌==◌, ◌&&◌, ◌+◌, ◌-◌, ℕ, List, [], ◌∷◌, ◌++◌, Bool, true, false, cond, Option, None, Some, suc, zero, refl, sym, ap, ◌∙◌, subst, arith, is_none, position, slice_get, slice_set, length, take, get_or}
+use Rattle.std.specs.List.{position_from, swap_remove}
 use Rattle.std.proofs.lemmas.Iterator.Adapters.{position_from-zero}
 use Rattle.std.proofs.lemmas.Option.{slice_get_read, slice_get_within, same_Some}
 use Rattle.std.specs.Ordering.{eq_by_cmp}
@@ -12,10 +12,10 @@ use Rattle.std.specs.FinMap.{find, insert, from_entries, same_map, get-from_entr
 use Rattle.jc_model.specs.Cache.{Bytes, key_cmp}
 use Rattle.jc_model.proofs.Lookups.{both, same_key, exact, none_is}
 use Rattle.jc_world.specs.declared.event.Part.{Part}
-use Rattle.jc_world.specs.Slots.{once, is_at}
+use Rattle.jc_world.specs.Slots.{once, is_under, part_under}
 
 -- by cases on whether two keys are one
-split : (q key : Bytes) (P : Bool → Type 0) → (q ≡ key → P true) → (eq_by_cmp key_cmp q key ≡ false → P false) → P (eq_by_cmp key_cmp q key)
+pub split : (q key : Bytes) (P : Bool → Type 0) → (q ≡ key → P true) → (eq_by_cmp key_cmp q key ≡ false → P false) → P (eq_by_cmp key_cmp q key)
 split q key P here there =
     elim (eq_by_cmp key_cmp q key) as (λ b. eq_by_cmp key_cmp q key ≡ b → P b) [ true ↦ λ e. here (same_key q key e) | false ↦ λ e. there e ] refl
 
@@ -25,48 +25,48 @@ tied key = (eq_by_cmp_equiv nat_list_cmp_total).refl key
 abbrev pub Entry : Type 0
 Entry = Bytes × Part
 
-pub record Found (key : Bytes) (es : List Entry) (i : ℕ) : Type 0 where
+pub record Found (call : ℕ) (key : Bytes) (es : List Entry) (i : ℕ) : Type 0 where
   pub part : Part
   pub here : slice_get es i ≡ Some (key, part)
-  pub first : find key_cmp key es ≡ Some part
+  pub first : part_under call key es ≡ Some part
 
-at_from : (key : Bytes) (es : List Entry) (k i : ℕ) → position_from (is_at key) k es ≡ Some i → (j : ℕ) × (i ≡ k + j) × Found key es j
-at_from key [] k i h = cc
-at_from key (x ∷ xs) k i h =
-    elim (is_at key x) as (λ b. is_at key x ≡ b → cond b (Some k) (position_from (is_at key) (k + 1) xs) ≡ Some i → (j : ℕ) × (i ≡ k + j) × Found key (x ∷ xs) j) [
+at_from : (call : ℕ) (key : Bytes) (es : List Entry) (k i : ℕ) → position_from (is_under call key) k es ≡ Some i → (j : ℕ) × (i ≡ k + j) × Found call key es j
+at_from call key [] k i h = cc
+at_from call key (x ∷ xs) k i h =
+    elim (is_under call key x) as (λ b. is_under call key x ≡ b → cond b (Some k) (position_from (is_under call key) (k + 1) xs) ≡ Some i → (j : ℕ) × (i ≡ k + j) × Found call key (x ∷ xs) j) [
       | true ↦ λ e h.
           let is : k ≡ i = cc in
-          let tie = sym (texts_ties key x.0) ∙ e in
+          let tie = sym (texts_ties key x.0) ∙ (both (x.1.call == call) _ e).1 in
           let same : x ≡ (key, x.1) = λ t. (sym (same_key key x.0 tie) t, x.1) in
-          (0, omega arith, record { part = x.1; here = ap Some same; first = ap (λ b. cond b (Some x.1) (find key_cmp key xs)) tie })
+          (0, omega arith, record { part = x.1; here = ap Some same; first = ap (λ b. cond b (Some x.1) (part_under call key xs)) e })
       | false ↦ λ e h.
-          let rest = at_from key xs (k + 1) i h in
-          (suc rest.0, omega arith, record { part = rest.2.part; here = rest.2.here; first = ap (λ b. cond b (Some x.1) (find key_cmp key xs)) (sym (texts_ties key x.0) ∙ e) ∙ rest.2.first })
+          let rest = at_from call key xs (k + 1) i h in
+          (suc rest.0, omega arith, record { part = rest.2.part; here = rest.2.here; first = ap (λ b. cond b (Some x.1) (part_under call key xs)) e ∙ rest.2.first })
     ] refl h
 
-pub found_at : (key : Bytes) (es : List Entry) (i : ℕ) → position (is_at key) es ≡ Some i → Found key es i
-found_at key es i h =
-    let found = at_from key es 0 i (sym (position_from-zero (is_at key) es) ∙ h) in
+found_at : (call : ℕ) (key : Bytes) (es : List Entry) (i : ℕ) → position (is_under call key) es ≡ Some i → Found call key es i
+found_at call key es i h =
+    let found = at_from call key es 0 i (sym (position_from-zero (is_under call key) es) ∙ h) in
     let is : found.0 ≡ i = omega arith in
-    subst (Found key es) is found.2
+    subst (Found call key es) is found.2
 
 -- what is read at the place that was found
-pub read_at : (key : Bytes) (es : List Entry) (i : ℕ) (e : Entry) → position (is_at key) es ≡ Some i → e ≡ get_or es i e → (found : Found key es i) × (e ≡ (key, found.part))
-read_at key es i e h is =
-    let found = found_at key es i h in
+pub read_at : (call : ℕ) (key : Bytes) (es : List Entry) (i : ℕ) (e : Entry) → position (is_under call key) es ≡ Some i → e ≡ get_or es i e → (found : Found call key es i) × (e ≡ (key, found.part))
+read_at call key es i e h is =
+    let found = found_at call key es i h in
     let here = slice_get_read es _ i e refl (slice_get_within es i (key, found.part) found.here) is in
     (found, same_Some e (key, found.part) (sym here ∙ found.here))
 
-none_from : (key : Bytes) (es : List Entry) (k : ℕ) → position_from (is_at key) k es ≡ None → find key_cmp key es ≡ None
-none_from key [] k h = refl
-none_from key (x ∷ xs) k h =
-    elim (is_at key x) as (λ b. is_at key x ≡ b → cond b (Some k) (position_from (is_at key) (k + 1) xs) ≡ None → find key_cmp key (x ∷ xs) ≡ None) [
-      | true ↦ λ e h. cc
-      | false ↦ λ e h. ap (λ b. cond b (Some x.1) (find key_cmp key xs)) (sym (texts_ties key x.0) ∙ e) ∙ none_from key xs (k + 1) h
-    ] refl h
+none_from : (call : ℕ) (key : Bytes) (es : List Entry) (k : ℕ) → position_from (is_under call key) k es ≡ None → part_under call key es ≡ None
+none_from call key [] k h = refl
+none_from call key (x ∷ xs) k h =
+    elim (is_under call key x) as (λ b. cond b (Some k) (position_from (is_under call key) (k + 1) xs) ≡ None → cond b (Some x.1) (part_under call key xs) ≡ None) [
+      | true ↦ λ h. cc
+      | false ↦ λ h. none_from call key xs (k + 1) h
+    ] h
 
-pub none_at : (key : Bytes) (es : List Entry) → position (is_at key) es ≡ None → find key_cmp key es ≡ None
-none_at key es h = none_from key es 0 (sym (position_from-zero (is_at key) es) ∙ h)
+pub none_at : (call : ℕ) (key : Bytes) (es : List Entry) → position (is_under call key) es ≡ None → part_under call key es ≡ None
+none_at call key es h = none_from call key es 0 (sym (position_from-zero (is_under call key) es) ∙ h)
 
 is_in : (key : Bytes) (es : List Entry) (i : ℕ) (part : Part) → slice_get es i ≡ Some (key, part) → find key_cmp key es ≡ None → ⊥
 is_in key [] i part h none = cc
@@ -104,18 +104,58 @@ find-set (x ∷ xs) (suc i) key part new q h o =
     ap (λ r. cond (eq_by_cmp key_cmp q x.0) (Some x.1) r) (find-set xs i key part new q h parts.1)
     ∙ crossed (eq_by_cmp key_cmp q x.0) (eq_by_cmp key_cmp q key) (Some x.1) (Some new) (find key_cmp q xs) (λ e f. apart_in x xs i key q part h parts.0 e f)
 
-pub find-remove : (es : List Entry) (i : ℕ) (key : Bytes) (part : Part) (q : Bytes) → slice_get es i ≡ Some (key, part) → once es ≡ true → find key_cmp q (remove es i) ≡ cond (eq_by_cmp key_cmp q key) None (find key_cmp q es)
-find-remove [] i key part q h o = cc
-find-remove (x ∷ xs) zero key part q h o =
-    let is : x ≡ (key, part) = cc in
-    let parts = both (is_none (find key_cmp x.0 xs)) (once xs) o in
-    let gone : find key_cmp key xs ≡ None = ap (λ (y : Entry). find key_cmp y.0 xs) (sym is) ∙ none_is _ parts.0 in
-    split q key (λ b. find key_cmp q xs ≡ cond b None (cond b (Some part) (find key_cmp q xs))) (λ e. ap (λ k. find key_cmp k xs) e ∙ gone) (λ e. refl)
-    ∙ ap (λ (y : Entry). cond (eq_by_cmp key_cmp q key) None (cond (eq_by_cmp key_cmp q y.0) (Some y.1) (find key_cmp q xs))) (sym is)
-find-remove (x ∷ xs) (suc i) key part q h o =
-    let parts = both (is_none (find key_cmp x.0 xs)) (once xs) o in
-    ap (λ r. cond (eq_by_cmp key_cmp q x.0) (Some x.1) r) (find-remove xs i key part q h parts.1)
-    ∙ crossed (eq_by_cmp key_cmp q x.0) (eq_by_cmp key_cmp q key) (Some x.1) None (find key_cmp q xs) (λ e f. apart_in x xs i key q part h parts.0 e f)
+-- fs has the parts of es, and no key twice where es has none twice
+abbrev Alike : List Entry → List Entry → Type 0
+Alike es fs = once es ≡ true → (once fs ≡ true) × ((q : Bytes) → find key_cmp q fs ≡ find key_cmp q es)
+
+under : (x : Entry) (es fs : List Entry) → Alike es fs → Alike (x ∷ es) (x ∷ fs)
+under x es fs f o =
+    let parts = both (is_none (find key_cmp x.0 es)) (once es) o in
+    let rest = f parts.1 in
+    ((λ i. is_none (rest.1 x.0 i) && rest.0 i) ∙ ap (λ b. b && true) parts.0, λ q. ap (cond (eq_by_cmp key_cmp q x.0) (Some x.1)) (rest.1 q))
+
+-- a key that isn't found is apart from the first, and isn't found behind it
+unfound : (key : Bytes) (x : Entry) (xs : List Entry) → find key_cmp key (x ∷ xs) ≡ None → (eq_by_cmp key_cmp key x.0 ≡ false) × (find key_cmp key xs ≡ None)
+unfound key x xs h = elim (eq_by_cmp key_cmp key x.0) as (λ b. cond b (Some x.1) (find key_cmp key xs) ≡ None → (b ≡ false) × (find key_cmp key xs ≡ None)) [ true ↦ λ h. cc | false ↦ λ h. (refl, h) ] h
+
+-- the first of a list, put in front of one more
+in_front : (x y : Entry) (es zs : List Entry) → Alike es (y ∷ zs) → Alike (x ∷ es) (y ∷ x ∷ zs)
+in_front x y es zs f o =
+    let here = under x es (y ∷ zs) f o in
+    let parts = both (is_none (find key_cmp x.0 (y ∷ zs))) (once (y ∷ zs)) here.0 in
+    let later = both (is_none (find key_cmp y.0 zs)) (once zs) parts.1 in
+    let free = unfound x.0 y zs (none_is _ parts.0) in
+    let turned : eq_by_cmp key_cmp y.0 x.0 ≡ false = (eq_by_cmp_equiv nat_list_cmp_total).symm y.0 x.0 ∙ free.0 in (
+      (λ i. is_none (cond (turned i) (Some x.1) (none_is _ later.0 i)) && (is_none (free.1 i) && later.1 i)),
+      λ q. crossed (eq_by_cmp key_cmp q y.0) (eq_by_cmp key_cmp q x.0) (Some y.1) (Some x.1) (find key_cmp q zs) (λ e f.
+          let same : true ≡ false = sym e ∙ ap (λ k. eq_by_cmp key_cmp k y.0) (same_key q x.0 f) ∙ free.0 in cc)
+          ∙ here.1 q,
+    )
+
+-- the last one in front
+to_front : (x : Entry) (xs : List Entry) (d : Entry) → Alike (x ∷ xs) (get_or (x ∷ xs) (length xs) d ∷ take (length xs) (x ∷ xs))
+to_front x [] d = λ o. (o, λ q. refl)
+to_front x (y ∷ ys) d =
+    let last = get_or (y ∷ ys) (length ys) d in
+    let others = take (length ys) (y ∷ ys) in
+    in_front x last (y ∷ ys) others (to_front y ys d)
+
+-- one in front of what is left where the last takes its place
+lifted : (x : Entry) (xs : List Entry) (i : ℕ) (e d : Entry) → slice_get (x ∷ xs) i ≡ Some e → Alike (x ∷ xs) (e ∷ take (length xs) (slice_set (x ∷ xs) i (get_or (x ∷ xs) (length xs) d)))
+lifted x [] zero e d h = let is : x ≡ e = cc in subst (λ y. Alike (x ∷ []) (y ∷ [])) is (λ o. (o, λ q. refl))
+lifted x (y ∷ ys) zero e d h =
+    let is : x ≡ e = cc in
+    let left = get_or (y ∷ ys) (length ys) d ∷ take (length ys) (y ∷ ys) in
+    subst (λ z. Alike (x ∷ y ∷ ys) (z ∷ left)) is (under x (y ∷ ys) left (to_front y ys d))
+lifted x [] (suc i) e d h = cc
+lifted x (y ∷ ys) (suc i) e d h = in_front x e (y ∷ ys) (take (length ys) (slice_set (y ∷ ys) i (get_or (y ∷ ys) (length ys) d))) (lifted y ys i e d h)
+
+-- one in front of what `swap_remove` leaves
+taken : (es : List Entry) (i : ℕ) (e d : Entry) → slice_get es i ≡ Some e → Alike es (e ∷ swap_remove es i d)
+taken [] i e d h = cc
+taken (x ∷ xs) i e d h =
+    let last : length xs ≡ length (x ∷ xs) - 1 = omega arith in
+    subst (λ n. Alike (x ∷ xs) (e ∷ take n (slice_set (x ∷ xs) i (get_or (x ∷ xs) n d)))) last (lifted x xs i e d h)
 
 pub find-push : (es : List Entry) (key : Bytes) (new : Part) (q : Bytes) → find key_cmp q es ≡ None → find key_cmp q (es ++ (key, new) ∷ []) ≡ cond (eq_by_cmp key_cmp q key) (Some new) None
 find-push [] key new q h = refl
@@ -132,10 +172,15 @@ map-set es i key part new h o = same_map nat_list_cmp_total exact _ _ (λ q.
     get-from_entries nat_list_cmp_total (slice_set es i (key, new)) q ∙ find-set es i key part new q h o
     ∙ sym (get-insert nat_list_cmp_total (from_entries es) key new q ∙ ap (cond (eq_by_cmp key_cmp q key) (Some new)) (get-from_entries nat_list_cmp_total es q)))
 
-pub map-remove : (es : List Entry) (i : ℕ) (key : Bytes) (part : Part) → slice_get es i ≡ Some (key, part) → once es ≡ true → from_entries {R = key_cmp} (remove es i) ≡ map.remove (from_entries es) key
-map-remove es i key part h o = same_map nat_list_cmp_total exact _ _ (λ q.
-    get-from_entries nat_list_cmp_total (remove es i) q ∙ find-remove es i key part q h o
-    ∙ sym (get-remove nat_list_cmp_total (from_entries es) key q ∙ ap (cond (eq_by_cmp key_cmp q key) None) (get-from_entries nat_list_cmp_total es q)))
+pub map-swap_remove : (es : List Entry) (i : ℕ) (key : Bytes) (part : Part) (d : Entry) → slice_get es i ≡ Some (key, part) → once es ≡ true → from_entries {R = key_cmp} (swap_remove es i d) ≡ map.remove (from_entries es) key
+map-swap_remove es i key part d h o =
+    let left = swap_remove es i d in
+    let now = taken es i (key, part) d h o in
+    let gone = none_is _ (both (is_none (find key_cmp key left)) (once left) now.0).0 in
+    same_map nat_list_cmp_total exact _ _ (λ q.
+    get-from_entries nat_list_cmp_total left q
+    ∙ split q key (λ b. find key_cmp q left ≡ cond b None (cond b (Some part) (find key_cmp q left))) (λ e. ap (λ k. find key_cmp k left) e ∙ gone) (λ e. refl)
+    ∙ sym (get-remove nat_list_cmp_total (from_entries es) key q ∙ ap (cond (eq_by_cmp key_cmp q key) None) (get-from_entries nat_list_cmp_total es q ∙ sym (now.1 q))))
 
 -- and no key stands twice
 
@@ -155,17 +200,8 @@ once-set (x ∷ xs) (suc i) key part new h o =
     other true h = absurd (h refl)
     other false h = refl
 
-pub once-remove : (es : List Entry) (i : ℕ) (key : Bytes) (part : Part) → slice_get es i ≡ Some (key, part) → once es ≡ true → once (remove es i) ≡ true
-once-remove [] i key part h o = cc
-once-remove (x ∷ xs) zero key part h o = (both (is_none (find key_cmp x.0 xs)) (once xs) o).1
-once-remove (x ∷ xs) (suc i) key part h o =
-    let parts = both (is_none (find key_cmp x.0 xs)) (once xs) o in
-    ap (λ (r : Option Part). is_none r && once (remove xs i)) (find-remove xs i key part x.0 h parts.1 ∙ ap (cond (eq_by_cmp key_cmp x.0 key) None) (none_is _ parts.0) ∙ gone (eq_by_cmp key_cmp x.0 key))
-    ∙ once-remove xs i key part h parts.1
-  where
-    gone : (b : Bool) → cond {A = Option Part} b None None ≡ None
-    gone true = refl
-    gone false = refl
+pub once-swap_remove : (es : List Entry) (i : ℕ) (key : Bytes) (part : Part) (d : Entry) → slice_get es i ≡ Some (key, part) → once es ≡ true → once (swap_remove es i d) ≡ true
+once-swap_remove es i key part d h o = let left = swap_remove es i d in (both (is_none (find key_cmp key left)) (once left) (taken es i (key, part) d h o).0).1
 
 pub once-push : (es : List Entry) (key : Bytes) (new : Part) → find key_cmp key es ≡ None → once es ≡ true → once (es ++ (key, new) ∷ []) ≡ true
 once-push [] key new h o = refl

@@ -1,30 +1,51 @@
 -- A machine's fields, and the state that they mean.
-use Rattle.std.proofs.Common.{◌≡◌, ◌==◌, List, true, false, cond, not, Option, Some, None, IsSomeAnd, sym, subst, ap, ◌∙◌, refl, ℕ, ◌++◌, ◌∷◌, []}
+use Rattle.std.proofs.Common.{◌≡◌, ◌==◌, ◌&&◌, List, Bool, is_none, true, false, cond, not, Option, Some, None, IsSomeAnd, sym, subst, ap, ◌∙◌, refl, ℕ, ◌++◌, ◌∷◌, []}
 use Rattle.std.proofs.lemmas.Cmp.{nat_list_cmp_total}
 use Rattle.std.specs.FinMap as map
 use Rattle.std.specs.FinMap.{get, insert, find, get-from_entries}
 use Rattle.jc_model.specs.Cache.{Bytes, key_cmp}
 use Rattle.jc_model.specs.declared.event.Change.{Change}
 use Rattle.jc_model.specs.Table.{write_given}
-use Rattle.jc_model.proofs.Lookups.{both, exact}
+use Rattle.jc_model.proofs.Lookups.{both, exact, none_is}
 use Rattle.jc_stripe.specs.declared.ticket.First.{First}
 use Rattle.jc_stripe.specs.declared.ticket.First.TheVariants.{Nobody, Loader, Writer}
 use Rattle.jc_world.specs.declared.event.Part.{Part}
 use Rattle.jc_world.specs.World.{WorldState, of_call, part_of, asks_writer, waits_for_report, is_answered, is_untouched}
 use Rattle.jc_world.specs.declared.event.WorldEvent.TheVariants as event
 use Rattle.jc_world.specs.Events.{fits}
-use Rattle.jc_world.specs.Slots.{parts_of, once}
-use Rattle.jc_world.proofs.Listed.{Entry, once-push}
+use Rattle.std.specs.Cmp.Lexicographic.{texts_ties}
+use Rattle.jc_world.specs.declared.machine.Machine.TheInside.{Inside}
+use Rattle.jc_world.specs.Inside.{world_of, IsKept}
+use Rattle.jc_world.specs.Slots.{parts_of, once, part_under}
+use Rattle.jc_world.proofs.Listed.{Entry, once-push, split}
 
 pub is_part : (o : Option Part) (call : ℕ) (part : Part) → of_call call o ≡ Some part → o ≡ Some part
 is_part None call part h = cc
 is_part (Some p) call part h =
     elim (p.call == call) as (λ b. cond b (Some p) None ≡ Some part → Some p ≡ Some part) [ true ↦ λ h. h | false ↦ λ h. cc ] h
 
--- a part of a world whose parts are those of the slots is in a slot
-pub in_slots : (slots : List Entry) (v w : WorldState) (call : ℕ) (key : Bytes) (part : Part) → v.parts ≡ parts_of slots → v ≡ w → part_of w call key ≡ Some part → map.find key_cmp key slots ≡ Some part
-in_slots slots v w call key part is same there =
-    sym (get-from_entries nat_list_cmp_total slots key) ∙ ap (λ m. get m key) (sym is) ∙ is_part (get v.parts key) call part (ap (λ (x : WorldState). part_of x call key) same ∙ there)
+-- by the call first, where no key stands twice
+part_under_is : (call : ℕ) (key : Bytes) (slots : List Entry) → once slots ≡ true → part_under call key slots ≡ of_call call (find key_cmp key slots)
+part_under_is call key [] once = refl
+part_under_is call key (x ∷ xs) once =
+    let parts = both (is_none (find key_cmp x.0 xs)) _ once in
+    ap (λ b. cond ((x.1.call == call) && b) (Some x.1) (part_under call key xs)) (texts_ties key x.0)
+    ∙ split key x.0 (λ b. cond ((x.1.call == call) && b) (Some x.1) (part_under call key xs) ≡ of_call call (cond b (Some x.1) (find key_cmp key xs)))
+    (λ e. here (x.1.call == call) x.1 (part_under call key xs) (part_under_is call key xs parts.1 ∙ ap (of_call call) (ap (λ k. find key_cmp k xs) e ∙ none_is _ parts.0)))
+    (λ e. there (x.1.call == call) (part_under call key xs) (Some x.1) ∙ part_under_is call key xs parts.1)
+  where
+    here : (b : Bool) (part : Part) (rest : Option Part) → rest ≡ None → cond (b && true) (Some part) rest ≡ cond b (Some part) None
+    here true part rest e = refl
+    here false part rest e = e
+
+    there : (b : Bool) (rest some : Option Part) → cond (b && false) some rest ≡ rest
+    there true rest some = refl
+    there false rest some = refl
+
+-- a world's parts are in the slots
+pub in_slots : (m : Inside) (w : WorldState) (call : ℕ) (key : Bytes) → IsKept m → world_of m ≡ w → part_under call key m.slots.items ≡ part_of w call key
+in_slots m w call key kept same =
+    part_under_is call key m.slots.items kept ∙ ap (of_call call) (sym (get-from_entries nat_list_cmp_total m.slots.items key)) ∙ ap (λ (x : WorldState). part_of x call key) same
 
 pub may_set : (o : Option Part) (part new : Part) → o ≡ Some part → new.number ≡ part.number → new.first ≡ part.first → IsSomeAnd o (λ old. (new.number ≡ old.number) × (new.first ≡ old.first))
 may_set o part new is number first = let P : Option Part → Type 0 = λ o. IsSomeAnd o (λ old. (new.number ≡ old.number) × (new.first ≡ old.first)) in subst P (sym is) (number, first)
@@ -53,9 +74,9 @@ untouched_some None h = cc
 untouched_some (Some part) h = (part, refl)
 
 -- the slot that was taken out is the part's
-pub taken_is : (slots : List Entry) (v : WorldState) (call : ℕ) (key : Bytes) (slot : Entry) (part : Part) → v.parts ≡ parts_of slots → part_of v call key ≡ Some part → find key_cmp key slots ≡ Some slot.1 → slot.0 ≡ key → slot ≡ (key, part)
-taken_is slots v call key slot part is there found key_is =
-    let e : Some slot.1 ≡ Some part = sym found ∙ in_slots slots v v call key part is refl there in
+pub taken_is : (m : Inside) (call : ℕ) (key : Bytes) (slot : Entry) (part : Part) → IsKept m → part_of (world_of m) call key ≡ Some part → part_under call key m.slots.items ≡ Some slot.1 → slot.0 ≡ key → slot ≡ (key, part)
+taken_is m call key slot part kept there found key_is =
+    let e : Some slot.1 ≡ Some part = sym found ∙ in_slots m (world_of m) call key kept refl ∙ there in
     let same : slot.1 ≡ part = cc in
     λ i. (key_is i, same i)
 

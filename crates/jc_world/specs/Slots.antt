@@ -4,7 +4,9 @@
 --     IsSlot        the part is that of the ticket
 --     once          no key stands twice
 --     parts_of      the map that the slots make
-use Rattle.std.specs.Prelude.{◌≡◌, ◌==◌, List, [], ◌∷◌, Bool, true, ◌&&◌, is_none}
+--     is_under      a slot is that of a call's key, by the call first
+--     part_under    the part of a call's key
+use Rattle.std.specs.Prelude.{◌≡◌, ◌==◌, ℕ, List, [], ◌∷◌, Bool, true, ◌&&◌, Option, None, Some, is_none, if◌then◌else◌}
 use Rattle.std.specs.Cmp.Lexicographic.{pointwise}
 use Rattle.std.specs.FinMap.{find, from_entries}
 use Rattle.jc_model.specs.Cache.{Bytes, key_cmp}
@@ -36,8 +38,12 @@ abbrev pub once : List (Bytes × Part) → Bool
 once [] = true
 once (entry ∷ entries) = is_none (find key_cmp entry.0 entries) && once entries
 
-abbrev pub is_at : Bytes → Bytes × Part → Bool
-is_at key entry = pointwise ◌==◌ key entry.0
+abbrev pub is_under : ℕ → Bytes → Bytes × Part → Bool
+is_under call key entry = (entry.1.call == call) && pointwise ◌==◌ key entry.0
 
 abbrev pub parts_of : List (Bytes × Part) → Parts
 parts_of entries = from_entries entries
+
+abbrev pub part_under : ℕ → Bytes → List (Bytes × Part) → Option Part
+part_under call key [] = None
+part_under call key (entry ∷ entries) = if is_under call key entry then Some entry.1 else part_under call key entries

@@ -1,10 +1,10 @@
 //! The calls under way. A session has one at most, so there are never more than there are sessions.
-ghost use Rattle.std.specs.Prelude.{◌≡◌, true, find, IsTrue};
+ghost use Rattle.std.specs.Prelude.{◌≡◌, true, find, option_copied, IsTrue};
 ghost use Rattle.std.specs.List.{list_any};
-ghost use Rattle.jc_world.specs.World.{has_number, is_of, over, of_call};
+ghost use Rattle.jc_world.specs.World.{has_number, is_of, over};
 ghost use Rattle.jc_world.specs.Events.{is_single, is_session, is_new};
 
-use crate::event::{Part, Under};
+use crate::event::Under;
 use jc_model::event::Op;
 
 /// The sessions of a world have the numbers 1 to this.
@@ -42,10 +42,10 @@ pub(crate) fn has_call(calls: &[Under], session: u32) -> bool
 }
 
 /// The call with this number.
-pub(crate) fn find_call(calls: &[Under], call: u64) -> Option<Under>
-    ensures { result ≡ find (has_number call) calls.now }
+pub(crate) fn find_call(calls: &[Under], call: u64) -> Option<&Under>
+    ensures { option_copied result ≡ find (has_number call) calls.now }
 {
-    calls.iter().copied().find(|u| u.number == call)
+    calls.iter().find(|u| u.number == call)
 }
 
 /// Takes a call that is over out.
@@ -53,14 +53,4 @@ pub(crate) fn drop_call(calls: &mut Vec<Under>, call: u64)
     ensures { calls.new.items ≡ over call calls.old.items }
 {
     calls.retain(|u| u.number != call);
-}
-
-/// A key's part, if it is this call's.
-pub(crate) fn if_of_call(call: u64, part: Option<Part>) -> Option<Part>
-    ensures { result ≡ of_call call part }
-{
-    match part {
-        Some(part) => { if part.call == call { Some(part) } else { None } }
-        None => None,
-    }
 }

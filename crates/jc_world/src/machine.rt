@@ -1,5 +1,5 @@
 //! The machine below a world: what each kind of event does.
-ghost use Rattle.std.specs.Prelude.{IsTrue, ◌≡◌, ◌&&◌, not, ◌++◌, ◌∷◌, [], true, false, Ok, IfOk, OnErr, OnOk, Option, None, Some};
+ghost use Rattle.std.specs.Prelude.{IsTrue, option_copied, ◌≡◌, ◌&&◌, not, ◌++◌, ◌∷◌, [], true, false, Ok, IfOk, OnErr, OnOk, Option, None, Some};
 ghost use Rattle.std.specs.FinMap as map;
 ghost use Rattle.jc_types.specs.Limits.{checked};
 ghost use Rattle.jc_model.specs.Cache.{entry_at, with_entry};
@@ -17,7 +17,7 @@ ghost use Rattle.jc_world.specs.Coherent.{is_changed, all_hold, Coherent};
 ghost use Rattle.jc_world.specs.Audit.{differs, differing, IsAudit};
 
 use crate::audit::{Audit, gather};
-use crate::calls::{drop_call, find_call, has_call, if_of_call, is_above, is_known, is_single_op};
+use crate::calls::{drop_call, find_call, has_call, is_above, is_known, is_single_op};
 use crate::event::{Command, Part, PickedUp, Premises, Reported, Shown, Under, WorldEvent};
 use crate::joining::{has_joined, let_go_joins, put_back, take_join};
 use crate::outside::{
@@ -25,7 +25,7 @@ use crate::outside::{
     is_load_given, is_never_touched, is_waiting_for_load, is_waiting_for_report, report_with,
 };
 use crate::room::push_in_room;
-use crate::slot::{Slot, part_at, set_part, take_slot};
+use crate::slot::{Slot, part_at, part_under, set_part, take_slot};
 use crate::stripes::{
     EVENTS_MAX, begin_at, commit_at, make_stripes, pick_up_at, shown_at, withdraw_at,
 };
@@ -152,8 +152,8 @@ impl Machine {
     }
 
     /// The call, if it is under way.
-    pub(crate) fn under(&self, call: u64) -> Option<Under>
-        ensures { result ≡ under self.now call }
+    pub(crate) fn under(&self, call: u64) -> Option<&Under>
+        ensures { option_copied result ≡ under self.now call }
     {
         find_call(&self.calls, call)
     }
@@ -166,10 +166,10 @@ impl Machine {
     }
 
     /// The key's part, if it is this call's.
-    pub(crate) fn part_of(&self, call: u64, key: &Key) -> Option<Part>
-        ensures { result ≡ part_of self.now call key.now }
+    pub(crate) fn part_of(&self, call: u64, key: &Key) -> Option<&Part>
+        ensures { option_copied result ≡ part_of self.now call key.now }
     {
-        if_of_call(call, self.reserved(key))
+        part_under(&self.slots, call, key)
     }
 
     /// What the store holds.
@@ -215,11 +215,11 @@ impl Machine {
         requires { waits_for_load (part_of self.old call key.now) ≡ true }
         ensures { (part : Part) × (part_of self.old call key.now ≡ Some part) × (self.new ≡ answered self.old key.now part answer) }
     {
-        match self.part_of(call, key) {
+        match self.part_of(call, key).copied() {
             Some(part) => {
                 let kept = answer;
                 let honest = is_honest_load(answer, self.stored(key));
-                set_part(&mut self.slots, key, with_load(part, kept));
+                set_part(&mut self.slots, call, key, with_load(part, kept));
                 self.premises.loaders = and_now(self.premises.loaders, honest);
             }
             None => unreachable!(),
@@ -232,11 +232,11 @@ impl Machine {
         ensures ok { OnOk result ((part : Part) × (change : Change) × (part_of self.old call key.now ≡ Some part) × (part.first ≡ Writer change) × (self.new ≡ changed self.old key.now part change)) }
         ensures err { OnErr result (self.new ≡ self.old) }
     {
-        match self.part_of(call, key) {
+        match self.part_of(call, key).copied() {
             Some(part) => match change_in(&part) {
                 Some(change) => {
                     self.store.set(key, entry_after(&change))?;
-                    set_part(&mut self.slots, key, with_change(part));
+                    set_part(&mut self.slots, call, key, with_change(part));
                     Ok(())
                 }
                 None => unreachable!(),
@@ -251,14 +251,14 @@ impl Machine {
         ensures { (part : Part) × (change : Change) × (part_of self.old call key.now ≡ Some part) × (part.first ≡ Writer change)
             × (result ≡ record { change = change; is_changed = part.is_changed; fault = fault }) × (self.new ≡ reported self.old key.now part (report_of fault)) }
     {
-        match self.part_of(call, key) {
+        match self.part_of(call, key).copied() {
             Some(part) => match change_in(&part) {
                 Some(change) => {
                     let is_changed = part.is_changed;
                     let report = report_with(fault);
                     let kept = report;
                     let honest = is_honest_report(report, &part);
-                    set_part(&mut self.slots, key, with_report(part, kept));
+                    set_part(&mut self.slots, call, key, with_report(part, kept));
                     self.premises.writers = and_now(self.premises.writers, honest);
                     Reported {
                         change,
@@ -294,7 +294,7 @@ impl Machine {
         self.slots.try_reserve(1)?;
         self.joins.try_reserve(1)?;
         self.order.try_reserve(EVENTS_MAX)?;
-        let Some(u) = self.under(call) else {
+        let Some(u) = self.under(call).copied() else {
             unreachable!()
         };
         let number = stripe_of(&u.command.key, self.config.stripes);
@@ -332,7 +332,7 @@ impl Machine {
     {
         self.order.try_reserve(EVENTS_MAX)?;
         let number = stripe_of(key, self.config.stripes);
-        let slot = take_slot(&mut self.slots, key);
+        let slot = take_slot(&mut self.slots, call, key);
         drop_call(&mut self.calls, call);
         let (reply, place, before) = commit_at(&mut self.stripes, &mut self.order, number, slot);
         Ok(Shown::Stepped(shown_at(&self.stripes, number, before, reply, place)))
@@ -345,7 +345,7 @@ impl Machine {
         ensures { Happens self.old (event.Withdraw call key.now) shown.Withdrawn self.new }
     {
         let number = stripe_of(key, self.config.stripes);
-        let slot = take_slot(&mut self.slots, key);
+        let slot = take_slot(&mut self.slots, call, key);
         withdraw_at(&mut self.stripes, number, slot);
     }
 
@@ -480,7 +480,7 @@ impl Machine {
                 Ok(Shown::Changed)
             }
             WorldEvent::Report { call, fault } => {
-                let Some(u) = self.under(*call) else {
+                let Some(u) = self.under(*call).copied() else {
                     unreachable!()
                 };
                 Ok(Shown::Reported(self.report(*call, &u.command.key, *fault)))

@@ -1,5 +1,5 @@
 //! What loaders and writers say, and whether they are honest.
-ghost use Rattle.std.specs.Prelude.{◌≡◌, ◌&&◌};
+ghost use Rattle.std.specs.Prelude.{◌≡◌, ◌&&◌, option_copied};
 ghost use Rattle.jc_model.specs.Table.{load_given, write_given, alike};
 ghost use Rattle.jc_world.specs.World.{asks_loader, asks_writer, waits_for_load, waits_for_report, is_answered, is_untouched};
 ghost use Rattle.jc_world.specs.Premises.{read_answer, changed_to, report_of, is_true_load, is_done, is_true_report};
@@ -60,8 +60,8 @@ fn is_writer(first: &First) -> bool
 }
 
 /// Whether the loader was asked, and hasn't answered.
-pub(crate) fn is_waiting_for_load(part: Option<Part>) -> bool
-    ensures { result ≡ waits_for_load part }
+pub(crate) fn is_waiting_for_load(part: Option<&Part>) -> bool
+    ensures { result ≡ waits_for_load (option_copied part.entry) }
 {
     match part {
         Some(part) => is_loader(&part.first) && !is_load_given(part.load),
@@ -70,8 +70,8 @@ pub(crate) fn is_waiting_for_load(part: Option<Part>) -> bool
 }
 
 /// Whether the writer was asked, and hasn't returned.
-pub(crate) fn is_waiting_for_report(part: Option<Part>) -> bool
-    ensures { result ≡ waits_for_report part }
+pub(crate) fn is_waiting_for_report(part: Option<&Part>) -> bool
+    ensures { result ≡ waits_for_report (option_copied part.entry) }
 {
     match part {
         Some(part) => is_writer(&part.first) && !is_write_given(part.report),
@@ -80,8 +80,8 @@ pub(crate) fn is_waiting_for_report(part: Option<Part>) -> bool
 }
 
 /// Whether all that was asked is answered.
-pub(crate) fn is_all_answered(part: Option<Part>) -> bool
-    ensures { result ≡ is_answered part }
+pub(crate) fn is_all_answered(part: Option<&Part>) -> bool
+    ensures { result ≡ is_answered (option_copied part.entry) }
 {
     match part {
         Some(part) => {
@@ -93,8 +93,8 @@ pub(crate) fn is_all_answered(part: Option<Part>) -> bool
 }
 
 /// Whether a key is reserved, and nothing was said outside for it and nothing done.
-pub(crate) fn is_never_touched(part: Option<Part>) -> bool
-    ensures { result ≡ is_untouched part }
+pub(crate) fn is_never_touched(part: Option<&Part>) -> bool
+    ensures { result ≡ is_untouched (option_copied part.entry) }
 {
     match part {
         Some(part) => {

@@ -1,5 +1,5 @@
 //! The keys that calls have reserved, with their tickets.
-ghost use Rattle.std.specs.Prelude.{◌≡◌, true, Option, None, Some, position, is_some, IsSomeAnd, IsTrue};
+ghost use Rattle.std.specs.Prelude.{◌≡◌, true, Option, None, Some, option_copied, position, is_some, IsSomeAnd, IsTrue};
 ghost use Rattle.std.specs.FinMap as map;
 ghost use Rattle.jc_model.specs.Cache.{key_cmp, entry_at};
 ghost use Rattle.jc_stripe.specs.State.{claimed};
@@ -9,7 +9,7 @@ ghost use Rattle.jc_stripe.specs.declared.ticket.Origin.TheVariants.{Played};
 ghost use Rattle.jc_world.specs.World.{claim_of, out_of, is_answered};
 ghost use Rattle.jc_world.specs.Events.{new_part};
 ghost use Rattle.jc_world.specs.Sound.{KindFits};
-ghost use Rattle.jc_world.specs.Slots.{is_at, once, parts_of};
+ghost use Rattle.jc_world.specs.Slots.{is_under, once, parts_of, part_under};
 
 use crate::event::{Part, Under};
 use jc_model::event::{Change, LoadAnswer, Reply, WriteAnswer};
@@ -94,11 +94,18 @@ impl Slot {
         }
     }
 
-    /// What was asked and said.
-    pub(crate) fn part(&self) -> Part
-        ensures { result ≡ self.now.1 }
+    /// The call.
+    fn call(&self) -> u64
+        ensures { result ≡ self.now.1.call }
     {
-        self.part
+        self.part.call
+    }
+
+    /// What was asked and said.
+    pub(crate) fn part(&self) -> &Part
+        ensures { result.now ≡ self.now.1 }
+    {
+        &self.part
     }
 
     /// More was said.
@@ -153,21 +160,23 @@ impl Slot {
     }
 }
 
-/// Where the key's slot is.
-pub(crate) fn place_of(slots: &[Slot], key: &Key) -> Option<usize>
-    ensures { result ≡ position (is_at key.now) slots.now }
+/// Where the slot of a call's key is. Numbers are compared first: they cost less than keys.
+fn place_of(slots: &[Slot], call: u64, key: &Key) -> Option<usize>
+    ensures { result ≡ position (is_under call key.now) slots.now }
 {
-    slots.iter().position(|slot| *key == slot.key())
+    slots
+        .iter()
+        .position(|slot| slot.call() == call && *key == slot.key())
 }
 
-/// Says more of a key that has its slot.
-pub(crate) fn set_part(slots: &mut Vec<Slot>, key: &Key, part: Part)
-    requires there { IsSomeAnd (map.find key_cmp key.now slots.old.items) (λ old. (part.number ≡ old.number) × (part.first ≡ old.first)) }
+/// Says more of a call's key that has its slot.
+pub(crate) fn set_part(slots: &mut Vec<Slot>, call: u64, key: &Key, part: Part)
+    requires there { IsSomeAnd (part_under call key.now slots.old.items) (λ old. (part.number ≡ old.number) × (part.first ≡ old.first)) }
     requires once { once slots.old.items ≡ true }
     ensures parts { parts_of slots.new.items ≡ map.insert (parts_of slots.old.items) key.now part }
     ensures once { once slots.new.items ≡ true }
 {
-    match place_of(slots, key) {
+    match place_of(slots, call, key) {
         Some(place) => {
             let slot = &mut slots[place];
             slot.set(part);
@@ -176,27 +185,41 @@ pub(crate) fn set_part(slots: &mut Vec<Slot>, key: &Key, part: Part)
     }
 }
 
-/// Takes a key's slot out.
-pub(crate) fn take_slot(slots: &mut Vec<Slot>, key: &Key) -> Slot
-    requires there { IsTrue (is_some (map.find key_cmp key.now slots.old.items)) }
+/// Takes the slot of a call's key out. The last slot takes its place.
+pub(crate) fn take_slot(slots: &mut Vec<Slot>, call: u64, key: &Key) -> Slot
+    requires there { IsTrue (is_some (part_under call key.now slots.old.items)) }
     requires once { once slots.old.items ≡ true }
-    ensures slot { map.find key_cmp key.now slots.old.items ≡ Some result.1 }
+    ensures slot { part_under call key.now slots.old.items ≡ Some result.1 }
     ensures key { result.0 ≡ key.now }
     ensures parts { parts_of slots.new.items ≡ map.remove (parts_of slots.old.items) key.now }
     ensures once { once slots.new.items ≡ true }
 {
-    match place_of(slots, key) {
-        Some(place) => slots.remove(place),
+    match place_of(slots, call, key) {
+        Some(place) => slots.swap_remove(place),
         None => unreachable!(),
     }
+}
+
+/// The key's part, if it is this call's. Numbers are compared first: they cost less than keys.
+pub(crate) fn part_under<'a>(slots: &'a [Slot], call: u64, key: &Key) -> Option<&'a Part>
+    ensures { option_copied result ≡ part_under call key.now slots.now }
+{
+    for slot in slots {
+        if slot.call() == call && *key == slot.key() {
+            return Some(slot.part());
+        }
+    }
+    None
 }
 
 /// The key's part.
 pub(crate) fn part_at(slots: &[Slot], key: &Key) -> Option<Part>
     ensures { result ≡ map.find key_cmp key.now slots.now }
 {
-    match place_of(slots, key) {
-        Some(place) => Some(slots[place].part()),
-        None => None,
+    for slot in slots {
+        if *key == slot.key() {
+            return Some(*slot.part());
+        }
     }
+    None
 }

@@ -242,9 +242,9 @@ fn shows_a_put_after_its_commit(rt: HostRuntime) -> Result<(), Fail> {
         is_changed: true,
         report: WriteAnswer::NotAsked,
     };
-    assert_eq!(rt; world.under(2), Some(under));
+    assert_eq!(rt; world.under(2), Some(&under));
     assert_eq!(rt; world.under(3), None, "call 3 is over");
-    assert_eq!(rt; world.part(2, &a), Some(part));
+    assert_eq!(rt; world.part(2, &a), Some(&part));
     assert_eq!(rt; world.part(3, &a), None, "the key is call 2's");
     assert!(rt; world.is_busy(1) && !world.is_busy(2), "session 1 is busy");
     assert_eq!(rt; world.last(), Some(3));

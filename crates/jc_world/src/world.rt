@@ -1,4 +1,4 @@
-ghost use Rattle.std.specs.Prelude.{[], ◌≡◌, ◌≤◌, ◌⊎◌, ◌<◌, true, IsTrue, IfOk, IfErr, IsOk, OnErr, OnOk, Ok, Err, List, take, length};
+ghost use Rattle.std.specs.Prelude.{[], ◌≡◌, ◌≤◌, ◌⊎◌, ◌<◌, true, IsTrue, IfOk, IfErr, IsOk, option_copied, OnErr, OnOk, Ok, Err, List, take, length};
 ghost use Rattle.jc_types.specs.Limits.{checked};
 ghost use Rattle.jc_world.specs.declared.event.Shown.{Shown};
 ghost use Rattle.jc_world.specs.World.{start, is_busy, under, part_of, is_joined, with_stored};
@@ -135,15 +135,15 @@ impl World {
     }
 
     /// The call with this number, if it is under way.
-    pub fn under(&self, call: u64) -> Option<Under>
-        ensures { result ≡ under self.now.world call }
+    pub fn under(&self, call: u64) -> Option<&Under>
+        ensures { option_copied result ≡ under self.now.world call }
     {
         self.machine.under(call)
     }
 
     /// What a call has asked and heard for a key that it has reserved.
-    pub fn part(&self, call: u64, key: &Key) -> Option<Part>
-        ensures { result ≡ part_of self.now.world call key.now }
+    pub fn part(&self, call: u64, key: &Key) -> Option<&Part>
+        ensures { option_copied result ≡ part_of self.now.world call key.now }
     {
         self.machine.part_of(call, key)
     }

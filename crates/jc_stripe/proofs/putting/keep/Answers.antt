@@ -7,9 +7,9 @@ pub returns-in-KeptAfter : goal.returns-in-KeptAfter
 returns-in-KeptAfter c =
     kept_after c.args.entries.now c.insert.new.self c.args.key.now c.in-Some.value c.args.pinned.now c.in-KeptAfter.victim c.args.op.now c.args.out.now
     (record {
-      few = c.requires;
+      few = c.requires.room;
       is_use = use_is _ _ _ _ c.first_fault.ensures c.does_use.ensures (sym c.is_some.ensures ∙ c.if-is_some.false) c.if-not-does_use.false;
-      entry = ap (λ o. new_entry c.args.op.now o c.args.out.now) (sym c.peek.ensures) ∙ sym c.entry_left.ensures ∙ c.in-Some.is;
+      entry = ap (λ o. new_entry c.args.op.now o c.args.out.now) (sym c.requires.entry) ∙ sym c.entry_left.ensures ∙ c.in-Some.is;
     })
     c.in-KeptAfter.ensures.inserts
 
@@ -17,8 +17,8 @@ pub returns-in-NotKept : goal.returns-in-NotKept
 returns-in-NotKept c =
     not_kept c.args.entries.now c.insert.new.self c.args.key.now c.in-Some.value c.args.pinned.now c.in-NotKept.cause c.in-NotKept.victim c.args.op.now c.args.out.now
     (record {
-      few = c.requires;
+      few = c.requires.room;
       is_use = use_is _ _ _ _ c.first_fault.ensures c.does_use.ensures (sym c.is_some.ensures ∙ c.if-is_some.false) c.if-not-does_use.false;
-      entry = ap (λ o. new_entry c.args.op.now o c.args.out.now) (sym c.peek.ensures) ∙ sym c.entry_left.ensures ∙ c.in-Some.is;
+      entry = ap (λ o. new_entry c.args.op.now o c.args.out.now) (sym c.requires.entry) ∙ sym c.entry_left.ensures ∙ c.in-Some.is;
     })
     c.in-NotKept.ensures.inserts

@@ -1,4 +1,4 @@
-use Rattle.std.proofs.Common.{◌≡◌, ◌<◌, ◌≤◌, ◌+◌, ◌∙◌, sym, length, arith, Some, None, ap, rules}
+use Rattle.std.proofs.Common.{◌∙◌, sym, arith, ap}
 use Rattle.jc_history.specs.Past.{happened}
 use Rattle.jc_inflight.specs.Joined.{callers_of}
 use Rattle.jc_model.specs.Group.{shared_event}

@@ -1,4 +1,4 @@
-use Rattle.std.proofs.Common.{◌≡◌, ◌+◌, ◌≤◌, map, length, take}
+use Rattle.std.proofs.Common.{◌≡◌, map, length, take}
 use Rattle.jc_model.specs.Group.{shared_event}
 use Rattle.jc_inflight.specs.Joined.{callers_of}
 use Rattle.jc_stripe.specs.Putting.{happened_all}

@@ -1,9 +1,6 @@
-use Rattle.std.proofs.Common.{◌≡◌, ◌≤◌, ◌+◌, ◌∙◌, Option, Some, None, IsSomeAnd, find, length, sym, subst, ap, refl}
-use Rattle.std.specs.FinMap as finite
+use Rattle.std.proofs.Common.{◌≡◌, ◌+◌, ◌∙◌, Some, IsSomeAnd, find, length, sym, subst, ap}
 use Rattle.jc_model.specs.declared.event.Out.{Out}
-use Rattle.jc_model.specs.Cache.{key_cmp, entry_at}
 use Rattle.jc_model.specs.Table.{new_reply}
-use Rattle.jc_reserve.specs.Reserving.{found_at}
 use Rattle.jc_inflight.specs.Joined.{callers_of}
 use Rattle.jc_stripe.specs.declared.ticket.Note.{Note}
 use Rattle.jc_stripe.specs.Claim.{Claim}
@@ -13,7 +10,6 @@ use Rattle.jc_stripe.specs.Putting.{SaidFor, IsKeptSo, put_events, events_put}
 use Rattle.jc_stripe.specs.Inside.{IsSound, state_of}
 use Rattle.jc_stripe.specs.declared.stripe.Stripe.TheInside.{Inside}
 use Rattle.jc_stripe.proofs.Used.{find-entry}
-use Rattle.jc_stripe.proofs.Fields.{note_of}
 use Rattle.jc_stripe.proofs.Inner.{entries_len}
 use Rattle.jc_stripe.proofs.Joining.{out_found, found_out}
 use Rattle.jc_stripe.proofs.Numbering.{claimed_at_key}
@@ -28,8 +24,8 @@ known i s claim out sound view h =
     let there = out_found (claimed (state_of i) claim) _ (subst P (sym view) h) in
     (there.0, there.1, claimed_at_key i.reservations.next (state_of i).reservations claim there.0 sound.state.numbered there.1, there.2)
 
-pub keep-evicted-requires : goal.keep-evicted-requires
-keep-evicted-requires c = entries_len c.self.inside c.self.invariant
+pub keep-evicted-requires-clause-room : goal.keep-evicted-requires-clause-room
+keep-evicted-requires-clause-room c = entries_len c.self.inside c.self.invariant
 
 pub put_down-place-requires-clause-kept : goal.put_down-place-requires-clause-kept
 put_down-place-requires-clause-kept c =
@@ -54,7 +50,7 @@ is_commit : (c : goal.After-resolve) (r : Reserved) → claimed (state_of c.self
     c.keep-evicted.result.0 c.keep-evicted.result.1 c.put_down-place.result (3 + c.waiting.result)
 is_commit c r found at said =
     let n = note_found c.self.inside c.args.key.now r c.in-Some.field-0-0 c.in-Some.note at (sym c.release.ensures.found ∙ c.in-Some.is) in
-    let entry = c.peek.ensures ∙ find-entry c.self.inside.entries.list c.args.key.now in
+    let entry = c.peek-entry.ensures ∙ find-entry c.self.inside.entries.list c.args.key.now in
     let callers = callers_of c.args.number c.self.inside.joiners in
     record {
       sound = c.self.invariant;

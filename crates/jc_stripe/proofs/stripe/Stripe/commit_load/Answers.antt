@@ -1,7 +1,7 @@
-use Rattle.std.proofs.Common.{◌≡◌, ◌∙◌, IsSomeAnd, Option, sym, subst, ap}
+use Rattle.std.proofs.Common.{◌≡◌, ◌∙◌, IsSomeAnd, sym, subst, ap}
 use Rattle.jc_model.specs.Table.{load_given}
 use Rattle.jc_stripe.specs.Claim.{Claim}
-use Rattle.jc_stripe.specs.State.{State, Reserved, claimed}
+use Rattle.jc_stripe.specs.State.{claimed}
 use Rattle.jc_stripe.specs.declared.ticket.First.TheVariants.{Loader}
 use Rattle.jc_stripe.proofs.Picking.{said_load}
 use Rattle.jc_stripe.proofs.stripe.Stripe.commit_load.Goals as goal

@@ -1,14 +1,15 @@
-use Rattle.std.proofs.Common.{◌≡◌, ◌≤◌, ◌+◌, ◌∙◌, [], Option, None, true, length, sym, subst, ap}
+use Rattle.std.proofs.Common.{◌≡◌, ◌≤◌, ◌+◌, ◌∙◌, [], None, length, sym, subst, ap}
 use Rattle.jc_model.specs.Cache.{entry_at}
 use Rattle.jc_model.specs.Table.{new_reply}
 use Rattle.jc_model.specs.Group.{nothing_said}
-use Rattle.jc_history.specs.Past.{Past, promising}
+use Rattle.jc_history.specs.Past.{promising}
 use Rattle.jc_stripe.specs.declared.ticket.First.TheVariants.{Nobody}
 use Rattle.jc_stripe.specs.State.{State, promised}
 use Rattle.jc_stripe.specs.Refusals.{first_refusal, first_asked, goes_on, places}
 use Rattle.jc_stripe.specs.Phases.{MayBegin, Steps}
-use Rattle.jc_stripe.specs.Inside.{IsSound, state_of}
-use Rattle.jc_stripe.specs.declared.stripe.Stripe.TheInside.{Inside}
+use Rattle.jc_stripe.specs.Inside.{state_of}
+use Rattle.jc_stripe.specs.declared.needs.Found.{Found}
+use Rattle.jc_stripe.proofs.Used.{find-entry}
 use Rattle.jc_stripe.proofs.Inner.{entries_len}
 use Rattle.jc_stripe.proofs.Fitting.{nobody_fits}
 use Rattle.jc_stripe.proofs.Refusing.{not_refused, roomy}
@@ -16,8 +17,14 @@ use Rattle.jc_stripe.proofs.Making.{promised_so, room_so}
 use Rattle.jc_stripe.proofs.Finishing.{done_at, done_steps, done_sound}
 use Rattle.jc_stripe.proofs.stripe.Stripe.finish.Goals as goal
 
-pub keep-evicted-requires : goal.keep-evicted-requires
-keep-evicted-requires c = entries_len c.self.inside c.self.invariant
+pub keep-evicted-requires-clause-room : goal.keep-evicted-requires-clause-room
+keep-evicted-requires-clause-room c = entries_len c.self.inside c.self.invariant
+
+pub keep-evicted-requires-clause-entry : goal.keep-evicted-requires-clause-entry
+keep-evicted-requires-clause-entry c =
+    ap (λ (f : Found). f.entry) c.requires.found
+    ∙ sym (ap (λ (s : State). entry_at s.cache c.args.key.now) c.self.view_is)
+    ∙ sym (find-entry c.self.inside.entries.list c.args.key.now)
 
 -- the places that the call needs were promised
 promises : (c : goal.After-put_down-place) → c.promise.new.self ≡ promising c.places_for-kept.result c.self.inside.history
@@ -25,7 +32,7 @@ promises c =
     let Free : State → Type 0 = λ s. first_refusal s c.args.who.number c.args.key.now c.args.op.now ≡ None in
     let free = subst Free (sym c.self.view_is) c.requires.free in
     let kept : places (goes_on (state_of c.self.inside) c.args.key.now c.args.op.now) ≡ c.places_for-kept.result =
-    ap (λ (s : State). places (goes_on s c.args.key.now c.args.op.now)) c.self.view_is ∙ sym (c.places_for-kept.ensures ∙ ap places c.does_go_on.ensures) in
+    ap (λ (s : State). places (goes_on s c.args.key.now c.args.op.now)) c.self.view_is ∙ sym (c.places_for-kept.ensures ∙ ap (λ (f : Found). places f.goes_on) c.requires.found) in
     promised_so c.places_for-kept.result c.self.inside.history c.promise.new.self c.promise.result c.promise.ensures.fits c.promise.ensures.after
     (room_so c.self.inside c.places_for-kept.result c.self.invariant
     (subst (λ n. length (state_of c.self.inside).history + promised (state_of c.self.inside) + n ≤ (state_of c.self.inside).config.history) kept
@@ -36,7 +43,7 @@ asked : (c : goal.After-put_down-place) → first_asked c.self.inside.config c.a
 asked c = ap (λ (s : State). first_asked s.config c.args.op.now (entry_at s.cache c.args.key.now)) c.self.view_is ∙ c.requires.asks
 
 replied : (c : goal.After-put_down-place) → c.reply-reply.result ≡ new_reply c.args.op.now (entry_at (state_of c.self.inside).cache c.args.key.now) nothing_said
-replied c = c.reply-reply.ensures ∙ ap (λ o. new_reply c.args.op.now o nothing_said) (c.entry.ensures ∙ sym (ap (λ (s : State). entry_at s.cache c.args.key.now) c.self.view_is))
+replied c = c.reply-reply.ensures ∙ ap (λ o. new_reply c.args.op.now o nothing_said) (ap (λ (f : Found). f.entry) c.requires.found ∙ sym (ap (λ (s : State). entry_at s.cache c.args.key.now) c.self.view_is))
 
 steps : (c : goal.After-put_down-place)
     → Steps (state_of c.self.inside) c.args.who.session c.args.who.number c.args.key.now c.args.op.now nothing_said [] c.reply-reply.result c.put_down-place.result (state_of (done_at c.self.inside c.keep-evicted.new.entries c.put_down-place.new.history))

@@ -1,7 +1,7 @@
-use Rattle.std.proofs.Common.{◌≡◌, ◌∙◌, Some, true, sym, subst, ap, is_some, refl}
+use Rattle.std.proofs.Common.{◌≡◌, ◌∙◌, true, ap, is_some, refl}
 use Rattle.jc_stripe.specs.Claim.{Claim}
 use Rattle.jc_stripe.specs.State.{State, claimed}
-use Rattle.jc_stripe.specs.Phases.{Withdraws, withdrawn}
+use Rattle.jc_stripe.specs.Phases.{withdrawn}
 use Rattle.jc_stripe.specs.Inside.{IsSound, state_of}
 use Rattle.jc_stripe.specs.declared.stripe.Stripe.TheInside.{Inside}
 use Rattle.jc_stripe.proofs.Tables.{reached_withdrawn}

@@ -1,4 +1,4 @@
-use Rattle.std.proofs.Common.{◌≡◌, [], refl, ap, ◌∙◌, sym, map, length, count_by, ◌*◌, ◌+◌}
+use Rattle.std.proofs.Common.{[], refl, ap, ◌∙◌, sym, map, length, count_by, ◌*◌, ◌+◌}
 use Rattle.std.specs.FinMap.{from_entries}
 use Rattle.jc_model.specs.Cache.{key_cmp}
 use Rattle.jc_entries.specs.ByUse.{ByUse}

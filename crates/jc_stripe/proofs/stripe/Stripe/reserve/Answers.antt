@@ -1,4 +1,4 @@
-use Rattle.std.proofs.Common.{◌≡◌, Option, None, true, sym, subst}
+use Rattle.std.proofs.Common.{◌≡◌, None, true, sym, subst}
 use Rattle.jc_model.specs.Cache.{entry_at}
 use Rattle.jc_stripe.specs.State.{State}
 use Rattle.jc_stripe.specs.Refusals.{first_refusal, first_asked, needs_reservation}

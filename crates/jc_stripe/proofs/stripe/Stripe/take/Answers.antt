@@ -1,4 +1,4 @@
-use Rattle.std.proofs.Common.{◌≡◌, ◌∙◌, Some, None, true, sym, subst, ap}
+use Rattle.std.proofs.Common.{◌∙◌, sym, subst, ap}
 use Rattle.jc_inflight.specs.Joined.{is_joined}
 use Rattle.jc_inflight.specs.Taking.{told_to, after_take}
 use Rattle.jc_stripe.specs.State.{State}

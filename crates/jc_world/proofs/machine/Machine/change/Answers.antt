@@ -1,4 +1,4 @@
-use Rattle.std.proofs.Common.{◌≡◌, true, Some, sym, ap, ◌∙◌, refl}
+use Rattle.std.proofs.Common.{◌≡◌, true, Some, sym, ap, ◌∙◌}
 use Rattle.std.specs.FinMap.{insert}
 use Rattle.jc_model.specs.Cache.{with_entry}
 use Rattle.jc_world.specs.declared.event.Part.{Part}
@@ -10,13 +10,12 @@ use Rattle.jc_world.proofs.machine.Machine.change.Goals as goal
 
 pub set_part-requires-clause-there : goal.set_part-requires-clause-there
 set_part-requires-clause-there c =
-    let v : WorldState = world_of c.self.inside in
-    let of_w : part_of c.args.self.now c.args.call c.args.key.now ≡ Some c.in-Some.part = sym c.part_of.ensures ∙ c.in-Some.is in
-    may_set _ c.in-Some.part c.with_change.result (in_slots c.self.inside.slots.items v c.args.self.now c.args.call c.args.key.now c.in-Some.part refl c.self.view_is of_w) (ap (λ (p : Part). p.number) c.with_change.ensures) (ap (λ (p : Part). p.first) c.with_change.ensures)
+    let of_w : part_of c.args.self.now c.args.call c.args.key.now ≡ Some c.in-Some.part = sym c.part_of.ensures ∙ sym c.copied.ensures ∙ c.in-Some.is in
+    may_set _ c.in-Some.part c.with_change.result (in_slots c.self.inside c.args.self.now c.args.call c.args.key.now c.self.invariant c.self.view_is ∙ of_w) (ap (λ (p : Part). p.number) c.with_change.ensures) (ap (λ (p : Part). p.first) c.with_change.ensures)
 
 pub unreachable-requires : goal.unreachable-requires
 unreachable-requires c =
-    let of_w : part_of c.args.self.now c.args.call c.args.key.now ≡ Some c.in-Some.part = sym c.part_of.ensures ∙ c.in-Some.is in
+    let of_w : part_of c.args.self.now c.args.call c.args.key.now ≡ Some c.in-Some.part = sym c.part_of.ensures ∙ sym c.copied.ensures ∙ c.in-Some.is in
     let asked = waits_writer c.in-Some.part (sym (ap waits_for_report of_w) ∙ c.requires) in
     let given = (c.change_in.ensures asked.0).1 asked.1 in
     let none = c.in-None-change_in.is in cc
@@ -27,7 +26,7 @@ returns-clause-ok c =
     let w = c.args.self.now in
     let part = c.in-Some.part in
     let change = c.in-Some-change_in.change in
-    let of_w : part_of w c.args.call c.args.key.now ≡ Some part = sym c.part_of.ensures ∙ c.in-Some.is in
+    let of_w : part_of w c.args.call c.args.key.now ≡ Some part = sym c.part_of.ensures ∙ sym c.copied.ensures ∙ c.in-Some.is in
     let next = world_of (record c.self.inside { store = c.set.new.self; slots = c.set_part.new.slots }) in
     let store : c.set.new.self ≡ (changed v c.args.key.now part change).store = c.in_ok-set-in-Some-change_in.ensures.ok ∙ ap (with_entry c.self.inside.store c.args.key.now) c.entry_after.ensures in
     let parts : next.parts ≡ insert v.parts c.args.key.now (record part { is_changed = true }) = c.set_part.ensures.parts ∙ ap (insert v.parts c.args.key.now) c.with_change.ensures in

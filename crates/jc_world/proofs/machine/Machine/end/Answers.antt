@@ -19,13 +19,13 @@ pub take_slot-slot-requires-clause-there : goal.take_slot-slot-requires-clause-t
 take_slot-slot-requires-clause-there c =
     let v : WorldState = world_of c.self.inside in
     let one = answered_part v c.args.self.now c.args.call c.args.key.now c.self.view_is c.requires.fits in
-    ap is_some (in_slots c.self.inside.slots.items v v c.args.call c.args.key.now one.0 refl refl one.1)
+    ap is_some (in_slots c.self.inside v c.args.call c.args.key.now c.self.invariant refl ∙ one.1)
 
 pub commit_at-reply-requires-clause-out : goal.commit_at-reply-requires-clause-out
 commit_at-reply-requires-clause-out c =
     let v : WorldState = world_of c.self.inside in
     let one = answered_part v c.args.self.now c.args.call c.args.key.now c.self.view_is c.requires.fits in
-    let is = taken_is c.self.inside.slots.items v c.args.call c.args.key.now c.take_slot-slot.result one.0 refl one.1 c.take_slot-slot.ensures.slot c.take_slot-slot.ensures.key in
+    let is = taken_is c.self.inside c.args.call c.args.key.now c.take_slot-slot.result one.0 c.self.invariant one.1 c.take_slot-slot.ensures.slot c.take_slot-slot.ensures.key in
     let Q : Entry → Type 0 = λ e. IsSomeAnd (slice_get c.self.inside.stripes.items c.stripe_of-number.result)
     (λ s. IsSomeAnd (claimed s (claim_of e.0 e.1)) (λ r. r.first ≡ e.1.first) × KindFits e.1.first e.1 (entry_at s.cache e.0) × (s.origin ≡ Played)) in
     subst Q (sym is) (may_end_at v c.args.call c.args.key.now one.0 c.stripe_of-number.result one.1 c.stripe_of-number.ensures (subst IsSoundWorld (sym c.self.view_is) c.requires.sound))
@@ -34,7 +34,7 @@ pub commit_at-reply-requires-clause-answered : goal.commit_at-reply-requires-cla
 commit_at-reply-requires-clause-answered c =
     let v : WorldState = world_of c.self.inside in
     let one = answered_part v c.args.self.now c.args.call c.args.key.now c.self.view_is c.requires.fits in
-    let is = taken_is c.self.inside.slots.items v c.args.call c.args.key.now c.take_slot-slot.result one.0 refl one.1 c.take_slot-slot.ensures.slot c.take_slot-slot.ensures.key in
+    let is = taken_is c.self.inside c.args.call c.args.key.now c.take_slot-slot.result one.0 c.self.invariant one.1 c.take_slot-slot.ensures.slot c.take_slot-slot.ensures.key in
     let Q : Entry → Type 0 = λ e. is_answered (Some e.1) ≡ true in
     subst Q (sym is) one.2
 
@@ -43,7 +43,7 @@ returns-clause-ok c =
     let v : WorldState = world_of c.self.inside in
     let key = c.args.key.now in
     let one = answered_part v c.args.self.now c.args.call key c.self.view_is c.requires.fits in
-    let is = taken_is c.self.inside.slots.items v c.args.call key c.take_slot-slot.result one.0 refl one.1 c.take_slot-slot.ensures.slot c.take_slot-slot.ensures.key in
+    let is = taken_is c.self.inside c.args.call key c.take_slot-slot.result one.0 c.self.invariant one.1 c.take_slot-slot.ensures.slot c.take_slot-slot.ensures.key in
     let reply = c.commit_at-reply.result.0 in
     let place = c.commit_at-reply.result.1 in
     let t = c.commit_at-reply.ensures in

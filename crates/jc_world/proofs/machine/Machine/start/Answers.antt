@@ -36,14 +36,14 @@ pub begin_at-begun-requires-clause-begins : goal.begin_at-begun-requires-clause-
 begin_at-begun-requires-clause-begins c =
     let w = c.args.self.now in
     let u = c.in-Some.u in
-    let is : under w c.args.call ≡ Some u = ap (λ (x : WorldState). under x c.args.call) (sym c.self.view_is) ∙ sym c.under.ensures ∙ c.in-Some.is in
+    let is : under w c.args.call ≡ Some u = ap (λ (x : WorldState). under x c.args.call) (sym c.self.view_is) ∙ sym c.under.ensures ∙ sym c.copied.ensures ∙ c.in-Some.is in
     let P : WorldState → Type 0 = λ x. IsSomeAnd (slice_get x.stripes (sum u.command.key % x.config.stripes)) (λ s. MayBegin s u.session u.number u.command.key) in
     let Q : ℕ → Type 0 = λ n. IsSomeAnd (slice_get c.self.inside.stripes.items n) (λ s. MayBegin s u.session u.number u.command.key) in
     subst Q (sym c.stripe_of-number.ensures) (subst P (sym c.self.view_is) (may_begin_at w c.args.call c.args.key.now u c.requires.fits is c.requires.sound))
 
 pub begin_at-begun-requires-clause-phases : goal.begin_at-begun-requires-clause-phases
 begin_at-begun-requires-clause-phases c =
-    phased_at c.args.self.now c.args.call c.in-Some.u (ap (λ (x : WorldState). under x c.args.call) (sym c.self.view_is) ∙ sym c.under.ensures ∙ c.in-Some.is) c.requires.sound
+    phased_at c.args.self.now c.args.call c.in-Some.u (ap (λ (x : WorldState). under x c.args.call) (sym c.self.view_is) ∙ sym c.under.ensures ∙ sym c.copied.ensures ∙ c.in-Some.is) c.requires.sound
 
 pub invariant_of-self-in-Load : goal.invariant_of-self-in-Load
 invariant_of-self-in-Load c =
@@ -74,7 +74,7 @@ pub returns-in-Done-clause-ok : goal.returns-in-Done-clause-ok
 returns-in-Done-clause-ok c =
     let v : WorldState = world_of c.self.inside in
     let u = c.in-Some.u in
-    let is : under v c.args.call ≡ Some u = sym c.under.ensures ∙ c.in-Some.is in
+    let is : under v c.args.call ≡ Some u = sym c.under.ensures ∙ sym c.copied.ensures ∙ c.in-Some.is in
     let t = at_begun c.self.inside.stripes.items c.try_reserve-3.new.self.items c.stripe_of-number.result u c.begin_at-begun.result.0 (begun.Done c.in-Done.reply c.in-Done.place) c.begin_at-begun.result.1 c.begin_at-begun.new.stripes.items c.begin_at-begun.new.order.items c.in-Done.is c.begin_at-begun.ensures in
     let p = phased v c.try_reserve-3.new.self.items c.stripe_of-number.result u (begun.Done c.in-Done.reply c.in-Done.place) c.begin_at-begun.result.1 c.begin_at-begun.new.stripes.items c.begin_at-begun.new.order.items c.in_ok-try_reserve-3.ensures.items t in
     let number = c.stripe_of-number.result in
@@ -95,7 +95,7 @@ pub returns-in-Refused-clause-ok : goal.returns-in-Refused-clause-ok
 returns-in-Refused-clause-ok c =
     let v : WorldState = world_of c.self.inside in
     let u = c.in-Some.u in
-    let is : under v c.args.call ≡ Some u = sym c.under.ensures ∙ c.in-Some.is in
+    let is : under v c.args.call ≡ Some u = sym c.under.ensures ∙ sym c.copied.ensures ∙ c.in-Some.is in
     let t = at_begun c.self.inside.stripes.items c.try_reserve-3.new.self.items c.stripe_of-number.result u c.begin_at-begun.result.0 (begun.Refused c.in-Refused.refusal) c.begin_at-begun.result.1 c.begin_at-begun.new.stripes.items c.begin_at-begun.new.order.items c.in-Refused.is c.begin_at-begun.ensures in
     let p = phased v c.try_reserve-3.new.self.items c.stripe_of-number.result u (begun.Refused c.in-Refused.refusal) c.begin_at-begun.result.1 c.begin_at-begun.new.stripes.items c.begin_at-begun.new.order.items c.in_ok-try_reserve-3.ensures.items t in
     let next = world_of (record c.self.inside { stripes = c.begin_at-begun.new.stripes; order = c.begin_at-begun.new.order; calls = c.drop_call-in-Refused.new.calls; slots = c.try_reserve.new.self; joins = c.try_reserve-2.new.self }) in
@@ -107,7 +107,7 @@ pub returns-in-Load-clause-ok : goal.returns-in-Load-clause-ok
 returns-in-Load-clause-ok c =
     let v : WorldState = world_of c.self.inside in
     let u = c.in-Some.u in
-    let is : under v c.args.call ≡ Some u = sym c.under.ensures ∙ c.in-Some.is in
+    let is : under v c.args.call ≡ Some u = sym c.under.ensures ∙ sym c.copied.ensures ∙ c.in-Some.is in
     let t = at_begun c.self.inside.stripes.items c.try_reserve-3.new.self.items c.stripe_of-number.result u c.begin_at-begun.result.0 (begun.Load c.in-Load.ticket) c.begin_at-begun.result.1 c.begin_at-begun.new.stripes.items c.begin_at-begun.new.order.items c.in-Load.is c.begin_at-begun.ensures in
     let p = phased v c.try_reserve-3.new.self.items c.stripe_of-number.result u (begun.Load c.in-Load.ticket) c.begin_at-begun.result.1 c.begin_at-begun.new.stripes.items c.begin_at-begun.new.order.items c.in_ok-try_reserve-3.ensures.items t in
     let free = free_load v u c.stripe_of-number.result c.in-Load.ticket _ _ c.stripe_of-number.ensures p (subst IsSoundWorld (sym c.self.view_is) c.requires.sound) in
@@ -124,7 +124,7 @@ pub returns-in-Write-clause-ok : goal.returns-in-Write-clause-ok
 returns-in-Write-clause-ok c =
     let v : WorldState = world_of c.self.inside in
     let u = c.in-Some.u in
-    let is : under v c.args.call ≡ Some u = sym c.under.ensures ∙ c.in-Some.is in
+    let is : under v c.args.call ≡ Some u = sym c.under.ensures ∙ sym c.copied.ensures ∙ c.in-Some.is in
     let t = at_begun c.self.inside.stripes.items c.try_reserve-3.new.self.items c.stripe_of-number.result u c.begin_at-begun.result.0 (begun.Write c.in-Write.ticket c.in-Write.change) c.begin_at-begun.result.1 c.begin_at-begun.new.stripes.items c.begin_at-begun.new.order.items c.in-Write.is c.begin_at-begun.ensures in
     let p = phased v c.try_reserve-3.new.self.items c.stripe_of-number.result u (begun.Write c.in-Write.ticket c.in-Write.change) c.begin_at-begun.result.1 c.begin_at-begun.new.stripes.items c.begin_at-begun.new.order.items c.in_ok-try_reserve-3.ensures.items t in
     let free = free_write v u c.stripe_of-number.result c.in-Write.ticket c.in-Write.change _ _ c.stripe_of-number.ensures p (subst IsSoundWorld (sym c.self.view_is) c.requires.sound) in
@@ -142,7 +142,7 @@ pub returns-in-Joined-clause-ok : goal.returns-in-Joined-clause-ok
 returns-in-Joined-clause-ok c =
     let v : WorldState = world_of c.self.inside in
     let u = c.in-Some.u in
-    let is : under v c.args.call ≡ Some u = sym c.under.ensures ∙ c.in-Some.is in
+    let is : under v c.args.call ≡ Some u = sym c.under.ensures ∙ sym c.copied.ensures ∙ c.in-Some.is in
     let t = at_begun c.self.inside.stripes.items c.try_reserve-3.new.self.items c.stripe_of-number.result u c.begin_at-begun.result.0 (begun.Joined c.in-Joined.join) c.begin_at-begun.result.1 c.begin_at-begun.new.stripes.items c.begin_at-begun.new.order.items c.in-Joined.is c.begin_at-begun.ensures in
     let p = phased v c.try_reserve-3.new.self.items c.stripe_of-number.result u (begun.Joined c.in-Joined.join) c.begin_at-begun.result.1 c.begin_at-begun.new.stripes.items c.begin_at-begun.new.order.items c.in_ok-try_reserve-3.ensures.items t in
     let items : c.push_in_room-in-Joined.new.items.items ≡ c.self.inside.joins.items ++ c.in-Joined.join ∷ [] = c.push_in_room-in-Joined.ensures.items ∙ ap (λ js. js ++ c.in-Joined.join ∷ []) c.in_ok-try_reserve-2.ensures.items in

@@ -1,12 +1,10 @@
-use Rattle.std.proofs.Common.{◌≡◌, Some, sym, ap, ◌∙◌, refl}
+use Rattle.std.proofs.Common.{◌≡◌, Some, sym, ap, ◌∙◌}
 use Rattle.jc_world.specs.declared.event.Part.{Part}
-use Rattle.jc_world.specs.World.{WorldState, part_of}
-use Rattle.jc_world.specs.Inside.{world_of}
+use Rattle.jc_world.specs.World.{part_of}
 use Rattle.jc_world.proofs.Slotted.{in_slots, may_set}
 use Rattle.jc_world.proofs.machine.Machine.tell.Goals as goal
 
 pub set_part-requires-clause-there : goal.set_part-requires-clause-there
 set_part-requires-clause-there c =
-    let v : WorldState = world_of c.self.inside in
-    let of_w : part_of c.args.self.now c.args.call c.args.key.now ≡ Some c.in-Some.part = sym c.part_of.ensures ∙ c.in-Some.is in
-    may_set _ c.in-Some.part c.with_load.result (in_slots c.self.inside.slots.items v c.args.self.now c.args.call c.args.key.now c.in-Some.part refl c.self.view_is of_w) (ap (λ (p : Part). p.number) c.with_load.ensures) (ap (λ (p : Part). p.first) c.with_load.ensures)
+    let of_w : part_of c.args.self.now c.args.call c.args.key.now ≡ Some c.in-Some.part = sym c.part_of.ensures ∙ sym c.copied.ensures ∙ c.in-Some.is in
+    may_set _ c.in-Some.part c.with_load.result (in_slots c.self.inside c.args.self.now c.args.call c.args.key.now c.self.invariant c.self.view_is ∙ of_w) (ap (λ (p : Part). p.number) c.with_load.ensures) (ap (λ (p : Part). p.first) c.with_load.ensures)

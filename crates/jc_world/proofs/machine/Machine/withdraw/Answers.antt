@@ -1,4 +1,4 @@
-use Rattle.std.proofs.Common.{◌≡◌, IsSomeAnd, is_some, slice_get, sym, subst, ap, refl}
+use Rattle.std.proofs.Common.{◌≡◌, IsSomeAnd, is_some, slice_get, sym, subst, ap, ◌∙◌, refl}
 use Rattle.jc_stripe.specs.State.{claimed}
 use Rattle.jc_stripe.specs.Phases.{Withdraws}
 use Rattle.jc_world.specs.declared.event.WorldEvent.TheVariants as event
@@ -17,13 +17,13 @@ pub take_slot-slot-requires-clause-there : goal.take_slot-slot-requires-clause-t
 take_slot-slot-requires-clause-there c =
     let v : WorldState = world_of c.self.inside in
     let one = untouched_part v c.args.self.now c.args.call c.args.key.now c.self.view_is c.requires.fits in
-    ap is_some (in_slots c.self.inside.slots.items v v c.args.call c.args.key.now one.0 refl refl one.1)
+    ap is_some (in_slots c.self.inside v c.args.call c.args.key.now c.self.invariant refl ∙ one.1)
 
 pub withdraw_at-requires : goal.withdraw_at-requires
 withdraw_at-requires c =
     let v : WorldState = world_of c.self.inside in
     let one = untouched_part v c.args.self.now c.args.call c.args.key.now c.self.view_is c.requires.fits in
-    let is = taken_is c.self.inside.slots.items v c.args.call c.args.key.now c.take_slot-slot.result one.0 refl one.1 c.take_slot-slot.ensures.slot c.take_slot-slot.ensures.key in
+    let is = taken_is c.self.inside c.args.call c.args.key.now c.take_slot-slot.result one.0 c.self.invariant one.1 c.take_slot-slot.ensures.slot c.take_slot-slot.ensures.key in
     let Q : Entry → Type 0 = λ e. IsSomeAnd (slice_get c.self.inside.stripes.items c.stripe_of-number.result) (λ s. IsSomeAnd (claimed s (claim_of e.0 e.1)) (λ r. r.first ≡ e.1.first)) in
     subst Q (sym is) (may_withdraw_at v c.args.call c.args.key.now one.0 c.stripe_of-number.result one.1 c.stripe_of-number.ensures (subst IsSoundWorld (sym c.self.view_is) c.requires.sound))
 
@@ -32,7 +32,7 @@ returns c =
     let v : WorldState = world_of c.self.inside in
     let key = c.args.key.now in
     let one = untouched_part v c.args.self.now c.args.call key c.self.view_is c.requires.fits in
-    let is = taken_is c.self.inside.slots.items v c.args.call key c.take_slot-slot.result one.0 refl one.1 c.take_slot-slot.ensures.slot c.take_slot-slot.ensures.key in
+    let is = taken_is c.self.inside c.args.call key c.take_slot-slot.result one.0 c.self.invariant one.1 c.take_slot-slot.ensures.slot c.take_slot-slot.ensures.key in
     let t = c.withdraw_at.ensures in
     let C : Entry → Type 0 = λ e. Withdraws t.0 (claim_of e.0 e.1) t.2 in
     let p : Changed v c.stripe_of-number.result (λ from to. Withdraws from (claim_of key one.0) to) c.withdraw_at.new.stripes.items = record { from = t.0; at = t.1; to = t.2; made = subst C is t.3; stripes_are = t.4 } in

@@ -1,5 +1,4 @@
-use Rattle.std.proofs.Common.{◌≡◌, ℕ, ◌∙◌, sym, ap, subst, arith, rules}
-use Rattle.jc_stripe.specs.declared.ticket.First.{First}
+use Rattle.std.proofs.Common.{◌≡◌, ℕ, sym, subst, rules}
 use Rattle.jc_stripe.specs.State.{State, IsOut}
 use Rattle.jc_stripe.proofs.Testing.{noted_out}
 use Rattle.jc_stripe.proofs.stripe.tests.conditions.is_out.Goals as goal
