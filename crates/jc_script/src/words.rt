@@ -19,11 +19,16 @@ pub fn is(word: &[u8], text: &str) -> bool
     word == text.as_bytes()
 }
 
+/// The room that the words of a line get at first: few lines have more.
+const WORDS_AT_FIRST: usize = 8;
+
 /// The words of a line.
 pub fn words(alloc: Global, line: &[u8]) -> Result<Vec<&[u8]>, AllocError>
     ensures { IfOk result (λ words. map (λ w. w.now) words.items ≡ words_of line.now) }
 {
-    line.split(|b| *b == 32).collect(alloc)
+    let mut words = Vec::with_capacity(alloc, WORDS_AT_FIRST)?;
+    words.extend(line.split(|b| *b == 32))?;
+    Ok(words)
 }
 
 fn letter(b: u8) -> bool
