@@ -239,7 +239,7 @@ session_differs session other s differs is = turned_eq s other ∙ ap (λ n. oth
 uniform_same : (session : ℕ) (old new : State) → IsReached old → new ≡ old → IsUniform session old new
 uniform_same session old new reached is = record {
   reached = subst IsReached (sym is) reached;
-  grows = same_on old new (ap (λ (s : State). s.opening) is) (ap (λ (s : State). s.history) is);
+  grows = same_on old new old is (record { config = refl; number = refl; origin = refl; opening = refl }) refl;
   next = let n = ap (λ (s : State). s.next) is in omega arith;
   others = λ other differs. ap (λ (s : State). own_steps other s) is;
 }

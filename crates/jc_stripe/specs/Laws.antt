@@ -1,7 +1,9 @@
 -- The laws of the phases, over every state.
 --     StaysReached     each phase leads from a reached state to a reached one
 --     IsLegal          the history of a reached state is legal from its opening
---     Grows            a phase appends to the history and changes nothing that stands in it, nor the opening
+--     IsSameStripe     the later state is of the same stripe: of the same shape, number, origin and opening
+--     GoesOn           the later state is of the same stripe, and its history begins with the earlier one
+--     Grows            a phase appends to the history of its stripe and changes nothing that stands in it
 --     WasFree          a key that gets a ticket was free
 --     Keeps            a call that a reservation of its key does not stop leaves the entry
 --     KeepsReserved    the entry of a reserved key stays in every phase but its own commit
@@ -32,9 +34,16 @@ pub record StaysReached : Type 0 where
 abbrev pub IsLegal : Type 0
 IsLegal = (state : State) → IsReached state → Legal state.config state.opening state.history
 
--- the later state has the same opening, and more events behind those of the earlier one
-pub record GoesOn (old new : State) : Type 0 where
+-- the later state is of the same stripe
+pub record IsSameStripe (old new : State) : Type 0 where
+  pub config : new.config ≡ old.config
+  pub number : new.number ≡ old.number
+  pub origin : new.origin ≡ old.origin
   pub opening : new.opening ≡ old.opening
+
+-- and it has more events behind those of the earlier one
+pub record GoesOn (old new : State) : Type 0 where
+  pub stripe : IsSameStripe old new
   pub more : List Event
   pub history : new.history ≡ old.history ++ more
 
@@ -53,3 +62,5 @@ Keeps = (config : Config) (op : Op) (entry : Option Bytes) → passes config op 
 pub record KeepsReserved : Type 0 where
   pub begins : (old new : State) (session call : ℕ) (key : Bytes) (op : Op) (b : Begun) (q : Bytes) → IsReached old → Begins old session call key op b new → is_reserved old q ≡ true → entry_at new.cache q ≡ entry_at old.cache q
   pub commits : (old new : State) (claim : Claim) (out : Out) (reply : Reply) (place : ℕ) (q : Bytes) → IsReached old → Commits old claim out reply place new → is_reserved (released old claim.key) q ≡ true → entry_at new.cache q ≡ entry_at old.cache q
+  pub withdraws : (old new : State) (claim : Claim) → Withdraws old claim new → new.cache ≡ old.cache
+  pub picks_up : (old new : State) (join : JoinClaim) (p : Picked) → PicksUp old join p new → new.cache ≡ old.cache

@@ -3,8 +3,8 @@
 --     IsPhaseOf       at most one phase of this session leads from one state to another
 --     is_parked       a step is parked: it was put down for a joiner that hasn't taken its answer
 --     own_steps       the session's own steps: those of its steps that aren't parked
---     IsUniform       what the laws say of each phase of a session: the state stays reached, its history grows, the numbers of
---                     reservations don't fall, and no other session's own steps change
+--     IsUniform       what the laws say of each phase of a session: the state stays reached and of the same stripe, its history
+--                     grows, the numbers of reservations don't fall, and no other session's own steps change
 use Rattle.std.specs.Prelude.{◌≡◌, ◌≤◌, ◌==◌, ◌⊎◌, ℕ, List, filter, Bool, true, false, not, ◌&&◌, IsSomeAnd}
 use Rattle.std.specs.List.{list_any}
 use Rattle.jc_model.specs.declared.event.Op.{Op}

@@ -33,8 +33,9 @@ pub fn keeps_reserved()
     ensures { KeepsReserved }
 {}
 
-/// Whatever phase of one session a stripe makes, or none, it stays as every stripe is, its history grows, the numbers of its
-/// reservations don't fall, and the own steps of every other session are the same: those of its steps whose answer isn't parked.
+/// Whatever phase of one session a stripe makes, or none, it stays as every stripe is and the same stripe, of the same shape,
+/// number, origin and opening; its history grows, the numbers of its reservations don't fall, and the own steps of every other
+/// session are the same: those of its steps whose answer isn't parked.
 pub fn is_uniform()
     ensures { OnePhase }
 {}
