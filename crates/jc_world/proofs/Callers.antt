@@ -52,7 +52,7 @@ use Rattle.jc_world.specs.declared.event.WorldEvent.{WorldEvent}
 use Rattle.jc_world.specs.declared.event.WorldEvent.TheVariants as event
 use Rattle.jc_world.specs.World.{WorldState, Parts, home, stripe_for, empty_stripe, empty_stripes, start, has_number, is_busy, under, over, part_of, is_joined, is_join, join_of, unjoined, claim_of, out_of, with_stored}
 use Rattle.jc_world.specs.Events.{is_single, is_session, is_new, is_free, may_start, may_leave, fits, with_stripe, goes_on, call_over, new_part, with_part, without_part, with_join, without_join, Starts, Ends, Picks, Happens}
-use Rattle.jc_world.specs.Audit.{cache_in, cache_at, IsOrder}
+use Rattle.jc_world.specs.Audit.{cache_in, cache_at, IsOrder, HasParts}
 use Rattle.jc_world.specs.Sound.{IsStripe, is_up_to, none_from, has_answer, is_told, is_served_in, is_served, FitsCall, CallsFit, IsHeld, IsOwned, AllOwned, IsCalled, AllCalled, IsSoundWorld}
 use Rattle.jc_world.proofs.Halves.{HasOrder}
 use Rattle.jc_world.proofs.Places.{at_stripe, stripe_put}
@@ -945,3 +945,7 @@ order_is w old = record {
       history_of_stripe w n s.0 s.1 (old.shape.each n s.0 s.1);
   order = old.order;
 }
+
+-- with each stripe's history as its part
+pub has_parts : (w : WorldState) → IsSoundWorld w → HasParts w
+has_parts w old = λ number s there. sym (old.shape.each number s there).share

@@ -4,12 +4,13 @@
 --     differing    the keys of such entries
 --     cache_at     what each stripe caches
 --     IsOrder      the order is one legal history over all stripes, and what is cached is what it leaves
+--     HasParts     each stripe's history is its part of the order, so that a place in a stripe tells a place in the order
 --     IsAudit      what an audit says
 use Rattle.std.specs.Prelude.{◌≡◌, ◌↔◌, ℕ, List, Bool, not, ◌&&◌, IsTrue, Option, None, Some, length, map, filter, slice_get}
 use Rattle.std.specs.FinMap.{get, entries, empty}
 use Rattle.jc_model.specs.Cache.{Bytes, Cache, entry_at}
 use Rattle.jc_model.specs.Table.{holds}
-use Rattle.jc_model.specs.Legal.{IsWholeHistory}
+use Rattle.jc_model.specs.Legal.{IsWholeHistory, of_stripe}
 use Rattle.jc_stripe.specs.State.{State}
 use Rattle.jc_world.specs.World.{WorldState, cached}
 use Rattle.jc_world.specs.Coherent.{is_changed}
@@ -32,6 +33,9 @@ cache_at w number = cache_in (slice_get w.stripes number)
 
 abbrev pub IsOrder : WorldState → Type 0
 IsOrder w = IsWholeHistory w.config (λ number. empty) w.order (cache_at w)
+
+abbrev pub HasParts : WorldState → Type 0
+HasParts w = (number : ℕ) (s : State) → slice_get w.stripes number ≡ Some s → s.history ≡ of_stripe w.config.stripes number w.order
 
 -- the entries stand in the byte order of their keys
 pub record IsAudit (w : WorldState) (cached_entries stored_entries : List (Bytes × Bytes)) (keys : List Bytes) (events : ℕ) (legal : Bool) : Type 0 where

@@ -1,5 +1,6 @@
 -- The headline, over every run.
---     StaysLegal       after every list of events the order is one legal history, and what is cached is what it leaves
+--     StaysLegal       after every list of events the order is one legal history, what is cached is what it leaves, and each stripe's
+--                      history is its part of it
 --     StaysCoherent    after every list of events, as long as the premises held, the world is coherent
 --     CountsLoads      after every list of events, each answer that a loader gave for a key stands in one step of its own, or is still
 --                      kept for its commit: those that joined a load have made no other
@@ -20,7 +21,7 @@ use Rattle.jc_world.specs.declared.event.Shown.TheVariants as shown
 use Rattle.jc_world.specs.World.{WorldState, start, with_stored}
 use Rattle.jc_world.specs.Events.{Run}
 use Rattle.jc_world.specs.Coherent.{Coherent, all_hold}
-use Rattle.jc_world.specs.Audit.{IsOrder}
+use Rattle.jc_world.specs.Audit.{IsOrder, HasParts}
 
 -- a world at its start, with these values in its store
 abbrev pub opened : Config → List (Bytes × Bytes) → WorldState
@@ -28,7 +29,7 @@ opened config [] = start config
 opened config (entry ∷ entries) = with_stored (opened config entries) entry.0 entry.1
 
 abbrev pub StaysLegal : Type 0
-StaysLegal = (config : Config) (stored : List (Bytes × Bytes)) (events : List WorldEvent) (seen : List Shown) (new : WorldState) → checked config ≡ Ok tt → Run (opened config stored) events seen new → IsOrder new
+StaysLegal = (config : Config) (stored : List (Bytes × Bytes)) (events : List WorldEvent) (seen : List Shown) (new : WorldState) → checked config ≡ Ok tt → Run (opened config stored) events seen new → IsOrder new × HasParts new
 
 abbrev pub StaysCoherent : Type 0
 StaysCoherent = (config : Config) (stored : List (Bytes × Bytes)) (events : List WorldEvent) (seen : List Shown) (new : WorldState) → checked config ≡ Ok tt → Run (opened config stored) events seen new → all_hold new ≡ true → Coherent new

@@ -3,8 +3,9 @@ ghost use Rattle.jc_world.specs.Headline.{StaysLegal, StaysCoherent, CountsLoads
 
 use jc_stripe::phase_laws::{keeps_reserved, stays_reached};
 
-/// Over every interleaving of phases, loader answers, writer failures and others' writes, each completed call is one step of the
-/// sequential cache at its place in one legal history, and what is cached is what that history leaves.
+/// Over every interleaving of phases, loader answers, writer failures and others' writes, all that was put down is one legal
+/// history, what is cached is what it leaves, and each stripe's history is its part of it. That each reply that is shown is its
+/// step's, at the place that is shown, stands in the clause `run` of `World::play`.
 pub fn stays_legal()
     ensures { StaysLegal }
 {

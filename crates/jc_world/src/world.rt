@@ -4,7 +4,7 @@ ghost use Rattle.jc_world.specs.declared.event.Shown.{Shown};
 ghost use Rattle.jc_world.specs.World.{start, is_busy, under, part_of, is_joined, with_stored};
 ghost use Rattle.jc_world.specs.Events.{Run};
 ghost use Rattle.jc_world.specs.Coherent.{all_hold, Coherent};
-ghost use Rattle.jc_world.specs.Audit.{IsOrder, IsAudit};
+ghost use Rattle.jc_world.specs.Audit.{IsOrder, HasParts, IsAudit};
 
 use crate::audit::Audit;
 use crate::event::{Gone, Part, PickedUp, Reported, Shown, Stepped, Under, WorldEvent};
@@ -105,10 +105,12 @@ impl World {
         self.played
     }
 
-    /// All that was put down, over all stripes: one legal history, and what is cached is what it leaves.
+    /// All that was put down, over all stripes: one legal history, and what is cached is what it leaves. The history of each stripe
+    /// is its part of it: a place in a stripe, as it is shown, counts the events of that stripe alone.
     pub fn order(&self) -> &[Event]
         ensures order { result.now ≡ self.now.world.order }
         ensures legal { IsOrder self.now.world }
+        ensures parts { HasParts self.now.world }
     {
         self.machine.order()
     }

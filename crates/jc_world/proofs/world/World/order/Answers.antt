@@ -1,10 +1,15 @@
 use Rattle.std.proofs.Common.{subst}
-use Rattle.jc_world.specs.Audit.{IsOrder}
+use Rattle.jc_world.specs.Audit.{IsOrder, HasParts}
 use Rattle.jc_world.specs.Played.{Played}
-use Rattle.jc_world.proofs.Callers.{order_is}
+use Rattle.jc_world.proofs.Callers.{order_is, has_parts}
 use Rattle.jc_world.proofs.world.World.order.Goals as goal
 
 pub returns-clause-legal : goal.returns-clause-legal
 returns-clause-legal c =
     let P : Played → Type 0 = λ p. IsOrder p.world in
     subst P c.self.view_is (order_is c.self.inside.machine c.self.invariant)
+
+pub returns-clause-parts : goal.returns-clause-parts
+returns-clause-parts c =
+    let P : Played → Type 0 = λ p. HasParts p.world in
+    subst P c.self.view_is (has_parts c.self.inside.machine c.self.invariant)
