@@ -176,6 +176,47 @@ fn keeps_no_new_entry_where_all_are_reserved(rt: HostRuntime) {
     assert!(rt; run.is_legal(&rt, rt.alloc()), "the history");
 }
 
+// The 64th reservation is the load of a new key, and each of 63 entries is reserved.
+#[test]
+fn keeps_no_new_entry_where_63_are_reserved(rt: HostRuntime) {
+    let (one, five) = (value(&rt, 1), value(&rt, 5));
+    let writes = Told::Writes(Change::Write(five));
+    let mut run = Run::new(&rt, rt.alloc(), &both(63, 400));
+    for at in 100..163 {
+        run.loads(&rt, &[at], &one);
+    }
+    for at in 100..163 {
+        let replace = Act::Begin(Op::Replace(five));
+        run.plays(&rt, "a reservation", &[(2, 1, at, replace, writes)]);
+    }
+    let found = Act::Loaded(LoadAnswer::Found(one));
+    let told = done(Reply::Value(Some(one)), 63);
+    run.plays(
+        &rt,
+        "all are reserved",
+        &[(3, 1, b'A', GET, Told::Loads), (3, 1, b'A', found, told)],
+    );
+    let new = key(&rt, b'A');
+    assert_eq!(rt; run.stripe.events().get(64), Some(&full(new)));
+    assert!(rt;
+        run.stripe.entries().iter().all(|e| e.0 != new),
+        "it isn't kept"
+    );
+    assert_eq!(rt; run.stripe.entries().len(), 63);
+    run.plays(
+        &rt,
+        "one is free again",
+        &[
+            (2, 1, 130, WITHDRAW, Told::Withdrawn),
+            (3, 2, b'A', GET, Told::Loads),
+            (3, 2, b'A', found, done(Reply::Value(Some(one)), 66)),
+        ],
+    );
+    assert_eq!(rt; run.stripe.events().get(65), Some(&full(key(&rt, 130))));
+    assert_eq!(rt; run.stripe.entries().len(), 63);
+    assert!(rt; run.is_legal(&rt, rt.alloc()), "the history");
+}
+
 #[test]
 fn evicts_before_a_step_that_is_shared(rt: HostRuntime) {
     let (one, two) = (value(&rt, 1), value(&rt, 2));
