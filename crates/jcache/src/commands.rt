@@ -24,7 +24,6 @@ fn command<'a>(alloc: Global) -> Result<Command<'a>, Error> {
 /// The task of these words; the first is the program's name. The error holds the text to show, for `--help` and `--version`
 /// too.
 pub fn read_task(alloc: Global, words: &[String]) -> Result<Task, Error> {
-    let matches = command(alloc)?.try_get_matches_from(words)?;
-    let _run = matches.subcommand();
+    command(alloc)?.try_get_matches_from(words)?;
     Ok(Task::Run)
 }

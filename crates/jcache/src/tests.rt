@@ -46,9 +46,9 @@ fn plays_scripts(rt: HostRuntime) -> Result<(), Fail> {
         (&b"open 0 1 16\n"[..], 1, "line 1: bad config stripes\n"),
     ] {
         let (found, out, err) = run_with(rt.alloc(), "jcache run", script)?;
-        assert_eq!(rt; found, status);
+        assert_eq!(rt; found, status, "at {transcript}");
         assert_eq!(rt; out.as_slice(), transcript.as_bytes());
-        assert!(rt; err.is_empty());
+        assert!(rt; err.is_empty(), "at {transcript}");
     }
     Ok(())
 }
