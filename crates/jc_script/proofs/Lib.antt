@@ -1,2 +1,4 @@
 pub mod Pieces
 pub mod Spelling
+pub mod Callable
+pub mod Fitting

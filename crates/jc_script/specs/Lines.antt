@@ -7,6 +7,7 @@
 --     command_of       an operation with its key and values
 --     parsed           what the words of a line ask for
 --     read_line        what the bytes of a line ask for: nothing, for a comment
+--     is_callable      what a line begins is a call of one of the 32 sessions, and its operation is a call by itself
 use Rattle.std.specs.Prelude.{◌≡◌, ◌==◌, ℕ, List, [], ◌∷◌, length, Bool, true, false, ◌&&◌, not, nat_lt, nat_le, Option, Some, None, Result, Ok, Err, if◌then◌else◌, codes}
 use Rattle.std.specs.Str.{bytes_eq}
 use Rattle.std.specs.List.{list_all}
@@ -14,6 +15,7 @@ use Rattle.jc_model.specs.Cache.{Bytes}
 use Rattle.jc_model.specs.declared.event.Op.{Op}
 use Rattle.jc_model.specs.declared.event.Op.TheVariants as op
 use Rattle.jc_world.specs.declared.event.Command.{Command}
+use Rattle.jc_world.specs.Events.{is_single, is_session}
 use Rattle.jc_script.specs.declared.fault.Fault.{Fault}
 use Rattle.jc_script.specs.declared.fault.Fault.TheVariants.{LineTooLong, BadByte, BadLine}
 use Rattle.jc_script.specs.declared.fault.ReadError.{ReadError}
@@ -279,3 +281,9 @@ read_line text =
     if not (list_all is_plain text) then Err BadByte else
     if is_comment text then Ok None else
     some_line (parsed (words_of text))
+
+-- 5. What may be begun. Each line that is read is so, and no contract of a public call cites this.
+
+abbrev pub is_callable : Line → Bool
+is_callable (Begin number session command) = is_single command.op && is_session session
+is_callable other = true

@@ -2,7 +2,7 @@
 --     drop_events      the events of a call that is dropped: what is reserved is given back first
 --     events_of        the events that an act stands for, for a call's number and key, and what it asked and heard for the key
 --     begin_events     the events that the begin of a call stands for
---     PlaysEvents      the world may take these events, and this is printed of them
+--     PlaysEvents      the world may take these events, each of them fits when it comes, and this is printed of them
 --     Audited          what is printed of an audit
 --     Plays            a line with no fault: what it prints and leaves. ⊥ stands where no such line is played
 --     Prints           the same from the line's bytes
@@ -22,7 +22,7 @@ use Rattle.jc_world.specs.declared.event.WorldEvent.{WorldEvent}
 use Rattle.jc_world.specs.declared.event.WorldEvent.TheVariants as event
 use Rattle.jc_world.specs.World.{WorldState, start, under, part_of, with_stored}
 use Rattle.jc_world.specs.Played.{Played}
-use Rattle.jc_world.specs.Events.{Run}
+use Rattle.jc_world.specs.Events.{Run, all_fit}
 use Rattle.jc_world.specs.Audit.{IsAudit}
 use Rattle.jc_world.specs.Coherent.{all_hold}
 use Rattle.jc_script.specs.declared.fault.Fault.{Fault}
@@ -74,6 +74,7 @@ pub record PlaysEvents (w : WorldState) (key : Bytes) (events : List WorldEvent)
   pub seen : List Shown
   pub after : WorldState
   pub runs : Run w events seen after
+  pub fit : all_fit seen ≡ true
   pub text_is : text ≡ texts key events seen
   pub new_is : new ≡ Some after
 

@@ -3,6 +3,8 @@ ghost use Rattle.std.specs.Prelude.{◌≡◌, ◌++◌, ◌∷◌, List, ℕ, [
 ghost use Rattle.jc_types.specs.Limits.{checked};
 ghost use Rattle.jc_world.specs.declared.event.WorldEvent.TheVariants as event;
 ghost use Rattle.jc_world.specs.World.{waits_for_load, waits_for_report, is_answered, is_untouched, under, part_of, start};
+ghost use Rattle.jc_world.specs.Events.{fits, AllFit};
+ghost use Rattle.jc_script.specs.Lines.{is_callable};
 ghost use Rattle.jc_script.specs.Faults.{config_fault, is_rising, begin_fault, may_drop, may_restart, fits_now, act_fault, state_fault};
 ghost use Rattle.jc_script.specs.Transcript.{State, state_of, begin_events, drop_events, events_of, PlaysEvents, PlaysAct, Audited, Plays, Prints, fault_of};
 
@@ -258,6 +260,7 @@ fn play_events(
     events: &[WorldEvent],
     out: &mut Vec<u8>,
 ) -> Result<(), AllocError>
+    requires { AllFit world.old.world events.now }
     ensures { OnOk result ((text : List ℕ) × PlaysEvents world.old.world about.now events.now text (Some world.new.world) × (out.new.items ≡ out.old.items ++ text)) }
 {
     let seen = world.play(alloc, events)?;
@@ -273,9 +276,11 @@ fn begin(
     command: &Command,
     out: &mut Vec<u8>,
 ) -> Result<(), AllocError>
+    requires { fits world.old.world (event.Call number session command.now) ≡ true }
     ensures { OnOk result ((text : List ℕ) × PlaysEvents world.old.world command.now.key (begin_events number session command.now) text (Some world.new.world) × (out.new.items ≡ out.old.items ++ text)) }
 {
     let events = events_begun(alloc, number as u64, session, command)?;
+    world.lets_calls_start();
     play_events(alloc, world, &command.key, &events, out)?;
     Ok(())
 }
@@ -328,7 +333,8 @@ fn audit(alloc: Global, world: &World, out: &mut Vec<u8>) -> Result<(), AllocErr
 }
 
 fn play(alloc: Global, world: &mut World, line: &Line, out: &mut Vec<u8>) -> Result<(), AllocError>
-    requires { state_fault (Some world.old.world) line.now ≡ None }
+    requires fault { state_fault (Some world.old.world) line.now ≡ None }
+    requires callable { is_callable line.now ≡ true }
     ensures { OnOk result ((text : List ℕ) × Plays (Some world.old.world) line.now text (Some world.new.world) × (out.new.items ≡ out.old.items ++ text)) }
 {
     match line {
@@ -358,7 +364,8 @@ fn perform(
     line: &Line,
     out: &mut Vec<u8>,
 ) -> Result<(), AllocError>
-    requires { state_fault (state_of world.old) line.now ≡ None }
+    requires fault { state_fault (state_of world.old) line.now ≡ None }
+    requires callable { is_callable line.now ≡ true }
     ensures { OnOk result ((text : List ℕ) × Plays (state_of world.old) line.now text (state_of world.new) × (out.new.items ≡ out.old.items ++ text)) }
 {
     if let Some(world) = world {

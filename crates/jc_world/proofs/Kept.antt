@@ -137,10 +137,10 @@ some_at o P x e h = subst (λ o. IsSomeAnd o P) (sym e) h
 of_some : {A : Type 0} (o : Option A) (P : A → Type 0) (x : A) → o ≡ Some x → IsSomeAnd o P → P x
 of_some o P x e h = subst (λ o. IsSomeAnd o P) e h
 
--- a part that cannot be there is none
-missing : (o : Option Part) → ((part : Part) → o ≡ Some part → ⊥) → o ≡ None
+-- what cannot be there is none
+pub missing : {A : Type 0} (o : Option A) → ((x : A) → o ≡ Some x → ⊥) → o ≡ None
 missing None h = refl
-missing (Some part) h = absurd (h part refl)
+missing (Some x) h = absurd (h x refl)
 
 -- an entry that is the same as what is stored agrees with it
 agrees_same : (o : Option Bytes) → Agrees o o

@@ -3,7 +3,12 @@
 --     Happens     what an event that fits may show and leave
 --     Step        one event: one that doesn't fit is shown as a fault and changes nothing
 --     Run         events one after another
+--     is_fit      what is shown is not the fault of an event that doesn't fit
+--     all_fit     nothing that is shown is such a fault
+--     AllFit      whatever the world may choose, each of these events fits when it comes
+--     StartFits   where a call fits, its first phase fits directly behind it
 use Rattle.std.specs.Prelude.{◌≡◌, ◌==◌, ◌⊎◌, ℕ, List, [], ◌∷◌, ◌++◌, length, drop, Bool, true, false, not, ◌&&◌, Option, None, Some, is_none, nat_lt, slice_get, slice_set, ◌-◌, if◌then◌else◌}
+use Rattle.std.specs.List.{list_all}
 use Rattle.std.specs.Cmp.Lexicographic.{pointwise}
 use Rattle.std.specs.FinMap.{insert, remove}
 use Rattle.jc_types.specs.Limits.{between}
@@ -25,6 +30,7 @@ use Rattle.jc_stripe.specs.declared.begun.Picked.TheVariants as picked
 use Rattle.jc_stripe.specs.Claim.{Claim, WriteClaim, JoinClaim}
 use Rattle.jc_stripe.specs.State.{State}
 use Rattle.jc_stripe.specs.Phases.{Begins, Commits, Withdraws, PicksUp}
+use Rattle.jc_world.specs.declared.event.Command.{Command}
 use Rattle.jc_world.specs.declared.event.WorldEvent.{WorldEvent}
 use Rattle.jc_world.specs.declared.event.WorldEvent.TheVariants as event
 use Rattle.jc_world.specs.declared.event.Shown.{Shown}
@@ -237,3 +243,19 @@ Run old [] [] new = new ≡ old
 Run old (e ∷ es) (s ∷ ss) new = (mid : WorldState) × Step old e s mid × Run mid es ss new
 Run old [] (s ∷ ss) new = ⊥
 Run old (e ∷ es) [] new = ⊥
+
+-- 7. Events that fit.
+
+abbrev pub is_fit : Shown → Bool
+is_fit shown.Unfit = false
+is_fit seen = true
+
+abbrev pub all_fit : List Shown → Bool
+all_fit seen = list_all is_fit seen
+
+abbrev pub AllFit : WorldState → List WorldEvent → Type 0
+AllFit old events = (seen : List Shown) (new : WorldState) → Run old events seen new → all_fit seen ≡ true
+
+-- it does so in every world that is reached
+abbrev pub StartFits : WorldState → Type 0
+StartFits w = (call session : ℕ) (command : Command) → fits w (event.Call call session command) ≡ true → AllFit w (event.Call call session command ∷ event.Start call command.key ∷ [])

@@ -2,7 +2,7 @@ ghost use Rattle.std.specs.Prelude.{[], ◌≡◌, ◌≤◌, ◌⊎◌, ◌<◌
 ghost use Rattle.jc_types.specs.Limits.{checked};
 ghost use Rattle.jc_world.specs.declared.event.Shown.{Shown};
 ghost use Rattle.jc_world.specs.World.{start, is_busy, under, part_of, is_joined, with_stored};
-ghost use Rattle.jc_world.specs.Events.{Run};
+ghost use Rattle.jc_world.specs.Events.{Run, StartFits};
 ghost use Rattle.jc_world.specs.Coherent.{all_hold, Coherent};
 ghost use Rattle.jc_world.specs.Audit.{IsOrder, HasParts, IsAudit};
 
@@ -155,6 +155,13 @@ impl World {
         ensures { result ≡ is_joined self.now.world call key.now }
     {
         self.machine.is_joined(call, key)
+    }
+
+    /// Where a call fits, its first phase fits directly behind it. This does nothing: what it says is its contract.
+    pub fn lets_calls_start(&self)
+        ensures { StartFits self.now.world }
+    {
+        let _ = &self.machine;
     }
 
     /// What there is to see of the world.

@@ -8,6 +8,6 @@ returns c =
     let seen = c.in_ok-seen.seen.items in
     let put = λ (shown : List Shown). c.args.out.now.items ++ texts c.args.about.now c.args.events.now shown in (
       texts c.args.about.now c.args.events.now seen,
-      record { seen = seen; after = c.play.new.self.world; runs = c.in_ok-seen.ensures.run.0; text_is = refl; new_is = refl },
+      record { seen = seen; after = c.play.new.self.world; runs = c.in_ok-seen.ensures.run.0; fit = c.requires seen c.play.new.self.world c.in_ok-seen.ensures.run.0; text_is = refl; new_is = refl },
       c.in_ok-put_texts.ensures ∙ ap put c.deref.ensures.value,
     )

@@ -1,0 +1,142 @@
+-- Events that fit: none of them is shown as a fault, and some fit directly behind others.
+--     one_fits       an event that fits, alone
+--     report_fits    the writer's return, behind its change of the store
+--     leave_fits     a call's leaving, behind its withdrawal
+--     start_fits     a call's first phase, behind its beginning
+use Rattle.std.proofs.Common.{◌≡◌, ℕ, List, [], ◌∷◌, ◌++◌, true, false, cond, not, Option, None, Some, IsSomeAnd, find, inl, inr, refl, sym, ap, ◌∙◌, subst, arith, is_none, nat_lt, nat_le}
+use Rattle.std.specs.Option.{option_or}
+use Rattle.std.specs.FinMap.{get, remove, get-insert, get-remove}
+use Rattle.std.proofs.lemmas.Bool.{eq-eqb}
+use Rattle.std.proofs.lemmas.Bool.Decides.{nat_tests}
+use Rattle.std.proofs.lemmas.Cmp.{nat_list_cmp_total, nat_eq_equiv, nat_list_eq_equiv}
+use Rattle.std.proofs.lemmas.List.Folds.{find-append}
+use Rattle.jc_model.specs.Cache.{Bytes}
+use Rattle.jc_model.proofs.Lookups.{both}
+use Rattle.jc_stripe.specs.State.{State}
+use Rattle.jc_world.specs.declared.event.Part.{Part}
+use Rattle.jc_world.specs.declared.event.Under.{Under}
+use Rattle.jc_world.specs.declared.event.Shown.{Shown}
+use Rattle.jc_world.specs.declared.event.Shown.TheVariants as shown
+use Rattle.jc_world.specs.declared.event.WorldEvent.{WorldEvent}
+use Rattle.jc_world.specs.declared.event.WorldEvent.TheVariants as event
+use Rattle.jc_world.specs.World.{WorldState, stripe_for, has_number, under, of_call, part_of, waits_for_report, is_join, is_joined}
+use Rattle.jc_world.specs.Events.{fits, is_new, is_free, may_start, may_leave, may_report, changed, with_stripe, without_part, Happens, is_fit, AllFit, StartFits}
+use Rattle.jc_world.specs.Sound.{is_up_to, IsHeld, IsSoundWorld}
+use Rattle.jc_world.proofs.Shares.{all, some_of}
+use Rattle.jc_world.proofs.Entries.{tied}
+use Rattle.jc_world.proofs.Underway.{found_number, fits_found, of_call-at}
+use Rattle.jc_world.proofs.Joiners.{join_any, join_is}
+use Rattle.jc_world.proofs.Callers.{refuted}
+use Rattle.jc_world.proofs.Kept.{missing}
+
+-- 1. What fits is shown as no fault.
+
+-- what happens is no fault
+fit_shown : (old new : WorldState) (e : WorldEvent) (seen : Shown) → Happens old e seen new → is_fit seen ≡ true
+fit_shown old new (event.Call call session command) seen h = ap is_fit h.0
+fit_shown old new (event.Start call key) shown.Unfit h = absurd h.5
+fit_shown old new (event.Start call key) seen h = refl
+fit_shown old new (event.Read call key) seen h = ap is_fit h.2
+fit_shown old new (event.Say call key answer) seen h = ap is_fit h.2
+fit_shown old new (event.Change call key) seen h = ap is_fit h.4
+fit_shown old new (event.Report call fault) seen h = ap is_fit h.6
+fit_shown old new (event.Commit call key) shown.Unfit h = absurd h.5
+fit_shown old new (event.Commit call key) seen h = refl
+fit_shown old new (event.Withdraw call key) seen h = ap is_fit h.6
+fit_shown old new (event.Leave call) seen h = ap is_fit h.0
+fit_shown old new (event.PickUp call key) shown.Unfit h = absurd h.5
+fit_shown old new (event.PickUp call key) seen h = refl
+fit_shown old new (event.Foreign key value) seen h = ap is_fit h.0
+
+-- there is nothing that doesn't fit
+none_fit : (w : WorldState) → AllFit w []
+none_fit w [] new run = refl
+none_fit w (s ∷ ss) new run = absurd run
+
+-- an event that fits, and others that fit wherever it leads
+fits_then : (w : WorldState) (e : WorldEvent) (es : List WorldEvent) → fits w e ≡ true → ((seen : Shown) (mid : WorldState) → Happens w e seen mid → AllFit mid es) → AllFit w (e ∷ es)
+fits_then w e es fit more [] new run = absurd run
+fits_then w e es fit more (s ∷ ss) new (mid, inl (fit_now, happens), run) = all _ _ (fit_shown w mid e s happens) (more s mid happens ss new run)
+fits_then w e es fit more (s ∷ ss) new (mid, inr (unfit, shows, is), run) = let t : true ≡ false = sym fit ∙ unfit in cc
+
+-- an event that fits, alone
+pub one_fits : (w : WorldState) (e : WorldEvent) → fits w e ≡ true → AllFit w (e ∷ [])
+one_fits w e fit = fits_then w e [] fit (λ seen mid happens. none_fit mid)
+
+-- 2. Two events of a call under way.
+
+-- once the writer has changed the store, it is still waited for
+still_waits : (call : ℕ) (o : Option Part) (part : Part) → of_call call o ≡ Some part → waits_for_report (of_call call o) ≡ true → waits_for_report (of_call call (Some (record part { is_changed = true }))) ≡ true
+still_waits call o part is waits =
+    ap (λ b. waits_for_report (cond b (Some (record part { is_changed = true })) None)) (eq-eqb part.call call (of_call-at call o part is).1)
+    ∙ sym (ap waits_for_report is) ∙ waits
+
+-- the writer's return, behind its change of the store
+pub report_fits : (w : WorldState) (call : ℕ) (u : Under) (fault : Option ℕ) → under w call ≡ Some u → fits w (event.Change call u.command.key) ≡ true → AllFit w (event.Change call u.command.key ∷ event.Report call fault ∷ [])
+report_fits w call u fault here fit =
+    let key = u.command.key in
+    fits_then w (event.Change call key) (event.Report call fault ∷ []) fit (λ seen mid happens.
+    let part = happens.0 in
+    let new = changed w key part happens.1 in
+    let P : WorldState → Type 0 = λ m. fits m (event.Report call fault) ≡ true in
+    let there : get new.parts key ≡ Some (record part { is_changed = true }) = get-insert nat_list_cmp_total w.parts key (record part { is_changed = true }) key ∙ ap (λ b. cond b (Some (record part { is_changed = true })) (get w.parts key)) (tied key) in
+    one_fits mid (event.Report call fault)
+    (subst P (sym happens.5) (ap (may_report new call) here ∙ ap (λ o. waits_for_report (of_call call o)) there ∙ still_waits call (get w.parts key) part happens.2 fit)))
+
+-- a call's leaving, behind its withdrawal
+pub leave_fits : (w : WorldState) (call : ℕ) (u : Under) → under w call ≡ Some u → is_joined w call u.command.key ≡ false → fits w (event.Withdraw call u.command.key) ≡ true
+    → AllFit w (event.Withdraw call u.command.key ∷ event.Leave call ∷ [])
+leave_fits w call u here free fit =
+    let key = u.command.key in
+    fits_then w (event.Withdraw call key) (event.Leave call ∷ []) fit (λ seen mid happens.
+    let new = without_part (with_stripe w key happens.4) key in
+    let P : WorldState → Type 0 = λ m. fits m (event.Leave call) ≡ true in
+    let gone : get (remove w.parts key) key ≡ None = get-remove nat_list_cmp_total w.parts key key ∙ ap (λ b. cond b None (get w.parts key)) (tied key) in
+    one_fits mid (event.Leave call)
+    (subst P (sym happens.7) (ap (may_leave new call) here ∙ all _ _ (ap (λ o. is_none (of_call call o)) gone) (ap not free))))
+
+-- 3. A call that has just begun.
+
+-- a number isn't both above the last and up to it
+above : (last : Option ℕ) (call : ℕ) → is_new last call ≡ true → is_up_to last call ≡ true → ⊥
+above None call new up = cc
+above (Some last) call new up = go last call new up
+  where
+    go : (last call : ℕ) → nat_lt last call ≡ true → nat_le call last ≡ true → ⊥
+    go last call new up = grind (arith, nat_tests)
+
+-- no call under way has a new number
+new_under : (w : WorldState) (call : ℕ) → is_new w.last call ≡ true → IsSoundWorld w → under w call ≡ None
+new_under w call new old = missing (under w call) (λ u here.
+    above w.last call new (ap (is_up_to w.last) (sym (found_number call w.calls u here)) ∙ (fits_found w (has_number call) w.calls u here old.calls).number))
+
+-- and what is of a call under way isn't of one that isn't
+nobody : (w : WorldState) (call other : ℕ) (P : Under → Type 0) → under w call ≡ None → other ≡ call → IsSomeAnd (under w other) P → ⊥
+nobody w call other P none same h = let Q : Option Under → Type 0 = λ o. IsSomeAnd o P in subst Q (ap (under w) same ∙ none) h
+
+-- nor has a new number a part or a join
+new_free : (w : WorldState) (call : ℕ) (key : Bytes) → is_new w.last call ≡ true → IsSoundWorld w → is_free w call key ≡ true
+new_free w call key new old =
+    let none = new_under w call new old in
+    all _ _
+    (ap is_none (missing (part_of w call key) (λ part is.
+    let at = of_call-at call (get w.parts key) part is in
+    let held = some_of (stripe_for w key) (λ (s : State). IsHeld w s key part) (old.held key part at.0) in
+    nobody w call part.call (λ u. u.command.key ≡ key) none at.1 held.2.call)))
+    (ap not (refuted (is_joined w call key) (λ joined.
+    let j = join_any w (is_join call key) w.joins joined old.joins in
+    nobody w call j.0.call (λ u. (u.session ≡ j.0.session) × (u.command.key ≡ j.0.key)) none (join_is call key j.0 j.2).0 j.3.call)))
+
+-- a call's first phase, behind its beginning
+pub start_fits : (w : WorldState) → IsSoundWorld w → StartFits w
+start_fits w old call session command fit =
+    let u : Under = record { session = session; number = call; command = command } in
+    let new : is_new w.last call ≡ true = (both _ _ (both _ _ fit).0).1 in
+    let here : find (has_number call) (w.calls ++ u ∷ []) ≡ Some u =
+    find-append (has_number call) w.calls (u ∷ []) ∙ ap (λ o. option_or o (find (has_number call) (u ∷ []))) (new_under w call new old) ∙ ap (λ b. cond b (Some u) None) (nat_eq_equiv.refl call)
+    in
+    let next : WorldState = record w { last = Some call; fresh = false; calls = w.calls ++ u ∷ [] } in
+    fits_then w (event.Call call session command) (event.Start call command.key ∷ []) fit (λ seen mid happens.
+    let P : WorldState → Type 0 = λ m. fits m (event.Start call command.key) ≡ true in
+    one_fits mid (event.Start call command.key)
+    (subst P (sym happens.1) (ap (may_start next call command.key) here ∙ all _ _ (nat_list_eq_equiv.refl command.key) (new_free w call command.key new old))))
