@@ -1,10 +1,11 @@
 -- The laws of the phases, over every state.
---     StaysReached     each phase leads from a reached state to a reached one
---     IsLegal          the history of a reached state is legal from its opening
---     Grows            a phase appends to the history and changes nothing that stands in it, nor the opening
---     WasFree          a key that gets a ticket was free
---     Keeps            a call that a reservation of its key does not stop leaves the entry
---     KeepsReserved    the entry of a reserved key stays in every phase but its own commit
+--     StaysReached      each phase leads from a reached state to a reached one
+--     IsLegal           the history of a reached state is legal from its opening
+--     GoesOn            one state is behind another: the same opening, and perhaps more events behind those of the earlier one
+--     Grows             a phase appends to the history and changes nothing that stands in it, nor the opening
+--     WasFree           a key that gets a ticket was free
+--     Keeps             a call that a reservation of its key does not stop leaves the entry
+--     KeepsReserved     the entry of a reserved key stays in every phase but its own commit
 use Rattle.std.specs.Prelude.{◌≡◌, ℕ, List, ◌++◌, true, false, Option, None}
 use Rattle.jc_types.specs.declared.config.Config.{Config}
 use Rattle.jc_model.specs.declared.event.Event.{Event}
