@@ -1,10 +1,22 @@
 -- Events in groups. A group is one step with all that belongs to it.
---     Group          at most one eviction from a full stripe, a step, the callers that share its load, at most one eviction of its key
---     events_of      the events that a group is, from a place on
---     history_of     the events that a list of groups is
---     before         the cache in which a group's step is made: without the group's victim
---     stepped, left_after      the cache behind the step, and behind the whole group
---     cache_after    the cache behind a list of groups
+--     Group                     at most one eviction from a full stripe, a step, the callers that share its load, at most one
+--                               eviction of its key
+--     nothing_said              what is said outside where nobody is asked
+--     load_only, write_only     what is said outside where the loader alone answers, and where the writer alone does
+--     victim_events             the eviction before a step, if there is one
+--     evicted_events            the eviction of a step's own key after it, if there is one
+--     step_event                the event of a group's step
+--     shared_event              the shared step of a caller: a `Get` of the same key, which names the step's place and replies what
+--                               its loader answered
+--     step_place                the place of a group's step, from the place at which the group begins
+--     events_of                 the events that a group is, from a place on
+--     history_of                the events that a list of groups is, from a place on
+--     without                   a cache without the key that is evicted, if one is
+--     before                    the cache in which a group's step is made: without the group's victim
+--     stepped                   the cache behind the step of a group
+--     evict_own                 a cache without the step's own key, if that is evicted
+--     left_after                the cache behind a whole group
+--     cache_after               the cache behind a list of groups
 use Rattle.std.specs.Prelude.{ℕ, ◌+◌, List, [], ◌∷◌, ◌++◌, length, map, Option, None, Some}
 use Rattle.std.specs.FinMap.{remove}
 use Rattle.jc_model.specs.declared.event.Op.TheVariants.{Get}

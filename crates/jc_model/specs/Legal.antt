@@ -1,10 +1,15 @@
 -- Legal histories.
---     in_order          callers' order: the numbers of a session's steps never fall, and no two steps have session, number and key in common
---     of_one_stripe     all these keys are of one stripe
---     IsHistory         the events are lawful groups from a cache, in the callers' order, and leave another cache
---     Legal             a legal history of one stripe from an opening, as `legal` checks it
---     of_stripe         the events whose key is of a stripe
---     IsWholeHistory    a legal history over all stripes: the part of each stripe is one, places counted in that part
+--     may_come           a step of this session, number and key may stand behind an event
+--     may_follow         an event may stand behind another one
+--     in_order           callers' order: the numbers of a session's steps never fall, and no two steps have session, number and key
+--                        in common
+--     event_key          the key of an event
+--     of_one_stripe      all these keys are of one stripe
+--     IsHistory          the events are lawful groups from a cache, in the callers' order, and leave another cache
+--     Legal              a legal history of one stripe from an opening, as `legal` checks it
+--     is_of_stripe       whether an event's key is of a stripe
+--     of_stripe          the events whose key is of a stripe
+--     IsWholeHistory     a legal history over all stripes: the part of each stripe is one, places counted in that part
 use Rattle.std.specs.Prelude.{◌≡◌, ◌==◌, ◌≤◌, ◌<◌, ℕ, List, [], ◌∷◌, ◌++◌, length, map, filter, Bool, true, not, ◌&&◌, ◌||◌, IsTrue, nat_lt, Ok, sum, ◌%◌}
 use Rattle.std.specs.List.{list_all}
 use Rattle.std.specs.Cmp.Lexicographic.{pointwise}

@@ -1,9 +1,22 @@
 -- What an entry processor's calls on its entry mean: each answer looks back over the calls before it. This is the provider's
 -- reading of JSR 107, "Entry Processors"; the calls have an initial value or none, and one load answer for the case that
--- the loader is asked.
---     uses_load      whether the loader is asked
---     told           what a call answers
---     net_effect     what the processor does to its entry in the end
+-- the loader is asked. No contract cites what is said of the calls yet; `found_in` alone is used elsewhere.
+--     Call                    a call on the entry
+--     Told                    what a call answers
+--     mutation                what a call makes of the entry, if it mutates: a value, or none
+--     or_else                 the first of two values that is there
+--     last_mutation           the last mutation among the calls, if any
+--     effect_of               the net effect of a last mutation, or of none
+--     is_get, has_get         a call asks for the value; one of these calls does
+--     unmutated               the calls before the first mutation
+--     uses_load               whether the loader is asked
+--     found_in, failed_in     the value that a loader found, if it found one, and the code with which it failed, if it did
+--     mutated_or              the value that is there, or another
+--     failed_load             the code of the load that failed in these calls, if one did
+--     value_or_fault          what a call for the value answers: the fault of a load that failed, or the value
+--     loaded_in               the value that the loader found, where read-through is on
+--     told                    what a call answers, after the calls before it
+--     net_effect              what the processor does to its entry in the end
 use Rattle.std.specs.Prelude.{ℕ, List, [], ◌∷◌, ◌++◌, Bool, true, false, ◌&&◌, ◌||◌, Option, None, Some, is_some, is_none, if◌then◌else◌, option_map}
 use Rattle.jc_model.specs.declared.event.LoadAnswer.{LoadAnswer}
 use Rattle.jc_model.specs.declared.event.LoadAnswer.TheVariants as load

@@ -1,9 +1,22 @@
 -- How the checker `legal` goes over a history, event by event: what it keeps, and what it tests of the next event. Nobody above
--- needs to believe it, since `legal` is proved to answer `Legal`.
---     Stage        outside a group, behind a group's victim, or behind a group's step
---     Fits         an event may come next
---     then_stage, then_cache      the stage and the cache behind an event
---     Accepts      each of the events fits behind those before it
+-- needs to believe it, since `legal` is proved to answer `Legal`. Where the reader stands is a `Stage`: outside a group, behind a
+-- group's victim, or behind a group's step.
+--     new_group                    a group of which the step was read
+--     opened                       what is kept of a group whose step stands at a place
+--     cause_fits                   the step's own key may go for this cause
+--     own_goes                     this key, for this cause, is the step's own and may go
+--     is_full                      a cause is `Full`
+--     victim_of                    the victim of the group that comes next, if it was read
+--     group_at                     the group of a step that is read at a stage
+--     is_within                    where a group ends here, no more entries are left than fit
+--     FitsShared                   a shared step may come next
+--     fits_evict                   an eviction may come next
+--     Fits                         an event may come next
+--     evict_stage, evict_cache     the stage and the cache behind an eviction
+--     then_stage, then_cache       the stage and the cache behind an event
+--     may_end                      the history may end
+--     Accepts                      each of the events fits behind those before it
+--     comes_before                 an event is a step of the same session with a lower number than another
 use Rattle.std.specs.Prelude.{◌≡◌, ◌==◌, ◌&&◌, ◌||◌, ℕ, ◌+◌, List, [], ◌∷◌, Bool, true, false, IsTrue, Option, None, Some, is_none, nat_le, nat_lt, if◌then◌else◌}
 use Rattle.std.specs.Cmp.Lexicographic.{pointwise}
 use Rattle.std.specs.FinMap.{len, remove}

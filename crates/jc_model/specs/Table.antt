@@ -1,14 +1,31 @@
 -- The operation table: which operation asks the loader, which asks the writer and for what, the entry afterwards, the reply.
 -- The two integration tables of JSR 107 are its first two columns; what is said of `Invoke`, and of `LoadAll` of an entry
 -- that is there, is this provider's own.
---     load_fits       the loader table: whether the loader's answers are those that the operation asks for
---     write_ask       the writer table: what the writer is asked for, or nothing
---     fault_of        the first fault: the loader's before the processor's before the writer's
---     answers_fit     exactly those answered that the tables ask for
---     entry_after, reply_of     the last two columns, where there is no fault
---     new_entry, new_reply      the same, where a fault leaves the entry and is the reply
---     Made            one operation on one key with what was said outside and its reply
---     Seq             the sequential step: one operation made on a whole cache
+--     holds                          whether an entry has this value
+--     alike                          whether two tests answer alike
+--     load_given                     whether the loader answered
+--     load_fits                      the loader table: whether the loader's answers are those that the operation asks for
+--     loaded                         the entry with a loaded value, if one was found
+--     ask_if                         a change, where it is asked for
+--     effect_ask, process_ask        what the writer is asked for after a processor, by its net effect and by its answer
+--     write_ask                      the writer table: what the writer is asked for, or nothing
+--     write_given, process_given     whether the writer answered, and whether the processor did
+--     is_invoke                      an operation runs a processor
+--     load_fault, process_fault, write_fault      the fault of the loader, of the processor, of the writer, if it failed
+--     first_of_two                   the first of two faults that is there
+--     early_fault                    the fault of the loader or the processor, before the writer is asked
+--     fault_of                       the first fault: the loader's before the processor's before the writer's
+--     answers_fit                    exactly those answered that the tables ask for
+--     after_effect                   the entry with a processor's net effect
+--     outcome_of                     what a processor answers the caller
+--     replaced                       a value in the place of an entry, if there is one
+--     entry_after, reply_of          the last two columns, where there is no fault
+--     left_by, replied_by            the entry and the reply, by whether there is a fault: a fault leaves the entry and is the
+--                                    reply
+--     new_entry, new_reply           the last two columns, where a fault leaves the entry and is the reply
+--     Made                           one operation on one key with what was said outside and its reply
+--     entry_left, cache_left         the entry that it leaves at its key, and the whole cache
+--     Seq                            the sequential step: one operation made on a whole cache
 use Rattle.std.specs.Prelude.{◌≡◌, ◌==◌, Bool, true, false, not, ◌&&◌, ◌||◌, IsTrue, Option, None, Some, is_some, is_none, if◌then◌else◌, unwrap_or}
 use Rattle.std.specs.Cmp.Lexicographic.{pointwise}
 use Rattle.jc_types.specs.declared.config.Config.{Config}

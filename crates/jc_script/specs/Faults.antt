@@ -1,10 +1,13 @@
 -- The faults of a line.
 --     text_of          the words of a fault
+--     field_fault      the fault of a refused shape: it names the field
 --     config_fault     the fault of a world's shape: the first number out of its limits
 --     is_rising        a call's number is above all before it
+--     begin_fault      the fault of a `begin`: first the number, then the caller
 --     may_drop         the call may leave: it isn't joined, and nothing was said outside for what it has reserved
 --     may_restart      the call's key is neither reserved nor joined: it was told to begin again
 --     fits_now         the call's key waits for this act
+--     act_fault        the fault of an act: there is no such call, or its key doesn't wait for this
 --     state_fault      the fault that the state of the world gives a line, the first one in order
 use Rattle.std.specs.Prelude.{ℕ, List, codes, Bool, true, not, ◌&&◌, ◌||◌, nat_lt, Option, None, Some, is_none, Result, Ok, Err, if◌then◌else◌}
 use Rattle.jc_types.specs.declared.config.Refusal.{Refusal}

@@ -1,13 +1,29 @@
--- The kinds of line: first the shape of the whole line, then its words from the left.
---     Gives            what a function returned is what the definition says, unless memory ran out
---     form_named       the operation that a word names
---     act_named        the kind of line of a call, that a first word names
---     line_named       the kind of line that a first word names
---     flags_of         what of read-through and write-through is on
---     command_of       an operation with its key and values
---     parsed           what the words of a line ask for
---     read_line        what the bytes of a line ask for: nothing, for a comment
---     is_callable      what a line begins is a call of one of the 32 sessions, and its operation is a call by itself
+-- The kinds of line: first the shape of the whole line, then its words from the left. A definition whose name ends in `_of` takes
+-- the words that stand after a first word or a name, and gives what they ask for or their fault.
+--     Gives                         what a function returned is what the definition says, unless memory ran out
+--     with_value                    the same of a function that leaves its value in a place: the result with that value
+--     form_named                    the operation that a word names
+--     act_named                     the kind of line of a call, that a first word names
+--     line_named                    the kind of line that a first word names
+--     flags_of                      what of read-through and write-through is on
+--     takes_words                   so many words stand after an operation's name
+--     bare_op, valued_op            the operation of a name with no value, and of a name with one
+--     bare_of, valued_of, replace_if_of      an operation with its key and no value, with one value, with an old and a new one
+--     value_alone_of                one value, and no word behind it
+--     command_of                    an operation with its key and values
+--     open_of, set_of, begin_of     what the words after `open`, `set` and `begin` ask for
+--     number_alone                  one number, and no word behind it
+--     lone_act, lone_of             the act of a line with a call's number alone, and what its words ask for
+--     coded_act, coded_of           the act of a line with a call's number and a code, and what its words ask for
+--     say_of, foreign_of, audit_of      what the words after `say`, `foreign` and `audit` ask for
+--     line_of                       what the words after the first ask for, by the kind of line
+--     are_words                     no two spaces stand together, and none at either end: no word is empty
+--     parsed                        what the words of a line ask for
+--     is_plain                      a byte may stand in a line: a space up to a tilde
+--     is_comment                    a line that asks for nothing: an empty one, and one that begins with #
+--     some_line                     a line that asks for something, or its fault
+--     read_line                     what the bytes of a line ask for: nothing, for a comment
+--     is_callable                   what a line begins is a call of one of the 32 sessions, and its operation is a call by itself
 use Rattle.std.specs.Prelude.{◌≡◌, ◌==◌, ℕ, List, [], ◌∷◌, length, Bool, true, false, ◌&&◌, not, nat_lt, nat_le, Option, Some, None, Result, Ok, Err, if◌then◌else◌, codes}
 use Rattle.std.specs.Str.{bytes_eq}
 use Rattle.std.specs.List.{list_all}

@@ -1,8 +1,33 @@
--- What is printed, as bytes.
---     told          what is printed of an event, from what the world showed of it
---     texts         the same of events one after another
---     audit_text    what is printed of an audit
---     fault_line    the line that ends a transcript
+-- What is printed, as bytes. A name that ends in `_line` is of one whole line, and one that ends in `_text` of a part of a line, or
+-- of a line or more or none.
+--     value_text, value_or_none_text      a value, with a tilde for the empty one; the same, with a dash for none
+--     coded_text, refusal_text       a fault's name and code; a refusal's name, with the code where it has one
+--     flag_text, reply_text          a yes or no; a reply
+--     place_text                     a stripe, and a place in its history
+--     subject                        how a line of a call's key begins: the call's number and the key
+--     cause_name                     the word for an eviction's cause
+--     evict_line, victim_text, evicted_text      an eviction; the one directly before a step, if there is one; the one of a step's
+--                                    own key, if there is one
+--     outcome_text                   what a call's key is, and where
+--     stepped_text                   a step, with the evictions before and after it
+--     picked_line                    the answer of a load that the call had joined
+--     loads_line, write_line, delete_line, asks_text      that the loader is asked; that the writer is asked to write, and to
+--                                    delete; either of these two
+--     joined_line, waits_line, again_line      that a call has joined, that its load isn't over, that it is to begin again
+--     dropped_line, refused_line     that a call has left; that it was refused
+--     fails_line, fails_text         a failure's code; the same, if there is one
+--     answer_line, answer_text       a value or none that a loader read or said; any answer of a loader
+--     done_name, change_name         the word for a change that was made; the same, or that for one that wasn't
+--     reported_text                  a writer's return
+--     shown_text                     what is printed of what the world showed, for a call and a key
+--     foreign_line                   a write or a delete of somebody else
+--     told                           what is printed of an event, from what the world showed of it
+--     texts                          the same of events one after another
+--     entry_text, entries_line, key_text      an entry, a line of entries, and a key, in an audit
+--     differs_line, coherence_text      the keys that differ; the same, or that there is none
+--     legal_name, history_line       whether the history is legal; the same behind the number of its events
+--     audit_text                     what is printed of an audit
+--     fault_line                     the line that ends a transcript
 use Rattle.std.specs.Prelude.{◌==◌, ℕ, ◌-◌, List, [], ◌∷◌, ◌++◌, length, codes, decimal, Bool, true, false, Option, None, Some, if◌then◌else◌}
 use Rattle.std.specs.List.{flat_map}
 use Rattle.jc_types.specs.declared.config.Refusal.{Refusal}

@@ -1,15 +1,21 @@
 -- The transcript of a script, as a relation, since the world may choose.
---     drop_events      the events of a call that is dropped: what is reserved is given back first
---     events_of        the events that an act stands for, for a call's number and key, and what it asked and heard for the key
---     begin_events     the events that the begin of a call stands for
---     PlaysEvents      the world may take these events, each of them fits when it comes, and this is printed of them
---     Audited          what is printed of an audit
---     Plays            a line with no fault: what it prints and leaves. ⊥ stands where no such line is played
---     Prints           the same from the line's bytes
---     fault_of         the fault of a line, from its bytes
---     pieces_of        what stands between the line feeds; the last piece has none after it
---     Transcript       from a state and a line on, the pieces print this and end so
---     IsTranscript     the same of a whole script
+--     State                    a world, once it was opened
+--     state_of                 the same, from what a `World` is to its callers
+--     begin_events             the events that the begin of a call stands for
+--     drop_events              the events of a call that is dropped: what is reserved is given back first
+--     events_of                the events that an act stands for, for a call's number and key, and what it asked and heard for the
+--                              key
+--     PlaysEvents              the world may take these events, each of them fits when it comes, and this is printed of them
+--     PlaysAct                 the same of the events of an act, if its call is under way
+--     Audited                  what is printed of an audit
+--     Plays                    a line with no fault: what it prints and leaves. ⊥ stands where no such line is played
+--     PlaysRead, Prints        the same from what was read of a line, and from its bytes; a comment prints nothing and changes
+--                              nothing
+--     fault_read, fault_of     the fault of a line, if it has one, from what was read of it, and from its bytes
+--     pieces_of                what stands between the line feeds; the last piece has none after it
+--     Ends                     what the last piece prints, and how the script ends: a piece with bytes is a cut line
+--     Transcript               from a state and a line on, the pieces print this and end so
+--     IsTranscript             the same of a whole script
 use Rattle.std.specs.Prelude.{◌≡◌, ◌==◌, ◌⊎◌, ℕ, ◌+◌, List, [], ◌∷◌, ◌++◌, Bool, true, IsTrue, Option, None, Some, Result, Ok, Err, codes}
 use Rattle.std.specs.List.{slice_split}
 use Rattle.jc_model.specs.Cache.{Bytes}

@@ -1,11 +1,23 @@
 -- The kinds of word of a line. Each is a function from the word to its value or its fault.
---     words_of       the words of a line, parted by single spaces
---     number_of      a number, up to 999999999
---     caller_of      a session, s1 to s32
---     key_of         a key: letters, digits, low lines and dots
---     value_of       a value: the same letters, or a tilde for the empty one
---     pairs_of       pairs of a key and a value
---     said           what pairs say of a key: the last pair with it counts
+--     ◌>>=◌                    what a step that may fail goes on with
+--     words_of                 the words of a line, parted by single spaces
+--     is_digit, is_letter      a byte is a digit; a letter, a digit, a low line or a dot
+--     digits_from              a number that goes on with these digits
+--     number_of                a number, up to 999999999, with no leading zero but 0 itself
+--     caller_if                the session with a number, 1 to 32
+--     caller_of                a session, s1 to s32
+--     is_text                  at least one of the letters, and at most so many
+--     key_of                   a key: letters, digits, low lines and dots
+--     value_of                 a value: the same letters, or a tilde for the empty one
+--     some_value               a value that is there, or its fault
+--     value_or_none_of         a value, or a dash for none
+--     Pairs                    keys with their values, in the order of a line
+--     equals_at                where the first equals sign of a word stands, if it has one
+--     key_part, value_part     what stands before that sign, and the value behind it
+--     pair_onto                the pairs so far, with one more: the key is judged before the value
+--     pairs_from, pairs_of     the pairs so far with those of more words, and the pairs of some words
+--     said_after, said         what pairs say of a key, after an answer so far, and from the beginning: the last pair with it
+--                              counts
 use Rattle.std.specs.Prelude.{◌==◌, ℕ, ◌+◌, ◌-◌, ◌*◌, List, [], ◌∷◌, ◌++◌, length, take, drop, Option, Some, None, Bool, ◌&&◌, ◌||◌, nat_lt, nat_le, Result, Ok, Err, if◌then◌else◌, codes}
 use Rattle.std.specs.Str.{bytes_eq}
 use Rattle.std.specs.List.{list_all}

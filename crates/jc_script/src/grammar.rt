@@ -193,6 +193,7 @@ fn flags(words: &[&[u8]]) -> Result<(bool, bool), Fault>
     }
 }
 
+/// Whether so many words stand after an operation's name: its key, and the values that it takes.
 fn has_shape(form: Form, count: usize) -> bool
     ensures { result ≡ takes_words form count }
 {
@@ -477,12 +478,14 @@ fn parse(alloc: Global, words: &[&[u8]]) -> Result<Line, ReadError>
     }
 }
 
+/// Whether each byte may stand in a line: a space (32) up to a tilde (126).
 fn all_plain(text: &[u8]) -> bool
     ensures { result ≡ list_all is_plain text.now }
 {
     text.iter().all(|b| 32 <= *b && *b <= 126)
 }
 
+/// Whether a line asks for nothing: it is empty, or its first byte is # (35).
 fn comment(text: &[u8]) -> bool
     ensures { result ≡ is_comment text.now }
 {
@@ -492,7 +495,7 @@ fn comment(text: &[u8]) -> bool
     }
 }
 
-/// What the bytes of a line ask for, if anything.
+/// What the bytes of a line ask for, if anything. A line has at most 65,536 bytes.
 #[tactic(auto, unfolding(crate::specs::Lines::read_line))]
 pub fn read(alloc: Global, text: &[u8]) -> Result<Option<Line>, ReadError>
     ensures { Gives result (read_line text.now) }

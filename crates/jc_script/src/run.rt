@@ -41,6 +41,7 @@ pub enum RunFault {
     Write,
 }
 
+/// Where the first line feed (byte 10) stands.
 fn line_feed(bytes: &[u8]) -> Option<usize>
     ensures { result ≡ position (λ b. b == 10) bytes.now }
 {

@@ -22,7 +22,7 @@ pub fn is(word: &[u8], text: &str) -> bool
 /// The room that the words of a line get at first: few lines have more.
 const WORDS_AT_FIRST: usize = 8;
 
-/// The words of a line.
+/// The words of a line, which spaces (byte 32) part: two spaces together have an empty word between them.
 pub fn words(alloc: Global, line: &[u8]) -> Result<Vec<&[u8]>, AllocError>
     ensures { IfOk result (λ words. map (λ w. w.now) words.items ≡ words_of line.now) }
 {
@@ -31,12 +31,15 @@ pub fn words(alloc: Global, line: &[u8]) -> Result<Vec<&[u8]>, AllocError>
     Ok(words)
 }
 
+/// Whether a byte may stand in a key or a value: A to Z (65 to 90), a to z (97 to 122), 0 to 9 (48 to 57), a low line (95), a
+/// dot (46).
 fn letter(b: u8) -> bool
     ensures { result ≡ is_letter b }
 {
     (65 <= b && b <= 90) || (97 <= b && b <= 122) || (48 <= b && b <= 57) || b == 95 || b == 46
 }
 
+/// The number that digits spell, 0 (byte 48) to 9 (byte 57), up to 999999999.
 fn digits(word: &[u8]) -> Result<u32, Fault>
     ensures { result ≡ digits_from 0 word.now }
 {
@@ -55,7 +58,7 @@ fn digits(word: &[u8]) -> Result<u32, Fault>
     Ok(n)
 }
 
-/// The number that a word says.
+/// The number that a word says. It has no leading zero (byte 48), but for 0 itself.
 pub fn number(word: &[u8]) -> Result<u32, Fault>
     ensures { result ≡ number_of word.now }
 {
@@ -70,7 +73,7 @@ pub fn number(word: &[u8]) -> Result<u32, Fault>
     }
 }
 
-/// The session that a word says.
+/// The session that a word says: an s (byte 115), and its number, from 1 to 32.
 pub fn caller(word: &[u8]) -> Result<u32, Fault>
     ensures { result ≡ caller_of word.now }
 {
@@ -148,6 +151,7 @@ pub fn value_or_none(word: &[u8]) -> Result<Option<Value>, Fault>
     }
 }
 
+/// Where the first equals sign (byte 61) stands.
 fn equals_sign(word: &[u8]) -> Option<usize>
     ensures place { result ≡ equals_at word.now }
     ensures within { IfSome result (λ at. at < length word.now) }

@@ -1,12 +1,13 @@
 -- The laws of the phases, over every state.
---     StaysReached     each phase leads from a reached state to a reached one
---     IsLegal          the history of a reached state is legal from its opening
---     IsSameStripe     the later state is of the same stripe: of the same shape, number, origin and opening
---     GoesOn           the later state is of the same stripe, and its history begins with the earlier one
---     Grows            a phase appends to the history of its stripe and changes nothing that stands in it
---     WasFree          a key that gets a ticket was free
---     Keeps            a call that a reservation of its key does not stop leaves the entry
---     KeepsReserved    the entry of a reserved key stays in every phase but its own commit
+--     StaysReached      each phase leads from a reached state to a reached one
+--     IsLegal           the history of a reached state is legal from its opening
+--     IsSameStripe      one state is of the same stripe as another: of the same shape, number, origin and opening
+--     GoesOn            one state is behind another: of the same stripe, and perhaps with more events behind those of the earlier one
+--     Grows             a phase appends to the history of its stripe and changes nothing that stands in it
+--     WasFree           a key that gets a ticket was free
+--     Keeps             a call that a reservation of its key does not stop leaves the entry
+--     KeepsReserved     the entry of a reserved key stays in every first phase and every commit but its own; a withdrawal and a
+--                       pick-up leave the whole cache
 use Rattle.std.specs.Prelude.{◌≡◌, ℕ, List, ◌++◌, true, false, Option, None}
 use Rattle.jc_types.specs.declared.config.Config.{Config}
 use Rattle.jc_model.specs.declared.event.Event.{Event}

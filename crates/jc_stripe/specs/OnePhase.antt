@@ -1,10 +1,13 @@
 -- At most one phase of one session, and whose steps are whose.
---     Begun, Committed, Withdrawn, PickedUp     one phase of a session
+--     Begun, Committed, Withdrawn, PickedUp      one phase of a session: a first phase, a commit, a withdrawal, a pick-up
 --     IsPhaseOf       at most one phase of this session leads from one state to another
+--     has_answer      an answer is parked for a joiner in this state
 --     is_parked       a step is parked: it was put down for a joiner that hasn't taken its answer
+--     is_own_step     an event is a step of the session that isn't parked
 --     own_steps       the session's own steps: those of its steps that aren't parked
---     IsUniform       what the laws say of each phase of a session: the state stays reached and of the same stripe, its history
---                     grows, the numbers of reservations don't fall, and no other session's own steps change
+--     IsUniform       what the law says of two states: the later one is reached and of the same stripe, its history grows, the
+--                     numbers of reservations don't fall, and no other session's own steps change
+--     OnePhase        the law: at most one phase of a session, from a reached state, is uniform
 use Rattle.std.specs.Prelude.{◌≡◌, ◌≤◌, ◌==◌, ◌⊎◌, ℕ, List, filter, Bool, true, false, not, ◌&&◌, IsSomeAnd}
 use Rattle.std.specs.List.{list_any}
 use Rattle.jc_model.specs.declared.event.Op.{Op}

@@ -1,6 +1,8 @@
 -- The order in which a stripe's entries were used, from its opening and its events alone.
---     is_use         whether a step makes the entry that it leaves the most recently used: it has no fault, and is neither a
---                    `ContainsKey` nor a `LoadAll` that kept no value
+--     uses           whether an operation without a fault, by what the loader said, makes the entry that it leaves the most
+--                    recently used: each does, but a `ContainsKey` and a `LoadAll` that kept no value
+--     is_use         whether a step makes the entry that it leaves the most recently used: it has no fault, and its operation does
+--     used_at        the entries behind a step that isn't shared: its entry is moved or put to the front, or goes
 --     used           the entries behind an event, the most recently used first
 --     by_use         the entries behind a history
 --     pinned         the keys that are reserved: their entries can't be evicted

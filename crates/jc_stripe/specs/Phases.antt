@@ -1,11 +1,23 @@
 -- A stripe as a machine of phases: what a first phase gives, and what the others leave.
---     MayBegin     the conditions on a first phase that the callers' order rests on
---     group_made   the group that a step makes here, from the order of use and the reservations
---     Steps        the stripe goes on by the group of one step
---     Begins       the first phase
---     Commits      the last phase: the reservation ends, its step is put down, and with it those of its joiners
---     Withdraws    the reservation is given back, and its joiners are to begin again
---     PicksUp      a joiner asks for its answer
+--     is_beside        a reservation is another session's, or the same call's for another key
+--     is_apart         the same of a join, also of one whose answer is parked
+--     MayBegin         the conditions on a first phase that the callers' order rests on
+--     inserts_here     the step inserts: its key is missing before it and there after it
+--     overflows        it inserts into a full stripe
+--     victim_of        who goes before the step, if one has to and can
+--     own_cause        why the step's own key goes again after it, if it does
+--     group_made       the group that a step makes here, from the order of use and the reservations
+--     gone_on          the stripe behind a group: its cache, and its history with the group's events
+--     Steps            the stripe goes on by the group of one step
+--     joined_by        the stripe with one joiner more, who waits for a load
+--     Begins           the first phase
+--     settled          the stripe with a reservation over, and the answer parked for each that waits for its load
+--     Commits          the last phase: the reservation ends, its step is put down, and with it those of its joiners
+--     withdrawn        the stripe with a reservation over, and each that waits for its load told to begin again
+--     Withdraws        the reservation is given back, and its joiners are to begin again
+--     left_by          the stripe without a join that is over
+--     IsSharedStep     the event at a place is the join's own step, with this reply, and names the step that loaded
+--     PicksUp          a joiner asks for its answer
 use Rattle.std.specs.Prelude.{◌≡◌, ◌==◌, ℕ, List, [], ◌++◌, length, Bool, true, not, ◌&&◌, ◌||◌, IsTrue, Option, None, Some, is_some, is_none, IsSomeAnd, slice_get, if◌then◌else◌}
 use Rattle.std.specs.List.{list_all}
 use Rattle.std.specs.Cmp.Lexicographic.{pointwise}

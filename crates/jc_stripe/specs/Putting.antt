@@ -1,15 +1,17 @@
 -- How a step is made in the entries and put down. No contract of a public call cites this.
---     inserts_into     the step inserts, and whether it does so into a full stripe
+--     inserts_into     the step inserts: its key is missing in the entries, and it leaves an entry there
+--     overflows_in     it inserts into entries that are as many as may be
 --     victim_in        who goes before it, if one has to and can
+--     callers_in       the callers that share a load, if there is one
+--     put_events       the events of a step with all that belongs to it
+--     happened_all     the past with more events, in places that were promised
+--     events_put       the same, and of the places that were kept for them those that aren't used are given back
 --     SaidFor          what was said outside answers whom a reservation asked first
 --     ToldStep         the step of a joiner that is told an answer stands where it is told
 --     reply_in         the reply of an event, if it is a step
+--     own_gone         the entries without the step's own key, if that is evicted
 --     entries_left     the entries behind the step, with who went before and after it
 --     IsKeptSo         what the step leaves of the entries, who went before it, and why its own key went after it
---     callers_in       the callers that share a load, if there is one
---     put_events       the events of a step with all that belongs to it
---     happened_all, events_put      the past with more events, in places that were promised; the same, and the places that were
---                      kept for them and not used given back
 use Rattle.std.specs.Prelude.{◌≡◌, ◌==◌, ℕ, ◌+◌, ◌-◌, List, [], ◌∷◌, ◌++◌, length, map, Bool, true, ◌&&◌, Option, None, Some, is_some, is_none, if◌then◌else◌}
 use Rattle.std.specs.FinMap as finite
 use Rattle.jc_model.specs.declared.event.Op.{Op}

@@ -1,7 +1,22 @@
 -- What is true of every stripe.
---     IsReached      its history is legal from its opening and leaves its entries, its tables are within their limits, each
---                    reservation still asks what it asked, each joiner that waits still finds its load, and the steps of both
---                    may still come
+--     AllAsk           each reservation still asks first whom it asked at first
+--     may_end          the step of a reservation may come behind these events
+--     are_beside       no two reservations of a session have different call numbers, or the same key
+--     AreNumbered      no key and no number of a reservation stands twice, and the numbers are below the next one
+--     claim_joined     the reservation whose load a joiner has joined, by its key and number
+--     FindsLoad        a joiner finds the reservation of its load, which asked the loader; its key is missing, and read-through is
+--                      on
+--     HasStep          a joiner's own shared step stands at a place, and names the step that loaded
+--     JoinFits         a joiner that waits finds its load, and one for whom an answer is parked has its step
+--     AllJoin          that is so of all joiners
+--     may_share        the shared step of a joiner that waits may come behind these events
+--     are_apart        no two joiners of a session have different call numbers, or the same key
+--     all_apart        and no reservation and joiner of a session
+--     is_own           an event is of one of the stripe's keys
+--     IsUsed           the entries by use are what is cached, each key once, and they are of the stripe's keys
+--     IsReached        its history is legal from its opening and leaves its entries, its tables are within their limits, each
+--                      reservation still asks what it asked, each joiner that waits still finds its load, and the steps of both may
+--                      still come
 use Rattle.std.specs.Prelude.{◌≡◌, ◌==◌, ◌+◌, ◌≤◌, ◌<◌, ℕ, List, [], ◌∷◌, length, Ok, IsTrue, Bool, true, false, not, ◌&&◌, ◌||◌, None, Some, All, AllPairs, slice_get}
 use Rattle.std.specs.List.{list_all}
 use Rattle.std.specs.FinMap.{len, from_entries}

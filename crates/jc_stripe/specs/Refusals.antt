@@ -1,9 +1,19 @@
 -- When a first phase is refused.
---     first_asked       whom a call asks first, by the loader and the writer table
---     passes            a call that a reservation of its key does not stop: it answers from the cached entry
---     load_joined       the load that a call joins: a `Get` whose key is missing and is being loaded, with read-through on
---     places            the free places of the history that a call needs: 1 where it passes or joins, and else 3
---     first_refusal     the first refusal whose condition holds: history full, busy, too many in flight, too many joiners
+--     loader_if, writer_for, writer_if      the loader, where it is asked; the writer, for a change that is asked for; the same,
+--                           where write-through is on
+--     has_phases            an operation has phases here: each but `Invoke`
+--     first_asked           whom a call asks first, by the loader and the writer table
+--     reserves              a call that asks this one first has to reserve its key: the loader or the writer is asked
+--     passes                a call that a reservation of its key does not stop: it answers from the cached entry
+--     load_of               the number of a reservation, if it asked the loader
+--     load_at               the same of a reservation that may not be there
+--     load_joined           the load that a call joins: a `Get` whose key is missing and is being loaded, with read-through on
+--     goes_on               a call goes on though its key is reserved: it passes or joins
+--     places                the free places of the history that a call needs: 1 where it passes or joins, and else 3
+--     last_number           the number at which a session's call numbers and a stripe's reservation numbers end: 2^64 - 1
+--     has_room              the history has the places free, beside those that are promised, and neither number is at its end
+--     needs_reservation     the call reserves its key: it asks the loader or the writer, and doesn't join
+--     first_refusal         the first refusal whose condition holds: history full, busy, too many in flight, too many joiners
 use Rattle.std.specs.Prelude.{◌^◌, ◌-◌, ℕ, ◌+◌, length, find, Bool, true, false, not, ◌&&◌, ◌||◌, Option, None, Some, is_some, is_none, nat_lt, nat_le, if◌then◌else◌}
 use Rattle.jc_types.specs.declared.config.Config.{Config}
 use Rattle.jc_types.specs.declared.config.Refusal.{Refusal}

@@ -1,11 +1,17 @@
 -- A stripe's state.
---     Reserved     a reservation: its key and number, and who reserved the key for what
---     State        the stripe as a caller may know it
---     is_of        whether a key is of this stripe
---     promised     the places of the history that are kept free: three for each reservation, one for each joiner that waits
---     reserved, released      the state with a key's reservation, and without it
---     claimed      the reservation of a claim, if it is out
---     IsOut        a ticket is out here
+--     Reserved        a reservation: its key and number, and who reserved the key for what
+--     State           the stripe as a caller may know it
+--     is_of           whether a key is of this stripe
+--     waits           whether nothing is parked for a joiner yet
+--     promised        the places of the history that are kept free: three for each reservation, one for each joiner that waits
+--     is_key          whether a reservation is of this key
+--     is_reserved     whether a key is reserved
+--     reserved        the state with a key's reservation, by the next number
+--     unreserved      the reservations of the other keys
+--     released        the state without a key's reservation
+--     is_claim        whether a reservation is the one of a claim
+--     claimed         the reservation of a claim, if it is out
+--     IsOut           a ticket is out here: its reservation is, and asked this first
 use Rattle.std.specs.Prelude.{◌==◌, ℕ, ◌+◌, ◌*◌, ◌%◌, sum, find, filter, count_by, List, [], ◌∷◌, ◌++◌, length, Bool, not, ◌&&◌, Option, IsSomeAnd, ◌≡◌}
 use Rattle.std.specs.List.{list_any}
 use Rattle.std.specs.Cmp.Lexicographic.{pointwise}

@@ -2,8 +2,9 @@
 ghost use Rattle.jc_stripe.specs.Laws.{StaysReached, IsLegal, Grows, WasFree, Keeps, KeepsReserved};
 ghost use Rattle.jc_stripe.specs.OnePhase.{OnePhase};
 
-/// Whatever phase a stripe makes, it stays as every stripe is: its history is legal from its opening and leaves its entries, its
-/// tables are within their limits, and each reservation still asks what it asked and may still put its step down.
+/// Whatever phase a stripe makes, it stays as every stripe is (`IsReached`): among other things its history is legal from its
+/// opening and leaves its entries, its tables are within their limits, each reservation still asks what it asked and may still put
+/// its step down, and each joiner that waits still finds its load.
 pub fn stays_reached()
     ensures { StaysReached }
 {}
@@ -13,17 +14,17 @@ pub fn is_legal()
     ensures { IsLegal }
 {}
 
-/// Whatever phase a stripe makes, what stands in its history stays there, and its opening is the same.
+/// Whatever phase a stripe makes, what stands in its history stays there, more may stand behind it, and its opening is the same.
 pub fn grows()
     ensures { Grows }
 {}
 
-/// A key that gets a ticket was free: no two tickets of one key are out.
+/// A call that isn't refused and needs a reservation finds its key free. So a key that gets a ticket was free.
 pub fn was_free()
     ensures { WasFree }
 {}
 
-/// A call that a reservation of its key does not stop leaves the entry as it is, for the call that has the key reserved.
+/// A call that answers from the cached entry, also where another call has the key reserved, leaves that entry as it is.
 pub fn keeps()
     ensures { Keeps }
 {}

@@ -112,6 +112,10 @@ impl Stripe {
 
     /// An empty stripe, the one with this number of `config.stripes`. Its history, its entries and its tables have all the room
     /// that they may need; without memory for it there is no stripe.
+    ///
+    /// Stripes are numbered from 0. A number at or above `config.stripes` gives a stripe that has no keys.
+    ///
+    /// Conditions: `config.check()` is `Ok`.
     pub fn new(
         alloc: Global,
         config: &Config,
@@ -147,6 +151,8 @@ impl Stripe {
     fn load_of(&self, key: &Key) -> Option<u64>
         ensures { result ≡ load_at (find (is_key key.now) self.now.reservations) }
     {
+        // Names the types of the values that a generic call moves here: the prover looks for their models in the types that a
+        // function names. So do the others of this name below.
         let _types: Option<Change> = None;
         let (number, note) = self.reservations.find(key)?;
         load_in(&note.first, number)
@@ -284,6 +290,7 @@ impl Stripe {
     {
         let kept = places_for(found.goes_on);
         let reply = op.reply(found.entry, &NOTHING_SAID);
+        // Copied first: a value counts as moved by the call that takes it.
         let told = reply;
         let _ = self.history.promise(kept);
         let pinned = self.reservations.keys();
@@ -318,6 +325,7 @@ impl Stripe {
             Some((_, note)) => {
                 let kept = 3 + self.joiners.waiting(number) as usize;
                 let entry = self.entries.peek(key);
+                // Copied first, as `told` below: a value counts as moved by the call that takes it.
                 let asked = entry;
                 let reply = note.op.reply(entry, out);
                 let told = reply;
@@ -362,6 +370,11 @@ impl Stripe {
     /// 64 reservations are out and it needs one (`TooManyInFlight`), and where 64 joiners and parked answers are there and it
     /// would join (`TooManyJoiners`), tested in this order. A `containsKey`, and a `get` that finds the entry or doesn't read
     /// through, answer from the entry even while another call has the key reserved (JSR 107, "Default Consistency").
+    ///
+    /// Conditions: the operation isn't `Invoke`, which has no phases here. The key is of this stripe, by `stripe_of`. The caller's
+    /// number is at least that of every step of its session in this history. The session has no reservation and no join out here
+    /// under another number; an answer that is parked, or leave to begin again, counts as a join until it is picked up. And there
+    /// is no step, no reservation and no join here of this session, number and key.
     pub fn begin(&mut self, who: Caller, key: &Key, op: &Op) -> Begun
         requires op { IsTrue (has_phases op.now) }
         requires begins { MayBegin self.old who.session who.number key.now }
@@ -394,6 +407,7 @@ impl Stripe {
                 Begun::Load(LoadTicket::new(key, number))
             }
             First::Writer(change) => {
+                // Copied first: a value counts as moved by the call that takes it.
                 let asked = change;
                 let told = change;
                 let number = self.reserve(who, key, op, First::Writer(asked));
@@ -405,6 +419,9 @@ impl Stripe {
     /// The last phase of a call whose loader was asked: its reservation ends, and its step is put down with the loader's answer.
     /// A failed load leaves the entry as it was, and is the step's reply. Each that has joined the load and waits shares it: its
     /// step is put down directly behind, in the order of joining, and its answer is parked until it is picked up.
+    ///
+    /// Conditions: the ticket is out here, so its key is reserved by its number and the loader was asked. `done` was made for the
+    /// ticket's key and number, and has this stripe's origin. The loader was asked and answered: the answer isn't `NotAsked`.
     pub fn commit_load(&mut self, ticket: LoadTicket, done: LoadDone) -> (Reply, u32)
         requires out { IsOut self.old ticket Loader }
         requires claim { done.claim ≡ ticket }
@@ -420,6 +437,10 @@ impl Stripe {
 
     /// The last phase of a call whose writer was asked: its reservation ends, and its step is put down with the writer's report.
     /// A failed write leaves the entry as it was, and is the step's reply (`CacheWriter`).
+    ///
+    /// Conditions: the ticket is out here, so its key is reserved by its number and the writer was asked for its change. `done` was
+    /// made for the ticket's key and number and for exactly that change, and has this stripe's origin. The writer was asked and
+    /// returned: the report isn't `NotAsked`.
     pub fn commit_write(&mut self, ticket: WriteTicket, done: WriteDone) -> (Reply, u32)
         requires out { IsOut self.old ticket.claim (Writer ticket.change) }
         requires claim { done.claim ≡ ticket.claim }
@@ -436,6 +457,9 @@ impl Stripe {
 
     /// Gives a loader's ticket back that was never used: nothing is put down, and the entry stays. Each that has joined the load
     /// and waits is to begin again.
+    ///
+    /// Conditions: the ticket is out here, so its key is reserved by its number and the loader was to be asked. Whether it was
+    /// asked, the stripe doesn't know.
     pub fn withdraw_load(&mut self, ticket: LoadTicket)
         requires { IsOut self.old ticket Loader }
         ensures withdraws { Withdraws self.old ticket self.new }
@@ -447,6 +471,10 @@ impl Stripe {
     }
 
     /// Gives a writer's ticket back that was never used: nothing is put down, and the entry stays.
+    ///
+    /// Conditions: the ticket is out here, so its key is reserved by its number and the writer was to be asked for its change.
+    /// Whether it was asked, the stripe doesn't know. A driver that gives a ticket back after the writer has changed the store
+    /// loses coherence; the history stays legal.
     pub fn withdraw_write(&mut self, ticket: WriteTicket)
         requires { IsOut self.old ticket.claim (Writer ticket.change) }
         ensures withdraws { Withdraws self.old ticket.claim self.new }
@@ -473,6 +501,8 @@ impl Stripe {
 
     /// Takes the answer of the load that a call has joined. Where the load isn't over the join comes back, and nothing changes;
     /// where it was withdrawn the call is told to begin again.
+    ///
+    /// Conditions: the join is out here, so its call is among this stripe's joiners of its key.
     pub fn pick_up(&mut self, join: Join) -> Picked
         requires { is_joined join.session join.call join.key self.old.joiners ≡ true }
         ensures picks_up { PicksUp self.old join result self.new }

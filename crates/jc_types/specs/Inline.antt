@@ -1,4 +1,8 @@
 -- Bytes that are kept inline: a buffer of fixed size, of which the first `len` bytes count and the rest is 0.
+--     padded            the bytes, and zeros up to a size
+--     IsInline          at least so many and at most so many bytes of a buffer count, and the others are 0
+--     length-inline     as many bytes count as `len` says
+--     padded-inline     the bytes that count, padded, are the buffer
 use Rattle.std.specs.Prelude.{◌≡◌, ℕ, ◌-◌, ◌≤◌, List, ◌++◌, length, take, replicate}
 use Rattle.std.proofs.Common.{sym, ap, ◌∙◌, arith}
 use Rattle.std.proofs.lemmas.List.{length-take-le}

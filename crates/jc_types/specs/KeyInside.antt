@@ -1,4 +1,6 @@
 -- The fields of a key, given back from its bytes.
+--     again         the fields of the key of these bytes
+--     key_again     the bytes that count give a key's fields back
 use Rattle.std.specs.Prelude.{◌≡◌, List, ℕ, length, take}
 use Rattle.jc_types.specs.Inline.{IsInline, padded, length-inline, padded-inline}
 use Rattle.jc_types.specs.declared.key.Key.TheInside.{Inside}

@@ -1,4 +1,6 @@
 -- The limits of a configuration, tested in order.
+--     between     whether a number is at least the low limit and at most the high one
+--     checked     nothing where each field is within its limits, and else the refusal of the first one that isn't
 use Rattle.std.specs.Prelude.{ℕ, Bool, ◌&&◌, nat_le, Result, Ok, Err, if◌then◌else◌}
 use Rattle.jc_types.specs.declared.config.Config.{Config}
 use Rattle.jc_types.specs.declared.config.Refusal.{Refusal}

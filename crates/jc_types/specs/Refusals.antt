@@ -1,4 +1,5 @@
 -- The name of a refusal, as a reader of a transcript sees it.
+--     refusal_name     the letters of the variant's name, without its code or field
 use Rattle.std.specs.Prelude.{ℕ, List, codes}
 use Rattle.jc_types.specs.declared.config.Refusal.{Refusal}
 use Rattle.jc_types.specs.declared.config.Refusal.TheVariants.{HistoryFull, Busy, TooManyInFlight, TooManyJoiners, LoaderFailed, WriterFailed, ProcessorFailed, OutOfMemory, TooManyKeys, BadConfig, NoLoader, NoWriter, TooManySessions, StillReserved}

@@ -1,4 +1,6 @@
 -- The fields of a value, given back from its bytes.
+--     again           the fields of the value of these bytes
+--     value_again     the bytes that count give a value's fields back
 use Rattle.std.specs.Prelude.{◌≡◌, List, ℕ, length, take}
 use Rattle.jc_types.specs.Inline.{IsInline, padded, length-inline, padded-inline}
 use Rattle.jc_types.specs.declared.value.Value.TheInside.{Inside}

@@ -55,7 +55,8 @@ pub enum Refusal {
     /// The call needs a reservation, and all 64 of the key's stripe are out.
     #[error("too many calls of this stripe are at work outside")]
     TooManyInFlight,
-    /// The call would join a load, and 64 joiners wait in the key's stripe already.
+    /// The call would join a load, and the key's stripe has 64 joiners already. Who was answered, or told to begin again, counts
+    /// until that is picked up.
     #[error("too many calls of this stripe have joined a load")]
     TooManyJoiners,
     /// The loader failed with this code: the `CacheLoaderException` of JSR 107, "Integration".
@@ -126,7 +127,7 @@ pub struct Config {
     /// by [`stripe_of`](crate::key::stripe_of), and calls on different stripes don't meet.
     pub stripes: usize,
     /// How many entries one stripe keeps, from 1 to [`CAPACITY_MAX`]. A new entry beyond them first evicts
-    /// the least recently used one that no call has reserved.
+    /// the least recently used one that no call has reserved, and isn't kept where calls have reserved all.
     pub capacity: usize,
     /// How many events the history of one stripe has room for, from [`HISTORY_MIN`] to
     /// [`HISTORY_MAX`].

@@ -1,11 +1,12 @@
 -- What an audit shows of a world.
---     IsCache      a map of all that is cached, over all stripes
---     differs      an entry that isn't the store's, while no writer's change of its key waits for its commit
---     differing    the keys of such entries
---     cache_at     what each stripe caches
---     IsOrder      the order is one legal history over all stripes, and what is cached is what it leaves
---     HasParts     each stripe's history is its part of the order, so that a place in a stripe tells a place in the order
---     IsAudit      what an audit says
+--     IsCache       a map of all that is cached, over all stripes
+--     differs       an entry that isn't the store's, while no writer's change of its key waits for its commit
+--     differing     the keys of such entries
+--     cache_in      what a stripe caches, and nothing where there is no stripe
+--     cache_at      what the stripe with a number caches
+--     IsOrder       the order is one legal history over all stripes from empty ones, and what is cached is what it leaves
+--     HasParts      each stripe's history is its part of the order: a place in a stripe counts the events of that stripe alone
+--     IsAudit       what an audit says
 use Rattle.std.specs.Prelude.{◌≡◌, ◌↔◌, ℕ, List, Bool, not, ◌&&◌, IsTrue, Option, None, Some, length, map, filter, slice_get}
 use Rattle.std.specs.FinMap.{get, entries, empty}
 use Rattle.jc_model.specs.Cache.{Bytes, Cache, entry_at}

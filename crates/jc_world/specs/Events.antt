@@ -1,12 +1,34 @@
 -- The world as a machine: when an event fits, what it shows, and what it leaves.
---     fits        whether an event fits
---     Happens     what an event that fits may show and leave
---     Step        one event: one that doesn't fit is shown as a fault and changes nothing
---     Run         events one after another
---     is_fit      what is shown is not the fault of an event that doesn't fit
---     all_fit     nothing that is shown is such a fault
---     AllFit      whatever the world may choose, each of these events fits when it comes
---     StartFits   where a call fits, its first phase fits directly behind it
+--     is_single                   an operation is a call by itself: each but `Clear`, `LoadAll` and `Invoke`
+--     is_session                  a number is that of a session: 1 to 32
+--     is_new                      a call's number is above all before it
+--     is_free                     a call has neither a reservation nor a join of a key
+--     may_start                   the key is the call's, and the call has neither a reservation nor a join of it
+--     may_leave                   the call has neither a reservation nor a join of its key
+--     may_report                  the writer was asked for the call's key, and hasn't returned
+--     fits                        whether an event fits
+--     with_stripe                 the world with a key's stripe at another state
+--     goes_on                     the same, and what the stripe put down stands at the end of the order
+--     victim_first                who is evicted by the first of these events, if one is
+--     gone_at                     the event at a place, if it is an eviction behind the step
+--     gone_last                   the last of these events, if it is an eviction behind the step
+--     ShowsStep                   what is shown of a step: its stripe, and the evictions that were put down with it
+--     call_over                   the world with a call over
+--     new_part                    what is kept of a key that was just reserved
+--     with_part, without_part     the world with this part of a key, and with none
+--     with_join, without_join     the world with one join more, and without a call's join of a key
+--     Starts                      a first phase, by what is shown of it
+--     Ends                        a last phase
+--     Picks                       a pick-up, by what is shown of it
+--     answered                    the world once the loader has answered
+--     changed                     the world once the writer has changed the store
+--     reported                    the world once the writer has returned
+--     Happens                     what an event that fits may show and leave
+--     Step                        one event: one that doesn't fit is shown as a fault and changes nothing
+--     Run                         events one after another
+--     is_fit, all_fit             what is shown is not the fault of an event that doesn't fit, and nothing that is shown is
+--     AllFit                      whatever the world may choose, each of these events fits when it comes
+--     StartFits                   where a call fits, its first phase fits directly behind it
 use Rattle.std.specs.Prelude.{◌≡◌, ◌==◌, ◌⊎◌, ℕ, List, [], ◌∷◌, ◌++◌, length, drop, Bool, true, false, not, ◌&&◌, Option, None, Some, is_none, nat_lt, slice_get, slice_set, ◌-◌, if◌then◌else◌}
 use Rattle.std.specs.List.{list_all}
 use Rattle.std.specs.Cmp.Lexicographic.{pointwise}

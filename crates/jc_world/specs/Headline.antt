@@ -1,9 +1,13 @@
 -- The headline, over every run.
---     StaysLegal       after every list of events the order is one legal history, what is cached is what it leaves, and each stripe's
---                      history is its part of it
---     StaysCoherent    after every list of events, as long as the premises held, the world is coherent
---     CountsLoads      after every list of events, each answer that a loader gave for a key stands in one step of its own, or is still
---                      kept for its commit: those that joined a load have made no other
+--     opened            a world at its start, with these values in its store
+--     StaysLegal        after every list of events the order is one legal history, what is cached is what it leaves, and each
+--                       stripe's history is its part of the order
+--     StaysCoherent     after every list of events, as long as the premises held, the world is coherent
+--     is_answer         an event is an answer of the loader for a key, and was taken
+--     is_load           an event is a step of a key that had the loader asked, and isn't shared
+--     is_loaded         an answer of the loader is kept for the commit
+--     CountsLoads       after every list of events, the answers that loaders gave for a key are as many as its steps that had the
+--                       loader asked and aren't shared, and the answer that is kept for a commit, together
 use Rattle.std.specs.Prelude.{◌≡◌, ◌==◌, ◌+◌, ◌&&◌, List, [], ◌∷◌, zip, count_by, Bool, true, false, Option, None, Some, Ok, if◌then◌else◌}
 use Rattle.std.specs.Cmp.Lexicographic.{pointwise}
 use Rattle.std.specs.FinMap.{get}

@@ -1,10 +1,14 @@
 -- Those outside: what is expected of loaders, writers and the store.
---     read_answer       what a loader that reads the store answers
---     changed_to        what the store holds at a key once the writer did as it was asked
---     report_of         the writer's report, from its fault or none
---     is_true_load      honest loaders: an answer is a failure, or what the store holds for the key
---     is_true_report    honest writers: a report makes committed exactly what was changed
---     premises_hold     all of them have held so far, and the store was quiet
+--     read_answer                  what a loader that reads the store answers
+--     changed_to                   what the store holds at a key once the writer did as it was asked
+--     report_of                    the writer's report, from its fault or none
+--     is_true_load                 honest loaders: an answer is a failure, or what the store holds for the key
+--     is_done                      a report says that the writer did as it was asked
+--     is_true_report               honest writers: a report says done exactly where the store was changed
+--     with_loader, with_writer     the premises behind an answer of a loader, and behind a report of a writer, by whether it was
+--                                  honest
+--     disturbed                    the premises once somebody else has written the store
+--     premises_hold                all of them have held so far: loaders and writers were honest, and the store was quiet
 use Rattle.std.specs.Prelude.{ℕ, Bool, true, false, ◌&&◌, Option, None, Some, is_none}
 use Rattle.jc_model.specs.declared.event.Change.{Change}
 use Rattle.jc_model.specs.declared.event.Change.TheVariants.{Write, Delete}

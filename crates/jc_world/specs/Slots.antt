@@ -1,11 +1,12 @@
 -- How a world keeps the parts of its calls: a list of slots, each with the ticket of its reservation. No contract of a public call
 -- cites this.
---     entry_of      the key and the part of a slot
---     IsSlot        the part is that of the ticket
---     once          no key stands twice
---     parts_of      the map that the slots make
---     is_under      a slot is that of a call's key, by the call first
---     part_under    the part of a call's key
+--     claim_in, first_in     the reservation of a ticket, and whom its call asked first
+--     entry_of               the key and the part of a slot
+--     IsSlot                 the part is that of the ticket
+--     once                   no key stands twice
+--     is_under               a slot is that of a call's key, by the call first
+--     parts_of               the map that the slots make
+--     part_under             the part of a call's key
 use Rattle.std.specs.Prelude.{◌≡◌, ◌==◌, ℕ, List, [], ◌∷◌, Bool, true, ◌&&◌, Option, None, Some, is_none, if◌then◌else◌}
 use Rattle.std.specs.Cmp.Lexicographic.{pointwise}
 use Rattle.std.specs.FinMap.{find, from_entries}

@@ -1,16 +1,28 @@
 -- What is true of every world that a run reaches. The contracts of public calls hand out what callers need of it.
---     IsStripe       a stripe of the world: it is reached, and its history is its part of the order
---     IsShaped       there is a stripe for each number
---     none_from      no step of a session has this number or a higher one
---     is_served      the answer of a load that it has joined is parked for a call
---     CallsFit       the calls under way: their numbers are not used in the order yet, but for those that are served, and no two are of
---                    one session
---     IsHeld         a part has its reservation and its call
---     AllOwned       each reservation has its part and its call
---     IsWaitedFor    a join has its joiner and its call, which has no part
---     AllCalled      each joiner has its join and its call
---     KeyTold        as long as the premises hold: what is known of a key's part, the store's value and the cached one
---     IsSoundWorld   all of it
+--     IsStripe                      a stripe of the world: it is reached, and its history is its part of the order
+--     IsShaped                      there is a stripe for each number
+--     is_up_to, number_up_to        a number is at most the last call's, and so is the number of an event's step
+--     is_before                     an event is no step of a session with this number or a higher one
+--     none_from                     no step of a session has this number or a higher one
+--     has_answer, is_told           an answer is parked for a joiner in this state, and for a joiner that is there
+--     is_served_in, is_served       the answer of a load that it has joined is parked for a call, in a stripe and in the world
+--     is_apart                      two calls are of different sessions, and have different numbers
+--     FitsCall                      a call under way: its operation is a call by itself, its number is at most the last, and no
+--                                   step of its session has that number or a higher one, unless it is served
+--     CallsFit                      that is so of all calls under way, and no two are of one session or have one number
+--     KindFits                      what was said for a part was said by whom it asked, and a write is still what its operation
+--                                   asks for
+--     IsHeld                        a part has its reservation and its call
+--     IsOwned, AllOwned             a reservation has its part and its call; each does
+--     IsWaitedFor, AllWaitedFor     a join has its joiner and its call, which has no part; each does
+--     joined_once                   no two joins are of one call and one key
+--     IsCalled, AllCalled           a joiner has its join and its call, and is in the stripe of its key; each is so
+--     Agrees                        an entry that is there is the store's value
+--     WrittenFor                    the store holds what the writer was asked for
+--     IsTold                        as long as the premises hold: what is known of a reserved key, by its part
+--     KeyTold                       as long as the premises hold: what is known of any key, by its part, the store's value and the
+--                                   cached one
+--     IsSoundWorld                  all of it; and while a world is fresh, nothing is cached, reserved, joined or under way
 use Rattle.std.specs.Prelude.{◌≡◌, ◌==◌, ℕ, List, [], ◌∷◌, length, Ok, Bool, true, false, not, ◌&&◌, ◌||◌, Option, None, Some, IfSome, IsSomeAnd, slice_get, nat_le, nat_lt}
 use Rattle.std.specs.List.{list_all, list_any}
 use Rattle.std.specs.FinMap.{get}

@@ -1,11 +1,30 @@
 -- A world: a state for each stripe, one store, the calls under way, and one order of all that was put down.
---     WorldState      the world as a caller may know it
---     stripe_for      the stripe of a key;  cached      what is cached for a key
---     under           the call with this number, if it is under way
---     part_of         what a call has asked and heard for a key that it has reserved
---     waits_for_load, waits_for_report, is_answered, is_untouched      what of that has come
---     is_joined       a call has joined a load of a key, and hasn't its answer
---     start           a world before anything has happened
+--     Parts                           by key, what the call that has reserved it asked and heard so far
+--     WorldState                      the world as a caller may know it
+--     home                            the number of the stripe that a key belongs to
+--     stripe_for                      the stripe of a key
+--     entry_in                        what a stripe caches for a key, if there is a stripe
+--     cached                          what is cached for a key
+--     empty_stripe, empty_stripes     a stripe in which nothing has happened, and as many as are asked for, from a number on
+--     start                           a world before anything has happened
+--     has_number, is_of               a call has this number, and is of this session
+--     is_busy                         a session has a call under way
+--     under                           the call with this number, if it is under way
+--     over                            the calls without one that is over
+--     of_call                         a part, if it is this call's
+--     part_of                         what a call has asked and heard for a key that it has reserved
+--     asks_loader, asks_writer        the loader was asked, and the writer was
+--     waits_for_load                  the loader was asked, and hasn't answered
+--     waits_for_report                the writer was asked, and hasn't returned
+--     is_answered                     all that was asked is answered
+--     is_untouched                    the key is reserved, and nothing was said outside for it, and nothing done
+--     claim_of                        the reservation of a part, by its key and number
+--     out_of                          what was said outside for a part
+--     is_join                         a join is of this call and this key
+--     join_of                         a call's join of a key, if it has one
+--     is_joined                       a call has joined a load of a key, and hasn't its answer
+--     unjoined                        the joins of the others
+--     with_stored                     the world with this value in its store
 use Rattle.std.specs.Prelude.{◌==◌, ℕ, zero, suc, ◌+◌, ◌%◌, sum, List, [], ◌∷◌, Bool, true, false, not, ◌&&◌, ◌||◌, Option, None, Some, find, filter, slice_get, if◌then◌else◌}
 use Rattle.std.specs.List.{list_any}
 use Rattle.std.specs.Cmp.Lexicographic.{pointwise}

@@ -8,67 +8,99 @@ use jc_types::value::Value;
 /// What a call does: one operation on one key.
 #[derive(Clone, Copy, Debug, PartialEq, Eq)]
 pub struct Command {
+    /// The operation. `Clear`, `LoadAll` and `Invoke` are no calls by themselves: a `Call` with one of them doesn't fit.
     pub op: Op,
+    /// The key, of any stripe.
     pub key: Key,
 }
 
-/// What may happen next. An event that names a call is about a call under way, but for `Call`.
+/// What may happen next. An event that names a call is about a call under way, but for `Call`. What doesn't fit is shown as
+/// `Unfit`, and changes nothing.
 #[derive(Clone, Copy, Debug, PartialEq, Eq)]
 pub enum WorldEvent {
     /// A session begins a call. It has no phase yet.
+    ///
+    /// It fits where the number is above all before it, the session is one and has no call under way, and the operation is a call
+    /// by itself.
     Call {
+        /// The call's number, which is to be above that of every call before it, of any session.
         call: u64,
+        /// The session, from 1 to [`SESSIONS_MAX`](crate::calls::SESSIONS_MAX).
         session: u32,
+        /// What the call does.
         command: Command,
     },
-    /// The first phase of the call's key.
+    /// The first phase of the call's key. It fits where the call has neither reserved the key nor joined its load: before its first
+    /// phase, and once it was told to begin again or has given its reservation back.
     Start {
+        /// The call's number.
         call: u64,
+        /// The call's key.
         key: Key,
     },
-    /// The loader reads the store, and its answer is kept for the commit.
+    /// The loader reads the store, and its answer is kept for the commit. It fits where the loader is asked and hasn't answered.
     Read {
+        /// The number of the call that has the loader asked.
         call: u64,
+        /// The key that the call has reserved.
         key: Key,
     },
-    /// The loader answers this, whatever the store holds.
+    /// The loader answers this, whatever the store holds. It fits where the loader is asked and hasn't answered.
     Say {
+        /// The number of the call that has the loader asked.
         call: u64,
+        /// The key that the call has reserved.
         key: Key,
+        /// What the loader answers: anything but `NotAsked`.
         answer: LoadAnswer,
     },
-    /// The writer changes the store, as it was asked.
+    /// The writer changes the store, as it was asked. It fits where the writer is asked and hasn't returned, also once more.
     Change {
+        /// The number of the call that has the writer asked.
         call: u64,
+        /// The key that the call has reserved.
         key: Key,
     },
-    /// The writer returns, with the code of a fault or none.
+    /// The writer returns. It fits where the writer is asked for the call's key and hasn't returned, whether it has changed the
+    /// store or not.
     Report {
+        /// The number of the call that has the writer asked.
         call: u64,
+        /// The code with which the writer failed, or none where it reports success.
         fault: Option<u32>,
     },
-    /// The last phase of the call's key.
+    /// The last phase of the call's key. It fits where the one that was asked, loader or writer, has answered.
     Commit {
+        /// The call's number.
         call: u64,
+        /// The key that the call has reserved.
         key: Key,
     },
-    /// The reservation of the call's key is given back. Nothing was said outside for it.
+    /// The reservation of the call's key is given back. It fits where nothing was said outside for it and nothing done.
     Withdraw {
+        /// The call's number.
         call: u64,
+        /// The key that the call has reserved.
         key: Key,
     },
-    /// The call is over, without a reply.
+    /// The call is over, without a reply. It fits where the call has neither reserved its key nor joined its load.
     Leave {
+        /// The call's number.
         call: u64,
     },
-    /// A call that has joined a load asks for its answer.
+    /// A call that has joined a load asks for its answer. It fits until the call was given that answer or told to begin again, so
+    /// also where the load isn't over.
     PickUp {
+        /// The number of the call that has joined.
         call: u64,
+        /// The key whose load it has joined.
         key: Key,
     },
-    /// Somebody else writes or deletes in the store.
+    /// Somebody else writes or deletes in the store. It always fits.
     Foreign {
+        /// The key, of any stripe.
         key: Key,
+        /// What the store then holds for it: a value, or none where it is deleted.
         value: Option<Value>,
     },
 }
@@ -85,9 +117,11 @@ pub struct Gone {
 /// A step that was put down.
 #[derive(Clone, Copy, Debug, PartialEq, Eq)]
 pub struct Stepped {
+    /// What the call is answered.
     pub reply: Reply,
-    /// The stripe, and the place of the step in the stripe's history.
+    /// The number of the key's stripe, from 0.
     pub stripe: usize,
+    /// The place of the step in the stripe's history, from 0.
     pub place: u32,
     /// Who was evicted directly before the step, since the stripe was full.
     pub victim: Option<Key>,
@@ -98,11 +132,13 @@ pub struct Stepped {
 /// The answer of a load that a call had joined.
 #[derive(Clone, Copy, Debug, PartialEq, Eq)]
 pub struct PickedUp {
+    /// What the call is answered.
     pub reply: Reply,
-    /// The stripe, and the place of the call's own step in the stripe's history.
+    /// The number of the key's stripe, from 0.
     pub stripe: usize,
+    /// The place of the call's own step in the stripe's history, from 0.
     pub place: u32,
-    /// The place of the step that loaded.
+    /// The place of the step that loaded, in the same history.
     pub shared: u32,
 }
 
@@ -159,8 +195,11 @@ pub enum Shown {
 /// A call under way.
 #[derive(Clone, Copy, Debug, PartialEq, Eq)]
 pub struct Under {
+    /// The session that calls, from 1 to [`SESSIONS_MAX`](crate::calls::SESSIONS_MAX).
     pub session: u32,
+    /// The call's number.
     pub number: u64,
+    /// What the call does.
     pub command: Command,
 }
 
@@ -171,21 +210,22 @@ pub struct Part {
     pub call: u64,
     /// The reservation's number.
     pub number: u64,
+    /// What is called.
     pub op: Op,
-    /// Whom the call asked.
+    /// Whom the call asked: the loader, or the writer for a change. It is never `Nobody`.
     pub first: First,
-    /// What the loader said so far.
+    /// What the loader said so far: `NotAsked` until it has answered.
     pub load: LoadAnswer,
     /// Whether the writer has changed the store.
     pub is_changed: bool,
-    /// What the writer reported so far.
+    /// What the writer reported so far: `NotAsked` until it has returned.
     pub report: WriteAnswer,
 }
 
 /// What has held so far of those outside.
 #[derive(Clone, Copy, Debug, PartialEq, Eq)]
 pub struct Premises {
-    /// Honest writers: what a report makes committed is what was changed.
+    /// Honest writers: each report said success exactly where the writer had changed the store.
     pub writers: bool,
     /// Honest loaders: each answer was a failure, or what the store held for the key when it came.
     pub loaders: bool,

@@ -3,9 +3,11 @@ ghost use Rattle.jc_world.specs.Headline.{StaysLegal, StaysCoherent, CountsLoads
 
 use jc_stripe::phase_laws::{keeps_reserved, stays_reached};
 
-/// Over every interleaving of phases, loader answers, writer failures and others' writes, all that was put down is one legal
-/// history, what is cached is what it leaves, and each stripe's history is its part of it. That each reply that is shown is its
-/// step's, at the place that is shown, stands in the clause `run` of `World::play`.
+/// After every list of events, on a world of any shape within its limits and with any values in its store at the start: the order
+/// of all that was put down is one legal history over all stripes, each stripe's history is its part of it, and what each stripe
+/// caches is what its part leaves.
+///
+/// That a reply and a place that are shown are those of a step of that history stands in the clause of `World::play`.
 pub fn stays_legal()
     ensures { StaysLegal }
 {
@@ -13,9 +15,9 @@ pub fn stays_legal()
     keeps_reserved();
 }
 
-/// Where write-through is on, nobody else writes the store, failed writers changed only what they reported written, and loaders
-/// answered what the store held or failed: each cached value, with no writer call on its key that changed the store and isn't
-/// committed, is the store's.
+/// After every list of events, on such a world: where write-through is on, nobody else has written the store, each writer has
+/// reported success exactly where it had changed the store, and each loader has answered what the store held or failed, each
+/// cached value is the store's, but for keys whose writer has changed the store and whose call isn't committed.
 pub fn stays_coherent()
     ensures { StaysCoherent }
 {
@@ -23,8 +25,10 @@ pub fn stays_coherent()
     keeps_reserved();
 }
 
-/// Of each answer that a loader gave for a key, one step was made with it, or it is still kept for the commit of its reservation:
-/// those that join a load share its step's answer, and no load is asked twice for one step.
+/// After every list of events, on such a world, for each key: the answers that loaders gave for it are as many as the steps of the
+/// order that had the loader asked and aren't shared, and the answer that is kept for a commit, if there is one, together.
+///
+/// It is a count, and doesn't say which answer stands in which step.
 pub fn counts_loads()
     ensures { CountsLoads }
 {

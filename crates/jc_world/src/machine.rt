@@ -199,6 +199,8 @@ impl Machine {
         ensures ok { OnOk result (self.new ≡ record self.old { last = Some call; fresh = false; calls = self.old.calls ++ record { session = session; number = call; command = command.now } ∷ [] }) }
         ensures err { OnErr result (self.new ≡ self.old) }
     {
+        // Names the types of the values that a generic call moves here: the prover looks for their models in the types that a
+        // function names. So does the other of this name below.
         let _types: Option<(Op, Value)> = None;
         self.calls.push(Under {
             session,
@@ -217,6 +219,7 @@ impl Machine {
     {
         match self.part_of(call, key).copied() {
             Some(part) => {
+                // Copied first: a value counts as moved by the call that takes it.
                 let kept = answer;
                 let honest = is_honest_load(answer, self.stored(key));
                 set_part(&mut self.slots, call, key, with_load(part, kept));
@@ -256,6 +259,7 @@ impl Machine {
                 Some(change) => {
                     let is_changed = part.is_changed;
                     let report = report_with(fault);
+                    // Copied first: a value counts as moved by the call that takes it.
                     let kept = report;
                     let honest = is_honest_report(report, &part);
                     set_part(&mut self.slots, call, key, with_report(part, kept));
@@ -467,6 +471,7 @@ impl Machine {
             WorldEvent::Start { call, key } => self.start(*call, key),
             WorldEvent::Read { call, key } => {
                 let answer = answer_of(self.stored(key));
+                // Copied first: a value counts as moved by the call that takes it.
                 let kept = answer;
                 self.tell(*call, key, answer);
                 Ok(Shown::Reads(kept))

@@ -75,6 +75,8 @@ impl Slot {
     pub(crate) fn writing(ticket: WriteTicket, u: &Under) -> Slot
         ensures { result ≡ (ticket.claim.key, new_part u.now ticket.claim.number (Writer ticket.change)) }
     {
+        // Names the type of a value that a generic call moves here: the prover looks for its model in the types that a function
+        // names.
         let _types: Option<Change> = None;
         let ask = ticket.ask();
         let part = part_for(u, ask.number, First::Writer(ask.change));

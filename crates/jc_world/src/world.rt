@@ -1,3 +1,4 @@
+//! A world: stripes beside a store, driven by a list of events, with what there is to see of it.
 ghost use Rattle.std.specs.Prelude.{[], ◌≡◌, ◌≤◌, ◌⊎◌, ◌<◌, true, IsTrue, IfOk, IfErr, IsOk, option_copied, OnErr, OnOk, Ok, Err, List, take, length};
 ghost use Rattle.jc_types.specs.Limits.{checked};
 ghost use Rattle.jc_world.specs.declared.event.Shown.{Shown};
@@ -58,6 +59,8 @@ impl World {
     }
 
     /// Gives the store a value, before anything has happened. Where memory is refused nothing changes.
+    ///
+    /// Conditions: the world is fresh, as [`is_fresh`](World::is_fresh) says.
     pub fn set(&mut self, key: &Key, value: &Value) -> Result<(), AllocError>
         requires { self.old.world.fresh ≡ true }
         ensures ok { OnOk result (self.new ≡ record self.old { world = with_stored self.old.world key.now value.now }) }
@@ -74,6 +77,8 @@ impl World {
         ensures run { IfOk result (λ seen. Run self.old.world events.now seen.items self.new.world × (self.new.taken ≡ length events.now)) }
         ensures prefix { OnErr result ((self.new.taken ≤ length events.now) × ((seen : List Shown) × Run self.old.world (take self.new.taken events.now) seen self.new.world)) }
     {
+        // Names the types of the values that a generic call moves here: the prover looks for their models in the types that a
+        // function names.
         let _types: Option<
             (
                 Reply,
@@ -166,9 +171,9 @@ impl World {
 
     /// What there is to see of the world.
     ///
-    /// Where write-through is on, nobody else wrote the store, every failed writer changed only what it reported written, and every
-    /// loader answered what the store held or failed, no key differs: each cached value, with no writer call on its key that changed
-    /// the store and isn't committed, is the store's. It looks at all entries.
+    /// Where write-through is on, nobody else wrote the store, each writer reported success exactly where it had changed the store,
+    /// and each loader answered what the store held or failed, no key differs: each cached value is the store's, but for keys whose
+    /// writer has changed the store and whose call isn't committed. It looks at all entries.
     pub fn audit(&self, alloc: Global) -> Result<Audit, AllocError>
         ensures audit { IfOk result (λ a. IsAudit self.now.world a.cache.items a.store.items a.differing.items a.events a.is_legal) }
         ensures coherent { IfOk result (λ a. all_hold self.now.world ≡ true → Coherent self.now.world × (a.differing.items ≡ [])) }

@@ -55,9 +55,10 @@ fn play<R: Read, W: Write, E: Write>(alloc: Global, reader: &mut R, out: &mut W,
     }
 }
 
-/// Does what the words of a command line ask for, and answers the status: 0; 1 where the transcript ends with a line's fault;
-/// 2 where the words are none of this program's, of which `err` is told; 3 where the input or output failed, or the input is too
-/// long; 4 where there was no memory.
+/// Does what the words of a command line ask for, and answers the status: 0 where the script was played to its end, or where a
+/// text was asked for and shown, as by `--help` and `--version`; 1 where the transcript ends with a line's fault; 2 where the words
+/// are none of this program's, of which `err` is told; 3 where the input or output failed, or the input is too long; 4 where there
+/// was no memory.
 pub fn exec<R: Read, W: Write, E: Write>(
     alloc: Global,
     words: &[String],

@@ -52,6 +52,7 @@ fn is_behind(history: &[Event], who: Caller, key: &Key) -> bool
 fn stands_beside(reservations: &Reservations<Note>, there: &Key, who: Caller, key: &Key) -> bool
     ensures { result ≡ unwrap_or (option_map (λ f. is_beside who.session who.number key.now (reserved_of (record { key = there.now; number = f.0; note = f.1 }))) (found_at reservations.now there.now)) false }
 {
+    // Names a type that a generic call moves here, so that the prover finds its model. So does the other of this name below.
     let _types: Option<Change> = None;
     match reservations.find(there) {
         Some((_, note)) => {
