@@ -17,3 +17,4 @@ pub mod Sounding
 pub mod Runs
 pub mod Loads
 pub mod Homes
+pub mod Closing
