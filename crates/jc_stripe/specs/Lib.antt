@@ -9,3 +9,4 @@ pub mod Putting
 pub mod Inside
 pub mod Laws
 pub mod OnePhase
+pub mod Closed

@@ -1,33 +1,66 @@
-//! The end of a stripe.
+//! The end of a cache's stripes.
+ghost use Rattle.std.specs.Prelude.{◌≡◌};
+ghost use Rattle.jc_stripe.specs.declared.ticket.First.TheVariants.{Loader, Writer};
+ghost use Rattle.jc_stripe.specs.Closed.{IsOutIn, IsJoinedIn};
+
 use crate::stripe::Stripe;
 use crate::ticket::{Join, LoadTicket, WriteTicket};
+use std::marker::Model;
 
-/// A stripe that is closed: it takes no phase any more, and lets the tickets and joins go that were still out.
+/// Stripes that were closed together: none of them takes a phase any more. The tickets and joins that were still out in one of them
+/// end here, and no others.
 #[derive(Drop)]
-pub struct ClosedStripe {
-    stripe: Stripe,
+pub struct ClosedStripes {
+    stripes: Vec<Stripe>,
 }
 
-impl Stripe {
-    /// Closes the stripe. What it held is given up with it.
-    pub fn close(self) -> ClosedStripe {
-        ClosedStripe { stripe: self }
+impl Model for ClosedStripes {
+    ghost use Rattle.std.specs.Prelude.{List};
+    ghost use Rattle.std.specs.Coded.{codes};
+    ghost use Rattle.jc_model.specs.Cache.{cache_code};
+    ghost use Rattle.jc_stripe.specs.State.{State};
+
+    ghost Value = { List State };
+
+    ghost coded = { Prim.hlevel (codes, cache_code) };
+
+    ghost view = { λ c. c.stripes.items };
+}
+
+impl ClosedStripes {
+    /// Closes these stripes. What they hold is given up with them.
+    pub fn new(stripes: Vec<Stripe>) -> ClosedStripes
+        ensures { result ≡ stripes.items }
+    {
+        ClosedStripes { stripes }
     }
-}
 
-impl ClosedStripe {
-    /// Lets a loader's ticket go.
-    pub fn end_load(&self, ticket: LoadTicket) {
+    /// Ends a loader's ticket that is out in one of the stripes: its reservation ended with them.
+    pub fn end_load(&self, ticket: LoadTicket)
+        requires { IsOutIn self.now ticket Loader }
+    {
         ticket.spend();
     }
 
-    /// Lets a writer's ticket go.
-    pub fn end_write(&self, ticket: WriteTicket) {
+    /// Ends a writer's ticket that is out in one of the stripes: its reservation ended with them.
+    pub fn end_write(&self, ticket: WriteTicket)
+        requires { IsOutIn self.now ticket.claim (Writer ticket.change) }
+    {
         ticket.spend();
     }
 
-    /// Lets a join go.
-    pub fn end_join(&self, join: Join) {
+    /// Ends a join whose joiner is in one of the stripes: its load, or its parked answer, ended with them.
+    pub fn end_join(&self, join: Join)
+        requires { IsJoinedIn self.now join }
+    {
         join.spend();
+    }
+
+    /// The stripes, for tests of what is out in them.
+    #[cfg(test)]
+    pub(crate) fn stripes(&self) -> &[Stripe]
+        ensures { result.now ≡ self.now }
+    {
+        &self.stripes
     }
 }

@@ -18,3 +18,4 @@ pub mod Runs
 pub mod Loads
 pub mod Homes
 pub mod Fitting
+pub mod Closing

@@ -19,7 +19,7 @@ pub split : (q key : Bytes) (P : Bool → Type 0) → (q ≡ key → P true) →
 split q key P here there =
     elim (eq_by_cmp key_cmp q key) as (λ b. eq_by_cmp key_cmp q key ≡ b → P b) [ true ↦ λ e. here (same_key q key e) | false ↦ λ e. there e ] refl
 
-tied : (key : Bytes) → eq_by_cmp key_cmp key key ≡ true
+pub tied : (key : Bytes) → eq_by_cmp key_cmp key key ≡ true
 tied key = (eq_by_cmp_equiv nat_list_cmp_total).refl key
 
 abbrev pub Entry : Type 0

@@ -7,15 +7,18 @@
 --     is_under               a slot is that of a call's key, by the call first
 --     parts_of               the map that the slots make
 --     part_under             the part of a call's key
+--     IsEntryOut             the ticket of a slot is out in one of the stripes
 use Rattle.std.specs.Prelude.{◌≡◌, ◌==◌, ℕ, List, [], ◌∷◌, Bool, true, ◌&&◌, Option, None, Some, is_none, if◌then◌else◌}
 use Rattle.std.specs.Cmp.Lexicographic.{pointwise}
 use Rattle.std.specs.FinMap.{find, from_entries}
 use Rattle.jc_model.specs.Cache.{Bytes, key_cmp}
 use Rattle.jc_stripe.specs.Claim.{Claim}
+use Rattle.jc_stripe.specs.State.{State}
+use Rattle.jc_stripe.specs.Closed.{IsOutIn}
 use Rattle.jc_stripe.specs.declared.ticket.First.{First}
 use Rattle.jc_stripe.specs.declared.ticket.First.TheVariants.{Loader, Writer}
 use Rattle.jc_world.specs.declared.event.Part.{Part}
-use Rattle.jc_world.specs.World.{Parts}
+use Rattle.jc_world.specs.World.{Parts, claim_of}
 use Rattle.jc_world.specs.declared.slot.Ticket.{Ticket}
 use Rattle.jc_world.specs.declared.slot.Ticket.TheVariants as ticket
 use Rattle.jc_world.specs.declared.slot.Slot.TheInside.{Inside}
@@ -48,3 +51,6 @@ parts_of entries = from_entries entries
 abbrev pub part_under : ℕ → Bytes → List (Bytes × Part) → Option Part
 part_under call key [] = None
 part_under call key (entry ∷ entries) = if is_under call key entry then Some entry.1 else part_under call key entries
+
+abbrev pub IsEntryOut : List State → Bytes × Part → Type 0
+IsEntryOut stripes entry = IsOutIn stripes (claim_of entry.0 entry.1) entry.1.first

@@ -1,10 +1,11 @@
 //! The calls that have joined a load and haven't its answer, with their joins.
-ghost use Rattle.std.specs.Prelude.{◌≡◌, ◌<◌, ◌≤◌, true, Option, Some, find, insert, position, vec_len, vec_capacity};
+ghost use Rattle.std.specs.Prelude.{◌≡◌, ◌<◌, ◌≤◌, true, Option, Some, All, find, insert, position, vec_len, vec_capacity};
 ghost use Rattle.std.specs.List.{list_any};
+ghost use Rattle.jc_stripe.specs.Closed.{IsJoinedIn};
 ghost use Rattle.jc_world.specs.World.{is_join, unjoined};
 ghost use Rattle.jc_world.specs.Sound.{joined_once};
 
-use jc_stripe::closed::ClosedStripe;
+use jc_stripe::closed::ClosedStripes;
 use jc_stripe::ticket::Join;
 use jc_types::key::Key;
 
@@ -52,10 +53,12 @@ pub(crate) fn put_back(joins: &mut Vec<Join>, join: Join, place: usize)
     }
 }
 
-/// Lets all joins go.
-pub(crate) fn let_go_joins(mut joins: Vec<Join>, stripe: &ClosedStripe) {
+/// Lets all joins go. Their joiners are in these stripes.
+pub(crate) fn let_go_joins(mut joins: Vec<Join>, stripes: &ClosedStripes)
+    requires { All (IsJoinedIn stripes.now) joins.items }
+{
     while let Some(join) = joins.pop() {
-        stripe.end_join(join);
+        stripes.end_join(join);
     }
     joins.destroy_empty();
 }

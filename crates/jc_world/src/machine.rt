@@ -1,5 +1,5 @@
 //! The machine below a world: what each kind of event does.
-ghost use Rattle.std.specs.Prelude.{IsTrue, option_copied, ◌≡◌, ◌&&◌, not, ◌++◌, ◌∷◌, [], true, false, Ok, IfOk, OnErr, OnOk, Option, None, Some};
+ghost use Rattle.std.specs.Prelude.{IsTrue, option_copied, ◌≡◌, ◌&&◌, not, ◌++◌, ◌∷◌, [], true, false, All, Ok, IfOk, OnErr, OnOk, Option, None, Some};
 ghost use Rattle.std.specs.FinMap as map;
 ghost use Rattle.jc_types.specs.Limits.{checked};
 ghost use Rattle.jc_model.specs.Cache.{entry_at, with_entry};
@@ -13,6 +13,7 @@ ghost use Rattle.jc_world.specs.World.{start, is_busy, under, of_call, part_of, 
 ghost use Rattle.jc_world.specs.Premises.{read_answer, report_of, disturbed};
 ghost use Rattle.jc_world.specs.Events.{is_single, is_session, is_new, may_start, may_leave, is_free, may_report, fits, answered, changed, reported, Happens, Step};
 ghost use Rattle.jc_world.specs.Sound.{IsSoundWorld};
+ghost use Rattle.jc_world.specs.Slots.{IsEntryOut};
 ghost use Rattle.jc_world.specs.Coherent.{is_changed, all_hold, Coherent};
 ghost use Rattle.jc_world.specs.Audit.{differs, differing, IsAudit};
 
@@ -32,7 +33,7 @@ use crate::stripes::{
 use jc_model::contents::Contents;
 use jc_model::event::{Change, Event, LoadAnswer, Op, WriteAnswer};
 use jc_stripe::begun::{Begun, Picked};
-use jc_stripe::closed::ClosedStripe;
+use jc_stripe::closed::ClosedStripes;
 use jc_stripe::stripe::Stripe;
 use jc_stripe::ticket::{First, Join};
 use jc_types::config::Config;
@@ -561,13 +562,13 @@ impl Machine {
         })
     }
 
-    /// Ends the machine, and lets go the tickets that are still out.
+    /// Ends the machine, and with its stripes the tickets and joins that are still out.
     pub(crate) fn close(self)
         requires { IsSoundWorld self }
     {
         let Machine {
             config: _,
-            mut stripes,
+            stripes,
             order: _,
             store: _,
             fresh: _,
@@ -577,14 +578,9 @@ impl Machine {
             joins,
             premises: _,
         } = self;
-        match stripes.pop() {
-            Some(stripe) => {
-                let closed = stripe.close();
-                let_go_all(slots, &closed);
-                let_go_joins(joins, &closed);
-            }
-            None => unreachable!(),
-        }
+        let closed = ClosedStripes::new(stripes);
+        let_go_all(slots, &closed);
+        let_go_joins(joins, &closed);
     }
 }
 
@@ -608,10 +604,12 @@ fn is_changing(part: Option<Part>) -> bool
     }
 }
 
-/// Lets all tickets go.
-fn let_go_all(mut slots: Vec<Slot>, stripe: &ClosedStripe) {
+/// Lets all tickets go. They are out in these stripes.
+fn let_go_all(mut slots: Vec<Slot>, stripes: &ClosedStripes)
+    requires { All (IsEntryOut stripes.now) slots.items }
+{
     while let Some(slot) = slots.pop() {
-        slot.let_go(stripe);
+        slot.let_go(stripes);
     }
     slots.destroy_empty();
 }

@@ -9,11 +9,11 @@ ghost use Rattle.jc_stripe.specs.declared.ticket.Origin.TheVariants.{Played};
 ghost use Rattle.jc_world.specs.World.{claim_of, out_of, is_answered};
 ghost use Rattle.jc_world.specs.Events.{new_part};
 ghost use Rattle.jc_world.specs.Sound.{KindFits};
-ghost use Rattle.jc_world.specs.Slots.{is_under, once, parts_of, part_under};
+ghost use Rattle.jc_world.specs.Slots.{is_under, once, parts_of, part_under, IsEntryOut};
 
 use crate::event::{Part, Under};
 use jc_model::event::{Change, LoadAnswer, Reply, WriteAnswer};
-use jc_stripe::closed::ClosedStripe;
+use jc_stripe::closed::ClosedStripes;
 use jc_stripe::stripe::Stripe;
 use jc_stripe::ticket::{First, LoadTicket, WriteTicket, played_load, played_write};
 use jc_types::key::Key;
@@ -152,12 +152,14 @@ impl Slot {
         }
     }
 
-    /// The ticket goes with its stripe.
-    pub(crate) fn let_go(self, stripe: &ClosedStripe) {
+    /// The ticket, which is out in one of these stripes, ends with them.
+    pub(crate) fn let_go(self, stripes: &ClosedStripes)
+        requires { IsEntryOut stripes.now self }
+    {
         let Slot { ticket, part: _ } = self;
         match ticket {
-            Ticket::Load(ticket) => stripe.end_load(ticket),
-            Ticket::Write(ticket) => stripe.end_write(ticket),
+            Ticket::Load(ticket) => stripes.end_load(ticket),
+            Ticket::Write(ticket) => stripes.end_write(ticket),
         }
     }
 }

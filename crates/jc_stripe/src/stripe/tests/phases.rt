@@ -176,5 +176,5 @@ fn closes(rt: HostRuntime) {
             (3, 1, b'b', *put, Told::Writes(Change::Write(one))),
         ],
     );
-    assert_eq!(rt; run.closes(), 3);
+    assert_eq!(rt; run.closes(&rt, rt.alloc()), 3);
 }

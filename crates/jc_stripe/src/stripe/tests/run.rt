@@ -1,6 +1,6 @@
 //! A stripe that is played phase by phase.
 use crate::begun::{Begun, Picked};
-use crate::closed::ClosedStripe;
+use crate::closed::ClosedStripes;
 use crate::stripe::Stripe;
 use crate::stripe::tests::conditions::{
     is_loaded, is_out, is_phased, is_played, is_written, may_begin,
@@ -138,15 +138,6 @@ impl Held {
         }
     }
 
-    /// It is let go with its stripe.
-    fn end(self, closed: &ClosedStripe) {
-        match self {
-            Held::Load(ticket) => closed.end_load(ticket),
-            Held::Write(ticket) => closed.end_write(ticket),
-            Held::Join(join) => closed.end_join(join),
-        }
-    }
-
     fn load(self) -> Option<LoadTicket> {
         match self {
             Held::Load(ticket) => Some(ticket),
@@ -198,6 +189,37 @@ impl Held {
                 let who = join.caller();
                 join.spend();
                 panic!(rt; "{who:?} has no ticket");
+            }
+        }
+    }
+}
+
+impl Held {
+    /// It ends with its stripe, the one that is closed.
+    fn end(self, rt: &impl Abort, closed: &ClosedStripes) {
+        let Some(stripe) = closed.stripes().first() else {
+            panic!(rt; "a stripe is closed");
+        };
+        match self {
+            Held::Load(ticket) => {
+                let ask = ticket.ask();
+                let is_asked = is_out(stripe, &ask.key, ask.number, &First::Loader);
+                assert!(rt; is_asked, "{ask:?} is out");
+                closed.end_load(ticket);
+            }
+            Held::Write(ticket) => {
+                let ask = ticket.ask();
+                let first = First::Writer(ask.change);
+                let is_asked = is_out(stripe, &ask.key, ask.number, &first);
+                assert!(rt; is_asked, "{ask:?} is out");
+                closed.end_write(ticket);
+            }
+            Held::Join(join) => {
+                let who = join.caller();
+                let joiners = &stripe.joiners;
+                let is_there = joiners.has_joined(who.session, who.number, &join.key());
+                assert!(rt; is_there, "{who:?} has joined");
+                closed.end_join(join);
             }
         }
     }
@@ -410,12 +432,14 @@ impl Run {
     }
 
     /// Closes the stripe, and says how many tickets and joins were out.
-    pub(super) fn closes(self) -> usize {
+    pub(super) fn closes(self, rt: &impl Abort, alloc: Global) -> usize {
         let Run { stripe, out } = self;
-        let closed = stripe.close();
+        let mut stripes = Vec::new(alloc);
+        stripes.push(stripe).expect(rt, "memory");
+        let closed = ClosedStripes::new(stripes);
         let count = out.len();
         for Pending { held, .. } in out {
-            held.end(&closed);
+            held.end(rt, &closed);
         }
         count
     }
