@@ -7,8 +7,8 @@ use crate::stripe::Stripe;
 use crate::ticket::{Join, LoadTicket, WriteTicket};
 use std::marker::Model;
 
-/// Stripes that were closed together: none of them takes a phase any more. The tickets and joins that were still out in one of them
-/// end here, and no others.
+/// Stripes that are closed together, as the list of their states. None of them takes a phase any more. The tickets and joins that
+/// were still out in one of them end here, and no others.
 #[derive(Drop)]
 pub struct ClosedStripes {
     stripes: Vec<Stripe>,
@@ -28,28 +28,28 @@ impl Model for ClosedStripes {
 }
 
 impl ClosedStripes {
-    /// Closes these stripes. What they hold is given up with them.
+    /// Closes these stripes. They stay as they are, and what they hold is given up with them.
     pub fn new(stripes: Vec<Stripe>) -> ClosedStripes
         ensures { result ≡ stripes.items }
     {
         ClosedStripes { stripes }
     }
 
-    /// Ends a loader's ticket that is out in one of the stripes: its reservation ended with them.
+    /// Ends a loader's ticket. It is to be out in one of the stripes.
     pub fn end_load(&self, ticket: LoadTicket)
         requires { IsOutIn self.now ticket Loader }
     {
         ticket.spend();
     }
 
-    /// Ends a writer's ticket that is out in one of the stripes: its reservation ended with them.
+    /// Ends a writer's ticket. It is to be out in one of the stripes.
     pub fn end_write(&self, ticket: WriteTicket)
         requires { IsOutIn self.now ticket.claim (Writer ticket.change) }
     {
         ticket.spend();
     }
 
-    /// Ends a join whose joiner is in one of the stripes: its load, or its parked answer, ended with them.
+    /// Ends a join. One of the stripes is to have its joiner.
     pub fn end_join(&self, join: Join)
         requires { IsJoinedIn self.now join }
     {

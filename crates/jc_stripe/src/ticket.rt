@@ -1,8 +1,10 @@
 //! What a first phase gives, and what a last phase takes.
 //!
 //! A ticket stands for a reservation. It can't be dropped or copied: it is spent by the one commit or withdrawal that ends its
-//! reservation, or together with its stripe. A done value is what was said outside for one reservation; it is spent by the same
-//! commit. A join stands for a call that shares another call's load: it is spent when its answer is picked up.
+//! reservation, or by closed stripes one of which still has the reservation (`ClosedStripes::end_load`, `end_write`). A done value
+//! is what was said outside for one reservation; it is spent by the same commit. A join stands for a call that shares another
+//! call's load: it is spent when its answer is picked up, or by closed stripes one of which still has the joiner
+//! (`ClosedStripes::end_join`).
 ghost use Rattle.std.specs.Prelude.{◌≡◌};
 ghost use Rattle.jc_stripe.specs.declared.ticket.Origin.TheVariants.{Played};
 

@@ -1,12 +1,10 @@
 -- What is out when a world is closed: each slot's ticket and each join, in the stripe of its key.
-use Rattle.std.proofs.Common.{◌≡◌, ℕ, List, [], ◌∷◌, Bool, true, cond, Option, None, Some, IsSomeAnd, All, Any, is_none, slice_get, refl, sym, subst, ap, ◌∙◌}
+use Rattle.std.proofs.Common.{◌≡◌, List, [], ◌∷◌, Bool, true, cond, Option, None, Some, IsSomeAnd, All, is_none, sym, ap, ◌∙◌}
 use Rattle.std.proofs.lemmas.Cmp.{nat_list_cmp_total}
 use Rattle.std.proofs.lemmas.List.Elements.{All-nil, All-cons}
-use Rattle.std.proofs.lemmas.Option.{slice_get_within, get_or_from_slice_get}
 use Rattle.std.specs.FinMap.{find, get-from_entries}
 use Rattle.jc_model.specs.Cache.{Bytes, key_cmp}
 use Rattle.jc_model.proofs.Lookups.{both, none_is}
-use Rattle.jc_inflight.specs.Joined.{is_joined as has_joined}
 use Rattle.jc_stripe.specs.Claim.{JoinClaim}
 use Rattle.jc_stripe.specs.State.{State, Reserved, claimed, IsOut}
 use Rattle.jc_stripe.specs.Closed.{IsJoinedIn}
@@ -17,14 +15,6 @@ use Rattle.jc_world.specs.Sound.{IsSoundWorld, IsHeld, AllWaitedFor}
 use Rattle.jc_world.specs.Slots.{once, IsEntryOut}
 use Rattle.jc_world.specs.Inside.{world_of, IsKept}
 use Rattle.jc_world.proofs.Listed.{Entry, tied, split}
-
--- a stripe at a place is one of the stripes
-any_at : (P : State → Type 0) (stripes : List State) (number : ℕ) → IsSomeAnd (slice_get stripes number) P → Any P stripes
-any_at P stripes number h = go (slice_get stripes number) refl h
-  where
-    go : (o : Option State) → slice_get stripes number ≡ o → IsSomeAnd o P → Any P stripes
-    go None e h = absurd h
-    go (Some s) e h = (number, s, slice_get_within stripes number s e, get_or_from_slice_get stripes number s s e, h)
 
 -- what holds of each key's part holds of each slot, where no key stands twice
 each_slot : (P : Entry → Type 0) (slots : List Entry) → once slots ≡ true → ((key : Bytes) (part : Part) → find key_cmp key slots ≡ Some part → P (key, part)) → All P slots
@@ -48,12 +38,12 @@ held_out w key part h = go (stripe_for w key) h
 
 -- each slot's ticket is out
 pub slots_out : (m : Inside) → IsKept m → IsSoundWorld (world_of m) → All (IsEntryOut m.stripes.items) m.slots.items
-slots_out m kept sound = each_slot (IsEntryOut m.stripes.items) m.slots.items kept (λ key part h.
-    any_at (λ s. IsOut s (claim_of key part) part.first) m.stripes.items (home (world_of m) key)
-    (held_out (world_of m) key part (sound.held key part (get-from_entries nat_list_cmp_total m.slots.items key ∙ h))))
+slots_out m kept sound = each_slot (IsEntryOut m.stripes.items) m.slots.items kept (λ key part h. record {
+  place = home (world_of m) key;
+  out = held_out (world_of m) key part (sound.held key part (get-from_entries nat_list_cmp_total m.slots.items key ∙ h));
+})
 
 -- each join is joined
 pub joins_out : (w : WorldState) (joins : List JoinClaim) → AllWaitedFor w joins → All (IsJoinedIn w.stripes) joins
 joins_out w [] waited = All-nil (IsJoinedIn w.stripes)
-joins_out w (j ∷ js) waited =
-    All-cons (IsJoinedIn w.stripes) j js (any_at (λ s. has_joined j.session j.call j.key s.joiners ≡ true) w.stripes (home w j.key) waited.0.out) (joins_out w js waited.1)
+joins_out w (j ∷ js) waited = All-cons (IsJoinedIn w.stripes) j js (record { place = home w j.key; joined = waited.0.out }) (joins_out w js waited.1)

@@ -182,7 +182,8 @@ impl World {
         self.machine.audit(alloc)
     }
 
-    /// Ends the world. What it held is given up, and with it the tickets that are still out.
+    /// Ends the world. What it held is given up, and with it the tickets and joins that are still out: each is in one of the stripes
+    /// that end here.
     pub fn close(self) {
         let World { machine, played: _ } = self;
         machine.close();

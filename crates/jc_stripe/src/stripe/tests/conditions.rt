@@ -6,10 +6,12 @@ ghost use Rattle.jc_model.specs.Table.{load_given, write_given};
 ghost use Rattle.jc_reserve.specs.Reserving.{found_at};
 ghost use Rattle.jc_stripe.specs.Inside.{reserved_of};
 ghost use Rattle.jc_stripe.specs.State.{is_of, IsOut};
+ghost use Rattle.jc_stripe.specs.Closed.{IsOutIn, IsJoinedIn};
 ghost use Rattle.jc_stripe.specs.Refusals.{has_phases};
 ghost use Rattle.jc_stripe.specs.Phases.{MayBegin, is_beside, is_apart};
 ghost use Rattle.jc_stripe.specs.declared.ticket.Origin.TheVariants.{Played};
 
+use crate::closed::ClosedStripes;
 use crate::stripe::Stripe;
 use crate::ticket::{Caller, First, Note, Origin};
 use jc_inflight::joiner::Joiner;
@@ -110,6 +112,26 @@ pub(super) fn is_out(stripe: &Stripe, key: &Key, number: u64, first: &First) -> 
     let _types: Option<Change> = None;
     match stripe.reservations.find(key) {
         Some((there, note)) => there == number && note.first == *first,
+        None => false,
+    }
+}
+
+/// Whether a ticket is out in the first of these stripes.
+pub(super) fn is_out_in(closed: &ClosedStripes, key: &Key, number: u64, first: &First) -> bool
+    ensures { IsTrue result → IsOutIn closed.now (record { key = key.now; number = number }) first.now }
+{
+    match closed.stripes().first() {
+        Some(stripe) => is_out(stripe, key, number, first),
+        None => false,
+    }
+}
+
+/// Whether a call has joined a load in the first of these stripes.
+pub(super) fn is_joined_in(closed: &ClosedStripes, who: Caller, key: &Key) -> bool
+    ensures { IsTrue result → IsJoinedIn closed.now (record { session = who.session; call = who.number; key = key.now }) }
+{
+    match closed.stripes().first() {
+        Some(stripe) => stripe.joiners.has_joined(who.session, who.number, key),
         None => false,
     }
 }

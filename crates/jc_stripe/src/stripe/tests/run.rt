@@ -3,7 +3,7 @@ use crate::begun::{Begun, Picked};
 use crate::closed::ClosedStripes;
 use crate::stripe::Stripe;
 use crate::stripe::tests::conditions::{
-    is_loaded, is_out, is_phased, is_played, is_written, may_begin,
+    is_joined_in, is_loaded, is_out, is_out_in, is_phased, is_played, is_written, may_begin,
 };
 use crate::ticket::{
     Caller, First, Join, LoadTicket, Origin, WriteTicket, played_load, played_write,
@@ -195,30 +195,28 @@ impl Held {
 }
 
 impl Held {
-    /// It ends with its stripe, the one that is closed.
+    /// It ends with its stripe, which is closed.
     fn end(self, rt: &impl Abort, closed: &ClosedStripes) {
-        let Some(stripe) = closed.stripes().first() else {
-            panic!(rt; "a stripe is closed");
-        };
         match self {
             Held::Load(ticket) => {
                 let ask = ticket.ask();
-                let is_asked = is_out(stripe, &ask.key, ask.number, &First::Loader);
+                let is_asked = is_out_in(closed, &ask.key, ask.number, &First::Loader);
                 assert!(rt; is_asked, "{ask:?} is out");
                 closed.end_load(ticket);
             }
             Held::Write(ticket) => {
                 let ask = ticket.ask();
                 let first = First::Writer(ask.change);
-                let is_asked = is_out(stripe, &ask.key, ask.number, &first);
+                let is_asked = is_out_in(closed, &ask.key, ask.number, &first);
                 assert!(rt; is_asked, "{ask:?} is out");
                 closed.end_write(ticket);
             }
             Held::Join(join) => {
                 let who = join.caller();
-                let joiners = &stripe.joiners;
-                let is_there = joiners.has_joined(who.session, who.number, &join.key());
-                assert!(rt; is_there, "{who:?} has joined");
+                assert!(rt;
+                    is_joined_in(closed, who, &join.key()),
+                    "{who:?} has joined"
+                );
                 closed.end_join(join);
             }
         }
