@@ -180,28 +180,26 @@ fn keeps_no_new_entry_where_all_are_reserved(rt: HostRuntime) {
 #[test]
 fn keeps_no_new_entry_where_63_are_reserved(rt: HostRuntime) {
     let (one, five) = (value(&rt, 1), value(&rt, 5));
-    let writes = Told::Writes(Change::Write(five));
     let mut run = Run::new(&rt, rt.alloc(), &both(63, 400));
     for at in 100..163 {
         run.loads(&rt, &[at], &one);
     }
     for at in 100..163 {
         let replace = Act::Begin(Op::Replace(five));
+        let writes = Told::Writes(Change::Write(five));
         run.plays(&rt, "a reservation", &[(2, 1, at, replace, writes)]);
     }
-    let found = Act::Loaded(LoadAnswer::Found(one));
-    let told = done(Reply::Value(Some(one)), 63);
+    let found = &Act::Loaded(LoadAnswer::Found(one));
+    let had = &Reply::Value(Some(one));
     run.plays(
         &rt,
         "all are reserved",
-        &[(3, 1, b'A', GET, Told::Loads), (3, 1, b'A', found, told)],
+        &[
+            (3, 1, b'A', GET, Told::Loads),
+            (3, 1, b'A', *found, done(*had, 63)),
+        ],
     );
-    let new = key(&rt, b'A');
-    assert_eq!(rt; run.stripe.events().get(64), Some(&full(new)));
-    assert!(rt;
-        run.stripe.entries().iter().all(|e| e.0 != new),
-        "it isn't kept"
-    );
+    assert_eq!(rt; run.stripe.events().get(64), Some(&full(key(&rt, b'A'))));
     assert_eq!(rt; run.stripe.entries().len(), 63);
     run.plays(
         &rt,
@@ -209,7 +207,7 @@ fn keeps_no_new_entry_where_63_are_reserved(rt: HostRuntime) {
         &[
             (2, 1, 130, WITHDRAW, Told::Withdrawn),
             (3, 2, b'A', GET, Told::Loads),
-            (3, 2, b'A', found, done(Reply::Value(Some(one)), 66)),
+            (3, 2, b'A', *found, done(*had, 66)),
         ],
     );
     assert_eq!(rt; run.stripe.events().get(65), Some(&full(key(&rt, 130))));
