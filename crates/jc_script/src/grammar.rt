@@ -478,20 +478,20 @@ fn parse(alloc: Global, words: &[&[u8]]) -> Result<Line, ReadError>
     }
 }
 
-/// Whether each byte may stand in a line: a space (32) up to a tilde (126).
+/// Whether each byte may stand in a line: a space up to a tilde.
 fn all_plain(text: &[u8]) -> bool
     ensures { result ≡ list_all is_plain text.now }
 {
-    text.iter().all(|b| 32 <= *b && *b <= 126)
+    text.iter().all(|b| b' ' <= *b && *b <= b'~')
 }
 
-/// Whether a line asks for nothing: it is empty, or its first byte is # (35).
+/// Whether a line asks for nothing: it is empty, or its first byte is #.
 fn comment(text: &[u8]) -> bool
     ensures { result ≡ is_comment text.now }
 {
     match text {
         [] => true,
-        [first, ..] => *first == 35,
+        [first, ..] => *first == b'#',
     }
 }
 

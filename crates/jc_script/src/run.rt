@@ -41,11 +41,11 @@ pub enum RunFault {
     Write,
 }
 
-/// Where the first line feed (byte 10) stands.
+/// Where the first line feed stands.
 fn line_feed(bytes: &[u8]) -> Option<usize>
     ensures { result ≡ position (λ b. b == 10) bytes.now }
 {
-    bytes.iter().position(|b| *b == 10)
+    bytes.iter().position(|b| *b == b'\n')
 }
 
 /// The bytes before the first line feed, and those after it.

@@ -56,7 +56,7 @@ fn lines(alloc: Global, text: &str) -> Result<Vec<u8>, AllocError> {
     let mut all = Vec::new(alloc);
     for line in text.split("; ") {
         all.extend_from_slice(line.as_bytes())?;
-        all.push(10)?;
+        all.push(b'\n')?;
     }
     Ok(all)
 }

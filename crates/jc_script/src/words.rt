@@ -22,34 +22,33 @@ pub fn is(word: &[u8], text: &str) -> bool
 /// The room that the words of a line get at first: few lines have more.
 const WORDS_AT_FIRST: usize = 8;
 
-/// The words of a line, which spaces (byte 32) part: two spaces together have an empty word between them.
+/// The words of a line, which spaces part: two spaces together have an empty word between them.
 pub fn words(alloc: Global, line: &[u8]) -> Result<Vec<&[u8]>, AllocError>
     ensures { IfOk result (λ words. map (λ w. w.now) words.items ≡ words_of line.now) }
 {
     let mut words = Vec::with_capacity(alloc, WORDS_AT_FIRST)?;
-    words.extend(line.split(|b| *b == 32))?;
+    words.extend(line.split(|b| *b == b' '))?;
     Ok(words)
 }
 
-/// Whether a byte may stand in a key or a value: A to Z (65 to 90), a to z (97 to 122), 0 to 9 (48 to 57), a low line (95), a
-/// dot (46).
+/// Whether a byte may stand in a key or a value: A to Z, a to z, 0 to 9, a low line, a dot.
 fn letter(b: u8) -> bool
     ensures { result ≡ is_letter b }
 {
-    (65 <= b && b <= 90) || (97 <= b && b <= 122) || (48 <= b && b <= 57) || b == 95 || b == 46
+    matches!(b, b'A'..=b'Z' | b'a'..=b'z' | b'0'..=b'9' | b'_' | b'.')
 }
 
-/// The number that digits spell, 0 (byte 48) to 9 (byte 57), up to 999999999.
+/// The number that digits spell, up to 999999999.
 fn digits(word: &[u8]) -> Result<u32, Fault>
     ensures { result ≡ digits_from 0 word.now }
 {
     let mut n: u32 = 0;
     for b in word {
         let b = *b;
-        if b < 48 || 57 < b {
+        if b < b'0' || b'9' < b {
             return Err(Fault::BadNumber);
         }
-        let next = n as u64 * 10 + (b - 48) as u64;
+        let next = n as u64 * 10 + (b - b'0') as u64;
         if 999_999_999 < next {
             return Err(Fault::BadNumber);
         }
@@ -58,14 +57,14 @@ fn digits(word: &[u8]) -> Result<u32, Fault>
     Ok(n)
 }
 
-/// The number that a word says. It has no leading zero (byte 48), but for 0 itself.
+/// The number that a word says. It has no leading zero, but for 0 itself.
 pub fn number(word: &[u8]) -> Result<u32, Fault>
     ensures { result ≡ number_of word.now }
 {
     match word {
         [] => Err(Fault::BadNumber),
         [first, rest @ ..] => {
-            if *first == 48 && 0 < rest.len() {
+            if *first == b'0' && 0 < rest.len() {
                 return Err(Fault::BadNumber);
             }
             digits(word)
@@ -73,14 +72,14 @@ pub fn number(word: &[u8]) -> Result<u32, Fault>
     }
 }
 
-/// The session that a word says: an s (byte 115), and its number, from 1 to 32.
+/// The session that a word says: an s, and its number, from 1 to 32.
 pub fn caller(word: &[u8]) -> Result<u32, Fault>
     ensures { result ≡ caller_of word.now }
 {
     match word {
         [] => Err(Fault::BadCaller),
         [first, rest @ ..] => {
-            if *first != 115 {
+            if *first != b's' {
                 return Err(Fault::BadCaller);
             }
             match number(rest) {
@@ -151,12 +150,12 @@ pub fn value_or_none(word: &[u8]) -> Result<Option<Value>, Fault>
     }
 }
 
-/// Where the first equals sign (byte 61) stands.
+/// Where the first equals sign stands.
 fn equals_sign(word: &[u8]) -> Option<usize>
     ensures place { result ≡ equals_at word.now }
     ensures within { IfSome result (λ at. at < length word.now) }
 {
-    word.iter().position(|b| *b == 61)
+    word.iter().position(|b| *b == b'=')
 }
 
 fn front(at: Option<usize>, word: &[u8]) -> &[u8]

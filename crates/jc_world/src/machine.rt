@@ -453,6 +453,29 @@ impl Machine {
         }
     }
 
+    /// The loader reads the store, and returns what it has.
+    fn read(&mut self, call: u64, key: &Key) -> Shown
+        requires { fits self.old (event.Read call key.now) ≡ true }
+        ensures { Happens self.old (event.Read call key.now) result self.new }
+    {
+        let answer = answer_of(self.stored(key));
+        // Copied first: a value counts as moved by the call that takes it.
+        let kept = answer;
+        self.tell(call, key, answer);
+        Shown::Reads(kept)
+    }
+
+    /// The writer of a single-key call returns.
+    fn end_write(&mut self, call: u64, fault: Option<u32>) -> Shown
+        requires { fits self.old (event.Report call fault) ≡ true }
+        ensures { Happens self.old (event.Report call fault) result self.new }
+    {
+        let Some(u) = self.under(call).copied() else {
+            unreachable!()
+        };
+        Shown::Reported(self.report(call, &u.command.key, fault))
+    }
+
     /// One event that fits.
     fn happen(&mut self, event: &WorldEvent) -> Result<Shown, AllocError>
         requires sound { IsSoundWorld self.old }
@@ -470,13 +493,7 @@ impl Machine {
                 Ok(Shown::Begun)
             }
             WorldEvent::Start { call, key } => self.start(*call, key),
-            WorldEvent::Read { call, key } => {
-                let answer = answer_of(self.stored(key));
-                // Copied first: a value counts as moved by the call that takes it.
-                let kept = answer;
-                self.tell(*call, key, answer);
-                Ok(Shown::Reads(kept))
-            }
+            WorldEvent::Read { call, key } => Ok(self.read(*call, key)),
             WorldEvent::Say { call, key, answer } => {
                 self.tell(*call, key, *answer);
                 Ok(Shown::Says(*answer))
@@ -485,12 +502,7 @@ impl Machine {
                 self.change(*call, key)?;
                 Ok(Shown::Changed)
             }
-            WorldEvent::Report { call, fault } => {
-                let Some(u) = self.under(*call).copied() else {
-                    unreachable!()
-                };
-                Ok(Shown::Reported(self.report(*call, &u.command.key, *fault)))
-            }
+            WorldEvent::Report { call, fault } => Ok(self.end_write(*call, *fault)),
             WorldEvent::Commit { call, key } => self.end(*call, key),
             WorldEvent::Withdraw { call, key } => {
                 self.withdraw(*call, key);
