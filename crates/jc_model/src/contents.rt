@@ -119,48 +119,57 @@ impl Contents {
 #[cfg(test)]
 mod tests {
     use super::*;
+    use crate::tests::script::{are, entries, key, value};
+    use std::process::Abort;
     use std::test::Fail;
 
-    #[test]
-    fn keeps_byte_order(rt: HostRuntime) -> Result<(), Fail> {
-        let upper = Key::new(b"B").expect(&rt, "a key");
-        let short = Key::new(b"a").expect(&rt, "a key");
-        let long = Key::new(b"ab").expect(&rt, "a key");
-        let one = Value::new(b"1").expect(&rt, "a value");
-        let two = Value::new(b"2").expect(&rt, "a value");
-        let mut contents = Contents::new(rt.alloc());
-        assert!(rt; contents.is_empty());
-        for (key, value) in [(long, one), (upper, one), (short, two), (long, two)] {
-            contents.set(&key, Some(value))?;
+    /// Sets the entries that pairs say, in turn.
+    fn set_all(
+        rt: &impl Abort,
+        alloc: Global,
+        contents: &mut Contents,
+        text: &str,
+    ) -> Result<(), AllocError> {
+        for entry in &entries(rt, alloc, text)? {
+            contents.set(&entry.0, Some(entry.1))?;
         }
-        let entries = contents.entries(rt.alloc())?;
-        assert_eq!(rt;
-            entries.as_slice(),
-            [(upper, one), (short, two), (long, two)].as_slice()
-        );
+        Ok(())
+    }
+
+    /// Takes the key a out, twice, where there are two others.
+    fn forget(rt: &impl Abort, contents: &mut Contents) -> Result<(), AllocError> {
+        let short = key("a").expect(rt, "a key");
         contents.set(&short, None)?;
         contents.set(&short, None)?;
         assert_eq!(rt; contents.len(), 2);
         assert_eq!(rt; contents.get(&short), None);
-        assert_eq!(rt; contents.get(&long), Some(two));
-        let mut listed = Vec::from_slice(rt.alloc(), [(short, one)].as_slice())?;
-        contents.append_to(&mut listed)?;
-        assert_eq!(rt;
-            listed.as_slice(),
-            [(short, one), (upper, one), (long, two)].as_slice()
-        );
         Ok(())
+    }
+
+    /// Asserts that the entries are those that pairs say, in this order.
+    fn hold(rt: &impl Abort, alloc: Global, contents: &Contents, text: &str) -> Result<(), Fail> {
+        are(rt, alloc, &contents.entries(alloc)?, text)
+    }
+
+    #[test]
+    fn keeps_byte_order(rt: HostRuntime) -> Result<(), Fail> {
+        let alloc = rt.alloc();
+        let mut contents = Contents::new(alloc);
+        assert!(rt; contents.is_empty());
+        set_all(&rt, alloc, &mut contents, "ab=1 B=1 a=2 ab=2")?;
+        hold(&rt, alloc, &contents, "B=1 a=2 ab=2")?;
+        forget(&rt, &mut contents)?;
+        let long = key("ab").expect(&rt, "a key");
+        assert_eq!(rt; contents.get(&long), value("2"));
+        let mut listed = entries(&rt, alloc, "a=1")?;
+        contents.append_to(&mut listed)?;
+        are(&rt, alloc, &listed, "a=1 B=1 ab=2")
     }
 
     #[test]
     fn first_of_a_repeated_key_counts(rt: HostRuntime) -> Result<(), Fail> {
-        let a = Key::new(b"a").expect(&rt, "a key");
-        let b = Key::new(b"b").expect(&rt, "a key");
-        let one = Value::new(b"1").expect(&rt, "a value");
-        let two = Value::new(b"2").expect(&rt, "a value");
-        let contents = Contents::of(rt.alloc(), [(b, one), (a, two), (b, two)].as_slice())?;
-        let entries = contents.entries(rt.alloc())?;
-        assert_eq!(rt; entries.as_slice(), [(a, two), (b, one)].as_slice());
-        Ok(())
+        let alloc = rt.alloc();
+        let contents = Contents::of(alloc, &entries(&rt, alloc, "b=1 a=2 b=2")?)?;
+        hold(&rt, alloc, &contents, "a=2 b=1")
     }
 }

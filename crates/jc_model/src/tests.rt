@@ -1,6 +1,7 @@
 //! Histories that `legal` accepts and spoiled ones that it refuses, and the operation table once.
 mod callers;
 mod evictions;
+pub(crate) mod script;
 mod shapes;
 mod shared;
 mod steps;
@@ -51,54 +52,4 @@ fn step((session, number): (u32, u64), op: &Op, key: &Key, out: &Out, reply: &Re
         shared_with: None,
         reply: *reply,
     }
-}
-
-/// A step that shares the load of the step at a place.
-fn joined(
-    (session, number): (u32, u64),
-    place: u32,
-    op: &Op,
-    key: &Key,
-    out: &Out,
-    reply: &Reply,
-) -> Event {
-    Event::Step {
-        session,
-        number,
-        op: *op,
-        key: *key,
-        out: *out,
-        shared_with: Some(place),
-        reply: *reply,
-    }
-}
-
-/// A `Get` of an entry that is there.
-fn hit(caller: (u32, u64), key: &Key, value: &Value) -> Event {
-    step(
-        caller,
-        &Op::Get,
-        key,
-        &silent(),
-        &Reply::Value(Some(*value)),
-    )
-}
-
-/// A `Put` where write-through is off.
-fn put(caller: (u32, u64), key: &Key, value: &Value) -> Event {
-    step(caller, &Op::Put(*value), key, &silent(), &Reply::Unit)
-}
-
-/// Asserts whether the events are a legal history.
-fn expect(
-    rt: &impl Abort,
-    alloc: Global,
-    is_legal: bool,
-    what: &str,
-    config: &Config,
-    opening: &[(Key, Value)],
-    events: &[Event],
-) -> Result<(), Fail> {
-    assert_eq!(rt; legal(alloc, config, opening, events)?, is_legal, "{what}");
-    Ok(())
 }

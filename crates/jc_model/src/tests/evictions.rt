@@ -1,209 +1,323 @@
 //! Evictions from a stripe with room for two entries.
+use super::script::all_judged;
 use super::*;
-use crate::event::Cause;
 
-fn full(key: &Key) -> Event {
-    Event::Evict {
-        key: *key,
-        cause: Cause::Full,
-    }
-}
-
-fn memory(key: &Key) -> Event {
-    Event::Evict {
-        key: *key,
-        cause: Cause::Memory,
-    }
-}
-
-fn contains(caller: (u32, u64), key: &Key, is_there: bool) -> Event {
-    step(
-        caller,
-        &Op::ContainsKey,
-        key,
-        &silent(),
-        &Reply::Flag(is_there),
-    )
-}
+const NEW_ENTRIES: &str = "\
+a victim
+open 1 2 100
+set a 1
+set b 1
+evict a full
+1 s1 put c 1, is ok
+history 2 legal
+==
+the other victim
+open 1 2 100
+set a 1
+set b 1
+evict b full
+1 s1 put c 1, is ok
+history 2 legal
+==
+a victim that isn't there
+open 1 2 100
+set a 1
+set b 1
+evict c full
+1 s1 put b 1, is ok
+history 2 illegal
+==
+the step's own key
+open 1 2 100
+set a 1
+set b 1
+evict b full
+1 s1 put b 1, is ok
+history 2 illegal
+==
+the step's own new key
+open 1 2 100
+set a 1
+set b 1
+evict c full
+1 s1 put c 1, is ok
+history 2 illegal
+==
+a stripe that isn't full
+open 1 2 100
+set a 1
+evict a full
+1 s1 put c 1, is ok
+history 2 illegal
+==
+an empty stripe
+open 1 2 100
+evict a full
+1 s1 put c 1, is ok
+history 2 illegal
+==
+a step that overwrites
+open 1 2 100
+set a 1
+set b 1
+evict a full
+1 s1 put b 1, is ok
+history 2 illegal
+==
+a step that reads
+open 1 2 100
+set a 1
+set b 1
+evict a full
+1 s1 contains c, is false
+history 2 illegal
+==
+a step that removes none
+open 1 2 100
+set a 1
+set b 1
+evict a full
+1 s1 remove c, is false
+history 2 illegal
+==
+for want of memory
+open 1 2 100
+set a 1
+set b 1
+evict a memory
+1 s1 put c 1, is ok
+history 2 illegal
+";
 
 #[test]
 fn evicts_for_a_new_entry(rt: HostRuntime) -> Result<(), Fail> {
-    let a = Key::new(b"a")?;
-    let b = Key::new(b"b")?;
-    let c = Key::new(b"c")?;
-    let one = Value::new(b"1")?;
-    let held = [(a, one), (b, one)];
-    let add = &put((1, 1), &c, &one);
-    let again = &put((1, 1), &b, &one);
-    let missed = &contains((1, 1), &c, false);
-    let took = &step((1, 1), &Op::Remove, &c, &silent(), &Reply::Flag(false));
-    for (what, is_legal, entries, victim, event) in [
-        ("a victim", true, 2, full(&a), *add),
-        ("the other victim", true, 2, full(&b), *add),
-        ("a victim that isn't there", false, 2, full(&c), *again),
-        ("the step's own key", false, 2, full(&b), *again),
-        ("the step's own new key", false, 2, full(&c), *add),
-        ("a stripe that isn't full", false, 1, full(&a), *add),
-        ("an empty stripe", false, 0, full(&a), *add),
-        ("a step that overwrites", false, 2, full(&a), *again),
-        ("a step that reads", false, 2, full(&a), *missed),
-        ("a step that removes none", false, 2, full(&a), *took),
-        ("for want of memory", false, 2, memory(&a), *add),
-    ] {
-        let opening = held.get(..entries).unwrap_or(&held);
-        let events = [victim, event];
-        expect(
-            &rt,
-            rt.alloc(),
-            is_legal,
-            what,
-            &shape(false, false),
-            opening,
-            &events,
-        )?;
-    }
-    Ok(())
+    all_judged(&rt, rt.alloc(), NEW_ENTRIES)
 }
+
+const ROOM: &str = "\
+nobody goes
+open 1 2 100
+set a 1
+set b 1
+1 s1 put c 1, is ok
+history 1 illegal
+==
+a victim alone
+open 1 2 100
+set a 1
+set b 1
+evict a full
+history 1 illegal
+==
+a victim at the end
+open 1 2 100
+set a 1
+set b 1
+evict a full
+1 s1 put c 1, is ok
+evict b full
+history 3 illegal
+==
+two victims
+open 1 2 100
+set a 1
+set b 1
+evict a full
+evict b full
+1 s1 put c 1, is ok
+history 3 illegal
+==
+the victim is gone
+open 1 2 100
+set a 1
+set b 1
+evict a full
+1 s1 put c 1, is ok
+2 s1 contains a, is false
+history 3 legal
+==
+the victim is there
+open 1 2 100
+set a 1
+set b 1
+evict a full
+1 s1 put c 1, is ok
+2 s1 contains a, is true
+history 3 illegal
+==
+the next victim
+open 1 2 100
+set a 1
+set b 1
+evict a full
+1 s1 put c 1, is ok
+evict c full
+2 s1 put a 1, is ok
+history 4 legal
+";
 
 #[test]
 fn evicts_once_and_makes_room(rt: HostRuntime) -> Result<(), Fail> {
-    let a = Key::new(b"a")?;
-    let b = Key::new(b"b")?;
-    let c = Key::new(b"c")?;
-    let one = Value::new(b"1")?;
-    let held = [(a, one), (b, one)];
-    let add = &put((1, 1), &c, &one);
-    let first = &full(&a);
-    let gone = &contains((1, 2), &a, false);
-    let there = &contains((1, 2), &a, true);
-    for (what, is_legal, events) in [
-        ("nobody goes", false, &[*add][..]),
-        ("a victim alone", false, &[*first][..]),
-        ("a victim at the end", false, &[*first, *add, full(&b)][..]),
-        ("two victims", false, &[*first, full(&b), *add][..]),
-        ("the victim is gone", true, &[*first, *add, *gone][..]),
-        ("the victim is there", false, &[*first, *add, *there][..]),
-        (
-            "the next victim",
-            true,
-            &[*first, *add, full(&c), put((1, 2), &a, &one)][..],
-        ),
-    ] {
-        expect(
-            &rt,
-            rt.alloc(),
-            is_legal,
-            what,
-            &shape(false, false),
-            &held,
-            events,
-        )?;
-    }
-    Ok(())
+    all_judged(&rt, rt.alloc(), ROOM)
 }
+
+const INSERTED: &str = "\
+from a full stripe
+open 1 2 100
+set a 1
+set b 1
+1 s1 put c 1, is ok
+evict c full
+2 s1 contains c, is false
+history 3 legal
+==
+it is gone
+open 1 2 100
+set a 1
+set b 1
+1 s1 put c 1, is ok
+evict c full
+2 s1 contains c, is true
+history 3 illegal
+==
+another key
+open 1 2 100
+set a 1
+set b 1
+1 s1 put c 1, is ok
+evict a full
+history 2 illegal
+==
+from one with room
+open 1 2 100
+set a 1
+1 s1 put c 1, is ok
+evict c full
+history 2 illegal
+==
+from one with a victim
+open 1 2 100
+set a 1
+set b 1
+evict a full
+1 s1 put c 1, is ok
+evict c full
+history 3 illegal
+==
+without an insertion
+open 1 2 100
+set a 1
+set b 1
+1 s1 put b 1, is ok
+evict b full
+history 2 illegal
+==
+twice
+open 1 2 100
+set a 1
+set b 1
+1 s1 put c 1, is ok
+evict c full
+evict c full
+history 3 illegal
+==
+no memory
+open 1 2 100
+set a 1
+1 s1 put c 1, is ok
+evict c memory
+2 s1 contains c, is false
+history 3 legal
+==
+no memory, and full
+open 1 2 100
+set a 1
+set b 1
+1 s1 put c 1, is ok
+evict c memory
+2 s1 contains c, is false
+history 3 legal
+==
+no memory, and a victim
+open 1 2 100
+set a 1
+set b 1
+evict a full
+1 s1 put c 1, is ok
+evict c memory
+2 s1 contains c, is false
+history 4 legal
+==
+no memory, and it stays
+open 1 2 100
+set a 1
+1 s1 put c 1, is ok
+evict c memory
+2 s1 contains c, is true
+history 3 illegal
+==
+no memory for another
+open 1 2 100
+set a 1
+1 s1 put c 1, is ok
+evict a memory
+history 2 illegal
+==
+no memory to overwrite
+open 1 2 100
+set a 1
+set b 1
+1 s1 put b 1, is ok
+evict b memory
+history 2 illegal
+==
+no memory, and no step
+open 1 2 100
+set a 1
+set b 1
+evict b memory
+history 1 illegal
+";
 
 #[test]
 fn evicts_what_it_inserted(rt: HostRuntime) -> Result<(), Fail> {
-    let a = Key::new(b"a")?;
-    let b = Key::new(b"b")?;
-    let c = Key::new(b"c")?;
-    let one = Value::new(b"1")?;
-    let held = [(a, one), (b, one)];
-    let add = &put((1, 1), &c, &one);
-    let again = &put((1, 1), &b, &one);
-    let gone = &contains((1, 2), &c, false);
-    let there = &contains((1, 2), &c, true);
-    for (what, is_legal, entries, events) in [
-        ("from a full stripe", true, 2, &[*add, full(&c), *gone][..]),
-        ("it is gone", false, 2, &[*add, full(&c), *there][..]),
-        ("another key", false, 2, &[*add, full(&a)][..]),
-        ("from one with room", false, 1, &[*add, full(&c)][..]),
-        (
-            "from one with a victim",
-            false,
-            2,
-            &[full(&a), *add, full(&c)][..],
-        ),
-        ("without an insertion", false, 2, &[*again, full(&b)][..]),
-        ("twice", false, 2, &[*add, full(&c), full(&c)][..]),
-        ("no memory", true, 1, &[*add, memory(&c), *gone][..]),
-        (
-            "no memory, and full",
-            true,
-            2,
-            &[*add, memory(&c), *gone][..],
-        ),
-        (
-            "no memory, and a victim",
-            true,
-            2,
-            &[full(&a), *add, memory(&c), *gone][..],
-        ),
-        (
-            "no memory, and it stays",
-            false,
-            1,
-            &[*add, memory(&c), *there][..],
-        ),
-        ("no memory for another", false, 1, &[*add, memory(&a)][..]),
-        (
-            "no memory to overwrite",
-            false,
-            2,
-            &[*again, memory(&b)][..],
-        ),
-        ("no memory, and no step", false, 2, &[memory(&b)][..]),
-    ] {
-        let opening = held.get(..entries).unwrap_or(&held);
-        expect(
-            &rt,
-            rt.alloc(),
-            is_legal,
-            what,
-            &shape(false, false),
-            opening,
-            events,
-        )?;
-    }
-    Ok(())
+    all_judged(&rt, rt.alloc(), INSERTED)
 }
 
 // A key is loaded into a full stripe whose other entries are reserved, two callers share the load, and the new entry goes
 // at once.
+const SHARED: &str = "\
+behind all who share
+open 1 2 100 read write
+set a 1
+set b 1
+1 s1 get c, read 1, is 1
+2 s2 get c, read 1, is 1 shared 0
+3 s3 get c, read 1, is 1 shared 0
+evict c full
+history 4 legal
+==
+between those who share
+open 1 2 100 read write
+set a 1
+set b 1
+1 s1 get c, read 1, is 1
+2 s2 get c, read 1, is 1 shared 0
+evict c full
+3 s3 get c, read 1, is 1 shared 0
+history 4 illegal
+==
+not at all
+open 1 2 100 read write
+set a 1
+set b 1
+1 s1 get c, read 1, is 1
+2 s2 get c, read 1, is 1 shared 0
+3 s3 get c, read 1, is 1 shared 0
+history 3 illegal
+";
+
 #[test]
 fn evicts_behind_a_shared_load(rt: HostRuntime) -> Result<(), Fail> {
-    let a = Key::new(b"a")?;
-    let b = Key::new(b"b")?;
-    let c = Key::new(b"c")?;
-    let one = Value::new(b"1")?;
-    let held = [(a, one), (b, one)];
-    let found = &said(LoadAnswer::Found(one), WriteAnswer::NotAsked);
-    let had = &Reply::Value(Some(one));
-    let load = &step((1, 1), &Op::Get, &c, found, had);
-    let second = &joined((2, 2), 0, &Op::Get, &c, found, had);
-    let third = &joined((3, 3), 0, &Op::Get, &c, found, had);
-    for (what, is_legal, events) in [
-        (
-            "behind all who share",
-            true,
-            &[*load, *second, *third, full(&c)][..],
-        ),
-        (
-            "between those who share",
-            false,
-            &[*load, *second, full(&c), *third][..],
-        ),
-        ("not at all", false, &[*load, *second, *third][..]),
-    ] {
-        expect(
-            &rt,
-            rt.alloc(),
-            is_legal,
-            what,
-            &shape(true, true),
-            &held,
-            events,
-        )?;
-    }
-    Ok(())
+    all_judged(&rt, rt.alloc(), SHARED)
 }

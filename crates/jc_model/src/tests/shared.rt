@@ -1,293 +1,352 @@
 //! Loads that several callers share, and what they see of a put.
+use super::script::all_judged;
 use super::*;
-use crate::event::Effect;
-use jc_types::config::Refusal;
 
 // A load answers, and its value is seen while a put is out; the put commits, and then the new value is seen.
+const PUT: &str = "\
+the run
+open 1 2 100 read write
+1 s1 get a, read 1, is 1
+3 s2 get a, is 1
+2 s1 put a 2, apply, is ok
+4 s2 get a, is 2
+history 4 legal
+==
+the load replies another value
+open 1 2 100 read write
+1 s1 get a, read 1, is 2
+3 s2 get a, is 1
+2 s1 put a 2, apply, is ok
+4 s2 get a, is 2
+history 4 illegal
+==
+the put is seen too early
+open 1 2 100 read write
+1 s1 get a, read 1, is 1
+3 s2 get a, is 2
+2 s1 put a 2, apply, is ok
+4 s2 get a, is 2
+history 4 illegal
+==
+the put replies another thing
+open 1 2 100 read write
+1 s1 get a, read 1, is 1
+3 s2 get a, is 1
+2 s1 put a 2, apply, is true
+4 s2 get a, is 2
+history 4 illegal
+==
+the put is never seen
+open 1 2 100 read write
+1 s1 get a, read 1, is 1
+3 s2 get a, is 1
+2 s1 put a 2, apply, is ok
+4 s2 get a, is 1
+history 4 illegal
+==
+the put stands too early
+open 1 2 100 read write
+1 s1 get a, read 1, is 1
+2 s1 put a 2, apply, is ok
+3 s2 get a, is 1
+4 s2 get a, is 2
+history 4 illegal
+";
+
 #[test]
 fn put_seen_after_commit(rt: HostRuntime) -> Result<(), Fail> {
-    let a = Key::new(b"a")?;
-    let one = Value::new(b"1")?;
-    let two = Value::new(b"2")?;
-    let found = said(LoadAnswer::Found(one), WriteAnswer::NotAsked);
-    let done = said(LoadAnswer::NotAsked, WriteAnswer::Done);
-    let put_two = Op::Put(two);
-    let load = &step((1, 1), &Op::Get, &a, &found, &Reply::Value(Some(one)));
-    let during = &hit((2, 3), &a, &one);
-    let commit = &step((1, 2), &put_two, &a, &done, &Reply::Unit);
-    let after = &hit((2, 4), &a, &two);
-    let load_two = &step((1, 1), &Op::Get, &a, &found, &Reply::Value(Some(two)));
-    let during_two = &hit((2, 3), &a, &two);
-    let commit_false = &step((1, 2), &put_two, &a, &done, &Reply::Flag(true));
-    let after_one = &hit((2, 4), &a, &one);
-    for (what, is_legal, events) in [
-        ("the run", true, &[*load, *during, *commit, *after][..]),
-        (
-            "the load replies another value",
-            false,
-            &[*load_two, *during, *commit, *after][..],
-        ),
-        (
-            "the put is seen too early",
-            false,
-            &[*load, *during_two, *commit, *after][..],
-        ),
-        (
-            "the put replies another thing",
-            false,
-            &[*load, *during, *commit_false, *after][..],
-        ),
-        (
-            "the put is never seen",
-            false,
-            &[*load, *during, *commit, *after_one][..],
-        ),
-        (
-            "the put stands too early",
-            false,
-            &[*load, *commit, *during, *after][..],
-        ),
-    ] {
-        expect(
-            &rt,
-            rt.alloc(),
-            is_legal,
-            what,
-            &shape(true, true),
-            &[],
-            events,
-        )?;
-    }
-    Ok(())
+    all_judged(&rt, rt.alloc(), PUT)
 }
+
+// Each run is lawful, but neither without read-through, nor where there is an entry and so no load.
+const LOADED: &str = "\
+a value
+open 1 2 100 read write
+1 s1 get a, read 1, is 1
+2 s2 get a, read 1, is 1 shared 0
+3 s3 clear a, is ok
+history 3 legal
+==
+a value, no read-through
+open 1 2 100 write
+1 s1 get a, read 1, is 1
+2 s2 get a, read 1, is 1 shared 0
+3 s3 clear a, is ok
+history 3 illegal
+==
+a value, no load
+open 1 2 100 read write
+set a 1
+1 s1 get a, read 1, is 1
+2 s2 get a, read 1, is 1 shared 0
+3 s3 clear a, is ok
+history 3 illegal
+==
+nothing
+open 1 2 100 read write
+1 s1 get a, read -, is -
+2 s2 get a, read -, is - shared 0
+3 s3 clear a, is ok
+history 3 legal
+==
+nothing, no read-through
+open 1 2 100 write
+1 s1 get a, read -, is -
+2 s2 get a, read -, is - shared 0
+3 s3 clear a, is ok
+history 3 illegal
+==
+nothing, no load
+open 1 2 100 read write
+set a 1
+1 s1 get a, read -, is -
+2 s2 get a, read -, is - shared 0
+3 s3 clear a, is ok
+history 3 illegal
+==
+a fault
+open 1 2 100 read write
+1 s1 get a, readfail 7, is LoaderFailed 7
+2 s2 get a, readfail 7, is LoaderFailed 7 shared 0
+3 s3 clear a, is ok
+history 3 legal
+==
+a fault, no read-through
+open 1 2 100 write
+1 s1 get a, readfail 7, is LoaderFailed 7
+2 s2 get a, readfail 7, is LoaderFailed 7 shared 0
+3 s3 clear a, is ok
+history 3 illegal
+==
+a fault, no load
+open 1 2 100 read write
+set a 1
+1 s1 get a, readfail 7, is LoaderFailed 7
+2 s2 get a, readfail 7, is LoaderFailed 7 shared 0
+3 s3 clear a, is ok
+history 3 illegal
+==
+of a loadAll
+open 1 2 100 read write
+1 s1 loadall keep a, read 1, is ok
+2 s2 get a, read 1, is 1 shared 0
+3 s3 clear a, is ok
+history 3 legal
+==
+of a loadAll, no read-through
+open 1 2 100 write
+1 s1 loadall keep a, read 1, is ok
+2 s2 get a, read 1, is 1 shared 0
+3 s3 clear a, is ok
+history 3 illegal
+==
+of a loadAll, no load
+open 1 2 100 read write
+set a 1
+1 s1 loadall keep a, read 1, is ok
+2 s2 get a, read 1, is 1 shared 0
+3 s3 clear a, is ok
+history 3 illegal
+==
+of a loadAll that replaces
+open 1 2 100 read write
+1 s1 loadall replace a, read -, is ok
+2 s2 get a, read -, is - shared 0
+3 s3 clear a, is ok
+history 3 legal
+==
+of a loadAll that replaces, no read-through
+open 1 2 100 write
+1 s1 loadall replace a, read -, is ok
+2 s2 get a, read -, is - shared 0
+3 s3 clear a, is ok
+history 3 illegal
+==
+of a loadAll that replaces, no load
+open 1 2 100 read write
+set a 1
+1 s1 loadall replace a, read -, is ok
+2 s2 get a, read -, is - shared 0
+3 s3 clear a, is ok
+history 3 illegal
+";
 
 #[test]
 fn shares_what_was_loaded(rt: HostRuntime) -> Result<(), Fail> {
-    let a = Key::new(b"a")?;
-    let one = Value::new(b"1")?;
-    let found = &said(LoadAnswer::Found(one), WriteAnswer::NotAsked);
-    let nothing = &said(LoadAnswer::Nothing, WriteAnswer::NotAsked);
-    let failed = &said(LoadAnswer::Failed(7), WriteAnswer::NotAsked);
-    let fault = &Reply::Fault(Refusal::LoaderFailed(7));
-    let none = &Reply::Value(None);
-    let had = &Reply::Value(Some(one));
-    for (what, op, out, reply, shown) in [
-        ("a value", &Op::Get, found, had, had),
-        ("nothing", &Op::Get, nothing, none, none),
-        ("a fault", &Op::Get, failed, fault, fault),
-        (
-            "of a loadAll",
-            &Op::LoadAll(false),
-            found,
-            &Reply::Unit,
-            had,
-        ),
-        (
-            "of a loadAll that replaces",
-            &Op::LoadAll(true),
-            nothing,
-            &Reply::Unit,
-            none,
-        ),
-    ] {
-        let run = [
-            step((1, 1), op, &a, out, reply),
-            joined((2, 2), 0, &Op::Get, &a, out, shown),
-            step((3, 3), &Op::Clear, &a, &silent(), &Reply::Unit),
-        ];
-        expect(&rt, rt.alloc(), true, what, &shape(true, true), &[], &run)?;
-        expect(
-            &rt,
-            rt.alloc(),
-            false,
-            "no read-through",
-            &shape(false, true),
-            &[],
-            &run,
-        )?;
-        expect(
-            &rt,
-            rt.alloc(),
-            false,
-            "no load",
-            &shape(true, true),
-            &[(a, one)],
-            &run,
-        )?;
-    }
-    Ok(())
+    all_judged(&rt, rt.alloc(), LOADED)
 }
+
+const NOTHING_ELSE: &str = "\
+the load
+open 1 2 100 read write
+1 s1 get a, read 1, is 1
+2 s2 get a, read 1, is 1 shared 0
+history 2 legal
+==
+another place
+open 1 2 100 read write
+1 s1 get a, read 1, is 1
+2 s2 get a, read 1, is 1 shared 1
+history 2 illegal
+==
+another key
+open 1 2 100 read write
+1 s1 get a, read 1, is 1
+2 s2 get b, read 1, is 1 shared 0
+history 2 illegal
+==
+no get
+open 1 2 100 read write
+1 s1 get a, read 1, is 1
+2 s2 contains a, read 1, is true shared 0
+history 2 illegal
+==
+no get but a load
+open 1 2 100 read write
+1 s1 get a, read 1, is 1
+2 s2 loadall keep a, read 1, is ok shared 0
+history 2 illegal
+==
+another answer
+open 1 2 100 read write
+1 s1 get a, read 1, is 1
+2 s2 get a, read -, is - shared 0
+history 2 illegal
+==
+nobody asked
+open 1 2 100 read write
+1 s1 get a, read 1, is 1
+2 s2 get a, is 1 shared 0
+history 2 illegal
+==
+the writer
+open 1 2 100 read write
+1 s1 get a, read 1, is 1
+2 s2 get a, read 1, apply, is 1 shared 0
+history 2 illegal
+==
+a processor
+open 1 2 100 read write
+1 s1 get a, read 1, is 1
+2 s2 get a, read 1, process fail=1, is 1 shared 0
+history 2 illegal
+==
+another reply
+open 1 2 100 read write
+1 s1 get a, read 1, is 1
+2 s2 get a, read 1, is - shared 0
+history 2 illegal
+";
 
 #[test]
 fn shares_nothing_else(rt: HostRuntime) -> Result<(), Fail> {
-    let a = Key::new(b"a")?;
-    let b = Key::new(b"b")?;
-    let one = Value::new(b"1")?;
-    let get = &Op::Get;
-    let had = &Reply::Value(Some(one));
-    let none = &Reply::Value(None);
-    let found = &said(LoadAnswer::Found(one), WriteAnswer::NotAsked);
-    let written = &said(LoadAnswer::Found(one), WriteAnswer::Done);
-    let other = &said(LoadAnswer::Nothing, WriteAnswer::NotAsked);
-    let nobody = &silent();
-    let processed = &Out {
-        load: LoadAnswer::Found(one),
-        write: WriteAnswer::NotAsked,
-        process: ProcessAnswer::Failed(1),
-    };
-    for (what, is_legal, place, op, key, out, reply) in [
-        ("the load", true, 0, get, &a, found, had),
-        ("another place", false, 1, get, &a, found, had),
-        ("another key", false, 0, get, &b, found, had),
-        (
-            "no get",
-            false,
-            0,
-            &Op::ContainsKey,
-            &a,
-            found,
-            &Reply::Flag(true),
-        ),
-        (
-            "no get but a load",
-            false,
-            0,
-            &Op::LoadAll(false),
-            &a,
-            found,
-            &Reply::Unit,
-        ),
-        ("another answer", false, 0, get, &a, other, none),
-        ("nobody asked", false, 0, get, &a, nobody, had),
-        ("the writer", false, 0, get, &a, written, had),
-        ("a processor", false, 0, get, &a, processed, had),
-        ("another reply", false, 0, get, &a, found, none),
-    ] {
-        let events = [
-            step((1, 1), &Op::Get, &a, found, had),
-            joined((2, 2), place, op, key, out, reply),
-        ];
-        expect(
-            &rt,
-            rt.alloc(),
-            is_legal,
-            what,
-            &shape(true, true),
-            &[],
-            &events,
-        )?;
-    }
-    Ok(())
+    all_judged(&rt, rt.alloc(), NOTHING_ELSE)
 }
+
+const GROUPS: &str = "\
+in its group
+open 1 2 100 read write
+1 s1 get a, read 1, is 1
+2 s2 get a, read 1, is 1 shared 0
+2 s1 get b, read 1, is 1
+history 3 legal
+==
+behind it
+open 1 2 100 read write
+1 s1 get a, read 1, is 1
+2 s1 get b, read 1, is 1
+2 s2 get a, read 1, is 1 shared 0
+history 3 illegal
+==
+before it
+open 1 2 100 read write
+2 s2 get a, read 1, is 1 shared 0
+1 s1 get a, read 1, is 1
+2 s1 get b, read 1, is 1
+history 3 illegal
+";
 
 #[test]
 fn shares_a_load_in_its_group(rt: HostRuntime) -> Result<(), Fail> {
-    let a = Key::new(b"a")?;
-    let b = Key::new(b"b")?;
-    let one = Value::new(b"1")?;
-    let found = &said(LoadAnswer::Found(one), WriteAnswer::NotAsked);
-    let had = &Reply::Value(Some(one));
-    let load = &step((1, 1), &Op::Get, &a, found, had);
-    let join = &joined((2, 2), 0, &Op::Get, &a, found, had);
-    let next = &step((1, 2), &Op::Get, &b, found, had);
-    for (what, is_legal, events) in [
-        ("in its group", true, &[*load, *join, *next][..]),
-        ("behind it", false, &[*load, *next, *join][..]),
-        ("before it", false, &[*join, *load, *next][..]),
-    ] {
-        expect(
-            &rt,
-            rt.alloc(),
-            is_legal,
-            what,
-            &shape(true, true),
-            &[],
-            events,
-        )?;
-    }
-    Ok(())
+    all_judged(&rt, rt.alloc(), GROUPS)
 }
+
+// The first step of each is lawful alone.
+const OTHER_STEPS: &str = "\
+a load, alone
+open 1 2 100 read write
+1 s1 get a, read 1, is 1
+history 1 legal
+==
+a load
+open 1 2 100 read write
+1 s1 get a, read 1, is 1
+2 s2 get a, read 1, is 1 shared 0
+history 2 legal
+==
+a hit, alone
+open 1 2 100 read write
+set a 1
+1 s1 get a, is 1
+history 1 legal
+==
+a hit
+open 1 2 100 read write
+set a 1
+1 s1 get a, is 1
+2 s2 get a, read 1, is 1 shared 0
+history 2 illegal
+==
+a hit, and nobody was asked, alone
+open 1 2 100 read write
+set a 1
+1 s1 get a, is 1
+history 1 legal
+==
+a hit, and nobody was asked
+open 1 2 100 read write
+set a 1
+1 s1 get a, is 1
+2 s2 get a, is 1 shared 0
+history 2 illegal
+==
+a loadAll of none, alone
+open 1 2 100 read write
+1 s1 loadall replace a, read 1, is ok
+history 1 legal
+==
+a loadAll of none
+open 1 2 100 read write
+1 s1 loadall replace a, read 1, is ok
+2 s2 get a, read 1, is 1 shared 0
+history 2 legal
+==
+a loadAll of one, alone
+open 1 2 100 read write
+set a 1
+1 s1 loadall replace a, read 1, is ok
+history 1 legal
+==
+a loadAll of one
+open 1 2 100 read write
+set a 1
+1 s1 loadall replace a, read 1, is ok
+2 s2 get a, read 1, is 1 shared 0
+history 2 illegal
+==
+a processor's load, alone
+open 1 2 100 read write
+1 s1 invoke a, read 1, process keep 1, is 1
+history 1 legal
+==
+a processor's load
+open 1 2 100 read write
+1 s1 invoke a, read 1, process keep 1, is 1
+2 s2 get a, read 1, is 1 shared 0
+history 2 illegal
+";
 
 #[test]
 fn shares_no_other_step(rt: HostRuntime) -> Result<(), Fail> {
-    let a = Key::new(b"a")?;
-    let one = Value::new(b"1")?;
-    let found = &said(LoadAnswer::Found(one), WriteAnswer::NotAsked);
-    let had = &Reply::Value(Some(one));
-    let ended = &Out {
-        load: LoadAnswer::Found(one),
-        write: WriteAnswer::NotAsked,
-        process: ProcessAnswer::Ended {
-            effect: Effect::Keep,
-            outcome: Some(one),
-        },
-    };
-    let nobody = &silent();
-    let held = [(a, one)];
-    for (what, is_legal, is_held, op, out, reply, shared) in [
-        ("a load", true, false, &Op::Get, found, had, found),
-        ("a hit", false, true, &Op::Get, nobody, had, found),
-        (
-            "a hit, and nobody was asked",
-            false,
-            true,
-            &Op::Get,
-            nobody,
-            had,
-            nobody,
-        ),
-        (
-            "a loadAll of none",
-            true,
-            false,
-            &Op::LoadAll(true),
-            found,
-            &Reply::Unit,
-            found,
-        ),
-        (
-            "a loadAll of one",
-            false,
-            true,
-            &Op::LoadAll(true),
-            found,
-            &Reply::Unit,
-            found,
-        ),
-        (
-            "a processor's load",
-            false,
-            false,
-            &Op::Invoke,
-            ended,
-            had,
-            found,
-        ),
-    ] {
-        let opening = if is_held { &held[..] } else { &held[..0] };
-        let first = step((1, 1), op, &a, out, reply);
-        expect(
-            &rt,
-            rt.alloc(),
-            true,
-            what,
-            &shape(true, true),
-            opening,
-            &[first],
-        )?;
-        let events = [
-            step((1, 1), op, &a, out, reply),
-            joined((2, 2), 0, &Op::Get, &a, shared, had),
-        ];
-        expect(
-            &rt,
-            rt.alloc(),
-            is_legal,
-            what,
-            &shape(true, true),
-            opening,
-            &events,
-        )?;
-    }
-    Ok(())
+    all_judged(&rt, rt.alloc(), OTHER_STEPS)
 }

@@ -1,47 +1,54 @@
 //! Each operation as a history of its own, and the same with one thing wrong.
+//!
+//! Each operation is a line: a name, `: `, and parted by `; ` the lines of a history of one step at the key a. The last of them
+//! shows the entry afterwards: `cache a=VALUE`, or `cache` alone.
+use super::script::{History, all_judged, history_of, value};
 use super::*;
 use crate::event::Effect;
 use jc_types::config::Refusal;
+use std::alloc::AllocError;
 
-/// One operation at a key that had this entry: what was said outside, its reply and the entry afterwards.
-#[derive(Clone, Copy)]
+/// One operation at a key: its history, what was said outside, its reply and the entry afterwards.
+#[derive(Drop)]
 struct Case {
-    config: Config,
+    history: History,
     op: Op,
-    before: Option<Value>,
+    key: Key,
     out: Out,
     reply: Reply,
     after: Option<Value>,
 }
 
-fn row(
-    (read_through, write_through): (bool, bool),
-    op: &Op,
-    before: &Option<Value>,
-    out: &Out,
-    reply: &Reply,
-    after: &Option<Value>,
-) -> Case {
-    Case {
-        config: shape(read_through, write_through),
-        op: *op,
-        before: *before,
-        out: *out,
-        reply: *reply,
-        after: *after,
+impl Case {
+    /// The step, with these for what was said outside and for the reply.
+    fn step(&self, out: &Out, reply: &Reply) -> Event {
+        step((1, 1), &self.op, &self.key, out, reply)
     }
-}
 
-/// A `Get` behind the row's step that shows the entry.
-fn look(row: &Case, key: &Key) -> Event {
-    let is_loaded = row.config.read_through && row.after.is_none();
-    let load = if is_loaded {
-        LoadAnswer::Nothing
-    } else {
-        LoadAnswer::NotAsked
-    };
-    let out = said(load, WriteAnswer::NotAsked);
-    step((2, 2), &Op::Get, key, &out, &Reply::Value(row.after))
+    /// A `Get` behind the step that shows this entry, and asks the loader if it is to be asked.
+    fn look(&self, entry: Option<Value>) -> Event {
+        let is_loaded = self.history.config.read_through && entry.is_none();
+        let load = if is_loaded {
+            LoadAnswer::Nothing
+        } else {
+            LoadAnswer::NotAsked
+        };
+        let out = said(load, WriteAnswer::NotAsked);
+        step((2, 2), &Op::Get, &self.key, &out, &Reply::Value(entry))
+    }
+
+    /// Whether a processor may ask the loader or not.
+    fn is_loader_free(&self) -> bool {
+        matches!(self.op, Op::Invoke)
+            && self.history.opening.is_empty()
+            && self.history.config.read_through
+    }
+
+    /// Whether these two events in the place of the history's are legal.
+    fn are_legal(&self, alloc: Global, first: &Event, second: &Event) -> Result<bool, AllocError> {
+        let history = &self.history;
+        legal(alloc, &history.config, &history.opening, &[*first, *second])
+    }
 }
 
 /// Another reply of the same kind.
@@ -49,8 +56,7 @@ fn other_reply(reply: &Reply, other: &Value) -> Reply {
     match reply {
         Reply::Unit => Reply::Flag(true),
         Reply::Flag(is_yes) => Reply::Flag(!is_yes),
-        Reply::Value(None) => Reply::Value(Some(*other)),
-        Reply::Value(Some(_)) => Reply::Value(None),
+        Reply::Value(value) => Reply::Value(if value.is_some() { None } else { Some(*other) }),
         Reply::Fault(_) => Reply::Fault(Refusal::WriterFailed(99)),
     }
 }
@@ -88,448 +94,218 @@ fn other_process(out: &Out) -> Out {
     spoiled
 }
 
-/// Asserts that the row's step is legal, and isn't with one thing changed.
-fn check(rt: &impl Abort, alloc: Global, name: &str, row: &Case) -> Result<(), Fail> {
-    let key = Key::new(b"a")?;
-    let other = Value::new(b"another")?;
-    let held = [(key, row.before.unwrap_or(other))];
-    let opening = if row.before.is_some() {
-        &held[..]
-    } else {
-        &held[..0]
+/// The entry that stands behind `cache`.
+fn entry_of(rt: &impl Abort, text: &str) -> Option<Value> {
+    if text.is_empty() {
+        return None;
+    }
+    let word = text.strip_prefix(" a=").expect(rt, text);
+    Some(value(word).expect(rt, text))
+}
+
+fn read_case(rt: &impl Abort, alloc: Global, text: &str) -> Result<Case, Fail> {
+    let (text, after) = text.split_once("; cache").expect(rt, "a cache");
+    let history = history_of(rt, alloc, text, "; ")?;
+    let Some(
+        Event::Step {
+            op,
+            key,
+            out,
+            reply,
+            ..
+        },
+    ) = history.events.first().copied()
+    else {
+        panic!(rt; "no step: {text}");
     };
-    let caller = (1, 1);
-    let right = step(caller, &row.op, &key, &row.out, &row.reply);
-    let replied = step(
-        caller,
-        &row.op,
-        &key,
-        &row.out,
-        &other_reply(&row.reply, &other),
+    Ok(Case {
+        history,
+        op,
+        key,
+        out,
+        reply,
+        after: entry_of(rt, after),
+    })
+}
+
+/// Asserts that the step is legal, and isn't with one thing changed.
+fn check(rt: &impl Abort, alloc: Global, name: &str, case: &Case) -> Result<(), Fail> {
+    let other = Value::new(b"another")?;
+    let (out, reply) = (&case.out, &case.reply);
+    let right = case.step(out, reply);
+    assert_eq!(rt;
+        case.history.events.as_slice(),
+        [right].as_slice(),
+        "{name}"
     );
-    let loaded = step(caller, &row.op, &key, &other_load(&row.out), &row.reply);
-    let written = step(caller, &row.op, &key, &other_write(&row.out), &row.reply);
-    let processed = step(caller, &row.op, &key, &other_process(&row.out), &row.reply);
-    let looked = look(row, &key);
-    let hidden = hit((2, 2), &key, &other);
-    // A processor may ask the loader or not.
-    let is_loader_free = matches!(row.op, Op::Invoke)
-        && row.before.is_none()
-        && row.config.read_through;
+    let looked = case.look(case.after);
+    let replied = case.step(out, &other_reply(reply, &other));
+    let loaded = case.step(&other_load(out), reply);
+    let written = case.step(&other_write(out), reply);
+    let processed = case.step(&other_process(out), reply);
+    let hidden = case.look(Some(other));
     for (what, is_legal, first, second) in [
         ("as it is", true, &right, &looked),
         ("another reply", false, &replied, &looked),
-        ("the loader", is_loader_free, &loaded, &looked),
+        ("the loader", case.is_loader_free(), &loaded, &looked),
         ("the writer", false, &written, &looked),
         ("the processor", false, &processed, &looked),
         ("another entry", false, &right, &hidden),
     ] {
-        let found = legal(alloc, &row.config, opening, &[*first, *second])?;
+        let found = case.are_legal(alloc, first, second)?;
         assert_eq!(rt; found, is_legal, "{name}: {what}");
     }
     Ok(())
 }
 
-const NEITHER: (bool, bool) = (false, false);
+/// Checks a row for each line.
+fn all_checked(rt: &impl Abort, alloc: Global, rows: &str) -> Result<(), Fail> {
+    assert!(rt; !rows.is_empty(), "no rows");
+    for row in rows.lines() {
+        let (name, text) = row.split_once(": ").expect(rt, "a name");
+        check(rt, alloc, name, &read_case(rt, alloc, text)?)?;
+    }
+    Ok(())
+}
 
-const READ: (bool, bool) = (true, false);
-
-const WRITE: (bool, bool) = (false, true);
-
-const BOTH: (bool, bool) = (true, true);
+const READS: &str = "\
+get hits: open 1 2 100 read write; set a 1; 1 s1 get a, is 1; cache a=1
+get misses: open 1 2 100 write; 1 s1 get a, is -; cache
+get loads: open 1 2 100 read; 1 s1 get a, read 1, is 1; cache a=1
+get loads none: open 1 2 100 read write; 1 s1 get a, read -, is -; cache
+get fails: open 1 2 100 read; 1 s1 get a, readfail 7, is LoaderFailed 7; cache
+contains: open 1 2 100 read write; set a 1; 1 s1 contains a, is true; cache a=1
+contains none: open 1 2 100 read write; 1 s1 contains a, is false; cache
+";
 
 #[test]
 fn reads(rt: HostRuntime) -> Result<(), Fail> {
-    let one = Value::new(b"1")?;
-    let found = said(LoadAnswer::Found(one), WriteAnswer::NotAsked);
-    let nothing = said(LoadAnswer::Nothing, WriteAnswer::NotAsked);
-    let failed = said(LoadAnswer::Failed(7), WriteAnswer::NotAsked);
-    let had = Reply::Value(Some(one));
-    let none = Reply::Value(None);
-    let fault = Reply::Fault(Refusal::LoaderFailed(7));
-    let yes = Reply::Flag(true);
-    let no = Reply::Flag(false);
-    for (name, row) in [
-        (
-            "get hits",
-            row(BOTH, &Op::Get, &Some(one), &silent(), &had, &Some(one)),
-        ),
-        (
-            "get misses",
-            row(WRITE, &Op::Get, &None, &silent(), &none, &None),
-        ),
-        (
-            "get loads",
-            row(READ, &Op::Get, &None, &found, &had, &Some(one)),
-        ),
-        (
-            "get loads none",
-            row(BOTH, &Op::Get, &None, &nothing, &none, &None),
-        ),
-        (
-            "get fails",
-            row(READ, &Op::Get, &None, &failed, &fault, &None),
-        ),
-        (
-            "contains",
-            row(
-                BOTH,
-                &Op::ContainsKey,
-                &Some(one),
-                &silent(),
-                &yes,
-                &Some(one),
-            ),
-        ),
-        (
-            "contains none",
-            row(BOTH, &Op::ContainsKey, &None, &silent(), &no, &None),
-        ),
-    ] {
-        check(&rt, rt.alloc(), name, &row)?;
-    }
-    Ok(())
+    all_checked(&rt, rt.alloc(), READS)
 }
+
+const PUTS: &str = "\
+put writes: open 1 2 100 read write; set a 1; 1 s1 put a 2, apply, is ok; cache a=2
+put adds: open 1 2 100 read; 1 s1 put a 2, is ok; cache a=2
+put fails: open 1 2 100 write; set a 1; 1 s1 put a 2, applyfail 5, is WriterFailed 5; cache a=1
+getAndPut writes: open 1 2 100 read write; 1 s1 getput a 2, apply, is -; cache a=2
+getAndPut: open 1 2 100; set a 1; 1 s1 getput a 2, is 1; cache a=2
+getAndPut fails: open 1 2 100 write; set a 1; 1 s1 getput a 2, applyfail 5, is WriterFailed 5; cache a=1
+putIfAbsent writes: open 1 2 100 read write; 1 s1 putif a 2, apply, is true; cache a=2
+putIfAbsent adds: open 1 2 100 read; 1 s1 putif a 2, is true; cache a=2
+putIfAbsent keeps: open 1 2 100 read write; set a 1; 1 s1 putif a 2, is false; cache a=1
+putIfAbsent fails: open 1 2 100 write; 1 s1 putif a 2, applyfail 5, is WriterFailed 5; cache
+";
 
 #[test]
 fn puts(rt: HostRuntime) -> Result<(), Fail> {
-    let one = Value::new(b"1")?;
-    let two = Value::new(b"2")?;
-    let here = &Some(one);
-    let new = &Some(two);
-    let done = said(LoadAnswer::NotAsked, WriteAnswer::Done);
-    let failed = said(LoadAnswer::NotAsked, WriteAnswer::Failed(5));
-    let fault = Reply::Fault(Refusal::WriterFailed(5));
-    let yes = Reply::Flag(true);
-    let no = Reply::Flag(false);
-    let swap = Op::GetAndPut(two);
-    let add = Op::PutIfAbsent(two);
-    for (name, row) in [
-        (
-            "put writes",
-            row(BOTH, &Op::Put(two), here, &done, &Reply::Unit, new),
-        ),
-        (
-            "put adds",
-            row(READ, &Op::Put(two), &None, &silent(), &Reply::Unit, new),
-        ),
-        (
-            "put fails",
-            row(WRITE, &Op::Put(two), here, &failed, &fault, here),
-        ),
-        (
-            "getAndPut writes",
-            row(BOTH, &swap, &None, &done, &Reply::Value(None), new),
-        ),
-        (
-            "getAndPut",
-            row(NEITHER, &swap, here, &silent(), &Reply::Value(*here), new),
-        ),
-        (
-            "getAndPut fails",
-            row(WRITE, &swap, here, &failed, &fault, here),
-        ),
-        (
-            "putIfAbsent writes",
-            row(BOTH, &add, &None, &done, &yes, new),
-        ),
-        (
-            "putIfAbsent adds",
-            row(READ, &add, &None, &silent(), &yes, new),
-        ),
-        (
-            "putIfAbsent keeps",
-            row(BOTH, &add, here, &silent(), &no, here),
-        ),
-        (
-            "putIfAbsent fails",
-            row(WRITE, &add, &None, &failed, &fault, &None),
-        ),
-    ] {
-        check(&rt, rt.alloc(), name, &row)?;
-    }
-    Ok(())
+    all_checked(&rt, rt.alloc(), PUTS)
 }
+
+const REMOVES: &str = "\
+remove writes: open 1 2 100 read write; set a 1; 1 s1 remove a, apply, is true; cache
+remove of none writes: open 1 2 100 write; 1 s1 remove a, apply, is false; cache
+remove: open 1 2 100 read; set a 1; 1 s1 remove a, is true; cache
+remove fails: open 1 2 100 read write; set a 1; 1 s1 remove a, applyfail 5, is WriterFailed 5; cache a=1
+removeIf writes: open 1 2 100 read write; set a 1; 1 s1 removeif a 1, apply, is true; cache
+removeIf: open 1 2 100; set a 1; 1 s1 removeif a 1, is true; cache
+removeIf of another: open 1 2 100 read write; set a 1; 1 s1 removeif a 2, is false; cache a=1
+removeIf of none: open 1 2 100 read write; 1 s1 removeif a 1, is false; cache
+removeIf fails: open 1 2 100 read write; set a 1; 1 s1 removeif a 1, applyfail 5, is WriterFailed 5; cache a=1
+getAndRemove writes: open 1 2 100 read write; set a 1; 1 s1 getremove a, apply, is 1; cache
+getAndRemove of none: open 1 2 100 write; 1 s1 getremove a, apply, is -; cache
+getAndRemove: open 1 2 100 read; set a 1; 1 s1 getremove a, is 1; cache
+clear: open 1 2 100 read write; set a 1; 1 s1 clear a, is ok; cache
+clear of none: open 1 2 100 read write; 1 s1 clear a, is ok; cache
+";
 
 #[test]
 fn removes(rt: HostRuntime) -> Result<(), Fail> {
-    let one = Value::new(b"1")?;
-    let two = Value::new(b"2")?;
-    let here = &Some(one);
-    let done = said(LoadAnswer::NotAsked, WriteAnswer::Done);
-    let failed = said(LoadAnswer::NotAsked, WriteAnswer::Failed(5));
-    let fault = Reply::Fault(Refusal::WriterFailed(5));
-    let yes = Reply::Flag(true);
-    let no = Reply::Flag(false);
-    let equal = Op::RemoveIf(one);
-    let other = Op::RemoveIf(two);
-    let take = Op::GetAndRemove;
-    for (name, row) in [
-        (
-            "remove writes",
-            row(BOTH, &Op::Remove, here, &done, &yes, &None),
-        ),
-        (
-            "remove of none writes",
-            row(WRITE, &Op::Remove, &None, &done, &no, &None),
-        ),
-        (
-            "remove",
-            row(READ, &Op::Remove, here, &silent(), &yes, &None),
-        ),
-        (
-            "remove fails",
-            row(BOTH, &Op::Remove, here, &failed, &fault, here),
-        ),
-        (
-            "removeIf writes",
-            row(BOTH, &equal, here, &done, &yes, &None),
-        ),
-        (
-            "removeIf",
-            row(NEITHER, &equal, here, &silent(), &yes, &None),
-        ),
-        (
-            "removeIf of another",
-            row(BOTH, &other, here, &silent(), &no, here),
-        ),
-        (
-            "removeIf of none",
-            row(BOTH, &equal, &None, &silent(), &no, &None),
-        ),
-        (
-            "removeIf fails",
-            row(BOTH, &equal, here, &failed, &fault, here),
-        ),
-        (
-            "getAndRemove writes",
-            row(BOTH, &take, here, &done, &Reply::Value(*here), &None),
-        ),
-        (
-            "getAndRemove of none",
-            row(WRITE, &take, &None, &done, &Reply::Value(None), &None),
-        ),
-        (
-            "getAndRemove",
-            row(READ, &take, here, &silent(), &Reply::Value(*here), &None),
-        ),
-        (
-            "clear",
-            row(BOTH, &Op::Clear, here, &silent(), &Reply::Unit, &None),
-        ),
-        (
-            "clear of none",
-            row(BOTH, &Op::Clear, &None, &silent(), &Reply::Unit, &None),
-        ),
-    ] {
-        check(&rt, rt.alloc(), name, &row)?;
-    }
-    Ok(())
+    all_checked(&rt, rt.alloc(), REMOVES)
 }
+
+const REPLACES: &str = "\
+replace writes: open 1 2 100 read write; set a 1; 1 s1 replace a 2, apply, is true; cache a=2
+replace: open 1 2 100 read; set a 1; 1 s1 replace a 2, is true; cache a=2
+replace of none: open 1 2 100 read write; 1 s1 replace a 2, is false; cache
+replace fails: open 1 2 100 read write; set a 1; 1 s1 replace a 2, applyfail 5, is WriterFailed 5; cache a=1
+replaceIf writes: open 1 2 100 read write; set a 1; 1 s1 replaceif a 1 2, apply, is true; cache a=2
+replaceIf: open 1 2 100; set a 1; 1 s1 replaceif a 1 2, is true; cache a=2
+replaceIf of another: open 1 2 100 read write; set a 1; 1 s1 replaceif a 2 1, is false; cache a=1
+replaceIf of none: open 1 2 100 read write; 1 s1 replaceif a 1 2, is false; cache
+getAndReplace writes: open 1 2 100 write; set a 1; 1 s1 getreplace a 2, apply, is 1; cache a=2
+getAndReplace: open 1 2 100 read; set a 1; 1 s1 getreplace a 2, is 1; cache a=2
+getAndReplace of none: open 1 2 100 read write; 1 s1 getreplace a 2, is -; cache
+";
 
 #[test]
 fn replaces(rt: HostRuntime) -> Result<(), Fail> {
-    let one = Value::new(b"1")?;
-    let two = Value::new(b"2")?;
-    let here = &Some(one);
-    let new = &Some(two);
-    let done = said(LoadAnswer::NotAsked, WriteAnswer::Done);
-    let failed = said(LoadAnswer::NotAsked, WriteAnswer::Failed(5));
-    let fault = Reply::Fault(Refusal::WriterFailed(5));
-    let yes = Reply::Flag(true);
-    let no = Reply::Flag(false);
-    let any = Op::Replace(two);
-    let equal = Op::ReplaceIf(one, two);
-    let other = Op::ReplaceIf(two, one);
-    let swap = Op::GetAndReplace(two);
-    for (name, row) in [
-        ("replace writes", row(BOTH, &any, here, &done, &yes, new)),
-        ("replace", row(READ, &any, here, &silent(), &yes, new)),
-        (
-            "replace of none",
-            row(BOTH, &any, &None, &silent(), &no, &None),
-        ),
-        (
-            "replace fails",
-            row(BOTH, &any, here, &failed, &fault, here),
-        ),
-        (
-            "replaceIf writes",
-            row(BOTH, &equal, here, &done, &yes, new),
-        ),
-        (
-            "replaceIf",
-            row(NEITHER, &equal, here, &silent(), &yes, new),
-        ),
-        (
-            "replaceIf of another",
-            row(BOTH, &other, here, &silent(), &no, here),
-        ),
-        (
-            "replaceIf of none",
-            row(BOTH, &equal, &None, &silent(), &no, &None),
-        ),
-        (
-            "getAndReplace writes",
-            row(WRITE, &swap, here, &done, &Reply::Value(*here), new),
-        ),
-        (
-            "getAndReplace",
-            row(READ, &swap, here, &silent(), &Reply::Value(*here), new),
-        ),
-        (
-            "getAndReplace of none",
-            row(BOTH, &swap, &None, &silent(), &Reply::Value(None), &None),
-        ),
-    ] {
-        check(&rt, rt.alloc(), name, &row)?;
-    }
-    Ok(())
+    all_checked(&rt, rt.alloc(), REPLACES)
 }
+
+const LOAD_ALLS: &str = "\
+loads: open 1 2 100; 1 s1 loadall keep a, read 2, is ok; cache a=2
+loads none: open 1 2 100 read write; 1 s1 loadall keep a, read -, is ok; cache
+keeps: open 1 2 100 read write; set a 1; 1 s1 loadall keep a, is ok; cache a=1
+loads again: open 1 2 100 write; set a 1; 1 s1 loadall replace a, read 2, is ok; cache a=2
+loads none again: open 1 2 100 read write; set a 1; 1 s1 loadall replace a, read -, is ok; cache a=1
+fails: open 1 2 100 read write; set a 1; 1 s1 loadall replace a, readfail 7, is LoaderFailed 7; cache a=1
+";
 
 #[test]
 fn load_alls(rt: HostRuntime) -> Result<(), Fail> {
-    let one = Value::new(b"1")?;
-    let two = Value::new(b"2")?;
-    let here = &Some(one);
-    let new = &Some(two);
-    let found = said(LoadAnswer::Found(two), WriteAnswer::NotAsked);
-    let nothing = said(LoadAnswer::Nothing, WriteAnswer::NotAsked);
-    let failed = said(LoadAnswer::Failed(7), WriteAnswer::NotAsked);
-    let fault = Reply::Fault(Refusal::LoaderFailed(7));
-    let keep = Op::LoadAll(false);
-    let again = Op::LoadAll(true);
-    for (name, row) in [
-        (
-            "loads",
-            row(NEITHER, &keep, &None, &found, &Reply::Unit, new),
-        ),
-        (
-            "loads none",
-            row(BOTH, &keep, &None, &nothing, &Reply::Unit, &None),
-        ),
-        (
-            "keeps",
-            row(BOTH, &keep, here, &silent(), &Reply::Unit, here),
-        ),
-        (
-            "loads again",
-            row(WRITE, &again, here, &found, &Reply::Unit, new),
-        ),
-        (
-            "loads none again",
-            row(BOTH, &again, here, &nothing, &Reply::Unit, here),
-        ),
-        ("fails", row(BOTH, &again, here, &failed, &fault, here)),
-    ] {
-        check(&rt, rt.alloc(), name, &row)?;
-    }
-    Ok(())
+    all_checked(&rt, rt.alloc(), LOAD_ALLS)
 }
 
-/// The processor ended with this effect, and answers 1.
-fn ended(load: &LoadAnswer, write: &WriteAnswer, effect: &Effect, one: &Value) -> Out {
-    Out {
-        load: *load,
-        write: *write,
-        process: ProcessAnswer::Ended {
-            effect: *effect,
-            outcome: Some(*one),
-        },
-    }
-}
+const PROCESSES: &str = "\
+keeps: open 1 2 100 read write; set a 1; 1 s1 invoke a, process keep 1, is 1; cache a=1
+sets: open 1 2 100 read; set a 1; 1 s1 invoke a, process set=2 1, is 1; cache a=2
+writes: open 1 2 100 read write; set a 1; 1 s1 invoke a, apply, process set=2 1, is 1; cache a=2
+deletes: open 1 2 100 write; 1 s1 invoke a, apply, process remove 1, is 1; cache
+fails to write: open 1 2 100 write; set a 1; 1 s1 invoke a, applyfail 5, process set=2 1, is WriterFailed 5; cache a=1
+fails: open 1 2 100 read write; set a 1; 1 s1 invoke a, process fail=3, is ProcessorFailed 3; cache a=1
+";
 
-/// The processor failed with code 3.
-fn broken(load: &LoadAnswer) -> Out {
-    Out {
-        load: *load,
-        write: WriteAnswer::NotAsked,
-        process: ProcessAnswer::Failed(3),
-    }
-}
+// With a load the entry depends on what it found, so these stand alone.
+const PROCESSOR_LOADS: &str = "\
+keeps what was loaded
+open 1 2 100 read write
+1 s1 invoke a, read 2, process keep 1, is 1
+2 s2 get a, is 2
+history 2 legal
+==
+forgets what was loaded
+open 1 2 100 read write
+1 s1 invoke a, read 2, process keep 1, is 1
+2 s2 contains a, is false
+history 2 illegal
+==
+fails to load
+open 1 2 100 read write
+1 s1 invoke a, readfail 7, process set=2 1, is LoaderFailed 7
+2 s2 contains a, is false
+history 2 legal
+==
+blames the processor
+open 1 2 100 read write
+1 s1 invoke a, readfail 7, process set=2 1, is ProcessorFailed 3
+2 s2 contains a, is false
+history 2 illegal
+==
+keeps nothing after its fault
+open 1 2 100 read write
+1 s1 invoke a, read 2, process fail=3, is ProcessorFailed 3
+2 s2 contains a, is false
+history 2 legal
+==
+keeps a value after its fault
+open 1 2 100 read write
+1 s1 invoke a, read 2, process fail=3, is ProcessorFailed 3
+2 s2 get a, is 2
+history 2 illegal
+";
 
 #[test]
 fn processes(rt: HostRuntime) -> Result<(), Fail> {
-    let one = Value::new(b"1")?;
-    let two = Value::new(b"2")?;
-    let here = &Some(one);
-    let new = &Some(two);
-    let answer = Reply::Value(Some(one));
-    let (unread, unwritten) = (LoadAnswer::NotAsked, WriteAnswer::NotAsked);
-    let set = Effect::Set(two);
-    let keep = Effect::Keep;
-    let kept = ended(&unread, &unwritten, &keep, &one);
-    let loaded = ended(&LoadAnswer::Found(two), &unwritten, &keep, &one);
-    let failed = ended(&LoadAnswer::Failed(7), &unwritten, &set, &one);
-    let put = ended(&unread, &unwritten, &set, &one);
-    let written = ended(&unread, &WriteAnswer::Done, &set, &one);
-    let removed = ended(&unread, &WriteAnswer::Done, &Effect::Remove, &one);
-    let refused = ended(&unread, &WriteAnswer::Failed(5), &set, &one);
-    let stopped = broken(&unread);
-    let loader = Reply::Fault(Refusal::LoaderFailed(7));
-    let writer = Reply::Fault(Refusal::WriterFailed(5));
-    let processor = Reply::Fault(Refusal::ProcessorFailed(3));
-    let invoke = Op::Invoke;
-    for (name, row) in [
-        ("keeps", row(BOTH, &invoke, here, &kept, &answer, here)),
-        ("sets", row(READ, &invoke, here, &put, &answer, new)),
-        ("writes", row(BOTH, &invoke, here, &written, &answer, new)),
-        (
-            "deletes",
-            row(WRITE, &invoke, &None, &removed, &answer, &None),
-        ),
-        (
-            "fails to write",
-            row(WRITE, &invoke, here, &refused, &writer, here),
-        ),
-        (
-            "fails",
-            row(BOTH, &invoke, here, &stopped, &processor, here),
-        ),
-    ] {
-        check(&rt, rt.alloc(), name, &row)?;
-    }
-    // With a load the entry depends on what it found, so these stand alone.
-    let key = Key::new(b"a")?;
-    let found = broken(&LoadAnswer::Found(two));
-    let looked = hit((2, 2), &key, &two);
-    let missing = step(
-        (2, 2),
-        &Op::ContainsKey,
-        &key,
-        &silent(),
-        &Reply::Flag(false),
-    );
-    for (what, is_legal, out, reply, next) in [
-        ("keeps what was loaded", true, &loaded, &answer, &looked),
-        ("forgets what was loaded", false, &loaded, &answer, &missing),
-        ("fails to load", true, &failed, &loader, &missing),
-        ("blames the processor", false, &failed, &processor, &missing),
-        (
-            "keeps nothing after its fault",
-            true,
-            &found,
-            &processor,
-            &missing,
-        ),
-        (
-            "keeps a value after its fault",
-            false,
-            &found,
-            &processor,
-            &looked,
-        ),
-    ] {
-        let event = step((1, 1), &Op::Invoke, &key, out, reply);
-        expect(
-            &rt,
-            rt.alloc(),
-            is_legal,
-            what,
-            &shape(true, true),
-            &[],
-            &[event, *next],
-        )?;
-    }
-    Ok(())
+    all_checked(&rt, rt.alloc(), PROCESSES)?;
+    all_judged(&rt, rt.alloc(), PROCESSOR_LOADS)
 }

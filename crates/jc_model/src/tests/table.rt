@@ -1,12 +1,13 @@
 //! The public calls that `legal` is made of, each once.
+use super::script::{are, entries, key, value};
 use super::*;
 use crate::event::Change;
 use crate::listed::{take_out, value_in};
 
 #[test]
 fn makes_a_step(rt: HostRuntime) -> Result<(), Fail> {
-    let old = Some(Value::new(b"1")?);
-    let new = Value::new(b"2")?;
+    let old = value("1");
+    let new = value("2").expect(&rt, "a value");
     let op = Op::GetAndPut(new);
     let config = shape(true, true);
     let done = said(LoadAnswer::NotAsked, WriteAnswer::Done);
@@ -23,14 +24,12 @@ fn makes_a_step(rt: HostRuntime) -> Result<(), Fail> {
 
 #[test]
 fn keeps_a_list(rt: HostRuntime) -> Result<(), Fail> {
-    let a = Key::new(b"a")?;
-    let b = Key::new(b"b")?;
-    let one = Value::new(b"1")?;
-    let two = Value::new(b"2")?;
-    let mut entries = Vec::from_slice(rt.alloc(), [(b, one), (a, two), (b, two)].as_slice())?;
-    assert_eq!(rt; value_in(&entries, &b), Some(one));
+    let alloc = rt.alloc();
+    let b = key("b").expect(&rt, "a key");
+    let mut entries = entries(&rt, alloc, "b=1 a=2 b=2")?;
+    assert_eq!(rt; value_in(&entries, &b), value("1"));
     take_out(&mut entries, &b);
-    assert_eq!(rt; entries.as_slice(), [(a, two)].as_slice());
+    are(&rt, alloc, &entries, "a=2")?;
     assert_eq!(rt; value_in(&entries, &b), None);
     take_out(&mut entries, &b);
     assert_eq!(rt; entries.len(), 1);
