@@ -147,7 +147,33 @@ mod tests {
     use super::*;
     use jc_model::event::Cause;
     use jc_types::key::Key;
+    use std::fmt::Debug;
+    use std::process::Abort;
     use std::test::Fail;
+
+    fn is<T: Copy + Debug + PartialEq>(rt: &impl Abort, at: &str, found: T, want: T) {
+        assert_eq!(rt; found, want, "{at}");
+    }
+
+    /// Asserts what becomes of a promise beside an earlier one: whether it fits, and how many places are promised then.
+    fn promises(
+        rt: &impl Abort,
+        alloc: Global,
+        (limit, promised): (usize, usize),
+        asked: usize,
+        (fits, left): (bool, usize),
+    ) -> Result<(), Fail> {
+        assert!(rt; limit <= HISTORY_MAX);
+        let mut history = History::new(alloc, limit)?;
+        let at = format!(in alloc; "{asked} more beside {promised} of {limit}")?;
+        is(rt, &at, history.promise(promised), true);
+        is(rt, &at, history.has_room(asked), fits);
+        is(rt, &at, history.promised(), promised);
+        is(rt, &at, history.promise(asked), fits);
+        is(rt, &at, history.promised(), left);
+        is(rt, &at, history.limit(), limit);
+        Ok(())
+    }
 
     #[test]
     fn promises_up_to_the_limit(rt: HostRuntime) -> Result<(), Fail> {
@@ -163,14 +189,7 @@ mod tests {
             (HISTORY_MAX, HISTORY_MAX - 1, 1, true, HISTORY_MAX),
             (HISTORY_MAX, HISTORY_MAX - 1, 2, false, HISTORY_MAX - 1),
         ] {
-            assert!(rt; limit <= HISTORY_MAX);
-            let mut history = History::new(rt.alloc(), limit)?;
-            assert!(rt; history.promise(promised), "{promised} of {limit}");
-            assert_eq!(rt; history.has_room(asked), fits, "{asked} more of {limit}");
-            assert_eq!(rt; history.promised(), promised, "{asked} more of {limit}");
-            assert_eq!(rt; history.promise(asked), fits, "{asked} more of {limit}");
-            assert_eq!(rt; history.promised(), left, "{asked} more of {limit}");
-            assert_eq!(rt; history.limit(), limit);
+            promises(&rt, rt.alloc(), (limit, promised), asked, (fits, left))?;
         }
         Ok(())
     }
@@ -180,27 +199,49 @@ mod tests {
         Ok(Event::Evict { key, cause })
     }
 
+    /// Pushes into a place that is promised.
+    fn pushes(rt: &impl Abort, history: &mut History, event: &Event) {
+        assert!(rt; 0 < history.promised());
+        history.push(event);
+    }
+
+    /// How many events there are, and how many places are promised.
+    fn counts(history: &History) -> (usize, usize) {
+        (history.len(), history.promised())
+    }
+
     #[test]
     fn pushes_into_promised_places(rt: HostRuntime) -> Result<(), Fail> {
         let first = gone(b"a", Cause::Full)?;
         let second = gone(b"b", Cause::Memory)?;
         let mut history = History::new(rt.alloc(), 4)?;
-        assert!(rt; history.is_empty());
-        assert!(rt; history.promise(3));
-        history.push(&first);
-        history.push(&second);
-        assert_eq!(rt; history.events(), [first, second].as_slice());
-        assert_eq!(rt; (history.len(), history.promised()), (2, 1));
-        assert!(rt; !history.is_empty());
-        assert!(rt; !history.promise(2), "2 events, 1 promised, of 4");
+        is(&rt, "new", history.is_empty(), true);
+        is(&rt, "new", history.promise(3), true);
+        pushes(&rt, &mut history, &first);
+        pushes(&rt, &mut history, &second);
+        is(&rt, "two of three", history.events(), &[first, second]);
+        is(&rt, "two of three", counts(&history), (2, 1));
+        is(&rt, "two of three", history.is_empty(), false);
+        is(&rt, "2 events, 1 promised, of 4", history.promise(2), false);
+        assert!(rt; 0 < history.promised());
         history.unpromise(1);
-        assert_eq!(rt; (history.len(), history.promised()), (2, 0));
-        assert!(rt; history.promise(2), "2 events, none promised, of 4");
-        history.push(&first);
-        history.push(&first);
-        assert_eq!(rt; history.events(), [first, second, first, first].as_slice());
-        assert!(rt; !history.has_room(1));
-        assert!(rt; history.has_room(0));
+        is(&rt, "one given back", counts(&history), (2, 0));
+        is(
+            &rt,
+            "2 events, none promised, of 4",
+            history.promise(2),
+            true,
+        );
+        pushes(&rt, &mut history, &first);
+        pushes(&rt, &mut history, &first);
+        is(
+            &rt,
+            "full",
+            history.events(),
+            &[first, second, first, first],
+        );
+        is(&rt, "full", history.has_room(1), false);
+        is(&rt, "full", history.has_room(0), true);
         Ok(())
     }
 }

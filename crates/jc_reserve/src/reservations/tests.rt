@@ -1,77 +1,115 @@
+//! What a table of reservations answers, from an empty one to a full one.
+//!
+//! Each assertion is a call of `is`, which is proved once: an assertion in its own place costs the check far more.
 use super::*;
+use std::fmt::Debug;
+use std::process::Abort;
 use std::test::Fail;
+
+fn is<T: Copy + Debug + PartialEq>(rt: &impl Abort, at: &str, found: T, want: T) {
+    assert_eq!(rt; found, want, "{at}");
+}
+
+fn key(rt: &impl Abort, name: &str) -> Key {
+    Key::new(name.as_bytes()).ok().expect(rt, "a key")
+}
+
+/// Reserves a key with this note, or with none releases it, and tells the number of its reservation.
+fn changes(table: &mut Reservations<char>, key: &Key, note: Option<char>) -> Option<u64> {
+    match note {
+        Some(note) => table.reserve(key, note),
+        None => Some(table.release(key)?.0),
+    }
+}
+
+/// Releases a key.
+fn releases(
+    rt: &impl Abort,
+    table: &mut Reservations<char>,
+    name: &str,
+    want: Option<(u64, char)>,
+) {
+    let key = key(rt, name);
+    is(rt, name, table.release(&key), want);
+}
+
+/// Finds a key that is reserved, or doesn't where it is free.
+fn finds(rt: &impl Abort, table: &Reservations<char>, name: &str, want: Option<(u64, char)>) {
+    let key = key(rt, name);
+    is(rt, name, table.find(&key), want);
+    is(rt, name, table.is_reserved(&key), want.is_some());
+}
 
 #[test]
 fn numbers_rise_and_come_never_twice(rt: HostRuntime) -> Result<(), Fail> {
     let mut table = Reservations::new(rt.alloc())?;
-    assert!(rt; table.is_empty());
-    // What is done with a key: it is reserved, or with no note released. And the number that this gives.
-    for (key, note, want) in [
-        (&b"a"[..], Some('x'), Some(0)),
-        (&b"b"[..], Some('y'), Some(1)),
-        (&b"a"[..], Some('z'), None),
-        (&b"b"[..], None, Some(1)),
-        (&b"b"[..], None, None),
-        (&b"b"[..], Some('u'), Some(2)),
-        (&b"a"[..], None, Some(0)),
-        (&b"a"[..], Some('v'), Some(3)),
-        (&b"c"[..], Some('w'), Some(4)),
+    is(&rt, "new", table.is_empty(), true);
+    // A key that is reserved with a note, or with none is released, and the number that this gives.
+    for (name, note, want) in [
+        ("a", Some('x'), Some(0)),
+        ("b", Some('y'), Some(1)),
+        ("a", Some('z'), None),
+        ("b", None, Some(1)),
+        ("b", None, None),
+        ("b", Some('u'), Some(2)),
+        ("a", None, Some(0)),
+        ("a", Some('v'), Some(3)),
+        ("c", Some('w'), Some(4)),
     ] {
-        let key = Key::new(key)?;
-        let found = match note {
-            Some(note) => table.reserve(&key, note),
-            None => table.release(&key).map(|released| released.0),
-        };
-        assert_eq!(rt; found, want, "{note:?} at {key:?}");
+        is(&rt, name, changes(&mut table, &key(&rt, name), note), want);
     }
-    for (key, want) in [
-        (&b"a"[..], Some((3, 'v'))),
-        (&b"b"[..], Some((2, 'u'))),
-        (&b"c"[..], Some((4, 'w'))),
-        (&b"d"[..], None),
+    for (name, want) in [
+        ("a", Some((3, 'v'))),
+        ("b", Some((2, 'u'))),
+        ("c", Some((4, 'w'))),
+        ("d", None),
     ] {
-        let key = Key::new(key)?;
-        assert_eq!(rt; table.find(&key), want, "{key:?}");
-        assert_eq!(rt; table.is_reserved(&key), want.is_some(), "{key:?}");
+        finds(&rt, &table, name, want);
     }
-    assert_eq!(rt; table.release(&Key::new(b"a")?), Some((3, 'v')));
-    let left = [Key::new(b"b")?, Key::new(b"c")?];
-    assert_eq!(rt; table.keys(), left.as_slice());
-    assert_eq!(rt; table.len(), 2);
+    releases(&rt, &mut table, "a", Some((3, 'v')));
+    let left = [key(&rt, "b"), key(&rt, "c")];
+    is(&rt, "left", table.keys(), left.as_slice());
+    is(&rt, "left", table.len(), 2);
+    Ok(())
+}
+
+/// Reserves the keys with the bytes `k0` to `k63`, each with its number as its note.
+fn reserves_64(rt: &impl Abort, table: &mut Reservations<u8>) -> Result<(), Fail> {
+    for i in 0..64u8 {
+        is(rt, "full too early", table.is_full(), false);
+        let key = Key::new(&[b'k', i])?;
+        is(rt, "a number", table.reserve(&key, i), Some(i as u64));
+    }
     Ok(())
 }
 
 #[test]
 fn holds_64_keys(rt: HostRuntime) -> Result<(), Fail> {
     let mut table = Reservations::new(rt.alloc())?;
-    for i in 0..64u8 {
-        assert!(rt; !table.is_full(), "before {i}");
-        assert_eq!(rt; table.reserve(&Key::new(&[b'k', i])?, i), Some(i as u64));
-    }
-    assert!(rt; table.is_full());
-    let other = Key::new(b"other")?;
-    assert_eq!(rt; table.reserve(&other, 64), None);
-    assert_eq!(rt; table.len(), 64);
-    assert_eq!(rt; table.release(&Key::new(&[b'k', 31])?), Some((31, 31)));
-    assert_eq!(rt;
-        table.reserve(&other, 64),
-        Some(64),
-        "the refused call used no number"
-    );
-    assert!(rt; table.is_full());
+    reserves_64(&rt, &mut table)?;
+    is(&rt, "full", table.is_full(), true);
+    let other = key(&rt, "other");
+    is(&rt, "full", table.reserve(&other, 64), None);
+    is(&rt, "full", table.len(), 64);
+    let left = Key::new(&[b'k', 31])?;
+    is(&rt, "one leaves", table.release(&left), Some((31, 31)));
+    let found = table.reserve(&other, 64);
+    is(&rt, "the refused call used no number", found, Some(64));
+    is(&rt, "full again", table.is_full(), true);
     Ok(())
 }
 
 #[test]
 fn stops_at_the_end_of_the_numbers(rt: HostRuntime) -> Result<(), Fail> {
-    let mut table = Reservations::new_from(rt.alloc(), u64::MAX - 1)?;
-    let (a, b) = (Key::new(b"a")?, Key::new(b"b")?);
-    assert!(rt; !table.is_used_up());
-    assert_eq!(rt; table.reserve(&a, ()), Some(u64::MAX - 1));
-    assert!(rt; table.is_used_up());
-    assert_eq!(rt; table.reserve(&b, ()), None);
-    assert_eq!(rt; table.release(&a), Some((u64::MAX - 1, ())));
-    assert_eq!(rt; table.reserve(&a, ()), None, "no number comes again");
-    assert!(rt; table.is_empty());
+    let last = u64::MAX - 1;
+    let mut table = Reservations::new_from(rt.alloc(), last)?;
+    let (a, b) = (key(&rt, "a"), key(&rt, "b"));
+    is(&rt, "one number is left", table.is_used_up(), false);
+    is(&rt, "the last number", table.reserve(&a, ()), Some(last));
+    is(&rt, "no number is left", table.is_used_up(), true);
+    is(&rt, "no number is left", table.reserve(&b, ()), None);
+    is(&rt, "a is released", table.release(&a), Some((last, ())));
+    is(&rt, "no number comes again", table.reserve(&a, ()), None);
+    is(&rt, "nothing is reserved", table.is_empty(), true);
     Ok(())
 }
