@@ -19,6 +19,14 @@ use jc_inflight::joiners::Joiners;
 use jc_model::event::{Change, Event, LoadAnswer, Op, WriteAnswer};
 use jc_reserve::reservations::Reservations;
 use jc_types::key::{Key, stripe_of};
+use std::process::Abort;
+
+/// Ends a test where a phase isn't what it is to be.
+pub(super) fn require(rt: &impl Abort, is_so: bool, key: &Key, what: &str)
+    ensures { IsTrue is_so }
+{
+    assert!(rt; is_so, "{key:?}: {what}");
+}
 
 fn is_own(stripe: &Stripe, key: &Key) -> bool
     ensures { IsTrue result → IsTrue (is_of stripe.now key.now) }

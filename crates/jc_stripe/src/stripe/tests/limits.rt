@@ -1,312 +1,372 @@
 //! Limits: reservations, joiners, and places of the history.
-use crate::stripe::tests::run::{
-    Act, BUSY, CONTAINS, GET, HISTORY_FULL, Line, NO, NONE, NOTHING, PICK_UP, Run,
-    TOO_MANY_IN_FLIGHT, TOO_MANY_JOINERS, Told, UNIT, WITHDRAW, WRITTEN, both, done, key, reading,
-    shape, value, writing,
-};
-use crate::ticket::Caller;
-use jc_model::event::{Change, LoadAnswer, Op, Reply};
-use jc_types::config::Config;
-use std::alloc::Global;
-use std::process::Abort;
+use crate::stripe::tests::run::{play, play_behind};
 
-/// The keys 1 to 64 are reserved by loads of the sessions 1 to 64.
-fn with_64_loads(rt: &impl Abort, run: &mut Run) {
-    for k in 1..=64u8 {
-        run.plays(rt, "a load", &[(k as u32, 1, k, GET, Told::Loads)]);
-    }
-}
-
-/// The sessions 2 to 65 have joined the load of session 1 at the key `a`.
-fn with_64_joiners(rt: &impl Abort, run: &mut Run) {
-    run.plays(rt, "the load", &[(1, 1, b'a', GET, Told::Loads)]);
-    for session in 2..=65 {
-        run.plays(rt, "a join", &[(session, 1, b'a', GET, Told::Joins)]);
-    }
-}
+const RESERVATIONS: &str = "\
+open 100 400 read
+1.0 h put 1 : done @0
+each 1 to 64 : N.1 kN get : loads
+70.1 k65 get : too many in flight
+70.2 k65 loadAll keep : too many in flight
+# A key that is reserved is that first.
+70.3 k64 loadAll keep : busy
+# What needs no reservation goes on.
+70.4 h get : value 1 @1
+70.5 h loadAll keep : done @2
+70.6 k65 containsKey : no @3
+70.7 k65 replace 1 : no @4
+70.8 k66 put 1 : done @5
+70.9 k64 get : joined
+# One ends, and there is room for one.
+1.1 k1 withdraw : withdrawn
+71.1 k65 get : loads
+72.1 k67 get : too many in flight
+2.1 k2 found nothing : none @6
+72.2 k67 get : loads
+73.1 k68 get : too many in flight
+";
 
 #[test]
 fn holds_64_reservations(rt: HostRuntime) {
-    let mut run = Run::new(&rt, rt.alloc(), &reading(100, 400));
-    let one = value(&rt, 1);
-    let keep = &Act::Begin(Op::LoadAll(false));
-    let put = &Act::Begin(Op::Put(one));
-    let replace = &Act::Begin(Op::Replace(one));
-    let had = &Reply::Value(Some(one));
-    run.plays(&rt, "an entry", &[(1, 0, 0, *put, done(UNIT, 0))]);
-    with_64_loads(&rt, &mut run);
-    run.plays(
-        &rt,
-        "with 64 reservations",
-        &[
-            (70, 1, 65, GET, TOO_MANY_IN_FLIGHT),
-            (70, 2, 65, *keep, TOO_MANY_IN_FLIGHT),
-            // A key that is reserved is that first.
-            (70, 3, 64, *keep, BUSY),
-            // What needs no reservation goes on.
-            (70, 4, 0, GET, done(*had, 1)),
-            (70, 5, 0, *keep, done(UNIT, 2)),
-            (70, 6, 65, CONTAINS, done(NO, 3)),
-            (70, 7, 65, *replace, done(NO, 4)),
-            (70, 8, 66, *put, done(UNIT, 5)),
-            (70, 9, 64, GET, Told::Joins),
-            // One ends, and there is room for one.
-            (1, 1, 1, WITHDRAW, Told::Withdrawn),
-            (71, 1, 65, GET, Told::Loads),
-            (72, 1, 67, GET, TOO_MANY_IN_FLIGHT),
-            (2, 1, 2, NOTHING, done(NONE, 6)),
-            (72, 2, 67, GET, Told::Loads),
-            (73, 1, 68, GET, TOO_MANY_IN_FLIGHT),
-        ],
-    );
-    assert!(rt; run.is_legal(&rt, rt.alloc()), "the history");
+    play(&rt, rt.alloc(), RESERVATIONS);
 }
+
+const WRITES: &str = "\
+open 100 400 write
+each 1 to 64 : N.1 kN put 1 : writes 1
+70.1 k65 put 1 : too many in flight
+70.2 k64 put 1 : busy
+70.3 k65 get : none @0
+70.4 k65 clear : done @1
+33.1 k33 written : done @2
+70.5 k65 put 1 : writes 1
+71.1 k66 put 1 : too many in flight
+";
 
 #[test]
 fn holds_64_writes(rt: HostRuntime) {
-    let mut run = Run::new(&rt, rt.alloc(), &writing(100, 400));
-    let one = value(&rt, 1);
-    let put = &Act::Begin(Op::Put(one));
-    let writes = &Told::Writes(Change::Write(one));
-    for k in 1..=64u8 {
-        run.plays(&rt, "a put", &[(k as u32, 1, k, *put, *writes)]);
-    }
-    run.plays(
-        &rt,
-        "with 64 reservations",
-        &[
-            (70, 1, 65, *put, TOO_MANY_IN_FLIGHT),
-            (70, 2, 64, *put, BUSY),
-            (70, 3, 65, GET, done(NONE, 0)),
-            (70, 4, 65, Act::Begin(Op::Clear), done(UNIT, 1)),
-            (33, 1, 33, WRITTEN, done(UNIT, 2)),
-            (70, 5, 65, *put, *writes),
-            (71, 1, 66, *put, TOO_MANY_IN_FLIGHT),
-        ],
-    );
+    play(&rt, rt.alloc(), WRITES);
 }
+
+const JOINERS: &str = "\
+open 100 400 read
+1.1 h get : loads
+1.1 h found 1 : value 1 @0
+1.1 a get : loads
+each 2 to 65 : N.1 a get : joined
+70.1 a get : too many joiners
+70.2 h get : value 1 @1
+70.3 b get : loads
+71.1 b get : too many joiners
+# An answer that isn't picked up counts.
+1.1 a found 1 : value 1 @2
+71.2 b get : too many joiners
+65.1 a pick up : value 1 @66 from 2
+71.3 b get : joined
+72.1 b get : too many joiners
+# So does one that is to begin again.
+70.3 b withdraw : withdrawn
+72.2 b get : loads
+73.1 b get : too many joiners
+71.3 b pick up : again
+73.2 b get : joined
+74.1 b get : too many joiners
+";
 
 #[test]
 fn holds_64_joiners(rt: HostRuntime) {
-    let mut run = Run::new(&rt, rt.alloc(), &reading(100, 400));
-    let one = value(&rt, 1);
-    let had = &Reply::Value(Some(one));
-    let found = &Act::Loaded(LoadAnswer::Found(one));
-    run.loads(&rt, b"h", &one);
-    with_64_joiners(&rt, &mut run);
-    run.plays(
-        &rt,
-        "with 64 joiners",
-        &[
-            (70, 1, b'a', GET, TOO_MANY_JOINERS),
-            (70, 2, b'h', GET, done(*had, 1)),
-            (70, 3, b'b', GET, Told::Loads),
-            (71, 1, b'b', GET, TOO_MANY_JOINERS),
-            // An answer that isn't picked up counts.
-            (1, 1, b'a', *found, done(*had, 2)),
-            (71, 2, b'b', GET, TOO_MANY_JOINERS),
-            (65, 1, b'a', PICK_UP, Told::Answer(*had, 66, 2)),
-            (71, 3, b'b', GET, Told::Joins),
-            (72, 1, b'b', GET, TOO_MANY_JOINERS),
-            // So does one that is to begin again.
-            (70, 3, b'b', WITHDRAW, Told::Withdrawn),
-            (72, 2, b'b', GET, Told::Loads),
-            (73, 1, b'b', GET, TOO_MANY_JOINERS),
-            (71, 3, b'b', PICK_UP, Told::Again),
-            (73, 2, b'b', GET, Told::Joins),
-            (74, 1, b'b', GET, TOO_MANY_JOINERS),
-        ],
-    );
-    assert!(rt; run.is_legal(&rt, rt.alloc()), "the history");
+    play(&rt, rt.alloc(), JOINERS);
 }
+
+const FULL_IN_TWO_WAYS: &str = "\
+open 100 194 read
+each 1 to 64 : N.1 kN get : loads
+70.1 k65 get : history full
+==
+open 100 195 read
+each 1 to 64 : N.1 kN get : loads
+70.1 k65 get : too many in flight
+==
+open 100 194 read
+each 1 to 64 : N.1 kN get : loads
+70.1 k64 loadAll keep : history full
+==
+open 100 195 read
+each 1 to 64 : N.1 kN get : loads
+70.1 k64 loadAll keep : busy
+==
+open 100 67 read
+1.1 a get : loads
+each 2 to 65 : N.1 a get : joined
+70.1 a get : history full
+==
+open 100 68 read
+1.1 a get : loads
+each 2 to 65 : N.1 a get : joined
+70.1 a get : too many joiners
+";
 
 #[test]
 fn tests_the_history_first(rt: HostRuntime) {
-    for (places, want) in [(194, HISTORY_FULL), (195, TOO_MANY_IN_FLIGHT)] {
-        let mut run = Run::new(&rt, rt.alloc(), &reading(100, places));
-        with_64_loads(&rt, &mut run);
-        run.plays(&rt, "64 reservations", &[(70, 1, 65, GET, want)]);
-    }
-    for (places, want) in [(194, HISTORY_FULL), (195, BUSY)] {
-        let mut run = Run::new(&rt, rt.alloc(), &reading(100, places));
-        with_64_loads(&rt, &mut run);
-        let keep = &Act::Begin(Op::LoadAll(false));
-        run.plays(&rt, "a reserved key", &[(70, 1, 64, *keep, want)]);
-    }
-    for (places, want) in [(67, HISTORY_FULL), (68, TOO_MANY_JOINERS)] {
-        let mut run = Run::new(&rt, rt.alloc(), &reading(100, places));
-        with_64_joiners(&rt, &mut run);
-        run.plays(&rt, "64 joiners", &[(70, 1, b'a', GET, want)]);
-    }
+    play(&rt, rt.alloc(), FULL_IN_TWO_WAYS);
 }
 
-/// A stripe with room for 16 events, of which so many are free.
-fn with_free(rt: &impl Abort, alloc: Global, config: &Config, free: u32) -> Run {
-    let mut run = Run::new(rt, alloc, config);
-    for place in 0..16u32.saturating_sub(free) {
-        let missing = &done(NO, place);
-        run.plays(
-            rt,
-            "filling",
-            &[(9, place as u64, b'z', CONTAINS, *missing)],
-        );
-    }
-    run
-}
+// 3 places are free.
+const FILLED: &str = "\
+open 4 16
+each 0 to 12 : 9.N z containsKey : no @N
+";
 
-/// With so many places free a call at a missing key goes on, and with one place less it is refused.
-fn needs(rt: &impl Abort, alloc: Global, config: &Config, op: &Op, free: u32) {
-    let who = Caller {
-        session: 1,
-        number: 1,
-    };
-    let (a, call) = (key(rt, b'a'), Act::Begin(*op));
-    let mut run = with_free(rt, alloc, config, free);
-    assert_ne!(rt;
-        run.act(rt, who, &a, &call),
-        HISTORY_FULL,
-        "{op:?} with {free} free"
-    );
-    let mut run = with_free(rt, alloc, config, free.saturating_sub(1));
-    assert_eq!(rt;
-        run.act(rt, who, &a, &call),
-        HISTORY_FULL,
-        "{op:?} with one less than {free} free"
-    );
-}
+const FILLED_WITH_BOTH: &str = "\
+open 4 16 read write
+each 0 to 12 : 9.N z containsKey : no @N
+";
+
+const THREE_PLACES: &str = "\
+1.1 a put 1 : done @13
+==
+1.1 a getAndPut 1 : none @13
+==
+1.1 a putIfAbsent 1 : yes @13
+==
+1.1 a remove : no @13
+==
+1.1 a removeIf 1 : no @13
+==
+1.1 a getAndRemove : none @13
+==
+1.1 a replace 1 : no @13
+==
+1.1 a replaceIf 1 1 : no @13
+==
+1.1 a getAndReplace 1 : none @13
+==
+1.1 a clear : done @13
+==
+1.1 a loadAll keep : loads
+==
+1.1 a loadAll replace : loads
+";
+
+const THREE_PLACES_WITH_BOTH: &str = "\
+1.1 a put 1 : writes 1
+==
+1.1 a getAndPut 1 : writes 1
+==
+1.1 a putIfAbsent 1 : writes 1
+==
+1.1 a remove : deletes
+==
+1.1 a removeIf 1 : no @13
+==
+1.1 a getAndRemove : deletes
+==
+1.1 a replace 1 : no @13
+==
+1.1 a replaceIf 1 1 : no @13
+==
+1.1 a getAndReplace 1 : none @13
+==
+1.1 a clear : done @13
+==
+1.1 a loadAll keep : loads
+==
+1.1 a loadAll replace : loads
+==
+1.1 a get : loads
+";
+
+const TOO_FEW_PLACES: &str = "\
+open 4 16
+each 0 to 13 : 9.N z containsKey : no @N
+1.1 a put 1 : history full
+1.1 a getAndPut 1 : history full
+1.1 a putIfAbsent 1 : history full
+1.1 a remove : history full
+1.1 a removeIf 1 : history full
+1.1 a getAndRemove : history full
+1.1 a replace 1 : history full
+1.1 a replaceIf 1 1 : history full
+1.1 a getAndReplace 1 : history full
+1.1 a clear : history full
+1.1 a loadAll keep : history full
+1.1 a loadAll replace : history full
+# One place is enough for those.
+1.1 a containsKey : no @14
+1.2 a get : none @15
+1.3 a containsKey : history full
+1.3 a get : history full
+==
+open 4 16
+each 0 to 14 : 9.N z containsKey : no @N
+1.1 a containsKey : no @15
+==
+open 4 16 read write
+each 0 to 13 : 9.N z containsKey : no @N
+1.1 a put 1 : history full
+1.1 a getAndPut 1 : history full
+1.1 a putIfAbsent 1 : history full
+1.1 a remove : history full
+1.1 a removeIf 1 : history full
+1.1 a getAndRemove : history full
+1.1 a replace 1 : history full
+1.1 a replaceIf 1 1 : history full
+1.1 a getAndReplace 1 : history full
+1.1 a clear : history full
+1.1 a loadAll keep : history full
+1.1 a loadAll replace : history full
+1.1 a get : history full
+# One place is enough for that.
+1.1 a containsKey : no @14
+1.2 a containsKey : no @15
+1.3 a containsKey : history full
+";
 
 #[test]
 fn needs_places(rt: HostRuntime) {
-    let one = value(&rt, 1);
-    for op in [
-        Op::Put(one),
-        Op::GetAndPut(one),
-        Op::PutIfAbsent(one),
-        Op::Remove,
-        Op::RemoveIf(one),
-        Op::GetAndRemove,
-        Op::Replace(one),
-        Op::ReplaceIf(one, one),
-        Op::GetAndReplace(one),
-        Op::Clear,
-        Op::LoadAll(false),
-        Op::LoadAll(true),
-    ] {
-        needs(&rt, rt.alloc(), &shape(4, 16), &op, 3);
-        needs(&rt, rt.alloc(), &both(4, 16), &op, 3);
-    }
-    needs(&rt, rt.alloc(), &shape(4, 16), &Op::ContainsKey, 1);
-    needs(&rt, rt.alloc(), &both(4, 16), &Op::ContainsKey, 1);
-    needs(&rt, rt.alloc(), &shape(4, 16), &Op::Get, 1);
-    needs(&rt, rt.alloc(), &both(4, 16), &Op::Get, 3);
+    play_behind(&rt, rt.alloc(), FILLED, THREE_PLACES);
+    play_behind(&rt, rt.alloc(), FILLED_WITH_BOTH, THREE_PLACES_WITH_BOTH);
+    play(&rt, rt.alloc(), TOO_FEW_PLACES);
 }
+
+const TWO_PLACES: &str = "\
+open 4 16 read
+1.1 h get : loads
+1.1 h found 1 : value 1 @0
+2.1 a get : loads
+each 1 to 10 : 9.N z containsKey : no @N
+3.1 h get : value 1 @11
+4.1 a get : joined
+# None is left, also for those.
+5.1 h get : history full
+5.1 a get : history full
+5.1 a containsKey : history full
+# The commit and the shared step have theirs.
+2.1 a found nothing : none @12
+4.1 a pick up : none @13 from 12
+# Two weren't used.
+each 14 to 15 : 99.N z containsKey : no @N
+99.99 z containsKey : history full
+";
 
 #[test]
 fn needs_one_place_for_a_hit_and_a_join(rt: HostRuntime) {
-    let one = value(&rt, 1);
-    let mut run = Run::new(&rt, rt.alloc(), &reading(4, 16));
-    run.loads(&rt, b"h", &one);
-    run.plays(&rt, "a load", &[(2, 1, b'a', GET, Told::Loads)]);
-    for place in 1..11 {
-        let missing = &done(NO, place);
-        run.plays(
-            &rt,
-            "filling",
-            &[(9, place as u64, b'z', CONTAINS, *missing)],
-        );
-    }
-    run.plays(
-        &rt,
-        "2 places",
-        &[
-            (3, 1, b'h', GET, done(Reply::Value(Some(one)), 11)),
-            (4, 1, b'a', GET, Told::Joins),
-            // None is left, also for those.
-            (5, 1, b'h', GET, HISTORY_FULL),
-            (5, 1, b'a', GET, HISTORY_FULL),
-            (5, 1, b'a', CONTAINS, HISTORY_FULL),
-            // The commit and the shared step have theirs.
-            (2, 1, b'a', NOTHING, done(NONE, 12)),
-            (4, 1, b'a', PICK_UP, Told::Answer(NONE, 13, 12)),
-        ],
-    );
-    run.has_free(&rt, "two weren't used", 2);
+    play(&rt, rt.alloc(), TWO_PLACES);
 }
+
+// 3 places are kept for the put.
+const A_PUT_IS_OUT: &str = "\
+open 4 16 read write
+each 0 to 9 : 9.N z containsKey : no @N
+1.1 a put 1 : writes 1
+2.1 a get : busy
+2.1 a put 1 : busy
+2.1 a containsKey : no @10
+==
+open 4 16 read write
+each 0 to 10 : 9.N z containsKey : no @N
+1.1 a put 1 : writes 1
+2.1 a get : history full
+2.1 a put 1 : history full
+2.1 a containsKey : no @11
+==
+open 4 16 read write
+each 0 to 11 : 9.N z containsKey : no @N
+1.1 a put 1 : writes 1
+2.1 a get : history full
+2.1 a put 1 : history full
+2.1 a containsKey : no @12
+";
 
 #[test]
 fn needs_three_places_at_a_key_that_is_written(rt: HostRuntime) {
-    let one = value(&rt, 1);
-    let put = &Act::Begin(Op::Put(one));
-    for (free, want) in [(6, &BUSY), (5, &HISTORY_FULL), (4, &HISTORY_FULL)] {
-        let mut run = with_free(&rt, rt.alloc(), &both(4, 16), free);
-        run.plays(
-            &rt,
-            "3 places are kept for the put",
-            &[
-                (1, 1, b'a', *put, Told::Writes(Change::Write(one))),
-                (2, 1, b'a', GET, *want),
-                (2, 1, b'a', *put, *want),
-                (2, 1, b'a', CONTAINS, done(NO, 16 - free)),
-            ],
-        );
-    }
+    play(&rt, rt.alloc(), A_PUT_IS_OUT);
 }
 
-/// What these lines leave free of 16 places.
-fn leaves(rt: &impl Abort, alloc: Global, config: &Config, case: &str, lines: &[Line], free: u64) {
-    let mut run = Run::new(rt, alloc, config);
-    run.plays(rt, case, lines);
-    run.has_free(rt, case, free);
-}
+const FREE_PLACES: &str = "\
+open 1 16 read write
+# 16 places are free.
+each 0 to 15 : 99.N z containsKey : no @N
+99.99 z containsKey : history full
+==
+open 1 16 read write
+1.1 a put 1 : writes 1
+# 13 are free.
+each 0 to 12 : 99.N z containsKey : no @N
+99.99 z containsKey : history full
+==
+open 1 16 read write
+1.1 a put 1 : writes 1
+1.1 a written : done @0
+# 15 are free.
+each 1 to 15 : 99.N z containsKey : no @N
+99.99 z containsKey : history full
+==
+open 1 16 read write
+1.1 a put 1 : writes 1
+1.1 a withdraw : withdrawn
+# 16 are free.
+each 0 to 15 : 99.N z containsKey : no @N
+99.99 z containsKey : history full
+==
+open 1 16 read write
+1.1 a get : loads
+# 13 are free.
+each 0 to 12 : 99.N z containsKey : no @N
+99.99 z containsKey : history full
+==
+open 1 16 read write
+1.1 a get : loads
+2.1 a get : joined
+# 12 are free.
+each 0 to 11 : 99.N z containsKey : no @N
+99.99 z containsKey : history full
+==
+open 1 16 read write
+1.1 a get : loads
+2.1 a get : joined
+1.1 a found 1 : value 1 @0
+# 14 are free.
+each 2 to 15 : 99.N z containsKey : no @N
+99.99 z containsKey : history full
+==
+open 1 16 read write
+1.1 a get : loads
+2.1 a get : joined
+1.1 a withdraw : withdrawn
+# 16 are free.
+each 0 to 15 : 99.N z containsKey : no @N
+99.99 z containsKey : history full
+==
+open 1 16 read write
+1.1 a get : loads
+1.1 a found 1 : value 1 @0
+3.1 b get : loads
+3.1 b found 1 : value 1 @2
+# An eviction took one, and 13 are free.
+each 3 to 15 : 99.N z containsKey : no @N
+99.99 z containsKey : history full
+";
 
 #[test]
 fn gives_places_back(rt: HostRuntime) {
-    let one = value(&rt, 1);
-    let config = both(1, 16);
-    let put_one = Act::Begin(Op::Put(one));
-    let put = &(1, 1, b'a', put_one, Told::Writes(Change::Write(one)));
-    let get = &(1, 1, b'a', GET, Told::Loads);
-    let joins = &(2, 1, b'a', GET, Told::Joins);
-    let withdraw = &(1, 1, b'a', WITHDRAW, Told::Withdrawn);
-    let found = &Act::Loaded(LoadAnswer::Found(one));
-    let loaded = &(1, 1, b'a', *found, done(Reply::Value(Some(one)), 0));
-    let written = &(1, 1, b'a', WRITTEN, done(UNIT, 0));
-    let get_more = &(3, 1, b'b', GET, Told::Loads);
-    let loaded_more = &(3, 1, b'b', *found, done(Reply::Value(Some(one)), 2));
-    for (case, lines, free) in [
-        ("nothing", &[][..], 16),
-        ("a put that is out", &[*put][..], 13),
-        ("a put", &[*put, *written][..], 15),
-        ("a put that was withdrawn", &[*put, *withdraw][..], 16),
-        ("a get that is out", &[*get][..], 13),
-        ("a get and a join that are out", &[*get, *joins][..], 12),
-        ("a get and a join", &[*get, *joins, *loaded][..], 14),
-        ("those withdrawn", &[*get, *joins, *withdraw][..], 16),
-        (
-            "an eviction",
-            &[*get, *loaded, *get_more, *loaded_more][..],
-            13,
-        ),
-    ] {
-        leaves(&rt, rt.alloc(), &config, case, lines, free);
-    }
+    play(&rt, rt.alloc(), FREE_PLACES);
 }
+
+const LAST_NUMBER: &str = "\
+open 4 16
+1.18446744073709551615 a containsKey : history full
+1.18446744073709551615 a get : history full
+1.18446744073709551615 a put 1 : history full
+1.18446744073709551614 a containsKey : no @0
+==
+open 4 16 read write
+1.18446744073709551615 a containsKey : history full
+1.18446744073709551615 a get : history full
+1.18446744073709551615 a put 1 : history full
+1.18446744073709551614 a containsKey : no @0
+";
 
 #[test]
 fn refuses_the_last_call_number(rt: HostRuntime) {
-    let one = value(&rt, 1);
-    let put = &Act::Begin(Op::Put(one));
-    for config in [shape(4, 16), both(4, 16)] {
-        let mut run = Run::new(&rt, rt.alloc(), &config);
-        run.plays(
-            &rt,
-            "2^64 - 1",
-            &[
-                (1, u64::MAX, b'a', CONTAINS, HISTORY_FULL),
-                (1, u64::MAX, b'a', GET, HISTORY_FULL),
-                (1, u64::MAX, b'a', *put, HISTORY_FULL),
-                (1, u64::MAX - 1, b'a', CONTAINS, done(NO, 0)),
-            ],
-        );
-    }
+    play(&rt, rt.alloc(), LAST_NUMBER);
 }

@@ -1,180 +1,122 @@
 //! Loads, writes and withdrawals.
-use crate::stripe::tests::run::{
-    Act, CONTAINS, GET, NO, NONE, NOTHING, Run, Told, UNIT, WITHDRAW, WRITTEN, YES, both, done,
-    key, reading, value, writing,
-};
-use jc_model::event::{Change, LoadAnswer, Op, Reply, WriteAnswer};
-use jc_types::config::Refusal;
-use std::test::Fail;
+use crate::stripe::tests::run::{play, play_and_close, play_and_keep};
+
+const LOADS: &str = "\
+open 4 100 read
+1.1 a get : loads
+2.1 a containsKey : no @0
+1.1 a found 1 : value 1 @1
+1.2 a get : value 1 @2
+1.3 b get : loads
+1.3 b loader failed 7 : loader failed 7 @3
+1.4 b get : loads
+1.4 b found nothing : none @4
+entries : a=1
+";
 
 #[test]
 fn loads(rt: HostRuntime) {
-    let mut run = Run::new(&rt, rt.alloc(), &reading(4, 100));
-    let one = value(&rt, 1);
-    let found = &Act::Loaded(LoadAnswer::Found(one));
-    let failed = &Act::Loaded(LoadAnswer::Failed(7));
-    let has_one = &Reply::Value(Some(one));
-    let fault = &Reply::Fault(Refusal::LoaderFailed(7));
-    run.plays(
-        &rt,
-        "get",
-        &[
-            (1, 1, b'a', GET, Told::Loads),
-            (2, 1, b'a', CONTAINS, done(NO, 0)),
-            (1, 1, b'a', *found, done(*has_one, 1)),
-            (1, 2, b'a', GET, done(*has_one, 2)),
-            (1, 3, b'b', GET, Told::Loads),
-            (1, 3, b'b', *failed, done(*fault, 3)),
-            (1, 4, b'b', GET, Told::Loads),
-            (1, 4, b'b', NOTHING, done(NONE, 4)),
-        ],
-    );
-    assert_eq!(rt; run.stripe.entries(), [(key(&rt, b'a'), one)].as_slice());
-    assert!(rt; run.is_legal(&rt, rt.alloc()), "the history");
+    play(&rt, rt.alloc(), LOADS);
 }
+
+const LOADS_ALL: &str = "\
+open 4 100 read
+1.1 a get : loads
+1.1 a found 1 : value 1 @0
+# What is there is loaded only where it is replaced.
+1.5 a loadAll keep : done @1
+1.6 a loadAll replace : loads
+1.6 a found nothing : done @2
+# The old value is there until another one was found.
+1.7 a loadAll replace : loads
+2.1 a get : value 1 @3
+1.7 a loader failed 8 : loader failed 8 @4
+1.8 a loadAll replace : loads
+1.8 a found 2 : done @5
+1.9 b loadAll keep : loads
+1.9 b found 1 : done @6
+entries : b=1 a=2
+";
 
 #[test]
 fn loads_all(rt: HostRuntime) {
-    let mut run = Run::new(&rt, rt.alloc(), &reading(4, 100));
-    let (one, two) = (value(&rt, 1), value(&rt, 2));
-    let keep = &Act::Begin(Op::LoadAll(false));
-    let replace = &Act::Begin(Op::LoadAll(true));
-    let found_one = &Act::Loaded(LoadAnswer::Found(one));
-    let found_two = &Act::Loaded(LoadAnswer::Found(two));
-    let failed = &Act::Loaded(LoadAnswer::Failed(8));
-    let has_one = &Reply::Value(Some(one));
-    let fault = &Reply::Fault(Refusal::LoaderFailed(8));
-    run.loads(&rt, b"a", &one);
-    run.plays(
-        &rt,
-        "loadAll",
-        &[
-            // What is there is loaded only where it is replaced.
-            (1, 5, b'a', *keep, done(UNIT, 1)),
-            (1, 6, b'a', *replace, Told::Loads),
-            (1, 6, b'a', NOTHING, done(UNIT, 2)),
-            // The old value is there until another one was found.
-            (1, 7, b'a', *replace, Told::Loads),
-            (2, 1, b'a', GET, done(*has_one, 3)),
-            (1, 7, b'a', *failed, done(*fault, 4)),
-            (1, 8, b'a', *replace, Told::Loads),
-            (1, 8, b'a', *found_two, done(UNIT, 5)),
-            (1, 9, b'b', *keep, Told::Loads),
-            (1, 9, b'b', *found_one, done(UNIT, 6)),
-        ],
-    );
-    let left = [(key(&rt, b'b'), one), (key(&rt, b'a'), two)];
-    assert_eq!(rt; run.stripe.entries(), left.as_slice());
-    assert!(rt; run.is_legal(&rt, rt.alloc()), "the history");
+    play(&rt, rt.alloc(), LOADS_ALL);
 }
+
+const WRITES: &str = "\
+open 4 100 write
+1.1 a put 1 : writes 1
+1.1 a written : done @0
+# While a write is out the entry is the old one, and where it fails it stays so.
+1.2 a put 2 : writes 2
+2.1 a get : value 1 @1
+2.2 a containsKey : yes @2
+1.2 a writer failed 3 : writer failed 3 @3
+2.3 a get : value 1 @4
+entries : a=1
+";
 
 #[test]
 fn writes(rt: HostRuntime) {
-    let mut run = Run::new(&rt, rt.alloc(), &writing(4, 100));
-    let (one, two) = (value(&rt, 1), value(&rt, 2));
-    let put_one = &Act::Begin(Op::Put(one));
-    let put_two = &Act::Begin(Op::Put(two));
-    let writes_one = &Told::Writes(Change::Write(one));
-    let writes_two = &Told::Writes(Change::Write(two));
-    let failed = &Act::Written(WriteAnswer::Failed(3));
-    let has_one = &Reply::Value(Some(one));
-    let fault = &Reply::Fault(Refusal::WriterFailed(3));
-    run.plays(
-        &rt,
-        "put",
-        &[
-            (1, 1, b'a', *put_one, *writes_one),
-            (1, 1, b'a', WRITTEN, done(UNIT, 0)),
-            // While a write is out the entry is the old one, and where it fails it stays so.
-            (1, 2, b'a', *put_two, *writes_two),
-            (2, 1, b'a', GET, done(*has_one, 1)),
-            (2, 2, b'a', CONTAINS, done(YES, 2)),
-            (1, 2, b'a', *failed, done(*fault, 3)),
-            (2, 3, b'a', GET, done(*has_one, 4)),
-        ],
-    );
-    assert_eq!(rt; run.stripe.entries(), [(key(&rt, b'a'), one)].as_slice());
-    assert!(rt; run.is_legal(&rt, rt.alloc()), "the history");
+    play(&rt, rt.alloc(), WRITES);
 }
+
+const DELETES: &str = "\
+open 4 100 write
+1.1 a put 1 : writes 1
+1.1 a written : done @0
+# What mutates nothing asks nobody.
+1.2 a putIfAbsent 2 : no @1
+1.3 a removeIf 2 : no @2
+1.4 b replace 2 : no @3
+1.5 a getAndRemove : deletes
+1.5 a written : value 1 @4
+# A removal of nothing is written too, and `clear` isn't.
+1.6 a remove : deletes
+1.6 a written : no @5
+1.7 a clear : done @6
+number of entries : 0
+";
 
 #[test]
 fn deletes(rt: HostRuntime) {
-    let mut run = Run::new(&rt, rt.alloc(), &writing(4, 100));
-    let (one, two) = (value(&rt, 1), value(&rt, 2));
-    let has_one = &Reply::Value(Some(one));
-    let put = &Act::Begin(Op::Put(one));
-    let put_if_absent = &Act::Begin(Op::PutIfAbsent(two));
-    let remove_if = &Act::Begin(Op::RemoveIf(two));
-    let replace = &Act::Begin(Op::Replace(two));
-    let get_and_remove = &Act::Begin(Op::GetAndRemove);
-    let remove = &Act::Begin(Op::Remove);
-    let clear = &Act::Begin(Op::Clear);
-    let deletes = &Told::Writes(Change::Delete);
-    run.plays(
-        &rt,
-        "remove",
-        &[
-            (1, 1, b'a', *put, Told::Writes(Change::Write(one))),
-            (1, 1, b'a', WRITTEN, done(UNIT, 0)),
-            // What mutates nothing asks nobody.
-            (1, 2, b'a', *put_if_absent, done(NO, 1)),
-            (1, 3, b'a', *remove_if, done(NO, 2)),
-            (1, 4, b'b', *replace, done(NO, 3)),
-            (1, 5, b'a', *get_and_remove, *deletes),
-            (1, 5, b'a', WRITTEN, done(*has_one, 4)),
-            // A removal of nothing is written too, and `clear` isn't.
-            (1, 6, b'a', *remove, *deletes),
-            (1, 6, b'a', WRITTEN, done(NO, 5)),
-            (1, 7, b'a', *clear, done(UNIT, 6)),
-        ],
-    );
-    assert!(rt; run.stripe.entries().is_empty(), "the entry is gone");
-    assert!(rt; run.is_legal(&rt, rt.alloc()), "the history");
+    play(&rt, rt.alloc(), DELETES);
 }
 
+const TWO_ENTRIES: &str = "\
+open 4 100 read write
+1.1 a get : loads
+1.1 a found 1 : value 1 @0
+1.2 b get : loads
+1.2 b found 1 : value 1 @1
+";
+
+const WITHDRAWALS: &str = "\
+1.5 a put 2 : writes 2
+2.5 c get : loads
+3.5 c get : joined
+1.5 a withdraw : withdrawn
+2.5 c withdraw : withdrawn
+";
+
+const FREE_KEYS: &str = "\
+4.5 a put 2 : writes 2
+5.5 c get : loads
+";
+
 #[test]
-fn withdraws(rt: HostRuntime) -> Result<(), Fail> {
-    let mut run = Run::new(&rt, rt.alloc(), &both(4, 100));
-    let (one, two) = (value(&rt, 1), value(&rt, 2));
-    let put = &Act::Begin(Op::Put(two));
-    let writes = &Told::Writes(Change::Write(two));
-    run.loads(&rt, b"ab", &one);
-    let entries = run.stripe.entries().to_vec(rt.alloc())?;
-    let events = run.stripe.events().to_vec(rt.alloc())?;
-    run.plays(
-        &rt,
-        "withdrawals",
-        &[
-            (1, 5, b'a', *put, *writes),
-            (2, 5, b'c', GET, Told::Loads),
-            (3, 5, b'c', GET, Told::Joins),
-            (1, 5, b'a', WITHDRAW, Told::Withdrawn),
-            (2, 5, b'c', WITHDRAW, Told::Withdrawn),
-        ],
-    );
-    assert_eq!(rt; run.stripe.entries(), entries.as_slice());
-    assert_eq!(rt; run.stripe.events(), events.as_slice());
-    run.plays(
-        &rt,
-        "the keys are free",
-        &[(4, 5, b'a', *put, *writes), (5, 5, b'c', GET, Told::Loads)],
-    );
-    Ok(())
+fn withdraws(rt: HostRuntime) {
+    play_and_keep(&rt, rt.alloc(), TWO_ENTRIES, WITHDRAWALS, FREE_KEYS);
 }
+
+const THREE_OUT: &str = "\
+open 4 100 read write
+1.1 a get : loads
+2.1 a get : joined
+3.1 b put 1 : writes 1
+";
 
 #[test]
 fn closes(rt: HostRuntime) {
-    let mut run = Run::new(&rt, rt.alloc(), &both(4, 100));
-    let one = value(&rt, 1);
-    let put = &Act::Begin(Op::Put(one));
-    run.plays(
-        &rt,
-        "what is out",
-        &[
-            (1, 1, b'a', GET, Told::Loads),
-            (2, 1, b'a', GET, Told::Joins),
-            (3, 1, b'b', *put, Told::Writes(Change::Write(one))),
-        ],
-    );
-    assert_eq!(rt; run.closes(&rt, rt.alloc()), 3);
+    play_and_close(&rt, rt.alloc(), THREE_OUT, 3);
 }

@@ -4,60 +4,24 @@ use crate::closed::ClosedStripes;
 use crate::stripe::Stripe;
 use crate::stripe::tests::conditions::{
     is_joined_in, is_loaded, is_out, is_out_in, is_phased, is_played, is_written, may_begin,
+    require,
+};
+use crate::stripe::tests::script::{
+    config, entry, event, is_remark, number, numbered, numbers, phase, told,
 };
 use crate::ticket::{
-    Caller, First, Join, LoadTicket, Origin, WriteTicket, played_load, played_write,
+    Caller, First, Join, LoadAsk, LoadTicket, Origin, WriteTicket, played_load, played_write,
 };
 use jc_model::event::{Change, Event, LoadAnswer, Op, Reply, WriteAnswer};
 use jc_model::legal::legal;
 use jc_types::config::{Config, Refusal};
 use jc_types::key::Key;
-use jc_types::value::Value;
 use std::alloc::Global;
+use std::fmt::Debug;
 use std::process::Abort;
 
-/// One stripe with this room.
-pub(super) fn shape(capacity: usize, history: usize) -> Config {
-    Config {
-        stripes: 1,
-        capacity,
-        history,
-        read_through: false,
-        write_through: false,
-    }
-}
-
-/// The same with read-through.
-pub(super) fn reading(capacity: usize, history: usize) -> Config {
-    let mut config = shape(capacity, history);
-    config.read_through = true;
-    config
-}
-
-/// The same with write-through.
-pub(super) fn writing(capacity: usize, history: usize) -> Config {
-    let mut config = shape(capacity, history);
-    config.write_through = true;
-    config
-}
-
-/// The same with both.
-pub(super) fn both(capacity: usize, history: usize) -> Config {
-    let mut config = reading(capacity, history);
-    config.write_through = true;
-    config
-}
-
-pub(super) fn key(rt: &impl Abort, byte: u8) -> Key {
-    Key::new(&[byte]).expect(rt, "a key")
-}
-
-pub(super) fn value(rt: &impl Abort, byte: u8) -> Value {
-    Value::new(&[byte]).expect(rt, "a value")
-}
-
 /// A phase.
-#[derive(Clone, Copy, Debug, PartialEq, Eq)]
+#[derive(Clone, Copy)]
 pub(super) enum Act {
     /// The first phase of this call.
     Begin(Op),
@@ -86,41 +50,6 @@ pub(super) enum Told {
     Again,
     NotYet,
 }
-
-pub(super) const GET: Act = Act::Begin(Op::Get);
-
-pub(super) const CONTAINS: Act = Act::Begin(Op::ContainsKey);
-
-pub(super) const NOTHING: Act = Act::Loaded(LoadAnswer::Nothing);
-
-pub(super) const WRITTEN: Act = Act::Written(WriteAnswer::Done);
-
-pub(super) const WITHDRAW: Act = Act::Withdraw;
-
-pub(super) const PICK_UP: Act = Act::PickUp;
-
-pub(super) const UNIT: Reply = Reply::Unit;
-
-pub(super) const YES: Reply = Reply::Flag(true);
-
-pub(super) const NO: Reply = Reply::Flag(false);
-
-pub(super) const NONE: Reply = Reply::Value(None);
-
-pub(super) const HISTORY_FULL: Told = Told::Refused(Refusal::HistoryFull);
-
-pub(super) const BUSY: Told = Told::Refused(Refusal::Busy);
-
-pub(super) const TOO_MANY_IN_FLIGHT: Told = Told::Refused(Refusal::TooManyInFlight);
-
-pub(super) const TOO_MANY_JOINERS: Told = Told::Refused(Refusal::TooManyJoiners);
-
-pub(super) fn done(reply: Reply, place: u32) -> Told {
-    Told::Done(reply, place)
-}
-
-/// A phase of a session's call at a key of one byte, and what it is to be told.
-pub(super) type Line = (u32, u64, u8, Act, Told);
 
 /// A ticket or a join that is out. It is spent where the run lets go of it.
 pub(super) enum Held {
@@ -173,22 +102,21 @@ impl Held {
     fn withdraw(self, rt: &impl Abort, stripe: &mut Stripe) {
         match self {
             Held::Load(ticket) => {
-                let ask = ticket.ask();
-                let is_asked = is_out(stripe, &ask.key, ask.number, &First::Loader);
-                assert!(rt; is_asked, "{ask:?} is out");
+                let LoadAsk { key, number } = ticket.ask();
+                let is_asked = is_out(stripe, &key, number, &First::Loader);
+                require(rt, is_asked, &key, "a load is out");
                 stripe.withdraw_load(ticket);
             }
             Held::Write(ticket) => {
                 let ask = ticket.ask();
                 let first = First::Writer(ask.change);
                 let is_asked = is_out(stripe, &ask.key, ask.number, &first);
-                assert!(rt; is_asked, "{ask:?} is out");
+                require(rt, is_asked, &ask.key, "a write is out");
                 stripe.withdraw_write(ticket);
             }
             Held::Join(join) => {
-                let who = join.caller();
                 join.spend();
-                panic!(rt; "{who:?} has no ticket");
+                panic!(rt; "a join has no ticket");
             }
         }
     }
@@ -199,24 +127,22 @@ impl Held {
     fn end(self, rt: &impl Abort, closed: &ClosedStripes) {
         match self {
             Held::Load(ticket) => {
-                let ask = ticket.ask();
-                let is_asked = is_out_in(closed, &ask.key, ask.number, &First::Loader);
-                assert!(rt; is_asked, "{ask:?} is out");
+                let LoadAsk { key, number } = ticket.ask();
+                let is_asked = is_out_in(closed, &key, number, &First::Loader);
+                require(rt, is_asked, &key, "a load is out");
                 closed.end_load(ticket);
             }
             Held::Write(ticket) => {
                 let ask = ticket.ask();
                 let first = First::Writer(ask.change);
                 let is_asked = is_out_in(closed, &ask.key, ask.number, &first);
-                assert!(rt; is_asked, "{ask:?} is out");
+                require(rt, is_asked, &ask.key, "a write is out");
                 closed.end_write(ticket);
             }
             Held::Join(join) => {
-                let who = join.caller();
-                assert!(rt;
-                    is_joined_in(closed, who, &join.key()),
-                    "{who:?} has joined"
-                );
+                let key = join.key();
+                let is_there = is_joined_in(closed, join.caller(), &key);
+                require(rt, is_there, &key, "a call has joined");
                 closed.end_join(join);
             }
         }
@@ -280,8 +206,13 @@ impl Run {
     }
 
     fn begin(&mut self, rt: &impl Abort, who: Caller, key: &Key, op: &Op) -> Told {
-        assert!(rt; may_begin(&self.stripe, who, key), "{who:?} may begin");
-        assert!(rt; is_phased(op), "{op:?} has phases");
+        require(
+            rt,
+            may_begin(&self.stripe, who, key),
+            key,
+            "a call may begin",
+        );
+        require(rt, is_phased(op), key, "a call has phases");
         match self.stripe.begin(who, key, op) {
             Begun::Done(reply, place) => Told::Done(reply, place),
             Begun::Load(ticket) => {
@@ -301,29 +232,25 @@ impl Run {
     }
 
     fn loaded(&mut self, rt: &impl Abort, who: Caller, key: &Key, answer: &LoadAnswer) -> Told {
-        let Some(ticket) = self.take(rt, who, key).load() else {
-            panic!(rt; "{who:?} doesn't load {key:?}");
-        };
+        let ticket = self.take(rt, who, key).load().expect(rt, "a load");
         let ask = ticket.ask();
         let is_asked = is_out(&self.stripe, &ask.key, ask.number, &First::Loader);
-        assert!(rt; is_asked, "{ask:?} is out");
-        assert!(rt; is_played(&self.stripe), "a stripe that is played");
-        assert!(rt; is_loaded(answer), "an answer");
+        require(rt, is_asked, key, "a load is out");
+        require(rt, is_played(&self.stripe), key, "a stripe is played");
+        require(rt, is_loaded(answer), key, "a loader answers");
         let done = played_load(&ask, *answer);
         let (reply, place) = self.stripe.commit_load(ticket, done);
         Told::Done(reply, place)
     }
 
     fn written(&mut self, rt: &impl Abort, who: Caller, key: &Key, report: &WriteAnswer) -> Told {
-        let Some(ticket) = self.take(rt, who, key).write() else {
-            panic!(rt; "{who:?} doesn't write {key:?}");
-        };
+        let ticket = self.take(rt, who, key).write().expect(rt, "a write");
         let ask = ticket.ask();
         let first = First::Writer(ask.change);
         let is_asked = is_out(&self.stripe, &ask.key, ask.number, &first);
-        assert!(rt; is_asked, "{ask:?} is out");
-        assert!(rt; is_played(&self.stripe), "a stripe that is played");
-        assert!(rt; is_written(report), "a report");
+        require(rt, is_asked, key, "a write is out");
+        require(rt, is_played(&self.stripe), key, "a stripe is played");
+        require(rt, is_written(report), key, "a writer reports");
         let done = played_write(&ask, *report);
         let (reply, place) = self.stripe.commit_write(ticket, done);
         Told::Done(reply, place)
@@ -335,13 +262,11 @@ impl Run {
     }
 
     fn pick_up(&mut self, rt: &impl Abort, who: Caller, key: &Key) -> Told {
-        let Some(join) = self.take(rt, who, key).join() else {
-            panic!(rt; "{who:?} hasn't joined at {key:?}");
-        };
-        let caller = join.caller();
+        let join = self.take(rt, who, key).join().expect(rt, "a join");
+        let Caller { session, number } = join.caller();
         let joiners = &self.stripe.joiners;
-        let is_there = joiners.has_joined(caller.session, caller.number, &join.key());
-        assert!(rt; is_there, "{who:?} has joined at {key:?}");
+        let is_there = joiners.has_joined(session, number, &join.key());
+        require(rt, is_there, key, "a call has joined");
         match self.stripe.pick_up(join) {
             Picked::Answer(reply, place, shared) => Told::Answer(reply, place, shared),
             Picked::Again => Told::Again,
@@ -361,7 +286,12 @@ impl Run {
             Act::Withdraw => self.withdraw(rt, who, key),
             Act::PickUp => self.pick_up(rt, who, key),
         };
-        assert!(rt; self.stands(who, key, &told), "{who:?} {act:?}: {told:?}");
+        require(
+            rt,
+            self.stands(who, key, &told),
+            key,
+            "a step stands at its place",
+        );
         told
     }
 
@@ -377,60 +307,86 @@ impl Run {
         }
     }
 
-    /// Plays lines.
-    pub(super) fn plays(&mut self, rt: &impl Abort, case: &str, lines: &[Line]) {
-        for (session, number, byte, act, want) in lines {
-            let (session, number) = (*session, *number);
-            let who = Caller { session, number };
-            let told = self.act(rt, who, &key(rt, *byte), act);
-            assert_eq!(rt; told, *want, "{case}: {who:?} {act:?}");
+    /// Plays the lines of a script behind its first one.
+    pub(super) fn plays(&mut self, rt: &impl Abort, alloc: Global, lines: &str) {
+        let mut has_played = false;
+        for line in lines.lines() {
+            if !is_remark(line) {
+                self.plays_line(rt, alloc, line);
+                has_played = true;
+            }
+        }
+        assert!(rt; has_played, "no line to play");
+    }
+
+    /// Plays lines that leave the entries and the events as they are.
+    fn plays_and_keeps(&mut self, rt: &impl Abort, alloc: Global, lines: &str) {
+        let entries = self.stripe.entries().to_vec(alloc).expect(rt, "memory");
+        let events = self.stripe.events().to_vec(alloc).expect(rt, "memory");
+        self.plays(rt, alloc, lines);
+        assert!(rt;
+            self.stripe.entries() == entries.as_slice(),
+            "other entries"
+        );
+        assert!(rt; self.stripe.events() == events.as_slice(), "other events");
+    }
+
+    fn plays_line(&mut self, rt: &impl Abort, alloc: Global, line: &str) {
+        let (what, want) = line.split_once(" : ").expect(rt, line);
+        let (word, rest) = what.split_once(' ').unwrap_or((what, ""));
+        match (word, rest) {
+            ("each", range) => self.plays_each(rt, alloc, range, want),
+            ("entries", "") => self.holds(rt, line, want),
+            ("event", place) => self.has_event(rt, line, place, want),
+            ("number", of) => self.has_number(rt, line, of, want),
+            _ => self.plays_phase(rt, line),
         }
     }
 
-    /// Each of these keys is loaded with the value by a `get` of session 1, whose calls are numbered from 1 on.
-    pub(super) fn loads(&mut self, rt: &impl Abort, keys: &[u8], value: &Value) {
-        for (k, byte) in keys.iter().enumerate() {
-            let number = k as u64 + 1;
-            let who = Caller { session: 1, number };
-            let there = key(rt, *byte);
-            let begun = self.act(rt, who, &there, &Act::Begin(Op::Get));
-            assert_eq!(rt; begun, Told::Loads, "{byte}");
-            let found = LoadAnswer::Found(*value);
-            self.act(rt, who, &there, &Act::Loaded(found));
+    fn plays_phase(&mut self, rt: &impl Abort, line: &str) {
+        let (what, want) = line.split_once(" : ").expect(rt, line);
+        let (who, key, act) = phase(what).expect(rt, line);
+        let want = told(want).expect(rt, line);
+        same(rt, line, &self.act(rt, who, &key, &act), &want);
+    }
+
+    /// Plays a phase for each number, as `1 to 64` and `N.1 kN get : loads`.
+    fn plays_each(&mut self, rt: &impl Abort, alloc: Global, range: &str, template: &str) {
+        let (first, last) = numbers(range).expect(rt, range);
+        for number in first..=last {
+            self.plays_phase(rt, &numbered(rt, alloc, template, number));
         }
     }
 
-    /// The stripe holds these keys, the most recently used first.
-    pub(super) fn holds(&self, rt: &impl Abort, case: &str, keys: &[u8]) {
-        let entries = self.stripe.entries();
-        for (entry, byte) in entries.iter().zip(keys.iter()) {
-            assert_eq!(rt; entry.0.bytes(), [*byte].as_slice(), "{case}");
-        }
-        assert_eq!(rt; entries.len(), keys.len(), "{case}");
+    fn has_event(&self, rt: &impl Abort, line: &str, place: &str, want: &str) {
+        let place = number(place).expect(rt, line) as usize;
+        let found = self.stripe.events().get(place).expect(rt, line);
+        same(rt, line, found, &event(want).expect(rt, line));
     }
 
-    /// So many places are free: as many `containsKey` of session 99 go on, and no more. The key `z` is missing.
-    pub(super) fn has_free(&mut self, rt: &impl Abort, case: &str, places: u64) {
-        let there = key(rt, b'z');
-        let contains = Act::Begin(Op::ContainsKey);
-        let full = Told::Refused(Refusal::HistoryFull);
-        for number in 0..places {
-            let who = Caller {
-                session: 99,
-                number,
-            };
-            let told = self.act(rt, who, &there, &contains);
-            assert_ne!(rt; told, full, "{case}: {number} of {places}");
-        }
-        let who = Caller {
-            session: 99,
-            number: places,
+    fn has_number(&self, rt: &impl Abort, line: &str, of: &str, want: &str) {
+        let found = match of {
+            "of entries" => Some(self.stripe.entries().len()),
+            "of events" => Some(self.stripe.events().len()),
+            "of joiners" => Some(self.stripe.joiners.len()),
+            _ => None,
         };
-        assert_eq!(rt; self.act(rt, who, &there, &contains), full, "{case}");
+        let want = number(want).expect(rt, line) as usize;
+        same(rt, line, &found.expect(rt, line), &want);
+    }
+
+    /// The stripe holds these entries, the most recently used first: `b=1 a=2`.
+    fn holds(&self, rt: &impl Abort, line: &str, want: &str) {
+        let entries = self.stripe.entries();
+        for (place, word) in want.split(' ').enumerate() {
+            let found = entries.get(place).expect(rt, line);
+            same(rt, line, found, &entry(word).expect(rt, line));
+        }
+        same(rt, line, &entries.len(), &want.split(' ').count());
     }
 
     /// Closes the stripe, and says how many tickets and joins were out.
-    pub(super) fn closes(self, rt: &impl Abort, alloc: Global) -> usize {
+    fn closes(self, rt: &impl Abort, alloc: Global) -> usize {
         let Run { stripe, out } = self;
         let mut stripes = Vec::new(alloc);
         stripes.push(stripe).expect(rt, "memory");
@@ -445,6 +401,61 @@ impl Run {
     pub(super) fn is_legal(&self, rt: &impl Abort, alloc: Global) -> bool {
         legal(alloc, &self.stripe.config, &[], self.stripe.events()).expect(rt, "memory")
     }
+}
+
+/// Ends a test at a line of which something else is true.
+fn same<T: Debug + PartialEq>(rt: &impl Abort, line: &str, found: &T, want: &T) {
+    assert_eq!(rt; *found, *want, "{line}");
+}
+
+/// A stripe behind the lines of a script.
+fn played(rt: &impl Abort, alloc: Global, script: &str) -> Run {
+    let (open, lines) = script.split_once('\n').expect(rt, script);
+    let mut run = Run::new(rt, alloc, &config(open).expect(rt, open));
+    run.plays(rt, alloc, lines);
+    run
+}
+
+/// Plays a script, whose history is legal.
+fn play_one(rt: &impl Abort, alloc: Global, script: &str) {
+    let run = played(rt, alloc, script);
+    assert!(rt; run.is_legal(rt, alloc), "{script}");
+}
+
+/// Plays scripts that are parted by `==`.
+pub(super) fn play(rt: &impl Abort, alloc: Global, scripts: &str) {
+    for script in scripts.split("==\n") {
+        play_one(rt, alloc, script);
+    }
+}
+
+/// Plays a script and lines behind it. The history is legal.
+fn play_two(rt: &impl Abort, alloc: Global, script: &str, lines: &str) {
+    let mut run = played(rt, alloc, script);
+    run.plays(rt, alloc, lines);
+    assert!(rt; run.is_legal(rt, alloc), "{lines}");
+}
+
+/// Plays lines that are parted by `==`, each of them behind the same script.
+pub(super) fn play_behind(rt: &impl Abort, alloc: Global, script: &str, parts: &str) {
+    for lines in parts.split("==\n") {
+        play_two(rt, alloc, script, lines);
+    }
+}
+
+/// Plays a script, lines behind it that leave the entries and the events as they are, and the rest.
+pub(super) fn play_and_keep(rt: &impl Abort, alloc: Global, script: &str, lines: &str, rest: &str) {
+    let mut run = played(rt, alloc, script);
+    run.plays_and_keeps(rt, alloc, lines);
+    run.plays(rt, alloc, rest);
+    assert!(rt; run.is_legal(rt, alloc), "the history");
+}
+
+/// Plays a script and closes its stripe, where so many tickets and joins are out.
+pub(super) fn play_and_close(rt: &impl Abort, alloc: Global, script: &str, out: usize) {
+    let run = played(rt, alloc, script);
+    assert!(rt; run.is_legal(rt, alloc), "{script}");
+    same(rt, script, &run.closes(rt, alloc), &out);
 }
 
 fn is_step(

@@ -1,4 +1,5 @@
 //! What a stripe is to hold, read out of its events and of what each call was told.
+use crate::stripe::tests::conditions::require;
 use jc_model::event::{Event, LoadAnswer, Op, Reply};
 use jc_types::key::Key;
 use jc_types::value::Value;
@@ -23,14 +24,6 @@ fn found(value: Option<Value>) -> Use {
     }
 }
 
-fn is_yes(reply: &Reply) -> bool {
-    matches!(reply, Reply::Flag(true))
-}
-
-fn had_value(reply: &Reply) -> bool {
-    matches!(reply, Reply::Value(Some(_)))
-}
-
 /// What a step does that was told this at an entry with this value.
 fn use_of(op: &Op, load: &LoadAnswer, reply: &Reply, was: Option<Value>) -> Use {
     match (op, reply) {
@@ -43,10 +36,12 @@ fn use_of(op: &Op, load: &LoadAnswer, reply: &Reply, was: Option<Value>) -> Use 
         },
         (Op::Put(value) | Op::GetAndPut(value), _) => Use::Front(*value),
         (Op::Remove | Op::GetAndRemove | Op::Clear, _) => Use::Gone,
-        (Op::RemoveIf(_), _) if is_yes(reply) => Use::Gone,
-        (Op::PutIfAbsent(value) | Op::Replace(value) | Op::ReplaceIf(_, value), _)
-            if is_yes(reply) => { Use::Front(*value) }
-        (Op::GetAndReplace(value), _) if had_value(reply) => Use::Front(*value),
+        (Op::RemoveIf(_), Reply::Flag(true)) => Use::Gone,
+        (
+            Op::PutIfAbsent(value) | Op::Replace(value) | Op::ReplaceIf(_, value),
+            Reply::Flag(true),
+        ) => Use::Front(*value),
+        (Op::GetAndReplace(value), Reply::Value(Some(_))) => Use::Front(*value),
         _ => found(was),
     }
 }
@@ -111,6 +106,21 @@ impl Shelf {
         }
     }
 
+    /// Who goes is the least recently used of those that may. At the first event of a phase the stripe is full, and later it holds
+    /// more than it may.
+    fn evicts(&mut self, rt: &impl Abort, key: &Key, pinned: &[Key], is_first: bool, room: usize) {
+        let is_oldest = self.oldest(pinned) == Some(*key);
+        require(rt, is_oldest, key, "the least recently used goes");
+        let held = self.entries.len();
+        if is_first {
+            require(rt, held == room, key, "the stripe is full");
+            self.has_victims = true;
+        } else {
+            require(rt, room < held, key, "the stripe holds too many");
+            self.has_not_kept = true;
+        }
+    }
+
     /// Reads the events of one phase, before which these keys were reserved by others. Who goes before the step is the least
     /// recently used of the others, where the stripe is full; and its own key goes after it where there is no other.
     pub(super) fn reads_phase(
@@ -122,14 +132,7 @@ impl Shelf {
     ) {
         for (k, event) in events.iter().skip(self.read).enumerate() {
             if let Event::Evict { key, .. } = event {
-                assert_eq!(rt; self.oldest(pinned), Some(*key), "{event:?}");
-                if k == 0 {
-                    assert_eq!(rt; self.entries.len(), capacity, "{event:?}");
-                    self.has_victims = true;
-                } else {
-                    assert!(rt; capacity < self.entries.len(), "{event:?}");
-                    self.has_not_kept = true;
-                }
+                self.evicts(rt, key, pinned, k == 0, capacity);
             }
             self.reads(rt, event);
         }
