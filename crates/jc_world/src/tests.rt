@@ -1,174 +1,91 @@
 //! Runs of a world. Each ends with `close`, since a world can't be dropped.
+//!
+//! They stand in texts, since a check proves a table of rows at a price that grows faster than its length.
 use crate::calls::SESSIONS_MAX;
-use crate::event::{Command, Gone, Part, PickedUp, Reported, Shown, Stepped, Under, WorldEvent};
+use crate::event::{Command, Part, Under};
 use crate::world::World;
-use jc_model::event::{Cause, Change, Event, LoadAnswer, Op, Reply, WriteAnswer};
+use jc_model::event::{Change, Event, LoadAnswer, Op, Reply, WriteAnswer};
 use jc_model::legal::legal;
 use jc_stripe::ticket::First;
-use jc_types::config::{Config, Field, Refusal};
-use jc_types::key::Key;
-use jc_types::value::Value;
+use jc_types::config::{Field, Refusal};
+use script::words::{key_of, value_of};
+use script::{config, goes_on, played, runs};
 use std::alloc::Global;
 use std::process::Abort;
-use std::test::Fail;
 
 mod random;
+mod script;
 
-// 1. The words of a run.
+// 1. A put, up to its commit and behind it.
 
-fn key(rt: &impl Abort, bytes: &[u8]) -> Key {
-    Key::new(bytes).expect(rt, "a key")
+const PUT_ASKED: &str = "\
+open 1 2 100 read write
+set a 1
+==
+call 1 s1 get a: begun
+start 1 a: load
+read 1 a: reads 1
+end 1 a: is 1 at 0.0
+call 2 s1 put a 2: begun
+start 2 a: asks write 2
+change 2 a: changed
+call 3 s2 get a: begun
+start 3 a: is 1 at 0.1
+--
+cache a=1
+store a=2
+coherent
+history 2 legal
+busy s1
+idle s2
+last 3
+";
+
+const PUT_COMMITTED: &str = "\
+report 2: done write 2
+end 2 a: is ok at 0.2
+call 4 s2 get a: begun
+start 4 a: is 2 at 0.3
+--
+cache a=2
+store a=2
+coherent
+history 4 legal
+";
+
+/// The put is asked, and nobody else is.
+fn asks_for_the_put(rt: &impl Abort, world: &World) {
+    let a = key_of(rt, "a");
+    let two = value_of(rt, "2");
+    let under = Under {
+        session: 1,
+        number: 2,
+        command: Command {
+            op: Op::Put(two),
+            key: a,
+        },
+    };
+    let part = Part {
+        call: 2,
+        number: 1,
+        op: Op::Put(two),
+        first: First::Writer(Change::Write(two)),
+        load: LoadAnswer::NotAsked,
+        is_changed: true,
+        report: WriteAnswer::NotAsked,
+    };
+    let is_under_way = world.under(2) == Some(&under) && world.part(2, &a) == Some(&part);
+    assert!(rt; is_under_way, "call 2 has reserved the key");
+    let is_over = world.under(3).is_none() && world.part(3, &a).is_none();
+    assert!(rt; is_over, "call 3 is over");
 }
 
-fn value(rt: &impl Abort, byte: u8) -> Value {
-    Value::new(&[byte]).expect(rt, "a value")
-}
-
-fn call(call: u64, session: u32, op: Op, key: Key) -> WorldEvent {
-    WorldEvent::Call {
-        call,
-        session,
-        command: Command { op, key },
-    }
-}
-
-fn start(call: u64, key: Key) -> WorldEvent {
-    WorldEvent::Start { call, key }
-}
-
-fn read(call: u64, key: Key) -> WorldEvent {
-    WorldEvent::Read { call, key }
-}
-
-fn say(call: u64, key: Key, answer: LoadAnswer) -> WorldEvent {
-    WorldEvent::Say { call, key, answer }
-}
-
-fn change(call: u64, key: Key) -> WorldEvent {
-    WorldEvent::Change { call, key }
-}
-
-fn report(call: u64, fault: Option<u32>) -> WorldEvent {
-    WorldEvent::Report { call, fault }
-}
-
-fn commit(call: u64, key: Key) -> WorldEvent {
-    WorldEvent::Commit { call, key }
-}
-
-fn withdraw(call: u64, key: Key) -> WorldEvent {
-    WorldEvent::Withdraw { call, key }
-}
-
-fn leave(call: u64) -> WorldEvent {
-    WorldEvent::Leave { call }
-}
-
-fn pick_up(call: u64, key: Key) -> WorldEvent {
-    WorldEvent::PickUp { call, key }
-}
-
-fn stepped(stripe: usize, place: u32, reply: Reply) -> Shown {
-    Shown::Stepped(Stepped {
-        reply,
-        stripe,
-        place,
-        victim: None,
-        evicted: None,
-    })
-}
-
-fn found(value: Value) -> Reply {
-    Reply::Value(Some(value))
-}
-
-/// The answer of a load that a call had joined, in the one stripe.
-fn picked_up(place: u32, shared: u32, reply: Reply) -> Shown {
-    Shown::PickedUp(PickedUp {
-        reply,
-        stripe: 0,
-        place,
-        shared,
-    })
-}
-
-fn reported(change: Change, is_changed: bool, fault: Option<u32>) -> Shown {
-    Shown::Reported(Reported {
-        change,
-        is_changed,
-        fault,
-    })
-}
-
-// 2. A world, and what is wanted of it.
-
-/// One stripe, with read-through and write-through.
-fn shape(capacity: usize) -> Config {
-    Config {
-        stripes: 1,
-        capacity,
-        history: 100,
-        read_through: true,
-        write_through: true,
-    }
-}
-
-/// A world with these values in its store.
-fn opened(rt: &impl Abort, alloc: Global, config: &Config, stored: &[(Key, Value)]) -> World {
-    let mut world = World::new(alloc, config).expect(rt, "a world");
-    for (key, value) in stored {
-        assert!(rt; world.is_fresh(), "nothing has happened");
-        world.set(key, value).expect(rt, "memory");
-    }
-    world
-}
-
-/// Plays events, each with what it is to show.
-fn plays(rt: &impl Abort, alloc: Global, world: &mut World, wanted: &[(WorldEvent, Shown)]) {
-    let mut events = Vec::with_capacity(alloc, wanted.len()).expect(rt, "memory");
-    for (event, _) in wanted {
-        events.push(*event).expect(rt, "memory");
-    }
-    let all = world.play(alloc, &events).expect(rt, "memory");
-    assert_eq!(rt; all.len(), wanted.len());
-    assert_eq!(rt; world.played(), wanted.len());
-    for ((event, want), seen) in wanted.iter().zip(all.iter()) {
-        assert_eq!(rt; *seen, *want, "{event:?}");
-    }
-}
-
-/// What an audit is to show, but for whether the order is legal, which it always is.
-#[derive(Drop)]
-struct Wanted<'a> {
-    cache: &'a [(Key, Value)],
-    store: &'a [(Key, Value)],
-    differing: &'a [Key],
-    events: usize,
-}
-
-fn audits(rt: &impl Abort, alloc: Global, world: &World, wanted: &Wanted) {
-    let audit = world.audit(alloc).expect(rt, "memory");
-    assert_eq!(rt; audit.cache.as_slice(), wanted.cache);
-    assert_eq!(rt; audit.store.as_slice(), wanted.store);
-    assert_eq!(rt; audit.differing.as_slice(), wanted.differing);
-    assert_eq!(rt; audit.events, wanted.events);
-    assert_eq!(rt; world.order().len(), wanted.events);
-    assert!(rt; audit.is_legal, "one legal history");
-}
-
-/// Caches the value that the store has for a key, by call 1 of session 1. It is the first step.
-fn loads_first(rt: &impl Abort, alloc: Global, world: &mut World, key: Key, value: Value) {
-    plays(
-        rt,
-        alloc,
-        world,
-        &[
-            (call(1, 1, Op::Get, key), Shown::Begun),
-            (start(1, key), Shown::Loads),
-            (read(1, key), Shown::Reads(LoadAnswer::Found(value))),
-            (commit(1, key), stepped(0, 0, Reply::Value(Some(value)))),
-        ],
-    );
+#[test]
+fn shows_a_put_after_its_commit(rt: HostRuntime) {
+    let mut world = played(&rt, rt.alloc(), PUT_ASKED);
+    asks_for_the_put(&rt, &world);
+    goes_on(&rt, rt.alloc(), &mut world, PUT_COMMITTED);
+    world.close();
 }
 
 /// An event with another reply, where it is a step.
@@ -195,530 +112,362 @@ fn answered_otherwise(event: Event) -> Event {
     }
 }
 
-// 3. The runs.
-
+/// The order is legal, and with another reply it isn't.
 #[test]
-fn shows_a_put_after_its_commit(rt: HostRuntime) -> Result<(), Fail> {
-    let config = shape(2);
-    let a = key(&rt, b"a");
-    let one = value(&rt, 1);
-    let two = value(&rt, 2);
-    let change_to_two = Change::Write(two);
-    let mut world = opened(&rt, rt.alloc(), &config, &[(a, one)]);
-    loads_first(&rt, rt.alloc(), &mut world, a, one);
-    plays(
-        &rt,
-        rt.alloc(),
-        &mut world,
-        &[
-            (call(2, 1, Op::Put(two), a), Shown::Begun),
-            (start(2, a), Shown::Asks(change_to_two)),
-            (change(2, a), Shown::Changed),
-            (call(3, 2, Op::Get, a), Shown::Begun),
-            (start(3, a), stepped(0, 1, Reply::Value(Some(one)))),
-        ],
-    );
-    let before = Wanted {
-        cache: &[(a, one)],
-        store: &[(a, two)],
-        differing: &[],
-        events: 2,
-    };
-    audits(&rt, rt.alloc(), &world, &before);
-    let under = Under {
-        session: 1,
-        number: 2,
-        command: Command {
-            op: Op::Put(two),
-            key: a,
-        },
-    };
-    let part = Part {
-        call: 2,
-        number: 1,
-        op: Op::Put(two),
-        first: First::Writer(change_to_two),
-        load: LoadAnswer::NotAsked,
-        is_changed: true,
-        report: WriteAnswer::NotAsked,
-    };
-    assert_eq!(rt; world.under(2), Some(&under));
-    assert_eq!(rt; world.under(3), None, "call 3 is over");
-    assert_eq!(rt; world.part(2, &a), Some(&part));
-    assert_eq!(rt; world.part(3, &a), None, "the key is call 2's");
-    assert!(rt; world.is_busy(1) && !world.is_busy(2), "session 1 is busy");
-    assert_eq!(rt; world.last(), Some(3));
-    plays(
-        &rt,
-        rt.alloc(),
-        &mut world,
-        &[
-            (report(2, None), reported(change_to_two, true, None)),
-            (commit(2, a), stepped(0, 2, Reply::Unit)),
-            (call(4, 2, Op::Get, a), Shown::Begun),
-            (start(4, a), stepped(0, 3, Reply::Value(Some(two)))),
-        ],
-    );
-    let after = Wanted {
-        cache: &[(a, two)],
-        store: &[(a, two)],
-        differing: &[],
-        events: 4,
-    };
-    audits(&rt, rt.alloc(), &world, &after);
-    // The order is legal, and with another reply it isn't.
-    let is_legal = legal(rt.alloc(), &config, &[], world.order()).expect(&rt, "memory");
-    let mut events = world.order().to_vec(rt.alloc()).expect(&rt, "memory");
+fn has_a_legal_order_of_a_put(rt: HostRuntime) {
+    let alloc = rt.alloc();
+    let config = config(&rt, "open 1 2 100 read write");
+    let mut world = played(&rt, alloc, PUT_ASKED);
+    goes_on(&rt, alloc, &mut world, PUT_COMMITTED);
+    let mut events = world.order().to_vec(alloc).expect(&rt, "memory");
     world.close();
-    assert!(rt; is_legal, "the order");
+    assert!(rt;
+        legal(alloc, &config, &[], &events).expect(&rt, "memory"),
+        "the order"
+    );
     assert_eq!(rt; events.len(), 4);
     events[3] = answered_otherwise(events[3]);
-    assert!(rt; !legal(rt.alloc(), &config, &[], &events)?, "a wrong reply");
-    Ok(())
+    assert!(rt;
+        !legal(alloc, &config, &[], &events).expect(&rt, "memory"),
+        "a wrong reply"
+    );
 }
+
+// 2. Other runs.
+
+// First no session has such a number, these operations are no calls by themselves, and no call is under way. Then there is a busy
+// session, a number that doesn't rise, another call's number, another key, what comes before its time, and a call that is over.
+const UNFIT: &str = "\
+open 1 2 100 read write
+set a 1
+==
+call 1 s0 get a: unfit
+call 1 s33 get a: unfit
+call 1 s1 clear a: unfit
+call 1 s1 loadall a: unfit
+call 1 s1 invoke a: unfit
+start 1 a: unfit
+report 1: unfit
+--
+fresh
+last -
+==
+call 5 s32 get a: begun
+call 6 s32 get b: unfit
+call 5 s1 get b: unfit
+call 4 s1 get b: unfit
+start 4 a: unfit
+start 5 b: unfit
+read 5 a: unfit
+end 5 a: unfit
+start 5 a: load
+start 5 a: unfit
+end 5 a: unfit
+change 5 a: unfit
+report 5: unfit
+say 5 a unasked: unfit
+read 5 b: unfit
+read 4 a: unfit
+read 5 a: reads 1
+read 5 a: unfit
+say 5 a -: unfit
+end 5 a: is 1 at 0.0
+end 5 a: unfit
+start 5 a: unfit
+call 5 s1 get a: unfit
+--
+begun
+last 5
+cache a=1
+store a=1
+coherent
+history 1 legal
+";
 
 #[test]
 fn leaves_out_what_does_not_fit(rt: HostRuntime) {
-    let a = key(&rt, b"a");
-    let b = key(&rt, b"b");
-    let one = value(&rt, 1);
-    let mut world = opened(&rt, rt.alloc(), &shape(2), &[(a, one)]);
-    // No session has such a number, these operations are no calls by themselves, and no call is under way.
-    plays(
-        &rt,
-        rt.alloc(),
-        &mut world,
-        &[
-            (call(1, 0, Op::Get, a), Shown::Unfit),
-            (call(1, SESSIONS_MAX + 1, Op::Get, a), Shown::Unfit),
-            (call(1, 1, Op::Clear, a), Shown::Unfit),
-            (call(1, 1, Op::LoadAll(false), a), Shown::Unfit),
-            (call(1, 1, Op::Invoke, a), Shown::Unfit),
-            (start(1, a), Shown::Unfit),
-            (report(1, None), Shown::Unfit),
-        ],
-    );
-    assert!(rt; world.is_fresh(), "nothing has happened");
-    assert_eq!(rt; world.last(), None);
-    plays(
-        &rt,
-        rt.alloc(),
-        &mut world,
-        &[
-            (call(5, SESSIONS_MAX, Op::Get, a), Shown::Begun),
-            // A busy session, a number that doesn't rise, and another call's number.
-            (call(6, SESSIONS_MAX, Op::Get, b), Shown::Unfit),
-            (call(5, 1, Op::Get, b), Shown::Unfit),
-            (call(4, 1, Op::Get, b), Shown::Unfit),
-            (start(4, a), Shown::Unfit),
-            // Another key, and what comes before its time.
-            (start(5, b), Shown::Unfit),
-            (read(5, a), Shown::Unfit),
-            (commit(5, a), Shown::Unfit),
-            (start(5, a), Shown::Loads),
-            (start(5, a), Shown::Unfit),
-            (commit(5, a), Shown::Unfit),
-            (change(5, a), Shown::Unfit),
-            (report(5, None), Shown::Unfit),
-            (say(5, a, LoadAnswer::NotAsked), Shown::Unfit),
-            (read(5, b), Shown::Unfit),
-            (read(4, a), Shown::Unfit),
-            (read(5, a), Shown::Reads(LoadAnswer::Found(one))),
-            (read(5, a), Shown::Unfit),
-            (say(5, a, LoadAnswer::Nothing), Shown::Unfit),
-            (commit(5, a), stepped(0, 0, Reply::Value(Some(one)))),
-            // The call is over.
-            (commit(5, a), Shown::Unfit),
-            (start(5, a), Shown::Unfit),
-            (call(5, 1, Op::Get, a), Shown::Unfit),
-        ],
-    );
-    assert!(rt; !world.is_fresh(), "a call has begun");
-    assert_eq!(rt; world.last(), Some(5));
-    let wanted = Wanted {
-        cache: &[(a, one)],
-        store: &[(a, one)],
-        differing: &[],
-        events: 1,
-    };
-    audits(&rt, rt.alloc(), &world, &wanted);
-    world.close();
+    assert_eq!(rt; SESSIONS_MAX, 32);
+    runs(&rt, rt.alloc(), UNFIT);
 }
+
+// The ticket that is out goes with the world.
+const RESERVED: &str = "\
+open 1 2 100 read write
+==
+call 1 s1 put a 1: begun
+start 1 a: asks write 1
+call 2 s2 remove a: begun
+start 2 a: refused Busy
+--
+idle s2
+cache
+store
+coherent
+history 0 legal
+";
 
 #[test]
 fn refuses_a_key_that_is_reserved(rt: HostRuntime) {
-    let a = key(&rt, b"a");
-    let one = value(&rt, 1);
-    let mut world = opened(&rt, rt.alloc(), &shape(2), &[]);
-    plays(
-        &rt,
-        rt.alloc(),
-        &mut world,
-        &[
-            (call(1, 1, Op::Put(one), a), Shown::Begun),
-            (start(1, a), Shown::Asks(Change::Write(one))),
-            (call(2, 2, Op::Remove, a), Shown::Begun),
-            (start(2, a), Shown::Refused(Refusal::Busy)),
-        ],
-    );
-    assert!(rt; !world.is_busy(2), "the call is over");
-    let wanted = Wanted {
-        cache: &[],
-        store: &[],
-        differing: &[],
-        events: 0,
-    };
-    audits(&rt, rt.alloc(), &world, &wanted);
-    // The ticket that is out goes with the world.
-    world.close();
+    runs(&rt, rt.alloc(), RESERVED);
 }
+
+const JOINED: &str = "\
+open 1 2 100 read write
+set a 1
+==
+call 1 s1 get a: begun
+start 1 a: load
+call 2 s2 get a: begun
+take 2 a: unfit
+start 2 a: joined
+start 2 a: unfit
+leave 2: unfit
+call 3 s3 get a: begun
+start 3 a: joined
+take 2 a: waits
+read 1 a: reads 1
+withdraw 1 a: unfit
+end 1 a: is 1 at 0.0
+call 4 s2 get a: unfit
+take 3 a: is 1 at 0.2 shared 0
+take 3 a: unfit
+take 2 a: is 1 at 0.1 shared 0
+call 4 s2 get a: begun
+start 4 a: is 1 at 0.3
+--
+cache a=1
+store a=1
+coherent
+history 4 legal
+";
 
 #[test]
 fn shares_a_load_with_those_that_join(rt: HostRuntime) {
-    let a = key(&rt, b"a");
-    let one = value(&rt, 1);
-    let mut world = opened(&rt, rt.alloc(), &shape(2), &[(a, one)]);
-    plays(
-        &rt,
-        rt.alloc(),
-        &mut world,
-        &[
-            (call(1, 1, Op::Get, a), Shown::Begun),
-            (start(1, a), Shown::Loads),
-            (call(2, 2, Op::Get, a), Shown::Begun),
-            (pick_up(2, a), Shown::Unfit),
-            (start(2, a), Shown::Joins),
-            (start(2, a), Shown::Unfit),
-            (leave(2), Shown::Unfit),
-            (call(3, 3, Op::Get, a), Shown::Begun),
-            (start(3, a), Shown::Joins),
-            (pick_up(2, a), Shown::Waits),
-            (read(1, a), Shown::Reads(LoadAnswer::Found(one))),
-            (withdraw(1, a), Shown::Unfit),
-            (commit(1, a), stepped(0, 0, found(one))),
-            (call(4, 2, Op::Get, a), Shown::Unfit),
-            (pick_up(3, a), picked_up(2, 0, found(one))),
-            (pick_up(3, a), Shown::Unfit),
-            (pick_up(2, a), picked_up(1, 0, found(one))),
-            (call(4, 2, Op::Get, a), Shown::Begun),
-            (start(4, a), stepped(0, 3, found(one))),
-        ],
-    );
-    let wanted = Wanted {
-        cache: &[(a, one)],
-        store: &[(a, one)],
-        differing: &[],
-        events: 4,
-    };
-    audits(&rt, rt.alloc(), &world, &wanted);
-    world.close();
+    runs(&rt, rt.alloc(), JOINED);
 }
+
+// In the end a join that is out goes with the world, too.
+const WITHDRAWN: &str = "\
+open 1 2 100 read write
+set a 1
+==
+call 1 s1 get a: begun
+withdraw 1 a: unfit
+start 1 a: load
+leave 1: unfit
+call 2 s2 get a: begun
+start 2 a: joined
+withdraw 1 a: withdrawn
+end 1 a: unfit
+leave 1: over
+leave 1: unfit
+take 2 a: again
+take 2 a: unfit
+start 2 a: load
+read 2 a: reads 1
+end 2 a: is 1 at 0.0
+--
+cache a=1
+store a=1
+coherent
+history 1 legal
+==
+call 5 s1 get b: begun
+start 5 b: load
+call 6 s2 get b: begun
+start 6 b: joined
+--
+busy s1
+busy s2
+";
 
 #[test]
 fn begins_again_where_a_load_is_withdrawn(rt: HostRuntime) {
-    let a = key(&rt, b"a");
-    let one = value(&rt, 1);
-    let mut world = opened(&rt, rt.alloc(), &shape(2), &[(a, one)]);
-    plays(
-        &rt,
-        rt.alloc(),
-        &mut world,
-        &[
-            (call(1, 1, Op::Get, a), Shown::Begun),
-            (withdraw(1, a), Shown::Unfit),
-            (start(1, a), Shown::Loads),
-            (leave(1), Shown::Unfit),
-            (call(2, 2, Op::Get, a), Shown::Begun),
-            (start(2, a), Shown::Joins),
-            (withdraw(1, a), Shown::Withdrawn),
-            (commit(1, a), Shown::Unfit),
-            (leave(1), Shown::Left),
-            (leave(1), Shown::Unfit),
-            (pick_up(2, a), Shown::Again),
-            (pick_up(2, a), Shown::Unfit),
-            (start(2, a), Shown::Loads),
-            (read(2, a), Shown::Reads(LoadAnswer::Found(one))),
-            (commit(2, a), stepped(0, 0, Reply::Value(Some(one)))),
-        ],
-    );
-    let wanted = Wanted {
-        cache: &[(a, one)],
-        store: &[(a, one)],
-        differing: &[],
-        events: 1,
-    };
-    audits(&rt, rt.alloc(), &world, &wanted);
-    // A join that is out goes with the world, too.
-    let b = key(&rt, b"b");
-    plays(
-        &rt,
-        rt.alloc(),
-        &mut world,
-        &[
-            (call(5, 1, Op::Get, b), Shown::Begun),
-            (start(5, b), Shown::Loads),
-            (call(6, 2, Op::Get, b), Shown::Begun),
-            (start(6, b), Shown::Joins),
-        ],
-    );
-    world.close();
+    runs(&rt, rt.alloc(), WITHDRAWN);
 }
+
+// The only entry is reserved, so it stays, and what is loaded goes again, behind the step that shares the load.
+const NO_PLACE: &str = "\
+open 1 1 100 read write
+set a 1
+set b 2
+==
+call 1 s1 get a: begun
+start 1 a: load
+read 1 a: reads 1
+end 1 a: is 1 at 0.0
+call 2 s1 put a 2: begun
+start 2 a: asks write 2
+call 3 s2 get b: begun
+start 3 b: load
+call 4 s3 get b: begun
+start 4 b: joined
+read 3 b: reads 2
+end 3 b: is 2 at 0.1 evicted full at 3
+take 4 b: is 2 at 0.2 shared 1
+--
+cache a=1
+store a=1 b=2
+coherent
+history 4 legal
+";
 
 #[test]
 fn lets_go_what_finds_no_place(rt: HostRuntime) {
-    let a = key(&rt, b"a");
-    let b = key(&rt, b"b");
-    let one = value(&rt, 1);
-    let two = value(&rt, 2);
-    let mut world = opened(&rt, rt.alloc(), &shape(1), &[(a, one), (b, two)]);
-    loads_first(&rt, rt.alloc(), &mut world, a, one);
-    // The only entry is reserved, so it stays, and what is loaded goes again, behind the step that shares the load.
-    let gone = Shown::Stepped(Stepped {
-        reply: found(two),
-        stripe: 0,
-        place: 1,
-        victim: None,
-        evicted: Some(Gone {
-            cause: Cause::Full,
-            place: 3,
-        }),
-    });
-    plays(
-        &rt,
-        rt.alloc(),
-        &mut world,
-        &[
-            (call(2, 1, Op::Put(two), a), Shown::Begun),
-            (start(2, a), Shown::Asks(Change::Write(two))),
-            (call(3, 2, Op::Get, b), Shown::Begun),
-            (start(3, b), Shown::Loads),
-            (call(4, 3, Op::Get, b), Shown::Begun),
-            (start(4, b), Shown::Joins),
-            (read(3, b), Shown::Reads(LoadAnswer::Found(two))),
-            (commit(3, b), gone),
-            (pick_up(4, b), picked_up(2, 1, found(two))),
-        ],
-    );
-    let wanted = Wanted {
-        cache: &[(a, one)],
-        store: &[(a, one), (b, two)],
-        differing: &[],
-        events: 4,
-    };
-    audits(&rt, rt.alloc(), &world, &wanted);
-    world.close();
+    runs(&rt, rt.alloc(), NO_PLACE);
 }
+
+const FAILED_WRITE: &str = "\
+open 1 2 100 read write
+set a 1
+==
+call 1 s1 get a: begun
+start 1 a: load
+read 1 a: reads 1
+end 1 a: is 1 at 0.0
+call 2 s1 put a 2: begun
+start 2 a: asks write 2
+report 2 fails 7: left write 2 fails 7
+end 2 a: is WriterFailed 7 at 0.1
+--
+cache a=1
+store a=1
+coherent
+history 2 legal
+";
 
 #[test]
 fn keeps_the_entry_of_a_failed_write(rt: HostRuntime) {
-    let a = key(&rt, b"a");
-    let one = value(&rt, 1);
-    let two = value(&rt, 2);
-    let mut world = opened(&rt, rt.alloc(), &shape(2), &[(a, one)]);
-    loads_first(&rt, rt.alloc(), &mut world, a, one);
-    let failed = Reply::Fault(Refusal::WriterFailed(7));
-    plays(
-        &rt,
-        rt.alloc(),
-        &mut world,
-        &[
-            (call(2, 1, Op::Put(two), a), Shown::Begun),
-            (start(2, a), Shown::Asks(Change::Write(two))),
-            (
-                report(2, Some(7)),
-                reported(Change::Write(two), false, Some(7)),
-            ),
-            (commit(2, a), stepped(0, 1, failed)),
-        ],
-    );
-    let wanted = Wanted {
-        cache: &[(a, one)],
-        store: &[(a, one)],
-        differing: &[],
-        events: 2,
-    };
-    audits(&rt, rt.alloc(), &world, &wanted);
-    world.close();
+    runs(&rt, rt.alloc(), FAILED_WRITE);
 }
+
+// As long as the call isn't committed, the key isn't listed.
+const LIE: &str = "\
+open 1 2 100 read write
+set a 1
+==
+call 1 s1 get a: begun
+start 1 a: load
+read 1 a: reads 1
+end 1 a: is 1 at 0.0
+call 2 s1 remove a: begun
+start 2 a: asks delete
+change 2 a: changed
+report 2 fails 3: done delete fails 3
+--
+cache a=1
+store
+coherent
+history 1 legal
+==
+end 2 a: is WriterFailed 3 at 0.1
+--
+cache a=1
+store
+differs a
+history 2 legal
+";
 
 #[test]
 fn differs_after_a_writer_that_lies(rt: HostRuntime) {
-    let a = key(&rt, b"a");
-    let one = value(&rt, 1);
-    let mut world = opened(&rt, rt.alloc(), &shape(2), &[(a, one)]);
-    loads_first(&rt, rt.alloc(), &mut world, a, one);
-    plays(
-        &rt,
-        rt.alloc(),
-        &mut world,
-        &[
-            (call(2, 1, Op::Remove, a), Shown::Begun),
-            (start(2, a), Shown::Asks(Change::Delete)),
-            (change(2, a), Shown::Changed),
-            (report(2, Some(3)), reported(Change::Delete, true, Some(3))),
-        ],
-    );
-    // The call isn't committed, so the key isn't listed yet.
-    let waiting = Wanted {
-        cache: &[(a, one)],
-        store: &[],
-        differing: &[],
-        events: 1,
-    };
-    audits(&rt, rt.alloc(), &world, &waiting);
-    let failed = Reply::Fault(Refusal::WriterFailed(3));
-    plays(
-        &rt,
-        rt.alloc(),
-        &mut world,
-        &[(commit(2, a), stepped(0, 1, failed))],
-    );
-    let wanted = Wanted {
-        cache: &[(a, one)],
-        store: &[],
-        differing: &[a],
-        events: 2,
-    };
-    audits(&rt, rt.alloc(), &world, &wanted);
-    world.close();
+    runs(&rt, rt.alloc(), LIE);
 }
+
+const FALSE_ANSWER: &str = "\
+open 1 4 100 read write
+set a 1
+==
+call 1 s1 get a: begun
+start 1 a: load
+read 1 a: reads 1
+end 1 a: is 1 at 0.0
+foreign a 2: written
+call 2 s1 get b: begun
+start 2 b: load
+say 2 b 2: says 2
+end 2 b: is 2 at 0.1
+call 3 s1 get c: begun
+start 3 c: load
+say 3 c fails 4: says fails 4
+end 3 c: is LoaderFailed 4 at 0.2
+--
+cache a=1 b=2
+store a=2
+differs a b
+history 3 legal
+";
 
 #[test]
 fn differs_after_a_foreign_write_and_a_false_answer(rt: HostRuntime) {
-    let a = key(&rt, b"a");
-    let b = key(&rt, b"b");
-    let c = key(&rt, b"c");
-    let one = value(&rt, 1);
-    let two = value(&rt, 2);
-    let mut world = opened(&rt, rt.alloc(), &shape(4), &[(a, one)]);
-    loads_first(&rt, rt.alloc(), &mut world, a, one);
-    let foreign = WorldEvent::Foreign {
-        key: a,
-        value: Some(two),
-    };
-    let failed = Reply::Fault(Refusal::LoaderFailed(4));
-    plays(
-        &rt,
-        rt.alloc(),
-        &mut world,
-        &[
-            (foreign, Shown::Written),
-            (call(2, 1, Op::Get, b), Shown::Begun),
-            (start(2, b), Shown::Loads),
-            (
-                say(2, b, LoadAnswer::Found(two)),
-                Shown::Says(LoadAnswer::Found(two)),
-            ),
-            (commit(2, b), stepped(0, 1, Reply::Value(Some(two)))),
-            (call(3, 1, Op::Get, c), Shown::Begun),
-            (start(3, c), Shown::Loads),
-            (
-                say(3, c, LoadAnswer::Failed(4)),
-                Shown::Says(LoadAnswer::Failed(4)),
-            ),
-            (commit(3, c), stepped(0, 2, failed)),
-        ],
-    );
-    let wanted = Wanted {
-        cache: &[(a, one), (b, two)],
-        store: &[(a, two)],
-        differing: &[a, b],
-        events: 3,
-    };
-    audits(&rt, rt.alloc(), &world, &wanted);
-    world.close();
+    runs(&rt, rt.alloc(), FALSE_ANSWER);
 }
 
-fn keys_of(rt: &impl Abort, alloc: Global, events: &[Event]) -> Vec<Key> {
-    let mut keys = Vec::with_capacity(alloc, events.len()).expect(rt, "memory");
-    for event in events {
-        let key = match event {
-            Event::Step { key, .. } => *key,
-            Event::Evict { key, .. } => *key,
-        };
-        keys.push(key).expect(rt, "memory");
-    }
-    keys
-}
+// The keys are of the stripes 1, 2, 3 and 1. The one that was used least goes before the step.
+const STRIPES: &str = "\
+open 4 1 16
+==
+call 1 s1 put b 1: begun
+call 2 s2 put a 1: begun
+start 2 a: is ok at 1.0
+start 1 b: is ok at 2.0
+call 3 s1 put ab 1: begun
+start 3 ab: is ok at 3.0
+call 4 s2 put e 1: begun
+start 4 e: is ok at 1.2 evicts a
+call 5 s1 get a: begun
+start 5 a: is - at 1.3
+--
+order a b ab a e a
+cache ab=1 b=1 e=1
+store
+differs ab b e
+history 6 legal
+";
 
 #[test]
 fn has_one_order_over_its_stripes(rt: HostRuntime) {
-    let config = Config {
-        stripes: 4,
-        capacity: 1,
-        history: 16,
-        read_through: false,
-        write_through: false,
-    };
-    // Of the stripes 1, 2, 3 and 1.
-    let a = key(&rt, b"a");
-    let b = key(&rt, b"b");
-    let ab = key(&rt, b"ab");
-    let e = key(&rt, b"e");
-    let one = value(&rt, 1);
-    // The one that was used least goes before the step.
-    let evicts = Shown::Stepped(Stepped {
-        reply: Reply::Unit,
-        stripe: 1,
-        place: 2,
-        victim: Some(a),
-        evicted: None,
-    });
-    let mut world = opened(&rt, rt.alloc(), &config, &[]);
-    plays(
-        &rt,
-        rt.alloc(),
-        &mut world,
-        &[
-            (call(1, 1, Op::Put(one), b), Shown::Begun),
-            (call(2, 2, Op::Put(one), a), Shown::Begun),
-            (start(2, a), stepped(1, 0, Reply::Unit)),
-            (start(1, b), stepped(2, 0, Reply::Unit)),
-            (call(3, 1, Op::Put(one), ab), Shown::Begun),
-            (start(3, ab), stepped(3, 0, Reply::Unit)),
-            (call(4, 2, Op::Put(one), e), Shown::Begun),
-            (start(4, e), evicts),
-            (call(5, 1, Op::Get, a), Shown::Begun),
-            (start(5, a), stepped(1, 3, Reply::Value(None))),
-        ],
-    );
-    let keys = keys_of(&rt, rt.alloc(), world.order());
-    assert_eq!(rt; keys.as_slice(), [a, b, ab, a, e, a].as_slice());
-    let wanted = Wanted {
-        cache: &[(ab, one), (b, one), (e, one)],
-        store: &[],
-        differing: &[ab, b, e],
-        events: 6,
-    };
-    audits(&rt, rt.alloc(), &world, &wanted);
-    world.close();
+    runs(&rt, rt.alloc(), STRIPES);
+}
+
+// 3. Shapes.
+
+const SHAPES: &str = "\
+open 1 1 16: fits
+open 0 1 16: stripes
+open 65 1 16: stripes
+open 1 0 16: capacity
+open 1 4097 16: capacity
+open 1 1 15: history
+open 1 1 65537: history
+";
+
+/// The refusal that blames a field, if one is named.
+fn refusal_of(rt: &impl Abort, name: &str) -> Option<Refusal> {
+    match name {
+        "fits" => None,
+        "stripes" => Some(Refusal::BadConfig(Field::Stripes)),
+        "capacity" => Some(Refusal::BadConfig(Field::Capacity)),
+        "history" => Some(Refusal::BadConfig(Field::History)),
+        _ => panic!(rt; "no field"),
+    }
+}
+
+/// The refusal of a world of this shape, if there is one.
+fn refusal(rt: &impl Abort, alloc: Global, shape: &str) -> Option<Refusal> {
+    match World::new(alloc, &config(rt, shape)) {
+        Ok(world) => {
+            world.close();
+            None
+        }
+        Err(refusal) => Some(refusal),
+    }
 }
 
 #[test]
 fn refuses_a_shape_beyond_the_limits(rt: HostRuntime) {
-    for (stripes, capacity, history, fault) in [
-        (1, 1, 16, None),
-        (0, 1, 16, Some(Field::Stripes)),
-        (65, 1, 16, Some(Field::Stripes)),
-        (1, 0, 16, Some(Field::Capacity)),
-        (1, 4097, 16, Some(Field::Capacity)),
-        (1, 1, 15, Some(Field::History)),
-        (1, 1, 65537, Some(Field::History)),
-    ] {
-        let config = Config {
-            stripes,
-            capacity,
-            history,
-            read_through: false,
-            write_through: false,
-        };
-        let refused = match World::new(rt.alloc(), &config) {
-            Ok(world) => {
-                world.close();
-                None
-            }
-            Err(refusal) => Some(refusal),
-        };
-        assert_eq!(rt; refused, fault.map(Refusal::BadConfig), "{config:?}");
+    for line in SHAPES.lines() {
+        let (shape, name) = line.split_once(": ").expect(&rt, "a field");
+        let wanted = refusal_of(&rt, name);
+        assert!(rt; refusal(&rt, rt.alloc(), shape) == wanted, "{line}");
     }
 }

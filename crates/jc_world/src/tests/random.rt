@@ -1,5 +1,7 @@
-//! A long run of events drawn by lot, compared with a plain reading of its order.
-use super::{key, shape, value};
+//! Long runs of events drawn by lot, compared with a plain reading of their order.
+use super::script::config;
+use super::script::facts::key_at;
+use super::script::words::{key_of, value_of};
 use crate::event::{Command, Shown, WorldEvent};
 use crate::world::World;
 use jc_model::event::{Event, LoadAnswer, Op, Reply};
@@ -9,6 +11,8 @@ use jc_types::key::Key;
 use jc_types::value::Value;
 use std::alloc::Global;
 use std::process::Abort;
+
+// 1. What is drawn.
 
 /// A linear congruential generator.
 #[derive(Drop)]
@@ -25,8 +29,26 @@ impl Lot {
         (drawn as u16 * bound as u16 / 256) as u8
     }
 
+    fn key(&mut self, rt: &impl Abort) -> Key {
+        let name = match self.draw(4) {
+            0 => "a",
+            1 => "b",
+            2 => "c",
+            _ => "d",
+        };
+        key_of(rt, name)
+    }
+
+    fn value(&mut self, rt: &impl Abort) -> Value {
+        let name = match self.draw(2) {
+            0 => "0",
+            _ => "1",
+        };
+        value_of(rt, name)
+    }
+
     fn op(&mut self, rt: &impl Abort) -> Op {
-        let (first, second) = (value(rt, self.draw(2)), value(rt, self.draw(2)));
+        let (first, second) = (self.value(rt), self.value(rt));
         match self.draw(18) {
             0 => Op::ContainsKey,
             1 | 2 => Op::Put(first),
@@ -44,10 +66,10 @@ impl Lot {
 
     /// Something that may happen to a call, whether it fits or not.
     fn event(&mut self, rt: &impl Abort, call: u64, key: Key) -> WorldEvent {
-        match self.draw(16) {
+        match self.draw(17) {
             0 | 1 => WorldEvent::Read { call, key },
             2 => {
-                let answer = LoadAnswer::Found(value(rt, self.draw(2)));
+                let answer = LoadAnswer::Found(self.value(rt));
                 WorldEvent::Say { call, key, answer }
             }
             3 => {
@@ -64,10 +86,13 @@ impl Lot {
             12 => WorldEvent::PickUp { call, key },
             13 => WorldEvent::Withdraw { call, key },
             14 => WorldEvent::Start { call, key },
+            15 => WorldEvent::Foreign { key, value: None },
             _ => WorldEvent::Leave { call },
         }
     }
 }
+
+// 2. A plain reading of what was put down.
 
 /// What a step does to the entry of its key.
 #[derive(Drop)]
@@ -78,14 +103,6 @@ enum Use {
     Gone,
     /// The entry and the order of use stay.
     Nothing,
-}
-
-fn is_yes(reply: &Reply) -> bool {
-    matches!(reply, Reply::Flag(true))
-}
-
-fn had_value(reply: &Reply) -> bool {
-    matches!(reply, Reply::Value(Some(_)))
 }
 
 /// What a step does that was told this at an entry with this value.
@@ -99,17 +116,18 @@ fn use_of(op: &Op, reply: &Reply, was: Option<Value>) -> Use {
         (Op::Get, Reply::Value(Some(value))) => Use::Front(*value),
         (Op::Put(value) | Op::GetAndPut(value), _) => Use::Front(*value),
         (Op::Remove | Op::GetAndRemove, _) => Use::Gone,
-        (Op::RemoveIf(_), _) if is_yes(reply) => Use::Gone,
-        (Op::PutIfAbsent(value) | Op::Replace(value) | Op::ReplaceIf(_, value), _)
-            if is_yes(reply) => { Use::Front(*value) }
-        (Op::GetAndReplace(value), _) if had_value(reply) => Use::Front(*value),
+        (Op::RemoveIf(_), Reply::Flag(true)) => Use::Gone,
+        (Op::PutIfAbsent(value) | Op::Replace(value), Reply::Flag(true)) => Use::Front(*value),
+        (Op::ReplaceIf(_, value), Reply::Flag(true)) => Use::Front(*value),
+        (Op::GetAndReplace(value), Reply::Value(Some(_))) => Use::Front(*value),
         _ => stays,
     }
 }
 
-/// Entries in order of use, the most recently used first, behind so many events.
+/// Entries of all stripes in order of use, the most recently used first, behind so many events.
 #[derive(Drop)]
 struct Shelf {
+    stripes: usize,
     entries: Vec<(Key, Value)>,
     read: usize,
     victims: bool,
@@ -119,17 +137,57 @@ struct Shelf {
 
 impl Shelf {
     fn value(&self, key: &Key) -> Option<Value> {
-        self.entries.iter().find(|e| e.0 == *key).map(|e| e.1)
+        for (at, value) in &self.entries {
+            if at == key {
+                return Some(*value);
+            }
+        }
+        None
     }
 
     fn take_out(&mut self, key: &Key) {
         self.entries.retain(|e| e.0 != *key);
     }
 
-    /// The least recently used whose key isn't one of these.
-    fn oldest(&self, pinned: &[Key]) -> Option<Key> {
-        let free = self.entries.iter().rev().find(|e| !pinned.contains(&e.0));
-        free.map(|e| e.0)
+    /// The stripe of a key of one byte.
+    fn stripe(&self, key: &Key) -> Option<usize> {
+        let byte = key.bytes().first().copied()?;
+        (byte as usize).checked_rem(self.stripes)
+    }
+
+    /// The least recently used in the stripe of a key, but for these keys.
+    fn oldest(&self, near: &Key, pinned: &[Key]) -> Option<Key> {
+        for (key, _) in self.entries.iter().rev() {
+            if self.stripe(key) == self.stripe(near) && !pinned.contains(key) {
+                return Some(*key);
+            }
+        }
+        None
+    }
+
+    /// The most recently used of all.
+    fn newest(&self) -> Option<Key> {
+        match self.entries.first() {
+            Some((key, _)) => Some(*key),
+            None => None,
+        }
+    }
+
+    /// The history of a stripe: its part of the order.
+    fn history(
+        &self,
+        rt: &impl Abort,
+        alloc: Global,
+        order: &[Event],
+        stripe: usize,
+    ) -> Vec<Event> {
+        let mut events = Vec::new(alloc);
+        for event in order {
+            if self.stripe(&key_at(event)) == Some(stripe) {
+                events.push(*event).expect(rt, "memory");
+            }
+        }
+        events
     }
 
     fn reads(&mut self, rt: &impl Abort, event: &Event) {
@@ -157,13 +215,14 @@ impl Shelf {
     fn reads_phase(&mut self, rt: &impl Abort, events: &[Event], pinned: &[Key]) {
         for (k, event) in events.iter().skip(self.read).enumerate() {
             if let Event::Evict { key, .. } = event {
-                if k == 0 {
-                    assert_eq!(rt; self.oldest(pinned), Some(*key), "{event:?}");
+                let goes = if k == 0 {
                     self.victims = true;
+                    self.oldest(key, pinned)
                 } else {
-                    assert_eq!(rt; self.entries.first().map(|e| e.0), Some(*key), "{event:?}");
                     self.not_kept = true;
-                }
+                    self.newest()
+                };
+                assert!(rt; goes == Some(*key), "another key goes");
             }
             self.reads(rt, event);
         }
@@ -171,84 +230,159 @@ impl Shelf {
     }
 }
 
-/// The call of each session.
-type Calls = [(u64, Key); 5];
+// 3. The runs.
 
-fn pinned(rt: &impl Abort, alloc: Global, world: &World, calls: &Calls) -> Vec<Key> {
-    let mut keys = Vec::with_capacity(alloc, 5).expect(rt, "memory");
-    for (call, key) in calls {
-        if world.part(*call, key).is_some() {
-            keys.push(*key).expect(rt, "memory");
-        }
+/// How many kinds of things are shown.
+const KINDS: usize = 17;
+
+fn kind(shown: &Shown) -> usize {
+    match shown {
+        Shown::Begun => 0,
+        Shown::Stepped(_) => 1,
+        Shown::Loads => 2,
+        Shown::Asks(_) => 3,
+        Shown::Joins => 4,
+        Shown::Refused(_) => 5,
+        Shown::Reads(_) => 6,
+        Shown::Says(_) => 7,
+        Shown::Changed => 8,
+        Shown::Reported(_) => 9,
+        Shown::Withdrawn => 10,
+        Shown::Left => 11,
+        Shown::PickedUp(_) => 12,
+        Shown::Waits => 13,
+        Shown::Again => 14,
+        Shown::Written => 15,
+        Shown::Unfit => 16,
     }
-    keys
 }
 
-/// One event, and what it put down.
-fn plays(
-    rt: &impl Abort,
-    alloc: Global,
-    world: &mut World,
-    calls: &Calls,
-    shelf: &mut Shelf,
-    event: WorldEvent,
-) -> bool {
-    let keys = pinned(rt, alloc, world, calls);
-    let seen = world.play(alloc, &[event]).expect(rt, "memory");
-    shelf.reads_phase(rt, world.order(), &keys);
-    !matches!(seen.first(), Some(Shown::Unfit))
+/// A run of a world: the last call of each session, the reading, how often each kind was shown, and how often an event of a call
+/// fitted.
+#[derive(Drop)]
+struct Run {
+    lot: Lot,
+    calls: [(u64, Key); 5],
+    shelf: Shelf,
+    shown: [u32; KINDS],
+    fitting: u32,
+}
+
+impl Run {
+    /// The keys that are reserved.
+    fn pinned(&self, rt: &impl Abort, alloc: Global, world: &World) -> Vec<Key> {
+        let mut keys = Vec::with_capacity(alloc, 5).expect(rt, "memory");
+        for (call, key) in &self.calls {
+            if world.part(*call, key).is_some() {
+                keys.push(*key).expect(rt, "memory");
+            }
+        }
+        keys
+    }
+
+    /// Plays one event, reads what it put down, and counts what it shows.
+    fn plays(
+        &mut self,
+        rt: &impl Abort,
+        alloc: Global,
+        world: &mut World,
+        event: WorldEvent,
+    ) -> Shown {
+        let keys = self.pinned(rt, alloc, world);
+        let seen = world.play(alloc, &[event]).expect(rt, "memory");
+        self.shelf.reads_phase(rt, world.order(), &keys);
+        let shown = seen.first().copied().expect(rt, "what is shown");
+        if let Some(count) = self.shown.get_mut(kind(&shown)) {
+            *count = count.saturating_add(1);
+        }
+        if !matches!(shown, Shown::Begun | Shown::Unfit) {
+            self.fitting = self.fitting.saturating_add(1);
+        }
+        shown
+    }
+
+    /// The next event of a session: of its call, or a call with this number and its first phase.
+    fn goes_on(&mut self, rt: &impl Abort, alloc: Global, world: &mut World, number: u64) {
+        let place = self.lot.draw(5);
+        let session = place as u32 + 1;
+        let slot = self.calls.get_mut(place as usize).expect(rt, "a session");
+        if world.is_busy(session) {
+            let (call, key) = *slot;
+            let event = self.lot.event(rt, call, key);
+            self.plays(rt, alloc, world, event);
+            return;
+        }
+        let key = self.lot.key(rt);
+        *slot = (number, key);
+        let command = Command {
+            op: self.lot.op(rt),
+            key,
+        };
+        let call = WorldEvent::Call {
+            call: number,
+            session,
+            command,
+        };
+        let shown = self.plays(rt, alloc, world, call);
+        assert!(rt; shown == Shown::Begun, "a call fits");
+        self.plays(rt, alloc, world, WorldEvent::Start { call: number, key });
+    }
+
+    /// The history of each stripe is legal, and the entries are what is read of the order.
+    fn agrees(&mut self, rt: &impl Abort, alloc: Global, world: &World, config: &Config) {
+        for stripe in 0..config.stripes {
+            let history = self.shelf.history(rt, alloc, world.order(), stripe);
+            assert!(rt; legal(alloc, config, &[], &history).expect(rt, "memory"));
+        }
+        let audit = world.audit(alloc).expect(rt, "memory");
+        self.shelf.entries.sort().expect(rt, "memory");
+        assert!(rt;
+            audit.cache.as_slice() == self.shelf.entries.as_slice(),
+            "the entries"
+        );
+    }
+
+    /// Each kind was shown, and each kind of eviction was met.
+    fn has_met_all(&self, rt: &impl Abort) {
+        let shelf = &self.shelf;
+        assert!(rt; shelf.victims && shelf.not_kept && shelf.shared);
+        assert!(rt; 1000 < self.fitting);
+        for (kind, count) in self.shown.iter().enumerate() {
+            assert!(rt; 0 < *count, "the kind {kind}");
+        }
+    }
+}
+
+fn runs_by_lot(rt: &impl Abort, alloc: Global, config: &Config) {
+    let mut world = World::new(alloc, config).expect(rt, "a world");
+    let mut run = Run {
+        lot: Lot { state: 5 },
+        calls: [(0, key_of(rt, "a")); 5],
+        shelf: Shelf {
+            stripes: config.stripes,
+            entries: Vec::with_capacity(alloc, 8).expect(rt, "memory"),
+            read: 0,
+            victims: false,
+            not_kept: false,
+            shared: false,
+        },
+        shown: [0; KINDS],
+        fitting: 0,
+    };
+    for number in 1..6000u64 {
+        run.goes_on(rt, alloc, &mut world, number);
+    }
+    run.agrees(rt, alloc, &world, config);
+    run.has_met_all(rt);
+    world.close();
 }
 
 #[test]
 fn stays_legal_over_a_long_run(rt: HostRuntime) {
-    let alloc = rt.alloc();
-    let config = Config {
-        history: 16384,
-        ..shape(2)
-    };
-    let mut world = super::opened(&rt, alloc, &config, &[]);
-    let a = key(&rt, b"a");
-    let keys = [a, key(&rt, b"b"), key(&rt, b"c"), key(&rt, b"d")];
-    let mut calls: Calls = [(0, a); 5];
-    let mut lot = Lot { state: 5 };
-    let mut shelf = Shelf {
-        entries: Vec::with_capacity(alloc, 8).expect(&rt, "memory"),
-        read: 0,
-        victims: false,
-        not_kept: false,
-        shared: false,
-    };
-    let mut fitting = 0u32;
-    for call in 1..6000u64 {
-        let session = lot.draw(5) as usize;
-        let (last, at) = calls.get(session).copied().unwrap_or((0, a));
-        let event = if world.is_busy(session as u32 + 1) {
-            lot.event(&rt, last, at)
-        } else {
-            let at = keys.get(lot.draw(4) as usize).copied().unwrap_or(a);
-            if let Some(slot) = calls.get_mut(session) {
-                *slot = (call, at);
-            }
-            let command = Command {
-                op: lot.op(&rt),
-                key: at,
-            };
-            let event = WorldEvent::Call {
-                call,
-                session: session as u32 + 1,
-                command,
-            };
-            assert!(&rt; plays(&rt, alloc, &mut world, &calls, &mut shelf, event));
-            WorldEvent::Start { call, key: at }
-        };
-        if plays(&rt, alloc, &mut world, &calls, &mut shelf, event) {
-            fitting = fitting.saturating_add(1);
-        }
-    }
-    assert!(rt; legal(alloc, &config, &[], world.order()).expect(&rt, "memory"));
-    let audit = world.audit(alloc).expect(&rt, "memory");
-    shelf.entries.sort().expect(&rt, "memory");
-    assert_eq!(rt; audit.cache.as_slice(), shelf.entries.as_slice());
-    assert!(rt; shelf.victims && shelf.not_kept && shelf.shared && 1000 < fitting);
-    world.close();
+    runs_by_lot(&rt, rt.alloc(), &config(&rt, "open 1 2 16384 read write"));
+}
+
+#[test]
+fn stays_legal_over_a_long_run_of_two_stripes(rt: HostRuntime) {
+    runs_by_lot(&rt, rt.alloc(), &config(&rt, "open 2 1 16384 read write"));
 }
