@@ -195,90 +195,53 @@ mod tests {
         }
     }
 
+    // The name of each refusal, and what it says.
+    const TEXTS: &str = "\
+HistoryFull: the history has no room for this call
+Busy: another call is at work on this key
+TooManyInFlight: too many calls of this stripe are at work outside
+TooManyJoiners: too many calls of this stripe have joined a load
+LoaderFailed: the cache loader failed with code 7
+WriterFailed: the cache writer failed with code 0
+ProcessorFailed: the entry processor failed with code 4294967295
+OutOfMemory: there is no memory for this call
+TooManyKeys: the bulk call names too many keys
+BadConfig: the field `stripes` of the configuration is out of its limits
+BadConfig: the field `capacity` of the configuration is out of its limits
+BadConfig: the field `history` of the configuration is out of its limits
+NoLoader: a session of a read-through cache needs a loader
+NoWriter: a session of a write-through cache needs a writer
+TooManySessions: the cache has handed out all of its sessions
+StillReserved: the cache is in use and can't be closed
+";
+
     #[test]
     fn names_and_explains_each_refusal(rt: HostRuntime) -> Result<(), Fail> {
-        for (refusal, name, text) in [
-            (
-                Refusal::HistoryFull,
-                "HistoryFull",
-                "the history has no room for this call",
-            ),
-            (Refusal::Busy, "Busy", "another call is at work on this key"),
-            (
-                Refusal::TooManyInFlight,
-                "TooManyInFlight",
-                "too many calls of this stripe are at work outside",
-            ),
-            (
-                Refusal::TooManyJoiners,
-                "TooManyJoiners",
-                "too many calls of this stripe have joined a load",
-            ),
-            (
-                Refusal::LoaderFailed(7),
-                "LoaderFailed",
-                "the cache loader failed with code 7",
-            ),
-            (
-                Refusal::WriterFailed(0),
-                "WriterFailed",
-                "the cache writer failed with code 0",
-            ),
-            (
-                Refusal::ProcessorFailed(u32::MAX),
-                "ProcessorFailed",
-                "the entry processor failed with code 4294967295",
-            ),
-            (
-                Refusal::OutOfMemory,
-                "OutOfMemory",
-                "there is no memory for this call",
-            ),
-            (
-                Refusal::TooManyKeys,
-                "TooManyKeys",
-                "the bulk call names too many keys",
-            ),
-            (
-                Refusal::BadConfig(Field::Stripes),
-                "BadConfig",
-                "the field `stripes` of the configuration is out of its limits",
-            ),
-            (
-                Refusal::BadConfig(Field::Capacity),
-                "BadConfig",
-                "the field `capacity` of the configuration is out of its limits",
-            ),
-            (
-                Refusal::BadConfig(Field::History),
-                "BadConfig",
-                "the field `history` of the configuration is out of its limits",
-            ),
-            (
-                Refusal::NoLoader,
-                "NoLoader",
-                "a session of a read-through cache needs a loader",
-            ),
-            (
-                Refusal::NoWriter,
-                "NoWriter",
-                "a session of a write-through cache needs a writer",
-            ),
-            (
-                Refusal::TooManySessions,
-                "TooManySessions",
-                "the cache has handed out all of its sessions",
-            ),
-            (
-                Refusal::StillReserved,
-                "StillReserved",
-                "the cache is in use and can't be closed",
-            ),
-        ] {
-            assert_eq!(rt; refusal.name(), name);
-            let found = format!(in rt.alloc(); "{refusal}")?;
-            assert_eq!(rt; found.as_str(), text);
+        let refusals = [
+            Refusal::HistoryFull,
+            Refusal::Busy,
+            Refusal::TooManyInFlight,
+            Refusal::TooManyJoiners,
+            Refusal::LoaderFailed(7),
+            Refusal::WriterFailed(0),
+            Refusal::ProcessorFailed(u32::MAX),
+            Refusal::OutOfMemory,
+            Refusal::TooManyKeys,
+            Refusal::BadConfig(Field::Stripes),
+            Refusal::BadConfig(Field::Capacity),
+            Refusal::BadConfig(Field::History),
+            Refusal::NoLoader,
+            Refusal::NoWriter,
+            Refusal::TooManySessions,
+            Refusal::StillReserved,
+        ];
+        let mut lines = TEXTS.lines();
+        for refusal in refusals {
+            let name = refusal.name();
+            let found = format!(in rt.alloc(); "{name}: {refusal}")?;
+            assert_eq!(rt; Some(found.as_str()), lines.next());
         }
+        assert_eq!(rt; lines.next(), None);
         Ok(())
     }
 }
