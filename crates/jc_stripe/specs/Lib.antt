@@ -1,4 +1,4 @@
-pub mod Claim
+pub mod Tickets
 pub mod State
 pub mod OrderOfUse
 pub mod Refusals
@@ -9,4 +9,4 @@ pub mod Putting
 pub mod Inside
 pub mod Laws
 pub mod OnePhase
-pub mod Closed
+pub mod OwnSteps

@@ -1,98 +1,119 @@
--- At most one phase of one session, and whose steps are whose.
---     Begun, Committed, Withdrawn, PickedUp      one phase of a session: a first phase, a commit, a withdrawal, a pick-up
+-- At most one phase of one session, whose steps are whose, and what one phase leaves alone.
+--     FirstPhase      a first phase of a session's call that may begin
+--     LastPhase       the commit of a reservation of the session
+--     Withdrawal      a reservation of the session is given back
+--     PickUp          a joiner of the session asks for its answer
 --     IsPhaseOf       at most one phase of this session leads from one state to another
---     has_answer      an answer is parked for a joiner in this state
---     is_parked       a step is parked: it was put down for a joiner that hasn't taken its answer
---     is_own_step     an event is a step of the session that isn't parked
---     own_steps       the session's own steps: those of its steps that aren't parked
---     IsUniform       what the law says of two states: the later one is reached and of the same stripe, its history grows, the
---                     numbers of reservations don't fall, and no other session's own steps change
+--     is_answered     a joiner was answered, and has not picked that up
+--     is_parked       a step is parked: it was appended for a joiner that has not picked up its answer
+--     is_own_step     an event is a step of the session that is not parked
+--     own_steps       the session's own steps: those of its steps that are not parked
+--     GainsOwn        an event at a place is an own step from now on, between the former ones
+--     is_of_others    a caller is of another session
+--     join_claim      a joiner as its join: who joined which load of which key
+--     IsUniform       what one phase of a session does to a stripe: the later state is reached and of the same stripe, its history grows,
+--                     the numbers of reservations don't fall; the session's own steps are the same or one more; other sessions' own
+--                     steps, reservations and joins stay, and so does the entry of a key that stays reserved
 --     OnePhase        the law: at most one phase of a session, from a reached state, is uniform
-use Rattle.std.specs.Prelude.{◌≡◌, ◌≤◌, ◌==◌, ◌⊎◌, ℕ, List, filter, Bool, true, false, not, ◌&&◌, IsSomeAnd}
+use Rattle.std.specs.Prelude.{◌≡◌, ◌≤◌, ◌==◌, ◌⊎◌, ℕ, List, [], ◌∷◌, ◌++◌, filter, map, Bool, true, false, not, ◌&&◌, Some, slice_get}
 use Rattle.std.specs.List.{list_any}
+use Rattle.jc_types.specs.declared.caller.Caller.{Caller}
 use Rattle.jc_model.specs.declared.event.Op.{Op}
 use Rattle.jc_model.specs.declared.event.Out.{Out}
-use Rattle.jc_model.specs.declared.event.Reply.{Reply}
 use Rattle.jc_model.specs.declared.event.Event.{Event}
 use Rattle.jc_model.specs.declared.event.Event.TheVariants.{Step, Evict}
-use Rattle.jc_model.specs.Cache.{Bytes}
+use Rattle.jc_model.specs.Cache.{Bytes, entry_at}
 use Rattle.jc_inflight.specs.declared.joiner.Joiner.{Joiner}
 use Rattle.jc_inflight.specs.declared.joiner.JoinState.{JoinState}
-use Rattle.jc_inflight.specs.declared.joiner.JoinState.TheVariants.{Waiting, Parked}
-use Rattle.jc_inflight.specs.declared.joiner.Parked.TheVariants.{Answer, Again}
+use Rattle.jc_inflight.specs.declared.joiner.JoinState.TheVariants.{Waiting, Answered, Again}
 use Rattle.jc_inflight.specs.Joined.{is_of}
-use Rattle.jc_stripe.specs.declared.begun.Begun as first
+use Rattle.jc_stripe.specs.declared.ticket.Reservation.{Reservation}
+use Rattle.jc_stripe.specs.declared.begun.Begun.{Begun}
+use Rattle.jc_stripe.specs.declared.begun.StepDone.{StepDone}
 use Rattle.jc_stripe.specs.declared.begun.Picked.{Picked}
-use Rattle.jc_stripe.specs.Claim.{Claim, JoinClaim}
-use Rattle.jc_stripe.specs.State.{State, claimed}
+use Rattle.jc_stripe.specs.Tickets.{JoinClaim}
+use Rattle.jc_stripe.specs.State.{State, is_reserved}
 use Rattle.jc_stripe.specs.Refusals.{has_phases}
 use Rattle.jc_stripe.specs.Phases.{MayBegin, Begins, Commits, Withdraws, PicksUp}
 use Rattle.jc_stripe.specs.Reached.{IsReached}
-use Rattle.jc_stripe.specs.Laws.{GoesOn}
+use Rattle.jc_stripe.specs.Laws.{Extends}
 
 -- 1. One phase of a session.
 
--- a first phase, of a call that may begin
-pub record Begun (session : ℕ) (old new : State) : Type 0 where
-  pub call : ℕ
+pub record FirstPhase (session : ℕ) (old new : State) : Type 0 where
+  pub caller : Caller
   pub key : Bytes
   pub op : Op
-  pub given : first.Begun
+  pub begun : Begun
+  pub own : caller.session ≡ session
   pub phases : has_phases op ≡ true
-  pub may : MayBegin old session call key
-  pub begins : Begins old session call key op given new
+  pub may : MayBegin old caller key
+  pub begins : Begins old caller key op begun new
 
--- the last phase of a reservation of the session's
-pub record Committed (session : ℕ) (old new : State) : Type 0 where
-  pub claim : Claim
+pub record LastPhase (session : ℕ) (old new : State) : Type 0 where
+  pub reservation : Reservation
   pub out : Out
-  pub reply : Reply
-  pub place : ℕ
-  pub own : IsSomeAnd (claimed old claim) (λ r. r.session ≡ session)
-  pub commits : Commits old claim out reply place new
+  pub done : StepDone
+  pub own : reservation.caller.session ≡ session
+  pub commits : Commits old reservation out done new
 
--- a reservation of the session's is given back
-pub record Withdrawn (session : ℕ) (old new : State) : Type 0 where
-  pub claim : Claim
-  pub own : IsSomeAnd (claimed old claim) (λ r. r.session ≡ session)
-  pub withdraws : Withdraws old claim new
+pub record Withdrawal (session : ℕ) (old new : State) : Type 0 where
+  pub reservation : Reservation
+  pub own : reservation.caller.session ≡ session
+  pub withdraws : Withdraws old reservation new
 
--- a joiner of the session's asks for its answer
-pub record PickedUp (session : ℕ) (old new : State) : Type 0 where
+pub record PickUp (session : ℕ) (old new : State) : Type 0 where
   pub join : JoinClaim
-  pub told : Picked
-  pub own : join.session ≡ session
-  pub picks_up : PicksUp old join told new
+  pub picked : Picked
+  pub own : join.caller.session ≡ session
+  pub picks_up : PicksUp old join picked new
 
 -- at most one phase of this session
 abbrev pub IsPhaseOf : ℕ → State → State → Type 0
-IsPhaseOf session old new = (new ≡ old) ⊎ Begun session old new ⊎ Committed session old new ⊎ Withdrawn session old new ⊎ PickedUp session old new
+IsPhaseOf session old new = (new ≡ old) ⊎ FirstPhase session old new ⊎ LastPhase session old new ⊎ Withdrawal session old new ⊎ PickUp session old new
 
 -- 2. Own steps.
 
-abbrev pub has_answer : JoinState → Bool
-has_answer Waiting = false
-has_answer (Parked (Answer place shared_with)) = true
-has_answer (Parked Again) = false
+abbrev pub is_answered : JoinState → Bool
+is_answered Waiting = false
+is_answered (Answered place shared_with) = true
+is_answered Again = false
 
-abbrev pub is_parked : List Joiner → ℕ → ℕ → Bytes → Bool
-is_parked joiners session number key = list_any (λ j. is_of session number key j && has_answer j.state) joiners
+abbrev pub is_parked : List Joiner → Caller → Bytes → Bool
+is_parked joiners caller key = list_any (λ j. is_of caller key j && is_answered j.state) joiners
 
 abbrev pub is_own_step : ℕ → List Joiner → Event → Bool
-is_own_step session joiners (Step s n op key out shared_with reply) = (s == session) && not (is_parked joiners s n key)
+is_own_step session joiners (Step caller op key out shared_with reply) = (caller.session == session) && not (is_parked joiners caller key)
 is_own_step session joiners (Evict key cause) = false
 
 abbrev pub own_steps : ℕ → State → List Event
 own_steps session state = filter (is_own_step session state.joiners) state.history
 
--- 3. The laws.
+-- an event at a place is an own step from now on, between the former ones
+pub record GainsOwn (session : ℕ) (old new : State) (event : Event) (place : ℕ) : Type 0 where
+  pub there : slice_get new.history place ≡ Some event
+  pub before : List Event
+  pub after : List Event
+  pub was : own_steps session old ≡ before ++ after
+  pub own : own_steps session new ≡ before ++ event ∷ after
 
--- the later state is of the same stripe, its reservations' numbers didn't fall, and it is reached
+-- 3. The law.
+
+abbrev pub is_of_others : ℕ → Caller → Bool
+is_of_others session caller = not (caller.session == session)
+
+abbrev pub join_claim : Joiner → JoinClaim
+join_claim j = record { caller = j.caller; key = j.key; load = j.load }
+
 pub record IsUniform (session : ℕ) (old new : State) : Type 0 where
   pub reached : IsReached new
-  pub grows : GoesOn old new
+  pub grows : Extends old new
   pub next : old.next ≤ new.next
+  pub own : (own_steps session new ≡ own_steps session old) ⊎ ((event : Event) × (place : ℕ) × GainsOwn session old new event place)
   pub others : (other : ℕ) → (other == session) ≡ false → own_steps other new ≡ own_steps other old
+  pub reservations : filter (λ r. is_of_others session r.caller) new.reservations ≡ filter (λ r. is_of_others session r.caller) old.reservations
+  pub joins : filter (λ j. is_of_others session j.caller) (map join_claim new.joiners) ≡ filter (λ j. is_of_others session j.caller) (map join_claim old.joiners)
+  pub entries : (key : Bytes) → is_reserved old key ≡ true → is_reserved new key ≡ true → entry_at new.cache key ≡ entry_at old.cache key
 
 abbrev pub OnePhase : Type 0
 OnePhase = (session : ℕ) (old new : State) → IsReached old → IsPhaseOf session old new → IsUniform session old new

@@ -20,7 +20,8 @@ use Rattle.jc_model.specs.Listed.{others, listed}
 use Rattle.jc_model.specs.Table.{first_fault, entry_after}
 use Rattle.jc_model.specs.Processor.{found_in}
 use Rattle.jc_entries.specs.ByUse.{evicted_of}
-use Rattle.jc_stripe.specs.State.{State, Reserved}
+use Rattle.jc_stripe.specs.declared.ticket.Reservation.{Reservation}
+use Rattle.jc_stripe.specs.State.{State}
 
 -- 1. What a step uses.
 
@@ -41,8 +42,8 @@ used_at entries key op out = if is_use op out then listed key (entry_after op (f
 
 -- a shared step finds its entry, where there is one, in front
 abbrev pub used : List (Bytes × Bytes) → Event → List (Bytes × Bytes)
-used entries (Step session number op key out None reply) = used_at entries key op out
-used entries (Step session number op key out (Some place) reply) = entries
+used entries (Step caller op key out None reply) = used_at entries key op out
+used entries (Step caller op key out (Some place) reply) = entries
 used entries (Evict key cause) = others key entries
 
 abbrev pub by_use : List (Bytes × Bytes) → List Event → List (Bytes × Bytes)
@@ -51,7 +52,7 @@ by_use entries (event ∷ events) = by_use (used entries event) events
 
 -- 3. Who has to go.
 
-abbrev pub pinned : List Reserved → List Bytes
+abbrev pub pinned : List Reservation → List Bytes
 pinned reservations = map (λ r. r.key) reservations
 
 abbrev pub least_used : State → Option Bytes

@@ -1,27 +1,30 @@
 -- A stripe as a machine of phases: what a first phase gives, and what the others leave.
---     is_beside        a reservation is another session's, or the same call's for another key
---     is_apart         the same of a join, also of one whose answer is parked
+--     is_other_call    a reservation is another session's, or the same call's of another key
+--     is_other_join    the same of a joiner, also of one that has not picked up its answer
 --     MayBegin         the conditions on a first phase that the callers' order rests on
 --     inserts_here     the step inserts: its key is missing before it and there after it
 --     overflows        it inserts into a full stripe
---     victim_of        who goes before the step, if one has to and can
+--     victim           the entry that goes before the step, if one has to and can
 --     own_cause        why the step's own key goes again after it, if it does
---     group_made       the group that a step makes here, from the order of use and the reservations
---     gone_on          the stripe behind a group: its cache, and its history with the group's events
---     Steps            the stripe goes on by the group of one step
---     joined_by        the stripe with one joiner more, who waits for a load
+--     new_group        the group that a step makes here, from the order of use and the reservations
+--     after_group      the stripe behind a group: its cache, and its history with the group's events
+--     own_eviction     the eviction of the step's own key, at the last place of its group, if it goes again
+--     Steps            the stripe appends the group of one step
+--     with_joiner      the stripe with one joiner more, who waits for a load
 --     Begins           the first phase
---     settled          the stripe with a reservation over, and the answer parked for each that waits for its load
---     Commits          the last phase: the reservation ends, its step is put down, and with it those of its joiners
---     withdrawn        the stripe with a reservation over, and each that waits for its load told to begin again
---     Withdraws        the reservation is given back, and its joiners are to begin again
---     left_by          the stripe without a join that is over
+--     after_commit     the stripe with a reservation over, and the answer parked for each that waits for its load
+--     Commits          the last phase: the reservation ends, its step is appended, and with it those of its joiners
+--     after_withdrawal the stripe with a reservation over, and each that waits for its load told to retry
+--     Withdraws        the reservation is given back, and its joiners are told to retry
+--     without_joiner   the stripe without a join that is over
 --     IsSharedStep     the event at a place is the join's own step, with this reply, and names the step that loaded
+--     told_to          how far a join is: it waits, was answered, or is told to retry
 --     PicksUp          a joiner asks for its answer
-use Rattle.std.specs.Prelude.{◌≡◌, ◌==◌, ℕ, List, [], ◌++◌, length, Bool, true, not, ◌&&◌, ◌||◌, IsTrue, Option, None, Some, is_some, is_none, IsSomeAnd, slice_get, if◌then◌else◌}
+use Rattle.std.specs.Prelude.{◌≡◌, ◌==◌, ◌-◌, ◌+◌, ℕ, List, [], ◌++◌, length, Bool, true, not, ◌&&◌, ◌||◌, IsTrue, Option, None, Some, is_some, is_none, slice_get, option_map, if◌then◌else◌}
 use Rattle.std.specs.List.{list_all}
 use Rattle.std.specs.Cmp.Lexicographic.{pointwise}
 use Rattle.std.specs.FinMap.{len}
+use Rattle.jc_types.specs.declared.caller.Caller.{Caller}
 use Rattle.jc_model.specs.declared.event.Op.{Op}
 use Rattle.jc_model.specs.declared.event.Op.TheVariants.{Get}
 use Rattle.jc_model.specs.declared.event.Out.{Out}
@@ -35,38 +38,43 @@ use Rattle.jc_model.specs.Group.{Group, events_of, step_place, cache_after_group
 use Rattle.jc_model.specs.Lawful.{IsLawful}
 use Rattle.jc_model.specs.Legal.{may_come}
 use Rattle.jc_inflight.specs.declared.joiner.Joiner.{Joiner}
-use Rattle.jc_inflight.specs.declared.joiner.Taken.TheVariants as taken
-use Rattle.jc_inflight.specs.Joined.{callers_of, joined}
+use Rattle.jc_inflight.specs.declared.joiner.JoinState.{JoinState}
+use Rattle.jc_inflight.specs.declared.joiner.JoinState.TheVariants as state
+use Rattle.jc_inflight.specs.Joined.{callers_of, joined, joiner_of}
 use Rattle.jc_inflight.specs.Resolving.{resolved}
 use Rattle.jc_inflight.specs.Dissolving.{dissolved}
-use Rattle.jc_inflight.specs.Taking.{told_to, without}
+use Rattle.jc_inflight.specs.Taking.{without}
+use Rattle.jc_stripe.specs.declared.ticket.First.{First}
 use Rattle.jc_stripe.specs.declared.ticket.First.TheVariants.{Nobody, Loader, Writer}
+use Rattle.jc_stripe.specs.declared.ticket.Reservation.{Reservation}
+use Rattle.jc_stripe.specs.declared.begun.Eviction.{Eviction}
+use Rattle.jc_stripe.specs.declared.begun.StepDone.{StepDone}
 use Rattle.jc_stripe.specs.declared.begun.Begun.{Begun}
 use Rattle.jc_stripe.specs.declared.begun.Begun.TheVariants as begun
 use Rattle.jc_stripe.specs.declared.begun.Picked.{Picked}
 use Rattle.jc_stripe.specs.declared.begun.Picked.TheVariants as picked
-use Rattle.jc_stripe.specs.Claim.{Claim, JoinClaim}
-use Rattle.jc_stripe.specs.State.{State, Reserved, is_of, reserved, released, claimed}
+use Rattle.jc_stripe.specs.Tickets.{JoinClaim, asks_writer}
+use Rattle.jc_stripe.specs.State.{State, is_of, new_reservation, with_reservation, without_reservation, IsOut, IsJoined}
 use Rattle.jc_stripe.specs.Refusals.{first_refusal, first_asked, load_joined}
 use Rattle.jc_stripe.specs.OrderOfUse.{least_used}
 
 -- 1. Who may begin.
 
--- a reservation is another session's, or the same call's for another key
-abbrev pub is_beside : ℕ → ℕ → Bytes → Reserved → Bool
-is_beside session call key r = not (r.session == session) || ((r.call == call) && not (pointwise ◌==◌ r.key key))
+-- a reservation is another session's, or the same call's of another key
+abbrev pub is_other_call : Caller → Bytes → Reservation → Bool
+is_other_call caller key r = not (r.caller.session == caller.session) || ((r.caller.call == caller.call) && not (pointwise ◌==◌ r.key key))
 
--- the same of a join, also of one whose answer is parked
-abbrev pub is_apart : ℕ → ℕ → Bytes → Joiner → Bool
-is_apart session call key j = not (j.session == session) || ((j.number == call) && not (pointwise ◌==◌ j.key key))
+-- the same of a joiner, also of one that has not picked up its answer
+abbrev pub is_other_join : Caller → Bytes → Joiner → Bool
+is_other_join caller key j = not (j.caller.session == caller.session) || ((j.caller.call == caller.call) && not (pointwise ◌==◌ j.key key))
 
 -- the call's number is at least every one of its session here, no reservation and no join of the session has another number, and
--- there is no step, no reservation and no join of this session, number and key
-pub record MayBegin (state : State) (session call : ℕ) (key : Bytes) : Type 0 where
+-- there is no step, no reservation and no join of this call at this key
+pub record MayBegin (state : State) (caller : Caller) (key : Bytes) : Type 0 where
   pub of_stripe : IsTrue (is_of state key)
-  pub behind : IsTrue (list_all (λ e. may_come e session call key) state.history)
-  pub beside : IsTrue (list_all (is_beside session call key) state.reservations)
-  pub apart : IsTrue (list_all (is_apart session call key) state.joiners)
+  pub behind : IsTrue (list_all (λ e. may_come e caller key) state.history)
+  pub beside : IsTrue (list_all (is_other_call caller key) state.reservations)
+  pub apart : IsTrue (list_all (is_other_join caller key) state.joiners)
 
 -- 2. The group of a step.
 
@@ -78,90 +86,98 @@ inserts_here state key op out = is_none (entry_at state.cache key) && is_some (e
 abbrev pub overflows : State → Bytes → Op → Out → Bool
 overflows state key op out = inserts_here state key op out && (len state.cache == state.config.capacity)
 
--- who goes before the step, if one has to and can
-abbrev pub victim_of : State → Bytes → Op → Out → Option Bytes
-victim_of state key op out = if overflows state key op out then least_used state else None
+-- the entry that goes before the step, if one has to and can
+abbrev pub victim : State → Bytes → Op → Out → Option Bytes
+victim state key op out = if overflows state key op out then least_used state else None
 
--- why what was inserted goes again, if it does: nobody could go for it, or the insertion found no memory
+-- why what was inserted goes again, if it does: no other entry could go for it, or the insertion was out of memory
 abbrev pub own_cause : Bool → Bool → Bool → Bool → Option Cause
-own_cause inserts full victim short =
-    if inserts then (if full && not victim then Some Full else (if short then Some Memory else None)) else None
+own_cause inserts full has_victim short =
+    if inserts then (if full && not has_victim then Some Full else (if short then Some Memory else None)) else None
 
--- `callers` share the step's load; with `short` an insertion is refused memory
-abbrev pub group_made : State → ℕ → ℕ → Bytes → Op → Out → List (ℕ × ℕ) → Bool → Group
-group_made state session call key op out callers short =
+-- `callers` share the step's load; with `short` an insertion is out of memory
+abbrev pub new_group : State → Caller → Bytes → Op → Out → List Caller → Bool → Group
+new_group state caller key op out callers short =
     record {
-      victim = victim_of state key op out;
-      session = session;
-      number = call;
+      victim = victim state key op out;
+      caller = caller;
       step = record { op = op; key = key; out = out; reply = reply_after op (entry_at state.cache key) out };
       joined = callers;
-      evicted = own_cause (inserts_here state key op out) (overflows state key op out) (is_some (victim_of state key op out)) short;
+      evicted = own_cause (inserts_here state key op out) (overflows state key op out) (is_some (victim state key op out)) short;
     }
 
--- 3. The stripe goes on by the lawful group of this step, with this reply at this place.
+-- 3. The stripe appends the lawful group of one step, and says what was done.
 
-abbrev pub gone_on : State → Group → State
-gone_on old group = record old { cache = cache_after_group old.cache group; history = old.history ++ events_of (length old.history) group }
+abbrev pub after_group : State → Group → State
+after_group old group = record old { cache = cache_after_group old.cache group; history = old.history ++ events_of (length old.history) group }
 
-pub record Steps (old : State) (session call : ℕ) (key : Bytes) (op : Op) (out : Out) (callers : List (ℕ × ℕ)) (reply : Reply) (place : ℕ) (new : State) : Type 0 where
+-- the eviction of the step's own key is the last event of its group
+abbrev pub own_eviction : ℕ → Group → Option Eviction
+own_eviction place group = option_map (λ cause. record { cause = cause; place = place + (length (events_of place group) - 1) }) group.evicted
+
+pub record Steps (old : State) (caller : Caller) (key : Bytes) (op : Op) (out : Out) (callers : List Caller) (done : StepDone) (new : State) : Type 0 where
   pub short : Bool
-  pub lawful : IsLawful old.config old.cache (group_made old session call key op out callers short)
-  pub reply_is : reply ≡ reply_after op (entry_at old.cache key) out
-  pub place_is : place ≡ step_place (length old.history) (group_made old session call key op out callers short)
-  pub goes_on : new ≡ gone_on old (group_made old session call key op out callers short)
+  pub lawful : IsLawful old.config old.cache (new_group old caller key op out callers short)
+  pub reply : done.reply ≡ reply_after op (entry_at old.cache key) out
+  pub place : done.place ≡ step_place (length old.history) (new_group old caller key op out callers short)
+  pub victim_is : done.victim ≡ victim old key op out
+  pub evicted : done.evicted ≡ own_eviction (length old.history) (new_group old caller key op out callers short)
+  pub after : new ≡ after_group old (new_group old caller key op out callers short)
 
 -- 4. The first phase.
 
-abbrev pub joined_by : State → JoinClaim → ℕ → State
-joined_by old join load = record old { joiners = joined join.session join.call join.key load old.joiners }
+abbrev pub with_joiner : State → JoinClaim → State
+with_joiner old join = record old { joiners = joined join.caller join.key join.load old.joiners }
 
-abbrev pub Begins : State → ℕ → ℕ → Bytes → Op → Begun → State → Type 0
-Begins old session call key op (begun.Refused refusal) new = (first_refusal old call key op ≡ Some refusal) × (new ≡ old)
-Begins old session call key op (begun.Done reply place) new =
-    (first_refusal old call key op ≡ None) × (first_asked old.config op (entry_at old.cache key) ≡ Nobody)
-    × Steps old session call key op nothing_said [] reply place new
-Begins old session call key op (begun.Load ticket) new =
-    (first_refusal old call key op ≡ None) × (load_joined old key op ≡ None) × (first_asked old.config op (entry_at old.cache key) ≡ Loader)
-    × (ticket ≡ record { key = key; number = old.next }) × (new ≡ reserved old session call key op Loader)
-Begins old session call key op (begun.Write ticket change) new =
-    (first_refusal old call key op ≡ None) × (first_asked old.config op (entry_at old.cache key) ≡ Writer change)
-    × (ticket ≡ record { claim = record { key = key; number = old.next }; change = change }) × (new ≡ reserved old session call key op (Writer change))
-Begins old session call key op (begun.Joined join) new =
-    (first_refusal old call key op ≡ None)
-    × ((load : ℕ) × (load_joined old key op ≡ Some load) × (join ≡ record { session = session; call = call; key = key }) × (new ≡ joined_by old join load))
+abbrev pub Begins : State → Caller → Bytes → Op → Begun → State → Type 0
+Begins old caller key op (begun.Refused refusal) new = (first_refusal old caller key op ≡ Some refusal) × (new ≡ old)
+Begins old caller key op (begun.Done done) new =
+    (first_refusal old caller key op ≡ None) × (first_asked old.config op (entry_at old.cache key) ≡ Nobody)
+    × Steps old caller key op nothing_said [] done new
+Begins old caller key op (begun.Load ticket) new =
+    (first_refusal old caller key op ≡ None) × (load_joined old key op ≡ None) × (first_asked old.config op (entry_at old.cache key) ≡ Loader)
+    × (ticket ≡ record { reservation = new_reservation old caller key op Loader; asked = false }) × (new ≡ with_reservation old ticket.reservation)
+Begins old caller key op (begun.Write ticket) new =
+    (first_refusal old caller key op ≡ None) × (first_asked old.config op (entry_at old.cache key) ≡ ticket.reservation.first)
+    × (asks_writer ticket.reservation.first ≡ true)
+    × (ticket ≡ record { reservation = new_reservation old caller key op ticket.reservation.first; asked = false }) × (new ≡ with_reservation old ticket.reservation)
+Begins old caller key op (begun.Joined join) new =
+    (first_refusal old caller key op ≡ None) × (load_joined old key op ≡ Some join.load) × (join ≡ record { caller = caller; key = key; load = join.load })
+    × (new ≡ with_joiner old join)
 
 -- 5. The last phase.
 
 -- the reservation is over, and for each that waits for its load the answer is parked, of the step at this place
-abbrev pub settled : State → Claim → ℕ → State
-settled old claim place = record (released old claim.key) { joiners = resolved claim.number place old.joiners }
+abbrev pub after_commit : State → Reservation → ℕ → State
+after_commit old r place = record (without_reservation old r.key) { joiners = resolved r.number place old.joiners }
 
-abbrev pub Commits : State → Claim → Out → Reply → ℕ → State → Type 0
-Commits old claim out reply place new =
-    IsSomeAnd (claimed old claim) (λ r. Steps (settled old claim place) r.session r.call claim.key r.op out (callers_of claim.number old.joiners) reply place new)
+abbrev pub Commits : State → Reservation → Out → StepDone → State → Type 0
+Commits old r out done new = IsOut old r × Steps (after_commit old r done.place) r.caller r.key r.op out (callers_of r.number old.joiners) done new
 
 -- 6. A reservation is given back: cache and history stay.
 
-abbrev pub withdrawn : State → Claim → State
-withdrawn old claim = record (released old claim.key) { joiners = dissolved claim.number old.joiners }
+abbrev pub after_withdrawal : State → Reservation → State
+after_withdrawal old r = record (without_reservation old r.key) { joiners = dissolved r.number old.joiners }
 
-abbrev pub Withdraws : State → Claim → State → Type 0
-Withdraws old claim new = (is_some (claimed old claim) ≡ true) × (new ≡ withdrawn old claim)
+abbrev pub Withdraws : State → Reservation → State → Type 0
+Withdraws old r new = IsOut old r × (new ≡ after_withdrawal old r)
 
 -- 7. A joiner asks for its answer.
 
 -- the join is over
-abbrev pub left_by : State → JoinClaim → State
-left_by old join = record old { joiners = without join.session join.call join.key old.joiners }
+abbrev pub without_joiner : State → JoinClaim → State
+without_joiner old join = record old { joiners = without join.caller join.key old.joiners }
 
 -- the event at a place is the join's own step, which names the step that loaded
 abbrev pub IsSharedStep : State → JoinClaim → Reply → ℕ → ℕ → Type 0
-IsSharedStep state join reply place shared =
-    (out : Out) × (slice_get state.history place ≡ Some (Step join.session join.call Get join.key out (Some shared) reply))
+IsSharedStep state join reply place shared_with =
+    (out : Out) × (slice_get state.history place ≡ Some (Step join.caller Get join.key out (Some shared_with) reply))
+
+abbrev pub told_to : State → JoinClaim → Option JoinState
+told_to state join = option_map (λ j. j.state) (joiner_of join.caller join.key state.joiners)
 
 abbrev pub PicksUp : State → JoinClaim → Picked → State → Type 0
-PicksUp old join (picked.Answer reply place shared) new =
-    (told_to join.session join.call join.key old.joiners ≡ Some (taken.Answer place shared)) × IsSharedStep old join reply place shared × (new ≡ left_by old join)
-PicksUp old join picked.Again new = (told_to join.session join.call join.key old.joiners ≡ Some taken.Again) × (new ≡ left_by old join)
-PicksUp old join (picked.NotYet back) new = (told_to join.session join.call join.key old.joiners ≡ Some taken.NotYet) × (back ≡ join) × (new ≡ old)
+PicksUp old join (picked.Answer reply place shared_with) new =
+    IsJoined old join × (told_to old join ≡ Some (state.Answered place shared_with)) × IsSharedStep old join reply place shared_with × (new ≡ without_joiner old join)
+PicksUp old join picked.Again new = IsJoined old join × (told_to old join ≡ Some state.Again) × (new ≡ without_joiner old join)
+PicksUp old join (picked.NotYet back) new = IsJoined old join × (told_to old join ≡ Some state.Waiting) × (back ≡ join) × (new ≡ old)

@@ -3,7 +3,6 @@
 --     may_end          the step of a reservation may come behind these events
 --     are_beside       no two reservations of a session have different call numbers, or the same key
 --     AreNumbered      no key and no number of a reservation stands twice, and the numbers are below the next one
---     claim_joined     the reservation whose load a joiner has joined, by its key and number
 --     FindsLoad        a joiner finds the reservation of its load, which asked the loader; its key is missing, and read-through is
 --                      on
 --     HasStep          a joiner's own shared step stands at a place, and names the step that loaded
@@ -22,6 +21,7 @@ use Rattle.std.specs.List.{list_all}
 use Rattle.std.specs.FinMap.{len, from_entries}
 use Rattle.jc_types.specs.declared.config.Config.{Config}
 use Rattle.jc_types.specs.Limits.{checked}
+use Rattle.jc_types.specs.declared.limits.TheConstants.{RESERVATIONS_MAX, JOINERS_MAX}
 use Rattle.jc_model.specs.declared.event.Op.TheVariants.{Get}
 use Rattle.jc_model.specs.declared.event.Out.{Out}
 use Rattle.jc_model.specs.declared.event.Reply.{Reply}
@@ -32,57 +32,52 @@ use Rattle.jc_model.specs.Listed.{apart}
 use Rattle.jc_model.specs.Legal.{IsHistory, is_of_stripe, may_come}
 use Rattle.jc_inflight.specs.declared.joiner.Joiner.{Joiner}
 use Rattle.jc_inflight.specs.declared.joiner.JoinState.{JoinState}
-use Rattle.jc_inflight.specs.declared.joiner.JoinState.TheVariants.{Waiting, Parked}
-use Rattle.jc_inflight.specs.declared.joiner.Parked.TheVariants as parked
-use Rattle.jc_stripe.specs.declared.ticket.First.TheVariants.{Loader}
-use Rattle.jc_stripe.specs.Claim.{Claim}
-use Rattle.jc_stripe.specs.State.{State, Reserved, is_of, is_key, waits, promised, IsOut}
-use Rattle.jc_stripe.specs.Refusals.{first_asked}
+use Rattle.jc_inflight.specs.declared.joiner.JoinState.TheVariants.{Waiting, Answered, Again}
+use Rattle.jc_stripe.specs.declared.ticket.Reservation.{Reservation}
+use Rattle.jc_stripe.specs.State.{State, is_of, is_key, waits, promised, reservation_of, IsOut}
+use Rattle.jc_stripe.specs.Refusals.{first_asked, load_at}
 use Rattle.jc_stripe.specs.OrderOfUse.{by_use}
-use Rattle.jc_stripe.specs.Phases.{is_beside, is_apart}
+use Rattle.jc_stripe.specs.Phases.{is_other_call, is_other_join}
 
 -- 1. Reservations.
 
 -- a reservation still asks what it asked at first
-abbrev pub AllAsk : Config → Cache → List Reserved → Type 0
+abbrev pub AllAsk : Config → Cache → List Reservation → Type 0
 AllAsk config cache [] = Unit {0}
 AllAsk config cache (r ∷ rs) = (first_asked config r.op (entry_at cache r.key) ≡ r.first) × AllAsk config cache rs
 
 -- the step of a reservation may come behind these events
-abbrev pub may_end : List Event → Reserved → Bool
-may_end history r = list_all (λ e. may_come e r.session r.call r.key) history
+abbrev pub may_end : List Event → Reservation → Bool
+may_end history r = list_all (λ e. may_come e r.caller r.key) history
 
 -- no two reservations of a session have different numbers, or the same key
-abbrev pub are_beside : List Reserved → Bool
+abbrev pub are_beside : List Reservation → Bool
 are_beside [] = true
-are_beside (r ∷ rs) = list_all (is_beside r.session r.call r.key) rs && are_beside rs
+are_beside (r ∷ rs) = list_all (is_other_call r.caller r.key) rs && are_beside rs
 
 -- no key and no number stands twice, and the numbers are below the next one
-pub record AreNumbered (next : ℕ) (rs : List Reserved) : Type 0 where
+pub record AreNumbered (next : ℕ) (rs : List Reservation) : Type 0 where
   pub once : AllPairs (λ r later. is_key r.key later ≡ false) rs
   pub numbers : AllPairs (λ r later. (r.number == later.number) ≡ false) rs
   pub below : All (λ r. r.number < next) rs
 
 -- 2. Joiners.
 
-abbrev pub claim_joined : Joiner → Claim
-claim_joined j = record { key = j.key; number = j.load }
-
 -- one that waits finds the reservation of its load, which asked the loader; the key is missing, and read-through is on
 pub record FindsLoad (state : State) (j : Joiner) : Type 0 where
-  pub load : IsOut state (claim_joined j) Loader
+  pub load : load_at (reservation_of state j.key) ≡ Some j.load
   pub missing : entry_at state.cache j.key ≡ None
   pub read_through : state.config.read_through ≡ true
 
 -- one for whom an answer is parked has its step in the history
 abbrev pub HasStep : List Event → Joiner → ℕ → ℕ → Type 0
 HasStep history j place shared =
-    (out : Out) × (reply : Reply) × (slice_get history place ≡ Some (Step j.session j.number Get j.key out (Some shared) reply))
+    (out : Out) × (reply : Reply) × (slice_get history place ≡ Some (Step j.caller Get j.key out (Some shared) reply))
 
 abbrev pub JoinFits : State → Joiner → JoinState → Type 0
 JoinFits state j Waiting = FindsLoad state j
-JoinFits state j (Parked (parked.Answer place shared)) = HasStep state.history j place shared
-JoinFits state j (Parked parked.Again) = Unit {0}
+JoinFits state j (Answered place shared) = HasStep state.history j place shared
+JoinFits state j Again = Unit {0}
 
 abbrev pub AllJoin : State → List Joiner → Type 0
 AllJoin state [] = Unit {0}
@@ -90,22 +85,22 @@ AllJoin state (j ∷ js) = JoinFits state j j.state × AllJoin state js
 
 -- the shared step of a joiner that waits may come behind these events
 abbrev pub may_share : List Event → Joiner → Bool
-may_share history j = not (waits j) || list_all (λ e. may_come e j.session j.number j.key) history
+may_share history j = not (waits j) || list_all (λ e. may_come e j.caller j.key) history
 
 -- no two joiners of a session have different numbers, or the same key
 abbrev pub are_apart : List Joiner → Bool
 are_apart [] = true
-are_apart (j ∷ js) = list_all (is_apart j.session j.number j.key) js && are_apart js
+are_apart (j ∷ js) = list_all (is_other_join j.caller j.key) js && are_apart js
 
 -- and no reservation and joiner
-abbrev pub all_apart : List Reserved → List Joiner → Bool
-all_apart rs js = list_all (λ r. list_all (is_apart r.session r.call r.key) js) rs
+abbrev pub all_apart : List Reservation → List Joiner → Bool
+all_apart rs js = list_all (λ r. list_all (is_other_join r.caller r.key) js) rs
 
 -- 3. The stripe.
 
 -- the stripe's events are of its keys
 abbrev pub is_own : State → Event → Bool
-is_own state event = is_of_stripe state.config.stripes state.number event
+is_own state event = is_of_stripe state.config.stripes state.stripe event
 
 -- the entries by use are what is cached, each key once, and they are of the stripe's keys
 pub record IsUsed (state : State) : Type 0 where
@@ -121,8 +116,8 @@ pub record IsReached (state : State) : Type 0 where
   pub own : IsTrue (list_all (is_own state) state.history)
   pub keys : IsTrue (list_all (λ r. is_of state r.key) state.reservations)
   pub few_entries : len state.cache ≤ state.config.capacity
-  pub few_reservations : length state.reservations ≤ 64
-  pub few_joiners : length state.joiners ≤ 64
+  pub few_reservations : length state.reservations ≤ RESERVATIONS_MAX
+  pub few_joiners : length state.joiners ≤ JOINERS_MAX
   pub places : length state.history + promised state ≤ state.config.history
   pub numbered : AreNumbered state.next state.reservations
   pub asks : AllAsk state.config state.cache state.reservations

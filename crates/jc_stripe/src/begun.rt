@@ -1,16 +1,39 @@
-//! What a first phase gives, and what a joiner is told.
+//! What a first phase gives, what a step was, and what a joiner is told.
 use crate::ticket::{Join, LoadTicket, WriteTicket};
-use jc_model::event::{Change, Reply};
+use jc_model::event::{Cause, Reply};
+use jc_types::key::Key;
 use jc_types::refusal::Refusal;
+
+/// The eviction of an entry that a step had inserted.
+#[derive(Clone, Copy, Debug, PartialEq, Eq)]
+pub struct Eviction {
+    /// Why it went.
+    pub cause: Cause,
+    /// The place of the eviction in the stripe's history. Between it and the step are the steps that share its load.
+    pub place: u32,
+}
+
+/// A step that was appended to the history, with the evictions that belong to it.
+#[derive(Clone, Copy, Debug, PartialEq, Eq)]
+pub struct StepDone {
+    /// What the caller is answered.
+    pub reply: Reply,
+    /// The place of the step in the stripe's history, from 0.
+    pub place: u32,
+    /// The key that was evicted directly before the step, if the stripe was full.
+    pub victim: Option<Key>,
+    /// The eviction of the step's own key after it, if it was evicted.
+    pub evicted: Option<Eviction>,
+}
 
 /// What a first phase gives.
 pub enum Begun {
-    /// The call is done: its reply, and the place of its step in the stripe's history.
-    Done(Reply, u32),
+    /// The call is done.
+    Done(StepDone),
     /// The key is reserved, and the loader is to be asked.
     Load(LoadTicket),
-    /// The key is reserved, and the writer is to be asked for this change.
-    Write(WriteTicket, Change),
+    /// The key is reserved, and the writer is to be asked.
+    Write(WriteTicket),
     /// The key is being loaded by another call: the call has joined that load, and its answer is to be picked up.
     Joined(Join),
     /// Nothing was done.
@@ -19,10 +42,16 @@ pub enum Begun {
 
 /// What a joiner is told that asks for its answer.
 pub enum Picked {
-    /// The load was committed: the reply, the place of the joiner's own step in the stripe's history, and the place of the step
-    /// that loaded.
-    Answer(Reply, u32, u32),
-    /// The load was withdrawn: the call is to begin again.
+    /// The load was committed.
+    Answer {
+        /// What the caller is answered.
+        reply: Reply,
+        /// The place of the joiner's own step in the stripe's history.
+        place: u32,
+        /// The place of the step that loaded.
+        shared_with: u32,
+    },
+    /// The load was withdrawn: the call is to be retried.
     Again,
     /// The load isn't over: ask later, with the join that comes back.
     NotYet(Join),

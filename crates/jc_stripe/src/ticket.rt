@@ -1,33 +1,26 @@
-//! What a first phase gives, and what a last phase takes.
+//! Reservations, the tickets that stand for them, and what is asked and answered outside for them.
 //!
-//! A ticket stands for a reservation. It can't be dropped or copied: it is spent by the one commit or withdrawal that ends its
-//! reservation, or by closed stripes one of which still has the reservation (`ClosedStripes::end_load`, `end_write`). A done value
-//! is what was said outside for one reservation; it is spent by the same commit. A join stands for a call that shares another
-//! call's load: it is spent when its answer is picked up, or by closed stripes one of which still has the joiner
-//! (`ClosedStripes::end_join`).
-ghost use Rattle.std.specs.Prelude.{◌≡◌};
+//! A ticket is the caller's part of a reservation. It can't be dropped or copied: one commit or one withdrawal spends
+//! it. It asks the loader or the writer at most once, by an ask that can't be copied either; a done value is made of
+//! that ask and says what was answered, and the commit spends both. A join stands for a call that shares another
+//! call's load; picking up its answer spends it.
+ghost use Rattle.std.specs.Prelude.{◌≡◌, true, false, Option, Some};
+ghost use Rattle.jc_model.specs.Table.{is_load_given, is_write_given};
 ghost use Rattle.jc_stripe.specs.declared.ticket.Origin.TheVariants.{Played};
+ghost use Rattle.jc_stripe.specs.Tickets.{asks_loader, asks_writer, change_asked};
 
 use jc_model::event::{Change, LoadAnswer, Op, WriteAnswer};
+use jc_types::caller::Caller;
 use jc_types::key::Key;
 use std::marker::Model;
 
-/// Where a stripe, and what was said outside for it, come from.
+/// Where a stripe, and the outside answers for it, come from.
 #[derive(Clone, Copy, Debug, PartialEq, Eq)]
 pub enum Origin {
     /// A running cache, which asks real loaders and writers.
     Live,
     /// A script or a test, which says what they answered.
     Played,
-}
-
-/// Who calls: a session, and its call's number, which rises in the session.
-#[derive(Clone, Copy, Debug, PartialEq, Eq)]
-pub struct Caller {
-    /// The session.
-    pub session: u32,
-    /// The call's number.
-    pub number: u64,
 }
 
 /// Whom a call asks first.
@@ -39,209 +32,256 @@ pub enum First {
     Loader,
     /// The writer, for this change of the store.
     Writer(Change),
+    /// The entry processor. No call of a stripe asks it yet.
+    Processor,
 }
 
-/// What a stripe notes of a reservation: who reserved the key, for what, and whom it asked first.
+/// What a stripe keeps of a reservation beside its key and number.
 #[derive(Clone, Copy, Debug, PartialEq, Eq)]
-pub struct Note {
-    /// The session that calls.
-    pub session: u32,
-    /// The call's number.
-    pub call: u64,
+pub(crate) struct Note {
+    pub(crate) caller: Caller,
+    pub(crate) op: Op,
+    pub(crate) first: First,
+}
+
+/// A key that a call has reserved.
+#[derive(Clone, Copy, Debug, PartialEq, Eq)]
+pub struct Reservation {
+    /// Who reserved the key.
+    pub caller: Caller,
+    /// The key.
+    pub key: Key,
     /// What is called.
     pub op: Op,
-    /// Whom it asked first.
+    /// The reservation's number. A stripe's numbers rise and are never used again.
+    pub number: u64,
+    /// Whom the call asks first.
     pub first: First,
-}
-
-/// What the loader is asked for: a key, for the reservation with this number.
-#[derive(Clone, Copy, Debug, PartialEq, Eq)]
-pub struct LoadAsk {
-    /// The key to load.
-    pub key: Key,
-    /// The reservation's number.
-    pub number: u64,
-}
-
-/// What the writer is asked for: a change at a key, for the reservation with this number.
-#[derive(Clone, Copy, Debug, PartialEq, Eq)]
-pub struct WriteAsk {
-    /// The key whose value in the store changes.
-    pub key: Key,
-    /// The reservation's number.
-    pub number: u64,
-    /// What is to be written, or that it is to be deleted.
-    pub change: Change,
 }
 
 /// A call has reserved its key, and the loader is to be asked.
 pub struct LoadTicket {
-    key: Key,
-    number: u64,
+    reservation: Reservation,
+    is_asked: bool,
 }
 
 impl Model for LoadTicket {
-    ghost use Rattle.jc_stripe.specs.Claim.{Claim};
+    ghost use Rattle.std.specs.Prelude.{◌≡◌, true};
+    ghost use Rattle.jc_stripe.specs.Tickets.{Ticket, asks_loader};
 
-    ghost Value = { Claim };
+    ghost Value = { Ticket };
 
-    ghost view = { λ t. record { key = t.key; number = t.number } };
+    ghost view = { λ t. record { reservation = t.reservation; asked = t.is_asked } };
+
+    ghost invariant = { λ t. asks_loader t.reservation.first ≡ true };
 }
 
 impl LoadTicket {
-    /// The ticket of a reservation that was made.
-    pub(crate) fn new(key: &Key, number: u64) -> Self
-        ensures { result ≡ record { key = key.now; number = number } }
+    /// The ticket of a reservation that was made. The loader was not asked yet.
+    pub(crate) fn new(reservation: Reservation) -> Self
+        requires { asks_loader reservation.first ≡ true }
+        ensures { result ≡ record { reservation = reservation; asked = false } }
     {
-        LoadTicket { key: *key, number }
+        LoadTicket {
+            reservation,
+            is_asked: false,
+        }
     }
 
-    /// What to ask the loader for.
-    pub fn ask(&self) -> LoadAsk
-        ensures key { result.key ≡ self.now.key }
-        ensures number { result.number ≡ self.now.number }
+    /// The reservation that the ticket stands for.
+    pub fn reservation(&self) -> &Reservation
+        ensures reservation { result.now ≡ self.now.reservation }
+        ensures loader { asks_loader self.now.reservation.first ≡ true }
     {
+        &self.reservation
+    }
+
+    /// What to ask the loader for: the reservation's key. A ticket asks once.
+    pub fn ask(&mut self) -> LoadAsk
+        requires { self.old.asked ≡ false }
+        ensures ask { result ≡ self.old.reservation }
+        ensures asked { self.new ≡ record self.old { asked = true } }
+    {
+        self.is_asked = true;
         LoadAsk {
-            key: self.key,
-            number: self.number,
+            reservation: self.reservation,
         }
     }
 
     /// The ticket is spent.
-    pub(crate) fn spend(self) {
-        let LoadTicket { key: _, number: _ } = self;
+    pub(crate) fn spend(self) -> Reservation
+        ensures reservation { result ≡ self.reservation }
+        ensures loader { asks_loader self.reservation.first ≡ true }
+    {
+        let LoadTicket {
+            reservation,
+            is_asked: _,
+        } = self;
+        reservation
     }
 }
 
 /// A call has reserved its key, and the writer is to be asked.
 pub struct WriteTicket {
-    key: Key,
-    number: u64,
-    change: Change,
+    reservation: Reservation,
+    is_asked: bool,
 }
 
 impl Model for WriteTicket {
-    ghost use Rattle.jc_stripe.specs.Claim.{WriteClaim};
+    ghost use Rattle.std.specs.Prelude.{◌≡◌, true};
+    ghost use Rattle.jc_stripe.specs.Tickets.{Ticket, asks_writer};
 
-    ghost Value = { WriteClaim };
+    ghost Value = { Ticket };
 
-    ghost view = { λ t. record { claim = record { key = t.key; number = t.number }; change = t.change } };
+    ghost view = { λ t. record { reservation = t.reservation; asked = t.is_asked } };
+
+    ghost invariant = { λ t. asks_writer t.reservation.first ≡ true };
 }
 
 impl WriteTicket {
-    /// The ticket of a reservation that was made.
-    pub(crate) fn new(key: &Key, number: u64, change: Change) -> Self
-        ensures { result ≡ record { claim = record { key = key.now; number = number }; change = change } }
+    /// The ticket of a reservation that was made. The writer was not asked yet.
+    pub(crate) fn new(reservation: Reservation) -> Self
+        requires { asks_writer reservation.first ≡ true }
+        ensures { result ≡ record { reservation = reservation; asked = false } }
     {
         WriteTicket {
-            key: *key,
-            number,
-            change,
+            reservation,
+            is_asked: false,
         }
     }
 
-    /// What to ask the writer for.
-    pub fn ask(&self) -> WriteAsk
-        ensures key { result.key ≡ self.now.claim.key }
-        ensures number { result.number ≡ self.now.claim.number }
-        ensures change { result.change ≡ self.now.change }
+    /// The reservation that the ticket stands for.
+    pub fn reservation(&self) -> &Reservation
+        ensures reservation { result.now ≡ self.now.reservation }
+        ensures writer { asks_writer self.now.reservation.first ≡ true }
     {
+        &self.reservation
+    }
+
+    /// What to ask the writer for: the reservation's key, and the change of the store. A ticket asks once.
+    pub fn ask(&mut self) -> WriteAsk
+        requires { self.old.asked ≡ false }
+        ensures ask { result ≡ self.old.reservation }
+        ensures asked { self.new ≡ record self.old { asked = true } }
+    {
+        self.is_asked = true;
         WriteAsk {
-            key: self.key,
-            number: self.number,
-            change: self.change,
+            reservation: self.reservation,
         }
     }
 
     /// The ticket is spent.
-    pub(crate) fn spend(self) {
+    pub(crate) fn spend(self) -> Reservation
+        ensures reservation { result ≡ self.reservation }
+        ensures writer { asks_writer self.reservation.first ≡ true }
+    {
         let WriteTicket {
-            key: _,
-            number: _,
-            change: _,
+            reservation,
+            is_asked: _,
         } = self;
+        reservation
     }
 }
 
-/// A call has joined the load of its key, and its answer is to be picked up.
-pub struct Join {
-    session: u32,
-    number: u64,
-    key: Key,
+/// What the loader is asked for. It is made by a ticket alone, and one done value is made of it.
+pub struct LoadAsk {
+    reservation: Reservation,
 }
 
-impl Model for Join {
-    ghost use Rattle.jc_stripe.specs.Claim.{JoinClaim};
+impl Model for LoadAsk {
+    ghost use Rattle.jc_stripe.specs.declared.ticket.Reservation.{Reservation};
 
-    ghost Value = { JoinClaim };
+    ghost Value = { Reservation };
 
-    ghost view = { λ j. record { session = j.session; call = j.number; key = j.key } };
+    ghost view = { λ a. a.reservation };
 }
 
-impl Join {
-    /// The join of a call.
-    pub(crate) fn new(who: Caller, key: &Key) -> Self
-        ensures { result ≡ record { session = who.session; call = who.number; key = key.now } }
+impl LoadAsk {
+    /// The key to load.
+    pub fn key(&self) -> &Key
+        ensures { result.now ≡ self.now.key }
     {
-        Join {
-            session: who.session,
-            number: who.number,
-            key: *key,
+        &self.reservation.key
+    }
+
+    fn into_reservation(self) -> Reservation
+        ensures { result ≡ self }
+    {
+        let LoadAsk { reservation } = self;
+        reservation
+    }
+}
+
+/// What the writer is asked for. It is made by a ticket alone, and one done value is made of it.
+pub struct WriteAsk {
+    reservation: Reservation,
+}
+
+impl Model for WriteAsk {
+    ghost use Rattle.std.specs.Prelude.{◌≡◌, true};
+    ghost use Rattle.jc_stripe.specs.Tickets.{asks_writer};
+    ghost use Rattle.jc_stripe.specs.declared.ticket.Reservation.{Reservation};
+
+    ghost Value = { Reservation };
+
+    ghost view = { λ a. a.reservation };
+
+    ghost invariant = { λ a. asks_writer a.reservation.first ≡ true };
+}
+
+impl WriteAsk {
+    /// The key whose value in the store changes.
+    pub fn key(&self) -> &Key
+        ensures { result.now ≡ self.now.key }
+    {
+        &self.reservation.key
+    }
+
+    /// What is to be written, or that it is to be deleted.
+    pub fn change(&self) -> Change
+        ensures { change_asked self.now.first ≡ Some result }
+    {
+        match self.reservation.first {
+            First::Writer(change) => change,
+            First::Nobody | First::Loader | First::Processor => unreachable!(),
         }
     }
 
-    /// The call that has joined.
-    pub fn caller(&self) -> Caller
-        ensures session { result.session ≡ self.now.session }
-        ensures number { result.number ≡ self.now.call }
+    fn into_reservation(self) -> Reservation
+        ensures { result ≡ self }
     {
-        Caller {
-            session: self.session,
-            number: self.number,
-        }
-    }
-
-    /// The key whose load it has joined.
-    pub fn key(&self) -> Key
-        ensures { result ≡ self.now.key }
-    {
-        self.key
-    }
-
-    /// The join is spent.
-    pub(crate) fn spend(self) {
-        let Join {
-            session: _,
-            number: _,
-            key: _,
-        } = self;
+        let WriteAsk { reservation } = self;
+        reservation
     }
 }
 
-/// What a loader said for one reservation.
+/// What a loader answered for one reservation: a value, nothing, or a failure. It is made of the reservation's ask.
 pub struct LoadDone {
-    key: Key,
-    number: u64,
+    reservation: Reservation,
     origin: Origin,
     answer: LoadAnswer,
 }
 
 impl Model for LoadDone {
-    ghost use Rattle.jc_stripe.specs.Claim.{LoadSaid};
+    ghost use Rattle.std.specs.Prelude.{◌≡◌, true};
+    ghost use Rattle.jc_model.specs.Table.{is_load_given};
+    ghost use Rattle.jc_stripe.specs.Tickets.{LoadSaid};
 
     ghost Value = { LoadSaid };
 
-    ghost view = { λ d. record { claim = record { key = d.key; number = d.number }; origin = d.origin; answer = d.answer } };
+    ghost view = { λ d. record { reservation = d.reservation; origin = d.origin; answer = d.answer } };
+
+    ghost invariant = { λ d. is_load_given d.answer ≡ true };
 }
 
 impl LoadDone {
     /// What it holds. The value is spent.
     pub(crate) fn into_answer(self) -> LoadAnswer
-        ensures { result ≡ self.answer }
+        ensures answer { result ≡ self.answer }
+        ensures given { is_load_given self.answer ≡ true }
     {
         let LoadDone {
-            key: _,
-            number: _,
+            reservation: _,
             origin: _,
             answer,
         } = self;
@@ -249,32 +289,33 @@ impl LoadDone {
     }
 }
 
-/// What a writer said for one reservation.
+/// What a writer reported for one reservation: success or a failure. It is made of the reservation's ask.
 pub struct WriteDone {
-    key: Key,
-    number: u64,
-    change: Change,
+    reservation: Reservation,
     origin: Origin,
     answer: WriteAnswer,
 }
 
 impl Model for WriteDone {
-    ghost use Rattle.jc_stripe.specs.Claim.{WriteSaid};
+    ghost use Rattle.std.specs.Prelude.{◌≡◌, true};
+    ghost use Rattle.jc_model.specs.Table.{is_write_given};
+    ghost use Rattle.jc_stripe.specs.Tickets.{WriteSaid};
 
     ghost Value = { WriteSaid };
 
-    ghost view = { λ d. record { claim = record { key = d.key; number = d.number }; change = d.change; origin = d.origin; answer = d.answer } };
+    ghost view = { λ d. record { reservation = d.reservation; origin = d.origin; answer = d.answer } };
+
+    ghost invariant = { λ d. is_write_given d.answer ≡ true };
 }
 
 impl WriteDone {
     /// What it holds. The value is spent.
     pub(crate) fn into_answer(self) -> WriteAnswer
-        ensures { result ≡ self.answer }
+        ensures answer { result ≡ self.answer }
+        ensures given { is_write_given self.answer ≡ true }
     {
         let WriteDone {
-            key: _,
-            number: _,
-            change: _,
+            reservation: _,
             origin: _,
             answer,
         } = self;
@@ -283,26 +324,87 @@ impl WriteDone {
 }
 
 /// A loader's answer that is played: what a script or a test has it say.
-pub fn played_load(ask: &LoadAsk, answer: LoadAnswer) -> LoadDone
-    ensures { result ≡ record { claim = record { key = ask.now.key; number = ask.now.number }; origin = Played; answer = answer } }
+///
+/// Condition: the answer is one; it isn't `NotAsked`.
+pub fn played_load(ask: LoadAsk, answer: LoadAnswer) -> LoadDone
+    requires { is_load_given answer ≡ true }
+    ensures { result ≡ record { reservation = ask; origin = Played; answer = answer } }
 {
     LoadDone {
-        key: ask.key,
-        number: ask.number,
+        reservation: ask.into_reservation(),
         origin: Origin::Played,
         answer,
     }
 }
 
 /// A writer's report that is played: what a script or a test has it say.
-pub fn played_write(ask: &WriteAsk, answer: WriteAnswer) -> WriteDone
-    ensures { result ≡ record { claim = record { key = ask.now.key; number = ask.now.number }; change = ask.now.change; origin = Played; answer = answer } }
+///
+/// Condition: the answer is one; it isn't `NotAsked`.
+pub fn played_write(ask: WriteAsk, answer: WriteAnswer) -> WriteDone
+    requires { is_write_given answer ≡ true }
+    ensures { result ≡ record { reservation = ask; origin = Played; answer = answer } }
 {
     WriteDone {
-        key: ask.key,
-        number: ask.number,
-        change: ask.change,
+        reservation: ask.into_reservation(),
         origin: Origin::Played,
         answer,
+    }
+}
+
+/// A call has joined the load of its key, and its answer is to be picked up.
+pub struct Join {
+    caller: Caller,
+    key: Key,
+    load: u64,
+}
+
+impl Model for Join {
+    ghost use Rattle.jc_stripe.specs.Tickets.{JoinClaim};
+
+    ghost Value = { JoinClaim };
+
+    ghost view = { λ j. record { caller = j.caller; key = j.key; load = j.load } };
+}
+
+impl Join {
+    /// The join of a call.
+    pub(crate) fn new(caller: Caller, key: &Key, load: u64) -> Self
+        ensures { result ≡ record { caller = caller; key = key.now; load = load } }
+    {
+        Join {
+            caller,
+            key: *key,
+            load,
+        }
+    }
+
+    /// The call that has joined.
+    pub fn caller(&self) -> Caller
+        ensures { result ≡ self.now.caller }
+    {
+        self.caller
+    }
+
+    /// The key whose load it has joined.
+    pub fn key(&self) -> &Key
+        ensures { result.now ≡ self.now.key }
+    {
+        &self.key
+    }
+
+    /// The load that it has joined: the number of the reservation that loads.
+    pub fn load(&self) -> u64
+        ensures { result ≡ self.now.load }
+    {
+        self.load
+    }
+
+    /// The join is spent.
+    pub(crate) fn spend(self) {
+        let Join {
+            caller: _,
+            key: _,
+            load: _,
+        } = self;
     }
 }
