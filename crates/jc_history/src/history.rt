@@ -6,7 +6,7 @@ ghost use Rattle.std.specs.Prelude.{◌≡◌, ◌+◌, ◌<◌, ◌≤◌, ◌�
 ghost use Rattle.jc_history.specs.Past.{used, IsWithinLimit, promising, unpromising, happened};
 
 use jc_model::event::Event;
-use jc_types::config::HISTORY_MAX;
+use jc_types::limits::HISTORY_MAX;
 use std::alloc::{AllocError, Global};
 use std::marker::Model;
 

@@ -10,7 +10,7 @@ use Rattle.std.specs.List.{list_any}
 use Rattle.std.specs.Cmp.Lexicographic.{pointwise}
 use Rattle.jc_model.specs.Cache.{Bytes}
 use Rattle.jc_reserve.specs.declared.held.Held.{Held}
-use Rattle.jc_reserve.specs.declared.reservations.TheConstants.{RESERVATIONS_MAX}
+use Rattle.jc_types.specs.declared.limits.TheConstants.{RESERVATIONS_MAX}
 use Rattle.jc_reserve.specs.Table.{Table}
 
 abbrev pub has_key : {T : Type 0} → Bytes → Held T → Bool

@@ -1,7 +1,7 @@
 -- What is true of every table.
 --     IsReservationTable     at most RESERVATIONS_MAX keys are reserved, none of them twice, by numbers that rise and are all below the next one
 use Rattle.std.specs.Prelude.{◌≡◌, ◌<◌, ◌≤◌, length, false, All, AllPairs}
-use Rattle.jc_reserve.specs.declared.reservations.TheConstants.{RESERVATIONS_MAX}
+use Rattle.jc_types.specs.declared.limits.TheConstants.{RESERVATIONS_MAX}
 use Rattle.jc_reserve.specs.Table.{Table}
 use Rattle.jc_reserve.specs.Reserving.{has_key}
 

@@ -1,5 +1,5 @@
 //! One reservation.
-use jc_types::key::Key;
+use jc_types::Key;
 
 /// A reserved key, with the number of its reservation and the note of the stripe that reserved it.
 #[derive(Clone, Copy, Debug, Default)]

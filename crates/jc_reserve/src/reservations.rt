@@ -1,18 +1,15 @@
 //! The reservations of a stripe.
 ghost use Rattle.std.specs.Prelude.{◌≡◌, ◌≤◌, ◌↔◌, ◌==◌, ◌-◌, ◌^◌, [], IsTrue, IsSome, IfSome, OnSome, IfNone, length, position};
 ghost use Rattle.std.specs.Cmp.Lexicographic.{pointwise};
-ghost use Rattle.jc_reserve.specs.declared.reservations.TheConstants.{RESERVATIONS_MAX};
+ghost use Rattle.jc_types.specs.declared.limits.TheConstants.{RESERVATIONS_MAX};
 ghost use Rattle.jc_reserve.specs.Table.{keys_of};
 ghost use Rattle.jc_reserve.specs.Reserving.{has_key, is_held, reservation_at, CanReserve, with_reservation, without_reservation};
 ghost use Rattle.jc_reserve.specs.Sound.{IsReservationTable};
 
 use crate::Held;
 use arrayvec::ArrayVec;
-use jc_types::key::Key;
+use jc_types::{Key, RESERVATIONS_MAX};
 use std::marker::Model;
-
-/// The most keys that are reserved at once.
-pub const RESERVATIONS_MAX: usize = 64;
 
 /// The keys that calls have reserved, at most [`RESERVATIONS_MAX`] of them and none twice, each with the number of its
 /// reservation and the note of who reserved it, in the order of reserving.
