@@ -57,10 +57,10 @@ remove_at_place p [] i at once = cc
 remove_at_place p (x ∷ xs) i at once =
     elim (p x) as (λ b. p x ≡ b → remove (x ∷ xs) i ≡ cond (not b) (x ∷ filter (λ x. not (p x)) xs) (filter (λ x. not (p x)) xs)) [
       | true ↦ λ is.
-        let first : i ≡ 0 = grind (arith, common_steps) in
-        rw first (sym (filter_all (λ x. not (p x)) xs (λ k d within. ap not (once 0 (suc k) d (omega arith) (omega arith) is))))
+          let first : i ≡ 0 = grind (arith, common_steps) in
+          rw first (sym (filter_all (λ x. not (p x)) xs (λ k d within. ap not (once 0 (suc k) d (omega arith) (omega arith) is))))
       | false ↦ λ is.
-        let later : position p xs ≡ Some (i - 1) = grind (arith, common_steps) in
-        let more : i ≡ suc (i - 1) = grind (arith, common_steps) in
-        rw more (ap (λ ys. x ∷ ys) (remove_at_place p xs (i - 1) later (λ j k d lt within. once (suc j) (suc k) d (omega arith) (omega arith))))
+          let later : position p xs ≡ Some (i - 1) = grind (arith, common_steps) in
+          let more : i ≡ suc (i - 1) = grind (arith, common_steps) in
+          rw more (ap (λ ys. x ∷ ys) (remove_at_place p xs (i - 1) later (λ j k d lt within. once (suc j) (suc k) d (omega arith) (omega arith))))
     ] refl

@@ -176,3 +176,6 @@ fn place_among(keys: &[Key], key: &Key) -> Option<usize>
 {
     keys.iter().position(|k| *key == *k)
 }
+
+#[cfg(test)]
+mod tests;

@@ -13,7 +13,7 @@ invariant_of-self g c =
     let can = subst (λ (t : Table g.row.T.Denot). CanReserve t key) (sym c.self.view_is) (c.can_reserve.ensures.0 c.if-not-can_reserve.false) in
     record {
       keys = c.push-2.ensures.items ∙ ap (λ xs. xs ++ key ∷ []) c.self.invariant.keys
-        ∙ sym (map-append (λ h. h.key) c.self.inside.held.items _) ∙ ap keys_of (sym c.push.ensures.items);
+          ∙ sym (map-append (λ h. h.key) c.self.inside.held.items _) ∙ ap keys_of (sym c.push.ensures.items);
       table = subst (IsReservationTable {T = g.row.T.Denot}) (λ i. record { held = sym c.push.ensures.items i; next = c.self.inside.next + 1 })
-        (IsReservationTable-with (table_of c.self.inside) key c.args.note c.self.invariant.table can);
+          (IsReservationTable-with (table_of c.self.inside) key c.args.note c.self.invariant.table can);
     }

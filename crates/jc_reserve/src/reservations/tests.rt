@@ -1,0 +1,116 @@
+//! What a table of reservations answers, from an empty one to a full one. No test is given an allocator.
+//!
+//! Each assertion is a call of `is`, which is proved once: an assertion in its own place costs the check far more.
+use super::*;
+use std::fmt::Debug;
+use std::process::Abort;
+use std::test::Fail;
+
+fn is<T: Copy + Debug + PartialEq>(rt: &impl Abort, at: &str, found: T, want: T) {
+    assert_eq!(rt; found, want, "{at}");
+}
+
+fn key(rt: &impl Abort, name: &str) -> Key {
+    Key::new(name.as_bytes()).ok().expect(rt, "a key")
+}
+
+/// Reserves a key with this note, or with none releases it, and gives the number of its reservation.
+fn change(table: &mut Reservations<char>, key: &Key, note: Option<char>) -> Option<u64> {
+    match note {
+        Some(note) => table.reserve(key, note),
+        None => Some(table.release(key)?.0),
+    }
+}
+
+/// Looks a key up, which is reserved or free.
+fn look_up(rt: &impl Abort, table: &Reservations<char>, name: &str, want: Option<(u64, char)>) {
+    let key = key(rt, name);
+    is(rt, name, table.find(&key), want);
+    is(rt, name, table.is_reserved(&key), want.is_some());
+}
+
+/// Asks for the reservations as a list: the keys `b` and `c`, by the numbers 2 and 4.
+fn look_at_list(rt: &impl Abort, table: &Reservations<char>) {
+    let left = [key(rt, "b"), key(rt, "c")];
+    is(rt, "keys", table.keys(), left.as_slice());
+    is(rt, "length", table.len(), 2);
+    for (held, want) in table
+        .list()
+        .iter()
+        .zip([(left[0], 2, 'u'), (left[1], 4, 'w')])
+    {
+        is(rt, "held", (held.key, held.reservation, held.note), want);
+    }
+}
+
+#[test]
+fn numbers_rise_and_never_come_twice(rt: HostRuntime) -> Result<(), Fail> {
+    let mut table = Reservations::new();
+    is(&rt, "new", table.is_empty(), true);
+    // A key that is reserved with a note, or with none is released, and the number that this gives.
+    for (name, note, want) in [
+        ("a", Some('x'), Some(0)),
+        ("b", Some('y'), Some(1)),
+        ("a", Some('z'), None),
+        ("b", None, Some(1)),
+        ("b", None, None),
+        ("b", Some('u'), Some(2)),
+        ("a", None, Some(0)),
+        ("a", Some('v'), Some(3)),
+        ("c", Some('w'), Some(4)),
+    ] {
+        is(&rt, name, change(&mut table, &key(&rt, name), note), want);
+    }
+    for (name, want) in [
+        ("a", Some((3, 'v'))),
+        ("b", Some((2, 'u'))),
+        ("c", Some((4, 'w'))),
+        ("d", None),
+    ] {
+        look_up(&rt, &table, name, want);
+    }
+    is(&rt, "a", table.release(&key(&rt, "a")), Some((3, 'v')));
+    look_at_list(&rt, &table);
+    Ok(())
+}
+
+/// Reserves the keys with the bytes `k0` to `k63`, each with its number as its note.
+fn reserve_64(rt: &impl Abort, table: &mut Reservations<u8>) -> Result<(), Fail> {
+    for i in 0..64u8 {
+        is(rt, "full too early", table.is_full(), false);
+        let key = Key::new(&[b'k', i])?;
+        is(rt, "a number", table.reserve(&key, i), Some(i as u64));
+    }
+    Ok(())
+}
+
+#[test]
+fn holds_64_keys_and_no_65th(rt: HostRuntime) -> Result<(), Fail> {
+    let mut table = Reservations::new();
+    reserve_64(&rt, &mut table)?;
+    is(&rt, "full", table.is_full(), true);
+    let other = key(&rt, "other");
+    is(&rt, "full", table.reserve(&other, 64), None);
+    is(&rt, "full", table.len(), 64);
+    let left = Key::new(&[b'k', 31])?;
+    is(&rt, "one leaves", table.release(&left), Some((31, 31)));
+    let found = table.reserve(&other, 64);
+    is(&rt, "the refused call used no number", found, Some(64));
+    is(&rt, "full again", table.is_full(), true);
+    Ok(())
+}
+
+#[test]
+fn stops_at_the_end_of_the_numbers(rt: HostRuntime) -> Result<(), Fail> {
+    let last = u64::MAX - 1;
+    let mut table = Reservations::new_from(last);
+    let (a, b) = (key(&rt, "a"), key(&rt, "b"));
+    is(&rt, "one number is left", table.is_used_up(), false);
+    is(&rt, "the last number", table.reserve(&a, ()), Some(last));
+    is(&rt, "no number is left", table.is_used_up(), true);
+    is(&rt, "no number is left", table.reserve(&b, ()), None);
+    is(&rt, "a is released", table.release(&a), Some((last, ())));
+    is(&rt, "no number comes again", table.reserve(&a, ()), None);
+    is(&rt, "nothing is reserved", table.is_empty(), true);
+    Ok(())
+}
