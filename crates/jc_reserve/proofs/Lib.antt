@@ -1,3 +1,2 @@
-pub mod Beside
-pub mod Sounds
-pub mod Keeping
+pub mod Places
+pub mod Tables
