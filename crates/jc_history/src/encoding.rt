@@ -8,7 +8,9 @@ ghost use Rattle.jc_history.specs.Appending.{Appends};
 ghost use Rattle.jc_history.specs.Encoding.{text_bytes, optional_bytes, caller_bytes, op_bytes, load_bytes, write_bytes, effect_bytes, process_bytes, out_bytes, refusal_bytes, reply_bytes, event_bytes};
 ghost use Rattle.jc_history.specs.Encodable.{IsCode, IsKeyText, IsValueText, IsEncodableOptional, IsEncodableCaller, IsEncodableOp, IsEncodableLoad, IsEncodableWrite, IsEncodableEffect, IsEncodableProcess, IsEncodableOut, IsEncodableRefusal, IsEncodableReply, IsEncodable};
 
-use jc_model::event::{Cause, Effect, Event, LoadAnswer, Op, Out, ProcessAnswer, Reply, WriteAnswer};
+use jc_model::event::{
+    Cause, Effect, Event, LoadAnswer, Op, Out, ProcessAnswer, Reply, WriteAnswer,
+};
 use jc_types::config::{Field, Refusal};
 use jc_types::key::{KEY_MAX, Key};
 use jc_types::value::{VALUE_MAX, Value};
@@ -39,8 +41,12 @@ const PROCESS_ROOM: usize = TAG_ROOM + 2 * TAGGED_VALUE_ROOM;
 
 const OUT_ROOM: usize = TAGGED_VALUE_ROOM + TAGGED_CODE_ROOM + PROCESS_ROOM;
 
-const STEP_ROOM: usize =
-    TAGGED_VALUE_ROOM + CALLER_ROOM + KEY_ROOM + OP_ROOM + OUT_ROOM + TAGGED_CODE_ROOM;
+const STEP_ROOM: usize = TAGGED_VALUE_ROOM
+    + CALLER_ROOM
+    + KEY_ROOM
+    + OP_ROOM
+    + OUT_ROOM
+    + TAGGED_CODE_ROOM;
 
 /// The most bytes of an event: those of a step with a key and six values of the greatest length.
 pub(crate) const EVENT_ROOM: usize = TAG_ROOM + STEP_ROOM;

@@ -220,3 +220,6 @@ fn push_copy<T: Copy>(items: &mut Vec<T>, item: &T)
 {
     items.push_reserved(*item);
 }
+
+#[cfg(test)]
+mod tests;
