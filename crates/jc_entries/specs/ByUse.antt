@@ -11,7 +11,7 @@ use Rattle.std.specs.Prelude.{ℕ, ◌<◌, ◌≤◌, ◌==◌, Bool, not, IsTr
 use Rattle.std.specs.List.{list_any}
 use Rattle.std.specs.Cmp.Lexicographic.{pointwise}
 use Rattle.std.specs.FinMap as finite
-use Rattle.jc_types.specs.declared.config.TheConstants.{CAPACITY_MAX}
+use Rattle.jc_types.specs.declared.limits.TheConstants.{CAPACITY_MAX}
 use Rattle.jc_model.specs.Cache.{Bytes, key_cmp}
 use Rattle.jc_model.specs.Listed.{apart, others}
 

@@ -10,8 +10,8 @@ ghost use Rattle.jc_entries.specs.ByUse.{IsSound, keys_of, touched, evicted_of};
 
 use jc_model::event::Cause;
 use jc_model::listed::{take_out, value_in};
-use jc_types::config::CAPACITY_MAX;
 use jc_types::key::Key;
+use jc_types::limits::CAPACITY_MAX;
 use jc_types::value::Value;
 use std::alloc::{AllocError, Global};
 use std::marker::Model;

@@ -11,9 +11,7 @@ ghost use Rattle.jc_history.specs.Encodable.{IsCode, IsKeyText, IsValueText, IsE
 use jc_model::event::{
     Cause, Effect, Event, LoadAnswer, Op, Out, ProcessAnswer, Reply, WriteAnswer,
 };
-use jc_types::config::{Field, Refusal};
-use jc_types::key::{KEY_MAX, Key};
-use jc_types::value::{VALUE_MAX, Value};
+use jc_types::{Field, KEY_MAX, Key, Refusal, VALUE_MAX, Value};
 
 // The most bytes of each part.
 

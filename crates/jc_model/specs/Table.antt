@@ -29,8 +29,8 @@
 use Rattle.std.specs.Prelude.{◌≡◌, ◌==◌, Bool, true, false, not, ◌&&◌, ◌||◌, IsTrue, Option, None, Some, is_some, is_none, if◌then◌else◌, unwrap_or}
 use Rattle.std.specs.Cmp.Lexicographic.{pointwise}
 use Rattle.jc_types.specs.declared.config.Config.{Config}
-use Rattle.jc_types.specs.declared.config.Refusal.{Refusal}
-use Rattle.jc_types.specs.declared.config.Refusal.TheVariants as refusal
+use Rattle.jc_types.specs.declared.refusal.Refusal.{Refusal}
+use Rattle.jc_types.specs.declared.refusal.Refusal.TheVariants as refusal
 use Rattle.jc_model.specs.declared.event.Op.{Op}
 use Rattle.jc_model.specs.declared.event.Op.TheVariants.{Get, ContainsKey, Put, GetAndPut, PutIfAbsent, Remove, RemoveIf, GetAndRemove, Replace, ReplaceIf, GetAndReplace, Clear, LoadAll, Invoke}
 use Rattle.jc_model.specs.declared.event.Out.{Out}

@@ -1,6 +1,6 @@
 //! The words that every crate speaks: operations, what was said outside, replies, and the events of a history.
-use jc_types::config::Refusal;
 use jc_types::key::Key;
+use jc_types::refusal::Refusal;
 use jc_types::value::Value;
 
 /// What a call asks of the cache, at one key: the operations of `javax.cache.Cache`.

@@ -5,7 +5,8 @@ ghost use Rattle.jc_model.specs.Table.{holds, replaced, loaded, load_given, load
 ghost use Rattle.jc_model.specs.Table.{ask_if, process_ask};
 
 use crate::event::{Change, Effect, LoadAnswer, Op, Out, ProcessAnswer, Reply, WriteAnswer};
-use jc_types::config::{Config, Refusal};
+use jc_types::config::Config;
+use jc_types::refusal::Refusal;
 use jc_types::value::Value;
 
 /// Whether the entry has this value.

@@ -8,7 +8,7 @@ use Rattle.std.proofs.lemmas.Grind.{common_steps}
 use Rattle.std.proofs.lemmas.Fmt.{decimal_by_steps, decimal_digit, decimal_nonempty, first_decimal}
 use Rattle.jc_script.specs.declared.fault.Fault.{Fault}
 use Rattle.jc_script.specs.declared.fault.Fault.TheVariants.{BadNumber}
-use Rattle.jc_types.specs.declared.value.TheConstants.{VALUE_MAX}
+use Rattle.jc_types.specs.declared.limits.TheConstants.{VALUE_MAX}
 use Rattle.jc_script.specs.Words.{◌>>=◌, digits_from, number_of, caller_of, caller_if, is_digit, is_letter, value_of, is_text}
 use Rattle.jc_script.specs.Printing.{value_text}
 

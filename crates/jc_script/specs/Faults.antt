@@ -10,8 +10,8 @@
 --     act_fault        the fault of an act: there is no such call, or its key doesn't wait for this
 --     state_fault      the fault that the state of the world gives a line, the first one in order
 use Rattle.std.specs.Prelude.{ℕ, List, codes, Bool, true, not, ◌&&◌, ◌||◌, nat_lt, Option, None, Some, is_none, Result, Ok, Err, if◌then◌else◌}
-use Rattle.jc_types.specs.declared.config.Refusal.{Refusal}
-use Rattle.jc_types.specs.declared.config.Refusal.TheVariants as refusal
+use Rattle.jc_types.specs.declared.refusal.Refusal.{Refusal}
+use Rattle.jc_types.specs.declared.refusal.Refusal.TheVariants as refusal
 use Rattle.jc_types.specs.declared.config.Field.TheVariants.{Stripes, Capacity, History}
 use Rattle.jc_types.specs.Limits.{checked}
 use Rattle.jc_world.specs.declared.event.Part.{Part}

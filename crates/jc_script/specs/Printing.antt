@@ -30,8 +30,8 @@
 --     fault_line                     the line that ends a transcript
 use Rattle.std.specs.Prelude.{◌==◌, ℕ, ◌-◌, List, [], ◌∷◌, ◌++◌, length, codes, decimal, Bool, true, false, Option, None, Some, if◌then◌else◌}
 use Rattle.std.specs.List.{flat_map}
-use Rattle.jc_types.specs.declared.config.Refusal.{Refusal}
-use Rattle.jc_types.specs.declared.config.Refusal.TheVariants.{HistoryFull, Busy, TooManyInFlight, TooManyJoiners, LoaderFailed, WriterFailed, ProcessorFailed, OutOfMemory, TooManyKeys, BadConfig, NoLoader, NoWriter, TooManySessions, StillReserved}
+use Rattle.jc_types.specs.declared.refusal.Refusal.{Refusal}
+use Rattle.jc_types.specs.declared.refusal.Refusal.TheVariants.{HistoryFull, Busy, TooManyInFlight, TooManyJoiners, LoaderFailed, WriterFailed, ProcessorFailed, OutOfMemory, TooManyKeys, BadConfig, NoLoader, NoWriter, TooManySessions, StillReserved}
 use Rattle.jc_types.specs.Refusals.{refusal_name}
 use Rattle.jc_model.specs.Cache.{Bytes}
 use Rattle.jc_model.specs.declared.event.Cause.{Cause}

@@ -4,8 +4,8 @@
 --     KeysReadBack       a key of letters
 --     ValuesReadBack     a value of letters, and the empty one, as both are printed
 use Rattle.std.specs.Prelude.{◌≡◌, ◌⊎◌, ◌≤◌, ℕ, [], ◌∷◌, true, Ok, decimal}
-use Rattle.jc_types.specs.declared.key.TheConstants.{KEY_MAX}
-use Rattle.jc_types.specs.declared.value.TheConstants.{VALUE_MAX}
+use Rattle.jc_types.specs.declared.limits.TheConstants.{KEY_MAX}
+use Rattle.jc_types.specs.declared.limits.TheConstants.{VALUE_MAX}
 use Rattle.jc_model.specs.Cache.{Bytes}
 use Rattle.jc_script.specs.Words.{number_of, caller_of, key_of, value_of, is_text}
 use Rattle.jc_script.specs.Printing.{value_text}

@@ -23,8 +23,8 @@ use Rattle.std.specs.Str.{bytes_eq}
 use Rattle.std.specs.List.{list_all}
 use Rattle.std.specs.List.{slice_split, position}
 use Rattle.std.specs.Cmp.Lexicographic.{pointwise}
-use Rattle.jc_types.specs.declared.key.TheConstants.{KEY_MAX}
-use Rattle.jc_types.specs.declared.value.TheConstants.{VALUE_MAX}
+use Rattle.jc_types.specs.declared.limits.TheConstants.{KEY_MAX}
+use Rattle.jc_types.specs.declared.limits.TheConstants.{VALUE_MAX}
 use Rattle.jc_model.specs.Cache.{Bytes}
 use Rattle.jc_model.specs.declared.event.LoadAnswer.{LoadAnswer}
 use Rattle.jc_model.specs.declared.event.LoadAnswer.TheVariants.{Found, Nothing}

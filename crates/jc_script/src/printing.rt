@@ -7,8 +7,8 @@ ghost use Rattle.jc_script.specs.Printing.{value_text, value_or_none_text, coded
 use crate::fault::{Fault, text};
 use itoa::Buffer;
 use jc_model::event::{Cause, Change, LoadAnswer, Reply};
-use jc_types::config::Refusal;
 use jc_types::key::Key;
+use jc_types::refusal::Refusal;
 use jc_types::value::Value;
 use jc_world::audit::Audit;
 use jc_world::event::{Gone, PickedUp, Reported, Shown, Stepped, WorldEvent};

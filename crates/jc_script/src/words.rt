@@ -2,14 +2,15 @@
 ghost use Rattle.std.specs.Prelude.{◌≡◌, ◌≤◌, ◌<◌, IfOk, IfSome, Ok, [], map, length, List, ℕ};
 ghost use Rattle.std.specs.Str.{bytes_eq};
 ghost use Rattle.std.specs.List.{list_all};
-ghost use Rattle.jc_types.specs.declared.value.TheConstants.{VALUE_MAX};
+ghost use Rattle.jc_types.specs.declared.limits.TheConstants.{VALUE_MAX};
 ghost use Rattle.jc_script.specs.Words.{words_of, is_letter, is_text, digits_from, number_of, caller_of, key_of, value_of, value_or_none_of, equals_at, key_part, value_part, pair_onto, pairs_of};
 ghost use Rattle.jc_script.specs.Lines.{Gives, with_value};
 
 use crate::fault::{Fault, ReadError};
 use crate::pairs::Pairs;
-use jc_types::key::{KEY_MAX, Key};
-use jc_types::value::{VALUE_MAX, Value};
+use jc_types::key::Key;
+use jc_types::limits::{KEY_MAX, VALUE_MAX};
+use jc_types::value::Value;
 use std::alloc::{AllocError, Global};
 
 /// Whether a word is this text.

@@ -16,8 +16,8 @@
 --     first_refusal         the first refusal whose condition holds: history full, busy, too many in flight, too many joiners
 use Rattle.std.specs.Prelude.{◌^◌, ◌-◌, ℕ, ◌+◌, length, find, Bool, true, false, not, ◌&&◌, ◌||◌, Option, None, Some, is_some, is_none, nat_lt, nat_le, if◌then◌else◌}
 use Rattle.jc_types.specs.declared.config.Config.{Config}
-use Rattle.jc_types.specs.declared.config.Refusal.{Refusal}
-use Rattle.jc_types.specs.declared.config.Refusal.TheVariants as refusal
+use Rattle.jc_types.specs.declared.refusal.Refusal.{Refusal}
+use Rattle.jc_types.specs.declared.refusal.Refusal.TheVariants as refusal
 use Rattle.jc_model.specs.declared.event.Op.{Op}
 use Rattle.jc_model.specs.declared.event.Op.TheVariants.{Get, ContainsKey, Put, GetAndPut, PutIfAbsent, Remove, RemoveIf, GetAndRemove, Replace, ReplaceIf, GetAndReplace, Clear, LoadAll, Invoke}
 use Rattle.jc_model.specs.declared.event.Change.{Change}

@@ -1,7 +1,7 @@
 //! What a first phase gives, and what a joiner is told.
 use crate::ticket::{Join, LoadTicket, WriteTicket};
 use jc_model::event::{Change, Reply};
-use jc_types::config::Refusal;
+use jc_types::refusal::Refusal;
 
 /// What a first phase gives.
 pub enum Begun {

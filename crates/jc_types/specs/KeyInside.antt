@@ -4,7 +4,7 @@
 use Rattle.std.specs.Prelude.{◌≡◌, List, ℕ, length, take}
 use Rattle.jc_types.specs.Inline.{IsInline, padded, length-inline, padded-inline}
 use Rattle.jc_types.specs.declared.key.Key.TheInside.{Inside}
-use Rattle.jc_types.specs.declared.key.TheConstants.{KEY_MAX}
+use Rattle.jc_types.specs.declared.limits.TheConstants.{KEY_MAX}
 
 -- the fields of the key of these bytes
 abbrev pub again : List ℕ → Inside

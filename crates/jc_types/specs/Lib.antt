@@ -3,3 +3,4 @@ pub mod KeyInside
 pub mod ValueInside
 pub mod Limits
 pub mod Refusals
+pub mod Stripes

@@ -3,10 +3,10 @@
 --     checked     nothing where each field is within its limits, and else the refusal of the first one that isn't
 use Rattle.std.specs.Prelude.{ℕ, Bool, ◌&&◌, nat_le, Result, Ok, Err, if◌then◌else◌}
 use Rattle.jc_types.specs.declared.config.Config.{Config}
-use Rattle.jc_types.specs.declared.config.Refusal.{Refusal}
-use Rattle.jc_types.specs.declared.config.Refusal.TheVariants.{BadConfig}
+use Rattle.jc_types.specs.declared.refusal.Refusal.{Refusal}
+use Rattle.jc_types.specs.declared.refusal.Refusal.TheVariants.{BadConfig}
 use Rattle.jc_types.specs.declared.config.Field.TheVariants.{Stripes, Capacity, History}
-use Rattle.jc_types.specs.declared.config.TheConstants.{STRIPES_MAX, CAPACITY_MAX, HISTORY_MIN, HISTORY_MAX}
+use Rattle.jc_types.specs.declared.limits.TheConstants.{STRIPES_MAX, CAPACITY_MAX, HISTORY_MIN, HISTORY_MAX}
 
 -- whether a number is at least the low limit and at most the high one
 abbrev pub between : ℕ → ℕ → ℕ → Bool

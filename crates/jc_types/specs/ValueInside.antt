@@ -4,7 +4,7 @@
 use Rattle.std.specs.Prelude.{◌≡◌, List, ℕ, length, take}
 use Rattle.jc_types.specs.Inline.{IsInline, padded, length-inline, padded-inline}
 use Rattle.jc_types.specs.declared.value.Value.TheInside.{Inside}
-use Rattle.jc_types.specs.declared.value.TheConstants.{VALUE_MAX}
+use Rattle.jc_types.specs.declared.limits.TheConstants.{VALUE_MAX}
 
 -- the fields of the value of these bytes
 abbrev pub again : List ℕ → Inside

@@ -1,19 +1,19 @@
 //! The key of an entry, and the stripe that it belongs to.
-ghost use Rattle.std.specs.Prelude.{◌≡◌, ◌<◌, ◌≤◌, ◌↔◌, ◌%◌, ◌==◌, [], ◌∷◌, length, sum, IfOk, IsOk};
+ghost use Rattle.std.specs.Prelude.{◌≡◌, ◌<◌, ◌≤◌, ◌↔◌, ◌==◌, [], ◌∷◌, length, IfOk, IsOk};
 ghost use Rattle.std.proofs.Common.{rules};
 ghost use Rattle.std.specs.Ordering.{nat_cmp, as_partial_cmp};
 ghost use Rattle.std.specs.Cmp.{partial_order_from_own_ties};
 ghost use Rattle.std.specs.Cmp.Rules.{comparing, hashing};
 ghost use Rattle.std.specs.Cmp.Lexicographic.{slice_cmp, pointwise};
+ghost use Rattle.jc_types.specs.Stripes.{stripe_of};
 
-use crate::inline::filled;
+use crate::inline::{filled, fmt_bytes};
+use crate::limits::KEY_MAX;
 use std::cmp::Ordering;
+use std::fmt::{self, Debug, Formatter, Write};
 use std::hash::{Hash, Hasher};
 use std::marker::Model;
 use thiserror::Error;
-
-/// The most bytes that a key has. The fewest are 1.
-pub const KEY_MAX: usize = 32;
 
 /// Why [`Key::new`] made no key.
 #[derive(Clone, Copy, Debug, PartialEq, Eq, Error)]
@@ -29,9 +29,9 @@ pub enum KeyFault {
 /// The key of an entry: 1 to [`KEY_MAX`] bytes of any kind, kept inline.
 ///
 /// A key is a copy of the bytes that it was made of, so nobody can change one that a cache holds
-/// (JSR 107, "Store-By-Value"). Two keys are equal where they have the same bytes, and keys are
-/// ordered byte by byte, as slices are.
-#[derive(Clone, Copy, Debug)]
+/// (JSR 107, "Store-By-Value"). Two keys are equal if they have the same bytes, and keys are
+/// ordered byte by byte, as slices are. `Debug` prints a key as text.
+#[derive(Clone, Copy)]
 pub struct Key {
     // The bytes, and zeros behind them.
     buf: [u8; KEY_MAX],
@@ -46,7 +46,7 @@ impl Model for Key {
     ghost use Rattle.std.specs.Prelude.{List, ℕ, length, take};
     ghost use Rattle.jc_types.specs.Inline.{IsInline, padded};
     ghost use Rattle.jc_types.specs.KeyInside.{key_again};
-    ghost use Rattle.jc_types.specs.declared.key.TheConstants.{KEY_MAX};
+    ghost use Rattle.jc_types.specs.declared.limits.TheConstants.{KEY_MAX};
 
     ghost Value = { List ℕ };
 
@@ -86,6 +86,13 @@ impl Key {
         ensures few { length self.now ≤ KEY_MAX }
     {
         &self.buf[..self.len as usize]
+    }
+}
+
+/// Prints the bytes as a quoted text if they are UTF-8, and else as a list of numbers.
+impl Debug for Key {
+    fn fmt<W: Write>(&self, f: &mut Formatter<W>) -> fmt::Result {
+        fmt_bytes(self.bytes(), f)
     }
 }
 
@@ -139,11 +146,11 @@ impl Hash for Key {
     }
 }
 
-/// The number of the stripe that a key belongs to, where a cache has `stripes` of them: the sum of
-/// the key's bytes, modulo `stripes`. The first stripe is 0.
+/// The number of the stripe that a key belongs to, in a cache with `stripes` of them: the sum of the
+/// key's bytes, modulo `stripes`. The first stripe is 0.
 pub fn stripe_of(key: &Key, stripes: usize) -> usize
     requires { 0 < stripes }
-    ensures { result ≡ sum key.now % stripes }
+    ensures { result ≡ stripe_of key.now stripes }
 {
     let mut total: usize = 0;
     for byte in key.bytes() {
@@ -231,6 +238,15 @@ mod tests {
             (KeyFault::TooLong, "a key has at most 32 bytes"),
         ] {
             let text = format!(in rt.alloc(); "{fault}")?;
+            assert_eq!(rt; text.as_str(), want);
+        }
+        Ok(())
+    }
+
+    #[test]
+    fn prints_as_text(rt: HostRuntime) -> Result<(), Fail> {
+        for (bytes, want) in [(&b"a.1"[..], "\"a.1\""), (&[255, 0][..], "[255, 0]")] {
+            let text = format!(in rt.alloc(); "{:?}", Key::new(bytes)?)?;
             assert_eq!(rt; text.as_str(), want);
         }
         Ok(())

@@ -5,7 +5,20 @@
 //! holds one can change the cache's own (JSR 107, "Store-By-Value").
 #![tactic(auto)]
 
+pub mod caller;
 pub mod config;
 mod inline;
 pub mod key;
+pub mod limits;
+pub mod refusal;
 pub mod value;
+
+pub use caller::Caller;
+pub use config::{Config, Field};
+pub use key::{Key, KeyFault, stripe_of};
+pub use limits::{
+    BULK_KEYS_MAX, CAPACITY_MAX, HISTORY_MAX, HISTORY_MIN, HIT_PLACES, JOINERS_MAX, KEY_MAX,
+    RESERVATIONS_MAX, SESSIONS_MAX, STEP_PLACES, STRIPES_MAX, VALUE_MAX,
+};
+pub use refusal::Refusal;
+pub use value::{Value, ValueFault};

@@ -6,13 +6,12 @@ ghost use Rattle.std.specs.Cmp.{partial_order_from_own_ties};
 ghost use Rattle.std.specs.Cmp.Rules.{comparing};
 ghost use Rattle.std.specs.Cmp.Lexicographic.{slice_cmp, pointwise};
 
-use crate::inline::filled;
+use crate::inline::{filled, fmt_bytes};
+use crate::limits::VALUE_MAX;
 use std::cmp::Ordering;
+use std::fmt::{self, Debug, Formatter, Write};
 use std::marker::Model;
 use thiserror::Error;
-
-/// The most bytes that a value has. A value may have none.
-pub const VALUE_MAX: usize = 64;
 
 /// Why [`Value::new`] made no value.
 #[derive(Clone, Copy, Debug, PartialEq, Eq, Error)]
@@ -25,10 +24,10 @@ pub enum ValueFault {
 /// The value of an entry: 0 to [`VALUE_MAX`] bytes of any kind, kept inline.
 ///
 /// A value is a copy of the bytes that it was made of, so nobody can change one that a cache holds
-/// (JSR 107, "Store-By-Value"). Two values are equal where they have the same bytes, which is what
+/// (JSR 107, "Store-By-Value"). Two values are equal if they have the same bytes, which is what
 /// `remove(key, oldValue)` and `replace(key, oldValue, newValue)` test, and values are ordered byte
-/// by byte, as slices are.
-#[derive(Clone, Copy, Debug)]
+/// by byte, as slices are. `Debug` prints a value as text.
+#[derive(Clone, Copy)]
 pub struct Value {
     // The bytes, and zeros behind them.
     buf: [u8; VALUE_MAX],
@@ -43,7 +42,7 @@ impl Model for Value {
     ghost use Rattle.std.specs.Prelude.{List, ℕ, length, take};
     ghost use Rattle.jc_types.specs.Inline.{IsInline, padded};
     ghost use Rattle.jc_types.specs.ValueInside.{value_again};
-    ghost use Rattle.jc_types.specs.declared.value.TheConstants.{VALUE_MAX};
+    ghost use Rattle.jc_types.specs.declared.limits.TheConstants.{VALUE_MAX};
 
     ghost Value = { List ℕ };
 
@@ -78,6 +77,13 @@ impl Value {
         ensures few { length self.now ≤ VALUE_MAX }
     {
         &self.buf[..self.len as usize]
+    }
+}
+
+/// Prints the bytes as a quoted text if they are UTF-8, and else as a list of numbers.
+impl Debug for Value {
+    fn fmt<W: Write>(&self, f: &mut Formatter<W>) -> fmt::Result {
+        fmt_bytes(self.bytes(), f)
     }
 }
 

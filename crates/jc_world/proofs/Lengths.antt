@@ -5,9 +5,9 @@
 use Rattle.std.proofs.Common.{◌≡◌, ◌+◌, ◌≤◌, ℕ, suc, List, [], ◌∷◌, ◌++◌, length, map, filter, Bool, true, false, cond, Option, None, Some, Result, Ok, Err, nat_le, refl, ap, arith, length-append, length-drop, take, drop, ◌-◌}
 use Rattle.std.proofs.lemmas.Bool.Decides.{nat_tests}
 use Rattle.std.proofs.lemmas.List.{take_rest}
-use Rattle.jc_types.specs.declared.config.Refusal.{Refusal}
+use Rattle.jc_types.specs.declared.refusal.Refusal.{Refusal}
 use Rattle.jc_types.specs.Limits.{between}
-use Rattle.jc_types.specs.declared.config.TheConstants.{STRIPES_MAX, CAPACITY_MAX, HISTORY_MIN, HISTORY_MAX}
+use Rattle.jc_types.specs.declared.limits.TheConstants.{STRIPES_MAX, CAPACITY_MAX, HISTORY_MIN, HISTORY_MAX}
 use Rattle.jc_model.specs.declared.event.Op.{Op}
 use Rattle.jc_model.specs.declared.event.Out.{Out}
 use Rattle.jc_model.specs.declared.event.Reply.{Reply}

@@ -4,9 +4,9 @@ use Rattle.std.proofs.lemmas.Bool.Decides.{nat_tests}
 use Rattle.std.proofs.lemmas.Bool.{eqb-true}
 use Rattle.std.proofs.lemmas.Option.{slice_get-get_or}
 use Rattle.jc_types.specs.declared.config.Config.{Config}
-use Rattle.jc_types.specs.declared.config.Refusal.{Refusal}
+use Rattle.jc_types.specs.declared.refusal.Refusal.{Refusal}
 use Rattle.jc_types.specs.Limits.{checked, between}
-use Rattle.jc_types.specs.declared.config.TheConstants.{STRIPES_MAX}
+use Rattle.jc_types.specs.declared.limits.TheConstants.{STRIPES_MAX}
 use Rattle.jc_model.specs.Cache.{Bytes}
 use Rattle.jc_model.proofs.Lookups.{both}
 use Rattle.jc_stripe.specs.State.{State}

@@ -1,8 +1,8 @@
 //! What may happen in a world, what is shown of it, and what a world keeps of its calls.
 use jc_model::event::{Cause, Change, LoadAnswer, Op, Reply, WriteAnswer};
 use jc_stripe::ticket::First;
-use jc_types::config::Refusal;
 use jc_types::key::Key;
+use jc_types::refusal::Refusal;
 use jc_types::value::Value;
 
 /// What a call does: one operation on one key.

@@ -1,8 +1,6 @@
 use super::*;
 use jc_model::event::{Cause, Effect, LoadAnswer, Op, Out, ProcessAnswer, WriteAnswer};
-use jc_types::config::{Field, Refusal};
-use jc_types::key::{KEY_MAX, Key};
-use jc_types::value::{VALUE_MAX, Value};
+use jc_types::{Field, KEY_MAX, Key, Refusal, VALUE_MAX, Value};
 use std::fmt::Debug;
 use std::process::Abort;
 use std::test::Fail;

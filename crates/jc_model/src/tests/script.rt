@@ -11,7 +11,7 @@
 //! - `evict KEY full` or `evict KEY memory`.
 use super::*;
 use crate::event::{Cause, Effect};
-use jc_types::config::Refusal;
+use jc_types::refusal::Refusal;
 use std::alloc::AllocError;
 
 /// A history with the shape and the opening of its stripe.

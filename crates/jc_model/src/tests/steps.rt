@@ -5,7 +5,7 @@
 use super::script::{History, all_judged, history_of, value};
 use super::*;
 use crate::event::Effect;
-use jc_types::config::Refusal;
+use jc_types::refusal::Refusal;
 use std::alloc::AllocError;
 
 /// One operation at a key: its history, what was said outside, its reply and the entry afterwards.

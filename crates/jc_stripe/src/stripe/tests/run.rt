@@ -14,8 +14,9 @@ use crate::ticket::{
 };
 use jc_model::event::{Change, Event, LoadAnswer, Op, Reply, WriteAnswer};
 use jc_model::legal::legal;
-use jc_types::config::{Config, Refusal};
+use jc_types::config::Config;
 use jc_types::key::Key;
+use jc_types::refusal::Refusal;
 use std::alloc::Global;
 use std::fmt::Debug;
 use std::process::Abort;

@@ -22,8 +22,9 @@ use crate::ticket::Caller;
 use jc_model::event::{
     Cause, Change, Event, LoadAnswer, Op, Out, ProcessAnswer, Reply, WriteAnswer,
 };
-use jc_types::config::{Config, Refusal};
+use jc_types::config::Config;
 use jc_types::key::Key;
+use jc_types::refusal::Refusal;
 use jc_types::value::Value;
 use std::alloc::Global;
 use std::process::Abort;

@@ -3,8 +3,8 @@ use super::words::{Words, number_of, value_of};
 use crate::event::{Command, Gone, PickedUp, Reported, Shown, Stepped, WorldEvent};
 use crate::world::World;
 use jc_model::event::{Cause, Change, LoadAnswer, Op, Reply};
-use jc_types::config::Refusal;
 use jc_types::key::Key;
+use jc_types::refusal::Refusal;
 use std::alloc::Global;
 use std::process::Abort;
 
