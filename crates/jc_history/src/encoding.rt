@@ -2,7 +2,7 @@
 //!
 //! Each function appends to a vector that has room for the longest thing of its kind, so no append is
 //! refused.
-ghost use Rattle.std.specs.Prelude.{◌≡◌, ◌+◌, ◌≤◌, ◌∷◌, ◌++◌, length, vec_len, vec_capacity};
+ghost use Rattle.std.specs.Prelude.{◌≡◌, ◌+◌, ◌<◌, ◌≤◌, ◌^◌, ◌∷◌, ◌++◌, length, vec_len, vec_capacity};
 ghost use Rattle.std.specs.Int.{w32, to_le_bytes};
 ghost use Rattle.jc_history.specs.Appending.{Appends};
 ghost use Rattle.jc_history.specs.Encoding.{text_bytes, optional_bytes, caller_bytes, op_bytes, load_bytes, write_bytes, effect_bytes, process_bytes, out_bytes, refusal_bytes, reply_bytes, event_bytes};
@@ -21,7 +21,7 @@ const CODE_ROOM: usize = 4;
 
 const CALLER_ROOM: usize = 4 + 8;
 
-// A text has its length in two bytes before it.
+// The length of a text stands before it.
 const LENGTH_ROOM: usize = 2;
 
 const KEY_ROOM: usize = LENGTH_ROOM + KEY_MAX;
@@ -49,6 +49,8 @@ const STEP_ROOM: usize = TAGGED_VALUE_ROOM
 /// The most bytes of an event: those of a step with a key and six values of the greatest length.
 pub(crate) const EVENT_ROOM: usize = TAG_ROOM + STEP_ROOM;
 
+const _: () = prove!(EVENT_ROOM == 43 + KEY_MAX + 6 * VALUE_MAX);
+
 /// Appends bytes.
 fn append(out: &mut Vec<u8>, bytes: &[u8])
     requires { vec_len out.old + length bytes.now ≤ vec_capacity out.old }
@@ -59,14 +61,21 @@ fn append(out: &mut Vec<u8>, bytes: &[u8])
     let _ = out.extend_from_slice(bytes);
 }
 
+fn encode_text(out: &mut Vec<u8>, text: &[u8])
+    requires short { length text.now < 2 ^ 16 }
+    requires room { vec_len out.old + LENGTH_ROOM + length text.now ≤ vec_capacity out.old }
+    ensures { Appends out.old out.new (text_bytes text.now) (LENGTH_ROOM + length text.now) }
+{
+    append(out, &(text.len() as u16).to_le_bytes());
+    append(out, text);
+}
+
 fn encode_key(out: &mut Vec<u8>, key: &Key)
     requires { vec_len out.old + KEY_ROOM ≤ vec_capacity out.old }
     ensures appends { Appends out.old out.new (text_bytes key.now) KEY_ROOM }
     ensures encodable { IsKeyText key.now }
 {
-    let bytes = key.bytes();
-    append(out, &(bytes.len() as u16).to_le_bytes());
-    append(out, bytes);
+    encode_text(out, key.bytes());
 }
 
 fn encode_value(out: &mut Vec<u8>, value: &Value)
@@ -74,9 +83,7 @@ fn encode_value(out: &mut Vec<u8>, value: &Value)
     ensures appends { Appends out.old out.new (text_bytes value.now) VALUE_ROOM }
     ensures encodable { IsValueText value.now }
 {
-    let bytes = value.bytes();
-    append(out, &(bytes.len() as u16).to_le_bytes());
-    append(out, bytes);
+    encode_text(out, value.bytes());
 }
 
 /// Appends a tag, and the value after it.
@@ -85,10 +92,8 @@ fn encode_tagged_value(out: &mut Vec<u8>, tag: u8, value: &Value)
     ensures appends { Appends out.old out.new (tag ∷ text_bytes value.now) TAGGED_VALUE_ROOM }
     ensures encodable { IsValueText value.now }
 {
-    let bytes = value.bytes();
-    let [low, high] = (bytes.len() as u16).to_le_bytes();
-    append(out, &[tag, low, high]);
-    append(out, bytes);
+    out.push_reserved(tag);
+    encode_value(out, value);
 }
 
 /// Appends a tag, and the number after it.

@@ -156,11 +156,6 @@ impl Rng {
         (top as u16 * bound as u16 / 256) as u8
     }
 
-    fn code(&mut self) -> u32 {
-        (self.below(255) as u32) << (3 * self.below(9))
-    }
-
-    /// Bytes of which all lengths from 1 can be taken.
     fn bytes<const N: usize>(&mut self) -> [u8; N] {
         let mut bytes = [0; N];
         for byte in bytes.iter_mut() {
@@ -169,25 +164,29 @@ impl Rng {
         bytes
     }
 
-    fn key(&mut self, rt: &impl Abort) -> Key {
-        let bytes = self.bytes::<KEY_MAX>();
-        let text = match self.below(3) {
-            0 => &bytes[..1],
-            1 => &bytes[..9],
-            _ => &bytes[..],
-        };
-        Key::new(text).expect(rt, "a key")
+    fn code(&mut self) -> u32 {
+        u32::from_le_bytes(self.bytes())
     }
 
-    fn value(&mut self, rt: &impl Abort) -> Value {
-        let bytes = self.bytes::<VALUE_MAX>();
-        let text = match self.below(4) {
-            0 => &bytes[..0],
-            1 => &bytes[..1],
-            2 => &bytes[..19],
-            _ => &bytes[..],
+    /// A key of 1, 9 or all bytes.
+    fn key(&mut self, rt: &impl Abort) -> Key {
+        let len = match self.below(3) {
+            0 => 1,
+            1 => 9,
+            _ => KEY_MAX,
         };
-        Value::new(text).expect(rt, "a value")
+        Key::new(&self.bytes::<KEY_MAX>()[..len]).expect(rt, "a key")
+    }
+
+    /// A value of 0, 1, 19 or all bytes.
+    fn value(&mut self, rt: &impl Abort) -> Value {
+        let len = match self.below(4) {
+            0 => 0,
+            1 => 1,
+            2 => 19,
+            _ => VALUE_MAX,
+        };
+        Value::new(&self.bytes::<VALUE_MAX>()[..len]).expect(rt, "a value")
     }
 
     fn optional_value(&mut self, rt: &impl Abort) -> Option<Value> {
@@ -291,7 +290,7 @@ impl Rng {
         };
         Event::Step {
             session: self.code(),
-            number: (self.code() as u64) << self.below(33),
+            number: u64::from_le_bytes(self.bytes()),
             op: self.op(rt),
             key: self.key(rt),
             out: Out {
