@@ -5,6 +5,7 @@ use Rattle.std.proofs.Math.Dec.{eqb-suc-zero}
 use Rattle.std.proofs.lemmas.Bool.{le-leb}
 use Rattle.std.proofs.lemmas.List.{take_at, drop_at, length-append}
 use Rattle.std.proofs.lemmas.Nat.{from_le_bytes-to_le_bytes_2, from_le_bytes-to_le_bytes_4, from_le_bytes-to_le_bytes_8}
+use Rattle.jc_types.specs.declared.caller.Caller.{Caller}
 use Rattle.jc_types.specs.declared.refusal.Refusal.{Refusal}
 use Rattle.jc_types.specs.declared.refusal.Refusal.TheVariants.{HistoryFull, Busy, TooManyInFlight, TooManyJoiners, LoaderFailed, WriterFailed, ProcessorFailed, OutOfMemory, TooManyKeys, BadConfig, NoLoader, NoWriter, TooManySessions, StillReserved}
 use Rattle.jc_types.specs.declared.config.Field.TheVariants.{Stripes, Capacity, History}
@@ -64,10 +65,10 @@ unfolding decode_optional byte
 optional_back bytes decode is back None rest h = refl
 optional_back bytes decode is back (Some x) rest h = rw (back x rest h) refl
 
-pub caller_back : (session number : ℕ) (rest : List ℕ) → IsEncodableCaller session number → decode_caller (caller_bytes session number ++ rest) ≡ ((session, number), rest)
+pub caller_back : (caller : Caller) (rest : List ℕ) → IsEncodableCaller caller → decode_caller (caller_bytes caller ++ rest) ≡ (caller, rest)
 unfolding decode_caller
-caller_back session number rest h =
-    rw (append_assoc (to_le_bytes w32 session) (to_le_bytes w64 number) rest, code_back session (to_le_bytes w64 number ++ rest) h.session_is, number_8_back number rest h.number_is) refl
+caller_back caller rest h =
+    rw (code_back caller.session (to_le_bytes w64 caller.call ++ rest) h.session_is, number_8_back caller.call rest h.call_is) refl
 
 pub op_back : (op : Op) (rest : List ℕ) → IsEncodableOp op → decode_op (op_bytes op ++ rest) ≡ (op, rest)
 unfolding decode_op byte
@@ -155,16 +156,16 @@ regroup a b c d e f rest = simp append_assoc
 -- an event's bytes decode to it, whatever follows them
 pub event_back : (event : Event) (rest : List ℕ) → IsEncodable event → decode_event (event_bytes event ++ rest) ≡ (event, rest)
 unfolding decode_event decode_step byte
-event_back (Step session number op key out shared_with answer) rest h =
+event_back (Step caller op key out shared_with answer) rest h =
     let after_out : List ℕ = optional_bytes (to_le_bytes w32) shared_with ++ rest in
     let after_op : List ℕ = out_bytes out ++ after_out in
     let after_key : List ℕ = op_bytes op ++ after_op in
     let after_caller : List ℕ = text_bytes key ++ after_key in
-    let after_reply : List ℕ = caller_bytes session number ++ after_caller in
-    let regrouped = regroup (reply_bytes answer) (caller_bytes session number) (text_bytes key) (op_bytes op) (out_bytes out) (optional_bytes (to_le_bytes w32) shared_with) rest in
+    let after_reply : List ℕ = caller_bytes caller ++ after_caller in
+    let regrouped = regroup (reply_bytes answer) (caller_bytes caller) (text_bytes key) (op_bytes op) (out_bytes out) (optional_bytes (to_le_bytes w32) shared_with) rest in
     ap (λ (bytes : List ℕ). decode_event (0 ∷ bytes)) regrouped ∙ rw (
       reply_back answer after_reply h.reply_is,
-      caller_back session number after_caller h.caller_is,
+      caller_back caller after_caller h.caller_is,
       key_back key after_key h.key_is,
       op_back op after_op h.op_is,
       out_back out after_out h.out_is,

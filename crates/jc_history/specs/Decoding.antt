@@ -13,7 +13,7 @@
 --     with_value         what is made of a value
 --     with_code          what is made of a number of four bytes
 --     decode_optional    nothing after 0, else what there is
---     decode_caller      a session and the number of its call
+--     decode_caller      a caller
 --     decode_op          an operation
 --     decode_load        an answer of the loader
 --     decode_write       an answer of the writer
@@ -26,6 +26,7 @@
 --     decode_event       an event
 use Rattle.std.specs.Prelude.{ℕ, ◌==◌, ◌&&◌, nat_le, true, false, List, [], ◌∷◌, length, take, drop, Option, None, Some, if◌then◌else◌}
 use Rattle.std.specs.Int.{w16, w32, w64, from_le_bytes}
+use Rattle.jc_types.specs.declared.caller.Caller.{Caller}
 use Rattle.jc_types.specs.declared.refusal.Refusal.{Refusal}
 use Rattle.jc_types.specs.declared.refusal.Refusal.TheVariants.{HistoryFull, Busy, TooManyInFlight, TooManyJoiners, LoaderFailed, WriterFailed, ProcessorFailed, OutOfMemory, TooManyKeys, BadConfig, NoLoader, NoWriter, TooManySessions, StillReserved}
 use Rattle.jc_types.specs.declared.config.Field.TheVariants.{Stripes, Capacity, History}
@@ -104,11 +105,11 @@ decode_optional decode = do
   tag ← byte
   if tag == 0 then give None else (decode >>= λ x. give (Some x))
 
-unfoldable pub decode_caller : Decoder (ℕ × ℕ)
+unfoldable pub decode_caller : Decoder Caller
 decode_caller = do
   session ← number_4
-  number ← number_8
-  give (session, number)
+  call ← number_8
+  give (record { session = session; call = call })
 
 unfoldable pub decode_op : Decoder Op
 decode_op = do
@@ -203,7 +204,7 @@ decode_step = do
   op ← decode_op
   out ← decode_out
   shared_with ← decode_optional number_4
-  give (Step caller.0 caller.1 op key out shared_with answer)
+  give (Step caller op key out shared_with answer)
 
 unfoldable pub decode_event : Decoder Event
 decode_event = do

@@ -4,7 +4,7 @@
 --     IsKeyText             the bytes of a key
 --     IsValueText           the bytes of a value
 --     IsEncodableOptional   there is nothing, or it is such a value
---     IsEncodableCaller     the number of a session and of its call
+--     IsEncodableCaller     such a caller
 --     IsEncodableOp         such an operation
 --     IsEncodableLoad       such an answer of the loader
 --     IsEncodableWrite      such an answer of the writer
@@ -16,6 +16,7 @@
 --     IsEncodableStep       a step of such parts
 --     IsEncodable           such an event
 use Rattle.std.specs.Prelude.{ℕ, ◌<◌, ◌≤◌, ◌^◌, List, length, Option, None, Some}
+use Rattle.jc_types.specs.declared.caller.Caller.{Caller}
 use Rattle.jc_types.specs.declared.refusal.Refusal.{Refusal}
 use Rattle.jc_types.specs.declared.refusal.Refusal.TheVariants.{HistoryFull, Busy, TooManyInFlight, TooManyJoiners, LoaderFailed, WriterFailed, ProcessorFailed, OutOfMemory, TooManyKeys, BadConfig, NoLoader, NoWriter, TooManySessions, StillReserved}
 use Rattle.jc_types.specs.declared.limits.TheConstants.{KEY_MAX, VALUE_MAX}
@@ -48,9 +49,9 @@ abbrev pub IsEncodableOptional : {X : Type 0} → (X → Type 0) → Option X �
 IsEncodableOptional is None = Unit {0}
 IsEncodableOptional is (Some x) = is x
 
-pub record IsEncodableCaller (session number : ℕ) : Type 0 where
-  pub session_is : IsCode session
-  pub number_is : number < 2 ^ 64
+pub record IsEncodableCaller (caller : Caller) : Type 0 where
+  pub session_is : IsCode caller.session
+  pub call_is : caller.call < 2 ^ 64
 
 abbrev pub IsEncodableOp : Op → Type 0
 IsEncodableOp Get = Unit {0}
@@ -116,8 +117,8 @@ IsEncodableReply (reply.Flag flag) = Unit {0}
 IsEncodableReply (reply.Value value) = IsEncodableOptional IsValueText value
 IsEncodableReply (reply.Fault refusal) = IsEncodableRefusal refusal
 
-pub record IsEncodableStep (session number : ℕ) (op : Op) (key : List ℕ) (out : Out) (shared_with : Option ℕ) (reply : Reply) : Type 0 where
-  pub caller_is : IsEncodableCaller session number
+pub record IsEncodableStep (caller : Caller) (op : Op) (key : List ℕ) (out : Out) (shared_with : Option ℕ) (reply : Reply) : Type 0 where
+  pub caller_is : IsEncodableCaller caller
   pub key_is : IsKeyText key
   pub op_is : IsEncodableOp op
   pub out_is : IsEncodableOut out
@@ -125,5 +126,5 @@ pub record IsEncodableStep (session number : ℕ) (op : Op) (key : List ℕ) (ou
   pub reply_is : IsEncodableReply reply
 
 abbrev pub IsEncodable : Event → Type 0
-IsEncodable (Step session number op key out shared_with reply) = IsEncodableStep session number op key out shared_with reply
+IsEncodable (Step caller op key out shared_with reply) = IsEncodableStep caller op key out shared_with reply
 IsEncodable (Evict key cause) = IsKeyText key

@@ -1,7 +1,7 @@
 -- The bytes that an event is stored as: for each variant a byte, its tag, and then what the variant holds.
 --     text_bytes        the length of a text in two bytes, and the text
 --     optional_bytes    0 if there is nothing, else 1 and the bytes of what there is
---     caller_bytes      the bytes of a session and the number of its call
+--     caller_bytes      the bytes of a caller
 --     op_bytes          the bytes of an operation
 --     load_bytes        the bytes of what the loader answered
 --     write_bytes       the bytes of what the writer answered
@@ -13,6 +13,7 @@
 --     event_bytes       the bytes of an event, a step's reply first
 use Rattle.std.specs.Prelude.{ℕ, true, false, List, [], ◌∷◌, ◌++◌, length, Option, None, Some}
 use Rattle.std.specs.Int.{w16, w32, w64, to_le_bytes}
+use Rattle.jc_types.specs.declared.caller.Caller.{Caller}
 use Rattle.jc_types.specs.declared.refusal.Refusal.{Refusal}
 use Rattle.jc_types.specs.declared.refusal.Refusal.TheVariants.{HistoryFull, Busy, TooManyInFlight, TooManyJoiners, LoaderFailed, WriterFailed, ProcessorFailed, OutOfMemory, TooManyKeys, BadConfig, NoLoader, NoWriter, TooManySessions, StillReserved}
 use Rattle.jc_types.specs.declared.config.Field.TheVariants.{Stripes, Capacity, History}
@@ -42,8 +43,8 @@ abbrev pub optional_bytes : {X : Type 0} → (X → List ℕ) → Option X → L
 optional_bytes bytes None = 0 ∷ []
 optional_bytes bytes (Some x) = 1 ∷ bytes x
 
-abbrev pub caller_bytes : ℕ → ℕ → List ℕ
-caller_bytes session number = to_le_bytes w32 session ++ to_le_bytes w64 number
+abbrev pub caller_bytes : Caller → List ℕ
+caller_bytes caller = to_le_bytes w32 caller.session ++ to_le_bytes w64 caller.call
 
 abbrev pub op_bytes : Op → List ℕ
 op_bytes Get = 0 ∷ []
@@ -113,8 +114,8 @@ reply_bytes (reply.Value (Some value)) = 4 ∷ text_bytes value
 reply_bytes (reply.Fault refusal) = 5 ∷ refusal_bytes refusal
 
 abbrev pub event_bytes : Event → List ℕ
-event_bytes (Step session number op key out shared_with reply) =
-    0 ∷ (reply_bytes reply ++ (caller_bytes session number ++ (text_bytes key ++ (op_bytes op
+event_bytes (Step caller op key out shared_with reply) =
+    0 ∷ (reply_bytes reply ++ (caller_bytes caller ++ (text_bytes key ++ (op_bytes op
     ++ (out_bytes out ++ optional_bytes (to_le_bytes w32) shared_with)))))
 event_bytes (Evict key Full) = 1 ∷ text_bytes key
 event_bytes (Evict key Memory) = 2 ∷ text_bytes key

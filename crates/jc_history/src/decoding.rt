@@ -8,7 +8,7 @@ ghost use Rattle.jc_history.specs.Decoding.{byte, number_2, number_4, number_8, 
 use jc_model::event::{
     Cause, Effect, Event, LoadAnswer, Op, Out, ProcessAnswer, Reply, WriteAnswer,
 };
-use jc_types::{Field, KEY_MAX, Key, Refusal, VALUE_MAX, Value};
+use jc_types::{Caller, Field, KEY_MAX, Key, Refusal, VALUE_MAX, Value};
 
 /// The bytes that are left to read.
 #[derive(Drop)]
@@ -129,11 +129,12 @@ fn decode_shared_with(input: &mut Input) -> Option<u32>
 }
 
 #[tactic(auto, unfolding(crate::specs::Decoding::decode_caller))]
-fn decode_caller(input: &mut Input) -> (u32, u64)
+fn decode_caller(input: &mut Input) -> Caller
     ensures { (result, input.new.bytes.now) ≡ decode_caller input.old.bytes.now }
 {
     let session = number_4(input);
-    (session, number_8(input))
+    let call = number_8(input);
+    Caller { session, call }
 }
 
 #[tactic(auto, unfolding(crate::specs::Decoding::decode_op))]
@@ -152,12 +153,13 @@ fn decode_op(input: &mut Input) -> Op
         8 => Op::Replace(decode_value(input)),
         9 => {
             let old = decode_value(input);
-            Op::ReplaceIf(old, decode_value(input))
+            let new = decode_value(input);
+            Op::ReplaceIf { old, new }
         }
         10 => Op::GetAndReplace(decode_value(input)),
         11 => Op::Clear,
-        12 => Op::LoadAll(false),
-        13 => Op::LoadAll(true),
+        12 => Op::LoadAll { replace: false },
+        13 => Op::LoadAll { replace: true },
         _ => Op::Invoke,
     }
 }
@@ -268,14 +270,13 @@ fn decode_step(input: &mut Input) -> Event
     ensures { (result, input.new.bytes.now) ≡ decode_step input.old.bytes.now }
 {
     let reply = decode_reply(input);
-    let (session, number) = decode_caller(input);
+    let caller = decode_caller(input);
     let key = decode_key(input);
     let op = decode_op(input);
     let out = decode_out(input);
     let shared_with = decode_shared_with(input);
     Event::Step {
-        session,
-        number,
+        caller,
         op,
         key,
         out,

@@ -11,7 +11,7 @@ ghost use Rattle.jc_history.specs.Encodable.{IsCode, IsKeyText, IsValueText, IsE
 use jc_model::event::{
     Cause, Effect, Event, LoadAnswer, Op, Out, ProcessAnswer, Reply, WriteAnswer,
 };
-use jc_types::{Field, KEY_MAX, Key, Refusal, VALUE_MAX, Value};
+use jc_types::{Caller, Field, KEY_MAX, Key, Refusal, VALUE_MAX, Value};
 
 // The most bytes of each part.
 
@@ -105,13 +105,13 @@ fn encode_tagged_code(out: &mut Vec<u8>, tag: u8, code: u32)
     append(out, &[tag, a, b, c, d]);
 }
 
-fn encode_caller(out: &mut Vec<u8>, session: u32, number: u64)
+fn encode_caller(out: &mut Vec<u8>, caller: &Caller)
     requires { vec_len out.old + CALLER_ROOM ≤ vec_capacity out.old }
-    ensures appends { Appends out.old out.new (caller_bytes session number) CALLER_ROOM }
-    ensures encodable { IsEncodableCaller session number }
+    ensures appends { Appends out.old out.new (caller_bytes caller.now) CALLER_ROOM }
+    ensures encodable { IsEncodableCaller caller.now }
 {
-    append(out, &session.to_le_bytes());
-    append(out, &number.to_le_bytes());
+    append(out, &caller.session.to_le_bytes());
+    append(out, &caller.call.to_le_bytes());
 }
 
 fn encode_op(out: &mut Vec<u8>, op: &Op)
@@ -129,14 +129,14 @@ fn encode_op(out: &mut Vec<u8>, op: &Op)
         Op::RemoveIf(value) => encode_tagged_value(out, 6, value),
         Op::GetAndRemove => out.push_reserved(7),
         Op::Replace(value) => encode_tagged_value(out, 8, value),
-        Op::ReplaceIf(old, new) => {
+        Op::ReplaceIf { old, new } => {
             encode_tagged_value(out, 9, old);
             encode_value(out, new);
         }
         Op::GetAndReplace(value) => encode_tagged_value(out, 10, value),
         Op::Clear => out.push_reserved(11),
-        Op::LoadAll(false) => out.push_reserved(12),
-        Op::LoadAll(true) => out.push_reserved(13),
+        Op::LoadAll { replace: false } => out.push_reserved(12),
+        Op::LoadAll { replace: true } => out.push_reserved(13),
         Op::Invoke => out.push_reserved(14),
     }
 }
@@ -277,8 +277,7 @@ pub(crate) fn encode_event(out: &mut Vec<u8>, event: &Event)
 {
     match event {
         Event::Step {
-            session,
-            number,
+            caller,
             op,
             key,
             out: answers,
@@ -287,7 +286,7 @@ pub(crate) fn encode_event(out: &mut Vec<u8>, event: &Event)
         } => {
             out.push_reserved(0);
             encode_reply(out, reply);
-            encode_caller(out, *session, *number);
+            encode_caller(out, caller);
             encode_key(out, key);
             encode_op(out, op);
             encode_out(out, answers);

@@ -1,6 +1,6 @@
 use super::*;
 use jc_model::event::{Cause, Effect, LoadAnswer, Op, Out, ProcessAnswer, WriteAnswer};
-use jc_types::{Field, KEY_MAX, Key, Refusal, VALUE_MAX, Value};
+use jc_types::{Caller, Field, KEY_MAX, Key, Refusal, VALUE_MAX, Value};
 use std::fmt::Debug;
 use std::process::Abort;
 use std::test::Fail;
@@ -59,19 +59,15 @@ fn counts(history: &History) -> (usize, usize) {
     (history.len(), history.promised())
 }
 
-const NOT_ASKED: Out = Out {
-    load: LoadAnswer::NotAsked,
-    write: WriteAnswer::NotAsked,
-    process: ProcessAnswer::NotAsked,
-};
-
 fn hit(key: Key, value: Value) -> Event {
     Event::Step {
-        session: 1,
-        number: 1,
+        caller: Caller {
+            session: 1,
+            call: 1,
+        },
         op: Op::Get,
         key,
-        out: NOT_ASKED,
+        out: Out::nothing_said(),
         shared_with: None,
         reply: Reply::Value(Some(value)),
     }
@@ -118,9 +114,14 @@ fn stores_few_bytes(rt: HostRuntime) -> Result<(), Fail> {
     let key = Key::new(&[255; KEY_MAX])?;
     let value = Value::new(&[0; VALUE_MAX])?;
     let largest = Event::Step {
-        session: u32::MAX,
-        number: u64::MAX,
-        op: Op::ReplaceIf(value, value),
+        caller: Caller {
+            session: u32::MAX,
+            call: u64::MAX,
+        },
+        op: Op::ReplaceIf {
+            old: value,
+            new: value,
+        },
         key,
         out: Out {
             load: LoadAnswer::Found(value),
@@ -209,12 +210,13 @@ impl Rng {
             8 => Op::Replace(self.value(rt)),
             9 => {
                 let old = self.value(rt);
-                Op::ReplaceIf(old, self.value(rt))
+                let new = self.value(rt);
+                Op::ReplaceIf { old, new }
             }
             10 => Op::GetAndReplace(self.value(rt)),
             11 => Op::Clear,
-            12 => Op::LoadAll(false),
-            13 => Op::LoadAll(true),
+            12 => Op::LoadAll { replace: false },
+            13 => Op::LoadAll { replace: true },
             _ => Op::Invoke,
         }
     }
@@ -289,8 +291,10 @@ impl Rng {
             _ => Some(self.code()),
         };
         Event::Step {
-            session: self.code(),
-            number: u64::from_le_bytes(self.bytes()),
+            caller: Caller {
+                session: self.code(),
+                call: u64::from_le_bytes(self.bytes()),
+            },
             op: self.op(rt),
             key: self.key(rt),
             out: Out {
