@@ -7,4 +7,6 @@
 
 pub mod joiner;
 pub mod joiners;
-mod room;
+
+pub use joiner::{JoinState, Joiner};
+pub use joiners::Joiners;
