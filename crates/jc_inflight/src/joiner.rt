@@ -1,28 +1,36 @@
-//! One joiner, and how far it is.
-use jc_types::{Caller, Key};
+//! One joiner, and what it is told.
+use jc_types::key::Key;
 
-/// How far a joiner is.
-#[derive(Clone, Copy, Debug, PartialEq, Eq, Default)]
-pub enum JoinState {
-    /// Its load isn't over.
-    #[default]
-    Waiting,
-    /// Its load was committed.
-    Answered {
+/// What is parked for a joiner once its load is over.
+#[derive(Clone, Copy, Debug, PartialEq, Eq)]
+pub enum Parked {
+    /// The load was committed.
+    Answer {
         /// The place of the joiner's own shared step in the history of the stripe.
         place: u32,
         /// The place of the step that loaded.
         shared_with: u32,
     },
-    /// Its load was withdrawn: the call is to be retried.
+    /// The load was withdrawn: the joiner begins anew.
     Again,
 }
 
+/// How far a joiner is.
+#[derive(Clone, Copy, Debug, PartialEq, Eq)]
+pub enum JoinState {
+    /// Its load isn't over.
+    Waiting,
+    /// Its load is over, and this was not taken yet.
+    Parked(Parked),
+}
+
 /// A call that has joined the load of its key.
-#[derive(Clone, Copy, Debug, PartialEq, Eq, Default)]
+#[derive(Clone, Copy, Debug, PartialEq, Eq)]
 pub struct Joiner {
-    /// Who called.
-    pub caller: Caller,
+    /// The session that calls.
+    pub session: u32,
+    /// The call's number, which rises in the session.
+    pub number: u64,
     /// The key.
     pub key: Key,
     /// The load that it joined: the number of the reservation that loads.
@@ -31,18 +39,45 @@ pub struct Joiner {
     pub state: JoinState,
 }
 
+/// What a joiner is told that asks for its answer.
+#[derive(Clone, Copy, Debug, PartialEq, Eq)]
+pub enum Taken {
+    /// The load was committed.
+    Answer {
+        /// The place of the joiner's own shared step in the history of the stripe.
+        place: u32,
+        /// The place of the step that loaded.
+        shared_with: u32,
+    },
+    /// The load was withdrawn: begin anew.
+    Again,
+    /// The load isn't over: ask later.
+    NotYet,
+}
+
 impl JoinState {
     ghost use Rattle.std.specs.Prelude.{◌≡◌};
-    ghost use Rattle.jc_inflight.specs.Joined.{is_waiting};
+    ghost use Rattle.jc_inflight.specs.Taking.{told, is_over};
 
-    /// Whether its load isn't over.
-    pub fn is_waiting(self) -> bool
-        ensures { result ≡ is_waiting self }
+    /// What a joiner in this state is told.
+    pub(crate) fn told(self) -> Taken
+        ensures { result ≡ told self }
     {
         match self {
-            JoinState::Waiting => true,
-            JoinState::Answered { .. } | JoinState::Again => false,
+            JoinState::Waiting => Taken::NotYet,
+            JoinState::Parked(Parked::Answer { place, shared_with }) => Taken::Answer {
+                place,
+                shared_with,
+            },
+            JoinState::Parked(Parked::Again) => Taken::Again,
         }
+    }
+
+    /// Whether something is parked.
+    pub(crate) fn is_over(self) -> bool
+        ensures { result ≡ is_over self }
+    {
+        matches!(self, JoinState::Parked(_))
     }
 }
 
@@ -51,18 +86,16 @@ impl Joiner {
     ghost use Rattle.jc_inflight.specs.Joined.{is_of, waits_for};
 
     /// Whether it is this call's, at this key.
-    pub(crate) fn is_of(&self, caller: Caller, key: &Key) -> bool
-        ensures { result ≡ is_of caller key.now self.now }
+    pub(crate) fn is_of(&self, session: u32, number: u64, key: &Key) -> bool
+        ensures { result ≡ is_of session number key.now self.now }
     {
-        self.caller.session == caller.session
-            && self.caller.call == caller.call
-            && *key == self.key
+        self.session == session && self.number == number && *key == self.key
     }
 
     /// Whether it waits for this load.
-    pub fn waits_for(&self, load: u64) -> bool
+    pub(crate) fn waits_for(&self, load: u64) -> bool
         ensures { result ≡ waits_for load self.now }
     {
-        self.load == load && self.state.is_waiting()
+        self.load == load && !self.state.is_over()
     }
 }

@@ -1,16 +1,20 @@
 //! The joiners of a stripe's loads.
-ghost use Rattle.std.specs.Prelude.{◌≡◌, ◌↔◌, ◌<◌, ◌≤◌, ◌+◌, ◌^◌, [], IsTrue, count_by, length, position, false};
+ghost use Rattle.std.specs.Prelude.{◌≡◌, ◌↔◌, ◌<◌, ◌≤◌, ◌+◌, ◌^◌, [], IsTrue, IfOk, count_by, length, slice_get, position, false};
 ghost use Rattle.std.specs.Bool.{OnTrue, OnFalse};
-ghost use Rattle.jc_inflight.specs.Joined.{is_of, is_joined, waits_for, joined};
+ghost use Rattle.jc_inflight.specs.Joined.{is_of, is_joined, waits_for, callers_of, joined};
 ghost use Rattle.jc_inflight.specs.Resolving.{resolved};
 ghost use Rattle.jc_inflight.specs.Dissolving.{dissolved};
 ghost use Rattle.jc_inflight.specs.Taking.{told_to, after_take};
 ghost use Rattle.jc_inflight.specs.Sound.{IsSound};
 
-use crate::joiner::{JoinState, Joiner};
-use arrayvec::ArrayVec;
-use jc_types::{Caller, JOINERS_MAX, Key};
+use crate::joiner::{JoinState, Joiner, Parked, Taken};
+use crate::room::push_in_room;
+use jc_types::key::Key;
+use std::alloc::{AllocError, Global};
 use std::marker::Model;
+
+/// The most joiners at once, those that wait and those whose answer is parked together.
+pub const JOINERS_MAX: usize = 64;
 
 /// The calls that have joined a load of their key and haven't taken its answer, in the order of joining: at most
 /// [`JOINERS_MAX`], and no two of one session, call number and key.
@@ -18,7 +22,7 @@ use std::marker::Model;
 /// All room is made with the table: no later call takes memory.
 #[derive(Drop)]
 pub struct Joiners {
-    joiners: ArrayVec<Joiner, JOINERS_MAX>,
+    joiners: Vec<Joiner>,
 }
 
 impl Model for Joiners {
@@ -35,33 +39,36 @@ impl Model for Joiners {
 }
 
 impl Joiners {
-    /// No joiner.
-    pub fn new() -> Self
-        ensures { result ≡ [] }
+    /// No joiner. Without memory for 64 of them there is no table.
+    pub fn new(alloc: Global) -> Result<Self, AllocError>
+        ensures { IfOk result (λ j. j ≡ []) }
     {
-        Joiners {
-            joiners: ArrayVec::new(),
-        }
+        let joiners = Vec::with_capacity(alloc, JOINERS_MAX)?;
+        Ok(Joiners { joiners })
     }
 
     /// Has a call join the load of its key, to wait for its end. The load is named by the number of its reservation.
     ///
     /// A `false`, where [`JOINERS_MAX`] joiners are there, leaves the table as it was.
-    pub fn join(&mut self, caller: Caller, key: &Key, load: u64) -> bool
-        requires { is_joined caller key.now self.old ≡ false }
-        ensures room { IsTrue result ↔ (length self.old < JOINERS_MAX) }
-        ensures joined { OnTrue result (self.new ≡ joined caller key.now load self.old) }
+    pub fn join(&mut self, session: u32, number: u64, key: &Key, load: u64) -> bool
+        requires { is_joined session number key.now self.old ≡ false }
+        ensures room { IsTrue result ↔ (length self.old < 64) }
+        ensures joined { OnTrue result (self.new ≡ joined session number key.now load self.old) }
         ensures full { OnFalse result (self.new ≡ self.old) }
     {
         if self.is_full() {
             return false;
         }
-        self.joiners.push(Joiner {
-            caller,
-            key: *key,
-            load,
-            state: JoinState::Waiting,
-        });
+        push_in_room(
+            &mut self.joiners,
+            Joiner {
+                session,
+                number,
+                key: *key,
+                load,
+                state: JoinState::Waiting,
+            },
+        );
         true
     }
 
@@ -88,33 +95,50 @@ impl Joiners {
     /// How many joiners wait for a load.
     pub fn waiting(&self, load: u64) -> u32
         ensures count { result ≡ count_by (waits_for load) self.now }
-        ensures few { result ≤ JOINERS_MAX }
+        ensures few { result ≤ 64 }
     {
         self.joiners.iter().filter(|j| j.waits_for(load)).count() as u32
+    }
+
+    /// The session and the call number of the joiner that waits for a load as the `k`-th, in the order of joining and from 0 on,
+    /// or `None` where fewer wait. The order is that in which [`Joiners::resolve`] gives out its places.
+    pub fn nth_waiting(&self, load: u64, k: u32) -> Option<(u32, u64)>
+        ensures { result ≡ slice_get (callers_of load self.now) k }
+    {
+        let mut left = k;
+        for joiner in &self.joiners {
+            if joiner.waits_for(load) {
+                if left == 0 {
+                    return Some((joiner.session, joiner.number));
+                }
+                left -= 1;
+            }
+        }
+        None
     }
 
     /// Takes what is parked for a call at a key, and with it the call's place among the joiners.
     ///
     /// `None` where the call hasn't joined, or has taken its answer; it leaves the table as it was. So does a
-    /// [`JoinState::Waiting`], where the load isn't over.
-    pub fn take(&mut self, caller: Caller, key: &Key) -> Option<JoinState>
-        ensures told { result ≡ told_to caller key.now self.old }
-        ensures left { self.new ≡ after_take caller key.now self.old }
+    /// [`Taken::NotYet`], where the load isn't over.
+    pub fn take(&mut self, session: u32, number: u64, key: &Key) -> Option<Taken>
+        ensures told { result ≡ told_to session number key.now self.old }
+        ensures left { self.new ≡ after_take session number key.now self.old }
     {
-        let place = place_of(&self.joiners, caller, key)?;
+        let place = place_of(&self.joiners, session, number, key)?;
         let state = self.joiners[place].state;
-        if !state.is_waiting() {
+        if state.is_over() {
             self.joiners.remove(place);
         }
-        Some(state)
+        Some(state.told())
     }
 
     /// Whether a call has joined a load of the key and hasn't taken its answer.
-    pub fn has_joined(&self, caller: Caller, key: &Key) -> bool
-        ensures joined { result ≡ is_joined caller key.now self.now }
+    pub fn has_joined(&self, session: u32, number: u64, key: &Key) -> bool
+        ensures joined { result ≡ is_joined session number key.now self.now }
         ensures sound { IsSound self.now }
     {
-        self.joiners.iter().any(|j| j.is_of(caller, key))
+        self.joiners.iter().any(|j| j.is_of(session, number, key))
     }
 
     /// The joiners, in the order of joining.
@@ -142,17 +166,17 @@ impl Joiners {
 
     /// Whether [`JOINERS_MAX`] joiners are there, so that no further call can join.
     pub fn is_full(&self) -> bool
-        ensures { IsTrue result ↔ (length self.now ≡ JOINERS_MAX) }
+        ensures { IsTrue result ↔ (length self.now ≡ 64) }
     {
         self.len() == JOINERS_MAX
     }
 }
 
 /// Where a call at a key stands among the joiners.
-fn place_of(joiners: &[Joiner], caller: Caller, key: &Key) -> Option<usize>
-    ensures { result ≡ position (is_of caller key.now) joiners.now }
+fn place_of(joiners: &[Joiner], session: u32, number: u64, key: &Key) -> Option<usize>
+    ensures { result ≡ position (is_of session number key.now) joiners.now }
 {
-    joiners.iter().position(|j| j.is_of(caller, key))
+    joiners.iter().position(|j| j.is_of(session, number, key))
 }
 
 /// Parks the answer of the load at this place for each that waits for it.
@@ -165,10 +189,10 @@ fn answer_each(joiners: &mut [Joiner], load: u64, step: u32) -> u32
     for joiner in joiners.iter_mut() {
         if joiner.waits_for(load) {
             place += 1;
-            joiner.state = JoinState::Answered {
+            joiner.state = JoinState::Parked(Parked::Answer {
                 place,
                 shared_with: step,
-            };
+            });
         }
     }
     place - step
@@ -176,7 +200,7 @@ fn answer_each(joiners: &mut [Joiner], load: u64, step: u32) -> u32
 
 /// Has each that waits for the load begin anew.
 fn send_away(joiners: &mut [Joiner], load: u64) -> u32
-    requires { length joiners.old ≤ JOINERS_MAX }
+    requires { length joiners.old ≤ 64 }
     ensures dissolved { joiners.new ≡ dissolved load joiners.old }
     ensures count { result ≡ count_by (waits_for load) joiners.old }
 {
@@ -184,9 +208,11 @@ fn send_away(joiners: &mut [Joiner], load: u64) -> u32
     for joiner in joiners.iter_mut() {
         if joiner.waits_for(load) {
             count += 1;
-            joiner.state = JoinState::Again;
+            joiner.state = JoinState::Parked(Parked::Again);
         }
     }
     count
 }
 
+#[cfg(test)]
+mod tests;

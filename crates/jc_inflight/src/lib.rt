@@ -7,6 +7,4 @@
 
 pub mod joiner;
 pub mod joiners;
-
-pub use joiner::{JoinState, Joiner};
-pub use joiners::Joiners;
+mod room;

@@ -1,7 +1,7 @@
 //! Who calls.
 
 /// Who calls: a session, and the number of its call.
-#[derive(Clone, Copy, Debug, Default, PartialEq, Eq)]
+#[derive(Clone, Copy, Debug, PartialEq, Eq)]
 pub struct Caller {
     /// The session, from 1 to [`SESSIONS_MAX`](crate::limits::SESSIONS_MAX).
     pub session: u32,

@@ -10,5 +10,6 @@ invariant_of-self c =
     let now : (with_items c.self.inside.joiners c.send_away.new.joiners).items ≡ dissolved c.args.load c.self.inside.joiners.items =
     with_items_is c.self.inside.joiners c.send_away.new.joiners (search rules) ∙ c.send_away.ensures.dissolved ∙ ap (dissolved c.args.load) c.deref_mut.ensures.value in
     record {
+      room = c.self.invariant.room;
       sound = sound_alike c.self.inside.joiners.items _ (sym (calls-dissolved c.args.load c.self.inside.joiners.items) ∙ ap (map call_of) (sym now)) c.self.invariant.sound;
     }
