@@ -5,6 +5,7 @@ use Rattle.std.specs.Cmp.Lexicographic.{pointwise}
 use Rattle.std.proofs.lemmas.List.{take_more, take-append-drop}
 use Rattle.std.proofs.lemmas.List.Folds.{list_all-append}
 use Rattle.std.proofs.lemmas.Bool.Decides.{nat_tests}
+use Rattle.jc_types.specs.declared.caller.Caller.{Caller}
 use Rattle.jc_model.specs.declared.event.Event.{Event}
 use Rattle.jc_model.specs.declared.event.Event.TheVariants.{Step, Evict}
 use Rattle.jc_model.specs.declared.event.Op.{Op}
@@ -56,16 +57,18 @@ lower : (s s' n n' : ℕ) (k : Bool) → ((s == s') && nat_lt n n') ≡ true →
 lower s s' n n' k h = grind (arith, nat_tests)
 
 follow_through : (x last event : Event) → may_follow x last ≡ true → comes_before last event ≡ true → may_follow x event ≡ true
-follow_through (Evict key cause) last event g h = refl
-follow_through (Step s n op key out shared reply) (Evict key' cause) event g h = cc
-follow_through (Step s n op key out shared reply) (Step s' n' op' key' out' shared' reply') (Evict key'' cause) g h = refl
-follow_through (Step s n op key out shared reply) (Step s' n' op' key' out' shared' reply') (Step s'' n'' op'' key'' out'' shared'' reply'') g h =
-    through s s' s'' n n' n'' (not (pointwise ◌==◌ key key')) (not (pointwise ◌==◌ key key'')) g h
+follow_through (Evict key cause) last (Step who'' op'' key'' out'' shared'' reply'') g h = refl
+follow_through (Evict key cause) last (Evict key'' cause'') g h = refl
+follow_through (Step who op key out shared reply) (Evict key' cause) event g h = cc
+follow_through (Step who op key out shared reply) (Step who' op' key' out' shared' reply') (Evict key'' cause) g h = refl
+follow_through (Step who op key out shared reply) (Step who' op' key' out' shared' reply') (Step who'' op'' key'' out'' shared'' reply'') g h =
+    through who.session who'.session who''.session who.call who'.call who''.call (not (pointwise ◌==◌ key key')) (not (pointwise ◌==◌ key key'')) g h
 
 pub follow_lower : (last event : Event) → comes_before last event ≡ true → may_follow last event ≡ true
-follow_lower (Evict key cause) event h = refl
-follow_lower (Step s n op key out shared reply) (Evict key' cause) h = refl
-follow_lower (Step s n op key out shared reply) (Step s' n' op' key' out' shared' reply') h = lower s s' n n' (not (pointwise ◌==◌ key key')) h
+follow_lower (Evict key cause) (Step who op key' out shared reply) h = refl
+follow_lower (Evict key cause) (Evict key' cause') h = refl
+follow_lower (Step who op key out shared reply) (Evict key' cause) h = refl
+follow_lower (Step who op key out shared reply) (Step who' op' key' out' shared' reply') h = lower who.session who'.session who.call who'.call (not (pointwise ◌==◌ key key')) h
 
 pub all_through : (xs : List Event) (last event : Event) → follows_all xs last ≡ true → comes_before last event ≡ true → follows_all xs event ≡ true
 all_through [] last event g h = refl
@@ -108,32 +111,27 @@ order_not events k h =
     ] refl
 
 -- that a step may come is that its event may follow
-come_follow : (event : Event) (session number : ℕ) (op : Op) (key : Bytes) (out : Out) (reply : Reply) → may_follow event (Step session number op key out None reply) ≡ may_come event session number key
-come_follow (Step s n o k u shared r) session number op key out reply = refl
-come_follow (Evict k cause) session number op key out reply = refl
-
-comes_follows : (events : List Event) (session number : ℕ) (op : Op) (key : Bytes) (out : Out) (reply : Reply) → follows_all events (Step session number op key out None reply) ≡ list_all (λ e. may_come e session number key) events
-comes_follows [] session number op key out reply = refl
-comes_follows (x ∷ xs) session number op key out reply =
-    ap (λ b. b && follows_all xs (Step session number op key out None reply)) (come_follow x session number op key out reply)
-    ∙ ap (λ b. may_come x session number key && b) (comes_follows xs session number op key out reply)
+comes_follows : (events : List Event) (caller : Caller) (op : Op) (key : Bytes) (out : Out) (reply : Reply) → follows_all events (Step caller op key out None reply) ≡ list_all (λ e. may_come e caller key) events
+comes_follows [] caller op key out reply = refl
+comes_follows (x ∷ xs) caller op key out reply =
+    ap (λ b. b && follows_all xs (Step caller op key out None reply)) refl
+    ∙ ap (λ b. may_come x caller key && b) (comes_follows xs caller op key out reply)
 
 evict_follow : (event : Event) (key : Bytes) (cause : Cause) → may_follow event (Evict key cause) ≡ true
-evict_follow (Step s n o k u shared r) key cause = refl
-evict_follow (Evict k c) key cause = refl
+evict_follow event key cause = refl
 
 evict_follows : (events : List Event) (key : Bytes) (cause : Cause) → follows_all events (Evict key cause) ≡ true
 evict_follows [] key cause = refl
 evict_follows (x ∷ xs) key cause = joined _ _ (evict_follow x key cause) (evict_follows xs key cause)
 
 -- a step that may come behind all events, and an eviction of its key, leave the callers' order
-pub order-step : (events : List Event) (session number : ℕ) (op : Op) (key : Bytes) (out : Out) (reply : Reply) (evicted : Option Cause)
-    → in_order events ≡ true → list_all (λ e. may_come e session number key) events ≡ true
-    → in_order (events ++ (Step session number op key out None reply ∷ evicted_events key evicted)) ≡ true
-order-step events session number op key out reply None order comes =
-    order-last events (Step session number op key out None reply) ∙ joined _ _ order (comes_follows events session number op key out reply ∙ comes)
-order-step events session number op key out reply (Some cause) order comes =
-    let step = Step session number op key out None reply in
-    let here : in_order (events ++ step ∷ []) ≡ true = order-last events step ∙ joined _ _ order (comes_follows events session number op key out reply ∙ comes) in
+pub order-step : (events : List Event) (caller : Caller) (op : Op) (key : Bytes) (out : Out) (reply : Reply) (evicted : Option Cause)
+    → in_order events ≡ true → list_all (λ e. may_come e caller key) events ≡ true
+    → in_order (events ++ (Step caller op key out None reply ∷ evicted_events key evicted)) ≡ true
+order-step events caller op key out reply None order comes =
+    order-last events (Step caller op key out None reply) ∙ joined _ _ order (comes_follows events caller op key out reply ∙ comes)
+order-step events caller op key out reply (Some cause) order comes =
+    let step = Step caller op key out None reply in
+    let here : in_order (events ++ step ∷ []) ≡ true = order-last events step ∙ joined _ _ order (comes_follows events caller op key out reply ∙ comes) in
     ap in_order (sym (append_assoc events (step ∷ []) (Evict key cause ∷ [])))
     ∙ order-last (events ++ step ∷ []) (Evict key cause) ∙ joined _ _ here (evict_follows (events ++ step ∷ []) key cause)

@@ -1,12 +1,13 @@
 -- Reading a history event by event: what may come next, in each phase of a group.
 use Rattle.std.specs.Prelude.{◌≡◌, ◌⊎◌, ℕ, ◌+◌, List, [], ◌∷◌, ◌++◌, length, Option, None, Some}
 use Rattle.jc_types.specs.declared.config.Config.{Config}
+use Rattle.jc_types.specs.declared.caller.Caller.{Caller}
 use Rattle.jc_model.specs.declared.event.Cause.{Cause}
 use Rattle.jc_model.specs.declared.event.Cause.TheVariants.{Full, Memory}
 use Rattle.jc_model.specs.declared.event.Event.{Event}
 use Rattle.jc_model.specs.declared.event.Event.TheVariants.{Step, Evict}
 use Rattle.jc_model.specs.Cache.{Bytes, Cache}
-use Rattle.jc_model.specs.Group.{Group, events_of, step_place, shared_event, left_after}
+use Rattle.jc_model.specs.Group.{Group, events_of, step_place, shared_event, cache_after_group}
 use Rattle.jc_model.specs.Lawful.{IsLawful}
 use Rattle.jc_model.specs.Reader.{new_group}
 
@@ -17,7 +18,7 @@ pub data Phase : Type 0 where
   Chosen : (place : ℕ) → (cache : Cache) → (key : Bytes) → Phase
   Open : (place : ℕ) → (cache : Cache) → (group : Group) → Phase
 
-abbrev pub with_joined : Group → ℕ × ℕ → Group
+abbrev pub with_joined : Group → Caller → Group
 with_joined group caller = record group { joined = group.joined ++ caller ∷ [] }
 
 abbrev pub with_evicted : Group → Cause → Group
@@ -29,14 +30,14 @@ behind place group = place + length (events_of place group)
 
 -- what an event that begins a group leads to
 abbrev pub begun : ℕ → Cache → Event → Option Phase
-begun place cache (Step session number op key out None reply) = Some (Open place cache (new_group None session number op key out reply))
-begun place cache (Step session number op key out (Some other) reply) = None
+begun place cache (Step caller op key out None reply) = Some (Open place cache (new_group None caller op key out reply))
+begun place cache (Step caller op key out (Some other) reply) = None
 begun place cache (Evict key Full) = Some (Chosen place cache key)
 begun place cache (Evict key Memory) = None
 
 abbrev pub chosen_begun : ℕ → Cache → Bytes → Event → Option Phase
-chosen_begun place cache victim (Step session number op key out None reply) = Some (Open place cache (new_group (Some victim) session number op key out reply))
-chosen_begun place cache victim (Step session number op key out (Some other) reply) = None
+chosen_begun place cache victim (Step caller op key out None reply) = Some (Open place cache (new_group (Some victim) caller op key out reply))
+chosen_begun place cache victim (Step caller op key out (Some other) reply) = None
 chosen_begun place cache victim (Evict key cause) = None
 
 -- the events may follow in this phase
@@ -47,6 +48,6 @@ Reads config (Open place cache group) [] = IsLawful config cache group
 Reads config (Between place cache) (e ∷ es) = (phase : Phase) × (begun place cache e ≡ Some phase) × Reads config phase es
 Reads config (Chosen place cache key) (e ∷ es) = (phase : Phase) × (chosen_begun place cache key e ≡ Some phase) × Reads config phase es
 Reads config (Open place cache group) (e ∷ es) =
-    ((caller : ℕ × ℕ) × (e ≡ shared_event (step_place place group) group.made.key group.made.out.load caller) × Reads config (Open place cache (with_joined group caller)) es)
-    ⊎ (((cause : Cause) × (e ≡ Evict group.made.key cause) × IsLawful config cache (with_evicted group cause) × Reads config (Between (behind place (with_evicted group cause)) (left_after cache (with_evicted group cause))) es)
-    ⊎ ((phase : Phase) × (begun (behind place group) (left_after cache group) e ≡ Some phase) × IsLawful config cache group × Reads config phase es))
+    ((caller : Caller) × (e ≡ shared_event (step_place place group) group.step.key group.step.out.load caller) × Reads config (Open place cache (with_joined group caller)) es)
+    ⊎ (((cause : Cause) × (e ≡ Evict group.step.key cause) × IsLawful config cache (with_evicted group cause) × Reads config (Between (behind place (with_evicted group cause)) (cache_after_group cache (with_evicted group cause))) es)
+    ⊎ ((phase : Phase) × (begun (behind place group) (cache_after_group cache group) e ≡ Some phase) × IsLawful config cache group × Reads config phase es))

@@ -8,7 +8,7 @@ use Rattle.jc_model.specs.declared.reader.Stage.{Stage}
 use Rattle.jc_model.specs.declared.reader.Stage.TheVariants.{Outside}
 use Rattle.jc_model.specs.Cache.{Bytes, Cache, key_cmp}
 use Rattle.jc_model.specs.Listed.{apart}
-use Rattle.jc_model.specs.Group.{cache_after}
+use Rattle.jc_model.specs.Group.{cache_after_groups}
 use Rattle.jc_model.specs.Legal.{Legal, of_one_stripe, event_key, in_order}
 use Rattle.jc_model.specs.Reader.{Accepts, Fits, then_cache, then_stage}
 use Rattle.jc_model.proofs.Lookups.{len-apart}
@@ -28,7 +28,7 @@ to_legal config opening events fits once few stripe order accepted =
       once = once;
       few = few;
       stripe = stripe;
-      next = cache_after cache spells.groups;
+      next = cache_after_groups cache spells.groups;
       history = record { groups = spells.groups; spelled = spells.spelled; lawful = spells.lawful; left = refl; order = order };
     }
 

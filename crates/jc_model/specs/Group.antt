@@ -11,14 +11,15 @@
 --     step_place                the place of a group's step, from the place at which the group begins
 --     events_of                 the events that a group is, from a place on
 --     history_of                the events that a list of groups is, from a place on
---     without                   a cache without the key that is evicted, if one is
---     before                    the cache in which a group's step is made: without the group's victim
---     stepped                   the cache behind the step of a group
---     evict_own                 a cache without the step's own key, if that is evicted
---     left_after                the cache behind a whole group
---     cache_after               the cache behind a list of groups
+--     without_victim                   a cache without the key that is evicted, if one is
+--     cache_before_step                    the cache in which a group's step is made: without the group's victim
+--     cache_after_step                   the cache behind the step of a group
+--     without_own                 a cache without the step's own key, if that is evicted
+--     cache_after_group                the cache behind a whole group
+--     cache_after_groups               the cache behind a list of groups
 use Rattle.std.specs.Prelude.{ℕ, ◌+◌, List, [], ◌∷◌, ◌++◌, length, map, Option, None, Some}
 use Rattle.std.specs.FinMap.{remove}
+use Rattle.jc_types.specs.declared.caller.Caller.{Caller}
 use Rattle.jc_model.specs.declared.event.Op.TheVariants.{Get}
 use Rattle.jc_model.specs.declared.event.Out.{Out}
 use Rattle.jc_model.specs.declared.event.LoadAnswer.{LoadAnswer}
@@ -31,14 +32,13 @@ use Rattle.jc_model.specs.declared.event.Cause.TheVariants.{Full}
 use Rattle.jc_model.specs.declared.event.Event.{Event}
 use Rattle.jc_model.specs.declared.event.Event.TheVariants.{Step, Evict}
 use Rattle.jc_model.specs.Cache.{Bytes, Cache}
-use Rattle.jc_model.specs.Table.{Made, new_reply, cache_left}
+use Rattle.jc_model.specs.Table.{NewStep, reply_after, seq_cache}
 
 pub record Group : Type 0 where
   pub victim : Option Bytes  -- evicted directly before the step, since the stripe is full
-  pub session : ℕ
-  pub number : ℕ
-  pub made : Made  -- the step
-  pub joined : List (ℕ × ℕ)  -- session and number of each caller that shares the step's load, in order of joining
+  pub caller : Caller
+  pub step : NewStep  -- the step
+  pub joined : List Caller  -- those that share the step's load, in the order of joining
   pub evicted : Option Cause  -- why the step's key is evicted directly after, if it is
 
 -- 1. What was said outside.
@@ -66,12 +66,12 @@ evicted_events key None = []
 evicted_events key (Some cause) = Evict key cause ∷ []
 
 abbrev pub step_event : Group → Event
-step_event group = Step group.session group.number group.made.op group.made.key group.made.out None group.made.reply
+step_event group = Step group.caller group.step.op group.step.key group.step.out None group.step.reply
 
 -- the shared step of a caller: a `Get` of the key, with the load answer of the step at the place that it names. It found the key
 -- missing, so its reply is that answer
-abbrev pub shared_event : ℕ → Bytes → LoadAnswer → ℕ × ℕ → Event
-shared_event place key answer caller = Step caller.0 caller.1 Get key (load_only answer) (Some place) (new_reply Get None (load_only answer))
+abbrev pub shared_event : ℕ → Bytes → LoadAnswer → Caller → Event
+shared_event place key answer caller = Step caller Get key (load_only answer) (Some place) (reply_after Get None (load_only answer))
 
 -- the place of a group's step, of a group that begins at a place
 abbrev pub step_place : ℕ → Group → ℕ
@@ -80,7 +80,7 @@ step_place place group = place + length (victim_events group.victim)
 abbrev pub events_of : ℕ → Group → List Event
 events_of place group =
     victim_events group.victim ++ step_event group
-    ∷ map (shared_event (step_place place group) group.made.key group.made.out.load) group.joined ++ evicted_events group.made.key group.evicted
+    ∷ map (shared_event (step_place place group) group.step.key group.step.out.load) group.joined ++ evicted_events group.step.key group.evicted
 
 abbrev pub history_of : ℕ → List Group → List Event
 history_of place [] = []
@@ -88,23 +88,23 @@ history_of place (group ∷ groups) = events_of place group ++ history_of (place
 
 -- 3. What a group leaves.
 
-abbrev pub without : Cache → Option Bytes → Cache
-without cache None = cache
-without cache (Some key) = remove cache key
+abbrev pub without_victim : Cache → Option Bytes → Cache
+without_victim cache None = cache
+without_victim cache (Some key) = remove cache key
 
-abbrev pub before : Cache → Group → Cache
-before cache group = without cache group.victim
+abbrev pub cache_before_step : Cache → Group → Cache
+cache_before_step cache group = without_victim cache group.victim
 
-abbrev pub stepped : Cache → Group → Cache
-stepped cache group = cache_left (before cache group) group.made
+abbrev pub cache_after_step : Cache → Group → Cache
+cache_after_step cache group = seq_cache (cache_before_step cache group) group.step
 
-abbrev pub evict_own : Cache → Bytes → Option Cause → Cache
-evict_own cache key None = cache
-evict_own cache key (Some cause) = remove cache key
+abbrev pub without_own : Cache → Bytes → Option Cause → Cache
+without_own cache key None = cache
+without_own cache key (Some cause) = remove cache key
 
-abbrev pub left_after : Cache → Group → Cache
-left_after cache group = evict_own (stepped cache group) group.made.key group.evicted
+abbrev pub cache_after_group : Cache → Group → Cache
+cache_after_group cache group = without_own (cache_after_step cache group) group.step.key group.evicted
 
-abbrev pub cache_after : Cache → List Group → Cache
-cache_after cache [] = cache
-cache_after cache (group ∷ groups) = cache_after (left_after cache group) groups
+abbrev pub cache_after_groups : Cache → List Group → Cache
+cache_after_groups cache [] = cache
+cache_after_groups cache (group ∷ groups) = cache_after_groups (cache_after_group cache group) groups

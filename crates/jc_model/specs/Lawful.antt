@@ -11,25 +11,26 @@
 --     IsLawful         what is known when the group ends: its step, those that share its load and its eviction are lawful, and no
 --                      more entries than fit are left
 --     AreLawful        each group is lawful in the cache that those before it leave
-use Rattle.std.specs.Prelude.{◌==◌, ◌≤◌, ℕ, List, [], ◌∷◌, Bool, true, false, not, ◌&&◌, IsTrue, Option, None, Some, is_some, is_none}
+use Rattle.std.specs.Prelude.{◌==◌, ◌≤◌, List, [], ◌∷◌, Bool, true, false, not, ◌&&◌, IsTrue, Option, None, Some, is_some, is_none}
 use Rattle.std.specs.Cmp.Lexicographic.{pointwise}
 use Rattle.std.specs.FinMap.{len}
+use Rattle.jc_types.specs.declared.caller.Caller.{Caller}
 use Rattle.jc_types.specs.declared.config.Config.{Config}
 use Rattle.jc_model.specs.declared.event.Op.{Op}
 use Rattle.jc_model.specs.declared.event.Op.TheVariants.{Get, ContainsKey, Put, GetAndPut, PutIfAbsent, Remove, RemoveIf, GetAndRemove, Replace, ReplaceIf, GetAndReplace, Clear, LoadAll, Invoke}
 use Rattle.jc_model.specs.declared.event.Cause.{Cause}
 use Rattle.jc_model.specs.declared.event.Cause.TheVariants.{Full, Memory}
 use Rattle.jc_model.specs.Cache.{Bytes, Cache, entry_at}
-use Rattle.jc_model.specs.Table.{Seq, entry_left, load_given}
-use Rattle.jc_model.specs.Group.{Group, before, stepped, left_after}
+use Rattle.jc_model.specs.Table.{Seq, seq_entry, is_load_given}
+use Rattle.jc_model.specs.Group.{Group, cache_before_step, cache_after_step, cache_after_group}
 
 abbrev pub inserts : Cache → Group → Bool
-inserts cache group = is_none (entry_at (before cache group) group.made.key) && is_some (entry_left (before cache group) group.made)
+inserts cache group = is_none (entry_at (cache_before_step cache group) group.step.key) && is_some (seq_entry (cache_before_step cache group) group.step)
 
 abbrev pub victim_fits : Config → Cache → Group → Option Bytes → Bool
 victim_fits config cache group None = true
 victim_fits config cache group (Some key) =
-    (len cache == config.capacity) && is_some (entry_at cache key) && not (pointwise ◌==◌ key group.made.key) && inserts cache group
+    (len cache == config.capacity) && is_some (entry_at cache key) && not (pointwise ◌==◌ key group.step.key) && inserts cache group
 
 abbrev pub evicted_fits : Config → Cache → Group → Option Cause → Bool
 evicted_fits config cache group None = true
@@ -48,29 +49,29 @@ loads_whole Remove = false
 loads_whole (RemoveIf old) = false
 loads_whole GetAndRemove = false
 loads_whole (Replace value) = false
-loads_whole (ReplaceIf old value) = false
+loads_whole (ReplaceIf old new) = false
 loads_whole (GetAndReplace value) = false
 loads_whole Clear = false
 loads_whole Invoke = false
 
 abbrev pub is_joinable : Config → Cache → Group → Bool
 is_joinable config cache group =
-    config.read_through && loads_whole group.made.op && is_none (entry_at (before cache group) group.made.key) && load_given group.made.out.load
+    config.read_through && loads_whole group.step.op && is_none (entry_at (cache_before_step cache group) group.step.key) && is_load_given group.step.out.load
 
-abbrev pub joined_fits : Config → Cache → Group → List (ℕ × ℕ) → Bool
+abbrev pub joined_fits : Config → Cache → Group → List Caller → Bool
 joined_fits config cache group [] = true
 joined_fits config cache group (caller ∷ callers) = is_joinable config cache group
 
 pub record IsLawfulStep (config : Config) (cache : Cache) (group : Group) : Type 0 where
-  pub seq : Seq config (before cache group) group.made (stepped cache group)
+  pub seq : Seq config (cache_before_step cache group) group.step (cache_after_step cache group)
   pub victim : IsTrue (victim_fits config cache group group.victim)
 
 pub record IsLawful (config : Config) (cache : Cache) (group : Group) : Type 0 where
   pub step : IsLawfulStep config cache group
   pub joined : IsTrue (joined_fits config cache group group.joined)
   pub evicted : IsTrue (evicted_fits config cache group group.evicted)
-  pub within : len (left_after cache group) ≤ config.capacity
+  pub within : len (cache_after_group cache group) ≤ config.capacity
 
 abbrev pub AreLawful : Config → Cache → List Group → Type 0
 AreLawful config cache [] = Unit {0}
-AreLawful config cache (group ∷ groups) = IsLawful config cache group × AreLawful config (left_after cache group) groups
+AreLawful config cache (group ∷ groups) = IsLawful config cache group × AreLawful config (cache_after_group cache group) groups

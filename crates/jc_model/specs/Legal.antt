@@ -10,31 +10,32 @@
 --     is_of_stripe       whether an event's key is of a stripe
 --     of_stripe          the events whose key is of a stripe
 --     IsWholeHistory     a legal history over all stripes: the part of each stripe is one, places counted in that part
-use Rattle.std.specs.Prelude.{◌≡◌, ◌==◌, ◌≤◌, ◌<◌, ℕ, List, [], ◌∷◌, ◌++◌, length, map, filter, Bool, true, not, ◌&&◌, ◌||◌, IsTrue, nat_lt, Ok, sum, ◌%◌}
+use Rattle.std.specs.Prelude.{◌≡◌, ◌==◌, ◌≤◌, ◌<◌, ℕ, List, [], ◌∷◌, ◌++◌, length, map, filter, Bool, true, not, ◌&&◌, ◌||◌, IsTrue, nat_lt, Ok}
 use Rattle.std.specs.List.{list_all}
 use Rattle.std.specs.Cmp.Lexicographic.{pointwise}
 use Rattle.std.specs.FinMap.{from_entries}
+use Rattle.jc_types.specs.declared.caller.Caller.{Caller}
 use Rattle.jc_types.specs.declared.config.Config.{Config}
 use Rattle.jc_types.specs.Limits.{checked}
+use Rattle.jc_types.specs.Stripes.{stripe_of}
 use Rattle.jc_model.specs.declared.event.Event.{Event}
 use Rattle.jc_model.specs.declared.event.Event.TheVariants.{Step, Evict}
 use Rattle.jc_model.specs.Cache.{Bytes, Cache}
 use Rattle.jc_model.specs.Listed.{apart}
-use Rattle.jc_model.specs.Group.{Group, history_of, cache_after}
+use Rattle.jc_model.specs.Group.{Group, history_of, cache_after_groups}
 use Rattle.jc_model.specs.Lawful.{AreLawful}
 
 -- 1. The callers' order.
 
--- a step of this session, number and key may stand behind an event
-abbrev pub may_come : Event → ℕ → ℕ → Bytes → Bool
-may_come (Step s n op k out shared reply) session number key = not (s == session) || nat_lt n number || ((n == number) && not (pointwise ◌==◌ k key))
-may_come (Evict k cause) session number key = true
+-- the call's number is above the event's, or they are one call at two keys; another session's event is no matter
+abbrev pub may_come : Event → Caller → Bytes → Bool
+may_come (Step who op k out shared reply) caller key =
+    not (who.session == caller.session) || nat_lt who.call caller.call || ((who.call == caller.call) && not (pointwise ◌==◌ k key))
+may_come (Evict k cause) caller key = true
 
 abbrev pub may_follow : Event → Event → Bool
-may_follow (Step s n op k out shared reply) (Step session number op' key out' shared' reply') =
-    not (s == session) || nat_lt n number || ((n == number) && not (pointwise ◌==◌ k key))
-may_follow (Step s n op k out shared reply) (Evict key cause) = true
-may_follow (Evict k cause) event = true
+may_follow event (Step caller op key out shared reply) = may_come event caller key
+may_follow event (Evict key cause) = true
 
 abbrev pub in_order : List Event → Bool
 in_order [] = true
@@ -43,18 +44,18 @@ in_order (event ∷ events) = list_all (may_follow event) events && in_order eve
 -- 2. One stripe.
 
 abbrev pub event_key : Event → Bytes
-event_key (Step s n op key out shared reply) = key
+event_key (Step who op key out shared reply) = key
 event_key (Evict key cause) = key
 
 abbrev pub of_one_stripe : ℕ → List Bytes → Bool
 of_one_stripe stripes [] = true
-of_one_stripe stripes (key ∷ keys) = list_all (λ other. sum other % stripes == sum key % stripes) keys
+of_one_stripe stripes (key ∷ keys) = list_all (λ other. stripe_of other stripes == stripe_of key stripes) keys
 
 pub record IsHistory (config : Config) (cache : Cache) (events : List Event) (next : Cache) : Type 0 where
   pub groups : List Group
   pub spelled : events ≡ history_of 0 groups
   pub lawful : AreLawful config cache groups
-  pub left : next ≡ cache_after cache groups
+  pub left : next ≡ cache_after_groups cache groups
   pub order : IsTrue (in_order events)
 
 pub record Legal (config : Config) (opening : List (Bytes × Bytes)) (events : List Event) : Type 0 where
@@ -68,7 +69,7 @@ pub record Legal (config : Config) (opening : List (Bytes × Bytes)) (events : L
 -- 3. All stripes.
 
 abbrev pub is_of_stripe : ℕ → ℕ → Event → Bool
-is_of_stripe stripes stripe event = sum (event_key event) % stripes == stripe
+is_of_stripe stripes stripe event = stripe_of (event_key event) stripes == stripe
 
 abbrev pub of_stripe : ℕ → ℕ → List Event → List Event
 of_stripe stripes stripe events = filter (is_of_stripe stripes stripe) events

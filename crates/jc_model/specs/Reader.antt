@@ -6,7 +6,7 @@
 --     cause_fits                   the step's own key may go for this cause
 --     own_goes                     this key, for this cause, is the step's own and may go
 --     is_full                      a cause is `Full`
---     victim_of                    the victim of the group that comes next, if it was read
+--     picked_victim                    the victim of the group that comes next, if it was read
 --     group_at                     the group of a step that is read at a stage
 --     is_within                    where a group ends here, no more entries are left than fit
 --     FitsShared                   a shared step may come next
@@ -20,6 +20,7 @@
 use Rattle.std.specs.Prelude.{◌≡◌, ◌==◌, ◌&&◌, ◌||◌, ℕ, ◌+◌, List, [], ◌∷◌, Bool, true, false, IsTrue, Option, None, Some, is_none, nat_le, nat_lt, if◌then◌else◌}
 use Rattle.std.specs.Cmp.Lexicographic.{pointwise}
 use Rattle.std.specs.FinMap.{len, remove}
+use Rattle.jc_types.specs.declared.caller.Caller.{Caller}
 use Rattle.jc_types.specs.declared.config.Config.{Config}
 use Rattle.jc_model.specs.declared.event.Op.{Op}
 use Rattle.jc_model.specs.declared.event.Out.{Out}
@@ -32,21 +33,21 @@ use Rattle.jc_model.specs.declared.reader.Opened.{Opened}
 use Rattle.jc_model.specs.declared.reader.Stage.{Stage}
 use Rattle.jc_model.specs.declared.reader.Stage.TheVariants.{Outside, Picked, Inside}
 use Rattle.jc_model.specs.Cache.{Bytes, Cache}
-use Rattle.jc_model.specs.Group.{Group, shared_event, stepped}
+use Rattle.jc_model.specs.Group.{Group, shared_event, cache_after_step}
 use Rattle.jc_model.specs.Lawful.{is_joinable, inserts, IsLawfulStep}
 
 -- a group of which the step was read
-abbrev pub new_group : Option Bytes → ℕ → ℕ → Op → Bytes → Out → Reply → Group
-new_group victim session number op key out reply =
-    record { victim = victim; session = session; number = number; made = record { op = op; key = key; out = out; reply = reply }; joined = []; evicted = None }
+abbrev pub new_group : Option Bytes → Caller → Op → Bytes → Out → Reply → Group
+new_group victim caller op key out reply =
+    record { victim = victim; caller = caller; step = record { op = op; key = key; out = out; reply = reply }; joined = []; evicted = None }
 
 -- what is kept of a group whose step stands at a place
 abbrev pub opened : Config → Cache → ℕ → Group → Opened
 opened config cache place group =
     record {
       place = place;
-      key = group.made.key;
-      load = group.made.out.load;
+      key = group.step.key;
+      load = group.step.out.load;
       is_joinable = is_joinable config cache group;
       is_inserted = inserts cache group;
       was_full = (len cache == config.capacity) && is_none group.victim;
@@ -64,13 +65,13 @@ abbrev pub is_full : Cause → Bool
 is_full Full = true
 is_full Memory = false
 
-abbrev pub victim_of : Stage → Option Bytes
-victim_of Outside = None
-victim_of (Picked key) = Some key
-victim_of (Inside kept) = None
+abbrev pub picked_victim : Stage → Option Bytes
+picked_victim Outside = None
+picked_victim (Picked key) = Some key
+picked_victim (Inside kept) = None
 
-abbrev pub group_at : Stage → ℕ → ℕ → Op → Bytes → Out → Reply → Group
-group_at stage session number op key out reply = new_group (victim_of stage) session number op key out reply
+abbrev pub group_at : Stage → Caller → Op → Bytes → Out → Reply → Group
+group_at stage caller op key out reply = new_group (picked_victim stage) caller op key out reply
 
 -- no more entries than fit, at the end of a group
 abbrev pub is_within : Config → Cache → Stage → Bool
@@ -79,8 +80,8 @@ is_within config cache (Picked key) = true
 is_within config cache (Inside kept) = nat_le (len cache) config.capacity
 
 abbrev pub FitsShared : Stage → Event → Type 0
-FitsShared (Inside kept) (Step session number op key out shared_with reply) =
-    IsTrue kept.is_joinable × (Step session number op key out shared_with reply ≡ shared_event kept.place kept.key kept.load (session, number))
+FitsShared (Inside kept) (Step caller op key out shared_with reply) =
+    IsTrue kept.is_joinable × (Step caller op key out shared_with reply ≡ shared_event kept.place kept.key kept.load caller)
 FitsShared stage event = ⊥
 
 -- a victim is named between two groups, or the step's own key
@@ -91,9 +92,9 @@ fits_evict config cache (Inside kept) key cause = own_goes kept key cause || (is
 
 -- an event may come next
 abbrev pub Fits : Config → Cache → Stage → Event → Type 0
-Fits config cache stage (Step session number op key out None reply) =
-    IsTrue (is_within config cache stage) × IsLawfulStep config cache (group_at stage session number op key out reply)
-Fits config cache stage (Step session number op key out (Some place) reply) = FitsShared stage (Step session number op key out (Some place) reply)
+Fits config cache stage (Step caller op key out None reply) =
+    IsTrue (is_within config cache stage) × IsLawfulStep config cache (group_at stage caller op key out reply)
+Fits config cache stage (Step caller op key out (Some place) reply) = FitsShared stage (Step caller op key out (Some place) reply)
 Fits config cache stage (Evict key cause) = IsTrue (fits_evict config cache stage key cause)
 
 abbrev pub evict_stage : Stage → Bytes → Cause → Stage
@@ -108,14 +109,14 @@ evict_cache cache (Inside kept) key cause = if own_goes kept key cause then remo
 
 -- the stage behind an event at a place
 abbrev pub then_stage : Config → Cache → ℕ → Stage → Event → Stage
-then_stage config cache place stage (Step session number op key out None reply) = Inside (opened config cache place (group_at stage session number op key out reply))
-then_stage config cache place stage (Step session number op key out (Some other) reply) = stage
+then_stage config cache place stage (Step caller op key out None reply) = Inside (opened config cache place (group_at stage caller op key out reply))
+then_stage config cache place stage (Step caller op key out (Some other) reply) = stage
 then_stage config cache place stage (Evict key cause) = evict_stage stage key cause
 
 -- the cache behind an event; a victim goes with the step
 abbrev pub then_cache : Cache → Stage → Event → Cache
-then_cache cache stage (Step session number op key out None reply) = stepped cache (group_at stage session number op key out reply)
-then_cache cache stage (Step session number op key out (Some other) reply) = cache
+then_cache cache stage (Step caller op key out None reply) = cache_after_step cache (group_at stage caller op key out reply)
+then_cache cache stage (Step caller op key out (Some other) reply) = cache
 then_cache cache stage (Evict key cause) = evict_cache cache stage key cause
 
 -- the history may end
@@ -132,6 +133,6 @@ Accepts config place cache stage (e ∷ es) =
 
 -- a step of the same session with a lower number
 abbrev pub comes_before : Event → Event → Bool
-comes_before (Step s n op key out shared reply) (Step s' n' op' key' out' shared' reply') = (s == s') && nat_lt n n'
-comes_before (Step s n op key out shared reply) (Evict key' cause) = false
+comes_before (Step who op key out shared reply) (Step who' op' key' out' shared' reply') = (who.session == who'.session) && nat_lt who.call who'.call
+comes_before (Step who op key out shared reply) (Evict key' cause) = false
 comes_before (Evict key cause) event = false

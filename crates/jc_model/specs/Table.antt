@@ -3,28 +3,30 @@
 -- that is there, is this provider's own.
 --     holds                          whether an entry has this value
 --     alike                          whether two tests answer alike
---     load_given                     whether the loader answered
---     load_fits                      the loader table: whether the loader's answers are those that the operation asks for
---     loaded                         the entry with a loaded value, if one was found
+--     is_load_given                     whether the loader answered
+--     always_if, wanted_if           the loader is asked, and is asked if the processor wants it, if a condition holds
+--     loader_ask                     the loader table: whether an operation asks the loader, never, always or if the processor wants it
+--     load_fits                      whether the loader answered as the table has it asked
+--     value_after_load                         the entry with a loaded value, if one was found
 --     ask_if                         a change, where it is asked for
 --     effect_ask, process_ask        what the writer is asked for after a processor, by its net effect and by its answer
 --     write_ask                      the writer table: what the writer is asked for, or nothing
---     write_given, process_given     whether the writer answered, and whether the processor did
+--     is_write_given, is_process_given     whether the writer answered, and whether the processor did
 --     is_invoke                      an operation runs a processor
 --     load_fault, process_fault, write_fault      the fault of the loader, of the processor, of the writer, if it failed
 --     first_of_two                   the first of two faults that is there
 --     early_fault                    the fault of the loader or the processor, before the writer is asked
---     fault_of                       the first fault: the loader's before the processor's before the writer's
+--     first_fault                       the first fault: the loader's before the processor's before the writer's
 --     answers_fit                    exactly those answered that the tables ask for
 --     after_effect                   the entry with a processor's net effect
 --     outcome_of                     what a processor answers the caller
 --     replaced                       a value in the place of an entry, if there is one
---     entry_after, reply_of          the last two columns, where there is no fault
---     left_by, replied_by            the entry and the reply, by whether there is a fault: a fault leaves the entry and is the
+--     entry_without_fault, reply_without_fault          the last two columns, where there is no fault
+--     entry_by_fault, reply_by_fault            the entry and the reply, by whether there is a fault: a fault leaves the entry and is the
 --                                    reply
---     new_entry, new_reply           the last two columns, where a fault leaves the entry and is the reply
---     Made                           one operation on one key with what was said outside and its reply
---     entry_left, cache_left         the entry that it leaves at its key, and the whole cache
+--     entry_after, reply_after           the last two columns, where a fault leaves the entry and is the reply
+--     NewStep                           one operation on one key with what was said outside and its reply
+--     seq_entry, seq_cache         the entry that it leaves at its key, and the whole cache
 --     Seq                            the sequential step: one operation made on a whole cache
 use Rattle.std.specs.Prelude.{◌≡◌, ◌==◌, Bool, true, false, not, ◌&&◌, ◌||◌, IsTrue, Option, None, Some, is_some, is_none, if◌then◌else◌, unwrap_or}
 use Rattle.std.specs.Cmp.Lexicographic.{pointwise}
@@ -46,6 +48,8 @@ use Rattle.jc_model.specs.declared.event.Change.{Change}
 use Rattle.jc_model.specs.declared.event.Change.TheVariants.{Write, Delete}
 use Rattle.jc_model.specs.declared.event.Reply.{Reply}
 use Rattle.jc_model.specs.declared.event.Reply.TheVariants as reply
+use Rattle.jc_model.specs.declared.table.LoaderAsk.{LoaderAsk}
+use Rattle.jc_model.specs.declared.table.LoaderAsk.TheVariants.{Never, Always, IfWanted}
 use Rattle.jc_model.specs.Cache.{Bytes, Cache, entry_at, with_entry}
 
 -- whether the entry holds this value
@@ -61,23 +65,49 @@ alike false answer = not answer
 -- 1. The loader.
 
 -- whether an answer was given
-abbrev pub load_given : LoadAnswer → Bool
-load_given load.NotAsked = false
-load_given (load.Found value) = true
-load_given load.Nothing = true
-load_given (load.Failed code) = true
+abbrev pub is_load_given : LoadAnswer → Bool
+is_load_given load.NotAsked = false
+is_load_given (load.Found value) = true
+is_load_given load.Nothing = true
+is_load_given (load.Failed code) = true
 
--- whether the loader's answers fit the loader table. For `Invoke` the processor decides, where the entry is missing
-abbrev pub load_fits : Bool → Op → Option Bytes → Bool → Bool
-load_fits read_through Get entry given = alike given (read_through && is_none entry)
-load_fits read_through (LoadAll replace) entry given = alike given (replace || is_none entry)
-load_fits read_through Invoke entry given = not given || (read_through && is_none entry)
-load_fits read_through op entry given = not given
+abbrev pub always_if : Bool → LoaderAsk
+always_if true = Always
+always_if false = Never
+
+abbrev pub wanted_if : Bool → LoaderAsk
+wanted_if true = IfWanted
+wanted_if false = Never
+
+-- the loader table: whether an operation that finds an entry asks the loader
+abbrev pub loader_ask : Bool → Op → Option Bytes → LoaderAsk
+loader_ask read_through Get entry = always_if (read_through && is_none entry)
+loader_ask read_through (LoadAll replace) entry = always_if (replace || is_none entry)
+loader_ask read_through Invoke entry = wanted_if (read_through && is_none entry)
+loader_ask read_through ContainsKey entry = Never
+loader_ask read_through (Put value) entry = Never
+loader_ask read_through (GetAndPut value) entry = Never
+loader_ask read_through (PutIfAbsent value) entry = Never
+loader_ask read_through Remove entry = Never
+loader_ask read_through (RemoveIf old) entry = Never
+loader_ask read_through GetAndRemove entry = Never
+loader_ask read_through (Replace value) entry = Never
+loader_ask read_through (ReplaceIf old new) entry = Never
+loader_ask read_through (GetAndReplace value) entry = Never
+loader_ask read_through Clear entry = Never
+
+-- whether the loader answered as the table has it asked
+abbrev pub load_fits : LoaderAsk → Bool → Bool
+load_fits Never given = not given
+load_fits Always given = given
+load_fits IfWanted given = true
 
 -- the entry with a loaded value, if one was found
-abbrev pub loaded : LoadAnswer → Option Bytes → Option Bytes
-loaded (load.Found value) entry = Some value
-loaded answer entry = entry
+abbrev pub value_after_load : LoadAnswer → Option Bytes → Option Bytes
+value_after_load (load.Found value) entry = Some value
+value_after_load load.NotAsked entry = entry
+value_after_load load.Nothing entry = entry
+value_after_load (load.Failed code) entry = entry
 
 -- 2. The writer.
 
@@ -93,7 +123,8 @@ effect_ask effect.Remove = Some Delete
 
 abbrev pub process_ask : ProcessAnswer → Option Change
 process_ask (process.Ended net outcome) = effect_ask net
-process_ask answer = None
+process_ask process.NotAsked = None
+process_ask (process.Failed code) = None
 
 -- the writer table: a change of the store, or nothing
 abbrev pub write_ask : Op → Option Bytes → ProcessAnswer → Option Change
@@ -104,7 +135,7 @@ write_ask Remove entry answer = Some Delete
 write_ask (RemoveIf old) entry answer = ask_if (holds entry old) Delete
 write_ask GetAndRemove entry answer = Some Delete
 write_ask (Replace value) entry answer = ask_if (is_some entry) (Write value)
-write_ask (ReplaceIf old value) entry answer = ask_if (holds entry old) (Write value)
+write_ask (ReplaceIf old new) entry answer = ask_if (holds entry old) (Write new)
 write_ask (GetAndReplace value) entry answer = ask_if (is_some entry) (Write value)
 write_ask Invoke entry answer = process_ask answer
 write_ask Get entry answer = None
@@ -112,35 +143,51 @@ write_ask ContainsKey entry answer = None
 write_ask Clear entry answer = None
 write_ask (LoadAll replace) entry answer = None
 
-abbrev pub write_given : WriteAnswer → Bool
-write_given write.NotAsked = false
-write_given write.Done = true
-write_given (write.Failed code) = true
+abbrev pub is_write_given : WriteAnswer → Bool
+is_write_given write.NotAsked = false
+is_write_given write.Done = true
+is_write_given (write.Failed code) = true
 
 -- 3. The processor.
 
-abbrev pub process_given : ProcessAnswer → Bool
-process_given process.NotAsked = false
-process_given (process.Ended net outcome) = true
-process_given (process.Failed code) = true
+abbrev pub is_process_given : ProcessAnswer → Bool
+is_process_given process.NotAsked = false
+is_process_given (process.Ended net outcome) = true
+is_process_given (process.Failed code) = true
 
 abbrev pub is_invoke : Op → Bool
 is_invoke Invoke = true
-is_invoke op = false
+is_invoke Get = false
+is_invoke ContainsKey = false
+is_invoke (Put value) = false
+is_invoke (GetAndPut value) = false
+is_invoke (PutIfAbsent value) = false
+is_invoke Remove = false
+is_invoke (RemoveIf old) = false
+is_invoke GetAndRemove = false
+is_invoke (Replace value) = false
+is_invoke (ReplaceIf old new) = false
+is_invoke (GetAndReplace value) = false
+is_invoke Clear = false
+is_invoke (LoadAll replace) = false
 
 -- 4. A fault: the loader's before the processor's before the writer's.
 
 abbrev pub load_fault : LoadAnswer → Option Refusal
 load_fault (load.Failed code) = Some (refusal.LoaderFailed code)
-load_fault answer = None
+load_fault load.NotAsked = None
+load_fault (load.Found value) = None
+load_fault load.Nothing = None
 
 abbrev pub process_fault : ProcessAnswer → Option Refusal
 process_fault (process.Failed code) = Some (refusal.ProcessorFailed code)
-process_fault answer = None
+process_fault process.NotAsked = None
+process_fault (process.Ended net outcome) = None
 
 abbrev pub write_fault : WriteAnswer → Option Refusal
 write_fault (write.Failed code) = Some (refusal.WriterFailed code)
-write_fault answer = None
+write_fault write.NotAsked = None
+write_fault write.Done = None
 
 abbrev pub first_of_two : Option Refusal → Option Refusal → Option Refusal
 first_of_two (Some fault) other = Some fault
@@ -150,98 +197,101 @@ first_of_two None other = other
 abbrev pub early_fault : Out → Option Refusal
 early_fault out = first_of_two (load_fault out.load) (process_fault out.process)
 
-abbrev pub fault_of : Out → Option Refusal
-fault_of out = first_of_two (early_fault out) (write_fault out.write)
+abbrev pub first_fault : Out → Option Refusal
+first_fault out = first_of_two (early_fault out) (write_fault out.write)
 
 -- exactly those were asked that the tables ask for, and no writer after a loader's or processor's fault
 abbrev pub answers_fit : Config → Op → Option Bytes → Out → Bool
 answers_fit config op entry out =
-    load_fits config.read_through op entry (load_given out.load)
-    && alike (process_given out.process) (is_invoke op)
-    && alike (write_given out.write) (config.write_through && is_none (early_fault out) && is_some (write_ask op entry out.process))
+    load_fits (loader_ask config.read_through op entry) (is_load_given out.load)
+    && alike (is_process_given out.process) (is_invoke op)
+    && alike (is_write_given out.write) (config.write_through && is_none (early_fault out) && is_some (write_ask op entry out.process))
 
 -- 5. The entry afterwards, and the reply, where there is no fault.
 
 abbrev pub after_effect : ProcessAnswer → Option Bytes → Option Bytes
 after_effect (process.Ended (effect.Set value) outcome) entry = Some value
 after_effect (process.Ended effect.Remove outcome) entry = None
-after_effect answer entry = entry
+after_effect (process.Ended effect.Keep outcome) entry = entry
+after_effect process.NotAsked entry = entry
+after_effect (process.Failed code) entry = entry
 
 abbrev pub outcome_of : ProcessAnswer → Option Bytes
 outcome_of (process.Ended net outcome) = outcome
-outcome_of answer = None
+outcome_of process.NotAsked = None
+outcome_of (process.Failed code) = None
 
 abbrev pub replaced : Option Bytes → Bytes → Option Bytes
 replaced None value = None
 replaced (Some old) value = Some value
 
-abbrev pub entry_after : Op → Option Bytes → Out → Option Bytes
-entry_after Get entry out = loaded out.load entry
-entry_after ContainsKey entry out = entry
-entry_after (Put value) entry out = Some value
-entry_after (GetAndPut value) entry out = Some value
-entry_after (PutIfAbsent value) entry out = Some (unwrap_or entry value)
-entry_after Remove entry out = None
-entry_after (RemoveIf old) entry out = if holds entry old then None else entry
-entry_after GetAndRemove entry out = None
-entry_after (Replace value) entry out = replaced entry value
-entry_after (ReplaceIf old value) entry out = if holds entry old then Some value else entry
-entry_after (GetAndReplace value) entry out = replaced entry value
-entry_after Clear entry out = None
-entry_after (LoadAll replace) entry out = loaded out.load entry
-entry_after Invoke entry out = after_effect out.process (loaded out.load entry)
+abbrev pub entry_without_fault : Op → Option Bytes → Out → Option Bytes
+entry_without_fault Get entry out = value_after_load out.load entry
+entry_without_fault ContainsKey entry out = entry
+entry_without_fault (Put value) entry out = Some value
+entry_without_fault (GetAndPut value) entry out = Some value
+entry_without_fault (PutIfAbsent value) entry out = Some (unwrap_or entry value)
+entry_without_fault Remove entry out = None
+entry_without_fault (RemoveIf old) entry out = if holds entry old then None else entry
+entry_without_fault GetAndRemove entry out = None
+entry_without_fault (Replace value) entry out = replaced entry value
+entry_without_fault (ReplaceIf old new) entry out = if holds entry old then Some new else entry
+entry_without_fault (GetAndReplace value) entry out = replaced entry value
+entry_without_fault Clear entry out = None
+entry_without_fault (LoadAll replace) entry out = value_after_load out.load entry
+entry_without_fault Invoke entry out = after_effect out.process (value_after_load out.load entry)
 
-abbrev pub reply_of : Op → Option Bytes → Out → Reply
-reply_of Get entry out = reply.Value (loaded out.load entry)
-reply_of ContainsKey entry out = reply.Flag (is_some entry)
-reply_of (Put value) entry out = reply.Unit
-reply_of (GetAndPut value) entry out = reply.Value entry
-reply_of (PutIfAbsent value) entry out = reply.Flag (is_none entry)
-reply_of Remove entry out = reply.Flag (is_some entry)
-reply_of (RemoveIf old) entry out = reply.Flag (holds entry old)
-reply_of GetAndRemove entry out = reply.Value entry
-reply_of (Replace value) entry out = reply.Flag (is_some entry)
-reply_of (ReplaceIf old value) entry out = reply.Flag (holds entry old)
-reply_of (GetAndReplace value) entry out = reply.Value entry
-reply_of Clear entry out = reply.Unit
-reply_of (LoadAll replace) entry out = reply.Unit
-reply_of Invoke entry out = reply.Value (outcome_of out.process)
+abbrev pub reply_without_fault : Op → Option Bytes → Out → Reply
+reply_without_fault Get entry out = reply.Value (value_after_load out.load entry)
+reply_without_fault ContainsKey entry out = reply.Flag (is_some entry)
+reply_without_fault (Put value) entry out = reply.Unit
+reply_without_fault (GetAndPut value) entry out = reply.Value entry
+reply_without_fault (PutIfAbsent value) entry out = reply.Flag (is_none entry)
+reply_without_fault Remove entry out = reply.Flag (is_some entry)
+reply_without_fault (RemoveIf old) entry out = reply.Flag (holds entry old)
+reply_without_fault GetAndRemove entry out = reply.Value entry
+reply_without_fault (Replace value) entry out = reply.Flag (is_some entry)
+reply_without_fault (ReplaceIf old new) entry out = reply.Flag (holds entry old)
+reply_without_fault (GetAndReplace value) entry out = reply.Value entry
+reply_without_fault Clear entry out = reply.Unit
+reply_without_fault (LoadAll replace) entry out = reply.Unit
+reply_without_fault Invoke entry out = reply.Value (outcome_of out.process)
 
 -- 6. One step at an entry: a fault leaves it and is the reply.
 
-abbrev pub left_by : Option Refusal → Option Bytes → Option Bytes → Option Bytes
-left_by (Some fault) before after = before
-left_by None before after = after
+abbrev pub entry_by_fault : Option Refusal → Option Bytes → Option Bytes → Option Bytes
+entry_by_fault (Some fault) before after = before
+entry_by_fault None before after = after
 
-abbrev pub replied_by : Option Refusal → Reply → Reply
-replied_by (Some fault) answer = reply.Fault fault
-replied_by None answer = answer
+abbrev pub reply_by_fault : Option Refusal → Reply → Reply
+reply_by_fault (Some fault) answer = reply.Fault fault
+reply_by_fault None answer = answer
 
-abbrev pub new_entry : Op → Option Bytes → Out → Option Bytes
-new_entry op entry out = left_by (fault_of out) entry (entry_after op entry out)
+abbrev pub entry_after : Op → Option Bytes → Out → Option Bytes
+entry_after op entry out = entry_by_fault (first_fault out) entry (entry_without_fault op entry out)
 
-abbrev pub new_reply : Op → Option Bytes → Out → Reply
-new_reply op entry out = replied_by (fault_of out) (reply_of op entry out)
+abbrev pub reply_after : Op → Option Bytes → Out → Reply
+reply_after op entry out = reply_by_fault (first_fault out) (reply_without_fault op entry out)
 
 -- 7. The sequential step.
 
 -- one operation on one key, with what was said outside and what it answered
-pub record Made : Type 0 where
+pub record NewStep : Type 0 where
   pub op : Op
   pub key : Bytes
   pub out : Out
   pub reply : Reply
 
 -- the entry that it leaves at its key, in a cache
-abbrev pub entry_left : Cache → Made → Option Bytes
-entry_left cache made = new_entry made.op (entry_at cache made.key) made.out
+abbrev pub seq_entry : Cache → NewStep → Option Bytes
+seq_entry cache step = entry_after step.op (entry_at cache step.key) step.out
 
 -- the cache that it leaves: no other key changes
-abbrev pub cache_left : Cache → Made → Cache
-cache_left cache made = with_entry cache made.key (entry_left cache made)
+abbrev pub seq_cache : Cache → NewStep → Cache
+seq_cache cache step = with_entry cache step.key (seq_entry cache step)
 
 -- the operation is made in a cache, as one step
-pub record Seq (config : Config) (cache : Cache) (made : Made) (next : Cache) : Type 0 where
-  pub answers : IsTrue (answers_fit config made.op (entry_at cache made.key) made.out)
-  pub reply : made.reply ≡ new_reply made.op (entry_at cache made.key) made.out
-  pub left : next ≡ cache_left cache made
+pub record Seq (config : Config) (cache : Cache) (step : NewStep) (next : Cache) : Type 0 where
+  pub answers : IsTrue (answers_fit config step.op (entry_at cache step.key) step.out)
+  pub reply : step.reply ≡ reply_after step.op (entry_at cache step.key) step.out
+  pub left : next ≡ seq_cache cache step

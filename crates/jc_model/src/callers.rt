@@ -1,53 +1,49 @@
-//! The callers' order, as the checker tests it: the numbers of a session's calls never fall, and no step stands twice.
+//! The callers' order, as the checker tests it: the numbers of a session's calls never fall, and no step comes twice.
 ghost use Rattle.std.specs.Prelude.{◌≡◌, IsTrue};
 ghost use Rattle.std.specs.List.{list_all};
-ghost use Rattle.jc_model.specs.Legal.{may_follow, in_order};
+ghost use Rattle.jc_model.specs.Legal.{may_come, may_follow, in_order};
 ghost use Rattle.jc_model.specs.Reader.{comes_before};
 
 use crate::event::Event;
+use jc_types::caller::Caller;
+use jc_types::key::Key;
 
-/// Whether a step may stand after another.
+/// Whether an event may come after another.
 fn does_follow(event: &Event, later: &Event) -> bool
     ensures { result ≡ may_follow event.now later.now }
 {
-    match event {
-        Event::Step {
-            session,
-            number,
-            key,
-            ..
-        } => match later {
-            Event::Step {
-                session: later_session,
-                number: later_number,
-                key: later_key,
-                ..
-            } => {
-                *session != *later_session
-                    || *number < *later_number
-                    || (*number == *later_number && *key != *later_key)
-            }
-            Event::Evict { .. } => true,
-        },
+    match later {
+        Event::Step { caller, key, .. } => may_come(event, caller, key),
         Event::Evict { .. } => true,
     }
 }
 
-/// Whether a step of the same session has a lower number.
-fn is_earlier(event: &Event, later: &Event) -> bool
-    ensures { result ≡ comes_before event.now later.now }
+/// Whether a step of this caller at this key may come after an event: the call's number is above the event's, or they
+/// are one call at two keys. Another session's event is no matter.
+fn may_come(event: &Event, caller: &Caller, key: &Key) -> bool
+    ensures { result ≡ may_come event.now caller.now key.now }
 {
     match event {
         Event::Step {
-            session,
-            number,
+            caller: who,
+            key: k,
             ..
-        } => match later {
-            Event::Step {
-                session: later_session,
-                number: later_number,
-                ..
-            } => *session == *later_session && *number < *later_number,
+        } => {
+            who.session != caller.session
+                || who.call < caller.call
+                || (who.call == caller.call && *k != *key)
+        }
+        Event::Evict { .. } => true,
+    }
+}
+
+/// Whether an event is a step of the same session with a lower number.
+fn comes_before(event: &Event, later: &Event) -> bool
+    ensures { result ≡ comes_before event.now later.now }
+{
+    match event {
+        Event::Step { caller: who, .. } => match later {
+            Event::Step { caller, .. } => who.session == caller.session && who.call < caller.call,
             Event::Evict { .. } => false,
         },
         Event::Evict { .. } => false,
@@ -61,7 +57,7 @@ fn does_follow_all(events: &[Event], event: &Event) -> bool
 {
     let mut rest = events;
     while let Some((last, before)) = rest.split_last() {
-        if is_earlier(last, event) {
+        if comes_before(last, event) {
             return true;
         }
         if !does_follow(last, event) {

@@ -1,4 +1,5 @@
 //! The words that every crate speaks: operations, what was said outside, replies, and the events of a history.
+use jc_types::caller::Caller;
 use jc_types::key::Key;
 use jc_types::refusal::Refusal;
 use jc_types::value::Value;
@@ -27,15 +28,23 @@ pub enum Op {
     GetAndRemove,
     /// `replace(key, value)`: mutates where the key has an entry.
     Replace(Value),
-    /// `replace(key, oldValue, newValue)`: mutates where the entry has the first of the two values.
-    ReplaceIf(Value, Value),
+    /// `replace(key, oldValue, newValue)`: mutates if the entry has the old value.
+    ReplaceIf {
+        /// The value that the entry must have.
+        old: Value,
+        /// The value that takes its place.
+        new: Value,
+    },
     /// `getAndReplace`: mutates where the key has an entry.
     GetAndReplace(Value),
     /// Each key of `clear`: takes the entry out, and asks no writer (JSR 107, "Integration").
     Clear,
-    /// Each key of `loadAll`: loads where the key has no entry, and with `true` also where it has one.
-    /// The loader is asked whether read-through is on or not.
-    LoadAll(bool),
+    /// Each key of `loadAll`: loads a key that has no entry. The loader is asked whether read-through is on
+    /// or not.
+    LoadAll {
+        /// Whether a key that has an entry is loaded, too.
+        replace: bool,
+    },
     /// `invoke`, and each key of `invokeAll`: an entry processor runs on the entry (JSR 107, "Entry
     /// Processors").
     Invoke,
@@ -54,6 +63,21 @@ pub enum LoadAnswer {
     Failed(u32),
 }
 
+impl LoadAnswer {
+    ghost use Rattle.std.specs.Prelude.{◌≡◌};
+    ghost use Rattle.jc_model.specs.Table.{is_load_given};
+
+    /// Whether the loader answered: it found a value, found nothing, or failed.
+    pub fn is_given(&self) -> bool
+        ensures { result ≡ is_load_given self.now }
+    {
+        match self {
+            LoadAnswer::NotAsked => false,
+            LoadAnswer::Found(_) | LoadAnswer::Nothing | LoadAnswer::Failed(_) => true,
+        }
+    }
+}
+
 /// What the writer said, for one key (`javax.cache.integration.CacheWriter`; JSR 107, "Integration").
 #[derive(Clone, Copy, Debug, PartialEq, Eq)]
 pub enum WriteAnswer {
@@ -63,6 +87,21 @@ pub enum WriteAnswer {
     Done,
     /// It failed with this code. The step leaves the entry as it was.
     Failed(u32),
+}
+
+impl WriteAnswer {
+    ghost use Rattle.std.specs.Prelude.{◌≡◌};
+    ghost use Rattle.jc_model.specs.Table.{is_write_given};
+
+    /// Whether the writer returned: it did as it was asked, or failed.
+    pub fn is_given(&self) -> bool
+        ensures { result ≡ is_write_given self.now }
+    {
+        match self {
+            WriteAnswer::NotAsked => false,
+            WriteAnswer::Done | WriteAnswer::Failed(_) => true,
+        }
+    }
 }
 
 /// What the writer is asked to do to the store, at one key.
@@ -102,7 +141,22 @@ pub enum ProcessAnswer {
     Failed(u32),
 }
 
-/// All that was said outside the cache for one step.
+impl ProcessAnswer {
+    ghost use Rattle.std.specs.Prelude.{◌≡◌};
+    ghost use Rattle.jc_model.specs.Table.{is_process_given};
+
+    /// Whether the processor ran: it ended, or failed.
+    pub fn is_given(&self) -> bool
+        ensures { result ≡ is_process_given self.now }
+    {
+        match self {
+            ProcessAnswer::NotAsked => false,
+            ProcessAnswer::Ended { .. } | ProcessAnswer::Failed(_) => true,
+        }
+    }
+}
+
+/// The outside answers of one step: all that was said outside the cache for it.
 #[derive(Clone, Copy, Debug, PartialEq, Eq)]
 pub struct Out {
     /// What the loader said.
@@ -111,6 +165,44 @@ pub struct Out {
     pub write: WriteAnswer,
     /// What the entry processor said.
     pub process: ProcessAnswer,
+}
+
+impl Out {
+    ghost use Rattle.std.specs.Prelude.{◌≡◌};
+    ghost use Rattle.jc_model.specs.Group.{nothing_said, load_only, write_only};
+
+    /// Nobody was asked.
+    pub fn nothing_said() -> Out
+        ensures { result ≡ nothing_said }
+    {
+        Out {
+            load: LoadAnswer::NotAsked,
+            write: WriteAnswer::NotAsked,
+            process: ProcessAnswer::NotAsked,
+        }
+    }
+
+    /// The loader alone answered.
+    pub fn load_only(answer: LoadAnswer) -> Out
+        ensures { result ≡ load_only answer }
+    {
+        Out {
+            load: answer,
+            write: WriteAnswer::NotAsked,
+            process: ProcessAnswer::NotAsked,
+        }
+    }
+
+    /// The writer alone answered.
+    pub fn write_only(answer: WriteAnswer) -> Out
+        ensures { result ≡ write_only answer }
+    {
+        Out {
+            load: LoadAnswer::NotAsked,
+            write: answer,
+            process: ProcessAnswer::NotAsked,
+        }
+    }
 }
 
 /// What a step answers its caller.
@@ -142,16 +234,14 @@ pub enum Event {
     /// One operation on one key, made as one step.
     Step {
         /// Whose call it is.
-        session: u32,
-        /// The call's number, which rises in its session. The keys of a bulk call share it.
-        number: u64,
+        caller: Caller,
         /// What was asked of the cache.
         op: Op,
         /// The key that it was asked at.
         key: Key,
-        /// What was said outside.
+        /// The outside answers.
         out: Out,
-        /// Of a `Get` that joined a load: the place of the step whose load it was.
+        /// Of a `Get` that joined a load: the place of the step whose load it shares.
         shared_with: Option<u32>,
         /// What the caller was answered.
         reply: Reply,

@@ -2,7 +2,7 @@
 ghost use Rattle.std.specs.Prelude.{◌≡◌, ◌↔◌, IsTrue, IfOk};
 ghost use Rattle.std.specs.FinMap.{from_entries};
 ghost use Rattle.jc_model.specs.Listed.{apart};
-ghost use Rattle.jc_model.specs.Reader.{own_goes, victim_of, is_within, fits_evict, may_end, Accepts};
+ghost use Rattle.jc_model.specs.Reader.{own_goes, picked_victim, is_within, fits_evict, may_end, Accepts};
 
 mod fits;
 mod follows;
@@ -59,7 +59,7 @@ impl Opened {
 impl Stage {
     /// The victim of the group that comes next.
     fn victim(&self) -> Option<Key>
-        ensures { result ≡ victim_of self.now }
+        ensures { result ≡ picked_victim self.now }
     {
         match self {
             Stage::Picked(key) => Some(*key),

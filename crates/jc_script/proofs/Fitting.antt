@@ -6,7 +6,7 @@ use Rattle.std.proofs.lemmas.Cmp.{nat_list_eq_equiv}
 use Rattle.jc_model.specs.declared.event.LoadAnswer.{LoadAnswer}
 use Rattle.jc_model.specs.declared.event.LoadAnswer.TheVariants.{Found, Nothing, Failed}
 use Rattle.jc_model.specs.Cache.{Bytes}
-use Rattle.jc_model.specs.Table.{load_given}
+use Rattle.jc_model.specs.Table.{is_load_given}
 use Rattle.jc_model.proofs.Lookups.{both}
 use Rattle.jc_world.specs.declared.event.Part.{Part}
 use Rattle.jc_world.specs.declared.event.Under.{Under}
@@ -22,11 +22,11 @@ use Rattle.jc_script.specs.Faults.{may_drop, fits_now, act_fault}
 use Rattle.jc_script.specs.Transcript.{drop_events, events_of}
 
 -- what pairs say is an answer
-said_given : (pairs : Pairs) (answer : LoadAnswer) (key : Bytes) → load_given answer ≡ true → load_given (said_after answer pairs key) ≡ true
+said_given : (pairs : Pairs) (answer : LoadAnswer) (key : Bytes) → is_load_given answer ≡ true → is_load_given (said_after answer pairs key) ≡ true
 said_given [] answer key h = h
 said_given (pair ∷ pairs) answer key h = said_given pairs (cond (pointwise ◌==◌ pair.0 key) (Found pair.1) answer) key (either (pointwise ◌==◌ pair.0 key))
   where
-    either : (b : Bool) → load_given (cond b (Found pair.1) answer) ≡ true
+    either : (b : Bool) → is_load_given (cond b (Found pair.1) answer) ≡ true
     either true = refl
     either false = h
 

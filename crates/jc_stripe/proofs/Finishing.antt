@@ -6,7 +6,7 @@ use Rattle.jc_model.specs.declared.event.Out.{Out}
 use Rattle.jc_model.specs.declared.event.Reply.{Reply}
 use Rattle.jc_model.specs.declared.event.Cause.{Cause}
 use Rattle.jc_model.specs.Cache.{Bytes, entry_at}
-use Rattle.jc_model.specs.Table.{answers_fit, new_reply}
+use Rattle.jc_model.specs.Table.{answers_fit, reply_after}
 use Rattle.jc_model.specs.Group.{Group, victim_events, events_of, nothing_said}
 use Rattle.jc_entries.specs.ByUse.{ByUse}
 use Rattle.jc_history.specs.Past.{Past, promising}
@@ -50,13 +50,13 @@ abbrev pub done_at : Inside → ByUse → Past → Inside
 done_at i entries history = record i { entries = entries; history = history }
 
 pub done_steps : (i : Inside) (entries : ByUse) (promised_in history : Past) (keys : List Bytes) (session call : ℕ) (key : Bytes) (op : Op) (reply : Reply) (victim : Option Bytes) (evicted : Option Cause) (place kept : ℕ) → IsSound i
-    → IsTrue (answers_fit i.config op (entry_at (state_of i).cache key) nothing_said) → keys ≡ keys_of i.reservations.held → reply ≡ new_reply op (entry_at (state_of i).cache key) nothing_said
+    → IsTrue (answers_fit i.config op (entry_at (state_of i).cache key) nothing_said) → keys ≡ keys_of i.reservations.held → reply ≡ reply_after op (entry_at (state_of i).cache key) nothing_said
     → IsKeptSo i.entries keys key op nothing_said victim evicted entries → promised_in ≡ promising kept i.history → place ≡ length promised_in.events + length (victim_events victim)
     → history ≡ events_put (put_events (length promised_in.events) (made_of session call key op nothing_said reply victim evicted) []) kept promised_in
     → Steps (state_of i) session call key op nothing_said [] reply place (state_of (done_at i entries history))
 done_steps i entries promised_in history keys session call key op reply victim evicted place kept sound answers keys_are reply_is keeps promises place_is put =
     let m : State = state_of i in
-    let made = made_of session call key op nothing_said reply victim evicted in
+    let step = made_of session call key op nothing_said reply victim evicted in
     let events : promised_in.events ≡ i.history.events = ap (λ (p : Past). p.events) promises in
     let are : AreEntries m i.entries keys = record { list = sound.by_use; capacity = sound.capacity; cache = refl; pinned = keys_are ∙ sym (pinned-reserved_of i.reservations.held); used = sound.state.used } in
     steps_put m (state_of (done_at i entries history)) i.entries entries keys session call key op nothing_said [] made reply place are sound.state.few_entries answers tt
@@ -65,13 +65,13 @@ done_steps i entries promised_in history keys session call key op reply victim e
 
 pub done_sound : (i : Inside) (entries : ByUse) (promised_in history : Past) (keys : List Bytes) (session call : ℕ) (key : Bytes) (op : Op) (reply : Reply) (victim : Option Bytes) (evicted : Option Cause) (place kept : ℕ) → IsSound i
     → first_refusal (state_of i) call key op ≡ None → first_asked i.config op (entry_at (state_of i).cache key) ≡ Nobody → MayBegin (state_of i) session call key
-    → keys ≡ keys_of i.reservations.held → reply ≡ new_reply op (entry_at (state_of i).cache key) nothing_said
+    → keys ≡ keys_of i.reservations.held → reply ≡ reply_after op (entry_at (state_of i).cache key) nothing_said
     → IsKeptSo i.entries keys key op nothing_said victim evicted entries → promised_in ≡ promising kept i.history
     → history ≡ events_put (put_events (length promised_in.events) (made_of session call key op nothing_said reply victim evicted) []) kept promised_in
     → Steps (state_of i) session call key op nothing_said [] reply place (state_of (done_at i entries history)) → IsSound (done_at i entries history)
 done_sound i entries promised_in history keys session call key op reply victim evicted place kept sound none nobody may keys_are reply_is keeps promises put steps =
     let m : State = state_of i in
-    let made = made_of session call key op nothing_said reply victim evicted in
+    let step = made_of session call key op nothing_said reply victim evicted in
     let events : promised_in.events ≡ i.history.events = ap (λ (p : Past). p.events) promises in
     let are : AreEntries m i.entries keys = record { list = sound.by_use; capacity = sound.capacity; cache = refl; pinned = keys_are ∙ sym (pinned-reserved_of i.reservations.held); used = sound.state.used } in
     let after : history.events ≡ i.history.events ++ put_events (length i.history.events) made [] = ap (λ (p : Past). p.events) put ∙ (λ k. events k ++ put_events (length (events k)) made []) in
@@ -126,7 +126,7 @@ pub record IsCommit (i : Inside) (claim : Claim) (r : Reserved) (out : Out) (ent
   pub said : SaidFor r.first out
   pub released : table ≡ reserving.released i.reservations claim.key
   pub keys_are : keys ≡ keys_of table.held
-  pub replied : reply ≡ new_reply r.op (entry_at (state_of i).cache claim.key) out
+  pub replied : reply ≡ reply_after r.op (entry_at (state_of i).cache claim.key) out
   pub keeps : IsKeptSo i.entries keys claim.key r.op out victim evicted entries
   pub place_is : place ≡ length i.history.events + length (victim_events victim)
   pub put : history ≡ events_put (put_events (length i.history.events) (made_of r.session r.call claim.key r.op out reply victim evicted) (callers_of claim.number i.joiners)) kept i.history
@@ -151,7 +151,7 @@ pub commit_steps : (i : Inside) (claim : Claim) (r : Reserved) (out : Out) (entr
 commit_steps i claim r out entries table js history keys reply victim evicted place kept c =
     let m : State = settled (state_of i) claim place in
     let callers = callers_of claim.number i.joiners in
-    let made = made_of r.session r.call claim.key r.op out reply victim evicted in
+    let step = made_of r.session r.call claim.key r.op out reply victim evicted in
     steps_put m (state_of (committed_at i entries table js history)) i.entries entries keys r.session r.call claim.key r.op out callers made reply place
     (commit_entries i claim r out entries table js history keys reply victim evicted place kept c) c.sound.state.few_entries
     (said_fits i.config r.op (entry_at (state_of i).cache claim.key) r.first out (claim_asks (state_of i) claim r c.sound.state c.found) c.said)
@@ -165,7 +165,7 @@ pub commit_sound : (i : Inside) (claim : Claim) (r : Reserved) (out : Out) (entr
 commit_sound i claim r out entries table js history keys reply victim evicted place kept c =
     let m : State = settled (state_of i) claim place in
     let callers = callers_of claim.number i.joiners in
-    let made = made_of r.session r.call claim.key r.op out reply victim evicted in
+    let step = made_of r.session r.call claim.key r.op out reply victim evicted in
     let after : history.events ≡ i.history.events ++ put_events (length i.history.events) made callers = ap (λ (p : Past). p.events) c.put in
     let rest : map reserved_of table.held ≡ unreserved claim.key (state_of i).reservations = ap (λ (t : Table Note). map reserved_of t.held) c.released ∙ left-reserved_of claim.key i.reservations.held in
     let fewer : length (map reserved_of table.held) ≡ length (unreserved claim.key (state_of i).reservations) = ap length rest in
@@ -201,11 +201,11 @@ few_places false n one three = three
 
 -- what it puts down fits into the places that it needs
 pub done_few : (i : Inside) (entries : ByUse) (keys : List Bytes) (session call : ℕ) (key : Bytes) (op : Op) (reply : Reply) (victim : Option Bytes) (evicted : Option Cause) (place : ℕ) → IsSound i → first_refusal (state_of i) call key op ≡ None
-    → first_asked i.config op (entry_at (state_of i).cache key) ≡ Nobody → keys ≡ keys_of i.reservations.held → reply ≡ new_reply op (entry_at (state_of i).cache key) nothing_said
+    → first_asked i.config op (entry_at (state_of i).cache key) ≡ Nobody → keys ≡ keys_of i.reservations.held → reply ≡ reply_after op (entry_at (state_of i).cache key) nothing_said
     → IsKeptSo i.entries keys key op nothing_said victim evicted entries → length (put_events place (made_of session call key op nothing_said reply victim evicted) []) ≤ places (goes_on (state_of i) key op)
 done_few i entries keys session call key op reply victim evicted place sound none nobody keys_are reply_is keeps =
     let m : State = state_of i in
-    let made = made_of session call key op nothing_said reply victim evicted in
+    let step = made_of session call key op nothing_said reply victim evicted in
     let are : AreEntries m i.entries keys = record { list = sound.by_use; capacity = sound.capacity; cache = refl; pinned = keys_are ∙ sym (pinned-reserved_of i.reservations.held); used = sound.state.used } in
     let same = group_is m i.entries entries keys session call key op nothing_said [] made are (record { session_is = refl; call_is = refl; key_is = refl; op_is = refl; out_is = refl; reply_is = reply_is }) keeps in
     let events : length (put_events place made []) ≡ length (events_of place (group_made m session call key op nothing_said [] keeps.short)) = ap (λ (g : Group). length (events_of place g)) same in

@@ -9,7 +9,7 @@ use Rattle.jc_model.specs.declared.event.LoadAnswer.{LoadAnswer}
 use Rattle.jc_model.specs.declared.event.WriteAnswer.{WriteAnswer}
 use Rattle.jc_model.specs.declared.event.ProcessAnswer.TheVariants as process
 use Rattle.jc_model.specs.Cache.{Bytes}
-use Rattle.jc_model.specs.Table.{answers_fit, alike, load_given, write_given, write_ask}
+use Rattle.jc_model.specs.Table.{answers_fit, alike, is_load_given, is_write_given, write_ask}
 use Rattle.jc_model.specs.Group.{load_only, write_only, nothing_said}
 use Rattle.jc_stripe.specs.declared.ticket.First.{First}
 use Rattle.jc_stripe.specs.declared.ticket.First.TheVariants.{Nobody, Loader, Writer}
@@ -40,7 +40,7 @@ shape_failed true false w e g b = cc
 shape_failed false b' w e g b = cc
 
 -- where the loader was asked first, its answer is what the tables ask for
-pub loader_fits : (config : Config) (op : Op) (entry : Option Bytes) (answer : LoadAnswer) → first_asked config op entry ≡ Loader → load_given answer ≡ true → IsTrue (answers_fit config op entry (load_only answer))
+pub loader_fits : (config : Config) (op : Op) (entry : Option Bytes) (answer : LoadAnswer) → first_asked config op entry ≡ Loader → is_load_given answer ≡ true → IsTrue (answers_fit config op entry (load_only answer))
 loader_fits config Get entry answer h given = shape _ _ _ given (loader_due _ h)
 loader_fits config (LoadAll replace) entry answer h given = shape _ _ _ given (loader_due _ h)
 loader_fits config op entry answer h given = not_loader _ _ h _
@@ -56,7 +56,7 @@ written_shape false given asked change h g = cc
 written_shape w false asked change h g = cc
 
 -- where the writer was asked first, its answer is what the tables ask for
-pub writer_fits : (config : Config) (op : Op) (entry : Option Bytes) (answer : WriteAnswer) (change : Change) → first_asked config op entry ≡ Writer change → write_given answer ≡ true → IsTrue (answers_fit config op entry (write_only answer))
+pub writer_fits : (config : Config) (op : Op) (entry : Option Bytes) (answer : WriteAnswer) (change : Change) → first_asked config op entry ≡ Writer change → is_write_given answer ≡ true → IsTrue (answers_fit config op entry (write_only answer))
 writer_fits config Get entry answer change h given = no_writer _ change h _
 writer_fits config (LoadAll replace) entry answer change h given = no_writer _ change h _
 writer_fits config Invoke entry answer change h given = no_writer_asked config.write_through change h _
@@ -64,7 +64,7 @@ writer_fits config Invoke entry answer change h given = no_writer_asked config.w
     no_writer_asked : (b : Bool) (change : Change) → writer_if b None ≡ Writer change → (A : Type 0) → A
     no_writer_asked true change h A = cc
     no_writer_asked false change h A = cc
-writer_fits config op entry answer change h given = written_shape config.write_through (write_given answer) (write_ask op entry process.NotAsked) change h given
+writer_fits config op entry answer change h given = written_shape config.write_through (is_write_given answer) (write_ask op entry process.NotAsked) change h given
 
 -- what answers whom the call asked first fits
 pub said_fits : (config : Config) (op : Op) (entry : Option Bytes) (first : First) (out : Out) → first_asked config op entry ≡ first → SaidFor first out → IsTrue (answers_fit config op entry out)
@@ -73,9 +73,9 @@ said_fits config op entry Loader out asks said = ap (answers_fit config op entry
 said_fits config op entry (Writer change) out asks said = ap (answers_fit config op entry) said.1 ∙ writer_fits config op entry said.0 change asks said.2
 
 -- a loader that was asked has answered
-pub said_given : (first : First) (out : Out) → first ≡ Loader → SaidFor first out → load_given out.load ≡ true
+pub said_given : (first : First) (out : Out) → first ≡ Loader → SaidFor first out → is_load_given out.load ≡ true
 said_given Nobody out h said = absurd said
-said_given Loader out h said = ap (λ (o : Out). load_given o.load) said.1 ∙ said.2
+said_given Loader out h said = ap (λ (o : Out). is_load_given o.load) said.1 ∙ said.2
 said_given (Writer change) out h said = cc
 
 loads_nobody : (b : Bool) → loader_if b ≡ Nobody → b ≡ false

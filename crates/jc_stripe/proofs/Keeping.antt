@@ -10,7 +10,7 @@ use Rattle.jc_model.specs.declared.event.Cause.{Cause}
 use Rattle.jc_model.specs.declared.event.Cause.TheVariants.{Full, Memory}
 use Rattle.jc_model.specs.Cache.{Bytes, key_cmp}
 use Rattle.jc_model.specs.Listed.{others, listed}
-use Rattle.jc_model.specs.Table.{new_entry}
+use Rattle.jc_model.specs.Table.{entry_after}
 use Rattle.jc_model.proofs.Lookups.{find-others}
 use Rattle.jc_entries.specs.ByUse.{ByUse, evicted_of, without}
 use Rattle.jc_entries.specs.Inserting.{has_place, IsKeptAfter, IsPinnedOut, IsOutOfMemory, Inserts}
@@ -24,7 +24,7 @@ use Rattle.jc_stripe.specs.Putting.{IsKeptSo, inserts_into, overflows_in, victim
 pub record Uses (old : ByUse) (key value : Bytes) (op : Op) (out : Out) : Type 0 where
   pub few : length old.list ≤ old.capacity
   pub is_use : is_use op out ≡ true
-  pub entry : new_entry op (finite.find key_cmp key old.list) out ≡ Some value
+  pub entry : entry_after op (finite.find key_cmp key old.list) out ≡ Some value
 
 none_both : (b : Bool) → cond {A = Option Bytes} b None None ≡ None
 none_both true = refl
@@ -36,10 +36,10 @@ missing_without None key entries h = h
 missing_without (Some v) key entries h = find-others v entries key ∙ ap (cond (eq_by_cmp key_cmp key v) None) h ∙ none_both (eq_by_cmp key_cmp key v)
 
 -- the step's entry stands in front of the others, of which none has its key
-used_new : (entries : List (Bytes × Bytes)) (key value : Bytes) (op : Op) (out : Out) → is_use op out ≡ true → finite.find key_cmp key entries ≡ None → new_entry op None out ≡ Some value → used_at entries key op out ≡ (key, value) ∷ entries
+used_new : (entries : List (Bytes × Bytes)) (key value : Bytes) (op : Op) (out : Out) → is_use op out ≡ true → finite.find key_cmp key entries ≡ None → entry_after op None out ≡ Some value → used_at entries key op out ≡ (key, value) ∷ entries
 used_new entries key value op out is_used missing entry =
-    ap (λ b. cond b (listed key (new_entry op (finite.find key_cmp key entries) out) entries) entries) is_used
-    ∙ ap (λ o. listed key (new_entry op o out) entries) missing
+    ap (λ b. cond b (listed key (entry_after op (finite.find key_cmp key entries) out) entries) entries) is_used
+    ∙ ap (λ o. listed key (entry_after op o out) entries) missing
     ∙ ap (λ o. listed key o entries) entry
     ∙ ap (λ es. (key, value) ∷ es) (others-missing key entries missing)
 
@@ -66,8 +66,8 @@ pub record IsCrowded (old : ByUse) (key : Bytes) (op : Op) (out : Out) : Type 0 
   pub inserts : inserts_into old.list key op out ≡ true
   pub full : overflows_in old key op out ≡ true
 
-inserts_new : (entries : List (Bytes × Bytes)) (key value : Bytes) (op : Op) (out : Out) → finite.find key_cmp key entries ≡ None → new_entry op (finite.find key_cmp key entries) out ≡ Some value → inserts_into entries key op out ≡ true
-inserts_new entries key value op out missing entry = ap (λ o. is_none o && is_some (new_entry op (finite.find key_cmp key entries) out)) missing ∙ ap is_some entry
+inserts_new : (entries : List (Bytes × Bytes)) (key value : Bytes) (op : Op) (out : Out) → finite.find key_cmp key entries ≡ None → entry_after op (finite.find key_cmp key entries) out ≡ Some value → inserts_into entries key op out ≡ true
+inserts_new entries key value op out missing entry = ap (λ o. is_none o && is_some (entry_after op (finite.find key_cmp key entries) out)) missing ∙ ap is_some entry
 
 crowded : (old : ByUse) (key value : Bytes) (op : Op) (out : Out) → Uses old key value op out → has_place key old ≡ false → IsCrowded old key op out
 crowded old key value op out uses h =
@@ -81,8 +81,8 @@ crowded old key value op out uses h =
     }
 
 -- the entry of a missing key
-entry_new : (old : ByUse) (key value : Bytes) (op : Op) (out : Out) → finite.find key_cmp key old.list ≡ None → Uses old key value op out → new_entry op None out ≡ Some value
-entry_new old key value op out missing uses = ap (λ o. new_entry op o out) (sym missing) ∙ uses.entry
+entry_new : (old : ByUse) (key value : Bytes) (op : Op) (out : Out) → finite.find key_cmp key old.list ≡ None → Uses old key value op out → entry_after op None out ≡ Some value
+entry_new old key value op out missing uses = ap (λ o. entry_after op o out) (sym missing) ∙ uses.entry
 
 -- another entry went for it
 pub kept_after : (old new : ByUse) (key value : Bytes) (pinned : List Bytes) (victim : Bytes) (op : Op) (out : Out) → Uses old key value op out → IsKeptAfter old new key value pinned victim

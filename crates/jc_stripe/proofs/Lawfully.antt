@@ -13,8 +13,8 @@ use Rattle.jc_model.specs.declared.event.Cause.TheVariants.{Full, Memory}
 use Rattle.jc_model.specs.declared.event.Op.{Op}
 use Rattle.jc_model.specs.declared.event.Out.{Out}
 use Rattle.jc_model.specs.Cache.{Bytes, Cache, key_cmp, entry_at, with_entry}
-use Rattle.jc_model.specs.Table.{new_entry, new_reply, answers_fit, load_given}
-use Rattle.jc_model.specs.Group.{Group, events_of, history_of, left_after, cache_after, evict_own}
+use Rattle.jc_model.specs.Table.{entry_after, reply_after, answers_fit, is_load_given}
+use Rattle.jc_model.specs.Group.{Group, events_of, history_of, cache_after_group, cache_after_groups, without_own}
 use Rattle.jc_model.specs.Group as group
 use Rattle.jc_model.specs.Lawful.{IsLawful, AreLawful, evicted_fits, victim_fits, inserts, joined_fits, loads_whole}
 use Rattle.jc_model.proofs.Lookups.{same_cache, both, none_is, same_key, get-with_entry, insert-remove}
@@ -35,13 +35,13 @@ history-push place (x ∷ xs) g =
     ∙ ap (λ n. (events_of place x ++ history_of (place + length (events_of place x)) xs) ++ events_of n g)
     (omega (arith, length-append (events_of place x) (history_of (place + length (events_of place x)) xs)))
 
-pub lawful-push : (config : Config) (cache : Cache) (groups : List Group) (g : Group) → AreLawful config cache groups → IsLawful config (cache_after cache groups) g → AreLawful config cache (groups ++ g ∷ [])
+pub lawful-push : (config : Config) (cache : Cache) (groups : List Group) (g : Group) → AreLawful config cache groups → IsLawful config (cache_after_groups cache groups) g → AreLawful config cache (groups ++ g ∷ [])
 lawful-push config cache [] g all one = (one, tt)
-lawful-push config cache (x ∷ xs) g all one = (all.0, lawful-push config (left_after cache x) xs g all.1 one)
+lawful-push config cache (x ∷ xs) g all one = (all.0, lawful-push config (cache_after_group cache x) xs g all.1 one)
 
-pub cache_after-push : (cache : Cache) (groups : List Group) (g : Group) → cache_after cache (groups ++ g ∷ []) ≡ left_after (cache_after cache groups) g
+pub cache_after-push : (cache : Cache) (groups : List Group) (g : Group) → cache_after_groups cache (groups ++ g ∷ []) ≡ cache_after_group (cache_after_groups cache groups) g
 cache_after-push cache [] g = refl
-cache_after-push cache (x ∷ xs) g = cache_after-push (left_after cache x) xs g
+cache_after-push cache (x ∷ xs) g = cache_after-push (cache_after_group cache x) xs g
 
 -- 2. How many entries there are.
 
@@ -118,7 +118,7 @@ victim_known m key op out v used h =
       full = parts.1;
       least = known.1;
       there = least_used-there m v used known.1;
-      missing = none_is _ ((both (is_none (entry_at m.cache key)) (is_some (new_entry op (entry_at m.cache key) out)) parts.0).0);
+      missing = none_is _ ((both (is_none (entry_at m.cache key)) (is_some (entry_after op (entry_at m.cache key) out)) parts.0).0);
     }
 
 none_both : (b : Bool) → cond {A = Option Bytes} b None None ≡ None
@@ -155,7 +155,7 @@ all_four false b c d e f g h = cc
 -- whether the step inserts, as the group has it
 inserts_so : (m : State) (session call : ℕ) (key : Bytes) (op : Op) (out : Out) (callers : List (ℕ × ℕ)) (short : Bool) → IsUsed m
     → inserts m.cache (group_made m session call key op out callers short) ≡ inserts_here m key op out
-inserts_so m session call key op out callers short used = ap (λ o. is_none o && is_some (new_entry op o out)) (own_entry m key op out _ used refl)
+inserts_so m session call key op out callers short used = ap (λ o. is_none o && is_some (entry_after op o out)) (own_entry m key op out _ used refl)
 
 victim_fits_so : (m : State) (session call : ℕ) (key : Bytes) (op : Op) (out : Out) (callers : List (ℕ × ℕ)) (short : Bool) (victim : Option Bytes) → IsUsed m → victim_of m key op out ≡ victim
     → victim_fits m.config m.cache (group_made m session call key op out callers short) victim ≡ true
@@ -167,7 +167,7 @@ victim_fits_so m session call key op out callers short (Some v) used h =
 -- what a step must be for others to share its load, unless nobody does
 abbrev pub MayShare : State → Bytes → Op → Out → List (ℕ × ℕ) → Type 0
 MayShare m key op out [] = Unit {0}
-MayShare m key op out (c ∷ cs) = (m.config.read_through ≡ true) × (loads_whole op ≡ true) × (entry_at m.cache key ≡ None) × (load_given out.load ≡ true)
+MayShare m key op out (c ∷ cs) = (m.config.read_through ≡ true) × (loads_whole op ≡ true) × (entry_at m.cache key ≡ None) × (is_load_given out.load ≡ true)
 
 joined_so : (m : State) (session call : ℕ) (key : Bytes) (op : Op) (out : Out) (all : List (ℕ × ℕ)) (short : Bool) (callers : List (ℕ × ℕ)) → IsUsed m → MayShare m key op out callers
     → joined_fits m.config m.cache (group_made m session call key op out all short) callers ≡ true
@@ -196,7 +196,7 @@ evicted_so m session call key op out callers true true false v used hi hf hv = i
 evicted_so m session call key op out callers false true false v used hi hf hv = refl
 
 -- what came and goes leaves as many as there were
-len-went : (base : Cache) (capacity : ℕ) (key : Bytes) (entry : Option Bytes) (cause : Cause) → len base ≤ capacity → entry_at base key ≡ None → len (evict_own (with_entry base key entry) key (Some cause)) ≤ capacity
+len-went : (base : Cache) (capacity : ℕ) (key : Bytes) (entry : Option Bytes) (cause : Cause) → len base ≤ capacity → entry_at base key ≡ None → len (without_own (with_entry base key entry) key (Some cause)) ≤ capacity
 len-went base capacity key entry cause few missing = rw (come_and_gone base key entry missing) few
 
 not_full : (n capacity : ℕ) (a b : Bool) → n + 1 ≤ capacity → (a && b && (n == capacity)) ≡ false
@@ -207,7 +207,7 @@ not_full n capacity true true h = grind (arith, nat_tests)
 -- how many entries there are behind the group
 within_so : (m : State) (key : Bytes) (op : Op) (out : Out) (short : Bool) (victim : Option Bytes) (i f v : Bool) → IsUsed m → len m.cache ≤ m.config.capacity
     → victim_of m key op out ≡ victim → inserts_here m key op out ≡ i → overflows m key op out ≡ f → is_some victim ≡ v
-    → len (evict_own (with_entry (group.without m.cache victim) key (new_entry op (entry_at m.cache key) out)) key (own_cause i f v short)) ≤ m.config.capacity
+    → len (without_own (with_entry (group.without m.cache victim) key (entry_after op (entry_at m.cache key) out)) key (own_cause i f v short)) ≤ m.config.capacity
 within_so m key op out short None false f v used few hv hi hf hs = len-with_entry m.cache m.config.capacity key _ few (ap (λ b. b && (len m.cache == m.config.capacity)) hi)
 within_so m key op out true None true false v used few hv hi hf hs = len-went m.cache m.config.capacity key _ Memory few (none_is _ ((both (is_none (entry_at m.cache key)) _ hi).0))
 within_so m key op out false None true false v used few hv hi hf hs = len-with_entry m.cache m.config.capacity key _ few hf
@@ -226,7 +226,7 @@ within_so m key op out true (Some x) true true true used few hv hi hf hs =
 within_so m key op out false (Some x) true true true used few hv hi hf hs =
     let known = victim_known m key op out x used hv in
     let less = len-removed m.cache x known.there in
-    len-with_entry (remove m.cache x) m.config.capacity key _ (omega arith) (not_full (len (remove m.cache x)) m.config.capacity (is_none (entry_at (remove m.cache x) key)) (is_some (new_entry op (entry_at m.cache key) out)) (omega arith))
+    len-with_entry (remove m.cache x) m.config.capacity key _ (omega arith) (not_full (len (remove m.cache x)) m.config.capacity (is_none (entry_at (remove m.cache x) key)) (is_some (entry_after op (entry_at m.cache key) out)) (omega arith))
 
 -- the group of a step whose answers fit is lawful
 pub made_lawful : (m : State) (session call : ℕ) (key : Bytes) (op : Op) (out : Out) (callers : List (ℕ × ℕ)) (short : Bool) → IsUsed m → len m.cache ≤ m.config.capacity
@@ -238,7 +238,7 @@ made_lawful m session call key op out callers short used few answers may =
       step = record {
         seq = record {
           answers = ap (λ o. answers_fit m.config op o out) own ∙ answers;
-          reply = ap (λ o. new_reply op o out) (sym own);
+          reply = ap (λ o. reply_after op o out) (sym own);
           left = refl;
         };
         victim = victim_fits_so m session call key op out callers short (victim_of m key op out) used refl;

@@ -17,7 +17,7 @@ use Rattle.jc_model.specs.declared.event.Cause.{Cause}
 use Rattle.jc_model.specs.declared.event.LoadAnswer.{LoadAnswer}
 use Rattle.jc_model.specs.Cache.{Bytes, key_cmp}
 use Rattle.jc_model.specs.Listed.{others, listed}
-use Rattle.jc_model.specs.Table.{new_entry, new_reply}
+use Rattle.jc_model.specs.Table.{entry_after, reply_after}
 use Rattle.jc_model.specs.Group.{Group, victim_events, step_event, step_place, shared_event, evicted_events, events_of, load_only}
 use Rattle.jc_model.specs.Legal.{may_come, may_follow, in_order}
 use Rattle.jc_model.proofs.Lookups.{both, same_key}
@@ -86,17 +86,17 @@ behind-shared : (place : ℕ) (k : Bytes) (answer : LoadAnswer) (callers : List 
 behind-shared place k answer [] session number key h = refl
 behind-shared place k answer (c ∷ cs) session number key h =
     let parts = both (not (session == c.0) || ((number == c.1) && not (pointwise ◌==◌ key k))) (beside_callers session number key k cs) h in
-    join_and _ _ (comes_beside c.0 c.1 k Get (load_only answer) (Some place) (new_reply Get None (load_only answer)) session number key parts.0) (behind-shared place k answer cs session number key parts.1)
+    join_and _ _ (comes_beside c.0 c.1 k Get (load_only answer) (Some place) (reply_after Get None (load_only answer)) session number key parts.0) (behind-shared place k answer cs session number key parts.1)
 
 -- a step that is beside those of a group may come behind it
-pub behind-group : (place : ℕ) (g : Group) (session number : ℕ) (key : Bytes) → (not (session == g.session) || ((number == g.number) && not (pointwise ◌==◌ key g.made.key))) ≡ true
-    → beside_callers session number key g.made.key g.joined ≡ true → comes_behind (events_of place g) session number key ≡ true
+pub behind-group : (place : ℕ) (g : Group) (session number : ℕ) (key : Bytes) → (not (session == g.session) || ((number == g.number) && not (pointwise ◌==◌ key g.step.key))) ≡ true
+    → beside_callers session number key g.step.key g.joined ≡ true → comes_behind (events_of place g) session number key ≡ true
 behind-group place g session number key beside callers =
-    let shared : List Event = map (shared_event (step_place place g) g.made.key g.made.out.load) g.joined in
-    behind-append (victim_events g.victim ++ step_event g ∷ shared) (evicted_events g.made.key g.evicted) session number key
+    let shared : List Event = map (shared_event (step_place place g) g.step.key g.step.out.load) g.joined in
+    behind-append (victim_events g.victim ++ step_event g ∷ shared) (evicted_events g.step.key g.evicted) session number key
     (behind-append (victim_events g.victim) (step_event g ∷ shared) session number key (behind-victim g.victim session number key)
-    (join_and _ _ (comes_beside g.session g.number g.made.key g.made.op g.made.out None g.made.reply session number key beside) (behind-shared (step_place place g) g.made.key g.made.out.load g.joined session number key callers)))
-    (behind-evicted g.made.key g.evicted session number key)
+    (join_and _ _ (comes_beside g.session g.number g.step.key g.step.op g.step.out None g.step.reply session number key beside) (behind-shared (step_place place g) g.step.key g.step.out.load g.joined session number key callers)))
+    (behind-evicted g.step.key g.evicted session number key)
 
 -- 2. The order of the events.
 
@@ -151,7 +151,7 @@ order-shared xs place key answer (c ∷ cs) g h apart =
     let parts = both (comes_behind xs c.0 c.1 key) (callers_behind xs key cs) h in
     let aside = both (list_all (λ d. not (d.0 == c.0)) cs) (apart_callers cs) apart in
     ap in_order (sym (append_assoc xs (shared_event place key answer c ∷ []) (map (shared_event place key answer) cs)))
-    ∙ order-shared (xs ++ shared_event place key answer c ∷ []) place key answer cs (order-pushed xs c.0 c.1 Get key (load_only answer) (Some place) (new_reply Get None (load_only answer)) g parts.0) (callers_pushed xs c.0 c.1 key Get (load_only answer) (Some place) (new_reply Get None (load_only answer)) key cs aside.0 parts.1) aside.1
+    ∙ order-shared (xs ++ shared_event place key answer c ∷ []) place key answer cs (order-pushed xs c.0 c.1 Get key (load_only answer) (Some place) (reply_after Get None (load_only answer)) g parts.0) (callers_pushed xs c.0 c.1 key Get (load_only answer) (Some place) (reply_after Get None (load_only answer)) key cs aside.0 parts.1) aside.1
 
 -- what is known of who puts a group down
 pub record MayPut (events : List Event) (session call : ℕ) (key : Bytes) (callers : List (ℕ × ℕ)) : Type 0 where
@@ -167,20 +167,20 @@ callers_victim xs victim key (c ∷ cs) h =
     join_and _ _ (behind-append xs (victim_events victim) c.0 c.1 key parts.0 (behind-victim victim c.0 c.1 key)) (callers_victim xs victim key cs parts.1)
 
 -- a group more
-pub order-group : (xs : List Event) (place : ℕ) (g : Group) → in_order xs ≡ true → MayPut xs g.session g.number g.made.key g.joined → in_order (xs ++ events_of place g) ≡ true
+pub order-group : (xs : List Event) (place : ℕ) (g : Group) → in_order xs ≡ true → MayPut xs g.session g.number g.step.key g.joined → in_order (xs ++ events_of place g) ≡ true
 order-group xs place g order may =
-    let shared : List Event = map (shared_event (step_place place g) g.made.key g.made.out.load) g.joined in
+    let shared : List Event = map (shared_event (step_place place g) g.step.key g.step.out.load) g.joined in
     let one : List Event = xs ++ victim_events g.victim in
     let two : List Event = one ++ step_event g ∷ [] in
-    let order_two : in_order two ≡ true = order-pushed one g.session g.number g.made.op g.made.key g.made.out None g.made.reply (order-victim xs g.victim order)
-    (behind-append xs (victim_events g.victim) g.session g.number g.made.key may.behind (behind-victim g.victim g.session g.number g.made.key)) in
-    let behind_two : callers_behind two g.made.key g.joined ≡ true = callers_pushed one g.session g.number g.made.key g.made.op g.made.out None g.made.reply g.made.key g.joined may.callers_away
-    (callers_victim xs g.victim g.made.key g.joined may.callers_behind) in
-    let spelled : xs ++ events_of place g ≡ (two ++ shared) ++ evicted_events g.made.key g.evicted =
-    sym (append_assoc xs (victim_events g.victim ++ step_event g ∷ shared) (evicted_events g.made.key g.evicted))
-    ∙ ap (λ es. es ++ evicted_events g.made.key g.evicted) (sym (append_assoc xs (victim_events g.victim) (step_event g ∷ shared)) ∙ sym (append_assoc one (step_event g ∷ []) shared)) in
+    let order_two : in_order two ≡ true = order-pushed one g.session g.number g.step.op g.step.key g.step.out None g.step.reply (order-victim xs g.victim order)
+    (behind-append xs (victim_events g.victim) g.session g.number g.step.key may.behind (behind-victim g.victim g.session g.number g.step.key)) in
+    let behind_two : callers_behind two g.step.key g.joined ≡ true = callers_pushed one g.session g.number g.step.key g.step.op g.step.out None g.step.reply g.step.key g.joined may.callers_away
+    (callers_victim xs g.victim g.step.key g.joined may.callers_behind) in
+    let spelled : xs ++ events_of place g ≡ (two ++ shared) ++ evicted_events g.step.key g.evicted =
+    sym (append_assoc xs (victim_events g.victim ++ step_event g ∷ shared) (evicted_events g.step.key g.evicted))
+    ∙ ap (λ es. es ++ evicted_events g.step.key g.evicted) (sym (append_assoc xs (victim_events g.victim) (step_event g ∷ shared)) ∙ sym (append_assoc one (step_event g ∷ []) shared)) in
     ap in_order spelled
-    ∙ order-own (two ++ shared) g.made.key g.evicted (order-shared two (step_place place g) g.made.key g.made.out.load g.joined order_two behind_two may.callers_apart)
+    ∙ order-own (two ++ shared) g.step.key g.evicted (order-shared two (step_place place g) g.step.key g.step.out.load g.joined order_two behind_two may.callers_apart)
 
 -- 3. The stripe's keys.
 
@@ -197,13 +197,13 @@ own-evicted m key None h = refl
 own-evicted m key (Some cause) h = join_and _ _ h refl
 
 -- the events of a group are of the stripe's keys
-pub own-group : (m : State) (place : ℕ) (g : Group) → is_of m g.made.key ≡ true → ((v : Bytes) → g.victim ≡ Some v → is_of m v ≡ true) → list_all (is_own m) (events_of place g) ≡ true
+pub own-group : (m : State) (place : ℕ) (g : Group) → is_of m g.step.key ≡ true → ((v : Bytes) → g.victim ≡ Some v → is_of m v ≡ true) → list_all (is_own m) (events_of place g) ≡ true
 own-group m place g key victim =
-    let shared : List Event = map (shared_event (step_place place g) g.made.key g.made.out.load) g.joined in
-    list_all-append (is_own m) (victim_events g.victim ++ step_event g ∷ shared) (evicted_events g.made.key g.evicted)
+    let shared : List Event = map (shared_event (step_place place g) g.step.key g.step.out.load) g.joined in
+    list_all-append (is_own m) (victim_events g.victim ++ step_event g ∷ shared) (evicted_events g.step.key g.evicted)
     ∙ join_and _ _
-    (list_all-append (is_own m) (victim_events g.victim) (step_event g ∷ shared) ∙ join_and _ _ (own-victim m g.victim victim) (join_and _ _ key (own-shared m (step_place place g) g.made.key g.made.out.load g.joined key)))
-    (own-evicted m g.made.key g.evicted key)
+    (list_all-append (is_own m) (victim_events g.victim) (step_event g ∷ shared) ∙ join_and _ _ (own-victim m g.victim victim) (join_and _ _ key (own-shared m (step_place place g) g.step.key g.step.out.load g.joined key)))
+    (own-evicted m g.step.key g.evicted key)
 
 -- what is found among entries of the stripe's keys is of the stripe
 own_found : (m : State) (v : Bytes) (entries : List (Bytes × Bytes)) → is_some (finite.find key_cmp v entries) ≡ true → list_all (λ entry. is_of m entry.0) entries ≡ true → is_of m v ≡ true
@@ -234,8 +234,8 @@ own_without m None entries h = h
 own_without m (Some v) entries h = own_others m v entries h
 
 own_used : (m : State) (key : Bytes) (op : Op) (out : Out) (entries : List (Bytes × Bytes)) → is_of m key ≡ true → list_all (λ e. is_of m e.0) entries ≡ true → list_all (λ e. is_of m e.0) (used_at entries key op out) ≡ true
-own_used m key op out entries k h = elim (is_use op out) as (λ b. list_all (λ e. is_of m e.0) (cond b (listed key (new_entry op (finite.find key_cmp key entries) out) entries) entries) ≡ true) [
-  | true ↦ own_listed m key (new_entry op (finite.find key_cmp key entries) out) entries k h
+own_used m key op out entries k h = elim (is_use op out) as (λ b. list_all (λ e. is_of m e.0) (cond b (listed key (entry_after op (finite.find key_cmp key entries) out) entries) entries) ≡ true) [
+  | true ↦ own_listed m key (entry_after op (finite.find key_cmp key entries) out) entries k h
   | false ↦ h
 ]
 

@@ -11,7 +11,7 @@ use Rattle.jc_model.specs.declared.event.Event.TheVariants.{Step}
 use Rattle.jc_model.specs.declared.event.LoadAnswer.{LoadAnswer}
 use Rattle.jc_model.specs.declared.event.WriteAnswer.{WriteAnswer}
 use Rattle.jc_model.specs.Cache.{Bytes}
-use Rattle.jc_model.specs.Table.{load_given, write_given}
+use Rattle.jc_model.specs.Table.{is_load_given, is_write_given}
 use Rattle.jc_model.specs.Group.{load_only, write_only}
 use Rattle.jc_model.proofs.Lookups.{both, same_key}
 use Rattle.jc_inflight.specs.declared.joiner.Joiner.{Joiner}
@@ -122,11 +122,11 @@ told_joined session number key js there h = let none = told_none (is_of session 
 
 -- 3. What is known of a reservation whose answer came.
 
-pub said_load : (o : Option Reserved) (out : Out) (answer : LoadAnswer) → IsSomeAnd o (λ r. r.first ≡ Loader) → out ≡ load_only answer → load_given answer ≡ true → IsSomeAnd o (λ r. SaidFor r.first out)
+pub said_load : (o : Option Reserved) (out : Out) (answer : LoadAnswer) → IsSomeAnd o (λ r. r.first ≡ Loader) → out ≡ load_only answer → is_load_given answer ≡ true → IsSomeAnd o (λ r. SaidFor r.first out)
 said_load None out answer h e g = h
 said_load (Some r) out answer h e g = subst (λ f. SaidFor f out) (sym h) (answer, e, g)
 
-pub said_write : (o : Option Reserved) (out : Out) (answer : WriteAnswer) (change : Change) → IsSomeAnd o (λ r. r.first ≡ Writer change) → out ≡ write_only answer → write_given answer ≡ true → IsSomeAnd o (λ r. SaidFor r.first out)
+pub said_write : (o : Option Reserved) (out : Out) (answer : WriteAnswer) (change : Change) → IsSomeAnd o (λ r. r.first ≡ Writer change) → out ≡ write_only answer → is_write_given answer ≡ true → IsSomeAnd o (λ r. SaidFor r.first out)
 said_write None out answer change h e g = h
 said_write (Some r) out answer change h e g = subst (λ f. SaidFor f out) (sym h) (answer, e, g)
 

@@ -10,7 +10,7 @@ use Rattle.jc_model.specs.declared.event.Out.{Out}
 use Rattle.jc_model.specs.declared.event.Reply.{Reply}
 use Rattle.jc_model.specs.declared.event.Event.{Event}
 use Rattle.jc_model.specs.Cache.{Bytes, entry_at}
-use Rattle.jc_model.specs.Table.{new_entry}
+use Rattle.jc_model.specs.Table.{entry_after}
 use Rattle.jc_model.specs.Group.{Group, nothing_said, events_of}
 use Rattle.jc_model.specs.Legal.{Legal, IsHistory, of_one_stripe, event_key}
 use Rattle.jc_model.proofs.Lookups.{both}
@@ -75,7 +75,7 @@ pub begins_done : (old new : State) (session call : ℕ) (key : Bytes) (op : Op)
 begins_done old new session call key op reply place reached may none nobody steps =
     let g : Group = group_made old session call key op nothing_said [] steps.short in
     let more : List Event = events_of (length old.history) g in
-    let passing : goes_on old key op ≡ true → new_entry op (entry_at old.cache key) nothing_said ≡ entry_at old.cache key = λ e. passing_keeps old.config op (entry_at old.cache key) (alone_passes old key op nobody e) in
+    let passing : goes_on old key op ≡ true → entry_after op (entry_at old.cache key) nothing_said ≡ entry_at old.cache key = λ e. passing_keeps old.config op (entry_at old.cache key) (alone_passes old key op nobody e) in
     let room = roomy old call (places (goes_on old key op)) (not_refused old call key op none).room in
     let few : length more ≤ places (goes_on old key op) = few_done (goes_on old key op) (length more) (λ e. one_event old session call key op nothing_said steps.short (length old.history) (passing e))
     (few_events (length old.history) g) in

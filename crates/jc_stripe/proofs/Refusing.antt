@@ -8,7 +8,7 @@ use Rattle.jc_model.specs.declared.event.Op.{Op}
 use Rattle.jc_model.specs.declared.event.Op.TheVariants.{Get, ContainsKey}
 use Rattle.jc_model.specs.declared.event.Change.{Change}
 use Rattle.jc_model.specs.Cache.{Bytes, entry_at}
-use Rattle.jc_model.specs.Table.{new_entry}
+use Rattle.jc_model.specs.Table.{entry_after}
 use Rattle.jc_model.specs.Group.{nothing_said}
 use Rattle.jc_model.proofs.Lookups.{both}
 use Rattle.jc_stripe.specs.declared.ticket.First.{First}
@@ -89,7 +89,7 @@ passing_asks config ContainsKey entry h = asks_none config.write_through
 passing_asks config op entry h = cc
 
 -- a call that passes leaves the entry
-pub passing_keeps : (config : Config) (op : Op) (entry : Option Bytes) → passes config op entry ≡ true → new_entry op entry nothing_said ≡ entry
+pub passing_keeps : (config : Config) (op : Op) (entry : Option Bytes) → passes config op entry ≡ true → entry_after op entry nothing_said ≡ entry
 passing_keeps config Get entry h = refl
 passing_keeps config ContainsKey entry h = refl
 passing_keeps config op entry h = cc

@@ -15,8 +15,8 @@ use Rattle.jc_model.specs.declared.event.Out.{Out}
 use Rattle.jc_model.specs.declared.event.Cause.{Cause}
 use Rattle.jc_model.specs.declared.event.LoadAnswer.{LoadAnswer}
 use Rattle.jc_model.specs.Cache.{Bytes, Cache, key_cmp, entry_at, with_entry}
-use Rattle.jc_model.specs.Table.{new_entry, new_reply}
-use Rattle.jc_model.specs.Group.{Group, load_only, victim_events, step_event, step_place, shared_event, evicted_events, events_of, history_of, left_after, evict_own, cache_after}
+use Rattle.jc_model.specs.Table.{entry_after, reply_after}
+use Rattle.jc_model.specs.Group.{Group, load_only, victim_events, step_event, step_place, shared_event, evicted_events, events_of, history_of, cache_after_group, without_own, cache_after_groups}
 use Rattle.jc_model.specs.Group as group
 use Rattle.jc_model.specs.Lawful.{IsLawful}
 use Rattle.jc_model.specs.Legal.{IsHistory, in_order}
@@ -41,20 +41,20 @@ legal_on m start g legal lawful order = record {
   groups = legal.groups ++ g ∷ [];
   spelled = ap (λ h. h ++ events_of (length h) g) legal.spelled ∙ sym (history-push 0 legal.groups g ∙ ap (λ n. history_of 0 legal.groups ++ events_of n g) (zero-add (length (history_of 0 legal.groups))));
   lawful = lawful-push m.config start legal.groups g legal.lawful (let P : Cache → Type 0 = λ c. IsLawful m.config c g in subst P legal.left lawful);
-  left = ap (λ c. left_after c g) legal.left ∙ sym (cache_after-push start legal.groups g);
+  left = ap (λ c. cache_after_group c g) legal.left ∙ sym (cache_after-push start legal.groups g);
   order = order;
 }
 
 -- the entries by use behind a group
 pub by_use_on : (m : State) (g : Group)
-    → by_use (gone_on m g).opening (gone_on m g).history ≡ entries_left (by_use m.opening m.history) g.made.key g.made.op g.made.out g.victim g.evicted
+    → by_use (gone_on m g).opening (gone_on m g).history ≡ entries_left (by_use m.opening m.history) g.step.key g.step.op g.step.out g.victim g.evicted
 by_use_on m g = by_use-append m.opening m.history (events_of (length m.history) g) ∙ by_use-group (by_use m.opening m.history) (length m.history) g
 
-pub used_on : (m : State) (g : Group) → IsUsed m → is_of m g.made.key ≡ true → IsUsed (gone_on m g)
+pub used_on : (m : State) (g : Group) → IsUsed m → is_of m g.step.key ≡ true → IsUsed (gone_on m g)
 used_on m g used key = record {
-  once = rw (by_use_on m g) (apart-left (by_use m.opening m.history) g.made.key g.made.op g.made.out g.victim g.evicted used.once);
-  own = rw (by_use_on m g) (own_left m (by_use m.opening m.history) g.made.key g.made.op g.made.out g.victim g.evicted key used.own);
-  cache = ap (λ c. left_after c g) used.cache ∙ sym (from-left (by_use m.opening m.history) g) ∙ ap (from_entries {R = key_cmp}) (sym (by_use_on m g));
+  once = rw (by_use_on m g) (apart-left (by_use m.opening m.history) g.step.key g.step.op g.step.out g.victim g.evicted used.once);
+  own = rw (by_use_on m g) (own_left m (by_use m.opening m.history) g.step.key g.step.op g.step.out g.victim g.evicted key used.own);
+  cache = ap (λ c. cache_after_group c g) used.cache ∙ sym (from-left (by_use m.opening m.history) g) ∙ ap (from_entries {R = key_cmp}) (sym (by_use_on m g));
 }
 
 -- the events are of the stripe's keys
@@ -101,15 +101,15 @@ none_inserted : (entry left : Option Bytes) → left ≡ entry → (is_none entr
 none_inserted None left same = ap is_some same
 none_inserted (Some x) left same = refl
 
-pub not_inserted : (m : State) (key : Bytes) (op : Op) (out : Out) → new_entry op (entry_at m.cache key) out ≡ entry_at m.cache key → inserts_here m key op out ≡ false
-not_inserted m key op out same = none_inserted (entry_at m.cache key) (new_entry op (entry_at m.cache key) out) same
+pub not_inserted : (m : State) (key : Bytes) (op : Op) (out : Out) → entry_after op (entry_at m.cache key) out ≡ entry_at m.cache key → inserts_here m key op out ≡ false
+not_inserted m key op out same = none_inserted (entry_at m.cache key) (entry_after op (entry_at m.cache key) out) same
 
 cond_same : {A : Type 0} (b : Bool) (x y : A) → (b ≡ true → x ≡ y) → cond b x y ≡ y
 cond_same true x y h = h refl
 cond_same false x y h = refl
 
 -- what is left of an entry once the step's own is out
-own_out : (cache : Cache) (key q : Bytes) (entry : Option Bytes) (cause : Option Cause) → eq_by_cmp key_cmp q key ≡ false → entry_at (evict_own (with_entry cache key entry) key cause) q ≡ entry_at cache q
+own_out : (cache : Cache) (key q : Bytes) (entry : Option Bytes) (cause : Option Cause) → eq_by_cmp key_cmp q key ≡ false → entry_at (without_own (with_entry cache key entry) key cause) q ≡ entry_at cache q
 own_out cache key q entry None apart = get-with_entry cache key entry q ∙ ap (λ b. cond b entry (entry_at cache q)) apart
 own_out cache key q entry (Some cause) apart =
     get-remove nat_list_cmp_total (with_entry cache key entry) key q ∙ ap (λ b. cond b None (entry_at (with_entry cache key entry) q)) apart
@@ -117,23 +117,23 @@ own_out cache key q entry (Some cause) apart =
 
 -- the entry of a reserved key stays, and that of the step's key where the step leaves it
 pub kept_on : (m : State) (session call : ℕ) (key : Bytes) (op : Op) (out : Out) (callers : List (ℕ × ℕ)) (short : Bool) (q : Bytes) → IsUsed m → list_any (is_key q) m.reservations ≡ true
-    → (q ≡ key → new_entry op (entry_at m.cache key) out ≡ entry_at m.cache key) → entry_at (left_after m.cache (group_made m session call key op out callers short)) q ≡ entry_at m.cache q
+    → (q ≡ key → entry_after op (entry_at m.cache key) out ≡ entry_at m.cache key) → entry_at (cache_after_group m.cache (group_made m session call key op out callers short)) q ≡ entry_at m.cache q
 kept_on m session call key op out callers short q used there keeps = go (eq_by_cmp key_cmp q key) refl
   where
     base : Cache
     base = group.without m.cache (victim_of m key op out)
 
     left : Option Bytes
-    left = new_entry op (entry_at base key) out
+    left = entry_after op (entry_at base key) out
 
-    here : (i : Bool) → inserts_here m key op out ≡ i → i ≡ false → new_entry op (entry_at m.cache key) out ≡ entry_at m.cache key → q ≡ key
-        → entry_at (evict_own (with_entry base key left) key (own_cause i (overflows m key op out) (is_some (victim_of m key op out)) short)) q ≡ entry_at m.cache q
+    here : (i : Bool) → inserts_here m key op out ≡ i → i ≡ false → entry_after op (entry_at m.cache key) out ≡ entry_at m.cache key → q ≡ key
+        → entry_at (without_own (with_entry base key left) key (own_cause i (overflows m key op out) (is_some (victim_of m key op out)) short)) q ≡ entry_at m.cache q
     here true e f same is = cc
     here false e f same is =
         get-with_entry base key left q ∙ ap (λ b. cond b left (entry_at base q)) (ap (λ k. eq_by_cmp key_cmp k key) is ∙ (eq_by_cmp_equiv nat_list_cmp_total).refl key)
-        ∙ ap (λ o. new_entry op o out) (own_entry m key op out _ used refl) ∙ same ∙ ap (entry_at m.cache) (sym is)
+        ∙ ap (λ o. entry_after op o out) (own_entry m key op out _ used refl) ∙ same ∙ ap (entry_at m.cache) (sym is)
 
-    go : (b : Bool) → eq_by_cmp key_cmp q key ≡ b → entry_at (left_after m.cache (group_made m session call key op out callers short)) q ≡ entry_at m.cache q
+    go : (b : Bool) → eq_by_cmp key_cmp q key ≡ b → entry_at (cache_after_group m.cache (group_made m session call key op out callers short)) q ≡ entry_at m.cache q
     go true e = let is = same_key q key e in here (inserts_here m key op out) refl (not_inserted m key op out (keeps is)) (keeps is) is
     go false e = own_out base key q left _ e ∙ kept_without m key op out q (victim_of m key op out) used refl there
 
@@ -153,31 +153,31 @@ all_swap {A} {B} p xs (y ∷ ys) h = join_and _ _ (firsts xs h) (all_swap p xs y
     rests (x ∷ xs) h = let parts = both (p x y && list_all (p x) ys) (list_all (λ x. list_all (p x) (y ∷ ys)) xs) h in join_and _ _ (both (p x y) (list_all (p x) ys) parts.0).1 (rests xs parts.1)
 
 -- the steps of reservations that are beside those of the group may still come
-pub ends_on : (history : List Event) (place : ℕ) (g : Group) (rs : List Reserved) → list_all (may_end history) rs ≡ true → list_all (is_beside g.session g.number g.made.key) rs ≡ true
-    → list_all (λ r. list_all (λ c. is_beside c.0 c.1 g.made.key r) g.joined) rs ≡ true → list_all (may_end (history ++ events_of place g)) rs ≡ true
+pub ends_on : (history : List Event) (place : ℕ) (g : Group) (rs : List Reserved) → list_all (may_end history) rs ≡ true → list_all (is_beside g.session g.number g.step.key) rs ≡ true
+    → list_all (λ r. list_all (λ c. is_beside c.0 c.1 g.step.key r) g.joined) rs ≡ true → list_all (may_end (history ++ events_of place g)) rs ≡ true
 ends_on history place g [] ends beside callers = refl
 ends_on history place g (r ∷ rs) ends beside callers =
     let e = both (may_end history r) (list_all (may_end history) rs) ends in
-    let b = both (is_beside g.session g.number g.made.key r) (list_all (is_beside g.session g.number g.made.key) rs) beside in
-    let c = both (list_all (λ c. is_beside c.0 c.1 g.made.key r) g.joined) (list_all (λ r. list_all (λ c. is_beside c.0 c.1 g.made.key r) g.joined) rs) callers in
+    let b = both (is_beside g.session g.number g.step.key r) (list_all (is_beside g.session g.number g.step.key) rs) beside in
+    let c = both (list_all (λ c. is_beside c.0 c.1 g.step.key r) g.joined) (list_all (λ r. list_all (λ c. is_beside c.0 c.1 g.step.key r) g.joined) rs) callers in
     join_and _ _ (behind-append history (events_of place g) r.session r.call r.key e.0 (behind-group place g r.session r.call r.key b.0 c.0)) (ends_on history place g rs e.1 b.1 c.1)
 
 -- so may those of joiners that wait
-pub shares_on : (history : List Event) (place : ℕ) (g : Group) (js : List Joiner) → list_all (may_share history) js ≡ true → list_all (λ j. not (waits j) || is_apart g.session g.number g.made.key j) js ≡ true
-    → list_all (λ j. list_all (λ c. not (waits j) || is_apart c.0 c.1 g.made.key j) g.joined) js ≡ true → list_all (may_share (history ++ events_of place g)) js ≡ true
+pub shares_on : (history : List Event) (place : ℕ) (g : Group) (js : List Joiner) → list_all (may_share history) js ≡ true → list_all (λ j. not (waits j) || is_apart g.session g.number g.step.key j) js ≡ true
+    → list_all (λ j. list_all (λ c. not (waits j) || is_apart c.0 c.1 g.step.key j) g.joined) js ≡ true → list_all (may_share (history ++ events_of place g)) js ≡ true
 shares_on history place g [] shares apart callers = refl
 shares_on history place g (j ∷ js) shares apart callers =
     let s = both (may_share history j) (list_all (may_share history) js) shares in
-    let a = both (not (waits j) || is_apart g.session g.number g.made.key j) (list_all (λ j. not (waits j) || is_apart g.session g.number g.made.key j) js) apart in
-    let c = both (list_all (λ c. not (waits j) || is_apart c.0 c.1 g.made.key j) g.joined) (list_all (λ j. list_all (λ c. not (waits j) || is_apart c.0 c.1 g.made.key j) g.joined) js) callers in
+    let a = both (not (waits j) || is_apart g.session g.number g.step.key j) (list_all (λ j. not (waits j) || is_apart g.session g.number g.step.key j) js) apart in
+    let c = both (list_all (λ c. not (waits j) || is_apart c.0 c.1 g.step.key j) g.joined) (list_all (λ j. list_all (λ c. not (waits j) || is_apart c.0 c.1 g.step.key j) g.joined) js) callers in
     join_and _ _ (one (waits j) g.joined s.0 a.0 c.0) (shares_on history place g js s.1 a.1 c.1)
   where
-    each : (callers : List (ℕ × ℕ)) → list_all (λ c. false || is_apart c.0 c.1 g.made.key j) callers ≡ true → list_all (λ c. is_apart c.0 c.1 g.made.key j) callers ≡ true
+    each : (callers : List (ℕ × ℕ)) → list_all (λ c. false || is_apart c.0 c.1 g.step.key j) callers ≡ true → list_all (λ c. is_apart c.0 c.1 g.step.key j) callers ≡ true
     each [] h = refl
     each (c ∷ cs) h = h
 
-    one : (w : Bool) (callers : List (ℕ × ℕ)) → (not w || comes_behind history j.session j.number j.key) ≡ true → (not w || is_apart g.session g.number g.made.key j) ≡ true
-        → list_all (λ c. not w || is_apart c.0 c.1 g.made.key j) g.joined ≡ true → (not w || comes_behind (history ++ events_of place g) j.session j.number j.key) ≡ true
+    one : (w : Bool) (callers : List (ℕ × ℕ)) → (not w || comes_behind history j.session j.number j.key) ≡ true → (not w || is_apart g.session g.number g.step.key j) ≡ true
+        → list_all (λ c. not w || is_apart c.0 c.1 g.step.key j) g.joined ≡ true → (not w || comes_behind (history ++ events_of place g) j.session j.number j.key) ≡ true
     one false callers s a c = refl
     one true callers s a c = behind-append history (events_of place g) j.session j.number j.key s (behind-group place g j.session j.number j.key a c)
 
@@ -199,21 +199,21 @@ length-shared place key answer (c ∷ cs) = ap suc (length-shared place key answ
 -- three, and one for each that shares its load
 pub few_events : (place : ℕ) (g : Group) → length (events_of place g) ≤ 3 + length g.joined
 few_events place g =
-    let shared : List Event = map (shared_event (step_place place g) g.made.key g.made.out.load) g.joined in
-    let own : List Event = evicted_events g.made.key g.evicted in
+    let shared : List Event = map (shared_event (step_place place g) g.step.key g.step.out.load) g.joined in
+    let own : List Event = evicted_events g.step.key g.evicted in
     let all : length (events_of place g) ≡ length (victim_events g.victim) + length (step_event g ∷ shared) + length own =
     length-append (victim_events g.victim ++ step_event g ∷ shared) own ∙ ap (λ n. n + length own) (length-append (victim_events g.victim) (step_event g ∷ shared)) in
-    let n = length-shared (step_place place g) g.made.key g.made.out.load g.joined in
-    let few = length-victim g.victim g.made.key g.evicted in
+    let n = length-shared (step_place place g) g.step.key g.step.out.load g.joined in
+    let few = length-victim g.victim g.step.key g.evicted in
     omega arith
 
 -- one, where the step leaves its entry and nobody shares its load
-pub one_event : (m : State) (session call : ℕ) (key : Bytes) (op : Op) (out : Out) (short : Bool) (place : ℕ) → new_entry op (entry_at m.cache key) out ≡ entry_at m.cache key
+pub one_event : (m : State) (session call : ℕ) (key : Bytes) (op : Op) (out : Out) (short : Bool) (place : ℕ) → entry_after op (entry_at m.cache key) out ≡ entry_at m.cache key
     → length (events_of place (group_made m session call key op out [] short)) ≤ 1
 one_event m session call key op out short place same = go (inserts_here m key op out) (not_inserted m key op out same)
   where
     go : (i : Bool) → i ≡ false
-        → length (victim_events (cond (i && (len m.cache == m.config.capacity)) (least_used m) None) ++ (Step session call op key out None (new_reply op (entry_at m.cache key) out) ∷ [])
+        → length (victim_events (cond (i && (len m.cache == m.config.capacity)) (least_used m) None) ++ (Step session call op key out None (reply_after op (entry_at m.cache key) out) ∷ [])
         ++ evicted_events key (own_cause i (i && (len m.cache == m.config.capacity)) (is_some (cond (i && (len m.cache == m.config.capacity)) (least_used m) None)) short)) ≤ 1
     go true h = cc
     go false h = omega arith

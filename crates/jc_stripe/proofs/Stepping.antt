@@ -6,8 +6,8 @@ use Rattle.jc_model.specs.declared.event.Out.{Out}
 use Rattle.jc_model.specs.declared.event.Reply.{Reply}
 use Rattle.jc_model.specs.Cache.{Bytes, key_cmp, entry_at}
 use Rattle.jc_model.specs.Listed.{apart}
-use Rattle.jc_model.specs.Table.{answers_fit, new_entry, new_reply}
-use Rattle.jc_model.specs.Group.{Group, victim_events, events_of, step_place, left_after}
+use Rattle.jc_model.specs.Table.{answers_fit, entry_after, reply_after}
+use Rattle.jc_model.specs.Group.{Group, victim_events, events_of, step_place, cache_after_group}
 use Rattle.jc_model.proofs.Lookups.{len-apart}
 use Rattle.jc_entries.specs.ByUse.{ByUse, evicted_of}
 use Rattle.jc_stripe.specs.declared.putting.Putting.{Putting}
@@ -32,7 +32,7 @@ pub record AreEntries (m : State) (entries : ByUse) (keys : List Bytes) : Type 0
 
 inserts_is : (m : State) (entries : ByUse) (keys : List Bytes) (key : Bytes) (op : Op) (out : Out) → AreEntries m entries keys → inserts_into entries.list key op out ≡ inserts_here m key op out
 inserts_is m entries keys key op out are =
-    ap (λ o. is_none o && is_some (new_entry op o out)) (find-entry entries.list key ∙ ap (λ c. entry_at c key) (sym are.cache))
+    ap (λ o. is_none o && is_some (entry_after op o out)) (find-entry entries.list key ∙ ap (λ c. entry_at c key) (sym are.cache))
 
 length_is : (m : State) (entries : ByUse) (keys : List Bytes) → AreEntries m entries keys → length entries.list ≡ len m.cache
 length_is m entries keys are = sym (ap len are.cache ∙ len-apart entries.list (ap apart are.list ∙ are.used.once))
@@ -52,7 +52,7 @@ group_put made callers =
       victim = made.victim;
       session = made.who.session;
       number = made.who.number;
-      made = record { op = made.op; key = made.key; out = made.out; reply = made.reply };
+      step = record { op = made.op; key = made.key; out = made.out; reply = made.reply };
       joined = callers;
       evicted = made.evicted;
     }
@@ -68,7 +68,7 @@ pub record IsMade (m : State) (session call : ℕ) (key : Bytes) (op : Op) (out 
   pub key_is : made.key ≡ key
   pub op_is : made.op ≡ op
   pub out_is : made.out ≡ out
-  pub reply_is : made.reply ≡ new_reply op (entry_at m.cache key) out
+  pub reply_is : made.reply ≡ reply_after op (entry_at m.cache key) out
 
 -- its group is that of the phase machine
 pub group_is : (m : State) (entries next : ByUse) (keys : List Bytes) (session call : ℕ) (key : Bytes) (op : Op) (out : Out) (callers : List (ℕ × ℕ)) (made : Putting) → AreEntries m entries keys → IsMade m session call key op out made
@@ -81,7 +81,7 @@ group_is m entries next keys session call key op out callers made are is kept =
       victim = victim i;
       session = is.session_is i;
       number = is.call_is i;
-      made = record { op = is.op_is i; key = is.key_is i; out = is.out_is i; reply = is.reply_is i };
+      step = record { op = is.op_is i; key = is.key_is i; out = is.out_is i; reply = is.reply_is i };
       joined = callers;
       evicted = evicted i;
     }
@@ -94,11 +94,11 @@ pub steps_put : (m new : State) (entries next : ByUse) (keys : List Bytes) (sess
 steps_put m new entries next keys session call key op out callers made told place are few answers may is kept told_is place_is new_is =
     let g : Group = group_made m session call key op out callers kept.short in
     let same = group_is m entries next keys session call key op out callers made are is kept in
-    let cache : from_entries {R = key_cmp} next.list ≡ left_after m.cache g =
+    let cache : from_entries {R = key_cmp} next.list ≡ cache_after_group m.cache g =
     ap (λ (e : ByUse). from_entries {R = key_cmp} e.list) kept.left
     ∙ (λ i. from_entries {R = key_cmp} (entries_left entries.list (sym is.key_is i) (sym is.op_is i) (sym is.out_is i) made.victim made.evicted))
     ∙ from-left entries.list (group_put made callers)
-    ∙ (λ i. left_after (sym are.cache i) (same i)) in
+    ∙ (λ i. cache_after_group (sym are.cache i) (same i)) in
     record {
       short = kept.short;
       lawful = made_lawful m session call key op out callers kept.short are.used few answers may;

@@ -188,19 +188,19 @@ own-shared other js place key answer (c ∷ cs) h =
     λ i. cond (test i) (shared_event place key answer c ∷ rest i) (rest i)
 
 -- a group whose callers' steps are parked has own steps of its session alone
-own-group : (other : ℕ) (js : List Joiner) (place : ℕ) (g : Group) → (g.session == other) ≡ false → all_parked js g.made.key g.joined ≡ true → filter (is_own_step other js) (events_of place g) ≡ []
+own-group : (other : ℕ) (js : List Joiner) (place : ℕ) (g : Group) → (g.session == other) ≡ false → all_parked js g.step.key g.joined ≡ true → filter (is_own_step other js) (events_of place g) ≡ []
 own-group other js place g differs parked =
     let p : Event → Bool = is_own_step other js in
-    let shared : List Event = map (shared_event (step_place place g) g.made.key g.made.out.load) g.joined in
-    let own : List Event = evicted_events g.made.key g.evicted in
+    let shared : List Event = map (shared_event (step_place place g) g.step.key g.step.out.load) g.joined in
+    let own : List Event = evicted_events g.step.key g.evicted in
     let steps : filter p (step_event g ∷ shared) ≡ [] =
-    ap (λ b. cond (b && not (is_parked js g.session g.number g.made.key)) (step_event g ∷ filter p shared) (filter p shared)) differs ∙ own-shared other js (step_place place g) g.made.key g.made.out.load g.joined parked in
+    ap (λ b. cond (b && not (is_parked js g.session g.number g.step.key)) (step_event g ∷ filter p shared) (filter p shared)) differs ∙ own-shared other js (step_place place g) g.step.key g.step.out.load g.joined parked in
     filter-append p (victim_events g.victim ++ step_event g ∷ shared) own
-    ∙ (λ i. filter-append p (victim_events g.victim) (step_event g ∷ shared) i ++ own-evicted other js g.made.key g.evicted i)
+    ∙ (λ i. filter-append p (victim_events g.victim) (step_event g ∷ shared) i ++ own-evicted other js g.step.key g.evicted i)
     ∙ (λ i. (own-victim other js g.victim i ++ steps i) ++ [])
 
 -- so a history with such a group more has the same own steps of another session
-own-grown : (other : ℕ) (js : List Joiner) (history : List Event) (place : ℕ) (g : Group) → (g.session == other) ≡ false → all_parked js g.made.key g.joined ≡ true
+own-grown : (other : ℕ) (js : List Joiner) (history : List Event) (place : ℕ) (g : Group) → (g.session == other) ≡ false → all_parked js g.step.key g.joined ≡ true
     → filter (is_own_step other js) (history ++ events_of place g) ≡ filter (is_own_step other js) history
 own-grown other js history place g differs parked =
     filter-append (is_own_step other js) history (events_of place g)

@@ -14,9 +14,9 @@ use Rattle.jc_model.specs.declared.event.LoadAnswer.{LoadAnswer}
 use Rattle.jc_model.specs.declared.event.LoadAnswer.TheVariants.{NotAsked, Found, Nothing, Failed}
 use Rattle.jc_model.specs.Cache.{Bytes, Cache, key_cmp, entry_at, with_entry}
 use Rattle.jc_model.specs.Listed.{apart, listed}
-use Rattle.jc_model.specs.Table.{fault_of, entry_after, new_entry, left_by, loaded, cache_left}
+use Rattle.jc_model.specs.Table.{first_fault, entry_without_fault, entry_after, entry_by_fault, value_after_load, seq_cache}
 use Rattle.jc_model.specs.Processor.{found_in}
-use Rattle.jc_model.specs.Group.{Group, victim_events, shared_event, evicted_events, events_of, step_event, step_place, left_after, evict_own}
+use Rattle.jc_model.specs.Group.{Group, victim_events, shared_event, evicted_events, events_of, step_event, step_place, cache_after_group, without_own}
 use Rattle.jc_model.specs.Group as group
 use Rattle.jc_model.proofs.Lookups.{from_entries-others, from_entries-listed, apart-others, apart-listed, same_cache, get-with_entry, same_key}
 use Rattle.jc_entries.specs.ByUse.{without}
@@ -43,17 +43,17 @@ by_use-evicted entries key None = refl
 by_use-evicted entries key (Some cause) = refl
 
 -- a group leaves the entries without its victim, with the step's, and without what goes again
-pub by_use-group : (entries : List (Bytes × Bytes)) (place : ℕ) (g : Group) → by_use entries (events_of place g) ≡ entries_left entries g.made.key g.made.op g.made.out g.victim g.evicted
+pub by_use-group : (entries : List (Bytes × Bytes)) (place : ℕ) (g : Group) → by_use entries (events_of place g) ≡ entries_left entries g.step.key g.step.op g.step.out g.victim g.evicted
 by_use-group entries place g =
-    let shared : List Event = map (shared_event (step_place place g) g.made.key g.made.out.load) g.joined in
-    let own : List Event = evicted_events g.made.key g.evicted in
-    let at : List (Bytes × Bytes) = used_at (without g.victim entries) g.made.key g.made.op g.made.out in
+    let shared : List Event = map (shared_event (step_place place g) g.step.key g.step.out.load) g.joined in
+    let own : List Event = evicted_events g.step.key g.evicted in
+    let at : List (Bytes × Bytes) = used_at (without g.victim entries) g.step.key g.step.op g.step.out in
     by_use-append entries (victim_events g.victim ++ step_event g ∷ shared) own
     ∙ ap (λ es. by_use es own)
     (by_use-append entries (victim_events g.victim) (step_event g ∷ shared)
     ∙ ap (λ es. by_use es (step_event g ∷ shared)) (by_use-victim entries g.victim)
-    ∙ by_use-shared at (step_place place g) g.made.key g.made.out.load g.joined)
-    ∙ by_use-evicted at g.made.key g.evicted
+    ∙ by_use-shared at (step_place place g) g.step.key g.step.out.load g.joined)
+    ∙ by_use-evicted at g.step.key g.evicted
 
 -- 2. The entries, each key once.
 
@@ -62,8 +62,8 @@ apart-without None entries h = h
 apart-without (Some key) entries h = apart-others key entries h
 
 apart-used_at : (entries : List (Bytes × Bytes)) (key : Bytes) (op : Op) (out : Out) → apart entries ≡ true → apart (used_at entries key op out) ≡ true
-apart-used_at entries key op out h = elim (is_use op out) as (λ b. apart (cond b (listed key (new_entry op (finite.find key_cmp key entries) out) entries) entries) ≡ true) [
-  | true ↦ apart-listed key (new_entry op (finite.find key_cmp key entries) out) entries h
+apart-used_at entries key op out h = elim (is_use op out) as (λ b. apart (cond b (listed key (entry_after op (finite.find key_cmp key entries) out) entries) entries) ≡ true) [
+  | true ↦ apart-listed key (entry_after op (finite.find key_cmp key entries) out) entries h
   | false ↦ h
 ]
 
@@ -92,41 +92,41 @@ pub same-entry : (cache : Cache) (key : Bytes) (entry : Option Bytes) → entry 
 same-entry cache key entry h = same_cache _ _ (λ q. get-with_entry cache key entry q ∙ chosen (eq_by_cmp key_cmp q key) entry (entry_at cache q) (λ e. h ∙ ap (entry_at cache) (sym (same_key q key e))))
 
 -- a step that is no use leaves its entry
-not_found : (answer : LoadAnswer) (entry : Option Bytes) → is_some (found_in answer) ≡ false → loaded answer entry ≡ entry
+not_found : (answer : LoadAnswer) (entry : Option Bytes) → is_some (found_in answer) ≡ false → value_after_load answer entry ≡ entry
 not_found NotAsked entry h = refl
 not_found (Found value) entry h = cc
 not_found Nothing entry h = refl
 not_found (Failed code) entry h = refl
 
-unused_after : (op : Op) (entry : Option Bytes) (out : Out) → uses op out.load ≡ false → entry_after op entry out ≡ entry
+unused_after : (op : Op) (entry : Option Bytes) (out : Out) → uses op out.load ≡ false → entry_without_fault op entry out ≡ entry
 unused_after ContainsKey entry out h = refl
 unused_after (LoadAll replace) entry out h = not_found out.load entry h
 unused_after op entry out h = cc
 
-unused_left : (fault : Option Refusal) (used : Bool) (entry after : Option Bytes) → (is_none fault && used) ≡ false → (used ≡ false → after ≡ entry) → left_by fault entry after ≡ entry
+unused_left : (fault : Option Refusal) (used : Bool) (entry after : Option Bytes) → (is_none fault && used) ≡ false → (used ≡ false → after ≡ entry) → entry_by_fault fault entry after ≡ entry
 unused_left (Some fault) used entry after h later = refl
 unused_left None used entry after h later = later h
 
-pub unused_keeps : (op : Op) (entry : Option Bytes) (out : Out) → is_use op out ≡ false → new_entry op entry out ≡ entry
-unused_keeps op entry out h = unused_left (fault_of out) (uses op out.load) entry (entry_after op entry out) h (unused_after op entry out)
+pub unused_keeps : (op : Op) (entry : Option Bytes) (out : Out) → is_use op out ≡ false → entry_after op entry out ≡ entry
+unused_keeps op entry out h = unused_left (first_fault out) (uses op out.load) entry (entry_without_fault op entry out) h (unused_after op entry out)
 
 from-used_at : (entries : List (Bytes × Bytes)) (key : Bytes) (op : Op) (out : Out)
-    → from_entries {R = key_cmp} (used_at entries key op out) ≡ with_entry (from_entries entries) key (new_entry op (entry_at (from_entries entries) key) out)
+    → from_entries {R = key_cmp} (used_at entries key op out) ≡ with_entry (from_entries entries) key (entry_after op (entry_at (from_entries entries) key) out)
 from-used_at entries key op out = go (is_use op out) refl
   where
     cache : Cache
     cache = from_entries entries
 
-    go : (b : Bool) → is_use op out ≡ b → from_entries {R = key_cmp} (cond b (listed key (new_entry op (finite.find key_cmp key entries) out) entries) entries) ≡ with_entry (from_entries entries) key (new_entry op (entry_at (from_entries entries) key) out)
-    go true e = from_entries-listed key (new_entry op (finite.find key_cmp key entries) out) entries ∙ ap (λ o. with_entry (from_entries entries) key (new_entry op o out)) (find-entry entries key)
+    go : (b : Bool) → is_use op out ≡ b → from_entries {R = key_cmp} (cond b (listed key (entry_after op (finite.find key_cmp key entries) out) entries) entries) ≡ with_entry (from_entries entries) key (entry_after op (entry_at (from_entries entries) key) out)
+    go true e = from_entries-listed key (entry_after op (finite.find key_cmp key entries) out) entries ∙ ap (λ o. with_entry (from_entries entries) key (entry_after op o out)) (find-entry entries key)
     go false e = sym (same-entry (from_entries entries) key _ (unused_keeps op (entry_at (from_entries entries) key) out e))
 
-from-own_gone : (key : Bytes) (cause : Option Cause) (entries : List (Bytes × Bytes)) → from_entries {R = key_cmp} (own_gone key cause entries) ≡ evict_own (from_entries entries) key cause
+from-own_gone : (key : Bytes) (cause : Option Cause) (entries : List (Bytes × Bytes)) → from_entries {R = key_cmp} (own_gone key cause entries) ≡ without_own (from_entries entries) key cause
 from-own_gone key None entries = refl
 from-own_gone key (Some cause) entries = from_entries-others key entries
 
 -- the entries that a group leaves make the cache that it leaves
-pub from-left : (entries : List (Bytes × Bytes)) (g : Group) → from_entries {R = key_cmp} (entries_left entries g.made.key g.made.op g.made.out g.victim g.evicted) ≡ left_after (from_entries entries) g
+pub from-left : (entries : List (Bytes × Bytes)) (g : Group) → from_entries {R = key_cmp} (entries_left entries g.step.key g.step.op g.step.out g.victim g.evicted) ≡ cache_after_group (from_entries entries) g
 from-left entries g =
-    from-own_gone g.made.key g.evicted (used_at (without g.victim entries) g.made.key g.made.op g.made.out)
-    ∙ ap (λ c. evict_own c g.made.key g.evicted) (from-used_at (without g.victim entries) g.made.key g.made.op g.made.out ∙ ap (λ c. cache_left c g.made) (from-without g.victim entries))
+    from-own_gone g.step.key g.evicted (used_at (without g.victim entries) g.step.key g.step.op g.step.out)
+    ∙ ap (λ c. without_own c g.step.key g.evicted) (from-used_at (without g.victim entries) g.step.key g.step.op g.step.out ∙ ap (λ c. seq_cache c g.step) (from-without g.victim entries))

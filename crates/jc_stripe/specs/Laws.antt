@@ -15,7 +15,7 @@ use Rattle.jc_model.specs.declared.event.Op.{Op}
 use Rattle.jc_model.specs.declared.event.Out.{Out}
 use Rattle.jc_model.specs.declared.event.Reply.{Reply}
 use Rattle.jc_model.specs.Cache.{Bytes, entry_at}
-use Rattle.jc_model.specs.Table.{new_entry}
+use Rattle.jc_model.specs.Table.{entry_after}
 use Rattle.jc_model.specs.Group.{nothing_said}
 use Rattle.jc_model.specs.Legal.{Legal}
 use Rattle.jc_stripe.specs.declared.begun.Begun.{Begun}
@@ -58,7 +58,7 @@ abbrev pub WasFree : Type 0
 WasFree = (s : State) (call : ℕ) (key : Bytes) (op : Op) → first_refusal s call key op ≡ None → needs_reservation s key op ≡ true → is_reserved s key ≡ false
 
 abbrev pub Keeps : Type 0
-Keeps = (config : Config) (op : Op) (entry : Option Bytes) → passes config op entry ≡ true → new_entry op entry nothing_said ≡ entry
+Keeps = (config : Config) (op : Op) (entry : Option Bytes) → passes config op entry ≡ true → entry_after op entry nothing_said ≡ entry
 
 pub record KeepsReserved : Type 0 where
   pub begins : (old new : State) (session call : ℕ) (key : Bytes) (op : Op) (b : Begun) (q : Bytes) → IsReached old → Begins old session call key op b new → is_reserved old q ≡ true → entry_at new.cache q ≡ entry_at old.cache q

@@ -17,7 +17,7 @@ use Rattle.jc_model.specs.declared.event.Event.{Event}
 use Rattle.jc_model.specs.declared.event.Event.TheVariants.{Step, Evict}
 use Rattle.jc_model.specs.Cache.{Bytes, key_cmp}
 use Rattle.jc_model.specs.Listed.{others, listed}
-use Rattle.jc_model.specs.Table.{fault_of, new_entry}
+use Rattle.jc_model.specs.Table.{first_fault, entry_after}
 use Rattle.jc_model.specs.Processor.{found_in}
 use Rattle.jc_entries.specs.ByUse.{evicted_of}
 use Rattle.jc_stripe.specs.State.{State, Reserved}
@@ -31,11 +31,11 @@ uses (LoadAll replace) load = is_some (found_in load)
 uses op load = true
 
 abbrev pub is_use : Op → Out → Bool
-is_use op out = is_none (fault_of out) && uses op out.load
+is_use op out = is_none (first_fault out) && uses op out.load
 
 -- the entries behind a step at a key: its entry is moved or put to the front, or goes
 abbrev pub used_at : List (Bytes × Bytes) → Bytes → Op → Out → List (Bytes × Bytes)
-used_at entries key op out = if is_use op out then listed key (new_entry op (finite.find key_cmp key entries) out) entries else entries
+used_at entries key op out = if is_use op out then listed key (entry_after op (finite.find key_cmp key entries) out) entries else entries
 
 -- 2. What a history uses.
 

@@ -30,8 +30,8 @@ use Rattle.jc_model.specs.declared.event.Cause.{Cause}
 use Rattle.jc_model.specs.declared.event.Cause.TheVariants.{Full, Memory}
 use Rattle.jc_model.specs.declared.event.Event.TheVariants.{Step}
 use Rattle.jc_model.specs.Cache.{Bytes, entry_at}
-use Rattle.jc_model.specs.Table.{new_entry, new_reply}
-use Rattle.jc_model.specs.Group.{Group, events_of, step_place, left_after, nothing_said}
+use Rattle.jc_model.specs.Table.{entry_after, reply_after}
+use Rattle.jc_model.specs.Group.{Group, events_of, step_place, cache_after_group, nothing_said}
 use Rattle.jc_model.specs.Lawful.{IsLawful}
 use Rattle.jc_model.specs.Legal.{may_come}
 use Rattle.jc_inflight.specs.declared.joiner.Joiner.{Joiner}
@@ -72,7 +72,7 @@ pub record MayBegin (state : State) (session call : ℕ) (key : Bytes) : Type 0 
 
 -- whether the step inserts
 abbrev pub inserts_here : State → Bytes → Op → Out → Bool
-inserts_here state key op out = is_none (entry_at state.cache key) && is_some (new_entry op (entry_at state.cache key) out)
+inserts_here state key op out = is_none (entry_at state.cache key) && is_some (entry_after op (entry_at state.cache key) out)
 
 -- whether it inserts into a full stripe
 abbrev pub overflows : State → Bytes → Op → Out → Bool
@@ -94,7 +94,7 @@ group_made state session call key op out callers short =
       victim = victim_of state key op out;
       session = session;
       number = call;
-      made = record { op = op; key = key; out = out; reply = new_reply op (entry_at state.cache key) out };
+      step = record { op = op; key = key; out = out; reply = reply_after op (entry_at state.cache key) out };
       joined = callers;
       evicted = own_cause (inserts_here state key op out) (overflows state key op out) (is_some (victim_of state key op out)) short;
     }
@@ -102,12 +102,12 @@ group_made state session call key op out callers short =
 -- 3. The stripe goes on by the lawful group of this step, with this reply at this place.
 
 abbrev pub gone_on : State → Group → State
-gone_on old group = record old { cache = left_after old.cache group; history = old.history ++ events_of (length old.history) group }
+gone_on old group = record old { cache = cache_after_group old.cache group; history = old.history ++ events_of (length old.history) group }
 
 pub record Steps (old : State) (session call : ℕ) (key : Bytes) (op : Op) (out : Out) (callers : List (ℕ × ℕ)) (reply : Reply) (place : ℕ) (new : State) : Type 0 where
   pub short : Bool
   pub lawful : IsLawful old.config old.cache (group_made old session call key op out callers short)
-  pub reply_is : reply ≡ new_reply op (entry_at old.cache key) out
+  pub reply_is : reply ≡ reply_after op (entry_at old.cache key) out
   pub place_is : place ≡ step_place (length old.history) (group_made old session call key op out callers short)
   pub goes_on : new ≡ gone_on old (group_made old session call key op out callers short)
 

@@ -23,7 +23,7 @@ use Rattle.jc_model.specs.declared.event.Reply.{Reply}
 use Rattle.jc_model.specs.Cache.{Bytes, key_cmp}
 use Rattle.jc_model.specs.declared.event.LoadAnswer.{LoadAnswer}
 use Rattle.jc_model.specs.declared.event.WriteAnswer.{WriteAnswer}
-use Rattle.jc_model.specs.Table.{new_entry, load_given, write_given}
+use Rattle.jc_model.specs.Table.{entry_after, is_load_given, is_write_given}
 use Rattle.jc_model.specs.Group.{victim_events, shared_event, evicted_events, load_only, write_only}
 use Rattle.jc_model.specs.Listed.{others}
 use Rattle.jc_entries.specs.ByUse.{ByUse, evicted_of, without}
@@ -43,7 +43,7 @@ use Rattle.jc_stripe.specs.Phases.{own_cause, IsSharedStep}
 -- 1. The entries.
 
 abbrev pub inserts_into : List (Bytes × Bytes) → Bytes → Op → Out → Bool
-inserts_into entries key op out = is_none (finite.find key_cmp key entries) && is_some (new_entry op (finite.find key_cmp key entries) out)
+inserts_into entries key op out = is_none (finite.find key_cmp key entries) && is_some (entry_after op (finite.find key_cmp key entries) out)
 
 abbrev pub overflows_in : ByUse → Bytes → Op → Out → Bool
 overflows_in entries key op out = inserts_into entries.list key op out && (length entries.list == entries.capacity)
@@ -71,8 +71,8 @@ events_put events kept past = record past { events = past.events ++ events; prom
 -- what was said outside is the answer of whom a reservation asked first
 abbrev pub SaidFor : First → Out → Type 0
 SaidFor Nobody out = ⊥
-SaidFor Loader out = (answer : LoadAnswer) × (out ≡ load_only answer) × (load_given answer ≡ true)
-SaidFor (Writer change) out = (answer : WriteAnswer) × (out ≡ write_only answer) × (write_given answer ≡ true)
+SaidFor Loader out = (answer : LoadAnswer) × (out ≡ load_only answer) × (is_load_given answer ≡ true)
+SaidFor (Writer change) out = (answer : WriteAnswer) × (out ≡ write_only answer) × (is_write_given answer ≡ true)
 
 -- the step of a joiner that is told an answer stands where it is told
 abbrev pub ToldStep : State → JoinClaim → Taken → Type 0

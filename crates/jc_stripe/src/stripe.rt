@@ -5,7 +5,7 @@ ghost use Rattle.jc_types.specs.Limits.{checked};
 ghost use Rattle.jc_model.specs.declared.event.Op.TheVariants.{Get};
 ghost use Rattle.jc_model.specs.Cache.{entry_at};
 ghost use Rattle.jc_model.specs.Listed.{apart};
-ghost use Rattle.jc_model.specs.Table.{load_given, write_given};
+ghost use Rattle.jc_model.specs.Table.{is_load_given, is_write_given};
 ghost use Rattle.jc_model.specs.Group.{load_only, write_only, nothing_said};
 ghost use Rattle.jc_model.specs.Legal.{Legal};
 ghost use Rattle.jc_inflight.specs.Joined.{is_joined};
@@ -427,7 +427,7 @@ impl Stripe {
         requires out { IsOut self.old ticket Loader }
         requires claim { done.claim ≡ ticket }
         requires origin { done.origin ≡ self.old.origin }
-        requires given { load_given done.answer ≡ true }
+        requires given { is_load_given done.answer ≡ true }
         ensures commits { Commits self.old ticket (load_only done.answer) result.0 result.1 self.new }
         ensures phase { (session : ℕ) → IsSomeAnd (claimed self.old ticket) (λ r. r.session ≡ session) → IsPhaseOf session self.old self.new }
     {
@@ -447,7 +447,7 @@ impl Stripe {
         requires claim { done.claim ≡ ticket.claim }
         requires change { done.change ≡ ticket.change }
         requires origin { done.origin ≡ self.old.origin }
-        requires given { write_given done.answer ≡ true }
+        requires given { is_write_given done.answer ≡ true }
         ensures commits { Commits self.old ticket.claim (write_only done.answer) result.0 result.1 self.new }
         ensures phase { (session : ℕ) → IsSomeAnd (claimed self.old ticket.claim) (λ r. r.session ≡ session) → IsPhaseOf session self.old self.new }
     {

@@ -17,8 +17,8 @@ use Rattle.jc_model.specs.declared.event.ProcessAnswer.TheVariants as process
 use Rattle.jc_model.specs.declared.event.Reply.{Reply}
 use Rattle.jc_model.specs.declared.event.Cause.{Cause}
 use Rattle.jc_model.specs.Cache.{Bytes, Cache, key_cmp, entry_at, with_entry}
-use Rattle.jc_model.specs.Table.{new_entry, write_ask, holds, entry_after, ask_if}
-use Rattle.jc_model.specs.Group.{nothing_said, without, evict_own, write_only, load_only}
+use Rattle.jc_model.specs.Table.{entry_after, write_ask, holds, entry_without_fault, ask_if}
+use Rattle.jc_model.specs.Group.{nothing_said, without_victim, without_own, write_only, load_only}
 use Rattle.jc_model.specs.Lawful.{loads_whole}
 use Rattle.jc_model.specs.Processor.{found_in}
 use Rattle.jc_model.proofs.Lookups.{both, none_is, same_key, get-with_entry}
@@ -51,12 +51,12 @@ agrees_removed : (cache : Cache) (key q : Bytes) (stored : Option Bytes) → Agr
 agrees_removed cache key q stored h = let P : Option Bytes → Type 0 = λ o. Agrees o stored in subst P (sym (get-remove nat_list_cmp_total cache key q)) (gone_agrees (eq_by_cmp key_cmp q key) _ stored h)
 
 -- also where it is a group's victim
-agrees_without : (cache : Cache) (victim : Option Bytes) (q : Bytes) (stored : Option Bytes) → Agrees (entry_at cache q) stored → Agrees (entry_at (without cache victim) q) stored
+agrees_without : (cache : Cache) (victim : Option Bytes) (q : Bytes) (stored : Option Bytes) → Agrees (entry_at cache q) stored → Agrees (entry_at (without_victim cache victim) q) stored
 agrees_without cache None q stored h = h
 agrees_without cache (Some key) q stored h = agrees_removed cache key q stored h
 
 -- or the step's own
-agrees_evicted : (cache : Cache) (key : Bytes) (cause : Option Cause) (q : Bytes) (stored : Option Bytes) → Agrees (entry_at cache q) stored → Agrees (entry_at (evict_own cache key cause) q) stored
+agrees_evicted : (cache : Cache) (key : Bytes) (cause : Option Cause) (q : Bytes) (stored : Option Bytes) → Agrees (entry_at cache q) stored → Agrees (entry_at (without_own cache key cause) q) stored
 agrees_evicted cache key None q stored h = h
 agrees_evicted cache key (Some cause) q stored h = agrees_removed cache key q stored h
 
@@ -66,7 +66,7 @@ none_if true entry h = sym h
 none_if false entry h = refl
 
 -- a step that has a victim finds its key missing, so it finds without the victim what it found with it
-found_without : (cache : Cache) (key : Bytes) (b : Bool) (victim : Option Bytes) → (b ≡ true → entry_at cache key ≡ None) → entry_at (without cache (cond b victim None)) key ≡ entry_at cache key
+found_without : (cache : Cache) (key : Bytes) (b : Bool) (victim : Option Bytes) → (b ≡ true → entry_at cache key ≡ None) → entry_at (without_victim cache (cond b victim None)) key ≡ entry_at cache key
 found_without cache key false victim h = refl
 found_without cache key true None h = refl
 found_without cache key true (Some other) h = get-remove nat_list_cmp_total cache other key ∙ none_if (eq_by_cmp key_cmp key other) (entry_at cache key) (h refl)
@@ -76,27 +76,27 @@ came : (a b c : Bool) → ((a && b) && c) ≡ true → a ≡ true
 came a b c h = (both a b ((both (a && b) c h).0)).0
 
 -- what the step finds at its key
-found_before : (s : State) (key : Bytes) (op : Op) (out : Out) → entry_at (without s.cache (victim_of s key op out)) key ≡ entry_at s.cache key
+found_before : (s : State) (key : Bytes) (op : Op) (out : Out) → entry_at (without_victim s.cache (victim_of s key op out)) key ≡ entry_at s.cache key
 found_before s key op out =
     found_without s.cache key (overflows s key op out) (least_used s)
-    (λ over. none_is (entry_at s.cache key) (came (is_none (entry_at s.cache key)) (is_some (new_entry op (entry_at s.cache key) out)) (len s.cache == s.config.capacity) over))
+    (λ over. none_is (entry_at s.cache key) (came (is_none (entry_at s.cache key)) (is_some (entry_after op (entry_at s.cache key) out)) (len s.cache == s.config.capacity) over))
 
 -- a step's entries agree with what is stored where its own and the others' do
 pub agrees_stepped : (old new : State) (session call : ℕ) (key : Bytes) (op : Op) (out : Out) (callers : List (ℕ × ℕ)) (reply : Reply) (place : ℕ) (q : Bytes) (stored : Option Bytes) → Steps old session call key op out callers reply place new
-    → Agrees (cond (eq_by_cmp key_cmp q key) (new_entry op (entry_at old.cache key) out) (entry_at old.cache q)) stored → Agrees (entry_at new.cache q) stored
+    → Agrees (cond (eq_by_cmp key_cmp q key) (entry_after op (entry_at old.cache key) out) (entry_at old.cache q)) stored → Agrees (entry_at new.cache q) stored
 agrees_stepped old new session call key op out callers reply place q stored steps h =
     let P : State → Type 0 = λ s. Agrees (entry_at s.cache q) stored in
     let Q : Option Bytes → Type 0 = λ o. Agrees o stored in
     let group = group_made old session call key op out callers steps.short in
-    let left : Cache = without old.cache (victim_of old key op out) in
+    let left : Cache = without_victim old.cache (victim_of old key op out) in
     let found = found_before old key op out in
-    let made : Agrees (cond (eq_by_cmp key_cmp q key) (new_entry op (entry_at left key) out) (entry_at left q)) stored =
-    split q key (λ b. Agrees (cond b (new_entry op (entry_at old.cache key) out) (entry_at old.cache q)) stored → Agrees (cond b (new_entry op (entry_at left key) out) (entry_at left q)) stored)
-    (λ same h. subst Q (ap (λ e. new_entry op e out) (sym found)) h)
+    let made : Agrees (cond (eq_by_cmp key_cmp q key) (entry_after op (entry_at left key) out) (entry_at left q)) stored =
+    split q key (λ b. Agrees (cond b (entry_after op (entry_at old.cache key) out) (entry_at old.cache q)) stored → Agrees (cond b (entry_after op (entry_at left key) out) (entry_at left q)) stored)
+    (λ same h. subst Q (ap (λ e. entry_after op e out) (sym found)) h)
     (λ apart h. agrees_without old.cache (victim_of old key op out) q stored h) h
     in
     subst P (sym steps.goes_on)
-    (agrees_evicted (with_entry left key (new_entry op (entry_at left key) out)) key group.evicted q stored (subst Q (sym (get-with_entry left key (new_entry op (entry_at left key) out) q)) made))
+    (agrees_evicted (with_entry left key (entry_after op (entry_at left key) out)) key group.evicted q stored (subst Q (sym (get-with_entry left key (entry_after op (entry_at left key) out) q)) made))
 
 -- 2. The tables: what a write leaves is what was asked for.
 
@@ -118,7 +118,7 @@ to : (asks change : Change) → Some asks ≡ Some change → changed_to asks �
 to asks change h = ap changed_to (same_some asks change h)
 
 -- where the writer did as it was asked, the operation leaves what the store then holds
-pub writes : (op : Op) (entry : Option Bytes) (change : Change) → write_ask op entry process.NotAsked ≡ Some change → entry_after op entry (write_only write.Done) ≡ changed_to change
+pub writes : (op : Op) (entry : Option Bytes) (change : Change) → write_ask op entry process.NotAsked ≡ Some change → entry_without_fault op entry (write_only write.Done) ≡ changed_to change
 writes (Put value) entry change h = to (Write value) change h
 writes (GetAndPut value) entry change h = to (Write value) change h
 writes (PutIfAbsent value) None change h = to (Write value) change h
@@ -173,7 +173,7 @@ writes_asked config op entry change h = writer_is config.write_through (write_as
 -- 4. What agrees with the store goes on to.
 
 -- a load keeps an entry, or makes it what was found
-pub loads : (op : Op) (entry : Option Bytes) (answer : LoadAnswer) (stored : Option Bytes) → loads_whole op ≡ true → Agrees entry stored → Agrees (found_in answer) stored → Agrees (new_entry op entry (load_only answer)) stored
+pub loads : (op : Op) (entry : Option Bytes) (answer : LoadAnswer) (stored : Option Bytes) → loads_whole op ≡ true → Agrees entry stored → Agrees (found_in answer) stored → Agrees (entry_after op entry (load_only answer)) stored
 loads Get entry load.NotAsked stored h kept found = kept
 loads Get entry (load.Found value) stored h kept found = found
 loads Get entry load.Nothing stored h kept found = kept
@@ -190,7 +190,7 @@ keeps_if true asks entry next stored h kept = cc
 keeps_if false asks entry next stored h kept = kept
 
 -- an operation with nothing to write keeps the entry or takes it out
-keeps : (op : Op) (entry stored : Option Bytes) → write_ask op entry process.NotAsked ≡ None → Agrees entry stored → Agrees (new_entry op entry nothing_said) stored
+keeps : (op : Op) (entry stored : Option Bytes) → write_ask op entry process.NotAsked ≡ None → Agrees entry stored → Agrees (entry_after op entry nothing_said) stored
 keeps Get entry stored h kept = kept
 keeps ContainsKey entry stored h kept = kept
 keeps (Put value) entry stored h kept = cc
@@ -210,7 +210,7 @@ keeps (LoadAll replace) entry stored h kept = kept
 keeps Invoke entry stored h kept = kept
 
 -- a call that asks nobody, with write-through on, keeps the entry or takes it out
-pub asks_nobody : (config : Config) (op : Op) (entry stored : Option Bytes) → config.write_through ≡ true → first_asked config op entry ≡ Nobody → Agrees entry stored → Agrees (new_entry op entry nothing_said) stored
+pub asks_nobody : (config : Config) (op : Op) (entry stored : Option Bytes) → config.write_through ≡ true → first_asked config op entry ≡ Nobody → Agrees entry stored → Agrees (entry_after op entry nothing_said) stored
 asks_nobody config Get entry stored on h kept = kept
 asks_nobody config (LoadAll replace) entry stored on h kept = kept
 asks_nobody config op entry stored on h kept = keeps op entry stored (unasked config.write_through (write_ask op entry process.NotAsked) h on) kept

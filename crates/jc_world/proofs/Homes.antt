@@ -21,8 +21,8 @@ use Rattle.jc_types.specs.declared.config.Config.{Config}
 use Rattle.jc_model.specs.declared.event.Event.{Event}
 use Rattle.jc_model.specs.declared.event.Cause.{Cause}
 use Rattle.jc_model.specs.Cache.{Bytes, Cache, key_cmp, entry_at}
-use Rattle.jc_model.specs.Table.{holds, entry_left}
-use Rattle.jc_model.specs.Group.{Group, victim_events, step_event, shared_event, step_place, evicted_events, events_of, history_of, without, before, stepped, evict_own, left_after, cache_after}
+use Rattle.jc_model.specs.Table.{holds, seq_entry}
+use Rattle.jc_model.specs.Group.{Group, victim_events, step_event, shared_event, step_place, evicted_events, events_of, history_of, without_victim, cache_before_step, cache_after_step, without_own, cache_after_group, cache_after_groups}
 use Rattle.jc_model.specs.Legal.{event_key}
 use Rattle.jc_model.proofs.Lookups.{both, same_key, get-with_entry}
 use Rattle.jc_stripe.specs.State.{State, is_of}
@@ -44,28 +44,28 @@ none_removed cache key gone h = get-remove nat_list_cmp_total cache gone key ∙
     none false = refl
 
 -- where a full stripe's victim goes
-none_without : (cache : Cache) (key : Bytes) (gone : Option Bytes) → entry_at cache key ≡ None → entry_at (without cache gone) key ≡ None
+none_without : (cache : Cache) (key : Bytes) (gone : Option Bytes) → entry_at cache key ≡ None → entry_at (without_victim cache gone) key ≡ None
 none_without cache key None h = h
 none_without cache key (Some gone) h = none_removed cache key gone h
 
 -- and where the step's own key does
-none_evicted : (cache : Cache) (key own : Bytes) (cause : Option Cause) → entry_at cache key ≡ None → entry_at (evict_own cache own cause) key ≡ None
+none_evicted : (cache : Cache) (key own : Bytes) (cause : Option Cause) → entry_at cache key ≡ None → entry_at (without_own cache own cause) key ≡ None
 none_evicted cache key own None h = h
 none_evicted cache key own (Some cause) h = none_removed cache key own h
 
 -- so it stays out in a group whose step is of another key
-none_left : (cache : Cache) (group : Group) (key : Bytes) → eq_by_cmp key_cmp key group.made.key ≡ false → entry_at cache key ≡ None → entry_at (left_after cache group) key ≡ None
-none_left cache group key apart h = none_evicted (stepped cache group) key group.made.key group.evicted (
-    get-with_entry (before cache group) group.made.key (entry_left (before cache group) group.made) key
-    ∙ ap (λ b. cond b (entry_left (before cache group) group.made) (entry_at (before cache group) key)) apart
+none_left : (cache : Cache) (group : Group) (key : Bytes) → eq_by_cmp key_cmp key group.step.key ≡ false → entry_at cache key ≡ None → entry_at (cache_after_group cache group) key ≡ None
+none_left cache group key apart h = none_evicted (cache_after_step cache group) key group.step.key group.evicted (
+    get-with_entry (cache_before_step cache group) group.step.key (seq_entry (cache_before_step cache group) group.step) key
+    ∙ ap (λ b. cond b (seq_entry (cache_before_step cache group) group.step) (entry_at (cache_before_step cache group) key)) apart
     ∙ none_without cache key group.victim h
     )
 
 -- what holds of each event of a group holds of its step
 of_step : (p : Event → Bool) (place : ℕ) (group : Group) → list_all p (events_of place group) ≡ true → p (step_event group) ≡ true
 of_step p place group h =
-    let shared = map (shared_event (step_place place group) group.made.key group.made.out.load) group.joined in
-    let own = evicted_events group.made.key group.evicted in
+    let shared = map (shared_event (step_place place group) group.step.key group.step.out.load) group.joined in
+    let own = evicted_events group.step.key group.evicted in
     let front = victim_events group.victim in
     let step = step_event group ∷ shared in
     let most = both (list_all p (front ++ step)) (list_all p own) (sym (list_all-append p (front ++ step) own) ∙ h) in
@@ -74,12 +74,12 @@ of_step p place group h =
 
 -- events of other keys leave a key out
 none_after : (p : Event → Bool) (key : Bytes) → ((e : Event) → p e ≡ true → eq_by_cmp key_cmp key (event_key e) ≡ false) → (place : ℕ) (groups : List Group) (cache : Cache)
-    → list_all p (history_of place groups) ≡ true → entry_at cache key ≡ None → entry_at (cache_after cache groups) key ≡ None
+    → list_all p (history_of place groups) ≡ true → entry_at cache key ≡ None → entry_at (cache_after_groups cache groups) key ≡ None
 none_after p key f place [] cache h none = none
 none_after p key f place (group ∷ groups) cache h none =
     let next = place + length (events_of place group) in
     let parts = both (list_all p (events_of place group)) (list_all p (history_of next groups)) (sym (list_all-append p (events_of place group) (history_of next groups)) ∙ h) in
-    none_after p key f next groups (left_after cache group) parts.1 (none_left cache group key (f (step_event group) (of_step p place group parts.0)) none)
+    none_after p key f next groups (cache_after_group cache group) parts.1 (none_left cache group key (f (step_event group) (of_step p place group parts.0)) none)
 
 -- 2. What a stripe caches.
 

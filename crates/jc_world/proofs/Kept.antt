@@ -17,7 +17,7 @@ use Rattle.jc_model.specs.declared.event.WriteAnswer.{WriteAnswer}
 use Rattle.jc_model.specs.declared.event.WriteAnswer.TheVariants as write
 use Rattle.jc_model.specs.declared.event.ProcessAnswer.TheVariants as process
 use Rattle.jc_model.specs.Cache.{Bytes, Cache, key_cmp, entry_at, with_entry}
-use Rattle.jc_model.specs.Table.{new_entry, write_ask, holds, load_given, write_given, alike}
+use Rattle.jc_model.specs.Table.{entry_after, write_ask, holds, is_load_given, is_write_given, alike}
 use Rattle.jc_model.specs.Group.{nothing_said, write_only}
 use Rattle.jc_model.specs.Processor.{found_in}
 use Rattle.jc_model.proofs.Lookups.{both, same_key, get-with_entry}
@@ -284,7 +284,7 @@ parts_answered w call key part answer is waits old =
     let n = answered w key part answer in
     let new : Part = record part { load = answer } in
     let there = is_there (get w.parts key) call part is in
-    let asked = both (asks_loader part.first) (not (load_given part.load)) (sym (ap waits_for_load is) ∙ waits) in
+    let asked = both (asks_loader part.first) (not (is_load_given part.load)) (sym (ap waits_for_load is) ∙ waits) in
     record {
       held = held_insert n w.parts key new (held_aside w w.store w.fresh n.parts n.premises old)
           (some_map (stripe_for w key) (λ s. IsHeld w s key part) (λ s. IsHeld n s key new) (λ s h. record { out = h.out; kind = kind_said part.first part (entry_at s.cache key) answer asked.0 h.kind; call = h.call }) (old.held key part there));
@@ -303,7 +303,7 @@ parts_changed w call key part change is asks waits old =
     let n = changed w key part change in
     let new : Part = record part { is_changed = true } in
     let there = is_there (get w.parts key) call part is in
-    let asked = both (asks_writer part.first) (not (write_given part.report)) (sym (ap waits_for_report is) ∙ waits) in
+    let asked = both (asks_writer part.first) (not (is_write_given part.report)) (sym (ap waits_for_report is) ∙ waits) in
     let at = stripe_at w key old in
     let held = held_at w key part at.0 there at.1 old in
     record {
@@ -332,7 +332,7 @@ parts_reported w call key part report is waits old =
     let n = reported w key part report in
     let new : Part = record part { report = report } in
     let there = is_there (get w.parts key) call part is in
-    let asked = both (asks_writer part.first) (not (write_given part.report)) (sym (ap waits_for_report is) ∙ waits) in
+    let asked = both (asks_writer part.first) (not (is_write_given part.report)) (sym (ap waits_for_report is) ∙ waits) in
     record {
       held = held_insert n w.parts key new (held_aside w w.store w.fresh n.parts n.premises old)
           (some_map (stripe_for w key) (λ s. IsHeld w s key part) (λ s. IsHeld n s key new) (λ s h. record { out = h.out; kind = kind_reported part.first part (entry_at s.cache key) report asked.0 h.kind; call = h.call }) (old.held key part there));
@@ -487,7 +487,7 @@ agrees_begun u from next reply place q stored begins on agrees =
     let key = u.command.key in
     let op = u.command.op in
     agrees_stepped from next u.session u.number key op nothing_said [] reply place q stored begins.2
-    (split q key (λ b. Agrees (cond b (new_entry op (entry_at from.cache key) nothing_said) (entry_at from.cache q)) stored)
+    (split q key (λ b. Agrees (cond b (entry_after op (entry_at from.cache key) nothing_said) (entry_at from.cache q)) stored)
     (λ same. asks_nobody from.config op (entry_at from.cache key) stored on begins.1 (let P : Bytes → Type 0 = λ k. Agrees (entry_at from.cache k) stored in subst P same agrees))
     (λ apart. agrees))
 
@@ -520,7 +520,7 @@ told_new part stored entry unloaded unchanged unreported agrees = record {
   loaded = let L : LoadAnswer → Type 0 = λ a. Agrees (found_in a) stored in subst L (sym unloaded) tt;
   written = λ e. absurd (let t : true ≡ false = sym e ∙ unchanged in cc);
   unwritten = λ e. agrees;
-  honest = λ e. absurd (let t : write_given write.NotAsked ≡ true = ap write_given (sym unreported) ∙ e in cc);
+  honest = λ e. absurd (let t : is_write_given write.NotAsked ≡ true = ap is_write_given (sym unreported) ∙ e in cc);
 }
 
 -- a key was reserved: its part is new, and the others are held on
@@ -642,8 +642,8 @@ parts_started kept w new call key u from to seen fit is at h old = absurd h
 -- 8. The last phase.
 
 -- a writer's report, once it is true, leaves the entry in agreement
-agrees_written : (op : Op) (entry stored : Option Bytes) (change : Change) (report : WriteAnswer) (was : Bool) → write_ask op entry process.NotAsked ≡ Some change → write_given report ≡ true
-    → (was ≡ true → stored ≡ changed_to change) → (was ≡ false → Agrees entry stored) → is_done report ≡ was → Agrees (new_entry op entry (write_only report)) stored
+agrees_written : (op : Op) (entry stored : Option Bytes) (change : Change) (report : WriteAnswer) (was : Bool) → write_ask op entry process.NotAsked ≡ Some change → is_write_given report ≡ true
+    → (was ≡ true → stored ≡ changed_to change) → (was ≡ false → Agrees entry stored) → is_done report ≡ was → Agrees (entry_after op entry (write_only report)) stored
 agrees_written op entry stored change write.NotAsked was asked given written unwritten honest = cc
 agrees_written op entry stored change (write.Failed code) was asked given written unwritten honest = unwritten (sym honest)
 agrees_written op entry stored change write.Done was asked given written unwritten honest =
@@ -651,14 +651,14 @@ agrees_written op entry stored change write.Done was asked given written unwritt
     subst P (written (sym honest) ∙ sym (writes op entry change asked)) (agrees_same stored)
 
 -- what a commit leaves agrees with the store
-agrees_ended : (first : First) (part : Part) (entry stored : Option Bytes) → part.first ≡ first → KindFits first part entry → ((asks_loader first && load_given part.load) || (asks_writer first && write_given part.report)) ≡ true
-    → IsTold part stored entry → Agrees (new_entry part.op entry (out_of part)) stored
+agrees_ended : (first : First) (part : Part) (entry stored : Option Bytes) → part.first ≡ first → KindFits first part entry → ((asks_loader first && is_load_given part.load) || (asks_writer first && is_write_given part.report)) ≡ true
+    → IsTold part stored entry → Agrees (entry_after part.op entry (out_of part)) stored
 agrees_ended Nobody part entry stored is kind answered h = absurd kind
 agrees_ended Loader part entry stored is kind answered h =
-    let P : WriteAnswer → Type 0 = λ r. Agrees (new_entry part.op entry (record { load = part.load; write = r; process = process.NotAsked })) stored in
+    let P : WriteAnswer → Type 0 = λ r. Agrees (entry_after part.op entry (record { load = part.load; write = r; process = process.NotAsked })) stored in
     subst P (sym kind.2) (loads part.op entry part.load stored kind.0 (h.unwritten kind.1) h.loaded)
 agrees_ended (Writer change) part entry stored is kind answered h =
-    let P : LoadAnswer → Type 0 = λ a. Agrees (new_entry part.op entry (record { load = a; write = part.report; process = process.NotAsked })) stored in
+    let P : LoadAnswer → Type 0 = λ a. Agrees (entry_after part.op entry (record { load = a; write = part.report; process = process.NotAsked })) stored in
     let W : First → Type 0 = λ f. WrittenFor f stored in
     subst P (sym kind.1) (agrees_written part.op entry stored change part.report part.is_changed kind.0 answered (λ e. subst W is (h.written e)) h.unwritten (h.honest answered))
 
@@ -678,17 +678,17 @@ EndsBy key part from next reply place r = Steps (settled from (claim_of key part
 
 -- a commit's own entry agrees with the store, where what the operation leaves does
 agrees_own : (key : Bytes) (part : Part) (r : Reserved) (from next : State) (reply : Reply) (place : ℕ) (stored : Option Bytes) → EndsBy key part from next reply place r
-    → Agrees (new_entry r.op (entry_at from.cache key) (out_of part)) stored → Agrees (entry_at next.cache key) stored
+    → Agrees (entry_after r.op (entry_at from.cache key) (out_of part)) stored → Agrees (entry_at next.cache key) stored
 agrees_own key part r from next reply place stored steps h =
     agrees_stepped (settled from (claim_of key part) place) next r.session r.call key r.op (out_of part) (callers_of part.number from.joiners) reply place key stored steps
-    (let P : Bool → Type 0 = λ b. Agrees (cond b (new_entry r.op (entry_at from.cache key) (out_of part)) (entry_at from.cache key)) stored in subst P (sym (tied key)) h)
+    (let P : Bool → Type 0 = λ b. Agrees (cond b (entry_after r.op (entry_at from.cache key) (out_of part)) (entry_at from.cache key)) stored in subst P (sym (tied key)) h)
 
 -- and the others go on to
 agrees_other : (key : Bytes) (part : Part) (r : Reserved) (from next : State) (reply : Reply) (place : ℕ) (q : Bytes) (stored : Option Bytes) → EndsBy key part from next reply place r
     → eq_by_cmp key_cmp q key ≡ false → Agrees (entry_at from.cache q) stored → Agrees (entry_at next.cache q) stored
 agrees_other key part r from next reply place q stored steps apart h =
     agrees_stepped (settled from (claim_of key part) place) next r.session r.call key r.op (out_of part) (callers_of part.number from.joiners) reply place q stored steps
-    (let P : Bool → Type 0 = λ b. Agrees (cond b (new_entry r.op (entry_at from.cache key) (out_of part)) (entry_at from.cache q)) stored in subst P (sym apart) h)
+    (let P : Bool → Type 0 = λ b. Agrees (cond b (entry_after r.op (entry_at from.cache key) (out_of part)) (entry_at from.cache q)) stored in subst P (sym apart) h)
 
 -- so there is one part less
 parts_committed : KeepsReserved → (w : WorldState) (call : ℕ) (key : Bytes) (part : Part) (from next : State) (order : List Event) (reply : Reply) (place : ℕ) → part_of w call key ≡ Some part → is_answered (part_of w call key) ≡ true → stripe_for w key ≡ Some from
@@ -722,7 +722,7 @@ parts_committed kept w call key part from next order reply place is answered at 
           (λ same.
           let B : Bytes → Type 0 = λ k. Agrees (cached n k) (entry_at w.store k) in
           let S : Option State → Type 0 = λ o. Agrees (entry_in o key) (entry_at w.store key) in
-          let O : Op → Type 0 = λ op. Agrees (new_entry op (entry_at from.cache key) (out_of part)) (entry_at w.store key) in
+          let O : Op → Type 0 = λ op. Agrees (entry_after op (entry_at from.cache key) (out_of part)) (entry_at w.store key) in
           let T : Option State → Type 0 = λ o. IsTold part (entry_at w.store key) (entry_in o key) in
           let told = subst T at (told_at (get w.parts key) part (entry_at w.store key) (cached w key) there (all key)) in
           let leaves = agrees_ended part.first part (entry_at from.cache key) (entry_at w.store key) refl one.kind (sym (ap is_answered is) ∙ answered) told in
@@ -750,8 +750,8 @@ unchanged : (o : Option Part) (part : Part) → o ≡ Some part → is_untouched
 unchanged None part is h = cc
 unchanged (Some p) part is h =
     let same : p ≡ part = cc in
-    let parts = both (not (load_given p.load) && not p.is_changed) (not (write_given p.report)) h in
-    ap (λ (x : Part). x.is_changed) (sym same) ∙ go p.is_changed (both (not (load_given p.load)) (not p.is_changed) parts.0).1
+    let parts = both (not (is_load_given p.load) && not p.is_changed) (not (is_write_given p.report)) h in
+    ap (λ (x : Part). x.is_changed) (sym same) ∙ go p.is_changed (both (not (is_load_given p.load)) (not p.is_changed) parts.0).1
   where
     go : (b : Bool) → not b ≡ true → b ≡ false
     go true h = cc

@@ -52,13 +52,13 @@ filter_length p (x ∷ xs) =
 group_length : (place : ℕ) (group : Group) → length (events_of place group) ≤ 3 + length group.joined
 group_length place group =
     let front = victim_events group.victim in
-    let shared = map (shared_event (step_place place group) group.made.key group.made.out.load) group.joined in
-    let own = evicted_events group.made.key group.evicted in
+    let shared = map (shared_event (step_place place group) group.step.key group.step.out.load) group.joined in
+    let own = evicted_events group.step.key group.evicted in
     let a = length-append (front ++ (step_event group ∷ shared)) own in
     let b = length-append front (step_event group ∷ shared) in
     let v = victim_length group.victim in
-    let o = evicted_length group.made.key group.evicted in
-    let m = map_length (shared_event (step_place place group) group.made.key group.made.out.load) group.joined in
+    let o = evicted_length group.step.key group.evicted in
+    let m = map_length (shared_event (step_place place group) group.step.key group.step.out.load) group.joined in
     omega arith
 
 -- a load has at most as many callers as there are joiners

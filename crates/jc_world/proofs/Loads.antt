@@ -17,7 +17,7 @@ use Rattle.jc_model.specs.declared.event.Cause.{Cause}
 use Rattle.jc_model.specs.declared.event.LoadAnswer.{LoadAnswer}
 use Rattle.jc_model.specs.declared.event.Reply.{Reply}
 use Rattle.jc_model.specs.Cache.{Bytes, key_cmp, entry_at}
-use Rattle.jc_model.specs.Table.{load_given, write_given}
+use Rattle.jc_model.specs.Table.{is_load_given, is_write_given}
 use Rattle.jc_model.specs.Group.{Group, nothing_said, victim_events, step_event, step_place, shared_event, evicted_events, events_of}
 use Rattle.jc_model.proofs.Lookups.{both}
 use Rattle.jc_inflight.specs.Joined.{callers_of}
@@ -72,22 +72,22 @@ none_shared key place k answer (c ∷ cs) =
     sum_by-cons (λ e. cond (is_load key e) 1 0) (shared_event place k answer c) (map (shared_event place k answer) cs) ∙ ap (λ n. 0 + n) (none_shared key place k answer cs)
 
 -- a group loads once, if its step has an answer
-group_loads : (key : Bytes) (place : ℕ) (group : Group) → count_by (is_load key) (events_of place group) ≡ one_if (pointwise ◌==◌ key group.made.key && load_given group.made.out.load)
+group_loads : (key : Bytes) (place : ℕ) (group : Group) → count_by (is_load key) (events_of place group) ≡ one_if (pointwise ◌==◌ key group.step.key && is_load_given group.step.out.load)
 group_loads key place group =
     let front = victim_events group.victim in
-    let shared = map (shared_event (step_place place group) group.made.key group.made.out.load) group.joined in
-    let own = evicted_events group.made.key group.evicted in
+    let shared = map (shared_event (step_place place group) group.step.key group.step.out.load) group.joined in
+    let own = evicted_events group.step.key group.evicted in
     let a = none_append key (front ++ (step_event group ∷ shared)) own in
     let b = none_append key front (step_event group ∷ shared) in
     let c : count_by (is_load key) (step_event group ∷ shared) ≡ one_if (is_load key (step_event group)) + count_by (is_load key) shared = sum_by-cons (λ e. cond (is_load key e) 1 0) (step_event group) shared in
     let v = none_victim key group.victim in
-    let s : count_by (is_load key) shared ≡ 0 = none_shared key (step_place place group) group.made.key group.made.out.load group.joined in
-    let o = none_evicted key group.made.key group.evicted in
+    let s : count_by (is_load key) shared ≡ 0 = none_shared key (step_place place group) group.step.key group.step.out.load group.joined in
+    let o = none_evicted key group.step.key group.evicted in
     omega arith
 
 -- so does a step of a stripe
 step_loads : (old new : State) (session call : ℕ) (key : Bytes) (op : Op) (out : Out) (callers : List (ℕ × ℕ)) (reply : Reply) (place : ℕ) (q : Bytes) → Steps old session call key op out callers reply place new
-    → count_by (is_load q) (added old new) ≡ one_if (pointwise ◌==◌ q key && load_given out.load)
+    → count_by (is_load q) (added old new) ≡ one_if (pointwise ◌==◌ q key && is_load_given out.load)
 step_loads old new session call key op out callers reply place q steps =
     let group = group_made old session call key op out callers steps.short in
     let events = events_of (length old.history) group in
@@ -108,7 +108,7 @@ and_false true = refl
 and_false false = refl
 
 -- what is kept of a key whose part is put in place
-loaded_inserted : (parts : Parts) (key q : Bytes) (part : Part) → (q ≡ key → load_given part.load ≡ is_loaded (get parts q)) → is_loaded (get (insert parts key part) q) ≡ is_loaded (get parts q)
+loaded_inserted : (parts : Parts) (key q : Bytes) (part : Part) → (q ≡ key → is_load_given part.load ≡ is_loaded (get parts q)) → is_loaded (get (insert parts key part) q) ≡ is_loaded (get parts q)
 loaded_inserted parts key q part same =
     ap is_loaded (get-insert nat_list_cmp_total parts key part q)
     ∙ split q key (λ b. is_loaded (cond b (Some part) (get parts q)) ≡ is_loaded (get parts q)) same (λ apart. refl)
@@ -120,7 +120,7 @@ loaded_removed parts key q none =
     ∙ split q key (λ b. is_loaded (cond b None (get parts q)) ≡ is_loaded (get parts q)) (λ same. sym (none same)) (λ apart. refl)
 
 -- the part of a key has this answer, or none
-loaded_at : (w : WorldState) (key q : Bytes) (part : Part) → get w.parts key ≡ Some part → q ≡ key → is_loaded (get w.parts q) ≡ load_given part.load
+loaded_at : (w : WorldState) (key q : Bytes) (part : Part) → get w.parts key ≡ Some part → q ≡ key → is_loaded (get w.parts q) ≡ is_load_given part.load
 loaded_at w key q part there same = ap is_loaded (ap (get w.parts) same ∙ there)
 
 -- a test whose converse holds
@@ -129,24 +129,24 @@ not_true true h = cc
 not_true false h = refl
 
 -- a loader that is waited for has given no answer
-no_answer : (o : Option Part) (part : Part) → o ≡ Some part → waits_for_load o ≡ true → load_given part.load ≡ false
-no_answer o part is waits = not_true (load_given part.load) (both (asks_loader part.first) (not (load_given part.load)) (sym (ap waits_for_load is) ∙ waits)).1
+no_answer : (o : Option Part) (part : Part) → o ≡ Some part → waits_for_load o ≡ true → is_load_given part.load ≡ false
+no_answer o part is waits = not_true (is_load_given part.load) (both (asks_loader part.first) (not (is_load_given part.load)) (sym (ap waits_for_load is) ∙ waits)).1
 
 -- what is untouched has none
-no_touch : (o : Option Part) (part : Part) → o ≡ Some part → is_untouched o ≡ true → load_given part.load ≡ false
+no_touch : (o : Option Part) (part : Part) → o ≡ Some part → is_untouched o ≡ true → is_load_given part.load ≡ false
 no_touch o part is untouched =
-    let parts = both (not (load_given part.load) && not part.is_changed) (not (write_given part.report)) (sym (ap is_untouched is) ∙ untouched) in
-    not_true (load_given part.load) (both (not (load_given part.load)) (not part.is_changed) parts.0).0
+    let parts = both (not (is_load_given part.load) && not part.is_changed) (not (is_write_given part.report)) (sym (ap is_untouched is) ∙ untouched) in
+    not_true (is_load_given part.load) (both (not (is_load_given part.load)) (not part.is_changed) parts.0).0
 
 -- a loader that reads the store has answered
-read_given : (stored : Option Bytes) → load_given (read_answer stored) ≡ true
+read_given : (stored : Option Bytes) → is_load_given (read_answer stored) ≡ true
 read_given None = refl
 read_given (Some value) = refl
 
 -- 3. Each event.
 
 -- an answer is kept
-total_answered : (w : WorldState) (call : ℕ) (key q : Bytes) (part : Part) (answer : LoadAnswer) → part_of w call key ≡ Some part → waits_for_load (part_of w call key) ≡ true → load_given answer ≡ true
+total_answered : (w : WorldState) (call : ℕ) (key q : Bytes) (part : Part) (answer : LoadAnswer) → part_of w call key ≡ Some part → waits_for_load (part_of w call key) ≡ true → is_load_given answer ≡ true
     → count_by (is_load q) w.order + one_if (is_loaded (get (insert w.parts key (record part { load = answer })) q)) ≡ one_if (pointwise ◌==◌ q key) + total w q
 total_answered w call key q part answer is waits given =
     let there = is_there (get w.parts key) call part is in
@@ -154,7 +154,7 @@ total_answered w call key q part answer is waits given =
     let P : Bool → Type 0 = λ b. n + one_if (is_loaded (cond b (Some (record part { load = answer })) (get w.parts q))) ≡ one_if b + (n + one_if (is_loaded (get w.parts q))) in
     ap (λ o. n + one_if (is_loaded o)) (get-insert nat_list_cmp_total w.parts key (record part { load = answer }) q)
     ∙ split q key P
-    (λ same. let was : one_if (is_loaded (get w.parts q)) ≡ 0 = ap one_if (loaded_at w key q part there same ∙ no_answer (part_of w call key) part is waits) in let now : one_if (load_given answer) ≡ 1 = ap one_if given in omega arith)
+    (λ same. let was : one_if (is_loaded (get w.parts q)) ≡ 0 = ap one_if (loaded_at w key q part there same ∙ no_answer (part_of w call key) part is waits) in let now : one_if (is_load_given answer) ≡ 1 = ap one_if given in omega arith)
     (λ apart. omega arith)
     ∙ ap (λ b. one_if b + total w q) (sym (texts_ties q key))
 
@@ -195,17 +195,17 @@ total_ended w new call key part from to (shown.Stepped seen) q is h =
     let r = c.0 in
     let there = is_there (get w.parts key) call part is in
     let mid = settled from (claim_of key part) seen.place in
-    let added_is : count_by (is_load q) (added from to) ≡ one_if (pointwise ◌==◌ q key && load_given part.load) = step_loads mid to r.session r.call key r.op (out_of part) (callers_of part.number from.joiners) seen.reply seen.place q c.2 in
-    let tied = ap (λ b. one_if (b && load_given part.load)) (texts_ties q key) in
+    let added_is : count_by (is_load q) (added from to) ≡ one_if (pointwise ◌==◌ q key && is_load_given part.load) = step_loads mid to r.session r.call key r.op (out_of part) (callers_of part.number from.joiners) seen.reply seen.place q c.2 in
+    let tied = ap (λ b. one_if (b && is_load_given part.load)) (texts_ties q key) in
     let more = none_append q w.order (added from to) in
     let n = count_by (is_load q) w.order in
-    let grows : count_by (is_load q) (w.order ++ added from to) ≡ n + one_if (eq_by_cmp key_cmp q key && load_given part.load) = omega arith in
-    let P : Bool → Type 0 = λ b. (n + one_if (b && load_given part.load)) + one_if (is_loaded (cond b None (get w.parts q))) ≡ n + one_if (is_loaded (get w.parts q)) in
+    let grows : count_by (is_load q) (w.order ++ added from to) ≡ n + one_if (eq_by_cmp key_cmp q key && is_load_given part.load) = omega arith in
+    let P : Bool → Type 0 = λ b. (n + one_if (b && is_load_given part.load)) + one_if (is_loaded (cond b None (get w.parts q))) ≡ n + one_if (is_loaded (get w.parts q)) in
     ap (λ (x : WorldState). total x q) h.2
     ∙ ap (λ m. m + one_if (is_loaded (get (remove w.parts key) q))) grows
-    ∙ ap (λ o. (n + one_if (eq_by_cmp key_cmp q key && load_given part.load)) + one_if (is_loaded o)) (get-remove nat_list_cmp_total w.parts key q)
+    ∙ ap (λ o. (n + one_if (eq_by_cmp key_cmp q key && is_load_given part.load)) + one_if (is_loaded o)) (get-remove nat_list_cmp_total w.parts key q)
     ∙ split q key P
-    (λ same. let was : one_if (is_loaded (get w.parts q)) ≡ one_if (load_given part.load) = ap one_if (loaded_at w key q part there same) in omega arith)
+    (λ same. let was : one_if (is_loaded (get w.parts q)) ≡ one_if (is_load_given part.load) = ap one_if (loaded_at w key q part there same) in omega arith)
     (λ apart. omega arith)
 total_ended w new call key part from to seen q is h = absurd h
 
@@ -224,7 +224,7 @@ total_happens w new (event.Read call key) seen q fit h old =
     ap (λ (x : WorldState). total x q) h.3 ∙ total_answered w call key q h.0 (read_answer (entry_at w.store key)) h.1 fit (read_given (entry_at w.store key))
     ∙ ap (λ s. one_if (is_answer q (event.Read call key) s) + total w q) (sym h.2)
 total_happens w new (event.Say call key answer) seen q fit h old =
-    let ok = both (load_given answer) (waits_for_load (part_of w call key)) fit in
+    let ok = both (is_load_given answer) (waits_for_load (part_of w call key)) fit in
     ap (λ (x : WorldState). total x q) h.3 ∙ total_answered w call key q h.0 answer h.1 ok.1 ok.0
     ∙ ap (λ s. one_if (is_answer q (event.Say call key answer) s) + total w q) (sym h.2)
 total_happens w new (event.Change call key) seen q fit h old =

@@ -103,7 +103,7 @@ started_done v next call key u number before reply place seen stripes order is h
       subst At home_is p.at,
       p.to,
       (
-        subst C (sym shows.step.1) (subst B (sym shows.step.0) p.made),
+        subst C (sym shows.step.1) (subst B (sym shows.step.0) p.step),
         shows_step v u.command.key number before p.from p.to stripes reply place seen p.at p.stripes_are home_is before_is shows,
         next_is ∙ (λ i. record v { stripes = (p.stripes_are ∙ ap (λ n. slice_set v.stripes n p.to) home_is) i; order = p.order_is i; calls = over u.number v.calls }),
       ),
@@ -134,10 +134,10 @@ started_refused v next call key u number refusal stripes order is home_is p next
       subst At home_is p.at,
       p.to,
       (
-        p.made,
+        p.step,
         next_is ∙ (λ i. record v {
-          stripes = (p.stripes_are ∙ same_set v.stripes number p.from p.to p.at p.made.1) i;
-          order = (p.order_is ∙ none_new v.order p.to.history p.from.history (ap (λ (s : State). s.history) p.made.1)) i;
+          stripes = (p.stripes_are ∙ same_set v.stripes number p.from p.to p.at p.step.1) i;
+          order = (p.order_is ∙ none_new v.order p.to.history p.from.history (ap (λ (s : State). s.history) p.step.1)) i;
           calls = over u.number v.calls;
         }),
       ),
@@ -155,10 +155,10 @@ started_loads v next call key u number ticket stripes order parts is home_is p p
       p.to,
       (
         ticket,
-        p.made,
+        p.step,
         next_is ∙ (λ i. record v {
           stripes = (p.stripes_are ∙ ap (λ n. slice_set v.stripes n p.to) home_is) i;
-          order = (p.order_is ∙ none_new v.order p.to.history p.from.history (ap (λ (s : State). s.history) p.made.4)) i;
+          order = (p.order_is ∙ none_new v.order p.to.history p.from.history (ap (λ (s : State). s.history) p.step.4)) i;
           parts = parts_are i;
         }),
       ),
@@ -170,7 +170,7 @@ pub started_joins : (v next : WorldState) (call : ℕ) (key : Bytes) (u : Under)
     → next ≡ record v { stripes = stripes; order = order; joins = joins } → Happens v (event.Start call key) shown.Joins next
 started_joins v next call key u number join stripes order joins is home_is p joins_are next_is =
     let At : ℕ → Type 0 = λ n. slice_get v.stripes n ≡ Some p.from in
-    let load = p.made.1 in (
+    let load = p.step.1 in (
       u,
       is,
       p.from,
@@ -178,7 +178,7 @@ started_joins v next call key u number join stripes order joins is home_is p joi
       p.to,
       (
         join,
-        p.made,
+        p.step,
         next_is ∙ (λ i. record v {
           stripes = (p.stripes_are ∙ ap (λ n. slice_set v.stripes n p.to) home_is) i;
           order = (p.order_is ∙ none_new v.order p.to.history p.from.history (ap (λ (s : State). s.history) load.3)) i;
@@ -199,10 +199,10 @@ started_asks v next call key u number ticket change stripes order parts is home_
       p.to,
       (
         ticket,
-        p.made,
+        p.step,
         next_is ∙ (λ i. record v {
           stripes = (p.stripes_are ∙ ap (λ n. slice_set v.stripes n p.to) home_is) i;
-          order = (p.order_is ∙ none_new v.order p.to.history p.from.history (ap (λ (s : State). s.history) p.made.3)) i;
+          order = (p.order_is ∙ none_new v.order p.to.history p.from.history (ap (λ (s : State). s.history) p.step.3)) i;
           parts = parts_are i;
         }),
       ),
@@ -213,13 +213,13 @@ pub free_load : (v : WorldState) (u : Under) (number : ℕ) (ticket : Claim) (st
     → (get v.parts u.command.key ≡ None) × (ticket.key ≡ u.command.key)
 free_load v u number ticket stripes order home_is p sound =
     let At : ℕ → Type 0 = λ n. slice_get v.stripes n ≡ Some p.from in
-    (unheld v u.command.key p.from (subst At home_is p.at) (was_free p.from u.number u.command.key u.command.op Loader p.made.0 p.made.1 p.made.2 refl) sound, ap (λ (t : Claim). t.key) p.made.3)
+    (unheld v u.command.key p.from (subst At home_is p.at) (was_free p.from u.number u.command.key u.command.op Loader p.step.0 p.step.1 p.step.2 refl) sound, ap (λ (t : Claim). t.key) p.step.3)
 
 pub free_write : (v : WorldState) (u : Under) (number : ℕ) (ticket : WriteClaim) (change : Change) (stripes : List State) (order : List Event) → number ≡ home v u.command.key → Phased v number (BeginsAs u (begun.Write ticket change)) stripes order → IsSoundWorld v
     → (get v.parts u.command.key ≡ None) × (ticket.claim.key ≡ u.command.key) × (ticket.change ≡ change)
 free_write v u number ticket change stripes order home_is p sound =
     let At : ℕ → Type 0 = λ n. slice_get v.stripes n ≡ Some p.from in
-    (unheld v u.command.key p.from (subst At home_is p.at) (was_free p.from u.number u.command.key u.command.op (Writer change) p.made.0 (writer_alone p.from u.command.key u.command.op change p.made.1) p.made.1 refl) sound, ap (λ (t : WriteClaim). t.claim.key) p.made.2, ap (λ (t : WriteClaim). t.change) p.made.2)
+    (unheld v u.command.key p.from (subst At home_is p.at) (was_free p.from u.number u.command.key u.command.op (Writer change) p.step.0 (writer_alone p.from u.command.key u.command.op change p.step.1) p.step.1 refl) sound, ap (λ (t : WriteClaim). t.claim.key) p.step.2, ap (λ (t : WriteClaim). t.change) p.step.2)
 
 -- 4. A last phase.
 
@@ -239,7 +239,7 @@ ended v next call key part number before reply place seen stripes order parts is
       subst At home_is p.at,
       p.to,
       (
-        subst C (sym shows.step.1) (subst B (sym shows.step.0) p.made),
+        subst C (sym shows.step.1) (subst B (sym shows.step.0) p.step),
         shows_step v key number before p.from p.to stripes reply place seen p.at p.stripes_are home_is before_is shows,
         next_is ∙ (λ i. record v { stripes = (p.stripes_are ∙ ap (λ n. slice_set v.stripes n p.to) home_is) i; order = p.order_is i; calls = over call v.calls; parts = parts_are i }),
       ),
@@ -296,7 +296,7 @@ withdrawn_at v next call key part number stripes parts is home_is p parts_are ne
       p.from,
       subst At home_is p.at,
       p.to,
-      p.made,
+      p.step,
       refl,
       next_is ∙ (λ i. record v { stripes = (p.stripes_are ∙ ap (λ n. slice_set v.stripes n p.to) home_is) i; parts = parts_are i }),
     )
@@ -327,7 +327,7 @@ picked_answer v next call key join number seen stripes is home_is stripe_is p ne
       subst At home_is p.at,
       p.to,
       (
-        p.made,
+        p.step,
         stripe_is ∙ home_is,
         next_is ∙ (λ i. record v { stripes = (p.stripes_are ∙ ap (λ n. slice_set v.stripes n p.to) home_is) i; joins = unjoined call key v.joins; calls = over call v.calls }),
       ),
@@ -344,7 +344,7 @@ picked_again v next call key join number stripes is home_is p next_is =
       p.from,
       subst At home_is p.at,
       p.to,
-      (p.made, next_is ∙ (λ i. record v { stripes = (p.stripes_are ∙ ap (λ n. slice_set v.stripes n p.to) home_is) i; joins = unjoined call key v.joins })),
+      (p.step, next_is ∙ (λ i. record v { stripes = (p.stripes_are ∙ ap (λ n. slice_set v.stripes n p.to) home_is) i; joins = unjoined call key v.joins })),
     )
 
 -- the load isn't over
@@ -353,11 +353,11 @@ pub picked_nothing : (v next : WorldState) (call : ℕ) (key : Bytes) (join back
     → next ≡ record v { stripes = stripes } → Happens v (event.PickUp call key) shown.Waits next
 picked_nothing v next call key join back number stripes is home_is p next_is =
     let At : ℕ → Type 0 = λ n. slice_get v.stripes n ≡ Some p.from in
-    let made : PicksUp p.from join (picked.NotYet join) p.to = (p.made.0, refl, p.made.2) in (
+    let made : PicksUp p.from join (picked.NotYet join) p.to = (p.step.0, refl, p.step.2) in (
       join,
       is,
       p.from,
       subst At home_is p.at,
       p.to,
-      (made, next_is ∙ (λ i. record v { stripes = (p.stripes_are ∙ same_set v.stripes number p.from p.to p.at p.made.2) i })),
+      (made, next_is ∙ (λ i. record v { stripes = (p.stripes_are ∙ same_set v.stripes number p.from p.to p.at p.step.2) i })),
     )

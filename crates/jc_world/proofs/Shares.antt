@@ -247,9 +247,9 @@ by_shared P place key answer (c ∷ cs) h = (h.0, by_shared P place key answer c
 pub by_group : (P : ℕ → ℕ → Type 0) (place : ℕ) (group : Group) → P group.session group.number → Each (λ (c : ℕ × ℕ). P c.0 c.1) group.joined → AllBy P (events_of place group)
 by_group P place group one callers =
     let front = victim_events group.victim in
-    let steps = step_event group ∷ map (shared_event (step_place place group) group.made.key group.made.out.load) group.joined in
-    let all_steps : AllBy P steps = (one, by_shared P (step_place place group) group.made.key group.made.out.load group.joined callers) in
-    by_append P (front ++ steps) (evicted_events group.made.key group.evicted) (by_append P front steps (by_victim P group.victim) all_steps) (by_evicted P group.made.key group.evicted)
+    let steps = step_event group ∷ map (shared_event (step_place place group) group.step.key group.step.out.load) group.joined in
+    let all_steps : AllBy P steps = (one, by_shared P (step_place place group) group.step.key group.step.out.load group.joined callers) in
+    by_append P (front ++ steps) (evicted_events group.step.key group.evicted) (by_append P front steps (by_victim P group.victim) all_steps) (by_evicted P group.step.key group.evicted)
 
 -- a fact of each event, where it holds of each step
 pub all_by : (P : ℕ → ℕ → Type 0) (p : Event → Bool) (es : List Event) → ((s n : ℕ) (op : Op) (key : Bytes) (out : Out) (shared : Option ℕ) (reply : Reply) → P s n → p (Step s n op key out shared reply) ≡ true)

@@ -5,7 +5,7 @@ use Rattle.std.specs.FinMap as map
 use Rattle.std.specs.FinMap.{get, insert, find, get-from_entries}
 use Rattle.jc_model.specs.Cache.{Bytes, key_cmp}
 use Rattle.jc_model.specs.declared.event.Change.{Change}
-use Rattle.jc_model.specs.Table.{write_given}
+use Rattle.jc_model.specs.Table.{is_write_given}
 use Rattle.jc_model.proofs.Lookups.{both, exact, none_is}
 use Rattle.jc_stripe.specs.declared.ticket.First.{First}
 use Rattle.jc_stripe.specs.declared.ticket.First.TheVariants.{Nobody, Loader, Writer}
@@ -58,7 +58,7 @@ pushed slots items key part none is old =
 
 -- whose writer is waited for was asked for a change
 pub waits_writer : (part : Part) → waits_for_report (Some part) ≡ true → (change : Change) × (part.first ≡ Writer change)
-waits_writer part h = go part.first refl ((both (asks_writer part.first) (not (write_given part.report)) h).0)
+waits_writer part h = go part.first refl ((both (asks_writer part.first) (not (is_write_given part.report)) h).0)
   where
     go : (first : First) → part.first ≡ first → asks_writer first ≡ true → (change : Change) × (part.first ≡ Writer change)
     go Nobody e h = cc

@@ -3,7 +3,7 @@ use Rattle.std.proofs.Common.{inl, inr, ◌≡◌, ◌∙◌, ℕ, List, [], ◌
 use Rattle.jc_types.specs.declared.config.Config.{Config}
 use Rattle.jc_types.specs.Limits.{checked}
 use Rattle.jc_model.specs.Cache.{Bytes, entry_at, with_entry}
-use Rattle.jc_model.specs.Table.{load_given}
+use Rattle.jc_model.specs.Table.{is_load_given}
 use Rattle.jc_model.proofs.Lookups.{both}
 use Rattle.jc_world.specs.declared.event.Under.{Under}
 use Rattle.jc_world.specs.declared.event.Shown.{Shown}
@@ -29,7 +29,7 @@ parts_happens kept w new (event.Call call session command) seen fit (shows, is) 
 parts_happens kept w new (event.Start call key) seen fit (u, there, from, at, to, starts) h = parts_started kept w new call key u from to seen fit there at starts h
 parts_happens kept w new (event.Read call key) seen fit (part, there, shows, is) h = subst HasParts (sym is) (parts_answered w call key part (read_answer (entry_at w.store key)) there fit h)
 parts_happens kept w new (event.Say call key answer) seen fit (part, there, shows, is) h =
-    subst HasParts (sym is) (parts_answered w call key part answer there ((both (load_given answer) (waits_for_load (part_of w call key)) fit).1) h)
+    subst HasParts (sym is) (parts_answered w call key part answer there ((both (is_load_given answer) (waits_for_load (part_of w call key)) fit).1) h)
 parts_happens kept w new (event.Change call key) seen fit (part, change, there, asked, shows, is) h = subst HasParts (sym is) (parts_changed w call key part change there asked fit h)
 parts_happens kept w new (event.Report call fault) seen fit (u, part, change, there, at, asked, shows, is) h =
     subst HasParts (sym is) (parts_reported w call u.command.key part (report_of fault) at (waits_at w call u there fit) h)

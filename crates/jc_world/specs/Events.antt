@@ -44,7 +44,7 @@ use Rattle.jc_model.specs.declared.event.LoadAnswer.TheVariants as load
 use Rattle.jc_model.specs.declared.event.WriteAnswer.{WriteAnswer}
 use Rattle.jc_model.specs.declared.event.WriteAnswer.TheVariants as write
 use Rattle.jc_model.specs.Cache.{Bytes, entry_at, with_entry}
-use Rattle.jc_model.specs.Table.{load_given}
+use Rattle.jc_model.specs.Table.{is_load_given}
 use Rattle.jc_stripe.specs.declared.begun.Begun.TheVariants as begun
 use Rattle.jc_stripe.specs.declared.ticket.First.{First}
 use Rattle.jc_stripe.specs.declared.ticket.First.TheVariants.{Loader, Writer}
@@ -115,7 +115,7 @@ abbrev pub fits : WorldState → WorldEvent → Bool
 fits w (event.Call call session command) = is_single command.op && is_session session && is_new w.last call && not (is_busy w session)
 fits w (event.Start call key) = may_start w call key (under w call)
 fits w (event.Read call key) = waits_for_load (part_of w call key)
-fits w (event.Say call key answer) = load_given answer && waits_for_load (part_of w call key)
+fits w (event.Say call key answer) = is_load_given answer && waits_for_load (part_of w call key)
 fits w (event.Change call key) = waits_for_report (part_of w call key)
 fits w (event.Report call fault) = may_report w call (under w call)
 fits w (event.Commit call key) = is_answered (part_of w call key)

@@ -16,7 +16,7 @@ use Rattle.jc_types.specs.Limits.{checked}
 use Rattle.jc_model.specs.declared.event.Event.{Event}
 use Rattle.jc_model.specs.declared.event.Event.TheVariants as stripe
 use Rattle.jc_model.specs.Cache.{Bytes}
-use Rattle.jc_model.specs.Table.{load_given}
+use Rattle.jc_model.specs.Table.{is_load_given}
 use Rattle.jc_world.specs.declared.event.Part.{Part}
 use Rattle.jc_world.specs.declared.event.WorldEvent.{WorldEvent}
 use Rattle.jc_world.specs.declared.event.WorldEvent.TheVariants as event
@@ -46,14 +46,14 @@ is_answer key e seen = false
 
 -- a step of a key that has an answer of the loader, which it shares with no step before it
 abbrev pub is_load : Bytes → Event → Bool
-is_load key (stripe.Step session number op k out None reply) = pointwise ◌==◌ key k && load_given out.load
+is_load key (stripe.Step session number op k out None reply) = pointwise ◌==◌ key k && is_load_given out.load
 is_load key (stripe.Step session number op k out (Some place) reply) = false
 is_load key (stripe.Evict k cause) = false
 
 -- an answer of the loader is kept for the commit
 abbrev pub is_loaded : Option Part → Bool
 is_loaded None = false
-is_loaded (Some part) = load_given part.load
+is_loaded (Some part) = is_load_given part.load
 
 abbrev pub CountsLoads : Type 0
 CountsLoads = (config : Config) (stored : List (Bytes × Bytes)) (events : List WorldEvent) (seen : List Shown) (new : WorldState) (key : Bytes) → checked config ≡ Ok tt → Run (opened config stored) events seen new

@@ -33,7 +33,7 @@ use Rattle.jc_model.specs.declared.event.LoadAnswer.TheVariants as load
 use Rattle.jc_model.specs.declared.event.WriteAnswer.TheVariants as write
 use Rattle.jc_model.specs.declared.event.ProcessAnswer.TheVariants as process
 use Rattle.jc_model.specs.Cache.{Bytes, entry_at}
-use Rattle.jc_model.specs.Table.{write_ask, write_given}
+use Rattle.jc_model.specs.Table.{write_ask, is_write_given}
 use Rattle.jc_model.specs.Lawful.{loads_whole}
 use Rattle.jc_model.specs.Legal.{in_order, of_stripe}
 use Rattle.jc_model.specs.Processor.{found_in}
@@ -185,7 +185,7 @@ pub record IsTold (part : Part) (stored entry : Option Bytes) : Type 0 where
   pub loaded : Agrees (found_in part.load) stored
   pub written : part.is_changed ≡ true → WrittenFor part.first stored
   pub unwritten : part.is_changed ≡ false → Agrees entry stored
-  pub honest : write_given part.report ≡ true → is_done part.report ≡ part.is_changed
+  pub honest : is_write_given part.report ≡ true → is_done part.report ≡ part.is_changed
 
 abbrev pub KeyTold : Option Part → Option Bytes → Option Bytes → Type 0
 KeyTold None stored entry = Agrees entry stored

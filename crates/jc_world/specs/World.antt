@@ -35,7 +35,7 @@ use Rattle.jc_model.specs.declared.event.Event.{Event}
 use Rattle.jc_model.specs.declared.event.Out.{Out}
 use Rattle.jc_model.specs.declared.event.ProcessAnswer.TheVariants as process
 use Rattle.jc_model.specs.Cache.{Bytes, Cache, key_cmp, entry_at, with_entry}
-use Rattle.jc_model.specs.Table.{load_given, write_given}
+use Rattle.jc_model.specs.Table.{is_load_given, is_write_given}
 use Rattle.jc_stripe.specs.declared.ticket.First.{First}
 use Rattle.jc_stripe.specs.declared.ticket.First.TheVariants.{Nobody, Loader, Writer}
 use Rattle.jc_stripe.specs.declared.ticket.Origin.TheVariants.{Played}
@@ -143,22 +143,22 @@ asks_writer (Writer change) = true
 -- the loader was asked, and hasn't answered
 abbrev pub waits_for_load : Option Part → Bool
 waits_for_load None = false
-waits_for_load (Some part) = asks_loader part.first && not (load_given part.load)
+waits_for_load (Some part) = asks_loader part.first && not (is_load_given part.load)
 
 -- the writer was asked, and hasn't returned
 abbrev pub waits_for_report : Option Part → Bool
 waits_for_report None = false
-waits_for_report (Some part) = asks_writer part.first && not (write_given part.report)
+waits_for_report (Some part) = asks_writer part.first && not (is_write_given part.report)
 
 -- all that was asked is answered
 abbrev pub is_answered : Option Part → Bool
 is_answered None = false
-is_answered (Some part) = (asks_loader part.first && load_given part.load) || (asks_writer part.first && write_given part.report)
+is_answered (Some part) = (asks_loader part.first && is_load_given part.load) || (asks_writer part.first && is_write_given part.report)
 
 -- nothing was said outside, and nothing done
 abbrev pub is_untouched : Option Part → Bool
 is_untouched None = false
-is_untouched (Some part) = not (load_given part.load) && not part.is_changed && not (write_given part.report)
+is_untouched (Some part) = not (is_load_given part.load) && not part.is_changed && not (is_write_given part.report)
 
 abbrev pub claim_of : Bytes → Part → Claim
 claim_of key part = record { key = key; number = part.number }

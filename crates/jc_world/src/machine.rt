@@ -3,7 +3,7 @@ ghost use Rattle.std.specs.Prelude.{IsTrue, option_copied, ◌≡◌, ◌&&◌, 
 ghost use Rattle.std.specs.FinMap as map;
 ghost use Rattle.jc_types.specs.Limits.{checked};
 ghost use Rattle.jc_model.specs.Cache.{entry_at, with_entry};
-ghost use Rattle.jc_model.specs.Table.{load_given, holds};
+ghost use Rattle.jc_model.specs.Table.{is_load_given, holds};
 ghost use Rattle.jc_stripe.specs.declared.ticket.First.TheVariants.{Writer};
 ghost use Rattle.jc_model.specs.declared.event.Change.{Change};
 ghost use Rattle.jc_world.specs.declared.event.WorldEvent.TheVariants as event;

@@ -1,6 +1,6 @@
 //! What loaders and writers say, and whether they are honest.
 ghost use Rattle.std.specs.Prelude.{◌≡◌, ◌&&◌, option_copied};
-ghost use Rattle.jc_model.specs.Table.{load_given, write_given, alike};
+ghost use Rattle.jc_model.specs.Table.{is_load_given, is_write_given, alike};
 ghost use Rattle.jc_world.specs.World.{asks_loader, asks_writer, waits_for_load, waits_for_report, is_answered, is_untouched};
 ghost use Rattle.jc_world.specs.Premises.{read_answer, changed_to, report_of, is_true_load, is_done, is_true_report};
 
@@ -35,14 +35,14 @@ pub(crate) fn answer_of(stored: Option<Value>) -> LoadAnswer
 
 /// Whether the loader has answered.
 pub(crate) fn is_load_given(answer: LoadAnswer) -> bool
-    ensures { result ≡ load_given answer }
+    ensures { result ≡ is_load_given answer }
 {
     !matches!(answer, LoadAnswer::NotAsked)
 }
 
 /// Whether the writer has returned.
 pub(crate) fn is_write_given(report: WriteAnswer) -> bool
-    ensures { result ≡ write_given report }
+    ensures { result ≡ is_write_given report }
 {
     !matches!(report, WriteAnswer::NotAsked)
 }

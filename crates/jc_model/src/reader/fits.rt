@@ -1,8 +1,8 @@
 //! Whether an event may come next.
 ghost use Rattle.std.specs.Prelude.{◌≡◌, ◌↔◌, ◌&&◌, ℕ, IsTrue, is_none, is_some};
 ghost use Rattle.jc_model.specs.Cache.{entry_at};
-ghost use Rattle.jc_model.specs.Table.{answers_fit, new_entry, new_reply};
-ghost use Rattle.jc_model.specs.Group.{without};
+ghost use Rattle.jc_model.specs.Table.{answers_fit, entry_after, reply_after};
+ghost use Rattle.jc_model.specs.Group.{without_victim};
 ghost use Rattle.jc_model.specs.Lawful.{victim_fits, IsLawfulStep};
 ghost use Rattle.jc_model.specs.Reader.{new_group, FitsShared, Fits};
 
@@ -16,7 +16,7 @@ use jc_types::value::Value;
 
 /// The entry at a key once the victim, if any, has gone.
 pub(super) fn entry_before(contents: &Contents, victim: &Option<Key>, key: &Key) -> Option<Value>
-    ensures { result ≡ entry_at (without contents.now victim.now) key.now }
+    ensures { result ≡ entry_at (without_victim contents.now victim.now) key.now }
 {
     match victim {
         Some(gone) => {
@@ -32,9 +32,9 @@ pub(super) fn entry_before(contents: &Contents, victim: &Option<Key>, key: &Key)
 
 /// Whether a step inserts, at the entry that it found.
 pub(super) fn does_insert(entry: Option<Value>, op: &Op, out: &Out) -> bool
-    ensures { result ≡ (is_none entry && is_some (new_entry op.now entry out.now)) }
+    ensures { result ≡ (is_none entry && is_some (entry_after op.now entry out.now)) }
 {
-    entry.is_none() && op.entry_left(entry, out).is_some()
+    entry.is_none() && op.entry_after(entry, out).is_some()
 }
 
 /// Whether the victim may go before the step.
@@ -46,7 +46,7 @@ fn does_victim_fit(
     key: &Key,
     out: &Out,
 ) -> bool
-    ensures { (reply : _) → result ≡ victim_fits config.now contents.now (new_group victim.now 0 0 op.now key.now out.now reply) victim.now }
+    ensures { (reply : _) → result ≡ victim_fits config.now contents.now (new_group victim.now (record { session = 0; call = 0 }) op.now key.now out.now reply) victim.now }
 {
     let entry = entry_before(contents, victim, key);
     match victim {
@@ -62,9 +62,9 @@ fn does_victim_fit(
 
 /// Whether the step is one of the operation table, at the entry that it found.
 fn is_made(config: &Config, entry: Option<Value>, op: &Op, out: &Out, reply: &Reply) -> bool
-    ensures { IsTrue result ↔ (IsTrue (answers_fit config.now op.now entry out.now) × (reply.now ≡ new_reply op.now entry out.now)) }
+    ensures { IsTrue result ↔ (IsTrue (answers_fit config.now op.now entry out.now) × (reply.now ≡ reply_after op.now entry out.now)) }
 {
-    op.is_answered(config, &entry, out) && is_same_reply(reply, &op.reply(entry, out))
+    op.answers_fit(config, &entry, out) && is_same_reply(reply, &op.reply_after(entry, out))
 }
 
 /// Whether a group may begin with this step.
@@ -77,7 +77,7 @@ fn does_start(
     out: &Out,
     reply: &Reply,
 ) -> bool
-    ensures { IsTrue result ↔ IsLawfulStep config.now contents.now (new_group victim.now 0 0 op.now key.now out.now reply.now) }
+    ensures { IsTrue result ↔ IsLawfulStep config.now contents.now (new_group victim.now (record { session = 0; call = 0 }) op.now key.now out.now reply.now) }
 {
     is_made(config, entry_before(contents, victim, key), op, out, reply)
         && does_victim_fit(config, contents, victim, op, key, out)
@@ -92,7 +92,7 @@ fn does_shared_fit(
     shared_with: u32,
     reply: &Reply,
 ) -> bool
-    ensures { (session number : _) → (IsTrue result ↔ FitsShared stage.now (Event.Step session number op.now key.now out.now (Some shared_with) reply.now)) }
+    ensures { (caller : _) → (IsTrue result ↔ FitsShared stage.now (Event.Step caller op.now key.now out.now (Some shared_with) reply.now)) }
 {
     match stage {
         Stage::Inside(kept) => {
@@ -101,7 +101,7 @@ fn does_shared_fit(
                 && matches!(op, Op::Get)
                 && *key == kept.key
                 && is_load_only(out, &kept.load)
-                && is_same_reply(reply, &Op::Get.reply(None, out))
+                && is_same_reply(reply, &Op::Get.reply_after(None, out))
         }
         _ => false,
     }

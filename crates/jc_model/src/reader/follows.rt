@@ -1,10 +1,10 @@
 //! What an event leads to: where the reader stands behind it, and what the cache then has.
 ghost use Rattle.std.specs.Prelude.{◌≡◌, IfOk, OnOk};
-ghost use Rattle.jc_model.specs.Group.{stepped};
+ghost use Rattle.jc_model.specs.Group.{cache_after_step};
 ghost use Rattle.jc_model.specs.Reader.{new_group, opened, then_stage, then_cache};
 
 use crate::contents::Contents;
-use crate::event::{Event, LoadAnswer, Op, Out};
+use crate::event::{Event, Op, Out};
 use crate::reader::fits::{does_insert, entry_before};
 use crate::reader::{Opened, Stage};
 use jc_types::config::Config;
@@ -21,18 +21,17 @@ fn opened_by(
     key: &Key,
     out: &Out,
 ) -> Opened
-    ensures { (reply : _) → result ≡ opened config.now contents.now place (new_group victim.now 0 0 op.now key.now out.now reply) }
+    ensures { (reply : _) → result ≡ opened config.now contents.now place (new_group victim.now (record { session = 0; call = 0 }) op.now key.now out.now reply) }
 {
     let entry = entry_before(contents, victim, key);
-    let loads_whole = matches!(op, Op::Get | Op::LoadAll(_));
     Opened {
         place,
         key: *key,
         load: out.load,
         is_joinable: config.read_through
-            && loads_whole
+            && op.loads_whole()
             && entry.is_none()
-            && !matches!(out.load, LoadAnswer::NotAsked),
+            && out.load.is_given(),
         is_inserted: does_insert(entry, op, out),
         was_full: contents.len() == config.capacity && victim.is_none(),
     }
@@ -46,12 +45,12 @@ fn make_step(
     key: &Key,
     out: &Out,
 ) -> Result<(), AllocError>
-    ensures { (reply : _) → OnOk result (contents.new ≡ stepped contents.old (new_group victim.now 0 0 op.now key.now out.now reply)) }
+    ensures { (reply : _) → OnOk result (contents.new ≡ cache_after_step contents.old (new_group victim.now (record { session = 0; call = 0 }) op.now key.now out.now reply)) }
 {
     if let Some(victim) = victim {
         contents.set(victim, None)?;
     }
-    let left = op.entry_left(contents.get(key), out);
+    let left = op.entry_after(contents.get(key), out);
     contents.set(key, left)?;
     Ok(())
 }

@@ -2,10 +2,10 @@ use Rattle.std.proofs.Common.{sym, ◌∙◌}
 use Rattle.jc_model.proofs.Order.{ends_lower, goes_on, before_order}
 use Rattle.jc_model.proofs.callers.does_follow_all.Goals as goal
 
-pub returns-then-is_earlier : goal.returns-then-is_earlier
-returns-then-is_earlier c =
+pub returns-then-comes_before : goal.returns-then-comes_before
+returns-then-comes_before c =
     let i = c.loop-last.invariant in
-    sym (ends_lower _ _ c.in-Some.last.now c.args.event.now c.in-Some.ensures.cases.0 i.order (sym c.is_earlier.ensures ∙ c.if-is_earlier.true)) ∙ i.same
+    sym (ends_lower _ _ c.in-Some.last.now c.args.event.now c.in-Some.ensures.cases.0 i.order (sym c.comes_before.ensures ∙ c.if-comes_before.true)) ∙ i.same
 
 pub loop-last-preserved : goal.loop-last-preserved
 loop-last-preserved c =

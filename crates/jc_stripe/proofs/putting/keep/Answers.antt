@@ -1,5 +1,5 @@
 use Rattle.std.proofs.Common.{sym, ◌∙◌, ap}
-use Rattle.jc_model.specs.Table.{new_entry}
+use Rattle.jc_model.specs.Table.{entry_after}
 use Rattle.jc_stripe.proofs.Keeping.{kept_after, not_kept, use_is}
 use Rattle.jc_stripe.proofs.putting.keep.Goals as goal
 
@@ -9,7 +9,7 @@ returns-in-KeptAfter c =
     (record {
       few = c.requires.room;
       is_use = use_is _ _ _ _ c.first_fault.ensures c.does_use.ensures (sym c.is_some.ensures ∙ c.if-is_some.false) c.if-not-does_use.false;
-      entry = ap (λ o. new_entry c.args.op.now o c.args.out.now) (sym c.requires.entry) ∙ sym c.entry_left.ensures ∙ c.in-Some.is;
+      entry = ap (λ o. entry_after c.args.op.now o c.args.out.now) (sym c.requires.entry) ∙ sym c.entry_left.ensures ∙ c.in-Some.is;
     })
     c.in-KeptAfter.ensures.inserts
 
@@ -19,6 +19,6 @@ returns-in-NotKept c =
     (record {
       few = c.requires.room;
       is_use = use_is _ _ _ _ c.first_fault.ensures c.does_use.ensures (sym c.is_some.ensures ∙ c.if-is_some.false) c.if-not-does_use.false;
-      entry = ap (λ o. new_entry c.args.op.now o c.args.out.now) (sym c.requires.entry) ∙ sym c.entry_left.ensures ∙ c.in-Some.is;
+      entry = ap (λ o. entry_after c.args.op.now o c.args.out.now) (sym c.requires.entry) ∙ sym c.entry_left.ensures ∙ c.in-Some.is;
     })
     c.in-NotKept.ensures.inserts

@@ -16,7 +16,7 @@ unreachable-requires c =
 
 pub loop-k-preserved : goal.loop-k-preserved
 loop-k-preserved c =
-    let f = shared_event c.args.place c.args.made.now.key c.args.made.now.out.load in (
+    let f = shared_event c.args.place c.args.step.now.key c.args.step.now.out.load in (
       shared_next f (callers_of c.in-Some.load c.args.joiners.now) c.loop-k.k (c.in-Some-nth_waiting.session, c.in-Some-nth_waiting.number) c.args.history.now c.loop-k.history c.push.new.self
           c.loop-k.invariant.0 (sym c.nth_waiting.ensures ∙ c.in-Some-nth_waiting.is) (c.push.ensures.after ∙ ap (λ e. happened e c.loop-k.history) c.shared_step.ensures),
       c.loop-k.invariant.1,

@@ -2,7 +2,7 @@
 ghost use Rattle.std.specs.Prelude.{◌≡◌, true, false, IsTrue, map, unwrap_or, option_map};
 ghost use Rattle.std.specs.List.{list_all};
 ghost use Rattle.jc_model.specs.Legal.{may_come};
-ghost use Rattle.jc_model.specs.Table.{load_given, write_given};
+ghost use Rattle.jc_model.specs.Table.{is_load_given, is_write_given};
 ghost use Rattle.jc_reserve.specs.Reserving.{found_at};
 ghost use Rattle.jc_stripe.specs.Inside.{reserved_of};
 ghost use Rattle.jc_stripe.specs.State.{is_of, IsOut};
@@ -151,13 +151,13 @@ pub(super) fn is_played(stripe: &Stripe) -> bool
 }
 
 pub(super) fn is_loaded(answer: &LoadAnswer) -> bool
-    ensures { result ≡ load_given answer.now }
+    ensures { result ≡ is_load_given answer.now }
 {
     !matches!(answer, LoadAnswer::NotAsked)
 }
 
 pub(super) fn is_written(answer: &WriteAnswer) -> bool
-    ensures { result ≡ write_given answer.now }
+    ensures { result ≡ is_write_given answer.now }
 {
     !matches!(answer, WriteAnswer::NotAsked)
 }

@@ -1,6 +1,6 @@
 use Rattle.std.proofs.Common.{◌≡◌, ◌+◌, ◌∙◌, Some, IsSomeAnd, find, length, sym, subst, ap}
 use Rattle.jc_model.specs.declared.event.Out.{Out}
-use Rattle.jc_model.specs.Table.{new_reply}
+use Rattle.jc_model.specs.Table.{reply_after}
 use Rattle.jc_inflight.specs.Joined.{callers_of}
 use Rattle.jc_stripe.specs.declared.ticket.Note.{Note}
 use Rattle.jc_stripe.specs.Claim.{Claim}
@@ -59,7 +59,7 @@ is_commit c r found at said =
       said = said;
       released = c.release.ensures.released;
       keys_are = c.keys-pinned.ensures.keys;
-      replied = c.reply-reply.ensures ∙ (λ i. new_reply (n i).op (entry i) c.args.out.now);
+      replied = c.reply-reply.ensures ∙ (λ i. reply_after (n i).op (entry i) c.args.out.now);
       keeps = subst (λ (x : Note). IsKeptSo c.self.inside.entries c.keys-pinned.result.now c.args.key.now x.op c.args.out.now c.keep-evicted.result.0 c.keep-evicted.result.1 c.keep-evicted.new.entries) n c.keep-evicted.ensures;
       place_is = c.put_down-place.ensures.place;
       put = c.put_down-place.ensures.history

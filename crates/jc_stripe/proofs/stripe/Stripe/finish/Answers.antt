@@ -1,6 +1,6 @@
 use Rattle.std.proofs.Common.{◌≡◌, ◌≤◌, ◌+◌, ◌∙◌, [], None, length, sym, subst, ap}
 use Rattle.jc_model.specs.Cache.{entry_at}
-use Rattle.jc_model.specs.Table.{new_reply}
+use Rattle.jc_model.specs.Table.{reply_after}
 use Rattle.jc_model.specs.Group.{nothing_said}
 use Rattle.jc_history.specs.Past.{promising}
 use Rattle.jc_stripe.specs.declared.ticket.First.TheVariants.{Nobody}
@@ -42,8 +42,8 @@ promises c =
 asked : (c : goal.After-put_down-place) → first_asked c.self.inside.config c.args.op.now (entry_at (state_of c.self.inside).cache c.args.key.now) ≡ Nobody
 asked c = ap (λ (s : State). first_asked s.config c.args.op.now (entry_at s.cache c.args.key.now)) c.self.view_is ∙ c.requires.asks
 
-replied : (c : goal.After-put_down-place) → c.reply-reply.result ≡ new_reply c.args.op.now (entry_at (state_of c.self.inside).cache c.args.key.now) nothing_said
-replied c = c.reply-reply.ensures ∙ ap (λ o. new_reply c.args.op.now o nothing_said) (ap (λ (f : Found). f.entry) c.requires.found ∙ sym (ap (λ (s : State). entry_at s.cache c.args.key.now) c.self.view_is))
+replied : (c : goal.After-put_down-place) → c.reply-reply.result ≡ reply_after c.args.op.now (entry_at (state_of c.self.inside).cache c.args.key.now) nothing_said
+replied c = c.reply-reply.ensures ∙ ap (λ o. reply_after c.args.op.now o nothing_said) (ap (λ (f : Found). f.entry) c.requires.found ∙ sym (ap (λ (s : State). entry_at s.cache c.args.key.now) c.self.view_is))
 
 steps : (c : goal.After-put_down-place)
     → Steps (state_of c.self.inside) c.args.who.session c.args.who.number c.args.key.now c.args.op.now nothing_said [] c.reply-reply.result c.put_down-place.result (state_of (done_at c.self.inside c.keep-evicted.new.entries c.put_down-place.new.history))

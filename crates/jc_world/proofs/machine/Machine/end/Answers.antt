@@ -52,7 +52,7 @@ returns-clause-ok c =
       from = t.0;
       at = t.1;
       to = t.2;
-      made = subst C is t.3;
+      step = subst C is t.3;
       stripes_are = t.5;
       order_is = t.6 ∙ ap (λ o. o ++ drop (length (t.0).history) (t.2).history) c.in_ok-try_reserve.ensures.items;
     } in

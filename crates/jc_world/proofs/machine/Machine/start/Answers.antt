@@ -26,7 +26,7 @@ Told stripes order number u b before stripes' order' =
 
 abbrev phased : (v : WorldState) (order : List Event) (number : ℕ) (u : Under) (b : Begun) (before : ℕ) (stripes' : List State) (order' : List Event) → order ≡ v.order → Told v.stripes order number u b before stripes' order' → Phased v number (BeginsAs u b) stripes' order'
 phased v order number u b before stripes' order' same t =
-    record { from = t.0; at = t.1; to = t.2; made = t.3; stripes_are = t.5; order_is = t.6 ∙ ap (λ o. o ++ drop (length (t.0).history) (t.2).history) same }
+    record { from = t.0; at = t.1; to = t.2; step = t.3; stripes_are = t.5; order_is = t.6 ∙ ap (λ o. o ++ drop (length (t.0).history) (t.2).history) same }
 
 -- what it tells of what was begun
 at_begun : (stripes : List State) (order : List Event) (number : ℕ) (u : Under) (b b' : Begun) (before : ℕ) (stripes' : List State) (order' : List Event) → b ≡ b' → Told stripes order number u b before stripes' order' → Told stripes order number u b' before stripes' order'

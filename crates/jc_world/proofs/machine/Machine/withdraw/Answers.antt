@@ -35,7 +35,7 @@ returns c =
     let is = taken_is c.self.inside c.args.call key c.take_slot-slot.result one.0 c.self.invariant one.1 c.take_slot-slot.ensures.slot c.take_slot-slot.ensures.key in
     let t = c.withdraw_at.ensures in
     let C : Entry → Type 0 = λ e. Withdraws t.0 (claim_of e.0 e.1) t.2 in
-    let p : Changed v c.stripe_of-number.result (λ from to. Withdraws from (claim_of key one.0) to) c.withdraw_at.new.stripes.items = record { from = t.0; at = t.1; to = t.2; made = subst C is t.3; stripes_are = t.4 } in
+    let p : Changed v c.stripe_of-number.result (λ from to. Withdraws from (claim_of key one.0) to) c.withdraw_at.new.stripes.items = record { from = t.0; at = t.1; to = t.2; step = subst C is t.3; stripes_are = t.4 } in
     let next = world_of (record c.self.inside { stripes = c.withdraw_at.new.stripes; slots = c.take_slot-slot.new.slots }) in
     let R : WorldState → Type 0 = λ x. Happens x (event.Withdraw c.args.call key) shown.Withdrawn next in
     subst R c.self.view_is (withdrawn_at v next c.args.call key one.0 c.stripe_of-number.result c.withdraw_at.new.stripes.items (parts_of c.take_slot-slot.new.slots.items) one.1 c.stripe_of-number.ensures p c.take_slot-slot.ensures.parts refl)
