@@ -1,4 +1,4 @@
-pub mod Joined
+pub mod Joining
 pub mod Resolving
 pub mod Dissolving
 pub mod Taking

@@ -1,9 +1,10 @@
 -- What is true of the joiners at any time.
---     IsSound     there are at most 64, and no two are of one session, call number and key
+--     IsJoinerList     there are at most JOINERS_MAX, and no two are of one caller and key
 use Rattle.std.specs.Prelude.{◌≡◌, ◌≤◌, List, length, false, AllPairs}
+use Rattle.jc_types.specs.declared.limits.TheConstants.{JOINERS_MAX}
 use Rattle.jc_inflight.specs.declared.joiner.Joiner.{Joiner}
-use Rattle.jc_inflight.specs.Joined.{is_of}
+use Rattle.jc_inflight.specs.Joining.{belongs_to}
 
-pub record IsSound (joiners : List Joiner) : Type 0 where
-  pub few : length joiners ≤ 64
-  pub once : AllPairs (λ j later. is_of j.session j.number j.key later ≡ false) joiners
+pub record IsJoinerList (joiners : List Joiner) : Type 0 where
+  pub few : length joiners ≤ JOINERS_MAX
+  pub once : AllPairs (λ j later. belongs_to j.caller j.key later ≡ false) joiners

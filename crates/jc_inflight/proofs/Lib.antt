@@ -1,2 +1,0 @@
-pub mod Parking
-pub mod Keeping
