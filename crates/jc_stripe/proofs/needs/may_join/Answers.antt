@@ -1,0 +1,1 @@
+use Rattle.jc_stripe.proofs.Uniform as mUniform
