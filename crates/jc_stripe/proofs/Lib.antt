@@ -1,13 +1,16 @@
 pub mod Beside
 pub mod Fields
+pub mod Finishing
 pub mod Fitting
 pub mod Inner
 pub mod Joining
 pub mod Keeping
 pub mod Lawfully
 pub mod Laws
+pub mod Making
 pub mod Numbering
 pub mod Ordered
+pub mod Picking
 pub mod Reaching
 pub mod Refusing
 pub mod Settled

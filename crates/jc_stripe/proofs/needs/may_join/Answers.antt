@@ -1,1 +1,3 @@
-use Rattle.jc_stripe.proofs.Uniform as mUniform
+use Rattle.jc_stripe.proofs.Making as mMaking
+use Rattle.jc_stripe.proofs.Finishing as mFinishing
+use Rattle.jc_stripe.proofs.Picking as mPicking
