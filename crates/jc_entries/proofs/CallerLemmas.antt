@@ -1,24 +1,27 @@
--- Facts on entries in order of use, for the methods' proofs and for their callers.
-use Rattle.std.proofs.Common.{◌≡◌, ℕ, ◌<◌, ◌≤◌, ◌==◌, List, [], ◌∷◌, Bool, true, false, cond, not, ◌||◌, nat_lt, length, reverse, find, Option, Some, None, is_some, is_none, IsSome, ap, refl, sym, ◌∙◌, subst, ◌&&◌, arith}
+-- Facts on entries in order of use, for the proofs of this crate and of those above it.
+use Rattle.std.proofs.Common.{◌≡◌, ℕ, ◌<◌, ◌≤◌, ◌==◌, List, [], ◌∷◌, ◌++◌, Bool, true, false, cond, not, ◌||◌, length, reverse, find, Option, Some, None, is_some, IsSome, ap, refl, sym, ◌∙◌, arith}
+use Rattle.std.specs.Option.{option_map_or}
 use Rattle.std.specs.List.{list_any}
+use Rattle.std.specs.Map.{keys_of}
 use Rattle.std.specs.Ordering.{eq_by_cmp}
 use Rattle.std.specs.Cmp.{eq_by_cmp_equiv}
 use Rattle.std.specs.Cmp.Lexicographic.{texts_ties, pointwise}
 use Rattle.std.specs.FinMap as finite
 use Rattle.std.specs.FinMap.Entries.{is_some-find}
-use Rattle.std.proofs.lemmas.Bool.{ltb-true}
 use Rattle.std.proofs.lemmas.Cmp.{nat_list_cmp_total}
+use Rattle.std.proofs.lemmas.List.{reverse-append}
 use Rattle.std.proofs.lemmas.List.Sorted.{list_any-IsPermutation, IsPermutation-reverse}
 use Rattle.jc_model.specs.declared.event.Cause.TheVariants.{Full, Memory}
 use Rattle.jc_model.specs.Cache.{Bytes, key_cmp}
-use Rattle.jc_model.specs.Listed.{apart, others}
-use Rattle.jc_model.proofs.Lookups.{find-others, apart-others, apart-listed, same_key, same_cache}
-use Rattle.jc_entries.specs.ByUse.{ByUse, IsSound, keys_of, moved, touched, is_pinned, evicted_of}
-use Rattle.jc_entries.specs.Inserting.{has_place, Inserts}
+use Rattle.jc_model.specs.Listed.{others}
+use Rattle.jc_model.proofs.Lookups.{find-others, same_key, same_cache}
+use Rattle.jc_entries.specs.ByUse.{ByUse, after_touch, is_pinned, lru_victim}
+use Rattle.jc_entries.specs.Inserting.{has_room_for, Inserts}
 use Rattle.jc_entries.specs.declared.entries.Inserted.{Inserted}
 use Rattle.jc_entries.specs.declared.entries.Inserted.TheVariants.{Kept, KeptAfter, NotKept}
 
 -- 1. The entries of the other keys.
+
 
 fewer : (b : Bool) (e : Bytes × Bytes) (es rest : List (Bytes × Bytes)) → length rest ≤ length es → length (cond b (e ∷ rest) rest) ≤ length (e ∷ es)
 fewer true e es rest h = omega arith
@@ -53,73 +56,8 @@ others-missing key [] h = refl
 others-missing key (e ∷ es) h =
     kept (pointwise ◌==◌ key e.0) (eq_by_cmp key_cmp key e.0) e es (others key es) (finite.find key_cmp key es) (texts_ties key e.0) h (others-missing key es)
 
--- 2. Places.
+-- 2. The victim.
 
-pub has_place-found : (entries : ByUse) (key : Bytes) → is_some (finite.find key_cmp key entries.list) ≡ true → has_place key entries ≡ true
-has_place-found entries key h = ap (λ b. b || nat_lt (length entries.list) entries.capacity) h
-
-neither : (b t : Bool) → (b || t) ≡ false → b ≡ false
-neither true t h = h
-neither false t h = refl
-
-is_none_then : (o : Option Bytes) → is_some o ≡ false → o ≡ None
-is_none_then None h = refl
-is_none_then (Some x) h = cc
-
--- what has no place is new
-pub is_new : (entries : ByUse) (key : Bytes) → has_place key entries ≡ false → finite.find key_cmp key entries.list ≡ None
-is_new entries key h = is_none_then _ (neither _ _ h)
-
--- 3. Soundness is kept.
-
--- without a key
-pub IsSound-others : (entries : ByUse) (key : Bytes) → IsSound entries → IsSound (record entries { list = others key entries.list })
-IsSound-others entries key h = record {
-  once = apart-others key entries.list h.once;
-  room = let few = length-others key entries.list in omega arith;
-  least = h.least;
-  most = h.most;
-}
-
-fits : (there room : Bool) (rest all capacity : ℕ) → (there || room) ≡ true → (there ≡ true → rest < all) → rest ≤ all → all ≤ capacity → (room ≡ true → all < capacity) → rest < capacity
-fits true room rest all capacity place found few h free = let fewer : rest < all = found refl in omega arith
-fits false room rest all capacity place found few h free = let some : all < capacity = free place in omega arith
-
--- fewer of the other keys than may be kept, where there is a place
-pub length-others_place : (entries : ByUse) (key : Bytes) → IsSound entries → has_place key entries ≡ true → length (others key entries.list) < entries.capacity
-length-others_place entries key h place =
-    fits (is_some (finite.find key_cmp key entries.list)) (nat_lt (length entries.list) entries.capacity) _ _ _ place (length-others_found key entries.list) (length-others key entries.list) h.room (ltb-true _ _)
-
--- with the same entries
-pub IsSound-same : (capacity : ℕ) (xs ys : List (Bytes × Bytes)) → xs ≡ ys → IsSound (record { capacity = capacity; list = ys }) → IsSound (record { capacity = capacity; list = xs })
-IsSound-same capacity xs ys e h = subst (λ zs. IsSound (record { capacity = capacity; list = zs })) (sym e) h
-
--- with an entry in front that has a place
-pub IsSound-kept : (entries : ByUse) (key value : Bytes) → IsSound entries → has_place key entries ≡ true → IsSound (record entries { list = (key, value) ∷ others key entries.list })
-IsSound-kept entries key value h place = record {
-  once = apart-listed key (Some value) entries.list h.once;
-  room = let few = length-others_place entries key h place in omega arith;
-  least = h.least;
-  most = h.most;
-}
-
-none_both : (b : Bool) → cond {A = Option Bytes} b None None ≡ None
-none_both true = refl
-none_both false = refl
-
--- with a new entry in front in the place of another
-pub IsSound-kept_after : (entries : ByUse) (key value victim : Bytes) → IsSound entries → finite.find key_cmp key entries.list ≡ None → is_some (finite.find key_cmp victim entries.list) ≡ true
-    → IsSound (record entries { list = (key, value) ∷ others victim entries.list })
-IsSound-kept_after entries key value victim h missing found = record {
-  once =
-      ap (λ o. is_none o && apart (others victim entries.list)) (find-others victim entries.list key ∙ ap (cond (eq_by_cmp key_cmp key victim) None) missing ∙ none_both (eq_by_cmp key_cmp key victim))
-      ∙ apart-others victim entries.list h.once;
-  room = let few = length-others_found victim entries.list found in omega arith;
-  least = h.least;
-  most = h.most;
-}
-
--- 4. The key that has to go.
 
 list_any-map : (p : Bytes → Bool) (entries : List (Bytes × Bytes)) → list_any p (keys_of entries) ≡ list_any (λ entry. p entry.0) entries
 list_any-map p [] = refl
@@ -139,8 +77,8 @@ found_passes p q [] key h t = cc
 found_passes p q (k ∷ ks) key h t = passes (p k) q k key (find p ks) (list_any q ks) h t (λ e. found_passes p q ks key e t)
 
 -- it has an entry
-pub evicted_of-found : (entries : List (Bytes × Bytes)) (pinned : List Bytes) (key : Bytes) → evicted_of entries pinned ≡ Some key → is_some (finite.find key_cmp key entries) ≡ true
-evicted_of-found entries pinned key h =
+pub lru_victim-found : (entries : List (Bytes × Bytes)) (pinned : List Bytes) (key : Bytes) → lru_victim entries pinned ≡ Some key → is_some (finite.find key_cmp key entries) ≡ true
+lru_victim-found entries pinned key h =
     is_some-find key_cmp key entries
     ∙ list_any-map (eq_by_cmp key_cmp key) entries
     ∙ list_any-IsPermutation _ _ _ (IsPermutation-reverse entries)
@@ -160,8 +98,8 @@ not_true true h = cc
 not_true false h = refl
 
 -- it isn't pinned
-pub evicted_of-free : (entries : List (Bytes × Bytes)) (pinned : List Bytes) (key : Bytes) → evicted_of entries pinned ≡ Some key → is_pinned pinned key ≡ false
-evicted_of-free entries pinned key h = not_true _ (found_test (λ k. not (is_pinned pinned k)) (keys_of (reverse entries)) key h)
+pub lru_victim-unpinned : (entries : List (Bytes × Bytes)) (pinned : List Bytes) (key : Bytes) → lru_victim entries pinned ≡ Some key → is_pinned pinned key ≡ false
+lru_victim-unpinned entries pinned key h = not_true _ (found_test (λ k. not (is_pinned pinned k)) (keys_of (reverse entries)) key h)
 
 fails : (b t : Bool) (k key : Bytes) (p : Bytes → Bool) (o : Option Bytes) (rest : Bool) → p k ≡ b → cond b (Some k) o ≡ None → (t ≡ true → k ≡ key) → (t || rest) ≡ true
     → (o ≡ None → rest ≡ true → p key ≡ false) → p key ≡ false
@@ -178,8 +116,8 @@ not_false true h = refl
 not_false false h = cc
 
 -- where there is none, each key that has an entry is pinned
-pub evicted_of-none : (entries : List (Bytes × Bytes)) (pinned : List Bytes) (key : Bytes) → evicted_of entries pinned ≡ None → is_some (finite.find key_cmp key entries) ≡ true → is_pinned pinned key ≡ true
-evicted_of-none entries pinned key h there =
+pub lru_victim-none : (entries : List (Bytes × Bytes)) (pinned : List Bytes) (key : Bytes) → lru_victim entries pinned ≡ None → is_some (finite.find key_cmp key entries) ≡ true → is_pinned pinned key ≡ true
+lru_victim-none entries pinned key h there =
     not_false _ (none_passes (λ k. not (is_pinned pinned k)) (eq_by_cmp key_cmp key) key (keys_of (reverse entries)) (λ k e. sym (same_key key k e)) h
     (list_any-map (eq_by_cmp key_cmp key) (reverse entries)
     ∙ sym (list_any-IsPermutation _ _ _ (IsPermutation-reverse entries))
@@ -187,37 +125,47 @@ evicted_of-none entries pinned key h there =
     ∙ sym (is_some-find key_cmp key entries)
     ∙ there))
 
--- 5. A touched entry.
+-- a list that ends with an entry: it is the victim, unless it is pinned
+pub lru_victim-last : (entries : List (Bytes × Bytes)) (entry : Bytes × Bytes) (pinned : List Bytes)
+    → lru_victim (entries ++ entry ∷ []) pinned ≡ cond (is_pinned pinned entry.0) (lru_victim entries pinned) (Some entry.0)
+lru_victim-last entries entry pinned =
+    ap (λ es. find (λ key. not (is_pinned pinned key)) (keys_of es)) (reverse-append entries (entry ∷ []))
+    ∙ elim (is_pinned pinned entry.0) as (λ b. cond (not b) (Some entry.0) (lru_victim entries pinned) ≡ cond b (lru_victim entries pinned) (Some entry.0)) [ true ↦ refl | false ↦ refl ]
+
+-- 3. A touch.
+
 
 at_front : (b : Bool) (value : Bytes) (found : Option Bytes) → (b ≡ true → found ≡ Some value) → cond b (Some value) (cond b None found) ≡ found
 at_front true value found h = sym (h refl)
 at_front false value found h = refl
 
-find-moved : (key q : Bytes) (entry : Option Bytes) (entries : List (Bytes × Bytes)) → finite.find key_cmp key entries ≡ entry → finite.find key_cmp q (moved key entry entries) ≡ finite.find key_cmp q entries
-find-moved key q None entries h = refl
-find-moved key q (Some value) entries h =
+find-first : (key q : Bytes) (entry : Option Bytes) (entries : List (Bytes × Bytes)) → finite.find key_cmp key entries ≡ entry
+    → finite.find key_cmp q (option_map_or (λ value. (key, value) ∷ others key entries) entry entries) ≡ finite.find key_cmp q entries
+find-first key q None entries h = refl
+find-first key q (Some value) entries h =
     ap (cond (eq_by_cmp key_cmp q key) (Some value)) (find-others key entries q)
     ∙ at_front (eq_by_cmp key_cmp q key) value (finite.find key_cmp q entries) (λ e. ap (λ k. finite.find key_cmp k entries) (same_key q key e) ∙ h)
 
 -- what is found stays
-pub find-touched : (key q : Bytes) (entries : List (Bytes × Bytes)) → finite.find key_cmp q (touched key entries) ≡ finite.find key_cmp q entries
-find-touched key q entries = find-moved key q _ entries refl
+pub find-after_touch : (key q : Bytes) (entries : List (Bytes × Bytes)) → finite.find key_cmp q (after_touch key entries) ≡ finite.find key_cmp q entries
+find-after_touch key q entries = find-first key q _ entries refl
 
 -- the entries stay the same map
-pub from_entries-touched : (key : Bytes) (entries : List (Bytes × Bytes)) → finite.from_entries {R = key_cmp} (touched key entries) ≡ finite.from_entries entries
-from_entries-touched key entries = same_cache _ _ (λ q.
-    finite.get-from_entries nat_list_cmp_total (touched key entries) q ∙ find-touched key q entries ∙ sym (finite.get-from_entries nat_list_cmp_total entries q))
+pub from_entries-after_touch : (key : Bytes) (entries : List (Bytes × Bytes)) → finite.from_entries {R = key_cmp} (after_touch key entries) ≡ finite.from_entries entries
+from_entries-after_touch key entries = same_cache _ _ (λ q.
+    finite.get-from_entries nat_list_cmp_total (after_touch key entries) q ∙ find-after_touch key q entries ∙ sym (finite.get-from_entries nat_list_cmp_total entries q))
 
--- 6. What an insertion answers.
+-- 4. What an insertion answers.
 
--- a new entry isn't kept for want of a place exactly where the list is full and all in it is pinned
-pub Inserts-pinned_out : (old new : ByUse) (key value : Bytes) (pinned : List Bytes) (result : Inserted) → Inserts old new key value pinned result
-    → has_place key old ≡ false → evicted_of old.list pinned ≡ None → result ≡ NotKept Full None
-Inserts-pinned_out old new key value pinned Kept h full none = let place = h.place in cc
-Inserts-pinned_out old new key value pinned (KeptAfter victim) h full none = let found = h.victim_is in cc
-Inserts-pinned_out old new key value pinned (NotKept Full evicted) h full none = ap (NotKept Full) h.nobody
-Inserts-pinned_out old new key value pinned (NotKept Memory evicted) h full none =
-    let nobody : evicted ≡ None = h.victim_is ∙ ap (λ b. cond b None (evicted_of old.list pinned)) full ∙ none in
+
+-- a full stripe that has only pinned entries keeps no new one
+pub Inserts-all_pinned : (old new : ByUse) (key value : Bytes) (pinned : List Bytes) (result : Inserted) → Inserts old new key value pinned result
+    → has_room_for key old ≡ false → lru_victim old.list pinned ≡ None → result ≡ NotKept Full None
+Inserts-all_pinned old new key value pinned Kept h full none = let room = h.room in cc
+Inserts-all_pinned old new key value pinned (KeptAfter victim) h full none = let found = h.victim_is in cc
+Inserts-all_pinned old new key value pinned (NotKept Full evicted) h full none = ap (NotKept Full) h.nobody
+Inserts-all_pinned old new key value pinned (NotKept Memory evicted) h full none =
+    let nobody : evicted ≡ None = h.victim_is ∙ ap (λ b. cond b None (lru_victim old.list pinned)) full ∙ none in
     let nothing : is_some evicted ≡ false = ap is_some nobody in
-    let some : IsSome evicted = h.not_pinned_out full in
+    let some : IsSome evicted = h.not_all_pinned full in
     cc
