@@ -211,3 +211,6 @@ impl Entries {
         self.cache.cap().get()
     }
 }
+
+#[cfg(test)]
+mod tests;
