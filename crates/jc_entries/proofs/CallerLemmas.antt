@@ -1,5 +1,5 @@
 -- Facts on entries in order of use, for the proofs of this crate and of those above it.
-use Rattle.std.proofs.Common.{◌≡◌, ℕ, ◌<◌, ◌≤◌, ◌==◌, List, [], ◌∷◌, ◌++◌, Bool, true, false, cond, not, ◌||◌, length, reverse, find, Option, Some, None, is_some, IsSome, ap, refl, sym, ◌∙◌, arith}
+use Rattle.std.proofs.Common.{◌≡◌, ◌<◌, ◌≤◌, ◌==◌, List, [], ◌∷◌, ◌++◌, Bool, true, false, cond, not, ◌||◌, length, reverse, find, Option, Some, None, is_some, IsSome, ap, refl, sym, ◌∙◌, arith}
 use Rattle.std.specs.Option.{option_map_or}
 use Rattle.std.specs.List.{list_any}
 use Rattle.std.specs.Map.{keys_of}
@@ -21,7 +21,6 @@ use Rattle.jc_entries.specs.declared.entries.Inserted.{Inserted}
 use Rattle.jc_entries.specs.declared.entries.Inserted.TheVariants.{Kept, KeptAfter, NotKept}
 
 -- 1. The entries of the other keys.
-
 
 fewer : (b : Bool) (e : Bytes × Bytes) (es rest : List (Bytes × Bytes)) → length rest ≤ length es → length (cond b (e ∷ rest) rest) ≤ length (e ∷ es)
 fewer true e es rest h = omega arith
@@ -57,7 +56,6 @@ others-missing key (e ∷ es) h =
     kept (pointwise ◌==◌ key e.0) (eq_by_cmp key_cmp key e.0) e es (others key es) (finite.find key_cmp key es) (texts_ties key e.0) h (others-missing key es)
 
 -- 2. The victim.
-
 
 list_any-map : (p : Bytes → Bool) (entries : List (Bytes × Bytes)) → list_any p (keys_of entries) ≡ list_any (λ entry. p entry.0) entries
 list_any-map p [] = refl
@@ -134,7 +132,6 @@ lru_victim-last entries entry pinned =
 
 -- 3. A touch.
 
-
 at_front : (b : Bool) (value : Bytes) (found : Option Bytes) → (b ≡ true → found ≡ Some value) → cond b (Some value) (cond b None found) ≡ found
 at_front true value found h = sym (h refl)
 at_front false value found h = refl
@@ -156,7 +153,6 @@ from_entries-after_touch key entries = same_cache _ _ (λ q.
     finite.get-from_entries nat_list_cmp_total (after_touch key entries) q ∙ find-after_touch key q entries ∙ sym (finite.get-from_entries nat_list_cmp_total entries q))
 
 -- 4. What an insertion answers.
-
 
 -- a full stripe that has only pinned entries keeps no new one
 pub Inserts-all_pinned : (old new : ByUse) (key value : Bytes) (pinned : List Bytes) (result : Inserted) → Inserts old new key value pinned result

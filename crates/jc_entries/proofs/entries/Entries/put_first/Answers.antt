@@ -1,4 +1,4 @@
-use Rattle.std.proofs.Common.{◌≡◌, ◌∷◌, ap, sym, ◌∙◌}
+use Rattle.std.proofs.Common.{◌∷◌, ap, sym, ◌∙◌}
 use Rattle.std.specs.FinMap as finite
 use Rattle.std.proofs.lemmas.Result.{err_from_is_err_and}
 use Rattle.lru.specs.LruCache.{LruCache, lru_cache}
