@@ -1,5 +1,5 @@
 -- Facts on entries in order of use, for the proofs of this crate and of those above it.
-use Rattle.std.proofs.Common.{◌≡◌, ℕ, ◌<◌, ◌≤◌, ◌==◌, List, [], ◌∷◌, ◌++◌, Bool, true, false, cond, not, ◌||◌, length, reverse, find, Option, Some, None, is_some, IsSome, ap, refl, sym, ◌∙◌, arith}
+use Rattle.std.proofs.Common.{◌≡◌, ◌<◌, ◌≤◌, ◌==◌, List, [], ◌∷◌, ◌++◌, Bool, true, false, cond, not, ◌||◌, length, reverse, find, Option, Some, None, is_some, IsSome, ap, refl, sym, ◌∙◌, arith}
 use Rattle.std.specs.Option.{option_map_or}
 use Rattle.std.specs.List.{list_any}
 use Rattle.std.specs.Map.{keys_of}
@@ -9,19 +9,19 @@ use Rattle.std.specs.Cmp.Lexicographic.{texts_ties, pointwise}
 use Rattle.std.specs.FinMap as finite
 use Rattle.std.specs.FinMap.Entries.{is_some-find}
 use Rattle.std.proofs.lemmas.Cmp.{nat_list_cmp_total}
+use Rattle.std.proofs.lemmas.Bool.{not-true, not-false, or_left, or_right}
 use Rattle.std.proofs.lemmas.List.{reverse-append}
-use Rattle.std.proofs.lemmas.List.Sorted.{list_any-IsPermutation, IsPermutation-reverse}
+use Rattle.std.proofs.lemmas.List.Sorted.{list_any-IsPermutation, IsPermutation-map, IsPermutation-reverse}
 use Rattle.jc_model.specs.declared.event.Cause.TheVariants.{Full, Memory}
 use Rattle.jc_model.specs.Cache.{Bytes, key_cmp}
-use Rattle.jc_model.specs.Listed.{others}
-use Rattle.jc_model.proofs.Lookups.{find-others, same_key, same_cache}
+use Rattle.jc_model.specs.Listed.{others, listed}
+use Rattle.jc_model.proofs.Lookups.{same_key}
 use Rattle.jc_entries.specs.ByUse.{ByUse, after_touch, is_pinned, lru_victim}
 use Rattle.jc_entries.specs.Inserting.{has_room_for, Inserts}
 use Rattle.jc_entries.specs.declared.entries.Inserted.{Inserted}
 use Rattle.jc_entries.specs.declared.entries.Inserted.TheVariants.{Kept, KeptAfter, NotKept}
 
 -- 1. The entries of the other keys.
-
 
 fewer : (b : Bool) (e : Bytes × Bytes) (es rest : List (Bytes × Bytes)) → length rest ≤ length es → length (cond b (e ∷ rest) rest) ≤ length (e ∷ es)
 fewer true e es rest h = omega arith
@@ -38,7 +38,7 @@ less true t e es rest o is found few h = omega arith
 less false true e es rest o is found few h = cc
 less false false e es rest o is found few h = let fewer : length rest < length es = h found in omega arith
 
--- at least one fewer, where the key had an entry
+-- at least one fewer if the key had an entry
 pub length-others_found : (key : Bytes) (entries : List (Bytes × Bytes)) → is_some (finite.find key_cmp key entries) ≡ true → length (others key entries) < length entries
 length-others_found key [] h = cc
 length-others_found key (e ∷ es) h =
@@ -50,7 +50,7 @@ kept b true e es rest o is none h = cc
 kept true false e es rest o is none h = cc
 kept false false e es rest o is none h = ap (λ xs. e ∷ xs) (h none)
 
--- as they were, where the key had none
+-- as they were, if the key had none
 pub others-missing : (key : Bytes) (entries : List (Bytes × Bytes)) → finite.find key_cmp key entries ≡ None → others key entries ≡ entries
 others-missing key [] h = refl
 others-missing key (e ∷ es) h =
@@ -58,18 +58,13 @@ others-missing key (e ∷ es) h =
 
 -- 2. The victim.
 
-
-list_any-map : (p : Bytes → Bool) (entries : List (Bytes × Bytes)) → list_any p (keys_of entries) ≡ list_any (λ entry. p entry.0) entries
-list_any-map p [] = refl
-list_any-map p (e ∷ es) = ap (λ b. p e.0 || b) (list_any-map p es)
-
-or_true : (b : Bool) → (b || true) ≡ true
-or_true true = refl
-or_true false = refl
+-- the keys are the same, whichever way they are read
+any_key : (q : Bytes → Bool) (entries : List (Bytes × Bytes)) → list_any q (keys_of (reverse entries)) ≡ list_any q (keys_of entries)
+any_key q entries = sym (list_any-IsPermutation q _ _ (IsPermutation-map (λ e. e.0) entries (reverse entries) (IsPermutation-reverse entries)))
 
 passes : (b : Bool) (q : Bytes → Bool) (k key : Bytes) (o : Option Bytes) (rest : Bool) → cond b (Some k) o ≡ Some key → q key ≡ true → (o ≡ Some key → rest ≡ true) → (q k || rest) ≡ true
-passes true q k key o rest h t later = let same : k ≡ key = cc in ap (λ b. b || rest) (ap q same ∙ t)
-passes false q k key o rest h t later = ap (λ b. q k || b) (later h) ∙ or_true (q k)
+passes true q k key o rest h t later = let same : k ≡ key = cc in or_left (q k) rest (ap q same ∙ t)
+passes false q k key o rest h t later = or_right (q k) rest (later h)
 
 -- what a search finds passes each test that it is known to pass
 found_passes : (p q : Bytes → Bool) (keys : List Bytes) (key : Bytes) → find p keys ≡ Some key → q key ≡ true → list_any q keys ≡ true
@@ -79,10 +74,7 @@ found_passes p q (k ∷ ks) key h t = passes (p k) q k key (find p ks) (list_any
 -- it has an entry
 pub lru_victim-found : (entries : List (Bytes × Bytes)) (pinned : List Bytes) (key : Bytes) → lru_victim entries pinned ≡ Some key → is_some (finite.find key_cmp key entries) ≡ true
 lru_victim-found entries pinned key h =
-    is_some-find key_cmp key entries
-    ∙ list_any-map (eq_by_cmp key_cmp key) entries
-    ∙ list_any-IsPermutation _ _ _ (IsPermutation-reverse entries)
-    ∙ sym (list_any-map (eq_by_cmp key_cmp key) (reverse entries))
+    is_some-find key_cmp key entries ∙ sym (any_key (eq_by_cmp key_cmp key) entries)
     ∙ found_passes _ (eq_by_cmp key_cmp key) (keys_of (reverse entries)) key h ((eq_by_cmp_equiv nat_list_cmp_total).refl key)
 
 found_is : (b : Bool) (k key : Bytes) (o : Option Bytes) (p : Bytes → Bool) → p k ≡ b → cond b (Some k) o ≡ Some key → (o ≡ Some key → p key ≡ true) → p key ≡ true
@@ -93,13 +85,9 @@ found_test : (p : Bytes → Bool) (keys : List Bytes) (key : Bytes) → find p k
 found_test p [] key h = cc
 found_test p (k ∷ ks) key h = found_is (p k) k key (find p ks) p refl h (found_test p ks key)
 
-not_true : (b : Bool) → not b ≡ true → b ≡ false
-not_true true h = cc
-not_true false h = refl
-
 -- it isn't pinned
 pub lru_victim-unpinned : (entries : List (Bytes × Bytes)) (pinned : List Bytes) (key : Bytes) → lru_victim entries pinned ≡ Some key → is_pinned pinned key ≡ false
-lru_victim-unpinned entries pinned key h = not_true _ (found_test (λ k. not (is_pinned pinned k)) (keys_of (reverse entries)) key h)
+lru_victim-unpinned entries pinned key h = not-true _ (found_test (λ k. not (is_pinned pinned k)) (keys_of (reverse entries)) key h)
 
 fails : (b t : Bool) (k key : Bytes) (p : Bytes → Bool) (o : Option Bytes) (rest : Bool) → p k ≡ b → cond b (Some k) o ≡ None → (t ≡ true → k ≡ key) → (t || rest) ≡ true
     → (o ≡ None → rest ≡ true → p key ≡ false) → p key ≡ false
@@ -111,19 +99,11 @@ none_passes : (p q : Bytes → Bool) (key : Bytes) (keys : List Bytes) → ((k :
 none_passes p q key [] same h any = cc
 none_passes p q key (k ∷ ks) same h any = fails (p k) (q k) k key p (find p ks) (list_any q ks) refl h (same k) any (none_passes p q key ks same)
 
-not_false : (b : Bool) → not b ≡ false → b ≡ true
-not_false true h = refl
-not_false false h = cc
-
--- where there is none, each key that has an entry is pinned
+-- if there is none, each key that has an entry is pinned
 pub lru_victim-none : (entries : List (Bytes × Bytes)) (pinned : List Bytes) (key : Bytes) → lru_victim entries pinned ≡ None → is_some (finite.find key_cmp key entries) ≡ true → is_pinned pinned key ≡ true
 lru_victim-none entries pinned key h there =
-    not_false _ (none_passes (λ k. not (is_pinned pinned k)) (eq_by_cmp key_cmp key) key (keys_of (reverse entries)) (λ k e. sym (same_key key k e)) h
-    (list_any-map (eq_by_cmp key_cmp key) (reverse entries)
-    ∙ sym (list_any-IsPermutation _ _ _ (IsPermutation-reverse entries))
-    ∙ sym (list_any-map (eq_by_cmp key_cmp key) entries)
-    ∙ sym (is_some-find key_cmp key entries)
-    ∙ there))
+    not-false _ (none_passes (λ k. not (is_pinned pinned k)) (eq_by_cmp key_cmp key) key (keys_of (reverse entries)) (λ k e. sym (same_key key k e)) h
+    (any_key (eq_by_cmp key_cmp key) entries ∙ sym (is_some-find key_cmp key entries) ∙ there))
 
 -- a list that ends with an entry: it is the victim, unless it is pinned
 pub lru_victim-last : (entries : List (Bytes × Bytes)) (entry : Bytes × Bytes) (pinned : List Bytes)
@@ -134,29 +114,11 @@ lru_victim-last entries entry pinned =
 
 -- 3. A touch.
 
-
-at_front : (b : Bool) (value : Bytes) (found : Option Bytes) → (b ≡ true → found ≡ Some value) → cond b (Some value) (cond b None found) ≡ found
-at_front true value found h = sym (h refl)
-at_front false value found h = refl
-
-find-first : (key q : Bytes) (entry : Option Bytes) (entries : List (Bytes × Bytes)) → finite.find key_cmp key entries ≡ entry
-    → finite.find key_cmp q (option_map_or (λ value. (key, value) ∷ others key entries) entry entries) ≡ finite.find key_cmp q entries
-find-first key q None entries h = refl
-find-first key q (Some value) entries h =
-    ap (cond (eq_by_cmp key_cmp q key) (Some value)) (find-others key entries q)
-    ∙ at_front (eq_by_cmp key_cmp q key) value (finite.find key_cmp q entries) (λ e. ap (λ k. finite.find key_cmp k entries) (same_key q key e) ∙ h)
-
--- what is found stays
-pub find-after_touch : (key q : Bytes) (entries : List (Bytes × Bytes)) → finite.find key_cmp q (after_touch key entries) ≡ finite.find key_cmp q entries
-find-after_touch key q entries = find-first key q _ entries refl
-
--- the entries stay the same map
-pub from_entries-after_touch : (key : Bytes) (entries : List (Bytes × Bytes)) → finite.from_entries {R = key_cmp} (after_touch key entries) ≡ finite.from_entries entries
-from_entries-after_touch key entries = same_cache _ _ (λ q.
-    finite.get-from_entries nat_list_cmp_total (after_touch key entries) q ∙ find-after_touch key q entries ∙ sym (finite.get-from_entries nat_list_cmp_total entries q))
+-- the entry of a key that has one is the first then
+pub after_touch-listed : (key value : Bytes) (entries : List (Bytes × Bytes)) → finite.find key_cmp key entries ≡ Some value → after_touch key entries ≡ listed key (Some value) entries
+after_touch-listed key value entries h = ap (λ o. option_map_or (λ v. (key, v) ∷ others key entries) o entries) h
 
 -- 4. What an insertion answers.
-
 
 -- a full stripe that has only pinned entries keeps no new one
 pub Inserts-all_pinned : (old new : ByUse) (key value : Bytes) (pinned : List Bytes) (result : Inserted) → Inserts old new key value pinned result

@@ -1,10 +1,9 @@
 -- Valid entries stay so, and an eviction makes room.
-use Rattle.std.proofs.Common.{◌≡◌, ℕ, ◌<◌, ◌≤◌, List, ◌∷◌, Bool, true, false, cond, ◌||◌, nat_lt, length, Option, Some, None, is_some, ap, refl, sym, ◌∙◌, subst, arith}
+use Rattle.std.proofs.Common.{◌≡◌, ℕ, ◌<◌, ◌≤◌, List, ◌∷◌, Bool, true, false, cond, ◌||◌, nat_lt, length, Option, Some, None, is_some, ap, refl, ◌∙◌, arith}
 use Rattle.std.specs.Option.{option_map_or}
 use Rattle.std.specs.Ordering.{eq_by_cmp}
 use Rattle.std.specs.FinMap as finite
-use Rattle.std.proofs.lemmas.Bool.{ltb-true, lt-ltb}
-use Rattle.lru.specs.LruCache.{LruCache, lru_cache}
+use Rattle.std.proofs.lemmas.Bool.{ltb-true, lt-ltb, or_parts, or_right}
 use Rattle.jc_model.specs.Cache.{Bytes, key_cmp}
 use Rattle.jc_model.specs.Listed.{others}
 use Rattle.jc_model.proofs.Lookups.{find-others, apart-others, apart-listed}
@@ -14,21 +13,13 @@ use Rattle.jc_entries.proofs.CallerLemmas.{length-others, length-others_found, o
 
 -- 1. Room.
 
-or_true : (b : Bool) → (b || true) ≡ true
-or_true true = refl
-or_true false = refl
-
-neither : (b t : Bool) → (b || t) ≡ false → b ≡ false
-neither true t h = h
-neither false t h = refl
-
 is_none_then : (o : Option Bytes) → is_some o ≡ false → o ≡ None
 is_none_then None h = refl
 is_none_then (Some x) h = cc
 
 -- what has no room is new
 pub no_room-new : (entries : ByUse) (key : Bytes) → has_room_for key entries ≡ false → finite.find key_cmp key entries.list ≡ None
-no_room-new entries key h = is_none_then _ (neither _ _ h)
+no_room-new entries key h = is_none_then _ (or_parts _ _ h).0
 
 -- with the victim gone there is room
 pub has_room_for-eviction : (entries : ByUse) (key victim : Bytes) → IsValidByUse entries → is_some (finite.find key_cmp victim entries.list) ≡ true
@@ -36,23 +27,15 @@ pub has_room_for-eviction : (entries : ByUse) (key victim : Bytes) → IsValidBy
 has_room_for-eviction entries key victim h found =
     let few = length-others_found victim entries.list found in
     let bounded = h.bounded in
-    ap (λ b. is_some (finite.find key_cmp key (others victim entries.list)) || b) (lt-ltb (length (others victim entries.list)) entries.capacity (omega arith)) ∙ or_true _
-
-none_both : (b : Bool) → cond {A = Option Bytes} b None None ≡ None
-none_both true = refl
-none_both false = refl
+    or_right (is_some (finite.find key_cmp key (others victim entries.list))) _ (lt-ltb (length (others victim entries.list)) entries.capacity (omega arith))
 
 -- what had no entry has none then
 pub others-new : (key victim : Bytes) (entries : List (Bytes × Bytes)) → finite.find key_cmp key entries ≡ None → others key (others victim entries) ≡ others victim entries
 others-new key victim entries missing =
     others-missing key (others victim entries)
-    (find-others victim entries key ∙ ap (cond (eq_by_cmp key_cmp key victim) None) missing ∙ none_both (eq_by_cmp key_cmp key victim))
+    (find-others victim entries key ∙ ap (cond (eq_by_cmp key_cmp key victim) None) missing ∙ elim (eq_by_cmp key_cmp key victim) as (λ b. cond {A = Option Bytes} b None None ≡ None) [ true ↦ refl | false ↦ refl ])
 
 -- 2. Valid entries.
-
--- in the cache that holds them
-pub IsValidByUse-cache : (cache : LruCache Bytes Bytes) (entries : ByUse) → cache ≡ lru_cache entries.list entries.capacity → IsValidByUse entries → IsValidByUse (record { capacity = cache.cap; list = cache.entries })
-IsValidByUse-cache cache entries e h = subst (λ (c : LruCache Bytes Bytes). IsValidByUse (record { capacity = c.cap; list = c.entries })) (sym e) h
 
 -- without a key
 pub IsValidByUse-others : (entries : ByUse) (key : Bytes) → IsValidByUse entries → IsValidByUse (record entries { list = others key entries.list })

@@ -1,19 +1,22 @@
 -- The words of `lru` and of std's maps, in those of entries in order of use.
-use Rattle.std.proofs.Common.{◌≡◌, ℕ, ◌-◌, ◌<◌, ◌≤◌, ◌==◌, List, [], ◌∷◌, Bool, true, false, cond, not, ◌||◌, nat_lt, length, take, Option, Some, None, is_some, is_none, IsSome, ap, refl, sym, ◌∙◌, arith}
+use Rattle.std.proofs.Common.{◌≡◌, ℕ, ◌-◌, ◌<◌, ◌≤◌, ◌==◌, List, [], ◌∷◌, Bool, true, false, cond, not, ◌||◌, nat_lt, take, Option, Some, None, is_some, is_none, IsSome, ap, refl, sym, ◌∙◌, arith}
 use Rattle.std.specs.Option.{option_map, option_map_or}
 use Rattle.std.specs.Map.{lookup, lookup_entry, remove_entry}
-use Rattle.std.specs.Ordering.{eq_by_cmp}
 use Rattle.std.specs.Cmp.Lexicographic.{texts_ties, pointwise}
 use Rattle.std.specs.FinMap as finite
 use Rattle.std.proofs.lemmas.Bool.{ltb-true}
 use Rattle.std.proofs.lemmas.List.{take_all}
-use Rattle.lru.specs.LruCache.{lru_cache, promoted, put_entries}
+use Rattle.lru.specs.LruCache.{LruCache, lru_cache, promoted, put_entries}
 use Rattle.jc_model.specs.Cache.{Bytes, key_cmp}
 use Rattle.jc_model.specs.Listed.{apart, others}
 use Rattle.jc_model.proofs.Lookups.{same_key, both, none_is}
 use Rattle.jc_entries.specs.ByUse.{ByUse, IsValidByUse, after_touch}
 use Rattle.jc_entries.specs.Inserting.{has_room_for}
 use Rattle.jc_entries.proofs.CallerLemmas.{others-missing}
+
+-- the entries of a cache
+abbrev pub by_use : LruCache Bytes Bytes → ByUse
+by_use cache = record { capacity = cache.cap; list = cache.entries }
 
 -- `==` of keys
 abbrev pub equal_to : Bytes → Bytes → Bool
@@ -60,10 +63,17 @@ with_found key None entries rest kept h = refl
 with_found key (Some value) entries rest kept h = ap (λ xs. (key, value) ∷ xs) h
 
 -- to promote a key is to touch it
-pub promoted-after_touch : (key : Bytes) (entries : List (Bytes × Bytes)) → apart entries ≡ true → promoted (equal_to key) entries ≡ after_touch key entries
-promoted-after_touch key entries h =
-    ap (λ o. option_map_or (λ e. e ∷ remove_entry (equal_to key) entries) o entries) (lookup_entry-find key entries)
-    ∙ with_found key (finite.find key_cmp key entries) entries _ _ (remove_entry-others key entries h)
+pub by_use-promoted : (cache new : LruCache Bytes Bytes) (key : Bytes) → IsValidByUse (by_use cache) → new ≡ lru_cache (promoted (equal_to key) cache.entries) cache.cap
+    → by_use new ≡ record (by_use cache) { list = after_touch key cache.entries }
+by_use-promoted cache new key h e =
+    ap by_use (e ∙ ap (λ es. lru_cache es cache.cap)
+    (ap (λ o. option_map_or (λ e. e ∷ remove_entry (equal_to key) cache.entries) o cache.entries) (lookup_entry-find key cache.entries)
+    ∙ with_found key (finite.find key_cmp key cache.entries) cache.entries _ _ (remove_entry-others key cache.entries h.distinct)))
+
+-- to take an entry out leaves those of the other keys
+pub by_use-removed : (cache new : LruCache Bytes Bytes) (key : Bytes) → IsValidByUse (by_use cache) → new ≡ lru_cache (remove_entry (equal_to key) cache.entries) cache.cap
+    → by_use new ≡ record (by_use cache) { list = others key cache.entries }
+by_use-removed cache new key h e = ap by_use (e ∙ ap (λ es. lru_cache es cache.cap) (remove_entry-others key cache.entries h.distinct))
 
 put_with : (key value : Bytes) (f : Option Bytes) (rest all kept : List (Bytes × Bytes)) → rest ≡ kept → (f ≡ None → all ≡ kept)
     → option_map_or (λ (e : Bytes × Bytes). (e.0, value) ∷ rest) (option_map (λ v. (key, v)) f) ((key, value) ∷ all) ≡ (key, value) ∷ kept
@@ -74,13 +84,14 @@ shorter : (f : Option Bytes) (n m : ℕ) → f ≡ None → (is_some f || nat_lt
 shorter None n m none room = let few : n < m = ltb-true n m room in omega arith
 shorter (Some v) n m none room = cc
 
--- what a put leaves if there is room
-pub put_entries-first : (entries : ByUse) (key value : Bytes) → IsValidByUse entries → has_room_for key entries ≡ true
-    → put_entries (pointwise ◌==◌) (lru_cache entries.list entries.capacity) key value ≡ (key, value) ∷ others key entries.list
-put_entries-first entries key value h room =
-    ap (λ o. option_map_or (λ (e : Bytes × Bytes). (e.0, value) ∷ remove_entry (equal_to key) entries.list) o ((key, value) ∷ take (entries.capacity - 1) entries.list)) (lookup_entry-find key entries.list)
-    ∙ put_with key value (finite.find key_cmp key entries.list) _ _ _ (remove_entry-others key entries.list h.distinct)
-    (λ none. take_all _ entries.list (shorter _ _ _ none room) ∙ sym (others-missing key entries.list none))
+-- to put an entry that there is room for makes it the first
+pub by_use-put : (cache new : LruCache Bytes Bytes) (key value : Bytes) → IsValidByUse (by_use cache) → has_room_for key (by_use cache) ≡ true
+    → new ≡ lru_cache (put_entries (pointwise ◌==◌) cache key value) cache.cap → by_use new ≡ record (by_use cache) { list = (key, value) ∷ others key cache.entries }
+by_use-put cache new key value h room e =
+    ap by_use (e ∙ ap (λ es. lru_cache es cache.cap)
+    (ap (λ o. option_map_or (λ (e : Bytes × Bytes). (e.0, value) ∷ remove_entry (equal_to key) cache.entries) o ((key, value) ∷ take (cache.cap - 1) cache.entries)) (lookup_entry-find key cache.entries)
+    ∙ put_with key value (finite.find key_cmp key cache.entries) _ _ _ (remove_entry-others key cache.entries h.distinct)
+    (λ none. take_all _ cache.entries (shorter _ _ _ none room) ∙ sym (others-missing key cache.entries none))))
 
 none_unless : (o : Option Bytes) → (IsSome o → ⊥) → o ≡ None
 none_unless None h = refl

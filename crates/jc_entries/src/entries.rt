@@ -1,7 +1,7 @@
 //! The entries of one stripe, in order of use (LRU), on the kit's `lru`.
 //!
 //! JSR 107 leaves eviction to the provider. Here the least recently used entry is evicted, unless its
-//! key is pinned, as that of a call which asks the loader or the writer just now.
+//! key is pinned, as is the key of a call that is asking the loader or the writer.
 ghost use Rattle.std.specs.Prelude.{◌≡◌, ◌+◌, ◌<◌, ◌≤◌, ◌↔◌, [], ◌∷◌, ◌++◌, length, true, is_some, IsOk, IsTrue, IfOk, OnOk, OnErr, vec_len, vec_capacity};
 ghost use Rattle.std.specs.Map.{keys_of};
 ghost use Rattle.std.specs.FinMap as finite;
@@ -27,17 +27,18 @@ pub enum Inserted {
     ///
     /// - [`Cause::Full`]: there was no room, and each entry is pinned. Nobody was evicted, and the
     ///   entries are as they were.
-    /// - [`Cause::Memory`]: an allocation for the new entry failed. If there was no room for it, the
-    ///   entry of the key beside it was evicted before that was known. The other entries are as they
-    ///   were, in their order. When memory is short isn't promised, not even that it never is.
+    /// - [`Cause::Memory`]: the new entry has a new key, and an allocation for it failed. If there was
+    ///   no room, the entry of the key beside the cause was evicted before that was known; otherwise
+    ///   there is no key beside it. The other entries are as they were, in their order. It isn't
+    ///   promised when memory is short, and not that it never is.
     NotKept(Cause, Option<Key>),
 }
 
 /// What one stripe caches: each key once, in order of use.
 ///
 /// How many entries may be kept is chosen when this is made, from 1 to [`CAPACITY_MAX`]. A look-up, a
-/// use, an insertion and a removal cost the same however many entries there are; an eviction passes
-/// the pinned entries at the least recently used end.
+/// use, an insertion and a removal take as many steps with all of these entries as with one. If an
+/// insertion evicts, it also passes the pinned entries at the least recently used end.
 #[derive(Drop)]
 pub struct Entries {
     cache: LruCache<Key, Value>,
@@ -93,7 +94,7 @@ impl Entries {
     /// If the key has an entry already, its value is replaced and nobody is evicted, however full the
     /// stripe is. A new key into a full stripe first evicts the least recently used entry whose key
     /// isn't in `pinned`, whose order doesn't matter; if all are in it, the new entry isn't kept.
-    /// Whether the entry is kept, who was evicted and what a failed allocation leaves is the answer:
+    /// The answer says whether the entry is kept, who was evicted and what a failed allocation leaves:
     /// see [`Inserted`].
     pub fn insert(&mut self, key: &Key, value: &Value, pinned: &[Key]) -> Inserted
         ensures inserts { Inserts self.old self.new key.now value.now pinned.now result }
@@ -113,41 +114,6 @@ impl Entries {
             Ok(()) => Inserted::KeptAfter(victim),
             Err(_) => Inserted::NotKept(Cause::Memory, Some(victim)),
         }
-    }
-
-    /// Whether the key has an entry already, or there is room for one more.
-    fn has_room_for(&self, key: &Key) -> bool
-        ensures room { result ≡ has_room_for key.now self.now }
-        ensures valid { IsValidByUse self.now }
-    {
-        let has_room = self.len() < self.capacity();
-        has_room || self.peek(key).is_some()
-    }
-
-    /// Gives the key this value, and makes its entry the most recently used. If it had no entry, there
-    /// may be no memory for one, and nothing changes.
-    fn put_first(&mut self, key: &Key, value: &Value) -> Result<(), AllocError>
-        requires room { has_room_for key.now self.old ≡ true }
-        ensures ok { OnOk result (self.new ≡ record self.old { list = (key.now, value.now) ∷ others key.now self.old.list }) }
-        ensures err { OnErr result (self.new ≡ self.old) }
-        ensures is_new { OnErr result (finite.find key_cmp key.now self.old.list ≡ None) }
-        ensures valid { IsValidByUse self.new }
-    {
-        self.cache.put(*key, *value)?;
-        Ok(())
-    }
-
-    /// The key that is evicted if there is no room: the least recently used one that isn't pinned.
-    fn lru_victim(&self, pinned: &[Key]) -> Option<Key>
-        ensures { result ≡ lru_victim self.now.list pinned.now }
-    {
-        let mut rest = self.cache.iter();
-        while let Some((key, _)) = rest.next_back() {
-            if !pinned.contains(key) {
-                return Some(*key);
-            }
-        }
-        None
     }
 
     /// Takes the key's entry out, and answers its value, or none if there was no entry. The others
@@ -173,7 +139,8 @@ impl Entries {
 
     /// Appends the entries, the most recently used first.
     ///
-    /// If there was no memory for them, which comes only if `out` lacks the room, `out` is as it was.
+    /// An `Err` says that there was no memory for them, and `out` is as it was. It doesn't come if `out`
+    /// has room for them all.
     pub fn append_to(&self, out: &mut Vec<(Key, Value)>) -> Result<(), AllocError>
         ensures ok { OnOk result (out.new.items ≡ out.old.items ++ self.now.list) }
         ensures err { OnErr result (out.new.items ≡ out.old.items) }
@@ -209,6 +176,41 @@ impl Entries {
         ensures valid { IsValidByUse self.now }
     {
         self.cache.cap().get()
+    }
+
+    /// Whether the key has an entry already, or there is room for one more.
+    fn has_room_for(&self, key: &Key) -> bool
+        ensures room { result ≡ has_room_for key.now self.now }
+        ensures valid { IsValidByUse self.now }
+    {
+        let has_room = self.len() < self.capacity();
+        has_room || self.peek(key).is_some()
+    }
+
+    /// Gives the key this value, and makes its entry the most recently used. If it had no entry, there
+    /// may be no memory for one, and nothing changes.
+    fn put_first(&mut self, key: &Key, value: &Value) -> Result<(), AllocError>
+        requires room { has_room_for key.now self.old ≡ true }
+        ensures ok { OnOk result (self.new ≡ record self.old { list = (key.now, value.now) ∷ others key.now self.old.list }) }
+        ensures err { OnErr result (self.new ≡ self.old) }
+        ensures is_new { OnErr result (finite.find key_cmp key.now self.old.list ≡ None) }
+        ensures valid { IsValidByUse self.new }
+    {
+        self.cache.put(*key, *value)?;
+        Ok(())
+    }
+
+    /// The key that is evicted if there is no room: the least recently used one that isn't pinned.
+    fn lru_victim(&self, pinned: &[Key]) -> Option<Key>
+        ensures { result ≡ lru_victim self.now.list pinned.now }
+    {
+        let mut rest = self.cache.iter();
+        while let Some((key, _)) = rest.next_back() {
+            if !pinned.contains(key) {
+                return Some(*key);
+            }
+        }
+        None
     }
 }
 

@@ -38,7 +38,9 @@ fn shown(alloc: Global, entries: &Entries) -> Result<Vec<u8>, Fail> {
 // 2. A plain list, the most recently used first.
 
 fn plain_peek(list: &[(Key, Value)], key: &Key) -> Option<Value> {
-    list.iter().find(|entry| entry.0 == *key).map(|entry| entry.1)
+    list.iter()
+        .find(|entry| entry.0 == *key)
+        .map(|entry| entry.1)
 }
 
 fn plain_remove(list: &mut Vec<(Key, Value)>, key: &Key) -> Option<Value> {

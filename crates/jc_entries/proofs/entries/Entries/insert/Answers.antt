@@ -1,6 +1,5 @@
-use Rattle.std.proofs.Common.{◌≡◌, ◌∷◌, List, true, ap, sym, ◌∙◌, is_some}
-use Rattle.std.specs.FinMap as finite
-use Rattle.jc_model.specs.Cache.{Bytes, key_cmp}
+use Rattle.std.proofs.Common.{◌∷◌, List, ap, sym, ◌∙◌}
+use Rattle.jc_model.specs.Cache.{Bytes}
 use Rattle.jc_model.specs.Listed.{others}
 use Rattle.jc_entries.specs.ByUse.{ByUse}
 use Rattle.jc_entries.specs.Inserting.{has_room_for}

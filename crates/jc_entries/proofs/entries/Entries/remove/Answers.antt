@@ -1,19 +1,17 @@
-use Rattle.std.proofs.Common.{ap, ◌∙◌}
+use Rattle.std.proofs.Common.{ap, sym, ◌∙◌, subst}
 use Rattle.std.specs.FinMap as finite
-use Rattle.lru.specs.LruCache.{LruCache, lru_cache}
-use Rattle.jc_model.specs.Cache.{Bytes, key_cmp}
+use Rattle.jc_model.specs.Cache.{key_cmp}
 use Rattle.jc_model.specs.Listed.{others}
-use Rattle.jc_entries.specs.ByUse.{ByUse}
+use Rattle.jc_entries.specs.ByUse.{ByUse, IsValidByUse}
 use Rattle.jc_entries.specs.EntriesInside.{by_use_of}
-use Rattle.jc_entries.proofs.IsValidByUse.{IsValidByUse-cache, IsValidByUse-others}
-use Rattle.jc_entries.proofs.Lru.{lookup-find, remove_entry-others}
+use Rattle.jc_entries.proofs.IsValidByUse.{IsValidByUse-others}
+use Rattle.jc_entries.proofs.Lru.{lookup-find, by_use-removed}
 use Rattle.jc_entries.proofs.entries.Entries.remove.Goals as goal
 
 pub invariant_of-self : goal.invariant_of-self
 invariant_of-self c =
-    let cache = c.self.inside.cache in
-    let is = c.pop.ensures.entries ∙ ap (λ es. lru_cache es cache.cap) (remove_entry-others c.args.key.now cache.entries c.self.invariant.distinct) in
-    IsValidByUse-cache _ _ is (IsValidByUse-others (by_use_of c.self.inside) c.args.key.now c.self.invariant)
+    let after = by_use-removed _ _ c.args.key.now c.self.invariant c.pop.ensures.entries in
+    subst IsValidByUse (sym after) (IsValidByUse-others (by_use_of c.self.inside) c.args.key.now c.self.invariant)
 
 pub returns-clause-value : goal.returns-clause-value
 returns-clause-value c =
@@ -22,9 +20,7 @@ returns-clause-value c =
 
 pub returns-clause-after : goal.returns-clause-after
 returns-clause-after c =
-    let cache = c.self.inside.cache in
-    let is = c.pop.ensures.entries ∙ ap (λ es. lru_cache es cache.cap) (remove_entry-others c.args.key.now cache.entries c.self.invariant.distinct) in
-    ap (λ (x : LruCache Bytes Bytes). record { capacity = x.cap; list = x.entries }) is
+    by_use-removed _ _ c.args.key.now c.self.invariant c.pop.ensures.entries
     ∙ ap (λ (s : ByUse). record s { list = others c.args.key.now s.list }) c.self.view_is
 
 pub returns-clause-valid : goal.returns-clause-valid
