@@ -13,7 +13,9 @@ use Rattle.jc_reserve.specs.declared.held.Held.{Held}
 use Rattle.jc_reserve.specs.Table.{Table}
 use Rattle.jc_reserve.specs.Reserving.{has_key, reservation_at, CanReserve, with_reservation, without_reservation}
 use Rattle.jc_reserve.specs.Sound.{IsReservationTable}
-use Rattle.jc_reserve.proofs.Places.{find_at_place, remove_at_place, find_nowhere, filter_nowhere}
+use Rattle.jc_reserve.specs.Inside.{table_of, HasTable}
+use Rattle.jc_reserve.specs.declared.reservations.Reservations.TheInside.{Inside}
+use Rattle.jc_types.proofs.CallerLemmas.{position_map, find_at_place, remove_at_place, find_nowhere, filter_nowhere}
 
 -- a free key is that of no reservation
 other_key : {T : Type 0} (key : Bytes) (held : List (Held T)) (k : ℕ) (d : Held T) → k < length held → list_any (has_key key) held ≡ false → pointwise ◌==◌ (get_or held k d).key key ≡ false
@@ -60,3 +62,8 @@ reservation_nowhere {T} table key none = ap (option_map (λ (x : Held T). (x.res
 
 pub without_nowhere : {T : Type 0} (table : Table T) (key : Bytes) → position (has_key key) table.held ≡ None → table ≡ without_reservation table key
 without_nowhere table key none = λ i. record { held = sym (filter_nowhere (has_key key) table.held none) i; next = table.next }
+
+-- the place of a key among the keys is that of its reservation
+pub place_of_key : {T : Type 0} (r : Inside T) (key : Bytes) → HasTable r → position (pointwise ◌==◌ key) r.keys.items ≡ position (has_key key) (table_of r).held
+place_of_key r key fields =
+    ap (position (pointwise ◌==◌ key)) fields.keys ∙ position_map (pointwise ◌==◌ key) (λ h. h.key) r.held.items
