@@ -194,3 +194,6 @@ fn retry_each(joiners: &mut [Joiner], load: u64) -> u32
     }
     count
 }
+
+#[cfg(test)]
+mod tests;

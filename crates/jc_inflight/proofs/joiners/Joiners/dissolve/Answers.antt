@@ -10,6 +10,6 @@ pub invariant_of-self : goal.invariant_of-self
 invariant_of-self c =
     let old = c.self.inside.joiners in
     let now : (with_items old c.retry_each.new.joiners).items ≡ after_dissolve c.args.load old.items =
-      items-with_items old c.retry_each.new.joiners (search rules) ∙ c.retry_each.ensures.dissolved ∙ ap (after_dissolve c.args.load) c.deref_mut.ensures.value in
+    items-with_items old c.retry_each.new.joiners (search rules) ∙ c.retry_each.ensures.dissolved ∙ ap (after_dissolve c.args.load) c.deref_mut.ensures.value in
     let same = sym (calls-after_dissolve c.args.load old.items) ∙ ap (map call_of) (sym now) in
     record { list = IsJoinerList-alike old.items _ same c.self.invariant.list }

@@ -10,6 +10,6 @@ pub invariant_of-self : goal.invariant_of-self
 invariant_of-self c =
     let old = c.self.inside.joiners in
     let now : (with_items old c.answer_each.new.joiners).items ≡ after_resolve c.args.load c.args.step old.items =
-      items-with_items old c.answer_each.new.joiners (search rules) ∙ c.answer_each.ensures.resolved ∙ ap (after_resolve c.args.load c.args.step) c.deref_mut.ensures.value in
+    items-with_items old c.answer_each.new.joiners (search rules) ∙ c.answer_each.ensures.resolved ∙ ap (after_resolve c.args.load c.args.step) c.deref_mut.ensures.value in
     let same = sym (calls-answered_from c.args.load c.args.step (c.args.step + 1) old.items) ∙ ap (map call_of) (sym now) in
     record { list = IsJoinerList-alike old.items _ same c.self.invariant.list }
