@@ -1,10 +1,9 @@
 -- Lemmas for the crates above.
 use Rattle.std.proofs.Common.{◌≡◌, ℕ, suc, ◌+◌, ◌<◌, ◌==◌, ◌&&◌, ◌++◌, List, [], ◌∷◌, Bool, true, false, cond, not, length, get_or, take, map, filter, find, ◌||◌, append-nil, count_by, Some, None, is_some, refl, ap, sym, ◌∙◌, arith}
-use Rattle.std.proofs.lemmas.Grind.{common_steps}
 use Rattle.std.proofs.lemmas.List.{length-map, map-append}
 use Rattle.std.proofs.lemmas.List.Elements.{filter_more}
 use Rattle.std.proofs.lemmas.List.Sums.{length-filter, sum_by-cons}
-use Rattle.std.specs.List.{list_any, AllPairs}
+use Rattle.std.specs.List.{AllPairs}
 use Rattle.std.specs.Cmp.Lexicographic.{pointwise, same_text}
 use Rattle.std.proofs.lemmas.Bool.{eqb-true}
 use Rattle.jc_types.proofs.CallerLemmas.{filter_all}
@@ -13,11 +12,11 @@ use Rattle.jc_types.specs.declared.caller.Caller.{Caller}
 use Rattle.jc_model.specs.Cache.{Bytes}
 use Rattle.jc_inflight.specs.declared.joiner.Joiner.{Joiner}
 use Rattle.jc_inflight.specs.declared.joiner.JoinState.{JoinState}
-use Rattle.jc_inflight.specs.declared.joiner.JoinState.TheVariants.{Waiting, Answered, Again}
+use Rattle.jc_inflight.specs.declared.joiner.JoinState.TheVariants.{Again}
 use Rattle.jc_inflight.specs.Joining.{belongs_to, has_joined, is_waiting, waits_for, callers_of}
-use Rattle.jc_inflight.specs.Resolving.{with_answer, answered_from, after_resolve}
+use Rattle.jc_inflight.specs.Resolving.{with_answer, answered_from}
 use Rattle.jc_inflight.specs.Dissolving.{told_to_retry, after_dissolve}
-use Rattle.jc_inflight.specs.Sound.{IsJoinerList}
+use Rattle.jc_inflight.specs.IsJoinerList.{IsJoinerList}
 use Rattle.jc_inflight.specs.Taking.{state_of, without_joiner, after_take, is_over}
 
 -- 1. The end of a load changes no caller and no key.

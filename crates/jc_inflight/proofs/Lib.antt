@@ -1,3 +1,3 @@
 pub mod CallerLemmas
 pub mod Ending
-pub mod Kept
+pub mod JoinerList

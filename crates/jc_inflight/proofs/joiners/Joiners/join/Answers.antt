@@ -1,8 +1,8 @@
 use Rattle.std.proofs.Common.{◌<◌, length, subst, sym, ap, ◌∙◌, rules}
 use Rattle.jc_types.specs.declared.limits.TheConstants.{JOINERS_MAX}
 use Rattle.jc_inflight.specs.Joining.{has_joined}
-use Rattle.jc_inflight.specs.Sound.{IsJoinerList}
-use Rattle.jc_inflight.proofs.Kept.{IsJoinerList-with}
+use Rattle.jc_inflight.specs.IsJoinerList.{IsJoinerList}
+use Rattle.jc_inflight.proofs.JoinerList.{IsJoinerList-with}
 use Rattle.jc_inflight.proofs.joiners.Joiners.join.Goals as goal
 
 pub invariant_of-self : goal.invariant_of-self

@@ -1,9 +1,9 @@
-use Rattle.std.proofs.Common.{◌≡◌, ◌+◌, map, ap, sym, ◌∙◌, rules, length}
+use Rattle.std.proofs.Common.{◌≡◌, ◌+◌, map, ap, sym, ◌∙◌, rules}
 use Rattle.arrayvec.specs.ArrayVec.{with_items}
 use Rattle.arrayvec.proofs.ArrayVecLemmas.{items-with_items}
 use Rattle.jc_inflight.specs.Resolving.{after_resolve}
 use Rattle.jc_inflight.proofs.CallerLemmas.{call_of, calls-answered_from}
-use Rattle.jc_inflight.proofs.Kept.{IsJoinerList-alike}
+use Rattle.jc_inflight.proofs.JoinerList.{IsJoinerList-alike}
 use Rattle.jc_inflight.proofs.joiners.Joiners.resolve.Goals as goal
 
 pub invariant_of-self : goal.invariant_of-self

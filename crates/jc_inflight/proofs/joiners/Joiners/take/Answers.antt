@@ -1,10 +1,10 @@
-use Rattle.std.proofs.Common.{◌≡◌, Some, position, subst, sym, ap, ◌∙◌, get_or}
+use Rattle.std.proofs.Common.{Some, position, subst, sym, ap, ◌∙◌, get_or}
 use Rattle.jc_inflight.specs.declared.joiner.Joiner.{Joiner}
 use Rattle.jc_inflight.specs.Joining.{belongs_to, is_waiting}
 use Rattle.jc_inflight.specs.Taking.{state_of, after_take}
-use Rattle.jc_inflight.specs.Sound.{IsJoinerList}
+use Rattle.jc_inflight.specs.IsJoinerList.{IsJoinerList}
 use Rattle.jc_inflight.proofs.CallerLemmas.{after_take_over, after_take_waiting, after_take_nobody}
-use Rattle.jc_inflight.proofs.Kept.{IsJoinerList-without, state_at_place, remove_joiner, state_nowhere}
+use Rattle.jc_inflight.proofs.JoinerList.{IsJoinerList-without, state_at_place, remove_joiner, state_nowhere}
 use Rattle.jc_inflight.proofs.joiners.Joiners.take.Goals as goal
 
 pub returns-in_err-place-clause-state : goal.returns-in_err-place-clause-state

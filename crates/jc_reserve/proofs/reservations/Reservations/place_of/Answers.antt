@@ -2,7 +2,7 @@ use Rattle.std.proofs.Common.{◌==◌, ap, ◌∙◌, position}
 use Rattle.std.specs.Cmp.Lexicographic.{pointwise}
 use Rattle.jc_reserve.specs.Table.{Table}
 use Rattle.jc_reserve.specs.Reserving.{has_key}
-use Rattle.jc_reserve.proofs.Tables.{place_of_key}
+use Rattle.jc_reserve.proofs.ReservationTable.{place_of_key}
 use Rattle.jc_reserve.proofs.reservations.Reservations.place_of.Goals as goal
 
 pub returns-clause-place : goal.returns-clause-place

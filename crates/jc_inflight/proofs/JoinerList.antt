@@ -1,5 +1,5 @@
 -- What keeps the joiners as every list of joiners is.
-use Rattle.std.proofs.Common.{◌≡◌, ℕ, ◌<◌, ◌==◌, ◌&&◌, List, Some, None, Bool, true, false, not, length, get_or, map, refl, ap, sym, ◌∙◌, subst, arith, length-append}
+use Rattle.std.proofs.Common.{◌≡◌, ℕ, ◌<◌, ◌==◌, ◌&&◌, List, Some, None, true, false, not, length, get_or, map, refl, ap, sym, ◌∙◌, subst, arith, length-append}
 use Rattle.std.proofs.lemmas.Cmp.{nat_eq_equiv}
 use Rattle.std.proofs.lemmas.List.{length-map, get_or-map}
 use Rattle.std.proofs.lemmas.List.Folds.{list_any_at}
@@ -16,7 +16,7 @@ use Rattle.jc_inflight.specs.declared.joiner.Joiner.{Joiner}
 use Rattle.jc_inflight.specs.declared.joiner.JoinState.TheVariants.{Waiting}
 use Rattle.jc_inflight.specs.Joining.{belongs_to, has_joined, with_joiner}
 use Rattle.jc_inflight.specs.Taking.{state_of, without_joiner}
-use Rattle.jc_inflight.specs.Sound.{IsJoinerList}
+use Rattle.jc_inflight.specs.IsJoinerList.{IsJoinerList}
 use Rattle.jc_types.proofs.CallerLemmas.{find_at_place, find_nowhere, remove_at_place}
 use Rattle.jc_inflight.proofs.CallerLemmas.{call_of, belongs_to_one}
 
