@@ -4,7 +4,7 @@
 use Rattle.std.specs.Prelude.{List}
 use Rattle.jc_inflight.specs.declared.joiner.Joiner.{Joiner}
 use Rattle.jc_inflight.specs.declared.joiners.Joiners.TheInside.{Inside}
-use Rattle.jc_inflight.specs.Sound.{IsJoinerList}
+use Rattle.jc_inflight.specs.IsJoinerList.{IsJoinerList}
 
 abbrev pub joiners_of : Inside → List Joiner
 joiners_of a = a.joiners.items

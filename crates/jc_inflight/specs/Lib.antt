@@ -2,5 +2,5 @@ pub mod Joining
 pub mod Resolving
 pub mod Dissolving
 pub mod Taking
-pub mod Sound
+pub mod IsJoinerList
 pub mod Inside

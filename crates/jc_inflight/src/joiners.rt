@@ -6,7 +6,7 @@ ghost use Rattle.jc_inflight.specs.Joining.{belongs_to, has_joined, waits_for, w
 ghost use Rattle.jc_inflight.specs.Resolving.{after_resolve};
 ghost use Rattle.jc_inflight.specs.Dissolving.{after_dissolve};
 ghost use Rattle.jc_inflight.specs.Taking.{state_of, after_take};
-ghost use Rattle.jc_inflight.specs.Sound.{IsJoinerList};
+ghost use Rattle.jc_inflight.specs.IsJoinerList.{IsJoinerList};
 
 use crate::{JoinState, Joiner};
 use arrayvec::ArrayVec;
@@ -194,3 +194,6 @@ fn retry_each(joiners: &mut [Joiner], load: u64) -> u32
     }
     count
 }
+
+#[cfg(test)]
+mod tests;

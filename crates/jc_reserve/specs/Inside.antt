@@ -3,7 +3,7 @@
 --     HasTable     the keys are those of the reservations, and the table is as every table is
 use Rattle.std.specs.Prelude.{◌≡◌}
 use Rattle.jc_reserve.specs.Table.{Table, keys_of}
-use Rattle.jc_reserve.specs.Sound.{IsReservationTable}
+use Rattle.jc_reserve.specs.IsReservationTable.{IsReservationTable}
 use Rattle.jc_reserve.specs.declared.reservations.Reservations.TheInside.{Inside}
 
 abbrev pub table_of : {T : Type 0} → Inside T → Table T

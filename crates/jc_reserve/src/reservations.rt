@@ -4,7 +4,7 @@ ghost use Rattle.std.specs.Cmp.Lexicographic.{pointwise};
 ghost use Rattle.jc_types.specs.declared.limits.TheConstants.{RESERVATIONS_MAX};
 ghost use Rattle.jc_reserve.specs.Table.{keys_of};
 ghost use Rattle.jc_reserve.specs.Reserving.{has_key, is_held, reservation_at, CanReserve, with_reservation, without_reservation};
-ghost use Rattle.jc_reserve.specs.Sound.{IsReservationTable};
+ghost use Rattle.jc_reserve.specs.IsReservationTable.{IsReservationTable};
 
 use crate::Held;
 use arrayvec::ArrayVec;

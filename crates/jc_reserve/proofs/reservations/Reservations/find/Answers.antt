@@ -2,7 +2,7 @@ use Rattle.std.proofs.Common.{sym, ◌∙◌, ap, get_or, position}
 use Rattle.jc_reserve.specs.Table.{Table}
 use Rattle.jc_reserve.specs.Reserving.{has_key, reservation_at}
 use Rattle.jc_reserve.specs.Inside.{table_of}
-use Rattle.jc_reserve.proofs.Tables.{reservation_at_place, reservation_nowhere}
+use Rattle.jc_reserve.proofs.ReservationTable.{reservation_at_place, reservation_nowhere}
 use Rattle.jc_reserve.proofs.reservations.Reservations.find.Goals as goal
 
 pub returns-in_err-place-clause-found : goal.returns-in_err-place-clause-found

@@ -1,6 +1,6 @@
 use Rattle.std.proofs.Common.{ap, ◌∙◌, is_some}
 use Rattle.jc_reserve.specs.Reserving.{has_key}
-use Rattle.jc_reserve.proofs.Places.{is_some_position}
+use Rattle.jc_types.proofs.CallerLemmas.{is_some_position}
 use Rattle.jc_reserve.proofs.reservations.Reservations.is_reserved.Goals as goal
 
 pub returns : goal.returns

@@ -2,9 +2,9 @@ use Rattle.std.proofs.Common.{sym, ◌∙◌, ap, subst, position, remove}
 use Rattle.jc_reserve.specs.Table.{Table, keys_of}
 use Rattle.jc_reserve.specs.Reserving.{has_key, reservation_at, without_reservation}
 use Rattle.jc_reserve.specs.Inside.{table_of}
-use Rattle.jc_reserve.specs.Sound.{IsReservationTable}
-use Rattle.jc_reserve.proofs.Places.{map-remove}
-use Rattle.jc_reserve.proofs.Tables.{IsReservationTable-without, reservation_at_place, reservation_nowhere, without_place, without_nowhere}
+use Rattle.jc_reserve.specs.IsReservationTable.{IsReservationTable}
+use Rattle.jc_types.proofs.CallerLemmas.{map-remove}
+use Rattle.jc_reserve.proofs.ReservationTable.{IsReservationTable-without, reservation_at_place, reservation_nowhere, without_place, without_nowhere}
 use Rattle.jc_reserve.proofs.reservations.Reservations.release.Goals as goal
 
 pub returns-in_err-place-clause-found : goal.returns-in_err-place-clause-found

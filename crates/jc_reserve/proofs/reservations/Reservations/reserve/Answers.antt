@@ -1,10 +1,10 @@
 use Rattle.std.proofs.Common.{sym, ◌∙◌, ap, subst, ◌∷◌, ◌++◌, ◌+◌, []}
 use Rattle.std.proofs.lemmas.List.{map-append}
 use Rattle.jc_reserve.specs.Table.{Table, keys_of}
-use Rattle.jc_reserve.specs.Reserving.{CanReserve, with_reservation}
+use Rattle.jc_reserve.specs.Reserving.{CanReserve}
 use Rattle.jc_reserve.specs.Inside.{table_of}
-use Rattle.jc_reserve.specs.Sound.{IsReservationTable}
-use Rattle.jc_reserve.proofs.Tables.{IsReservationTable-with}
+use Rattle.jc_reserve.specs.IsReservationTable.{IsReservationTable}
+use Rattle.jc_reserve.proofs.ReservationTable.{IsReservationTable-with}
 use Rattle.jc_reserve.proofs.reservations.Reservations.reserve.Goals as goal
 
 pub invariant_of-self : goal.invariant_of-self

@@ -1,4 +1,4 @@
--- The first place at which a test passes, and what is found, left out or mapped there.
+-- Lemmas for the crates above: the first place at which a test passes, and what is found, left out or mapped there.
 use Rattle.std.proofs.Common.{◌≡◌, ℕ, ◌+◌, ◌-◌, zero, suc, ◌<◌, ◌||◌, is_some, List, [], ◌∷◌, ◌++◌, take, drop, Bool, true, false, cond, not, length, Some, None, ap, refl, sym, ◌∙◌, subst, arith, find, filter, map, nat_lt, get_or, rules}
 use Rattle.std.proofs.lemmas.Grind.{common_steps}
 use Rattle.std.proofs.lemmas.List.{map-append, take-map, drop-map}
@@ -6,9 +6,6 @@ use Rattle.std.proofs.lemmas.List.Elements.{All-head, All-tail}
 use Rattle.std.proofs.lemmas.List.Folds.{find_at}
 use Rattle.std.proofs.lemmas.Option.{slice_get_read}
 use Rattle.std.specs.List.{list_any, slice_get, position, position_or_len, remove, AllPairs, All}
-
-one_more : (m : ℕ) → 1 + m ≡ suc m
-one_more m = omega arith
 
 module _ {X : Type 0} (p : X → Bool) where
   -- whether there is such a place
@@ -30,7 +27,7 @@ module _ {X : Type 0} (p : X → Bool) where
       let here : p x ≡ false = grind (arith, common_steps) in
       rw here (find_nowhere xs rest)
 
-  filter_all : (xs : List X) → All (λ x. p x ≡ true) xs → filter p xs ≡ xs
+  pub filter_all : (xs : List X) → All (λ x. p x ≡ true) xs → filter p xs ≡ xs
   filter_all [] all = refl
   filter_all (x ∷ xs) all =
       rw (All-head (λ x. p x ≡ true) x xs all) (ap (λ ys. x ∷ ys) (filter_all xs (All-tail (λ x. p x ≡ true) x xs all)))

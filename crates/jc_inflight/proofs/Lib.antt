@@ -1,0 +1,3 @@
+pub mod CallerLemmas
+pub mod Ending
+pub mod JoinerList
