@@ -1,20 +1,20 @@
--- Which values have bytes that lead back to them: those whose texts and numbers are within the limits of their types. Every value
--- that a program holds is one.
---     IsCode                a number of four bytes
---     IsKeyText             the bytes of a key
---     IsValueText           the bytes of a value
---     IsEncodableOptional   there is nothing, or it is such a value
---     IsEncodableCaller     such a caller
---     IsEncodableOp         such an operation
---     IsEncodableLoad       such an answer of the loader
---     IsEncodableWrite      such an answer of the writer
---     IsEncodableEffect     such an effect of a processor
---     IsEncodableProcess    such an answer of a processor
---     IsEncodableOut        such answers from outside
---     IsEncodableRefusal    such a refusal
---     IsEncodableReply      such a reply
---     IsEncodableStep       a step of such parts
---     IsEncodable           such an event
+-- Which things have bytes that decode to them again: those whose numbers and texts are within the limits of their types, as in
+-- every thing that a program holds.
+--     IsCode                a number fits four bytes
+--     IsKeyText             a text is as long as a key may be
+--     IsValueText           a text is as long as a value may be
+--     IsEncodableOptional   there is nothing, or what there is can be encoded
+--     IsEncodableCaller     the two numbers of a caller fit their bytes
+--     IsEncodableOp         the values of an operation can be encoded
+--     IsEncodableLoad       the value or the code of the loader can be encoded
+--     IsEncodableWrite      the code of the writer can be encoded
+--     IsEncodableEffect     the value that a processor sets can be encoded
+--     IsEncodableProcess    the values or the code of a processor can be encoded
+--     IsEncodableOut        all answers from outside can be encoded
+--     IsEncodableRefusal    the code of a refusal can be encoded
+--     IsEncodableReply      the value or the refusal of a reply can be encoded
+--     IsEncodableStep       all parts of a step can be encoded
+--     IsEncodable           all parts of an event can be encoded
 use Rattle.std.specs.Prelude.{ℕ, ◌<◌, ◌≤◌, ◌^◌, List, length, Option, None, Some}
 use Rattle.jc_types.specs.declared.caller.Caller.{Caller}
 use Rattle.jc_types.specs.declared.refusal.Refusal.{Refusal}

@@ -1,5 +1,5 @@
 -- The bytes that an event is stored as: for each variant a byte, its tag, and then what the variant holds.
---     text_bytes        the length of a text in two bytes, and the text
+--     text_bytes        the length of a text in two bytes, and then the text
 --     optional_bytes    0 if there is nothing, else 1 and the bytes of what there is
 --     caller_bytes      the bytes of a caller
 --     op_bytes          the bytes of an operation
@@ -34,7 +34,7 @@ use Rattle.jc_model.specs.declared.event.Cause.TheVariants.{Full, Memory}
 use Rattle.jc_model.specs.declared.event.Event.{Event}
 use Rattle.jc_model.specs.declared.event.Event.TheVariants.{Step, Evict}
 
--- the length of a text in two bytes, and the text
+-- the length of a text in two bytes, and then the text
 abbrev pub text_bytes : List ℕ → List ℕ
 text_bytes text = to_le_bytes w16 (length text) ++ text
 

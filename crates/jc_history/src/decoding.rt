@@ -1,6 +1,7 @@
 //! Decodes events from bytes.
 //!
-//! Each function reads a thing at the beginning of its input, and leaves the bytes after it there.
+//! Each function reads a thing at the beginning of its input, and leaves the bytes after it there. Bytes
+//! that no event was encoded as give some event, too.
 ghost use Rattle.std.specs.Prelude.{◌≡◌, ◌≤◌, length, Some};
 ghost use Rattle.jc_history.specs.Past.{reply_in};
 ghost use Rattle.jc_history.specs.Decoding.{byte, number_2, number_4, number_8, decode_text, decode_value, decode_key, decode_optional, decode_caller, decode_op, decode_load, decode_write, decode_effect, decode_process, decode_out, decode_refusal, decode_reply, decode_step, decode_event};
@@ -306,7 +307,7 @@ pub(crate) fn decode_event(bytes: &[u8]) -> Event
     }
 }
 
-/// The reply of the event that the bytes begin with, if it is a step. It reads no other part of the event.
+/// The reply of the event that the bytes begin with, if it is a step. No other part of the event is read.
 #[tactic(auto, unfolding(crate::specs::Decoding::decode_event, crate::specs::Decoding::decode_step))]
 pub(crate) fn decode_reply_of_step(bytes: &[u8]) -> Option<Reply>
     ensures { result ≡ reply_in (Some (decode_event bytes.now).0) }

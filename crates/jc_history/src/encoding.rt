@@ -1,7 +1,7 @@
 //! Encodes events as bytes.
 //!
-//! Each function appends to a vector that has room for the longest thing of its kind, so no append is
-//! refused.
+//! Each function appends to a vector that has room for the longest thing of its kind, so it takes no
+//! memory. Beside the bytes it ensures that they can be decoded again.
 ghost use Rattle.std.specs.Prelude.{◌≡◌, ◌+◌, ◌<◌, ◌≤◌, ◌^◌, ◌∷◌, ◌++◌, length, vec_len, vec_capacity};
 ghost use Rattle.std.specs.Int.{w32, to_le_bytes};
 ghost use Rattle.jc_history.specs.Appending.{Appends};
@@ -46,7 +46,8 @@ const STEP_ROOM: usize = TAGGED_VALUE_ROOM
     + OUT_ROOM
     + TAGGED_CODE_ROOM;
 
-/// The most bytes of an event: those of a step with a key and six values of the greatest length.
+/// The most bytes of an event: those of a step with a key and six values of the greatest length. With the four of
+/// its index in `History::starts` it has at most 47 bytes beside its key and its values.
 pub(crate) const EVENT_ROOM: usize = TAG_ROOM + STEP_ROOM;
 
 const _: () = prove!(EVENT_ROOM == 43 + KEY_MAX + 6 * VALUE_MAX);

@@ -1,7 +1,8 @@
-//! The history of one stripe. Its room is made with it, and a place in it can be promised.
+//! The history of one stripe. Its room is made with it, and places in it can be promised.
 //!
-//! A call promises the places that its events need before it goes outside, and pushes its events when
-//! it is back: a promised push is never refused. What a call doesn't use it gives back.
+//! A promised place is room that is reserved for an event that is still to be pushed. A call has the
+//! places promised that its events need before it asks the loader or the writer, and pushes its events
+//! when it has the answer: such a push is never refused. The places that it doesn't use it gives back.
 ghost use Rattle.std.specs.Prelude.{◌≡◌, ◌+◌, ◌<◌, ◌≤◌, ◌^◌, ◌↔◌, [], length, vec_len, vec_capacity, ◌∷◌, ◌++◌, Some, IsTrue, IfOk, OnOk, OnErr, All, if◌then◌else◌, slice_get, slice_index_or, slice_range};
 ghost use Rattle.jc_history.specs.Past.{places_used, IsWithinLimit, promise, unpromise, push, reply_in};
 ghost use Rattle.jc_history.specs.Stored.{event_at, events_at, IsComplete};
@@ -19,7 +20,8 @@ use std::marker::Model;
 /// the promised places together are at most the limit, which is chosen when the history is made and
 /// stays. No method but [`new`](History::new) and [`append_to`](History::append_to) takes memory.
 ///
-/// An event is stored as bytes: beside its key and values a hit takes 27, and the largest step 47.
+/// An event is stored as bytes. Beside its key and its values a hit takes 27 of them, and the largest
+/// step 47.
 #[derive(Drop)]
 pub struct History {
     // The events one after another, the earliest first.
@@ -45,10 +47,10 @@ impl Model for History {
 impl History {
     /// A history with no event and with room for `limit` events, at most [`HISTORY_MAX`].
     ///
-    /// The room is all taken here, as much as `limit` of the largest events need: 463 bytes for each
-    /// place, of which 4 say where its event starts. For [`HISTORY_MAX`] places that is 30 MB. Pages of
-    /// it that no event has reached cost nothing if the system gives out a page at its first use. An
-    /// `Err` says that an allocation failed.
+    /// The room is all taken here, as much as the largest events need: for each place 47 bytes, a key
+    /// and six values of the greatest length, which makes 463 bytes, and 30 MB for [`HISTORY_MAX`]
+    /// places. Pages of it that no event has reached cost nothing if the system gives out a page when
+    /// it is first written. An `Err` says that an allocation failed.
     pub fn new(alloc: Global, limit: usize) -> Result<Self, AllocError>
         requires { limit ≤ HISTORY_MAX }
         ensures { IfOk result (λ h. h ≡ record { limit = limit; events = []; promised = 0 }) }
@@ -94,7 +96,7 @@ impl History {
         self.promised -= n;
     }
 
-    /// Appends an event, in a place that was promised. It is never refused.
+    /// Appends an event, in a place that was promised. It is never refused, and takes no memory.
     pub fn push(&mut self, event: &Event)
         requires { 0 < self.old.promised }
         ensures after { self.new ≡ push event.now self.old }
@@ -135,7 +137,7 @@ impl History {
         self.limit
     }
 
-    /// The event at a place, exactly as it was pushed. The earliest is at 0.
+    /// The event at a place, as it was pushed. The earliest is at 0.
     pub fn event(&self, place: usize) -> Event
         requires { place < length self.now.events }
         ensures { slice_get self.now.events place ≡ Some result }
@@ -143,9 +145,9 @@ impl History {
         event_of(&self.bytes, &self.starts, place)
     }
 
-    /// The reply of the step at a place. It is `None` if an eviction is there, or nothing.
+    /// The reply of the step at a place, or `None` if no event or an eviction is there.
     ///
-    /// This reads only the reply, and so is quicker than [`event`](History::event).
+    /// It reads the reply alone, and so is quicker than [`event`](History::event).
     pub fn reply(&self, place: usize) -> Option<Reply>
         ensures { result ≡ reply_in (slice_get self.now.events place) }
     {
@@ -175,7 +177,8 @@ fn append_event(bytes: &mut Vec<u8>, starts: &mut Vec<u32>, event: &Event)
     requires bytes_room { vec_len bytes.old + EVENT_ROOM ≤ vec_capacity bytes.old }
     requires starts_room { vec_len starts.old < vec_capacity starts.old }
     requires small { vec_len bytes.old < 2 ^ 32 }
-    ensures events { events_at bytes.new.items starts.new.items ≡ events_at bytes.old.items starts.old.items ++ event.now ∷ [] }
+    ensures events { events_at bytes.new.items starts.new.items
+        ≡ events_at bytes.old.items starts.old.items ++ event.now ∷ [] }
     ensures complete { All (IsComplete bytes.new.items) starts.new.items }
     ensures few { vec_len bytes.new ≤ vec_len bytes.old + EVENT_ROOM }
     ensures bytes_room { vec_capacity bytes.old ≤ vec_capacity bytes.new }

@@ -1,7 +1,7 @@
-//! What happened in one stripe, stored as bytes, and the room in it that is promised to what is still to happen.
+//! What happened in one stripe, stored as bytes, and the room that is reserved for what is still to happen.
 //!
 //! - [`history`] has the history.
-//! - `encoding` appends the bytes of an event, and `decoding` reads the event back.
+//! - `encoding` appends the bytes of an event, and `decoding` reads the event again.
 #![tactic(auto)]
 
 mod decoding;
