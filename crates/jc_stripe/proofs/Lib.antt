@@ -21,3 +21,8 @@ pub mod Stepping
 pub mod Tables
 pub mod Uniform
 pub mod Used
+pub mod ParkedSteps
+pub mod OwnPick
+pub mod Own
+pub mod WholeCalls
+pub mod UniformParts

@@ -67,7 +67,7 @@ pub whole_load : (old : State) (r : Reservation) → IsReached old → IsOut old
 whole_load old r reached found first =
     asks_whole old.config r.op (entry_at old.cache r.key) (ask_found old.config old.cache (is_key r.key) old.reservations r found reached.asks ∙ first)
 
-waiting_finds : (state : State) (j : Joiner) (s : JoinState) → is_waiting s ≡ true → JoinFits state j s → FindsLoad state j
+pub waiting_finds : (state : State) (j : Joiner) (s : JoinState) → is_waiting s ≡ true → JoinFits state j s → FindsLoad state j
 waiting_finds state j Waiting w fits = fits
 waiting_finds state j (Answered place shared) w fits = cc
 waiting_finds state j Again w fits = cc
