@@ -34,7 +34,8 @@ use Rattle.jc_stripe.specs.Tickets.{JoinClaim}
 use Rattle.jc_stripe.specs.State.{State, waits}
 use Rattle.jc_stripe.specs.Phases.{new_group, after_commit, Begins, PicksUp, Steps, without_joiner}
 use Rattle.jc_stripe.specs.Reached.{IsReached, may_share}
-use Rattle.jc_stripe.specs.OnePhase.{FirstPhase, LastPhase, Withdrawal, PickUp, OnePhase, is_answered, is_parked, is_own_step, own_steps, IsUniform}
+use Rattle.jc_stripe.specs.Laws.{Extends, KeepsReserved}
+use Rattle.jc_stripe.specs.OnePhase.{FirstPhase, LastPhase, Withdrawal, PickUp, IsPhaseOf, OnePhase, is_answered, is_parked, is_own_step, own_steps}
 use Rattle.jc_stripe.proofs.Beside.{join_and, or_right, all_then}
 use Rattle.jc_stripe.proofs.Ordered.{turned_eq}
 use Rattle.jc_stripe.proofs.Settled.{keyed, keyed_callers}
@@ -47,13 +48,21 @@ use Rattle.jc_stripe.proofs.ParkedSteps.{own-parked, parked-joined, parked-disso
 use Rattle.jc_stripe.proofs.Own.{own_left}
 use Rattle.jc_stripe.proofs.UniformParts.{uniform_own, uniform_reservations, uniform_joins, uniform_entries}
 
--- The phases.
+-- 1. What a phase keeps, beside the clauses that are proved for all kinds of phases at once.
+
+record KeepsOthers (session : ℕ) (old new : State) : Type 0 where
+  pub reached : IsReached new
+  pub grows : Extends old new
+  pub next : old.next ≤ new.next
+  pub others : (other : ℕ) → (other == session) ≡ false → own_steps other new ≡ own_steps other old
+
+-- 2. The phases.
 
 session_differs : (session other s : ℕ) → (other == session) ≡ false → s ≡ session → (s == other) ≡ false
 session_differs session other s differs is = turned_eq s other ∙ ap (λ n. other == n) is ∙ differs
 
 -- nothing happens
-uniform_same : (session : ℕ) (old new : State) → IsReached old → new ≡ old → IsUniform session old new
+uniform_same : (session : ℕ) (old new : State) → IsReached old → new ≡ old → KeepsOthers session old new
 uniform_same session old new reached is = record {
   reached = subst IsReached (sym is) reached;
   grows = same_on old new old is (record { config = refl; stripe = refl; origin = refl; opening = refl }) refl;
@@ -84,7 +93,7 @@ next_begun old new caller key op (first.Write ticket) h = let n = ap (λ (s : St
 next_begun old new caller key op (first.Joined join) h = let n = ap (λ (s : State). s.next) h.3 in omega arith
 
 -- a first phase
-uniform_begun : (session : ℕ) (old new : State) → IsReached old → FirstPhase session old new → IsUniform session old new
+uniform_begun : (session : ℕ) (old new : State) → IsReached old → FirstPhase session old new → KeepsOthers session old new
 uniform_begun session old new reached b = record {
   reached = reached_begins old new b.caller b.key b.op b.begun reached b.may b.phases b.begins;
   grows = begins_on old new b.caller b.key b.op b.begun b.begins;
@@ -93,7 +102,7 @@ uniform_begun session old new reached b = record {
 }
 
 -- a last phase
-uniform_committed : (session : ℕ) (old new : State) → IsReached old → LastPhase session old new → IsUniform session old new
+uniform_committed : (session : ℕ) (old new : State) → IsReached old → LastPhase session old new → KeepsOthers session old new
 uniform_committed session old new reached b =
     let r : Reservation = b.reservation in
     let place : ℕ = b.done.place in
@@ -113,7 +122,7 @@ uniform_committed session old new reached b =
     }
 
 -- a reservation that is given back
-uniform_withdrawn : (session : ℕ) (old new : State) → IsReached old → Withdrawal session old new → IsUniform session old new
+uniform_withdrawn : (session : ℕ) (old new : State) → IsReached old → Withdrawal session old new → KeepsOthers session old new
 uniform_withdrawn session old new reached b =
     let load : ℕ = b.reservation.number in
     record {
@@ -142,7 +151,7 @@ next_picked old new join (last.Answer reply place shared) h = let n = ap (λ (s 
 next_picked old new join last.Again h = let n = ap (λ (s : State). s.next) h.2 in omega arith
 next_picked old new join (last.NotYet back) h = let n = ap (λ (s : State). s.next) h.3 in omega arith
 
-uniform_picked : (session : ℕ) (old new : State) → IsReached old → PickUp session old new → IsUniform session old new
+uniform_picked : (session : ℕ) (old new : State) → IsReached old → PickUp session old new → KeepsOthers session old new
 uniform_picked session old new reached b = record {
   reached = reached_picked old new b.join b.picked reached b.picks_up;
   grows = picks_up_on old new b.join b.picked b.picks_up;
@@ -151,9 +160,23 @@ uniform_picked session old new reached b = record {
 }
 
 -- at most one of them
-pub one_uniform : OnePhase
-one_uniform session old new reached phase =
+keeps_others : (session : ℕ) (old new : State) → IsReached old → IsPhaseOf session old new → KeepsOthers session old new
+keeps_others session old new reached phase =
     ⊎_elim (λ same. uniform_same session old new reached same)
     (λ rest. ⊎_elim (λ b. uniform_begun session old new reached b)
     (λ rest. ⊎_elim (λ b. uniform_committed session old new reached b)
     (λ rest. ⊎_elim (λ b. uniform_withdrawn session old new reached b) (λ b. uniform_picked session old new reached b) rest) rest) rest) phase
+
+pub one_uniform : KeepsReserved → OnePhase
+one_uniform keeps_reserved session old new reached phase =
+    let kept = keeps_others session old new reached phase in
+    record {
+      reached = kept.reached;
+      grows = kept.grows;
+      next = kept.next;
+      own = uniform_own own_left session old new reached phase;
+      others = kept.others;
+      reservations = uniform_reservations session old new reached phase;
+      joins = uniform_joins session old new phase;
+      entries = λ key before after. uniform_entries keeps_reserved session old new key reached phase before after;
+    }

@@ -30,13 +30,13 @@ use Rattle.jc_stripe.specs.declared.begun.StepDone.{StepDone}
 use Rattle.jc_stripe.specs.declared.begun.Begun.TheVariants as begun
 use Rattle.jc_stripe.specs.Tickets.{Ticket, JoinClaim, asks_writer}
 use Rattle.jc_stripe.specs.State.{State, is_of, is_key, is_reserved, reservation_of, new_reservation, with_reservation, without_key}
-use Rattle.jc_stripe.specs.Refusals.{first_by, first_asked, reserves, load_of, load_at, may_join, load_joined, needs_reservation}
+use Rattle.jc_stripe.specs.Refusals.{first_by, first_asked, reserves, load_at, may_join, load_joined, needs_reservation}
 use Rattle.jc_stripe.specs.Phases.{is_other_call, is_other_join, new_group, after_group, after_commit, MayBegin, Steps, Begins, Commits}
 use Rattle.jc_stripe.specs.Reached.{IsReached, JoinFits, AllJoin}
 use Rattle.jc_stripe.specs.Laws.{WasFree}
 use Rattle.jc_stripe.specs.OwnSteps.{may_come_all, is_before_call, HasNoCallFrom, CallerNumbers, WholeCall, JoinsOnlyLoads}
 use Rattle.jc_stripe.proofs.Numbering.{found_holds}
-use Rattle.jc_stripe.proofs.Settled.{waiting_finds}
+use Rattle.jc_stripe.proofs.Settled.{loaded_at, waiting_finds}
 use Rattle.jc_stripe.proofs.OwnPick.{all_behind}
 use Rattle.jc_stripe.proofs.Beside.{join_and, or_left, all_then}
 use Rattle.jc_stripe.proofs.ParkedSteps.{filter-append}
@@ -63,18 +63,6 @@ without_new key rs r free is =
 
 -- 2. Nobody waits for a load that isn't there yet.
 
--- the load of a reservation has its number
-load_number : (first : First) (number load : ℕ) → load_of first number ≡ Some load → number ≡ load
-load_number Nobody number load h = cc
-load_number Loader number load h = cc
-load_number (Writer change) number load h = cc
-load_number Processor number load h = cc
-
--- the reservation at a key has the load that is there
-load_found : (o : Option Reservation) (load : ℕ) → load_at o ≡ Some load → (s : Reservation) × (o ≡ Some s) × (s.number ≡ load)
-load_found None load h = cc
-load_found (Some s) load h = (s, refl, load_number s.first s.number load h)
-
 above : (m n : ℕ) → m < n → (m == n) ≡ false
 above m n h = grind (arith, nat_tests)
 
@@ -83,9 +71,9 @@ nobody_waits old j reached fits =
     elim (is_waiting j.state) as (λ b. is_waiting j.state ≡ b → ((j.load == old.next) && b) ≡ false) [
       | true ↦ λ w.
           let finds = waiting_finds old j j.state w fits in
-          let found = load_found (reservation_of old j.key) j.load finds.load in
+          let found = loaded_at (reservation_of old j.key) j.load finds.load in
           let below : found.0.number < old.next = found_holds (is_key j.key) (λ (r : Reservation). r.number < old.next) old.reservations found.0 found.1 reached.numbered.below in
-          let load : j.load < old.next = subst (λ (n : ℕ). n < old.next) found.2 below in
+          let load : j.load < old.next = subst (λ (n : ℕ). n < old.next) found.3 below in
           ap (λ b. b && true) (above j.load old.next load)
       | false ↦ λ w. none (j.load == old.next)
     ] refl

@@ -109,11 +109,11 @@ pub record IsUniform (session : ℕ) (old new : State) : Type 0 where
   pub reached : IsReached new
   pub grows : Extends old new
   pub next : old.next ≤ new.next
-  -- ASIDE pub own : (own_steps session new ≡ own_steps session old) ⊎ ((event : Event) × (place : ℕ) × GainsOwn session old new event place)
+  pub own : (own_steps session new ≡ own_steps session old) ⊎ ((event : Event) × (place : ℕ) × GainsOwn session old new event place)
   pub others : (other : ℕ) → (other == session) ≡ false → own_steps other new ≡ own_steps other old
-  -- ASIDE pub reservations : filter (λ r. is_of_others session r.caller) new.reservations ≡ filter (λ r. is_of_others session r.caller) old.reservations
-  -- ASIDE pub joins : filter (λ j. is_of_others session j.caller) (map join_claim new.joiners) ≡ filter (λ j. is_of_others session j.caller) (map join_claim old.joiners)
-  -- ASIDE pub entries : (key : Bytes) → is_reserved old key ≡ true → is_reserved new key ≡ true → entry_at new.cache key ≡ entry_at old.cache key
+  pub reservations : filter (λ r. is_of_others session r.caller) new.reservations ≡ filter (λ r. is_of_others session r.caller) old.reservations
+  pub joins : filter (λ j. is_of_others session j.caller) (map join_claim new.joiners) ≡ filter (λ j. is_of_others session j.caller) (map join_claim old.joiners)
+  pub entries : (key : Bytes) → is_reserved old key ≡ true → is_reserved new key ≡ true → entry_at new.cache key ≡ entry_at old.cache key
 
 abbrev pub OnePhase : Type 0
 OnePhase = (session : ℕ) (old new : State) → IsReached old → IsPhaseOf session old new → IsUniform session old new
