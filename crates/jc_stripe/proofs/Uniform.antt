@@ -41,7 +41,7 @@ use Rattle.jc_stripe.proofs.Ordered.{turned_eq}
 use Rattle.jc_stripe.proofs.Settled.{keyed, keyed_callers}
 use Rattle.jc_stripe.proofs.Reaching.{reached_begins, reached_commits}
 use Rattle.jc_stripe.proofs.Tables.{reached_withdrawn, reached_picked}
-use Rattle.jc_stripe.proofs.Laws.{same_on, begins_on, commits_on, withdraws_on, picks_up_on}
+use Rattle.jc_stripe.proofs.Laws.{same_on, begins_on, commits_on, withdraws_on, picks_up_on, begins_keeps, commits_keeps, withdraws_keeps, picks_up_keeps}
 use Rattle.jc_types.specs.declared.caller.Caller.{Caller}
 use Rattle.jc_stripe.specs.declared.ticket.Reservation.{Reservation}
 use Rattle.jc_stripe.proofs.ParkedSteps.{own-parked, parked-joined, parked-dissolved, parked-without, own-answered, filter-append, all_parked, own-grown, parked-callers}
@@ -167,8 +167,11 @@ keeps_others session old new reached phase =
     (λ rest. ⊎_elim (λ b. uniform_committed session old new reached b)
     (λ rest. ⊎_elim (λ b. uniform_withdrawn session old new reached b) (λ b. uniform_picked session old new reached b) rest) rest) rest) phase
 
-pub one_uniform : KeepsReserved → OnePhase
-one_uniform keeps_reserved session old new reached phase =
+keeps_reserved : KeepsReserved
+keeps_reserved = record { begins = begins_keeps; commits = commits_keeps; withdraws = withdraws_keeps; picks_up = picks_up_keeps }
+
+pub one_uniform : OnePhase
+one_uniform session old new reached phase =
     let kept = keeps_others session old new reached phase in
     record {
       reached = kept.reached;

@@ -33,10 +33,11 @@ use Rattle.jc_stripe.specs.State.{State, is_of, is_key, is_reserved, reservation
 use Rattle.jc_stripe.specs.Refusals.{first_by, first_asked, reserves, load_at, may_join, load_joined, needs_reservation}
 use Rattle.jc_stripe.specs.Phases.{is_other_call, is_other_join, new_group, after_group, after_commit, MayBegin, Steps, Begins, Commits}
 use Rattle.jc_stripe.specs.Reached.{IsReached, JoinFits, AllJoin}
-use Rattle.jc_stripe.specs.Laws.{WasFree}
 use Rattle.jc_stripe.specs.OwnSteps.{may_come_all, is_before_call, HasNoCallFrom, CallerNumbers, WholeCall, JoinsOnlyLoads}
 use Rattle.jc_stripe.proofs.Numbering.{found_holds}
-use Rattle.jc_stripe.proofs.Settled.{loaded_at, waiting_finds}
+use Rattle.jc_stripe.proofs.Joining.{loaded_at}
+use Rattle.jc_stripe.proofs.Refusing.{was_free}
+use Rattle.jc_stripe.proofs.Settled.{waiting_finds}
 use Rattle.jc_stripe.proofs.OwnPick.{all_behind}
 use Rattle.jc_stripe.proofs.Beside.{join_and, or_left, all_then}
 use Rattle.jc_stripe.proofs.ParkedSteps.{filter-append}
@@ -141,8 +142,8 @@ writer_reserves Loader h = refl
 writer_reserves (Writer change) h = refl
 writer_reserves Processor h = refl
 
-pub whole_call : WasFree → WholeCall
-whole_call was_free = record {
+pub whole_call : WholeCall
+whole_call = record {
   loads = λ old mid new caller key op ticket out done reached begins commits.
       let asks : needs_reservation old key op ≡ true = λ i. reserves (begins.2 i) && is_none (begins.1 i) in
       one_step old mid new caller key op Loader ticket.reservation out done reached (was_free old caller key op begins.0 asks) (ap (λ (t : Ticket). t.reservation) begins.3) begins.4 commits;
@@ -208,9 +209,9 @@ may_from : (caller : Caller) (key : Bytes) (e : Event) → is_before_call caller
 may_from caller key (Step who op k out shared reply) h = or_left (not (who.session == caller.session) || nat_lt who.call caller.call) ((who.call == caller.call) && not (pointwise ◌==◌ k key)) h
 may_from caller key (Evict k cause) h = refl
 
-pub caller_numbers : WasFree → CallerNumbers
-caller_numbers was_free =
-    let whole : WholeCall = whole_call was_free in record {
+pub caller_numbers : CallerNumbers
+caller_numbers =
+    let whole : WholeCall = whole_call in record {
       may_begin = λ state caller key h of. record {
         of_stripe = of;
         behind = all_then (is_before_call caller.session caller.call) (λ e. may_come e caller key) state.history (λ e k. may_from caller key e k) h.steps;
