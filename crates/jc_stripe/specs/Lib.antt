@@ -10,3 +10,4 @@ pub mod Inside
 pub mod Laws
 pub mod OnePhase
 pub mod OwnSteps
+pub mod Tests
