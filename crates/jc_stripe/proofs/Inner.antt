@@ -1,6 +1,7 @@
 -- What a stripe's fields say of its state.
-use Rattle.std.proofs.Common.{◌≡◌, ◌≤◌, ◌<◌, ◌+◌, ◌&&◌, ℕ, length, Bool, true, false, not, IsTrue, ◌↔◌, Option, Some, None, option_map, find, nat_le, nat_lt, refl, sym, ap, ◌∙◌, arith}
+use Rattle.std.proofs.Common.{List, [], ◌∷◌, ◌||◌, cond, is_some, ◌≡◌, ◌≤◌, ◌<◌, ◌+◌, ◌&&◌, ℕ, length, Bool, true, false, not, IsTrue, ◌↔◌, Option, Some, None, option_map, find, nat_le, nat_lt, refl, sym, ap, ◌∙◌, arith}
 use Rattle.std.proofs.lemmas.Bool.Decides.{nat_tests}
+use Rattle.std.specs.List.{list_any}
 use Rattle.std.specs.FinMap.{len, from_entries}
 use Rattle.jc_model.specs.Cache.{Bytes, key_cmp}
 use Rattle.jc_model.specs.Listed.{apart}
@@ -9,7 +10,7 @@ use Rattle.jc_history.specs.Past.{places_used}
 use Rattle.jc_reserve.specs.Reserving.{reservation_at}
 use Rattle.jc_stripe.specs.declared.ticket.Note.{Note}
 use Rattle.jc_stripe.specs.declared.stripe.Stripe.TheInside.{Inside}
-use Rattle.jc_stripe.specs.State.{is_key, promised, reservation_of}
+use Rattle.jc_stripe.specs.State.{is_key, is_reserved, promised, reservation_of}
 use Rattle.jc_stripe.specs.Refusals.{has_room, last_number, load_at, load_of}
 use Rattle.jc_stripe.specs.Inside.{IsStripe, state_of}
 use Rattle.jc_stripe.proofs.Fields.{note_of, found-reserved_of}
@@ -88,3 +89,17 @@ entries_len i sound =
     let few = sound.state.few_entries in
     let c = sound.capacity in
     omega arith
+
+some_map : {X Y : Type 0} (f : X → Y) (o : Option X) → is_some (option_map f o) ≡ is_some o
+some_map f None = refl
+some_map f (Some x) = refl
+
+some_found : {X : Type 0} (p : X → Bool) (xs : List X) → is_some (find p xs) ≡ list_any p xs
+some_found p [] = refl
+some_found p (x ∷ xs) = elim (p x) as (λ b. is_some (cond b (Some x) (find p xs)) ≡ (b || list_any p xs)) [ true ↦ refl | false ↦ some_found p xs ]
+
+-- a key is reserved if the table finds it
+pub reserved_found : (i : Inside) (key : Bytes) → is_some (reservation_at i.reservations key) ≡ is_reserved (state_of i) key
+reserved_found i key =
+    ap is_some (found-reserved_of i.reservations key) ∙ some_map {Y = ℕ × Note} (λ (r : Reservation). (r.number, note_of r)) (find (is_key key) (state_of i).reservations)
+    ∙ some_found (is_key key) (state_of i).reservations

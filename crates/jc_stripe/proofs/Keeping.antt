@@ -56,7 +56,7 @@ neither : (a b : Bool) → (a || b) ≡ false → (a ≡ false) × (b ≡ false)
 neither true b h = cc
 neither false b h = (refl, h)
 
-is_none_then : (o : Option Bytes) → is_some o ≡ false → o ≡ None
+pub is_none_then : (o : Option Bytes) → is_some o ≡ false → o ≡ None
 is_none_then None h = refl
 is_none_then (Some x) h = cc
 
@@ -159,3 +159,20 @@ not_kept old new key value pinned Memory evicted op out uses h = out_of_memory o
 -- a test that was made
 pub use_is : {A : Type 0} (fault fault_is : Option A) (used used_is : Bool) → fault ≡ fault_is → used ≡ used_is → is_some fault ≡ false → used ≡ true → (is_none fault_is && used_is) ≡ true
 use_is fault fault_is used used_is f u g h = ap (λ o. is_none o && used_is) (sym f) ∙ ap (λ b. not b && used_is) g ∙ sym u ∙ h
+
+and_false : (b : Bool) → (b && false) ≡ false
+and_false true = refl
+and_false false = refl
+
+-- it leaves no entry, where there was none
+pub kept_none : (old : ByUse) (key : Bytes) (pinned : List Bytes) (op : Op) (out : Out) → is_use op out ≡ true → finite.find key_cmp key old.list ≡ None → entry_after op (finite.find key_cmp key old.list) out ≡ None
+    → AppliesStep old pinned key op out None None old
+kept_none old key pinned op out is_used missing entry =
+    let none_in : inserts_into old.list key op out ≡ false = ap (λ o. is_none (finite.find key_cmp key old.list) && is_some o) entry ∙ and_false (is_none (finite.find key_cmp key old.list)) in
+    record {
+      short = false;
+      victim_is = sym (ap (λ b. cond (b && (length old.list == old.capacity)) (lru_victim old.list pinned) None) none_in);
+      evicted_is = sym (ap (λ b. own_cause b (overflows_in old key op out) (is_some (victim_in old pinned key op out)) false) none_in);
+      left = ap (λ es. record old { list = es })
+          (sym (ap (λ b. cond b (listed key (entry_after op (finite.find key_cmp key old.list) out) old.list) old.list) is_used ∙ ap (λ o. listed key o old.list) entry ∙ others-missing key old.list missing));
+    }

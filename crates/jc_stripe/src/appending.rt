@@ -90,9 +90,10 @@ fn apply_to_entries(
             }
         }
         None => {
-            if entry.is_some() {
-                entries.remove(key);
+            if entry.is_none() {
+                return (None, None);
             }
+            entries.remove(key);
             (None, None)
         }
     }
