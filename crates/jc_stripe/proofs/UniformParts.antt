@@ -144,11 +144,11 @@ uniform_reservations session old new reached phase =
     ⊎_elim (λ same. ap (λ (s : State). others_held session s.reservations) same)
     (λ rest. ⊎_elim (λ (b : FirstPhase session old new). held_begun session old new b.caller b.key b.op b.begun b.own b.begins)
     (λ rest. ⊎_elim (λ (b : LastPhase session old new).
-        ap (λ (s : State). others_held session s.reservations) b.commits.1.after
-        ∙ held_without session b.reservation.key old.reservations (only_found session b.reservation.key old.reservations b.reservation reached.numbered.once b.commits.0 b.own))
+    ap (λ (s : State). others_held session s.reservations) b.commits.1.after
+    ∙ held_without session b.reservation.key old.reservations (only_found session b.reservation.key old.reservations b.reservation reached.numbered.once b.commits.0 b.own))
     (λ rest. ⊎_elim (λ (b : Withdrawal session old new).
-        ap (λ (s : State). others_held session s.reservations) b.withdraws.1
-        ∙ held_without session b.reservation.key old.reservations (only_found session b.reservation.key old.reservations b.reservation reached.numbered.once b.withdraws.0 b.own))
+    ap (λ (s : State). others_held session s.reservations) b.withdraws.1
+    ∙ held_without session b.reservation.key old.reservations (only_found session b.reservation.key old.reservations b.reservation reached.numbered.once b.withdraws.0 b.own))
     (λ (b : PickUp session old new). held_picked session old new b.join b.picked b.picks_up) rest) rest) rest) phase
 
 -- 3. Other sessions' joins.
@@ -207,9 +207,9 @@ uniform_joins session old new phase =
     ⊎_elim (λ same. ap (λ (s : State). others_joined session s.joiners) same)
     (λ rest. ⊎_elim (λ (b : FirstPhase session old new). joins_begun session old new b.caller b.key b.op b.begun b.own b.begins)
     (λ rest. ⊎_elim (λ (b : LastPhase session old new).
-        ap (λ (s : State). others_joined session s.joiners) b.commits.1.after ∙ ap picked_out (claims_answered b.reservation.number b.done.place (b.done.place + 1) old.joiners))
+    ap (λ (s : State). others_joined session s.joiners) b.commits.1.after ∙ ap picked_out (claims_answered b.reservation.number b.done.place (b.done.place + 1) old.joiners))
     (λ rest. ⊎_elim (λ (b : Withdrawal session old new).
-        ap (λ (s : State). others_joined session s.joiners) b.withdraws.1 ∙ ap picked_out (claims_dissolved b.reservation.number old.joiners))
+    ap (λ (s : State). others_joined session s.joiners) b.withdraws.1 ∙ ap picked_out (claims_dissolved b.reservation.number old.joiners))
     (λ (b : PickUp session old new). joins_picked session old new b.join b.picked b.own b.picks_up) rest) rest) rest) phase
 
 -- 4. The entries of keys that stay reserved.
@@ -219,6 +219,6 @@ uniform_entries law session old new key reached phase before after =
     ⊎_elim (λ same. ap (λ (s : State). entry_at s.cache key) same)
     (λ rest. ⊎_elim (λ (b : FirstPhase session old new). law.begins old new b.caller b.key b.op b.begun key reached b.begins before)
     (λ rest. ⊎_elim (λ (b : LastPhase session old new).
-        law.commits old new b.reservation b.out b.done key reached b.commits (ap (λ (s : State). is_reserved s key) (sym b.commits.1.after) ∙ after))
+    law.commits old new b.reservation b.out b.done key reached b.commits (ap (λ (s : State). is_reserved s key) (sym b.commits.1.after) ∙ after))
     (λ rest. ⊎_elim (λ (b : Withdrawal session old new). ap (λ cache. entry_at cache key) (law.withdraws old new b.reservation b.withdraws))
     (λ (b : PickUp session old new). ap (λ cache. entry_at cache key) (law.picks_up old new b.join b.picked b.picks_up)) rest) rest) rest) phase

@@ -18,6 +18,8 @@ ghost use Rattle.jc_stripe.specs.Phases.{MayBegin, Steps, Begins, Commits, Withd
 ghost use Rattle.jc_stripe.specs.OnePhase.{IsPhaseOf};
 ghost use Rattle.jc_stripe.specs.declared.ticket.First.TheVariants.{Nobody};
 
+mod testing;
+
 use crate::appending::{append_group, make_step};
 use crate::begun::{Begun, Picked, StepDone};
 use crate::needs::{

@@ -8,9 +8,9 @@ ghost use Rattle.jc_stripe.specs.Phases.{MayBegin, is_other_call, is_other_join}
 ghost use Rattle.jc_stripe.specs.OwnSteps.{may_come_all};
 ghost use Rattle.jc_stripe.specs.Tests.{is_clear, may_begin, asks_outside};
 
-use crate::needs::{first_asked, reserves};
-use crate::stripe::Stripe;
-use crate::ticket::{Join, Note, Reservation};
+use super::Stripe;
+use crate::needs::first_asked;
+use crate::ticket::{First, Join, Note, Reservation};
 use jc_history::History;
 use jc_inflight::Joiner;
 use jc_model::event::{Change, Op};
@@ -94,7 +94,10 @@ impl Stripe {
     pub fn asks_outside(&self, key: &Key, op: &Op) -> bool
         ensures { result ≡ asks_outside self.now key.now op.now }
     {
-        reserves(&first_asked(&self.config, op, &self.entry(key)))
+        !matches!(
+            first_asked(&self.config, op, &self.entry(key)),
+            First::Nobody
+        )
     }
 
     /// Whether a ticket is out here: the stripe's reservation of the key is the ticket's, by its caller, operation,
