@@ -185,12 +185,7 @@ fn append_shared(
     };
     for joiner in joiners.list() {
         if joiner.waits_for(load) {
-            history.push(&shared_event(
-                place,
-                &group.key,
-                group.out.load,
-                joiner.caller,
-            ));
+            history.push(&shared_event(place, &group.key, group.out.load, joiner.caller));
         }
     }
 }

@@ -3,8 +3,8 @@ ghost use Rattle.jc_stripe.specs.Laws.{StaysReached, IsLegal, Grows, WasFree, Ke
 ghost use Rattle.jc_stripe.specs.OnePhase.{OnePhase};
 
 /// Whatever phase a stripe makes, it stays as every stripe is (`IsReached`): among other things its history is legal from its
-/// opening and leaves its entries, its tables are within their limits, each reservation still asks what it asked and may still put
-/// its step down, and each joiner that waits still finds its load.
+/// opening and leaves its entries, its tables are within their limits, each reservation still asks what it asked and its step may
+/// still come, and each joiner that waits still finds its load.
 pub fn stays_reached()
     ensures { StaysReached }
 {}
@@ -14,7 +14,7 @@ pub fn is_legal()
     ensures { IsLegal }
 {}
 
-/// Whatever phase a stripe makes, what stands in its history stays there, more may stand behind it, and its opening is the same.
+/// Whatever phase a stripe makes, its earlier history is a prefix of its later one, and its opening is the same.
 pub fn grows()
     ensures { Grows }
 {}
@@ -24,7 +24,7 @@ pub fn was_free()
     ensures { WasFree }
 {}
 
-/// A call that answers from the cached entry, also where another call has the key reserved, leaves that entry as it is.
+/// A call that answers from the cached entry, also while another call has the key reserved, leaves that entry as it is.
 pub fn keeps()
     ensures { Keeps }
 {}

@@ -1,7 +1,6 @@
 use Rattle.std.proofs.Common.{not, sym, ◌∙◌, ap}
 use Rattle.jc_model.specs.Table.{entry_after}
 use Rattle.jc_stripe.proofs.Keeping.{kept_after, kept_none, is_none_then, not_kept, use_is}
-
 use Rattle.jc_stripe.proofs.appending.apply_to_entries.Goals as goal
 
 pub returns-in-KeptAfter : goal.returns-in-KeptAfter

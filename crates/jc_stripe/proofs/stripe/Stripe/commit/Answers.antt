@@ -1,4 +1,4 @@
-use Rattle.std.proofs.Common.{◌≡◌, ◌∙◌, ◌+◌, length, sym, subst, ap}
+use Rattle.std.proofs.Common.{◌∙◌, ◌+◌, length, sym, subst, ap}
 use Rattle.jc_stripe.specs.State.{State, IsOut}
 use Rattle.jc_stripe.specs.Phases.{Commits}
 use Rattle.jc_stripe.specs.Inside.{state_of}
@@ -12,7 +12,6 @@ use Rattle.jc_stripe.proofs.stripe.Stripe.commit.Goals as goal
 
 pub make_step-group-requires-clause-room : goal.make_step-group-requires-clause-room
 make_step-group-requires-clause-room c = entries_len c.self.inside c.self.invariant
-
 
 pub append_group-done-requires-clause-kept : goal.append_group-done-requires-clause-kept
 append_group-done-requires-clause-kept c =

@@ -1,4 +1,4 @@
-use Rattle.std.proofs.Common.{◌≡◌, ◌∙◌, ap, sym, subst, refl}
+use Rattle.std.proofs.Common.{◌∙◌, ap, sym, subst, refl}
 use Rattle.jc_stripe.specs.State.{State, IsOut}
 use Rattle.jc_stripe.specs.Phases.{after_withdrawal}
 use Rattle.jc_stripe.specs.Inside.{state_of}
@@ -23,6 +23,8 @@ invariant_of-self c =
 
 pub returns : goal.returns
 returns c =
-    let r = c.args.reservation.now in
-    (c.requires, state-withdrawn c.self.inside r c.release.new.self c.dissolve-waiting.new.self c.unpromise.new.self _ c.release.ensures.released c.dissolve-waiting.ensures.dissolved c.unpromise.ensures.after
-        ∙ ap (λ (s : State). after_withdrawal s r) c.self.view_is)
+    let r = c.args.reservation.now in (
+      c.requires,
+      state-withdrawn c.self.inside r c.release.new.self c.dissolve-waiting.new.self c.unpromise.new.self _ c.release.ensures.released c.dissolve-waiting.ensures.dissolved c.unpromise.ensures.after
+          ∙ ap (λ (s : State). after_withdrawal s r) c.self.view_is,
+    )
