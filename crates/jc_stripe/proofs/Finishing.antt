@@ -1,12 +1,12 @@
 -- A step that was put down keeps a stripe's fields sound.
-use Rattle.std.proofs.Common.{◌≡◌, ◌≤◌, ◌+◌, ◌-◌, ℕ, List, [], ◌∷◌, ◌++◌, map, length, count_by, Bool, true, false, IsTrue, Option, Some, None, find, option_map, refl, sym, ap, ◌∙◌, subst, arith}
+use Rattle.std.proofs.Common.{◌≡◌, ◌≤◌, ◌+◌, ◌-◌, ℕ, List, [], ◌∷◌, ◌++◌, map, length, count_by, Bool, true, false, IsTrue, None, refl, sym, ap, ◌∙◌, subst, arith}
 use Rattle.std.specs.FinMap.{from_entries}
 use Rattle.jc_model.specs.declared.event.Op.{Op}
 use Rattle.jc_model.specs.declared.event.Out.{Out}
 use Rattle.jc_stripe.specs.declared.begun.StepDone.{StepDone}
 use Rattle.jc_model.specs.Cache.{Bytes, entry_at}
-use Rattle.jc_model.specs.Table.{answers_fit, reply_after}
-use Rattle.jc_model.specs.Group.{Group, victim_events, events_of, nothing_said}
+use Rattle.jc_model.specs.Table.{answers_fit}
+use Rattle.jc_model.specs.Group.{Group, events_of, nothing_said}
 use Rattle.jc_entries.specs.ByUse.{ByUse}
 use Rattle.jc_history.specs.Past.{Past, promise}
 use Rattle.jc_reserve.specs.Table.{Table, keys_of}

@@ -26,3 +26,4 @@ pub mod OwnPick
 pub mod Own
 pub mod WholeCalls
 pub mod UniformParts
+pub mod Testing

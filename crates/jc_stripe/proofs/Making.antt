@@ -1,5 +1,5 @@
 -- What each phase makes of a stripe's fields keeps them sound.
-use Rattle.std.proofs.Common.{◌≡◌, ◌≤◌, ◌<◌, ◌+◌, ◌-◌, ◌==◌, ◌&&◌, ◌||◌, ℕ, suc, List, [], ◌∷◌, map, length, count_by, Bool, true, false, cond, not, IsTrue, ◌↔◌, Option, Some, None, is_some, find, refl, sym, ap, ◌∙◌, subst, arith, AllPairs, All, if◌then◌else◌}
+use Rattle.std.proofs.Common.{◌≡◌, ◌≤◌, ◌<◌, ◌+◌, ◌-◌, ◌==◌, ◌&&◌, ◌||◌, ℕ, suc, List, [], ◌∷◌, map, length, count_by, Bool, true, false, cond, not, IsTrue, ◌↔◌, Some, None, find, refl, sym, ap, ◌∙◌, subst, arith, AllPairs, All, if◌then◌else◌}
 use Rattle.std.specs.List.{list_any, list_all}
 use Rattle.std.specs.Bool.{OnTrue}
 use Rattle.std.specs.Cmp.Lexicographic.{pointwise, texts_ties}

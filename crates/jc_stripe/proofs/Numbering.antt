@@ -1,7 +1,6 @@
 -- What keeps the keys and the numbers of reservations apart, and what a claim tells of its reservation.
-use Rattle.std.proofs.Common.{◌≡◌, ◌==◌, ◌<◌, ◌+◌, ◌&&◌, ◌||◌, ℕ, suc, List, [], ◌∷◌, ◌++◌, length, get_or, Bool, true, false, cond, not, Some, find, refl, sym, ap, ◌∙◌, subst, arith}
+use Rattle.std.proofs.Common.{◌≡◌, ◌==◌, ◌<◌, ◌+◌, ◌||◌, ℕ, suc, List, [], ◌∷◌, ◌++◌, length, get_or, Bool, true, false, cond, not, Some, find, refl, sym, ap, ◌∙◌, subst, arith}
 use Rattle.std.proofs.lemmas.Bool.Decides.{nat_tests}
-use Rattle.std.proofs.lemmas.Bool.{eqb-true}
 use Rattle.std.proofs.lemmas.Cmp.{nat_list_eq_equiv}
 use Rattle.std.proofs.lemmas.List.Elements.{All-head, All-tail, All-push, All-filter}
 use Rattle.std.proofs.lemmas.List.Folds.{list_any_at}
@@ -10,7 +9,6 @@ use Rattle.std.proofs.lemmas.List.Quantifiers.{all_pairs_push}
 use Rattle.std.specs.List.{AllPairs, All, list_any}
 use Rattle.std.specs.Cmp.Lexicographic.{same_text}
 use Rattle.jc_model.specs.Cache.{Bytes}
-use Rattle.jc_model.proofs.Lookups.{both}
 use Rattle.jc_stripe.specs.State.{is_key, without_key}
 use Rattle.jc_stripe.specs.Reached.{AreNumbered}
 use Rattle.jc_stripe.specs.declared.ticket.Reservation.{Reservation}

@@ -1,7 +1,6 @@
 -- What a joiner is told, and what that leaves.
-use Rattle.std.proofs.Common.{◌≡◌, ◌==◌, ◌&&◌, ◌||◌, ◌+◌, ◌*◌, zero-add, ℕ, List, [], ◌∷◌, length, count_by, Bool, true, false, cond, not, Option, None, Some, find, option_map, slice_get, refl, sym, ap, ◌∙◌, subst, IsSomeAnd, IsSome}
+use Rattle.std.proofs.Common.{◌≡◌, ◌||◌, ◌+◌, ◌*◌, zero-add, ℕ, List, [], ◌∷◌, length, count_by, Bool, true, false, cond, not, Option, None, Some, find, option_map, slice_get, refl, sym, ap, ◌∙◌, subst, IsSomeAnd}
 use Rattle.std.specs.List.{list_any, list_all}
-use Rattle.std.specs.Cmp.Lexicographic.{pointwise}
 use Rattle.jc_types.specs.declared.caller.Caller.{Caller}
 use Rattle.jc_types.specs.declared.limits.TheConstants.{STEP_PLACES, HIT_PLACES}
 use Rattle.jc_model.specs.declared.event.Op.TheVariants.{Get}
@@ -15,7 +14,7 @@ use Rattle.jc_history.specs.Past.{reply_in}
 use Rattle.jc_inflight.specs.declared.joiner.Joiner.{Joiner}
 use Rattle.jc_inflight.specs.declared.joiner.JoinState.{JoinState}
 use Rattle.jc_inflight.specs.declared.joiner.JoinState.TheVariants.{Waiting, Answered, Again}
-use Rattle.jc_inflight.specs.Joining.{belongs_to, has_joined, is_waiting}
+use Rattle.jc_inflight.specs.Joining.{belongs_to, is_waiting}
 use Rattle.jc_inflight.specs.Taking.{after_take}
 use Rattle.jc_inflight.specs.Taking as taking
 use Rattle.jc_inflight.proofs.CallerLemmas.{belongs_to_same, after_take_over, after_take_waiting}

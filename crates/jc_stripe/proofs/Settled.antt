@@ -30,7 +30,7 @@ use Rattle.jc_inflight.specs.declared.joiner.JoinState.TheVariants.{Waiting, Ans
 use Rattle.jc_inflight.specs.Joining.{is_waiting, waits_for, callers_of}
 use Rattle.jc_inflight.specs.Resolving.{with_answer, answered_from, after_resolve}
 use Rattle.jc_inflight.proofs.CallerLemmas.{calls-answered_from}
-use Rattle.jc_stripe.specs.declared.ticket.First.TheVariants.{Loader, Processor}
+use Rattle.jc_stripe.specs.declared.ticket.First.TheVariants.{Loader}
 use Rattle.jc_stripe.specs.State.{State, is_key, is_of, IsOut, without_key, waits}
 use Rattle.jc_stripe.specs.Refusals.{first_asked, writer_for}
 use Rattle.jc_stripe.specs.Phases.{MayBegin, after_commit, is_other_call, is_other_join}

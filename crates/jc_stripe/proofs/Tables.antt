@@ -4,32 +4,29 @@
 --     reached_joined        a joiner more
 --     reached_withdrawn     a reservation given back
 --     reached_picked        a joiner less
-use Rattle.std.proofs.Common.{◌≡◌, ◌==◌, ◌≤◌, ◌<◌, ◌+◌, ◌*◌, ◌&&◌, ℕ, List, [], ◌∷◌, ◌++◌, length, IsTrue, Bool, true, false, cond, not, Option, None, Some, Ok, find, filter, is_none, is_some, refl, sym, ap, ◌∙◌, subst, arith, append-nil, if◌then◌else◌}
+use Rattle.std.proofs.Common.{◌≡◌, ◌≤◌, ◌<◌, ◌+◌, ◌*◌, ◌&&◌, ℕ, List, [], ◌∷◌, ◌++◌, length, IsTrue, Bool, true, false, cond, not, Some, Ok, filter, refl, sym, ap, ◌∙◌, subst, arith, append-nil}
 use Rattle.std.proofs.lemmas.List.{length-append}
 use Rattle.std.proofs.lemmas.List.Sums.{length-filter, count_by-le-length}
-use Rattle.std.proofs.lemmas.Bool.Decides.{nat_tests}
 use Rattle.std.specs.List.{list_all, count_by}
 use Rattle.std.specs.FinMap.{len, empty, len-empty, from_entries}
 use Rattle.jc_types.specs.declared.config.Config.{Config}
 use Rattle.jc_types.specs.Limits.{checked}
 use Rattle.jc_model.specs.declared.event.Event.{Event}
 use Rattle.jc_model.specs.declared.event.Op.{Op}
-use Rattle.jc_model.specs.declared.event.Op.TheVariants.{Get}
 use Rattle.jc_model.specs.Cache.{Bytes, key_cmp, entry_at}
 use Rattle.jc_model.specs.Legal.{in_order}
 use Rattle.jc_model.specs.Listed.{apart}
 use Rattle.jc_model.proofs.Lookups.{both}
 use Rattle.jc_inflight.specs.declared.joiner.Joiner.{Joiner}
-use Rattle.jc_inflight.specs.declared.joiner.JoinState.TheVariants.{Waiting, Answered, Again}
+use Rattle.jc_inflight.specs.declared.joiner.JoinState.TheVariants.{Waiting, Again}
 use Rattle.jc_inflight.specs.Joining.{belongs_to, waits_for}
 use Rattle.jc_inflight.specs.Dissolving.{after_dissolve}
 use Rattle.jc_inflight.proofs.CallerLemmas.{calls-after_dissolve}
 use Rattle.jc_stripe.specs.declared.begun.Picked.{Picked}
 use Rattle.jc_stripe.specs.declared.begun.Picked.TheVariants as picked
 use Rattle.jc_stripe.specs.declared.ticket.First.{First}
-use Rattle.jc_stripe.specs.declared.ticket.First.TheVariants.{Nobody, Loader, Writer}
 use Rattle.jc_stripe.specs.Tickets.{JoinClaim}
-use Rattle.jc_stripe.specs.State.{State, is_key, is_of as is_own_key, is_reserved, new_reservation, with_reservation, without_key, waits, promised, IsOut}
+use Rattle.jc_stripe.specs.State.{State, is_of as is_own_key, is_reserved, new_reservation, with_reservation, without_key, waits, promised, IsOut}
 use Rattle.jc_stripe.specs.Refusals.{first_asked, load_joined}
 use Rattle.jc_stripe.specs.OrderOfUse.{by_use}
 use Rattle.jc_stripe.specs.Phases.{MayBegin, with_joiner, Withdraws, after_withdrawal, PicksUp, without_joiner, is_other_join}

@@ -1,6 +1,6 @@
 -- At most one phase of a session keeps the state reached, and leaves the own steps of the others.
 --     one_uniform                  the law
-use Rattle.std.proofs.Common.{◌≡◌, ◌≤◌, ◌==◌, ◌&&◌, ◌||◌, ◌+◌, ⊎_elim, ℕ, List, [], ◌∷◌, ◌++◌, map, length, filter, Bool, true, false, cond, not, Option, None, Some, IsSomeAnd, refl, sym, ap, ◌∙◌, subst, arith, append-nil, nat_lt}
+use Rattle.std.proofs.Common.{◌≡◌, ◌≤◌, ◌==◌, ◌&&◌, ◌||◌, ◌+◌, ⊎_elim, ℕ, List, [], ◌∷◌, ◌++◌, map, length, filter, Bool, true, false, cond, not, Option, None, Some, refl, sym, ap, ◌∙◌, subst, arith, append-nil, nat_lt}
 use Rattle.std.proofs.lemmas.Bool.Decides.{nat_tests}
 use Rattle.std.proofs.lemmas.Bool.{eqb-true}
 use Rattle.std.proofs.lemmas.Cmp.{nat_list_eq_equiv}

@@ -20,7 +20,7 @@ use Rattle.jc_model.specs.declared.event.Op.{Op}
 use Rattle.jc_model.specs.declared.event.Out.{Out}
 use Rattle.jc_model.specs.declared.event.Cause.{Cause}
 use Rattle.jc_model.specs.declared.event.Event.{Event}
-use Rattle.jc_model.specs.declared.event.Event.TheVariants.{Step, Evict}
+use Rattle.jc_model.specs.declared.event.Event.TheVariants.{Step}
 use Rattle.jc_model.specs.declared.event.Reply.{Reply}
 use Rattle.jc_model.specs.Cache.{Bytes, key_cmp}
 use Rattle.jc_model.specs.declared.event.LoadAnswer.{LoadAnswer}

@@ -88,14 +88,16 @@ impl Stripe {
         ensures { IfOk result (λ s. s ≡ record { config = config.now; stripe = number; origin = origin; opening = []; cache = map.empty; reservations = []; joiners = []; history = []; next = 0 }) }
     {
         let entries = Entries::new(alloc, config.capacity)?;
+        let reservations = Reservations::new();
+        let joiners = Joiners::new();
         let history = History::new(alloc, config.history)?;
         Ok(Stripe {
             config: *config,
             number,
             origin,
             entries,
-            reservations: Reservations::new(),
-            joiners: Joiners::new(),
+            reservations,
+            joiners,
             history,
         })
     }

@@ -34,7 +34,7 @@ fn is_other_join(joiner: &Joiner, caller: Caller, key: &Key) -> bool
 }
 
 fn are_other_calls(held: &[Held<Note>], caller: Caller, key: &Key) -> bool
-    ensures { result ≡ list_all (λ h. is_other_call caller key.now (note_reservation h)) held.now }
+    ensures { result ≡ list_all (is_other_call caller key.now) (map note_reservation held.now) }
 {
     held.iter().all(|h| is_other_call(h, caller, key))
 }
@@ -131,10 +131,15 @@ impl Stripe {
     pub fn holds_join(&self, join: &Join) -> bool
         ensures { IsTrue result ↔ IsJoined self.now join.now }
     {
-        self.joiners
+        let (caller, key) = (join.caller(), join.key());
+        match self
+            .joiners
             .list()
             .iter()
-            .find(|j| j.belongs_to(join.caller(), join.key()))
-            .is_some_and(|j| j.load == join.load())
+            .find(|j| j.belongs_to(caller, key))
+        {
+            Some(joiner) => joiner.load == join.load(),
+            None => false,
+        }
     }
 }

@@ -1,4 +1,4 @@
-use Rattle.std.proofs.Common.{◌≡◌, ◌∙◌, ap, sym, subst, refl}
+use Rattle.std.proofs.Common.{◌∙◌, ap, sym, subst, refl}
 use Rattle.jc_stripe.specs.State.{State, IsOut}
 use Rattle.jc_stripe.specs.Phases.{after_withdrawal}
 use Rattle.jc_stripe.specs.Inside.{state_of}

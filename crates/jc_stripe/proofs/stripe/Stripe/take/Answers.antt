@@ -1,10 +1,10 @@
-use Rattle.std.proofs.Common.{◌≡◌, ◌∙◌, Some, None, sym, subst, ap}
+use Rattle.std.proofs.Common.{◌≡◌, ◌∙◌, Some, sym, subst}
 use Rattle.jc_inflight.specs.Taking as taking
 use Rattle.jc_stripe.specs.State.{State, IsJoined}
 use Rattle.jc_stripe.specs.Inside.{state_of}
 use Rattle.jc_stripe.specs.Phases.{told_to}
 use Rattle.jc_stripe.specs.Appending.{HasToldStep}
-use Rattle.jc_stripe.proofs.Picking.{pick_sound, joined_told, told_step, after_is}
+use Rattle.jc_stripe.proofs.Picking.{pick_sound, joined_told, told_step}
 use Rattle.jc_stripe.proofs.stripe.Stripe.take.Goals as goal
 
 heard : (c : goal.In-Some) → told_to (state_of c.self.inside) c.args.join.now ≡ Some c.in-Some.state
