@@ -13,7 +13,7 @@ use Rattle.jc_model.specs.Cache.{Bytes}
 use Rattle.jc_inflight.specs.declared.joiner.Joiner.{Joiner}
 use Rattle.jc_inflight.specs.declared.joiner.JoinState.{JoinState}
 use Rattle.jc_inflight.specs.declared.joiner.JoinState.TheVariants.{Again}
-use Rattle.jc_inflight.specs.Joining.{belongs_to, has_joined, is_waiting, waits_for, callers_of}
+use Rattle.jc_inflight.specs.Joining.{belongs_to, has_joined, is_waiting, waits, waits_for, callers_of}
 use Rattle.jc_inflight.specs.Resolving.{with_answer, answered_from}
 use Rattle.jc_inflight.specs.Dissolving.{told_to_retry, after_dissolve}
 use Rattle.jc_inflight.specs.IsJoinerList.{IsJoinerList}
@@ -116,9 +116,6 @@ pub after_take_nobody : (caller : Caller) (key : Bytes) (joiners : List Joiner) 
 after_take_nobody caller key joiners is = ap (λ o. cond (is_over o) (without_joiner caller key joiners) joiners) is
 
 -- 4. How many joiners still wait, for any load.
-
-abbrev pub waits : Joiner → Bool
-waits j = is_waiting j.state
 
 count-cons : (p : Joiner → Bool) (j : Joiner) (js : List Joiner) → count_by p (j ∷ js) ≡ cond (p j) 1 0 + count_by p js
 count-cons p j js = sum_by-cons (λ x. cond (p x) 1 0) j js

@@ -2,6 +2,7 @@
 --     belongs_to      whether a joiner is this caller's, at this key
 --     has_joined      whether one of the joiners is
 --     is_waiting      whether the load of a joiner in this state isn't over
+--     waits           whether a joiner waits, for any load
 --     waits_for       whether a joiner waits for this load
 --     callers_of      who waits for the load
 --     with_joiner     the joiners with one more at the end, who waits
@@ -25,8 +26,11 @@ is_waiting Waiting = true
 is_waiting (Answered place shared_with) = false
 is_waiting Again = false
 
+abbrev pub waits : Joiner → Bool
+waits j = is_waiting j.state
+
 abbrev pub waits_for : ℕ → Joiner → Bool
-waits_for load j = (j.load == load) && is_waiting j.state
+waits_for load j = (j.load == load) && waits j
 
 abbrev pub callers_of : ℕ → List Joiner → List Caller
 callers_of load joiners = map (λ j. j.caller) (filter (waits_for load) joiners)

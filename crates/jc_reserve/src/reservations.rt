@@ -56,21 +56,6 @@ impl<T: Copy + Default> Reservations<T> {
         }
     }
 
-    /// The place of a key's reservation, in the order of reserving.
-    fn place_of(&self, key: &Key) -> Option<usize>
-        ensures place { result ≡ position (has_key key.now) self.now.held }
-        ensures table { IsReservationTable self.now }
-    {
-        place_among(&self.keys, key)
-    }
-
-    /// Whether a key can be reserved.
-    fn can_reserve(&self, key: &Key) -> bool
-        ensures { IsTrue result ↔ CanReserve self.now key.now }
-    {
-        self.len() < RESERVATIONS_MAX && self.next < u64::MAX && !self.is_reserved(key)
-    }
-
     /// Reserves a key, and gives the number of the reservation.
     ///
     /// A `None` leaves the table as it was: [`RESERVATIONS_MAX`] keys are reserved, or this key is one of them, or the numbers are
@@ -167,6 +152,23 @@ impl<T: Copy + Default> Reservations<T> {
         ensures { IsTrue result ↔ (2 ^ 64 - 1 ≤ self.now.next) }
     {
         self.next == u64::MAX
+    }
+}
+
+impl<T: Copy + Default> Reservations<T> {
+    /// Whether a key can be reserved.
+    fn can_reserve(&self, key: &Key) -> bool
+        ensures { IsTrue result ↔ CanReserve self.now key.now }
+    {
+        self.len() < RESERVATIONS_MAX && self.next < u64::MAX && !self.is_reserved(key)
+    }
+
+    /// The place of a key's reservation, in the order of reserving.
+    fn place_of(&self, key: &Key) -> Option<usize>
+        ensures place { result ≡ position (has_key key.now) self.now.held }
+        ensures table { IsReservationTable self.now }
+    {
+        place_among(&self.keys, key)
     }
 }
 

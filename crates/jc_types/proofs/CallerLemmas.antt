@@ -1,5 +1,5 @@
 -- Lemmas for the crates above: the first place at which a test passes, and what is found, left out or mapped there.
-use Rattle.std.proofs.Common.{◌≡◌, ℕ, ◌+◌, ◌-◌, zero, suc, ◌<◌, ◌||◌, is_some, List, [], ◌∷◌, ◌++◌, take, drop, Bool, true, false, cond, not, length, Some, None, ap, refl, sym, ◌∙◌, subst, arith, find, filter, map, nat_lt, get_or, rules}
+use Rattle.std.proofs.Common.{◌≡◌, ℕ, ◌-◌, suc, ◌<◌, is_some, List, [], ◌∷◌, ◌++◌, take, drop, Bool, true, false, cond, not, length, Some, None, ap, refl, sym, ◌∙◌, arith, find, filter, map, get_or}
 use Rattle.std.proofs.lemmas.Grind.{common_steps}
 use Rattle.std.proofs.lemmas.List.{map-append, take-map, drop-map}
 use Rattle.std.proofs.lemmas.List.Elements.{All-head, All-tail}
