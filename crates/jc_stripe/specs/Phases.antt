@@ -20,7 +20,7 @@
 --     IsSharedStep     the event at a place is the join's own step, with this reply, and names the step that loaded
 --     told_to          how far a join is: it waits, was answered, or is told to retry
 --     PicksUp          a joiner asks for its answer
-use Rattle.std.specs.Prelude.{◌≡◌, ◌==◌, ◌-◌, ◌+◌, ℕ, List, [], ◌++◌, length, Bool, true, not, ◌&&◌, ◌||◌, IsTrue, Option, None, Some, is_some, is_none, slice_get, option_map, if◌then◌else◌}
+use Rattle.std.specs.Prelude.{◌≡◌, ◌==◌, ◌-◌, ◌+◌, ℕ, List, [], ◌++◌, length, Bool, true, false, not, ◌&&◌, ◌||◌, IsTrue, Option, None, Some, is_some, is_none, slice_get, option_map, if◌then◌else◌}
 use Rattle.std.specs.List.{list_all}
 use Rattle.std.specs.Cmp.Lexicographic.{pointwise}
 use Rattle.std.specs.FinMap.{len}
