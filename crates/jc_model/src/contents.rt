@@ -119,57 +119,28 @@ impl Contents {
 #[cfg(test)]
 mod tests {
     use super::*;
-    use crate::tests::script::{are, entries, key, value};
-    use std::process::Abort;
+    use crate::tests::{key, value};
     use std::test::Fail;
-
-    /// Sets the entries that pairs say, in turn.
-    fn set_all(
-        rt: &impl Abort,
-        alloc: Global,
-        contents: &mut Contents,
-        text: &str,
-    ) -> Result<(), AllocError> {
-        for entry in &entries(rt, alloc, text)? {
-            contents.set(&entry.0, Some(entry.1))?;
-        }
-        Ok(())
-    }
-
-    /// Takes the key a out, twice, where there are two others.
-    fn forget(rt: &impl Abort, contents: &mut Contents) -> Result<(), AllocError> {
-        let short = key("a").expect(rt, "a key");
-        contents.set(&short, None)?;
-        contents.set(&short, None)?;
-        assert_eq!(rt; contents.len(), 2);
-        assert_eq!(rt; contents.get(&short), None);
-        Ok(())
-    }
-
-    /// Asserts that the entries are those that pairs say, in this order.
-    fn hold(rt: &impl Abort, alloc: Global, contents: &Contents, text: &str) -> Result<(), Fail> {
-        are(rt, alloc, &contents.entries(alloc)?, text)
-    }
 
     #[test]
     fn keeps_byte_order(rt: HostRuntime) -> Result<(), Fail> {
-        let alloc = rt.alloc();
-        let mut contents = Contents::new(alloc);
-        assert!(rt; contents.is_empty());
-        set_all(&rt, alloc, &mut contents, "ab=1 B=1 a=2 ab=2")?;
-        hold(&rt, alloc, &contents, "B=1 a=2 ab=2")?;
-        forget(&rt, &mut contents)?;
-        let long = key("ab").expect(&rt, "a key");
-        assert_eq!(rt; contents.get(&long), value("2"));
-        let mut listed = entries(&rt, alloc, "a=1")?;
-        contents.append_to(&mut listed)?;
-        are(&rt, alloc, &listed, "a=1 B=1 ab=2")
-    }
-
-    #[test]
-    fn first_of_a_repeated_key_counts(rt: HostRuntime) -> Result<(), Fail> {
-        let alloc = rt.alloc();
-        let contents = Contents::of(alloc, &entries(&rt, alloc, "b=1 a=2 b=2")?)?;
-        hold(&rt, alloc, &contents, "a=2 b=1")
+        let (a, b, ab) = (key(&rt, b"a"), key(&rt, b"B"), key(&rt, b"ab"));
+        let (one, two) = (value(&rt, b"1"), value(&rt, b"2"));
+        let mut contents = Contents::of(rt.alloc(), &[(ab, one), (b, one), (a, one), (a, two)])?;
+        let listed = contents.entries(rt.alloc())?;
+        assert_eq!(rt;
+            listed.as_slice(),
+            [(b, one), (a, one), (ab, one)].as_slice()
+        );
+        contents.set(&a, None)?;
+        contents.set(&a, None)?;
+        contents.set(&b, Some(two))?;
+        assert_eq!(rt; contents.get(&a), None);
+        let mut more = vec![in rt.alloc(); (a, two)]?;
+        contents.append_to(&mut more)?;
+        assert_eq!(rt; more.as_slice(), [(a, two), (b, two), (ab, one)].as_slice());
+        assert_eq!(rt; contents.len(), 2);
+        assert!(rt; Contents::new(rt.alloc()).is_empty() && !contents.is_empty());
+        Ok(())
     }
 }
