@@ -1,5 +1,5 @@
 //! A cache's contents: a map from keys to values (JSR 107, "Fundamentals").
-ghost use Rattle.std.specs.Prelude.{◌≡◌, ◌↔◌, ◌++◌, IsTrue, IfOk, OnOk, OnErr, is_ok, None};
+ghost use Rattle.std.specs.Prelude.{◌≡◌, ◌↔◌, ◌++◌, IsTrue, IfOk, OnOk, OnErr, is_ok, None, Some};
 ghost use Rattle.std.specs.FinMap as map;
 ghost use Rattle.jc_model.specs.Cache.{entry_at, with_entry};
 
@@ -47,7 +47,7 @@ impl Contents {
     {
         let mut contents = Contents::new(alloc);
         for (key, value) in entries.iter().rev() {
-            contents.set(key, Some(*value))?;
+            contents.insert(key, *value)?;
         }
         Ok(contents)
     }
@@ -73,22 +73,37 @@ impl Contents {
         self.map.is_empty()
     }
 
-    /// Gives the key this value, or none, and leaves the other keys as they are. Where memory is refused the map is
-    /// as it was. To take out never fails.
+    /// Gives the key this value. The other keys keep theirs. The only error is that an allocation failed: the map is
+    /// then as it was.
+    pub fn insert(&mut self, key: &Key, value: Value) -> Result<(), AllocError>
+        ensures ok { OnOk result (self.new ≡ with_entry self.old key.now (Some value)) }
+        ensures err { OnErr result (self.new ≡ self.old) }
+    {
+        self.map.insert(*key, value)?;
+        Ok(())
+    }
+
+    /// Takes the key's entry out, if there is one. The other keys keep theirs. It takes no memory.
+    pub fn remove(&mut self, key: &Key)
+        ensures { self.new ≡ with_entry self.old key.now None }
+    {
+        self.map.remove(key);
+    }
+
+    /// Inserts a value at the key, or removes the key's entry. An error is that of [`insert`](Self::insert); to remove
+    /// never fails.
     pub fn set(&mut self, key: &Key, entry: Option<Value>) -> Result<(), AllocError>
         ensures ok { OnOk result (self.new ≡ with_entry self.old key.now entry) }
         ensures err { OnErr result (self.new ≡ self.old) }
         ensures frees { entry ≡ None → IsTrue (is_ok result) }
     {
         match entry {
-            Some(value) => {
-                self.map.insert(*key, value)?;
-            }
+            Some(value) => self.insert(key, value),
             None => {
-                self.map.remove(key);
+                self.remove(key);
+                Ok(())
             }
         }
-        Ok(())
     }
 
     /// Appends the entries to a list, in the byte order of the keys. Where memory is refused the list is as it was.
@@ -132,9 +147,9 @@ mod tests {
             listed.as_slice(),
             [(b, one), (a, one), (ab, one)].as_slice()
         );
+        contents.remove(&a);
         contents.set(&a, None)?;
-        contents.set(&a, None)?;
-        contents.set(&b, Some(two))?;
+        contents.insert(&b, two)?;
         assert_eq!(rt; contents.get(&a), None);
         let mut more = vec![in rt.alloc(); (a, two)]?;
         contents.append_to(&mut more)?;
