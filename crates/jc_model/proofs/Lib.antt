@@ -7,3 +7,4 @@ pub mod Order
 mod Rows
 pub mod Openings
 pub mod Whole
+pub mod TableLaws

@@ -78,9 +78,9 @@ pub record Legal (config : Config) (opening : List (Bytes × Bytes)) (events : L
   pub next : Cache
   pub history : IsHistory config (from_entries opening) events next
 
--- `openings` and `next` give each stripe's cache
-pub record IsWholeHistory (config : Config) (openings : ℕ → Cache) (events : List Event) (next : ℕ → Cache) : Type 0 where
+-- `opening` and `next` give each stripe's cache
+pub record IsWholeHistory (config : Config) (opening : ℕ → Cache) (events : List Event) (next : ℕ → Cache) : Type 0 where
   pub config_fits : checked config ≡ Ok tt
-  pub opens : (stripe : ℕ) → stripe < config.stripes → IsOpening config stripe (openings stripe)
-  pub parts : (stripe : ℕ) → stripe < config.stripes → IsHistory config (openings stripe) (of_stripe config.stripes stripe events) (next stripe)
+  pub openings : (stripe : ℕ) → stripe < config.stripes → IsOpening config stripe (opening stripe)
+  pub parts : (stripe : ℕ) → stripe < config.stripes → IsHistory config (opening stripe) (of_stripe config.stripes stripe events) (next stripe)
   pub order : IsTrue (in_order events)
