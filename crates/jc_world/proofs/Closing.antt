@@ -5,12 +5,13 @@ use Rattle.std.proofs.lemmas.List.Elements.{All-nil, All-cons}
 use Rattle.std.specs.FinMap.{find, get-from_entries}
 use Rattle.jc_model.specs.Cache.{Bytes, key_cmp}
 use Rattle.jc_model.proofs.Lookups.{both, none_is}
-use Rattle.jc_stripe.specs.Claim.{JoinClaim}
-use Rattle.jc_stripe.specs.State.{State, Reserved, claimed, IsOut}
+use Rattle.jc_stripe.specs.declared.ticket.Reservation.{Reservation}
+use Rattle.jc_stripe.specs.Tickets.{JoinClaim}
+use Rattle.jc_stripe.specs.State.{State, IsOut}
 use Rattle.jc_stripe.specs.Closed.{IsJoinedIn}
 use Rattle.jc_world.specs.declared.event.Part.{Part}
 use Rattle.jc_world.specs.declared.machine.Machine.TheInside.{Inside}
-use Rattle.jc_world.specs.World.{WorldState, home, stripe_for, claim_of}
+use Rattle.jc_world.specs.World.{WorldState, home, stripe_for}
 use Rattle.jc_world.specs.Sound.{IsSoundWorld, IsHeld, AllWaitedFor}
 use Rattle.jc_world.specs.Slots.{once, IsEntryOut}
 use Rattle.jc_world.specs.Inside.{world_of, IsKept}
@@ -25,16 +26,16 @@ each_slot P (x ∷ xs) o each =
     All-cons P x xs (each x.0 x.1 (ap (λ b. cond b (Some x.1) (find key_cmp x.0 xs)) (tied x.0))) (each_slot P xs parts.1 rest)
 
 -- a part has its reservation
-held_out : (w : WorldState) (key : Bytes) (part : Part) → IsSomeAnd (stripe_for w key) (λ s. IsHeld w s key part) → IsSomeAnd (stripe_for w key) (λ s. IsOut s (claim_of key part) part.first)
+held_out : (w : WorldState) (key : Bytes) (part : Part) → IsSomeAnd (stripe_for w key) (λ s. IsHeld w s key part) → IsSomeAnd (stripe_for w key) (λ s. IsOut s part.reservation part.reservation.first)
 held_out w key part h = go (stripe_for w key) h
   where
-    asked : (o : Option Reserved) → IsSomeAnd o (λ r. (r.op ≡ part.op) × (r.first ≡ part.first) × (r.call ≡ part.call)) → IsSomeAnd o (λ r. r.first ≡ part.first)
+    asked : (o : Option Reservation) → IsSomeAnd o (λ r. (r.op ≡ part.reservation.op) × (r.first ≡ part.reservation.first) × (r.caller.call ≡ part.reservation.caller.call)) → IsSomeAnd o (λ r. r.first ≡ part.reservation.first)
     asked None h = h
     asked (Some r) h = h.1
 
-    go : (o : Option State) → IsSomeAnd o (λ s. IsHeld w s key part) → IsSomeAnd o (λ s. IsOut s (claim_of key part) part.first)
+    go : (o : Option State) → IsSomeAnd o (λ s. IsHeld w s key part) → IsSomeAnd o (λ s. IsOut s part.reservation part.reservation.first)
     go None h = h
-    go (Some s) h = asked (claimed s (claim_of key part)) h.out
+    go (Some s) h = asked (claimed s part.reservation) h.out
 
 -- each slot's ticket is out
 pub slots_out : (m : Inside) → IsKept m → IsSoundWorld (world_of m) → All (IsEntryOut m.stripes.items) m.slots.items

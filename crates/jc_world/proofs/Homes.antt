@@ -126,7 +126,7 @@ pub gathered : (w : WorldState) (key : Bytes) → IsSoundWorld w → found_after
 gathered w key old =
     found_one None w.stripes key (home w key) (λ i s at apart.
     let h = old.shape.each i s at in
-    homes s key h.reached (ap (λ (c : Config). sum key % c.stripes == s.number) h.config_is ∙ ap (λ n. home w key == n) h.number_is ∙ ne_eqb (home w key) i apart))
+    homes s key h.reached (ap (λ (c : Config). stripe_of key c.stripes == s.stripe) h.config_is ∙ ap (λ n. home w key == n) h.number_is ∙ ne_eqb (home w key) i apart))
     ∙ or_none (cached w key)
 
 -- the entries of a further stripe

@@ -5,6 +5,7 @@
 use Rattle.std.proofs.Common.{◌≡◌, ◌+◌, ◌≤◌, ℕ, suc, List, [], ◌∷◌, ◌++◌, length, map, filter, Bool, true, false, cond, Option, None, Some, Result, Ok, Err, nat_le, refl, ap, arith, length-append, length-drop, take, drop, ◌-◌}
 use Rattle.std.proofs.lemmas.Bool.Decides.{nat_tests}
 use Rattle.std.proofs.lemmas.List.{take_rest}
+use Rattle.jc_types.specs.declared.caller.Caller.{Caller}
 use Rattle.jc_types.specs.declared.refusal.Refusal.{Refusal}
 use Rattle.jc_types.specs.Limits.{between}
 use Rattle.jc_types.specs.declared.limits.TheConstants.{STRIPES_MAX, CAPACITY_MAX, HISTORY_MIN, HISTORY_MAX}
@@ -20,9 +21,9 @@ use Rattle.jc_inflight.specs.declared.joiner.Joiner.{Joiner}
 use Rattle.jc_inflight.specs.Joined.{waits_for, callers_of}
 use Rattle.jc_stripe.specs.declared.begun.Begun.{Begun}
 use Rattle.jc_stripe.specs.declared.begun.Begun.TheVariants as begun
-use Rattle.jc_stripe.specs.Claim.{Claim}
-use Rattle.jc_stripe.specs.State.{State, claimed}
-use Rattle.jc_stripe.specs.Phases.{Steps, Begins, Commits, group_made, settled}
+use Rattle.jc_stripe.specs.Tickets.{Ticket}
+use Rattle.jc_stripe.specs.State.{State}
+use Rattle.jc_stripe.specs.Phases.{Steps, Begins, Commits, new_group, after_commit}
 use Rattle.jc_stripe.specs.Reached.{IsReached}
 use Rattle.jc_world.proofs.Shares.{some_of}
 
@@ -64,14 +65,14 @@ group_length place group =
 -- a load has at most as many callers as there are joiners
 callers_length : (load : ℕ) (js : List Joiner) → length (callers_of load js) ≤ length js
 callers_length load js =
-    let m : length (callers_of load js) ≡ length (filter (waits_for load) js) = map_length (λ (j : Joiner). (j.session, j.number)) (filter (waits_for load) js) in
+    let m : length (callers_of load js) ≡ length (filter (waits_for load) js) = map_length (λ (j : Joiner). (j.caller.session, j.caller.call)) (filter (waits_for load) js) in
     let f = filter_length (waits_for load) js in
     omega arith
 
 -- a step lengthens the history by its group
-steps_length : (old new : State) (session call : ℕ) (key : Bytes) (op : Op) (out : Out) (callers : List (ℕ × ℕ)) (reply : Reply) (place : ℕ) → Steps old session call key op out callers reply place new → length callers ≤ 64 → length new.history ≤ length old.history + 67
+steps_length : (old new : State) (session call : ℕ) (key : Bytes) (op : Op) (out : Out) (callers : List Caller) (reply : Reply) (place : ℕ) → Steps old session call key op out callers reply place new → length callers ≤ 64 → length new.history ≤ length old.history + 67
 steps_length old new session call key op out callers reply place steps few =
-    let group = group_made old session call key op out callers steps.short in
+    let group = new_group old session call key op out callers steps.short in
     let is : length new.history ≡ length (old.history ++ events_of (length old.history) group) = ap (λ (s : State). length s.history) steps.goes_on in
     let a = length-append old.history (events_of (length old.history) group) in
     let g : length (events_of (length old.history) group) ≤ 3 + length callers = group_length (length old.history) group in
@@ -92,9 +93,9 @@ begun_length old new session call key op (begun.Joined join) h = same_length old
 -- a last phase
 pub ended_length : (old new : State) (claim : Claim) (out : Out) (reply : Reply) (place : ℕ) → IsReached old → Commits old claim out reply place new → length new.history ≤ length old.history + 67
 ended_length old new claim out reply place reached h =
-    let r = some_of (claimed old claim) (λ r. Steps (settled old claim place) r.session r.call claim.key r.op out (callers_of claim.number old.joiners) reply place new) h in
+    let r = some_of (claimed old claim) (λ r. Steps (after_commit old claim place) r.caller claim.key r.op out (callers_of claim.number old.joiners) reply place new) h in
     let few : length (callers_of claim.number old.joiners) ≤ 64 = let c = callers_length claim.number old.joiners in let j = reached.few_joiners in omega arith in
-    steps_length (settled old claim place) new r.0.session r.0.call claim.key r.0.op out (callers_of claim.number old.joiners) reply place r.2 few
+    steps_length (after_commit old claim place) new r.0.caller claim.key r.0.op out (callers_of claim.number old.joiners) reply place r.2 few
 
 -- a test that is not refused, and what comes behind it
 in_limits : (b : Bool) (more : Result (Unit {0}) Refusal) (refusal : Refusal) → cond b more (Err refusal) ≡ Ok tt → (b ≡ true) × (more ≡ Ok tt)

@@ -6,8 +6,9 @@ use Rattle.jc_model.specs.declared.event.Change.{Change}
 use Rattle.jc_model.specs.declared.event.Reply.{Reply}
 use Rattle.jc_model.specs.declared.event.Event.{Event}
 use Rattle.jc_inflight.specs.Joined.{is_joined as has_joined}
-use Rattle.jc_stripe.specs.Claim.{Claim, WriteClaim, JoinClaim}
-use Rattle.jc_stripe.specs.State.{State, Reserved, claimed}
+use Rattle.jc_stripe.specs.declared.ticket.Reservation.{Reservation}
+use Rattle.jc_stripe.specs.Tickets.{Ticket, JoinClaim}
+use Rattle.jc_stripe.specs.State.{State}
 use Rattle.jc_stripe.specs.Refusals.{has_phases}
 use Rattle.jc_stripe.specs.Phases.{MayBegin, Begins, Commits, Withdraws, PicksUp}
 use Rattle.jc_stripe.specs.declared.begun.Picked.{Picked}
@@ -23,7 +24,7 @@ use Rattle.jc_world.specs.declared.event.Stepped.{Stepped}
 use Rattle.jc_world.specs.declared.event.PickedUp.{PickedUp}
 use Rattle.jc_world.specs.declared.event.WorldEvent.TheVariants as event
 use Rattle.jc_world.specs.declared.event.Shown.TheVariants as shown
-use Rattle.jc_world.specs.World.{WorldState, Parts, home, stripe_for, under, over, part_of, join_of, unjoined, claim_of, out_of}
+use Rattle.jc_world.specs.World.{WorldState, Parts, home, stripe_for, under, over, part_of, join_of, unjoined, out_of}
 use Rattle.jc_world.specs.Events.{fits, Happens, ShowsStep, victim_first, gone_last, new_part}
 use Rattle.jc_world.specs.Sound.{IsHeld, KindFits, IsSoundWorld}
 use Rattle.jc_world.specs.World.{is_join}
@@ -37,10 +38,10 @@ use Rattle.jc_world.proofs.Kept.{unheld, stripe_at}
 
 -- 1. Before the first phase.
 
-pub may_begin_at : (w : WorldState) (call : ℕ) (key : Bytes) (u : Under) → fits w (event.Start call key) ≡ true → under w call ≡ Some u → IsSoundWorld w → IsSomeAnd (stripe_for w u.command.key) (λ s. MayBegin s u.session u.number u.command.key)
+pub may_begin_at : (w : WorldState) (call : ℕ) (key : Bytes) (u : Under) → fits w (event.Start call key) ≡ true → under w call ≡ Some u → IsSoundWorld w → IsSomeAnd (stripe_for w u.command.key) (λ s. MayBegin s u.caller u.command.key)
 may_begin_at w call key u fit is sound =
     let s = stripe_at w u.command.key sound in
-    let P : Option State → Type 0 = λ o. IsSomeAnd o (λ s. MayBegin s u.session u.number u.command.key) in
+    let P : Option State → Type 0 = λ o. IsSomeAnd o (λ s. MayBegin s u.caller u.command.key) in
     subst P (sym s.1) (begins_at w call key u s.0 fit is s.1 sound)
 
 -- a call under way has phases
@@ -88,15 +89,15 @@ shows_step v key number before from to stripes reply place seen at stripes_are h
 -- 3. A first phase.
 
 abbrev pub BeginsAs : Under → Begun → State → State → Type 0
-BeginsAs u b from to = Begins from u.session u.number u.command.key u.command.op b to
+BeginsAs u b from to = Begins from u.caller u.command.key u.command.op b to
 
 pub started_done : (v next : WorldState) (call : ℕ) (key : Bytes) (u : Under) (number before : ℕ) (reply : Reply) (place : ℕ) (seen : Stepped) (stripes : List State) (order : List Event) → under v call ≡ Some u → number ≡ home v u.command.key
     → (p : Phased v number (BeginsAs u (begun.Done reply place)) stripes order) → before ≡ length p.from.history → Shows stripes number before reply place seen
-    → next ≡ record v { stripes = stripes; order = order; calls = over u.number v.calls } → Happens v (event.Start call key) (shown.Stepped seen) next
+    → next ≡ record v { stripes = stripes; order = order; calls = over u.caller.call v.calls } → Happens v (event.Start call key) (shown.Stepped seen) next
 started_done v next call key u number before reply place seen stripes order is home_is p before_is shows next_is =
     let At : ℕ → Type 0 = λ n. slice_get v.stripes n ≡ Some p.from in
-    let B : Reply → Type 0 = λ r. Begins p.from u.session u.number u.command.key u.command.op (begun.Done r place) p.to in
-    let C : ℕ → Type 0 = λ n. Begins p.from u.session u.number u.command.key u.command.op (begun.Done seen.reply n) p.to in (
+    let B : Reply → Type 0 = λ r. Begins p.from u.caller u.command.key u.command.op (begun.Done r place) p.to in
+    let C : ℕ → Type 0 = λ n. Begins p.from u.caller u.command.key u.command.op (begun.Done seen.reply n) p.to in (
       u,
       is,
       p.from,
@@ -105,7 +106,7 @@ started_done v next call key u number before reply place seen stripes order is h
       (
         subst C (sym shows.step.1) (subst B (sym shows.step.0) p.step),
         shows_step v u.command.key number before p.from p.to stripes reply place seen p.at p.stripes_are home_is before_is shows,
-        next_is ∙ (λ i. record v { stripes = (p.stripes_are ∙ ap (λ n. slice_set v.stripes n p.to) home_is) i; order = p.order_is i; calls = over u.number v.calls }),
+        next_is ∙ (λ i. record v { stripes = (p.stripes_are ∙ ap (λ n. slice_set v.stripes n p.to) home_is) i; order = p.order_is i; calls = over u.caller.call v.calls }),
       ),
     )
 
@@ -125,7 +126,7 @@ none_new order xs ys e = ap (λ zs. order ++ drop (length ys) zs) e ∙ ap (λ z
 
 pub started_refused : (v next : WorldState) (call : ℕ) (key : Bytes) (u : Under) (number : ℕ) (refusal : Refusal) (stripes : List State) (order : List Event) → under v call ≡ Some u → number ≡ home v u.command.key
     → Phased v number (BeginsAs u (begun.Refused refusal)) stripes order
-    → next ≡ record v { stripes = stripes; order = order; calls = over u.number v.calls } → Happens v (event.Start call key) (shown.Refused refusal) next
+    → next ≡ record v { stripes = stripes; order = order; calls = over u.caller.call v.calls } → Happens v (event.Start call key) (shown.Refused refusal) next
 started_refused v next call key u number refusal stripes order is home_is p next_is =
     let At : ℕ → Type 0 = λ n. slice_get v.stripes n ≡ Some p.from in (
       u,
@@ -138,7 +139,7 @@ started_refused v next call key u number refusal stripes order is home_is p next
         next_is ∙ (λ i. record v {
           stripes = (p.stripes_are ∙ same_set v.stripes number p.from p.to p.at p.step.1) i;
           order = (p.order_is ∙ none_new v.order p.to.history p.from.history (ap (λ (s : State). s.history) p.step.1)) i;
-          calls = over u.number v.calls;
+          calls = over u.caller.call v.calls;
         }),
       ),
     )
@@ -213,26 +214,26 @@ pub free_load : (v : WorldState) (u : Under) (number : ℕ) (ticket : Claim) (st
     → (get v.parts u.command.key ≡ None) × (ticket.key ≡ u.command.key)
 free_load v u number ticket stripes order home_is p sound =
     let At : ℕ → Type 0 = λ n. slice_get v.stripes n ≡ Some p.from in
-    (unheld v u.command.key p.from (subst At home_is p.at) (was_free p.from u.number u.command.key u.command.op Loader p.step.0 p.step.1 p.step.2 refl) sound, ap (λ (t : Claim). t.key) p.step.3)
+    (unheld v u.command.key p.from (subst At home_is p.at) (was_free p.from u.caller.call u.command.key u.command.op Loader p.step.0 p.step.1 p.step.2 refl) sound, ap (λ (t : Claim). t.key) p.step.3)
 
 pub free_write : (v : WorldState) (u : Under) (number : ℕ) (ticket : WriteClaim) (change : Change) (stripes : List State) (order : List Event) → number ≡ home v u.command.key → Phased v number (BeginsAs u (begun.Write ticket change)) stripes order → IsSoundWorld v
     → (get v.parts u.command.key ≡ None) × (ticket.claim.key ≡ u.command.key) × (ticket.change ≡ change)
 free_write v u number ticket change stripes order home_is p sound =
     let At : ℕ → Type 0 = λ n. slice_get v.stripes n ≡ Some p.from in
-    (unheld v u.command.key p.from (subst At home_is p.at) (was_free p.from u.number u.command.key u.command.op (Writer change) p.step.0 (writer_alone p.from u.command.key u.command.op change p.step.1) p.step.1 refl) sound, ap (λ (t : WriteClaim). t.claim.key) p.step.2, ap (λ (t : WriteClaim). t.change) p.step.2)
+    (unheld v u.command.key p.from (subst At home_is p.at) (was_free p.from u.caller.call u.command.key u.command.op (Writer change) p.step.0 (writer_alone p.from u.command.key u.command.op change p.step.1) p.step.1 refl) sound, ap (λ (t : WriteClaim). t.claim.key) p.step.2, ap (λ (t : WriteClaim). t.change) p.step.2)
 
 -- 4. A last phase.
 
 abbrev pub CommitsAs : Bytes → Part → Reply → ℕ → State → State → Type 0
-CommitsAs key part reply place from to = Commits from (claim_of key part) (out_of part) reply place to
+CommitsAs key part reply place from to = Commits from part.reservation (out_of part) reply place to
 
 pub ended : (v next : WorldState) (call : ℕ) (key : Bytes) (part : Part) (number before : ℕ) (reply : Reply) (place : ℕ) (seen : Stepped) (stripes : List State) (order : List Event) (parts : Parts) → part_of v call key ≡ Some part → number ≡ home v key
     → (p : Phased v number (CommitsAs key part reply place) stripes order) → before ≡ length p.from.history → Shows stripes number before reply place seen → parts ≡ remove v.parts key
     → next ≡ record v { stripes = stripes; order = order; calls = over call v.calls; parts = parts } → Happens v (event.Commit call key) (shown.Stepped seen) next
 ended v next call key part number before reply place seen stripes order parts is home_is p before_is shows parts_are next_is =
     let At : ℕ → Type 0 = λ n. slice_get v.stripes n ≡ Some p.from in
-    let B : Reply → Type 0 = λ r. Commits p.from (claim_of key part) (out_of part) r place p.to in
-    let C : ℕ → Type 0 = λ n. Commits p.from (claim_of key part) (out_of part) seen.reply n p.to in (
+    let B : Reply → Type 0 = λ r. Commits p.from part.reservation (out_of part) r place p.to in
+    let C : ℕ → Type 0 = λ n. Commits p.from part.reservation (out_of part) seen.reply n p.to in (
       part,
       is,
       p.from,
@@ -247,21 +248,21 @@ ended v next call key part number before reply place seen stripes order parts is
 
 -- what a commit needs of the stripe
 pub may_end_at : (v : WorldState) (call : ℕ) (key : Bytes) (part : Part) (number : ℕ) → part_of v call key ≡ Some part → number ≡ home v key → IsSoundWorld v
-    → IsSomeAnd (slice_get v.stripes number) (λ s. IsSomeAnd (claimed s (claim_of key part)) (λ r. r.first ≡ part.first) × KindFits part.first part (entry_at s.cache key) × (s.origin ≡ Played))
+    → IsSomeAnd (slice_get v.stripes number) (λ s. IsSomeAnd (claimed s part.reservation) (λ r. r.first ≡ part.reservation.first) × KindFits part.reservation.first part (entry_at s.cache key) × (s.origin ≡ Played))
 may_end_at v call key part number is home_is sound =
     let found = some_of (stripe_for v key) (λ s. IsHeld v s key part) (sound.held key part (is_part (get v.parts key) call part is)) in
     let s = found.0 in
     let held = found.2 in
-    let P : State → Type 0 = λ s. IsSomeAnd (claimed s (claim_of key part)) (λ r. r.first ≡ part.first) × KindFits part.first part (entry_at s.cache key) × (s.origin ≡ Played) in
+    let P : State → Type 0 = λ s. IsSomeAnd (claimed s part.reservation) (λ r. r.first ≡ part.reservation.first) × KindFits part.reservation.first part (entry_at s.cache key) × (s.origin ≡ Played) in
     let Q : Option State → Type 0 = λ o. IsSomeAnd o P in
     let R : ℕ → Type 0 = λ n. IsSomeAnd (slice_get v.stripes n) P in
     subst R (sym home_is) (subst Q (sym found.1) (
-      some_map (claimed s (claim_of key part)) held.out,
+      some_map (claimed s part.reservation) held.out,
       held.kind,
       (sound.shape.each (home v key) s found.1).origin_is,
     ))
   where
-    some_map : (o : Option Reserved) → IsSomeAnd o (λ r. (r.op ≡ part.op) × (r.first ≡ part.first) × (r.call ≡ part.call)) → IsSomeAnd o (λ r. r.first ≡ part.first)
+    some_map : (o : Option Reservation) → IsSomeAnd o (λ r. (r.op ≡ part.reservation.op) × (r.first ≡ part.reservation.first) × (r.caller.call ≡ part.reservation.caller.call)) → IsSomeAnd o (λ r. r.first ≡ part.reservation.first)
     some_map None h = absurd h
     some_map (Some r) h = h.1
 
@@ -277,17 +278,17 @@ pub record Changed (v : WorldState) (number : ℕ) (phase : State → State → 
 
 -- what it needs of the stripe
 pub may_withdraw_at : (v : WorldState) (call : ℕ) (key : Bytes) (part : Part) (number : ℕ) → part_of v call key ≡ Some part → number ≡ home v key → IsSoundWorld v
-    → IsSomeAnd (slice_get v.stripes number) (λ s. IsSomeAnd (claimed s (claim_of key part)) (λ r. r.first ≡ part.first))
+    → IsSomeAnd (slice_get v.stripes number) (λ s. IsSomeAnd (claimed s part.reservation) (λ r. r.first ≡ part.reservation.first))
 may_withdraw_at v call key part number is home_is sound =
     weaker (slice_get v.stripes number) (may_end_at v call key part number is home_is sound)
   where
-    weaker : (o : Option State) → IsSomeAnd o (λ s. IsSomeAnd (claimed s (claim_of key part)) (λ r. r.first ≡ part.first) × KindFits part.first part (entry_at s.cache key) × (s.origin ≡ Played)) → IsSomeAnd o (λ s. IsSomeAnd (claimed s (claim_of key part)) (λ r. r.first ≡ part.first))
+    weaker : (o : Option State) → IsSomeAnd o (λ s. IsSomeAnd (claimed s part.reservation) (λ r. r.first ≡ part.reservation.first) × KindFits part.reservation.first part (entry_at s.cache key) × (s.origin ≡ Played)) → IsSomeAnd o (λ s. IsSomeAnd (claimed s part.reservation) (λ r. r.first ≡ part.reservation.first))
     weaker None h = h
     weaker (Some s) h = h.0
 
 -- the reservation was given back
 pub withdrawn_at : (v next : WorldState) (call : ℕ) (key : Bytes) (part : Part) (number : ℕ) (stripes : List State) (parts : Parts) → part_of v call key ≡ Some part → number ≡ home v key
-    → Changed v number (λ from to. Withdraws from (claim_of key part) to) stripes → parts ≡ remove v.parts key
+    → Changed v number (λ from to. Withdraws from part.reservation to) stripes → parts ≡ remove v.parts key
     → next ≡ record v { stripes = stripes; parts = parts } → Happens v (event.Withdraw call key) shown.Withdrawn next
 withdrawn_at v next call key part number stripes parts is home_is p parts_are next_is =
     let At : ℕ → Type 0 = λ n. slice_get v.stripes n ≡ Some p.from in (
@@ -304,11 +305,11 @@ withdrawn_at v next call key part number stripes parts is home_is p parts_are ne
 -- 6. An answer that is picked up.
 
 -- the joiner of a join is in the stripe of its key
-pub joiner_at : (v : WorldState) (call : ℕ) (key : Bytes) (join : JoinClaim) (number : ℕ) → join_of v call key ≡ Some join → number ≡ home v key → IsSoundWorld v → IsSomeAnd (slice_get v.stripes number) (λ s. has_joined join.session join.call join.key s.joiners ≡ true)
+pub joiner_at : (v : WorldState) (call : ℕ) (key : Bytes) (join : JoinClaim) (number : ℕ) → join_of v call key ≡ Some join → number ≡ home v key → IsSoundWorld v → IsSomeAnd (slice_get v.stripes number) (λ s. has_joined join.caller join.key s.joiners ≡ true)
 joiner_at v call key join number is home_is sound =
     let h = waited_found v (is_join call key) v.joins join is sound.joins in
     let key_is = (join_is call key join (found_test (is_join call key) v.joins join is)).1 in
-    let P : ℕ → Type 0 = λ n. IsSomeAnd (slice_get v.stripes n) (λ s. has_joined join.session join.call join.key s.joiners ≡ true) in
+    let P : ℕ → Type 0 = λ n. IsSomeAnd (slice_get v.stripes n) (λ s. has_joined join.caller join.key s.joiners ≡ true) in
     subst P (ap (home v) key_is ∙ sym home_is) h.out
 
 -- a pick-up of this join

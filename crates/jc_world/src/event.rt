@@ -1,6 +1,8 @@
 //! What may happen in a world, what is shown of it, and what a world keeps of its calls.
-use jc_model::event::{Cause, Change, LoadAnswer, Op, Reply, WriteAnswer};
-use jc_stripe::ticket::First;
+use jc_model::event::{Change, LoadAnswer, Op, Reply, WriteAnswer};
+use jc_stripe::begun::Eviction;
+use jc_stripe::ticket::Reservation;
+use jc_types::caller::Caller;
 use jc_types::key::Key;
 use jc_types::refusal::Refusal;
 use jc_types::value::Value;
@@ -25,13 +27,13 @@ pub enum WorldEvent {
     Call {
         /// The call's number, which is to be above that of every call before it, of any session.
         call: u64,
-        /// The session, from 1 to [`SESSIONS_MAX`](crate::calls::SESSIONS_MAX).
+        /// The session, from 1 to [`SESSIONS_MAX`](jc_types::limits::SESSIONS_MAX).
         session: u32,
         /// What the call does.
         command: Command,
     },
     /// The first phase of the call's key. It fits where the call has neither reserved the key nor joined its load: before its first
-    /// phase, and once it was told to begin again or has given its reservation back.
+    /// phase, and once it was told to retry or has given its reservation back.
     Start {
         /// The call's number.
         call: u64,
@@ -88,7 +90,7 @@ pub enum WorldEvent {
         /// The call's number.
         call: u64,
     },
-    /// A call that has joined a load asks for its answer. It fits until the call was given that answer or told to begin again, so
+    /// A call that has joined a load asks for its answer. It fits until the call was given that answer or told to retry, so
     /// also where the load isn't over.
     PickUp {
         /// The number of the call that has joined.
@@ -105,16 +107,7 @@ pub enum WorldEvent {
     },
 }
 
-/// An eviction of what a step had inserted.
-#[derive(Clone, Copy, Debug, PartialEq, Eq)]
-pub struct Gone {
-    /// Why it went.
-    pub cause: Cause,
-    /// The place of the eviction in the stripe's history. Between it and the step stand those that share the step's load.
-    pub place: u32,
-}
-
-/// A step that was put down.
+/// A step that was appended to the history of its stripe.
 #[derive(Clone, Copy, Debug, PartialEq, Eq)]
 pub struct Stepped {
     /// What the call is answered.
@@ -123,10 +116,10 @@ pub struct Stepped {
     pub stripe: usize,
     /// The place of the step in the stripe's history, from 0.
     pub place: u32,
-    /// Who was evicted directly before the step, since the stripe was full.
+    /// The key that was evicted directly before the step, if the stripe was full.
     pub victim: Option<Key>,
     /// The eviction of the step's own key after it, if it was evicted.
-    pub evicted: Option<Gone>,
+    pub evicted: Option<Eviction>,
 }
 
 /// The answer of a load that a call had joined.
@@ -158,7 +151,7 @@ pub struct Reported {
 pub enum Shown {
     /// The call has begun.
     Begun,
-    /// A step was put down, in a first or a last phase.
+    /// A step was appended to the history of its stripe, in a first or a last phase.
     Stepped(Stepped),
     /// The key is reserved, and the loader is asked.
     Loads,
@@ -184,7 +177,7 @@ pub enum Shown {
     PickedUp(PickedUp),
     /// The load that the call has joined isn't over.
     Waits,
-    /// The load that the call had joined was withdrawn: the call is to begin again.
+    /// The load that the call had joined was withdrawn: the call is to retry.
     Again,
     /// Somebody else has written the store.
     Written,
@@ -195,10 +188,8 @@ pub enum Shown {
 /// A call under way.
 #[derive(Clone, Copy, Debug, PartialEq, Eq)]
 pub struct Under {
-    /// The session that calls, from 1 to [`SESSIONS_MAX`](crate::calls::SESSIONS_MAX).
-    pub session: u32,
-    /// The call's number.
-    pub number: u64,
+    /// Who calls: a session, from 1 to [`SESSIONS_MAX`](jc_types::limits::SESSIONS_MAX), and the call's number.
+    pub caller: Caller,
     /// What the call does.
     pub command: Command,
 }
@@ -206,14 +197,8 @@ pub struct Under {
 /// A key that a call has reserved: whom the call asked, and what was said so far.
 #[derive(Clone, Copy, Debug, PartialEq, Eq)]
 pub struct Part {
-    /// The call's number.
-    pub call: u64,
-    /// The reservation's number.
-    pub number: u64,
-    /// What is called.
-    pub op: Op,
-    /// Whom the call asked: the loader, or the writer for a change. It is never `Nobody`.
-    pub first: First,
+    /// The reservation: who reserved the key, for what, and whom the call asked. It is the loader, or the writer for a change.
+    pub reservation: Reservation,
     /// What the loader said so far: `NotAsked` until it has answered.
     pub load: LoadAnswer,
     /// Whether the writer has changed the store.

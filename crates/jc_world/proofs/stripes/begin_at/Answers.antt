@@ -10,13 +10,13 @@ append_in_room-requires c =
     let from = c.index_mut-stripe.result.now in
     let to = c.begin-begun.new.self in
     has_room _ _ c.events-before.result.now c.events.result.now from.history to.history c.requires.room c.events-before.ensures.events c.events.ensures.events
-    (begun_length from to c.args.u.now.session c.args.u.now.number c.args.u.now.command.key c.args.u.now.command.op _ c.begin-begun.ensures.begins)
+    (begun_length from to c.args.u.now.caller c.args.u.now.command.key c.args.u.now.command.op _ c.begin-begun.ensures.begins)
 
 pub returns : goal.returns
 returns c =
     let from = c.index_mut-stripe.result.now in (
       from,
-      at_index c.args.stripes.now.items c.args.number from (λ s. MayBegin s c.args.u.now.session c.args.u.now.number c.args.u.now.command.key) c.requires.begins c.index_mut-stripe.ensures.value,
+      at_index c.args.stripes.now.items c.args.number from (λ s. MayBegin s c.args.u.now.caller c.args.u.now.command.key) c.requires.begins c.index_mut-stripe.ensures.value,
       c.begin-begun.new.self,
       c.begin-begun.ensures.begins,
       ap length c.events-before.ensures.events,

@@ -1,9 +1,8 @@
 use Rattle.std.proofs.Common.{◌≡◌, ◌∙◌, ◌++◌, drop, length, refl, ap, IsSomeAnd}
 use Rattle.std.proofs.lemmas.List.{take_rest}
 use Rattle.jc_model.specs.Cache.{entry_at}
-use Rattle.jc_stripe.specs.State.{claimed}
 use Rattle.jc_stripe.specs.declared.ticket.Origin.TheVariants.{Played}
-use Rattle.jc_world.specs.World.{claim_of, out_of}
+use Rattle.jc_world.specs.World.{out_of}
 use Rattle.jc_world.specs.Sound.{KindFits}
 use Rattle.jc_world.proofs.Numbered.{at_index}
 use Rattle.jc_world.proofs.Lengths.{ended_length, has_room}
@@ -21,7 +20,7 @@ returns c =
     let from = c.index_mut-stripe.result.now in
     let slot = c.args.slot in (
       from,
-      at_index c.args.stripes.now.items c.args.number from (λ s. IsSomeAnd (claimed s (claim_of slot.0 slot.1)) (λ r. r.first ≡ slot.1.first) × KindFits slot.1.first slot.1 (entry_at s.cache slot.0) × (s.origin ≡ Played)) c.requires.out c.index_mut-stripe.ensures.value,
+      at_index c.args.stripes.now.items c.args.number from (λ s. IsSomeAnd (claimed s (claim_of slot.0 slot.1)) (λ r. r.first ≡ slot.1.reservation.first) × KindFits slot.1.reservation.first slot.1 (entry_at s.cache slot.0) × (s.origin ≡ Played)) c.requires.out c.index_mut-stripe.ensures.value,
       c.end-reply.new.stripe,
       c.end-reply.ensures,
       ap length c.events-before.ensures.events,

@@ -8,7 +8,7 @@ returns c =
     let from = c.index_mut-stripe.result.now in
     let join = c.args.join in (
       from,
-      at_index c.args.stripes.now.items c.args.number from (λ s. has_joined join.session join.call join.key s.joiners ≡ true) c.requires c.index_mut-stripe.ensures.value,
+      at_index c.args.stripes.now.items c.args.number from (λ s. has_joined join.caller join.key s.joiners ≡ true) c.requires c.index_mut-stripe.ensures.value,
       c.pick_up.new.self,
       c.pick_up.ensures.picks_up,
       refl,

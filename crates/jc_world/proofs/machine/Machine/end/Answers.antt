@@ -1,11 +1,11 @@
 use Rattle.std.proofs.Common.{◌≡◌, ◌++◌, length, drop, List, Some, IsSomeAnd, true, is_some, slice_get, sym, subst, ap, ◌∙◌, refl}
 use Rattle.jc_model.specs.Cache.{entry_at}
-use Rattle.jc_stripe.specs.State.{State, claimed}
+use Rattle.jc_stripe.specs.State.{State}
 use Rattle.jc_stripe.specs.Phases.{Commits}
 use Rattle.jc_stripe.specs.declared.ticket.Origin.TheVariants.{Played}
 use Rattle.jc_world.specs.declared.event.Shown.TheVariants as shown
 use Rattle.jc_world.specs.declared.event.WorldEvent.TheVariants as event
-use Rattle.jc_world.specs.World.{WorldState, claim_of, out_of, is_answered}
+use Rattle.jc_world.specs.World.{WorldState, out_of, is_answered}
 use Rattle.jc_world.specs.Events.{Happens, victim_first, gone_last}
 use Rattle.jc_world.specs.Sound.{IsSoundWorld, KindFits}
 use Rattle.jc_world.specs.Inside.{world_of}
@@ -27,7 +27,7 @@ commit_at-reply-requires-clause-out c =
     let one = answered_part v c.args.self.now c.args.call c.args.key.now c.self.view_is c.requires.fits in
     let is = taken_is c.self.inside c.args.call c.args.key.now c.take_slot-slot.result one.0 c.self.invariant one.1 c.take_slot-slot.ensures.slot c.take_slot-slot.ensures.key in
     let Q : Entry → Type 0 = λ e. IsSomeAnd (slice_get c.self.inside.stripes.items c.stripe_of-number.result)
-    (λ s. IsSomeAnd (claimed s (claim_of e.0 e.1)) (λ r. r.first ≡ e.1.first) × KindFits e.1.first e.1 (entry_at s.cache e.0) × (s.origin ≡ Played)) in
+    (λ s. IsSomeAnd (claimed s (claim_of e.0 e.1)) (λ r. r.first ≡ e.1.reservation.first) × KindFits e.1.reservation.first e.1 (entry_at s.cache e.0) × (s.origin ≡ Played)) in
     subst Q (sym is) (may_end_at v c.args.call c.args.key.now one.0 c.stripe_of-number.result one.1 c.stripe_of-number.ensures (subst IsSoundWorld (sym c.self.view_is) c.requires.sound))
 
 pub commit_at-reply-requires-clause-answered : goal.commit_at-reply-requires-clause-answered

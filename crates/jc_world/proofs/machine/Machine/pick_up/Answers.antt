@@ -1,5 +1,5 @@
 use Rattle.std.proofs.Common.{◌≡◌, ℕ, List, Some, insert, slice_get, slice_set, sym, subst, ap, ◌∙◌, refl}
-use Rattle.jc_stripe.specs.Claim.{JoinClaim}
+use Rattle.jc_stripe.specs.Tickets.{JoinClaim}
 use Rattle.jc_stripe.specs.State.{State}
 use Rattle.jc_stripe.specs.Phases.{PicksUp}
 use Rattle.jc_stripe.specs.declared.begun.Picked.{Picked}

@@ -21,7 +21,7 @@ use Rattle.jc_world.proofs.machine.Machine.start.Goals as goal
 -- what a call of `begin_at` tells
 abbrev Told : List State → List Event → ℕ → Under → Begun → ℕ → List State → List Event → Type 0
 Told stripes order number u b before stripes' order' =
-    (from : State) × (slice_get stripes number ≡ Some from) × (to : State) × Begins from u.session u.number u.command.key u.command.op b to × (before ≡ length from.history)
+    (from : State) × (slice_get stripes number ≡ Some from) × (to : State) × Begins from u.caller u.command.key u.command.op b to × (before ≡ length from.history)
     × (stripes' ≡ slice_set stripes number to) × (order' ≡ order ++ drop (length from.history) to.history)
 
 abbrev phased : (v : WorldState) (order : List Event) (number : ℕ) (u : Under) (b : Begun) (before : ℕ) (stripes' : List State) (order' : List Event) → order ≡ v.order → Told v.stripes order number u b before stripes' order' → Phased v number (BeginsAs u b) stripes' order'
@@ -37,8 +37,8 @@ begin_at-begun-requires-clause-begins c =
     let w = c.args.self.now in
     let u = c.in-Some.u in
     let is : under w c.args.call ≡ Some u = ap (λ (x : WorldState). under x c.args.call) (sym c.self.view_is) ∙ sym c.under.ensures ∙ sym c.copied.ensures ∙ c.in-Some.is in
-    let P : WorldState → Type 0 = λ x. IsSomeAnd (slice_get x.stripes (sum u.command.key % x.config.stripes)) (λ s. MayBegin s u.session u.number u.command.key) in
-    let Q : ℕ → Type 0 = λ n. IsSomeAnd (slice_get c.self.inside.stripes.items n) (λ s. MayBegin s u.session u.number u.command.key) in
+    let P : WorldState → Type 0 = λ x. IsSomeAnd (slice_get x.stripes (sum u.command.key % x.config.stripes)) (λ s. MayBegin s u.caller u.command.key) in
+    let Q : ℕ → Type 0 = λ n. IsSomeAnd (slice_get c.self.inside.stripes.items n) (λ s. MayBegin s u.caller u.command.key) in
     subst Q (sym c.stripe_of-number.ensures) (subst P (sym c.self.view_is) (may_begin_at w c.args.call c.args.key.now u c.requires.fits is c.requires.sound))
 
 pub begin_at-begun-requires-clause-phases : goal.begin_at-begun-requires-clause-phases

@@ -1,9 +1,8 @@
 use Rattle.std.proofs.Common.{◌≡◌, IsSomeAnd, is_some, slice_get, sym, subst, ap, ◌∙◌, refl}
-use Rattle.jc_stripe.specs.State.{claimed}
 use Rattle.jc_stripe.specs.Phases.{Withdraws}
 use Rattle.jc_world.specs.declared.event.WorldEvent.TheVariants as event
 use Rattle.jc_world.specs.declared.event.Shown.TheVariants as shown
-use Rattle.jc_world.specs.World.{WorldState, claim_of}
+use Rattle.jc_world.specs.World.{WorldState}
 use Rattle.jc_world.specs.Events.{Happens}
 use Rattle.jc_world.specs.Sound.{IsSoundWorld}
 use Rattle.jc_world.specs.Inside.{world_of}
@@ -24,7 +23,7 @@ withdraw_at-requires c =
     let v : WorldState = world_of c.self.inside in
     let one = untouched_part v c.args.self.now c.args.call c.args.key.now c.self.view_is c.requires.fits in
     let is = taken_is c.self.inside c.args.call c.args.key.now c.take_slot-slot.result one.0 c.self.invariant one.1 c.take_slot-slot.ensures.slot c.take_slot-slot.ensures.key in
-    let Q : Entry → Type 0 = λ e. IsSomeAnd (slice_get c.self.inside.stripes.items c.stripe_of-number.result) (λ s. IsSomeAnd (claimed s (claim_of e.0 e.1)) (λ r. r.first ≡ e.1.first)) in
+    let Q : Entry → Type 0 = λ e. IsSomeAnd (slice_get c.self.inside.stripes.items c.stripe_of-number.result) (λ s. IsSomeAnd (claimed s (claim_of e.0 e.1)) (λ r. r.first ≡ e.1.reservation.first)) in
     subst Q (sym is) (may_withdraw_at v c.args.call c.args.key.now one.0 c.stripe_of-number.result one.1 c.stripe_of-number.ensures (subst IsSoundWorld (sym c.self.view_is) c.requires.sound))
 
 pub returns : goal.returns

@@ -6,14 +6,14 @@ use Rattle.jc_model.specs.declared.event.Reply.{Reply}
 use Rattle.jc_model.specs.declared.event.LoadAnswer.{LoadAnswer}
 use Rattle.jc_model.specs.declared.event.WriteAnswer.{WriteAnswer}
 use Rattle.jc_model.specs.declared.event.ProcessAnswer.TheVariants as process
-use Rattle.jc_stripe.specs.Claim.{Claim, WriteClaim}
+use Rattle.jc_stripe.specs.Tickets.{Ticket}
 use Rattle.jc_stripe.specs.State.{State}
 use Rattle.jc_stripe.specs.Phases.{Commits}
 use Rattle.jc_stripe.specs.declared.ticket.First.{First}
 use Rattle.jc_world.specs.declared.event.Part.{Part}
 use Rattle.jc_world.specs.declared.slot.Ticket.TheVariants as ticket
 use Rattle.jc_world.specs.declared.slot.Slot.TheInside.{Inside}
-use Rattle.jc_world.specs.World.{claim_of, out_of}
+use Rattle.jc_world.specs.World.{out_of}
 use Rattle.jc_world.specs.Sound.{KindFits}
 use Rattle.jc_world.specs.Slots.{claim_in, first_in, entry_of, IsSlot}
 use Rattle.jc_world.proofs.slot.Slot.end.Goals as goal
@@ -29,9 +29,9 @@ committed s t claim claim' out out' reply place e f h =
     subst Q f (subst P e h)
 
 ended_load : (s t : State) (i : Inside) (claim : Claim) (self : Bytes × Part) (entry : Option Bytes) (answer : LoadAnswer) (reply : Reply) (place : ℕ) → entry_of i ≡ self → IsSlot i → i.ticket ≡ ticket.Load claim
-    → KindFits self.1.first self.1 entry → answer ≡ i.part.load → Commits s claim (load_only answer) reply place t → Commits s (claim_of self.0 self.1) (out_of self.1) reply place t
+    → KindFits self.1.reservation.first self.1 entry → answer ≡ i.part.load → Commits s claim (load_only answer) reply place t → Commits s (claim_of self.0 self.1) (out_of self.1) reply place t
 ended_load s t i claim self entry answer reply place view slot is kind answer_is h =
-    let K : Bytes × Part → Type 0 = λ e. KindFits e.1.first e.1 entry in
+    let K : Bytes × Part → Type 0 = λ e. KindFits e.1.reservation.first e.1 entry in
     let P : Bytes × Part → Type 0 = λ e. Commits s (claim_of e.0 e.1) (out_of e.1) reply place t in
     let F : First → Type 0 = λ f. KindFits f i.part entry in
     let kind = subst F (slot.first ∙ ap first_in is) (subst K (sym view) kind) in
@@ -39,9 +39,9 @@ ended_load s t i claim self entry answer reply place view slot is kind answer_is
     subst P view (committed s t claim _ (load_only answer) (out_of i.part) reply place (sym (claim_is i slot ∙ ap claim_in is)) out h)
 
 ended_write : (s t : State) (i : Inside) (claim : WriteClaim) (self : Bytes × Part) (entry : Option Bytes) (answer : WriteAnswer) (reply : Reply) (place : ℕ) → entry_of i ≡ self → IsSlot i → i.ticket ≡ ticket.Write claim
-    → KindFits self.1.first self.1 entry → answer ≡ i.part.report → Commits s claim.claim (write_only answer) reply place t → Commits s (claim_of self.0 self.1) (out_of self.1) reply place t
+    → KindFits self.1.reservation.first self.1 entry → answer ≡ i.part.report → Commits s claim.claim (write_only answer) reply place t → Commits s (claim_of self.0 self.1) (out_of self.1) reply place t
 ended_write s t i claim self entry answer reply place view slot is kind answer_is h =
-    let K : Bytes × Part → Type 0 = λ e. KindFits e.1.first e.1 entry in
+    let K : Bytes × Part → Type 0 = λ e. KindFits e.1.reservation.first e.1 entry in
     let P : Bytes × Part → Type 0 = λ e. Commits s (claim_of e.0 e.1) (out_of e.1) reply place t in
     let F : First → Type 0 = λ f. KindFits f i.part entry in
     let kind = subst F (slot.first ∙ ap first_in is) (subst K (sym view) kind) in
