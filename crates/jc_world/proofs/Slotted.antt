@@ -8,7 +8,7 @@ use Rattle.jc_model.specs.declared.event.Change.{Change}
 use Rattle.jc_model.specs.Table.{is_write_given}
 use Rattle.jc_model.proofs.Lookups.{both, exact, none_is}
 use Rattle.jc_stripe.specs.declared.ticket.First.{First}
-use Rattle.jc_stripe.specs.declared.ticket.First.TheVariants.{Nobody, Loader, Writer}
+use Rattle.jc_stripe.specs.declared.ticket.First.TheVariants.{Nobody, Loader, Writer, Processor}
 use Rattle.jc_stripe.specs.Tickets.{asks_writer}
 use Rattle.jc_world.specs.declared.event.Part.{Part}
 use Rattle.jc_world.specs.World.{WorldState, of_call, part_of, waits_for_report, is_answered, is_untouched}
@@ -48,8 +48,8 @@ pub in_slots : (m : Inside) (w : WorldState) (call : ℕ) (key : Bytes) → IsKe
 in_slots m w call key kept same =
     part_under_is call key m.slots.items kept ∙ ap (of_call call) (sym (get-from_entries nat_list_cmp_total m.slots.items key)) ∙ ap (λ (x : WorldState). part_of x call key) same
 
-pub may_set : (o : Option Part) (part new : Part) → o ≡ Some part → new.reservation.number ≡ part.reservation.number → new.reservation.first ≡ part.reservation.first → IsSomeAnd o (λ old. (new.reservation.number ≡ old.reservation.number) × (new.reservation.first ≡ old.reservation.first))
-may_set o part new is number first = let P : Option Part → Type 0 = λ o. IsSomeAnd o (λ old. (new.reservation.number ≡ old.reservation.number) × (new.reservation.first ≡ old.reservation.first)) in subst P (sym is) (number, first)
+pub may_set : (o : Option Part) (part new : Part) → o ≡ Some part → new.reservation ≡ part.reservation → IsSomeAnd o (λ old. new.reservation ≡ old.reservation)
+may_set o part new is same = let P : Option Part → Type 0 = λ o. IsSomeAnd o (λ old. new.reservation ≡ old.reservation) in subst P (sym is) same
 
 -- a slot is put behind the others
 pub pushed : (slots items : List Entry) (key : Bytes) (part : Part) → get (parts_of slots) key ≡ None → items ≡ slots ++ (key, part) ∷ [] → once slots ≡ true → (parts_of items ≡ map.insert (parts_of slots) key part) × (once items ≡ true)
@@ -65,6 +65,7 @@ waits_writer part h = go part.reservation.first refl ((both (asks_writer part.re
     go Nobody e h = cc
     go Loader e h = cc
     go (Writer change) e h = (change, e)
+    go Processor e h = cc
 
 pub answered_some : (o : Option Part) → is_answered o ≡ true → (part : Part) × (o ≡ Some part)
 answered_some None h = cc

@@ -313,10 +313,7 @@ impl Machine {
                 Ok(Shown::Loads)
             }
             Begun::Write(ticket) => {
-                let slot = Slot::writing(ticket);
-                let Some(change) = change_in(slot.part()) else {
-                    unreachable!()
-                };
+                let (slot, change) = Slot::writing(ticket);
                 push_in_room(&mut self.slots, slot);
                 Ok(Shown::Asks(change))
             }

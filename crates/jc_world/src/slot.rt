@@ -6,6 +6,7 @@ ghost use Rattle.jc_model.specs.Cache.{key_cmp, entry_at};
 ghost use Rattle.jc_stripe.specs.declared.begun.StepDone.{StepDone};
 ghost use Rattle.jc_stripe.specs.State.{IsOut};
 ghost use Rattle.jc_stripe.specs.Phases.{Commits, Withdraws};
+ghost use Rattle.jc_stripe.specs.declared.ticket.First.TheVariants.{Writer};
 ghost use Rattle.jc_stripe.specs.declared.ticket.Origin.TheVariants.{Played};
 ghost use Rattle.jc_world.specs.World.{out_of, is_answered};
 ghost use Rattle.jc_world.specs.Events.{new_part};
@@ -13,10 +14,10 @@ ghost use Rattle.jc_world.specs.Sound.{KindFits};
 ghost use Rattle.jc_world.specs.Slots.{is_under, once, parts_of, part_under};
 
 use crate::event::Part;
-use jc_model::event::{LoadAnswer, WriteAnswer};
+use jc_model::event::{Change, LoadAnswer, WriteAnswer};
 use jc_stripe::begun::StepDone;
 use jc_stripe::stripe::Stripe;
-use jc_stripe::ticket::{LoadTicket, Reservation, WriteTicket, played_load, played_write};
+use jc_stripe::ticket::{First, LoadTicket, Reservation, WriteTicket, played_load, played_write};
 use jc_types::key::Key;
 use std::marker::Model;
 
@@ -58,6 +59,16 @@ fn part_for(reservation: &Reservation) -> Part
     }
 }
 
+/// What the writer is to be asked for.
+fn change_for(ticket: &WriteTicket) -> Change
+    ensures { ticket.now.reservation.first ≡ Writer result }
+{
+    match ticket.reservation().first {
+        First::Writer(change) => change,
+        First::Nobody | First::Loader | First::Processor => unreachable!(),
+    }
+}
+
 impl Slot {
     /// The loader is to be asked.
     pub(crate) fn loading(ticket: LoadTicket) -> Slot
@@ -71,16 +82,19 @@ impl Slot {
         }
     }
 
-    /// The writer is to be asked.
-    pub(crate) fn writing(ticket: WriteTicket) -> Slot
+    /// The writer is to be asked, for a change.
+    pub(crate) fn writing(ticket: WriteTicket) -> (Slot, Change)
         requires { ticket.asked ≡ false }
-        ensures { result ≡ (ticket.reservation.key, new_part ticket.reservation) }
+        ensures slot { result.0 ≡ (ticket.reservation.key, new_part ticket.reservation) }
+        ensures change { ticket.reservation.first ≡ Writer result.1 }
     {
+        let change = change_for(&ticket);
         let part = part_for(ticket.reservation());
-        Slot {
+        let slot = Slot {
             ticket: Ticket::Write(ticket),
             part,
-        }
+        };
+        (slot, change)
     }
 
     /// The key.

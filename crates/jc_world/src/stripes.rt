@@ -15,12 +15,13 @@ ghost use Rattle.jc_world.specs.Sound.{KindFits};
 use crate::event::{Stepped, Under};
 use crate::room::push_in_room;
 use crate::slot::Slot;
-use jc_model::event::Event;
+use jc_model::event::{Effect, Event, LoadAnswer, Op, Out, ProcessAnswer, Reply, WriteAnswer};
 use jc_stripe::begun::{Begun, Picked, StepDone};
 use jc_stripe::stripe::Stripe;
 use jc_stripe::ticket::{Join, Origin};
 use jc_types::config::Config;
 use jc_types::limits::{JOINERS_MAX, STEP_PLACES};
+use jc_types::value::Value;
 use std::alloc::{AllocError, Global};
 
 /// The most events that one phase appends: a victim, a step, the steps that share its load, and the eviction of its own key.
@@ -39,7 +40,7 @@ pub(crate) fn make_stripes(alloc: Global, config: &Config) -> Result<Vec<Stripe>
 }
 
 /// How many events a stripe's history has.
-fn events_of(stripe: &Stripe) -> usize
+fn history_len(stripe: &Stripe) -> usize
     ensures len { result ≡ length stripe.now.history }
     ensures reached { IsReached stripe.now }
 {
@@ -52,7 +53,19 @@ fn append_in_room(order: &mut Vec<Event>, stripe: &Stripe, from: usize)
     requires room { vec_len order.old + (length stripe.now.history - from) ≤ vec_capacity order.old }
     ensures { order.new.items ≡ order.old.items ++ drop from stripe.now.history }
 {
-    for place in from..events_of(stripe) {
+    // Names the types of the values that a generic call moves here: the prover looks for their models in the types that a
+    // function names.
+    let _types: Option<(
+        Op,
+        Out,
+        LoadAnswer,
+        WriteAnswer,
+        ProcessAnswer,
+        Effect,
+        Reply,
+        Value,
+    )> = None;
+    for place in from..history_len(stripe) {
         push_in_room(order, stripe.event(place));
     }
 }
@@ -72,7 +85,7 @@ pub(crate) fn begin_at(
         × (stripes.new.items ≡ slice_set stripes.old.items number to) × (order.new.items ≡ order.old.items ++ drop (length from.history) to.history) }
 {
     let stripe = &mut stripes[number];
-    let before = events_of(stripe);
+    let before = history_len(stripe);
     let begun = stripe.begin(u.caller, &u.command.key, &u.command.op);
     append_in_room(order, stripe, before);
     begun
@@ -93,7 +106,7 @@ pub(crate) fn commit_at(
         × (stripes.new.items ≡ slice_set stripes.old.items number to) × (order.new.items ≡ order.old.items ++ drop (length from.history) to.history) }
 {
     let stripe = &mut stripes[number];
-    let before = events_of(stripe);
+    let before = history_len(stripe);
     let done = slot.end(stripe);
     append_in_room(order, stripe, before);
     done
