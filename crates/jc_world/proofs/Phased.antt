@@ -1,5 +1,5 @@
 -- What the machine of a world does in a first and a last phase is what the definitions say.
-use Rattle.std.proofs.Common.{◌≡◌, ◌∙◌, ℕ, zero, suc, List, [], ◌∷◌, ◌++◌, length, drop, Option, Some, None, IsSomeAnd, true, slice_get, slice_set, refl, sym, ap, subst, append-nil}
+use Rattle.std.proofs.Common.{false, ◌≡◌, ◌∙◌, ℕ, zero, suc, List, [], ◌∷◌, ◌++◌, length, drop, Option, Some, None, IsSomeAnd, true, slice_get, slice_set, refl, sym, ap, subst, append-nil}
 use Rattle.std.specs.FinMap.{get, insert, remove}
 use Rattle.jc_model.specs.Cache.{Bytes, entry_at}
 use Rattle.jc_model.specs.declared.event.Change.{Change}
