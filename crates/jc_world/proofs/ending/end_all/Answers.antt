@@ -4,20 +4,23 @@ use Rattle.jc_types.specs.Stripes.{stripe_of}
 use Rattle.jc_model.specs.Cache.{Bytes}
 use Rattle.jc_world.specs.Ending.{AreLeft, HasSlots, HasJoins}
 use Rattle.jc_world.proofs.Listed.{Entry}
+use Rattle.jc_world.specs.World.{empty_stripe}
 use Rattle.jc_world.proofs.Closing.{IsOver, over, left_set, ended, joins_kept, none_reserved, home_of_slot}
 use Rattle.jc_world.proofs.ending.end_all.Goals as goal
 
 pub stripe_of-number-requires : goal.stripe_of-number-requires
 stripe_of-number-requires c =
     let i = c.ending.invariant in
-    (home_of_slot c.args.config.now c.ending.stripes.items c.ending.slots.items c.pop.new.self.items c.in-Some.slot _ c.in-Some.ensures.items i.left i.slots).some
+    (home_of_slot c.args.config.now c.ending.stripes.items c.ending.slots.items c.pop.new.self.items c.in-Some.slot (empty_stripe c.args.config.now 0) c.in-Some.ensures.items i.left i.slots).some
 
 pub index_mut-stripe-requires : goal.index_mut-stripe-requires
 index_mut-stripe-requires c =
     let i = c.ending.invariant in
-    let home = home_of_slot c.args.config.now c.ending.stripes.items c.ending.slots.items c.pop.new.self.items c.in-Some.slot _ c.in-Some.ensures.items i.left i.slots in
+    let home = home_of_slot c.args.config.now c.ending.stripes.items c.ending.slots.items c.pop.new.self.items c.in-Some.slot (empty_stripe c.args.config.now 0) c.in-Some.ensures.items i.left i.slots in
     let number = c.stripe_of-number.ensures ∙ ap (λ k. stripe_of k c.args.config.now.stripes) c.key.ensures in
-    subst (λ n. n < length c.ending.stripes.items) (sym number) home.within_is
+    let w = home.within_is in
+    let len = c.ending.stripes.ok in
+    subst (λ n. n < vec_len c.ending.stripes) (sym number) (omega arith)
 
 -- what the stripe of the slot is
 read : (c : goal.After-index_mut-stripe) → c.index_mut-stripe.result.now ≡ get_or c.ending.stripes.items (stripe_of c.in-Some.slot.0 c.args.config.now.stripes) c.index_mut-stripe.result.now
@@ -67,5 +70,5 @@ empty (x ∷ xs) h = absurd (omega arith)
 pub returns-clause-none : goal.returns-clause-none
 returns-clause-none c =
     let i = c.ending.invariant in
-    let nothing : c.ending.slots.items ≡ [] = empty c.ending.slots.items c.in_default.ensures.cases.0 in
+    let nothing : c.ending.slots.items ≡ [] = (let z = c.in_default.ensures.cases.0 in let len = c.ending.slots.ok in empty c.ending.slots.items (omega arith)) in
     none_reserved c.args.config.now c.ending.stripes.items (subst (HasSlots c.args.config.now c.ending.stripes.items) nothing i.slots)

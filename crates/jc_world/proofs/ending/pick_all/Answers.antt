@@ -1,24 +1,27 @@
-use Rattle.std.proofs.Common.{◌≡◌, ◌++◌, ◌∷◌, [], ◌<◌, List, length, get_or, slice_set, ℕ, sym, ap, ◌∙◌, subst}
+use Rattle.std.proofs.Common.{◌≡◌, ◌++◌, ◌∷◌, [], ◌<◌, List, length, get_or, slice_set, ℕ, sym, ap, ◌∙◌, subst, arith, vec_len}
 use Rattle.jc_stripe.specs.State.{State}
 use Rattle.jc_stripe.specs.Tickets.{JoinClaim}
 use Rattle.jc_stripe.specs.Phases.{PicksUp, without_joiner}
 use Rattle.jc_stripe.specs.declared.begun.Picked.{Picked}
 use Rattle.jc_types.specs.Stripes.{stripe_of}
 use Rattle.jc_world.specs.Ending.{AreLeft, HasJoins, NoneReserved}
+use Rattle.jc_world.specs.World.{empty_stripe}
 use Rattle.jc_world.proofs.Closing.{left_set, never_waits, picked_left, picked_up, none_set, home_of_join}
 use Rattle.jc_world.proofs.ending.pick_all.Goals as goal
 
 pub stripe_of-number-requires : goal.stripe_of-number-requires
 stripe_of-number-requires c =
     let i = c.picking.invariant in
-    (home_of_join c.args.config.now c.picking.stripes.items c.picking.joins.items c.pop.new.self.items c.in-Some.join _ c.in-Some.ensures.items i.left i.joins).some
+    (home_of_join c.args.config.now c.picking.stripes.items c.picking.joins.items c.pop.new.self.items c.in-Some.join (empty_stripe c.args.config.now 0) c.in-Some.ensures.items i.left i.joins).some
 
 pub index_mut-stripe-requires : goal.index_mut-stripe-requires
 index_mut-stripe-requires c =
     let i = c.picking.invariant in
-    let home = home_of_join c.args.config.now c.picking.stripes.items c.picking.joins.items c.pop.new.self.items c.in-Some.join _ c.in-Some.ensures.items i.left i.joins in
+    let home = home_of_join c.args.config.now c.picking.stripes.items c.picking.joins.items c.pop.new.self.items c.in-Some.join (empty_stripe c.args.config.now 0) c.in-Some.ensures.items i.left i.joins in
     let number = c.stripe_of-number.ensures ∙ ap (λ k. stripe_of k c.args.config.now.stripes) c.key.ensures in
-    subst (λ n. n < length c.picking.stripes.items) (sym number) home.within_is
+    let w = home.within_is in
+    let len = c.picking.stripes.ok in
+    subst (λ n. n < vec_len c.picking.stripes) (sym number) (omega arith)
 
 pub pick_up-requires-clause-out : goal.pick_up-requires-clause-out
 pick_up-requires-clause-out c =
