@@ -4,7 +4,7 @@
 --     picked         one join less, once it has its answer
 --     never_waits    where no key is reserved no joiner waits
 --     slots_out, joins_out      what is out in a world that is sound
-use Rattle.std.proofs.Common.{inl, inr, ◌⊎◌, ◌≡◌, ◌==◌, ◌&&◌, ◌||◌, ◌+◌, ℕ, List, [], ◌∷◌, ◌++◌, length, Bool, true, false, cond, not, Option, None, Some, IsSomeAnd, is_none, is_some, filter, option_map, slice_get, slice_set, get_or, ◌<◌, arith, refl, sym, ap, ◌∙◌, subst}
+use Rattle.std.proofs.Common.{inl, inr, ◌⊎◌, ◌≡◌, ◌==◌, ◌&&◌, ◌||◌, ◌+◌, ℕ, List, [], ◌∷◌, ◌++◌, length, Bool, true, false, cond, not, Option, None, Some, IsSomeAnd, is_none, is_some, option_map, slice_get, slice_set, get_or, ◌<◌, arith, refl, sym, ap, ◌∙◌, subst}
 use Rattle.std.specs.List.{list_all, list_any}
 use Rattle.std.specs.Ordering.{eq_by_cmp}
 use Rattle.std.specs.Cmp.{eq_by_cmp_equiv}
@@ -19,7 +19,6 @@ use Rattle.jc_model.specs.declared.event.Out.{Out}
 use Rattle.jc_model.specs.Cache.{Bytes, key_cmp}
 use Rattle.jc_model.proofs.Lookups.{both, none_is}
 use Rattle.jc_inflight.specs.declared.joiner.Joiner.{Joiner}
-use Rattle.jc_inflight.specs.declared.joiner.JoinState.{JoinState}
 use Rattle.jc_inflight.specs.declared.joiner.JoinState.TheVariants.{Waiting}
 use Rattle.jc_inflight.specs.Joined.{is_of as is_joiner_of, joiner_of}
 use Rattle.jc_stripe.specs.declared.begun.StepDone.{StepDone}
@@ -28,13 +27,13 @@ use Rattle.jc_stripe.specs.declared.begun.Picked.TheVariants as picked
 use Rattle.jc_stripe.specs.declared.ticket.Reservation.{Reservation}
 use Rattle.jc_stripe.specs.Tickets.{JoinClaim}
 use Rattle.jc_stripe.specs.State.{State, is_of, is_key, without_key, IsOut, IsJoined}
-use Rattle.jc_stripe.specs.Phases.{Commits, Withdraws, PicksUp, without_joiner, told_to}
+use Rattle.jc_stripe.specs.Phases.{Commits, Withdraws, PicksUp, without_joiner}
 use Rattle.jc_stripe.specs.Reached.{JoinFits, AllJoin, IsReached}
 use Rattle.jc_stripe.specs.Laws.{StaysReached}
 use Rattle.jc_world.specs.declared.event.Part.{Part}
 use Rattle.jc_world.specs.declared.machine.Machine.TheInside.{Inside}
 use Rattle.jc_world.specs.World.{WorldState, stripe_for, is_join}
-use Rattle.jc_world.specs.Sound.{IsSoundWorld, IsHeld, AllWaitedFor, IsOwned, joined_once}
+use Rattle.jc_world.specs.Sound.{IsSoundWorld, IsHeld, AllWaitedFor, joined_once}
 use Rattle.jc_world.specs.Slots.{once}
 use Rattle.jc_world.specs.Inside.{world_of, IsKept}
 use Rattle.jc_world.specs.Ending.{IsLeft, AreLeft, out_at, IsEntryOut, AllOut, HasSlots, IsJoinOut, AllJoinsOut, HasJoins, NoneReserved}

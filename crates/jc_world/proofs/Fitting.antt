@@ -130,7 +130,7 @@ new_free w call key new old =
 -- a call's first phase, behind its beginning
 pub start_fits : (w : WorldState) → IsSoundWorld w → StartFits w
 start_fits w old call session command fit =
-    let u : Under = record { session = session; number = call; command = command } in
+    let u : Under = record { caller = record { session = session; call = call }; command = command } in
     let new : is_new w.last call ≡ true = (both _ _ (both _ _ fit).0).1 in
     let here : find (has_number call) (w.calls ++ u ∷ []) ≡ Some u =
     find-append (has_number call) w.calls (u ∷ []) ∙ ap (λ o. option_or o (find (has_number call) (u ∷ []))) (new_under w call new old) ∙ ap (λ b. cond b (Some u) None) (nat_eq_equiv.refl call)

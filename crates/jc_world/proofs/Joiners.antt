@@ -21,7 +21,7 @@ use Rattle.jc_model.proofs.Lookups.{both, same_key}
 use Rattle.jc_inflight.specs.declared.joiner.Joiner.{Joiner}
 use Rattle.jc_inflight.specs.declared.joiner.JoinState.{JoinState}
 use Rattle.jc_inflight.specs.declared.joiner.JoinState.TheVariants.{Waiting, Answered, Again}
-use Rattle.jc_inflight.specs.Joined.{is_of, is_waiting, waits_for, callers_of, is_joined as has_joined, joiner_of}
+use Rattle.jc_inflight.specs.Joined.{is_of, is_waiting, waits_for, callers_of, joiner_of}
 use Rattle.jc_inflight.specs.Resolving.{answered, answered_from}
 use Rattle.jc_inflight.specs.Dissolving.{dissolved}
 use Rattle.jc_stripe.specs.Tickets.{JoinClaim}

@@ -30,7 +30,7 @@ use Rattle.jc_world.specs.declared.event.Shown.TheVariants as shown
 use Rattle.jc_world.specs.declared.event.Under.{Under}
 use Rattle.jc_world.specs.declared.event.WorldEvent.{WorldEvent}
 use Rattle.jc_world.specs.declared.event.WorldEvent.TheVariants as event
-use Rattle.jc_world.specs.World.{WorldState, Parts, home, stripe_for, start, has_number, under, over, of_call, part_of, is_join, join_of, is_joined, unjoined, out_of}
+use Rattle.jc_world.specs.World.{WorldState, Parts, home, stripe_for, start, has_number, under, over, of_call, part_of, is_join, join_of, is_joined, unjoined}
 use Rattle.jc_world.specs.Events.{may_leave, fits, with_stripe, goes_on, call_over, new_part, without_part, with_join, Starts, Ends, Picks, Happens}
 use Rattle.jc_world.specs.Sound.{IsHeld, IsWaitedFor, AllWaitedFor, IsCalled, AllCalled, IsSoundWorld}
 use Rattle.jc_world.proofs.Halves.{HasJoins}

@@ -16,14 +16,12 @@ use Rattle.jc_model.specs.declared.event.Out.{Out}
 use Rattle.jc_model.specs.declared.event.Event.{Event}
 use Rattle.jc_model.specs.declared.event.Cause.{Cause}
 use Rattle.jc_model.specs.declared.event.LoadAnswer.{LoadAnswer}
-use Rattle.jc_model.specs.declared.event.Reply.{Reply}
 use Rattle.jc_model.specs.Cache.{Bytes, key_cmp, entry_at}
 use Rattle.jc_model.specs.Table.{is_load_given, is_write_given}
 use Rattle.jc_model.specs.Group.{Group, nothing_said, victim_events, step_event, step_place, shared_event, evicted_events, events_of}
 use Rattle.jc_model.proofs.Lookups.{both}
 use Rattle.jc_inflight.specs.Joined.{callers_of}
-use Rattle.jc_stripe.specs.declared.ticket.Reservation.{Reservation}
-use Rattle.jc_stripe.specs.declared.ticket.First.TheVariants.{Loader, Writer}
+use Rattle.jc_stripe.specs.declared.ticket.First.TheVariants.{Loader}
 use Rattle.jc_stripe.specs.Tickets.{JoinClaim, asks_loader}
 use Rattle.jc_stripe.specs.declared.begun.StepDone.{StepDone}
 use Rattle.jc_stripe.specs.Refusals.{reserves}
@@ -40,7 +38,7 @@ use Rattle.jc_world.specs.Premises.{read_answer, report_of}
 use Rattle.jc_world.specs.Events.{fits, new_part, step_of, Starts, Ends, Picks, Happens, Step, Run}
 use Rattle.jc_world.specs.Sound.{IsSoundWorld}
 use Rattle.jc_world.specs.Headline.{opened, is_answer, is_load, is_loaded}
-use Rattle.jc_world.proofs.Shares.{some_of, added}
+use Rattle.jc_world.proofs.Shares.{added}
 use Rattle.jc_world.proofs.Reservations.{was_free, writer_alone}
 use Rattle.jc_world.proofs.Callers.{part_key}
 use Rattle.jc_world.proofs.Entries.{split}

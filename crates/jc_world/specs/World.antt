@@ -1,4 +1,4 @@
--- A world: a state for each stripe, one store, the calls under way, and one order of all that was put down.
+-- A world: a state for each stripe, one store, the calls under way, and one order of all events.
 --     Parts                           by key, what the call that has reserved it asked and heard so far
 --     WorldState                      the world as a caller may know it
 --     home                            the number of the stripe that a key belongs to
@@ -28,7 +28,6 @@ use Rattle.std.specs.List.{list_any}
 use Rattle.std.specs.Cmp.Lexicographic.{pointwise}
 use Rattle.std.specs.FinMap.{FinMap, empty}
 use Rattle.std.specs.FinMap as map
-use Rattle.jc_types.specs.declared.caller.Caller.{Caller}
 use Rattle.jc_types.specs.declared.config.Config.{Config}
 use Rattle.jc_types.specs.Stripes.{stripe_of}
 use Rattle.jc_model.specs.declared.event.Event.{Event}
@@ -50,7 +49,7 @@ Parts = FinMap key_cmp Part
 pub record WorldState : Type 0 where
   pub config : Config
   pub stripes : List State
-  pub order : List Event  -- all that was put down, over all stripes
+  pub order : List Event  -- all events, over all stripes
   pub store : Cache
   pub fresh : Bool  -- no call has begun, and nobody else has written the store
   pub last : Option ℕ  -- the highest number of a call so far

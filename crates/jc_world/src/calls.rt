@@ -1,5 +1,5 @@
 //! The calls under way. A session has one at most, so there are never more than there are sessions.
-ghost use Rattle.std.specs.Prelude.{◌≡◌, true, find, option_copied, IsTrue};
+ghost use Rattle.std.specs.Prelude.{◌≡◌, true, find, option_copied};
 ghost use Rattle.std.specs.List.{list_any};
 ghost use Rattle.jc_world.specs.World.{has_number, is_of, over};
 ghost use Rattle.jc_world.specs.Events.{is_single, is_session, is_new};

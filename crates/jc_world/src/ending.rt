@@ -11,7 +11,12 @@ use jc_types::config::Config;
 use jc_types::key::stripe_of;
 
 /// Ends all reservations: what was answered is committed, and all else is given back.
-pub(crate) fn end_all(config: &Config, stripes: &mut Vec<Stripe>, mut slots: Vec<Slot>, joins: &[Join])
+pub(crate) fn end_all(
+    config: &Config,
+    stripes: &mut Vec<Stripe>,
+    mut slots: Vec<Slot>,
+    joins: &[Join],
+)
     requires left { AreLeft config.now stripes.old.items }
     requires slots { HasSlots config.now stripes.old.items slots.items }
     requires joins { HasJoins config.now stripes.old.items joins.now }

@@ -22,7 +22,7 @@ pub struct Command {
 pub enum WorldEvent {
     /// A session begins a call. It has no phase yet.
     ///
-    /// It fits where the number is above all before it, the session is one and has no call under way, and the operation is a call
+    /// It fits if the number is above all before it, the session is one and has no call under way, and the operation is a call
     /// by itself.
     Call {
         /// The call's number, which is to be above that of every call before it, of any session.
@@ -32,7 +32,7 @@ pub enum WorldEvent {
         /// What the call does.
         command: Command,
     },
-    /// The first phase of the call's key. It fits where the call has neither reserved the key nor joined its load: before its first
+    /// The first phase of the call's key. It fits if the call has neither reserved the key nor joined its load: before its first
     /// phase, and once it was told to retry or has given its reservation back.
     Start {
         /// The call's number.
@@ -40,14 +40,14 @@ pub enum WorldEvent {
         /// The call's key.
         key: Key,
     },
-    /// The loader reads the store, and its answer is kept for the commit. It fits where the loader is asked and hasn't answered.
+    /// The loader reads the store, and its answer is kept for the commit. It fits if the loader is asked and hasn't answered.
     Read {
         /// The number of the call that has the loader asked.
         call: u64,
         /// The key that the call has reserved.
         key: Key,
     },
-    /// The loader answers this, whatever the store holds. It fits where the loader is asked and hasn't answered.
+    /// The loader answers this, whatever the store holds. It fits if the loader is asked and hasn't answered.
     Say {
         /// The number of the call that has the loader asked.
         call: u64,
@@ -56,14 +56,14 @@ pub enum WorldEvent {
         /// What the loader answers: anything but `NotAsked`.
         answer: LoadAnswer,
     },
-    /// The writer changes the store, as it was asked. It fits where the writer is asked and hasn't returned, also once more.
+    /// The writer changes the store, as it was asked. It fits if the writer is asked and hasn't returned, also once more.
     Change {
         /// The number of the call that has the writer asked.
         call: u64,
         /// The key that the call has reserved.
         key: Key,
     },
-    /// The writer returns. It fits where the writer is asked for the call's key and hasn't returned, whether it has changed the
+    /// The writer returns. It fits if the writer is asked for the call's key and hasn't returned, whether it has changed the
     /// store or not.
     Report {
         /// The number of the call that has the writer asked.
@@ -71,21 +71,21 @@ pub enum WorldEvent {
         /// The code with which the writer failed, or none where it reports success.
         fault: Option<u32>,
     },
-    /// The last phase of the call's key. It fits where the one that was asked, loader or writer, has answered.
+    /// The last phase of the call's key. It fits if the one that was asked, loader or writer, has answered.
     Commit {
         /// The call's number.
         call: u64,
         /// The key that the call has reserved.
         key: Key,
     },
-    /// The reservation of the call's key is given back. It fits where nothing was said outside for it and nothing done.
+    /// The reservation of the call's key is given back. It fits if nothing was said outside for it and nothing done.
     Withdraw {
         /// The call's number.
         call: u64,
         /// The key that the call has reserved.
         key: Key,
     },
-    /// The call is over, without a reply. It fits where the call has neither reserved its key nor joined its load.
+    /// The call is over, without a reply. It fits if the call has neither reserved its key nor joined its load.
     Leave {
         /// The call's number.
         call: u64,

@@ -3,14 +3,14 @@ ghost use Rattle.std.specs.Prelude.{IsTrue, option_copied, ◌≡◌, ◌&&◌, 
 ghost use Rattle.std.specs.FinMap as map;
 ghost use Rattle.jc_types.specs.Limits.{checked};
 ghost use Rattle.jc_model.specs.Cache.{entry_at, with_entry};
-ghost use Rattle.jc_model.specs.Table.{is_load_given, holds};
+ghost use Rattle.jc_model.specs.Table.{holds};
 ghost use Rattle.jc_stripe.specs.declared.ticket.First.TheVariants.{Writer};
 ghost use Rattle.jc_model.specs.declared.event.Change.{Change};
 ghost use Rattle.jc_world.specs.declared.event.WorldEvent.TheVariants as event;
 ghost use Rattle.jc_world.specs.declared.event.Shown.TheVariants as shown;
 ghost use Rattle.jc_world.specs.declared.event.Part.{Part};
-ghost use Rattle.jc_world.specs.World.{start, is_busy, under, of_call, part_of, waits_for_load, waits_for_report, is_answered, is_joined, with_stored};
-ghost use Rattle.jc_world.specs.Premises.{read_answer, report_of, disturbed};
+ghost use Rattle.jc_world.specs.World.{start, is_busy, under, part_of, waits_for_load, waits_for_report, is_joined, with_stored};
+ghost use Rattle.jc_world.specs.Premises.{report_of, disturbed};
 ghost use Rattle.jc_world.specs.Events.{is_single, is_session, is_new, may_start, may_leave, is_free, may_report, fits, answered, changed, reported, Happens, Step};
 ghost use Rattle.jc_world.specs.Sound.{IsSoundWorld};
 ghost use Rattle.jc_world.specs.Coherent.{is_changed, all_hold, Coherent};
@@ -18,8 +18,8 @@ ghost use Rattle.jc_world.specs.Audit.{differs, differing, IsAudit};
 
 use crate::audit::{Audit, gather};
 use crate::calls::{drop_call, find_call, has_call, is_above, is_known, is_single_op};
-use crate::event::{Command, Part, PickedUp, Premises, Reported, Shown, Under, WorldEvent};
 use crate::ending::{end_all, pick_all};
+use crate::event::{Command, Part, PickedUp, Premises, Reported, Shown, Under, WorldEvent};
 use crate::joining::{has_joined, put_back, take_join};
 use crate::outside::{
     and_now, answer_of, entry_after, is_all_answered, is_honest_load, is_honest_report,

@@ -84,9 +84,7 @@ pub(crate) fn is_never_touched(part: Option<&Part>) -> bool
     ensures { result ≡ is_untouched (option_copied part.entry) }
 {
     match part {
-        Some(part) => {
-            !part.load.is_given() && !part.is_changed && !part.report.is_given()
-        }
+        Some(part) => { !part.load.is_given() && !part.is_changed && !part.report.is_given() }
         None => false,
     }
 }

@@ -55,16 +55,18 @@ fn append_in_room(order: &mut Vec<Event>, stripe: &Stripe, from: usize)
 {
     // Names the types of the values that a generic call moves here: the prover looks for their models in the types that a
     // function names.
-    let _types: Option<(
-        Op,
-        Out,
-        LoadAnswer,
-        WriteAnswer,
-        ProcessAnswer,
-        Effect,
-        Reply,
-        Value,
-    )> = None;
+    let _types: Option<
+        (
+            Op,
+            Out,
+            LoadAnswer,
+            WriteAnswer,
+            ProcessAnswer,
+            Effect,
+            Reply,
+            Value,
+        ),
+    > = None;
     for place in from..history_len(stripe) {
         push_in_room(order, stripe.event(place));
     }

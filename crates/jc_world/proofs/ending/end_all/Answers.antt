@@ -1,5 +1,4 @@
 use Rattle.std.proofs.Common.{◌≡◌, ◌++◌, ◌∷◌, [], ◌<◌, List, length, get_or, slice_set, ℕ, sym, ap, ◌∙◌, subst, arith, vec_len}
-use Rattle.jc_stripe.specs.State.{State}
 use Rattle.jc_types.specs.Stripes.{stripe_of}
 use Rattle.jc_model.specs.Cache.{Bytes}
 use Rattle.jc_world.specs.Ending.{AreLeft, HasSlots, HasJoins}

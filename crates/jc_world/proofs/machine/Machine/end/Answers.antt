@@ -1,6 +1,6 @@
-use Rattle.std.proofs.Common.{◌≡◌, ◌++◌, length, drop, List, Some, IsSomeAnd, true, is_some, slice_get, sym, subst, ap, ◌∙◌, refl}
+use Rattle.std.proofs.Common.{◌≡◌, ◌++◌, length, drop, Some, IsSomeAnd, true, is_some, slice_get, sym, subst, ap, ◌∙◌, refl}
 use Rattle.jc_model.specs.Cache.{entry_at}
-use Rattle.jc_stripe.specs.State.{State, IsOut}
+use Rattle.jc_stripe.specs.State.{IsOut}
 use Rattle.jc_stripe.specs.Phases.{Commits}
 use Rattle.jc_stripe.specs.declared.ticket.Origin.TheVariants.{Played}
 use Rattle.jc_world.specs.declared.event.Shown.TheVariants as shown
