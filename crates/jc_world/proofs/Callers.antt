@@ -30,9 +30,9 @@ use Rattle.jc_stripe.specs.declared.ticket.First.TheVariants.{Loader}
 use Rattle.jc_inflight.specs.declared.joiner.Joiner.{Joiner}
 use Rattle.jc_inflight.specs.declared.joiner.JoinState.{JoinState}
 use Rattle.jc_inflight.specs.declared.joiner.JoinState.TheVariants.{Waiting, Answered, Again}
-use Rattle.jc_inflight.specs.Joined.{is_of as is_joiner_of, is_waiting, waits_for, callers_of, joiner_of}
-use Rattle.jc_inflight.specs.Resolving.{resolved}
-use Rattle.jc_inflight.specs.Taking.{without}
+use Rattle.jc_inflight.specs.Joining.{belongs_to as is_joiner_of, is_waiting, waits_for, callers_of}
+use Rattle.jc_inflight.specs.Resolving.{after_resolve as resolved}
+use Rattle.jc_inflight.specs.Taking.{without_joiner as without}
 use Rattle.jc_stripe.specs.declared.begun.Picked.{Picked}
 use Rattle.jc_stripe.specs.declared.begun.Picked.TheVariants as picked
 use Rattle.jc_stripe.specs.Tickets.{Ticket, JoinClaim}
@@ -58,7 +58,7 @@ use Rattle.jc_world.proofs.Places.{at_stripe, stripe_put}
 use Rattle.jc_world.proofs.Reservations.{out_reserved, was_free, writer_alone}
 use Rattle.jc_world.proofs.Shares.{some_of, is_some_and, set_cases, all_filter, all_imply, found_test, turned_eq, Each, GoesOn, added, share_grows, share_stays, shape_same, shape_set, all_come, AllBy, by_map, by_group, added_order, numbers_added, none_added}
 use Rattle.jc_world.proofs.Underway.{found_number, find_over, fits_found, calls_filter, calls_on, each_found, elsewhere_found, up_self, up_more, numbers_more, none_new, calls_pushed, find_pushed, all_owned, each_owned, owned_pushed, owned_left, owned_found, others_left, test_owned, same_bytes, of_call-at, of_call-none}
-use Rattle.jc_world.proofs.Joiners.{unanswered, waited_found, told_resolved, told_waiting, told_dissolved, told_pushed, find_kept, each_own, each_caller, each_both, called_each, called_found, called_test, join_is, joined_no_part, other_call}
+use Rattle.jc_world.proofs.Joiners.{joiner_of, unanswered, waited_found, told_resolved, told_waiting, told_dissolved, told_pushed, find_kept, each_own, each_caller, each_both, called_each, called_found, called_test, join_is, joined_no_part, other_call}
 
 -- 1. What changes nothing of the callers' order.
 

@@ -20,7 +20,7 @@ use Rattle.jc_model.specs.Cache.{Bytes, key_cmp}
 use Rattle.jc_model.proofs.Lookups.{both, none_is}
 use Rattle.jc_inflight.specs.declared.joiner.Joiner.{Joiner}
 use Rattle.jc_inflight.specs.declared.joiner.JoinState.TheVariants.{Waiting}
-use Rattle.jc_inflight.specs.Joined.{is_of as is_joiner_of, joiner_of}
+use Rattle.jc_inflight.specs.Joining.{belongs_to as is_joiner_of}
 use Rattle.jc_stripe.specs.declared.begun.StepDone.{StepDone}
 use Rattle.jc_stripe.specs.declared.begun.Picked.{Picked}
 use Rattle.jc_stripe.specs.declared.begun.Picked.TheVariants as picked
@@ -43,7 +43,7 @@ use Rattle.jc_world.proofs.Places.{at_stripe}
 use Rattle.jc_world.proofs.Shares.{all, set_cases, length-slice_set, all_filter, all_imply, some_of}
 use Rattle.jc_world.proofs.Underway.{others_left, same_bytes, test_owned}
 use Rattle.jc_world.proofs.Reservations.{found_left}
-use Rattle.jc_world.proofs.Joiners.{find_kept, joined_resolved, joined_dissolved}
+use Rattle.jc_world.proofs.Joiners.{joiner_of, find_kept, joined_resolved, joined_dissolved}
 use Rattle.jc_world.proofs.Callers.{refuted}
 
 -- 1. The last of the slots.

@@ -21,9 +21,9 @@ use Rattle.jc_model.proofs.Lookups.{both, same_key}
 use Rattle.jc_inflight.specs.declared.joiner.Joiner.{Joiner}
 use Rattle.jc_inflight.specs.declared.joiner.JoinState.{JoinState}
 use Rattle.jc_inflight.specs.declared.joiner.JoinState.TheVariants.{Waiting, Answered, Again}
-use Rattle.jc_inflight.specs.Joined.{is_of, is_waiting, waits_for, callers_of, joiner_of}
-use Rattle.jc_inflight.specs.Resolving.{answered, answered_from}
-use Rattle.jc_inflight.specs.Dissolving.{dissolved}
+use Rattle.jc_inflight.specs.Joining.{belongs_to, is_waiting, waits_for, callers_of}
+use Rattle.jc_inflight.specs.Resolving.{with_answer, answered_from}
+use Rattle.jc_inflight.specs.Dissolving.{after_dissolve as dissolved}
 use Rattle.jc_stripe.specs.Tickets.{JoinClaim}
 use Rattle.jc_stripe.specs.Phases.{is_other_join}
 use Rattle.jc_stripe.specs.Reached.{are_apart}
@@ -33,6 +33,10 @@ use Rattle.jc_world.specs.World.{WorldState, Parts, under, of_call, part_of, is_
 use Rattle.jc_world.specs.Sound.{has_answer, is_told, IsWaitedFor, AllWaitedFor, joined_once, IsCalled, AllCalled}
 use Rattle.jc_world.proofs.Shares.{all, some_of, turned_eq, Each, each_map}
 use Rattle.jc_world.proofs.Underway.{same_bytes}
+
+-- the joiner of a caller at a key
+abbrev pub joiner_of : Caller → Bytes → List Joiner → Option Joiner
+joiner_of caller key joiners = find (belongs_to caller key) joiners
 
 -- 1. What is parked.
 
@@ -46,9 +50,9 @@ unanswered Again h k = cc
 pub told_resolved : (load step place : ℕ) (caller : Caller) (key : Bytes) (js : List Joiner) → is_told (joiner_of caller key js) ≡ true → is_told (joiner_of caller key (answered_from load step place js)) ≡ true
 told_resolved load step place caller key [] h = h
 told_resolved load step place caller key (x ∷ xs) h =
-    let p = is_of caller key in
-    elim (waits_for load x) as (λ b. is_told (find p (cond b (answered place step x ∷ answered_from load step (place + 1) xs) (x ∷ answered_from load step place xs))) ≡ true) [
-      | true ↦ elim (p x) as (λ b. is_told (cond b (Some x) (find p xs)) ≡ true → is_told (cond b (Some (answered place step x)) (find p (answered_from load step (place + 1) xs))) ≡ true) [
+    let p = belongs_to caller key in
+    elim (waits_for load x) as (λ b. is_told (find p (cond b (with_answer place step x ∷ answered_from load step (place + 1) xs) (x ∷ answered_from load step place xs))) ≡ true) [
+      | true ↦ elim (p x) as (λ b. is_told (cond b (Some x) (find p xs)) ≡ true → is_told (cond b (Some (with_answer place step x)) (find p (answered_from load step (place + 1) xs))) ≡ true) [
         | true ↦ λ h. refl
         | false ↦ λ h. told_resolved load step (place + 1) caller key xs h
       ] h
@@ -62,9 +66,9 @@ told_resolved load step place caller key (x ∷ xs) h =
 pub told_waiting : (load step place : ℕ) (caller : Caller) (key : Bytes) (js : List Joiner) (j : Joiner) → joiner_of caller key js ≡ Some j → waits_for load j ≡ true → is_told (joiner_of caller key (answered_from load step place js)) ≡ true
 told_waiting load step place caller key [] j h waits = cc
 told_waiting load step place caller key (x ∷ xs) j h waits =
-    let p = is_of caller key in
-    elim (waits_for load x) as (λ b. waits_for load x ≡ b → is_told (find p (cond b (answered place step x ∷ answered_from load step (place + 1) xs) (x ∷ answered_from load step place xs))) ≡ true) [
-      | true ↦ λ e. elim (p x) as (λ b. cond b (Some x) (find p xs) ≡ Some j → is_told (cond b (Some (answered place step x)) (find p (answered_from load step (place + 1) xs))) ≡ true) [
+    let p = belongs_to caller key in
+    elim (waits_for load x) as (λ b. waits_for load x ≡ b → is_told (find p (cond b (with_answer place step x ∷ answered_from load step (place + 1) xs) (x ∷ answered_from load step place xs))) ≡ true) [
+      | true ↦ λ e. elim (p x) as (λ b. cond b (Some x) (find p xs) ≡ Some j → is_told (cond b (Some (with_answer place step x)) (find p (answered_from load step (place + 1) xs))) ≡ true) [
         | true ↦ λ h. refl
         | false ↦ λ h. told_waiting load step (place + 1) caller key xs j h waits
       ] h
@@ -78,7 +82,7 @@ told_waiting load step place caller key (x ∷ xs) j h waits =
 pub told_dissolved : (load : ℕ) (caller : Caller) (key : Bytes) (js : List Joiner) → is_told (joiner_of caller key js) ≡ true → is_told (joiner_of caller key (dissolved load js)) ≡ true
 told_dissolved load caller key [] h = h
 told_dissolved load caller key (x ∷ xs) h =
-    let p = is_of caller key in
+    let p = belongs_to caller key in
     elim (waits_for load x) as (λ b. waits_for load x ≡ b → is_told (find p (cond b (record x { state = Again }) x ∷ dissolved load xs)) ≡ true) [
       | true ↦ λ e. elim (p x) as (λ b. is_told (cond b (Some x) (find p xs)) ≡ true → is_told (cond b (Some (record x { state = Again })) (find p (dissolved load xs))) ≡ true) [
         | true ↦ λ h. absurd (unanswered x.state (both (x.load == load) (is_waiting x.state) e).1 h)
@@ -94,7 +98,7 @@ told_dissolved load caller key (x ∷ xs) h =
 pub told_pushed : (caller : Caller) (key : Bytes) (js more : List Joiner) → is_told (joiner_of caller key js) ≡ true → is_told (joiner_of caller key (js ++ more)) ≡ true
 told_pushed caller key [] more h = cc
 told_pushed caller key (x ∷ xs) more h =
-    let p = is_of caller key in
+    let p = belongs_to caller key in
     elim (p x) as (λ b. is_told (cond b (Some x) (find p xs)) ≡ true → is_told (cond b (Some x) (find p (xs ++ more))) ≡ true) [
       | true ↦ λ h. h
       | false ↦ λ h. told_pushed caller key xs more h
@@ -128,7 +132,7 @@ any_kept p q (x ∷ xs) f h =
 -- 2. A joiner is found.
 
 -- two joiners that are apart are not one
-not_of : (x j : Joiner) → is_other_join x.caller x.key j ≡ true → is_of j.caller j.key x ≡ false
+not_of : (x j : Joiner) → is_other_join x.caller x.key j ≡ true → belongs_to j.caller j.key x ≡ false
 not_of x j h =
     (λ i. (turned_eq x.caller.session j.caller.session i && turned_eq x.caller.call j.caller.call i) && pointwise ◌==◌ j.key x.key)
     ∙ go (j.caller.session == x.caller.session) (j.caller.call == x.caller.call) (pointwise ◌==◌ j.key x.key) h
@@ -144,7 +148,7 @@ pub each_own : (js : List Joiner) → are_apart js ≡ true → Each (λ (j : Jo
 each_own [] h = tt
 each_own (x ∷ xs) h =
     let parts = both (list_all (is_other_join x.caller x.key) xs) (are_apart xs) h in (
-      ap (λ b. cond b (Some x) (find (is_of x.caller x.key) xs)) (all _ _ (all _ _ (nat_eq_equiv.refl x.caller.session) (nat_eq_equiv.refl x.caller.call)) (nat_list_eq_equiv.refl x.key)),
+      ap (λ b. cond b (Some x) (find (belongs_to x.caller x.key) xs)) (all _ _ (all _ _ (nat_eq_equiv.refl x.caller.session) (nat_eq_equiv.refl x.caller.call)) (nat_list_eq_equiv.refl x.key)),
       behind xs (each_own xs parts.1) parts.0,
     )
   where
@@ -152,7 +156,7 @@ each_own (x ∷ xs) h =
     behind [] h apart = tt
     behind (y ∷ ys) h apart =
         let parts = both (is_other_join x.caller x.key y) (list_all (is_other_join x.caller x.key) ys) apart in
-        (ap (λ b. cond b (Some x) (find (is_of y.caller y.key) xs)) (not_of x y parts.0) ∙ h.0, behind ys h.1 parts.1)
+        (ap (λ b. cond b (Some x) (find (belongs_to y.caller y.key) xs)) (not_of x y parts.0) ∙ h.0, behind ys h.1 parts.1)
 
 -- the callers of a load, from the joiners that wait for it
 pub each_caller : (P : Caller → Type 0) (load : ℕ) (js : List Joiner) → Each (λ (j : Joiner). waits_for load j ≡ true → P j.caller) js → Each (λ (c : Caller). P c) (callers_of load js)
@@ -166,12 +170,12 @@ each_caller P load (x ∷ xs) h =
 -- 3. A joiner is there.
 
 -- who has joined a load has joined it where some are answered
-pub joined_resolved : (P : Joiner → Type 0) (load step place : ℕ) (caller : Caller) (key : Bytes) (js : List Joiner) → ((place : ℕ) (x : Joiner) → P x → P (answered place step x)) → IsSomeAnd (joiner_of caller key js) P → IsSomeAnd (joiner_of caller key (answered_from load step place js)) P
+pub joined_resolved : (P : Joiner → Type 0) (load step place : ℕ) (caller : Caller) (key : Bytes) (js : List Joiner) → ((place : ℕ) (x : Joiner) → P x → P (with_answer place step x)) → IsSomeAnd (joiner_of caller key js) P → IsSomeAnd (joiner_of caller key (answered_from load step place js)) P
 joined_resolved P load step place caller key [] f h = h
 joined_resolved P load step place caller key (x ∷ xs) f h =
-    let p = is_of caller key in
-    elim (waits_for load x) as (λ b. IsSomeAnd (find p (cond b (answered place step x ∷ answered_from load step (place + 1) xs) (x ∷ answered_from load step place xs))) P) [
-      | true ↦ elim (p x) as (λ b. IsSomeAnd (cond b (Some x) (find p xs)) P → IsSomeAnd (cond b (Some (answered place step x)) (find p (answered_from load step (place + 1) xs))) P) [
+    let p = belongs_to caller key in
+    elim (waits_for load x) as (λ b. IsSomeAnd (find p (cond b (with_answer place step x ∷ answered_from load step (place + 1) xs) (x ∷ answered_from load step place xs))) P) [
+      | true ↦ elim (p x) as (λ b. IsSomeAnd (cond b (Some x) (find p xs)) P → IsSomeAnd (cond b (Some (with_answer place step x)) (find p (answered_from load step (place + 1) xs))) P) [
         | true ↦ λ h. f place x h
         | false ↦ λ h. joined_resolved P load step (place + 1) caller key xs f h
       ] h
@@ -185,7 +189,7 @@ joined_resolved P load step place caller key (x ∷ xs) f h =
 pub joined_dissolved : (P : Joiner → Type 0) (load : ℕ) (caller : Caller) (key : Bytes) (js : List Joiner) → ((x : Joiner) → P x → P (record x { state = Again })) → IsSomeAnd (joiner_of caller key js) P → IsSomeAnd (joiner_of caller key (dissolved load js)) P
 joined_dissolved P load caller key [] f h = h
 joined_dissolved P load caller key (x ∷ xs) f h =
-    let p = is_of caller key in
+    let p = belongs_to caller key in
     elim (waits_for load x) as (λ b. IsSomeAnd (find p (cond b (record x { state = Again }) x ∷ dissolved load xs)) P) [
       | true ↦ elim (p x) as (λ b. IsSomeAnd (cond b (Some x) (find p xs)) P → IsSomeAnd (cond b (Some (record x { state = Again })) (find p (dissolved load xs))) P) [
         | true ↦ λ h. f x h
@@ -238,7 +242,7 @@ called_all w n m (x ∷ xs) f h = (f x h.0, called_all w n m xs f h.1)
 pub called_resolved : (w : WorldState) (m load step place : ℕ) (js : List Joiner) → AllCalled w m js → AllCalled w m (answered_from load step place js)
 called_resolved w m load step place [] h = tt
 called_resolved w m load step place (x ∷ xs) h =
-    elim (waits_for load x) as (λ b. AllCalled w m (cond b (answered place step x ∷ answered_from load step (place + 1) xs) (x ∷ answered_from load step place xs))) [
+    elim (waits_for load x) as (λ b. AllCalled w m (cond b (with_answer place step x ∷ answered_from load step (place + 1) xs) (x ∷ answered_from load step place xs))) [
       | true ↦ (record { home_is = h.0.home_is; join = h.0.join; call = h.0.call }, called_resolved w m load step (place + 1) xs h.1)
       | false ↦ (h.0, called_resolved w m load step place xs h.1)
     ]

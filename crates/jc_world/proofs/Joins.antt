@@ -15,9 +15,9 @@ use Rattle.jc_model.specs.Cache.{Bytes, Cache}
 use Rattle.jc_model.proofs.Lookups.{both, none_is}
 use Rattle.jc_inflight.specs.declared.joiner.Joiner.{Joiner}
 use Rattle.jc_inflight.specs.declared.joiner.JoinState.TheVariants.{Waiting}
-use Rattle.jc_inflight.specs.Joined.{is_of as is_joiner_of, joiner_of}
-use Rattle.jc_inflight.specs.Resolving.{resolved}
-use Rattle.jc_inflight.specs.Taking.{without}
+use Rattle.jc_inflight.specs.Joining.{belongs_to as is_joiner_of}
+use Rattle.jc_inflight.specs.Resolving.{after_resolve as resolved}
+use Rattle.jc_inflight.specs.Taking.{without_joiner as without}
 use Rattle.jc_stripe.specs.declared.ticket.Reservation.{Reservation}
 use Rattle.jc_stripe.specs.Tickets.{Ticket, JoinClaim}
 use Rattle.jc_stripe.specs.State.{State, IsJoined}
@@ -37,7 +37,7 @@ use Rattle.jc_world.proofs.Halves.{HasJoins}
 use Rattle.jc_world.proofs.Places.{at_stripe, stripe_put}
 use Rattle.jc_world.proofs.Shares.{all, some_of, is_some_and, set_cases, turned_eq, found_test}
 use Rattle.jc_world.proofs.Underway.{found_number, find_over, find_pushed, of_call-at, same_bytes}
-use Rattle.jc_world.proofs.Joiners.{any_kept, any_front, any_last, joined_resolved, joined_dissolved, joined_front, joined_last, find_kept, called_found, called_on, called_all, called_resolved, called_dissolved, called_pushed, once_pushed, once_filter, waited_on, waited_all, waited_pushed, each_joined, join_is, joined_no_part, other_call, none_inserted, none_removed, part_other}
+use Rattle.jc_world.proofs.Joiners.{joiner_of, any_kept, any_front, any_last, joined_resolved, joined_dissolved, joined_front, joined_last, find_kept, called_found, called_on, called_all, called_resolved, called_dissolved, called_pushed, once_pushed, once_filter, waited_on, waited_all, waited_pushed, each_joined, join_is, joined_no_part, other_call, none_inserted, none_removed, part_other}
 use Rattle.jc_world.proofs.Callers.{MayStart, may_start_at, may_leave_at, start_is, refuted, Picking, picking}
 
 -- 1. What goes on.

@@ -22,7 +22,7 @@ use Rattle.jc_model.specs.Table.{entry_after, write_ask, holds, is_load_given, i
 use Rattle.jc_model.specs.Group.{nothing_said, write_only}
 use Rattle.jc_model.specs.Processor.{found_in}
 use Rattle.jc_model.proofs.Lookups.{both, same_key, get-with_entry}
-use Rattle.jc_inflight.specs.Joined.{callers_of}
+use Rattle.jc_inflight.specs.Joining.{callers_of}
 use Rattle.jc_stripe.specs.declared.ticket.Reservation.{Reservation}
 use Rattle.jc_stripe.specs.Tickets.{Ticket, JoinClaim, asks_loader, asks_writer}
 use Rattle.jc_stripe.specs.State.{State, without_key, is_reserved, is_key, new_reservation, IsOut}

@@ -10,7 +10,7 @@ use Rattle.jc_model.specs.declared.event.Cause.{Cause}
 use Rattle.jc_model.specs.Cache.{Bytes}
 use Rattle.jc_model.specs.Group.{Group, nothing_said, victim_events, step_event, step_place, shared_event, evicted_events, events_of}
 use Rattle.jc_inflight.specs.declared.joiner.Joiner.{Joiner}
-use Rattle.jc_inflight.specs.Joined.{waits_for, callers_of}
+use Rattle.jc_inflight.specs.Joining.{waits_for, callers_of}
 use Rattle.jc_stripe.specs.declared.begun.Begun.{Begun}
 use Rattle.jc_stripe.specs.declared.begun.Begun.TheVariants as begun
 use Rattle.jc_stripe.specs.declared.begun.StepDone.{StepDone}

@@ -20,7 +20,7 @@ use Rattle.jc_model.specs.Cache.{Bytes, key_cmp, entry_at}
 use Rattle.jc_model.specs.Table.{is_load_given, is_write_given}
 use Rattle.jc_model.specs.Group.{Group, nothing_said, victim_events, step_event, step_place, shared_event, evicted_events, events_of}
 use Rattle.jc_model.proofs.Lookups.{both}
-use Rattle.jc_inflight.specs.Joined.{callers_of}
+use Rattle.jc_inflight.specs.Joining.{callers_of}
 use Rattle.jc_stripe.specs.declared.ticket.First.TheVariants.{Loader}
 use Rattle.jc_stripe.specs.Tickets.{JoinClaim, asks_loader}
 use Rattle.jc_stripe.specs.declared.begun.StepDone.{StepDone}

@@ -23,7 +23,7 @@
 --     KeyTold                       as long as the premises hold: what is known of any key, by its part, the store's value and the
 --                                   cached one
 --     IsSoundWorld                  all of it; and while a world is fresh, nothing is cached, reserved, joined or under way
-use Rattle.std.specs.Prelude.{◌≡◌, ◌==◌, ℕ, List, [], ◌∷◌, length, Ok, Bool, true, false, not, ◌&&◌, ◌||◌, Option, None, Some, IfSome, IsSomeAnd, slice_get, nat_le, nat_lt}
+use Rattle.std.specs.Prelude.{◌≡◌, ◌==◌, ℕ, List, [], ◌∷◌, length, Ok, Bool, true, false, not, ◌&&◌, ◌||◌, Option, None, Some, IfSome, IsSomeAnd, find, slice_get, nat_le, nat_lt}
 use Rattle.std.specs.List.{list_all, list_any}
 use Rattle.std.specs.FinMap.{get}
 use Rattle.jc_types.specs.declared.caller.Caller.{Caller}
@@ -44,7 +44,7 @@ use Rattle.jc_stripe.specs.declared.ticket.Origin.TheVariants.{Played}
 use Rattle.jc_inflight.specs.declared.joiner.Joiner.{Joiner}
 use Rattle.jc_inflight.specs.declared.joiner.JoinState.{JoinState}
 use Rattle.jc_inflight.specs.declared.joiner.JoinState.TheVariants.{Waiting, Answered, Again}
-use Rattle.jc_inflight.specs.Joined.{joiner_of}
+use Rattle.jc_inflight.specs.Joining.{belongs_to}
 use Rattle.jc_stripe.specs.declared.ticket.Reservation.{Reservation}
 use Rattle.jc_stripe.specs.Tickets.{JoinClaim}
 use Rattle.jc_stripe.specs.State.{State, IsOut, IsJoined}
@@ -101,7 +101,7 @@ is_told (Some j) = has_answer j.state
 -- at the stripe of its key
 abbrev pub is_served_in : Option State → Under → Bool
 is_served_in None u = false
-is_served_in (Some s) u = is_told (joiner_of u.caller u.command.key s.joiners)
+is_served_in (Some s) u = is_told (find (belongs_to u.caller u.command.key) s.joiners)
 
 abbrev pub is_served : WorldState → Under → Bool
 is_served w u = is_served_in (stripe_for w u.command.key) u

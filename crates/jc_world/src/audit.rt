@@ -5,7 +5,7 @@ ghost use Rattle.jc_model.specs.Cache.{Bytes, key_cmp, entry_at};
 ghost use Rattle.jc_world.specs.Gathered.{or_else, found_after};
 
 use jc_model::contents::Contents;
-use jc_stripe::stripe::Stripe;
+use jc_stripe::Stripe;
 use jc_types::key::Key;
 use jc_types::value::Value;
 use std::alloc::{AllocError, Global};

@@ -3,10 +3,8 @@ ghost use Rattle.std.specs.Prelude.{◌≡◌};
 ghost use Rattle.jc_world.specs.Ending.{AreLeft, HasSlots, HasJoins, NoneReserved};
 
 use crate::slot::Slot;
-use jc_stripe::begun::Picked;
 use jc_stripe::phase_laws::stays_reached;
-use jc_stripe::stripe::Stripe;
-use jc_stripe::ticket::Join;
+use jc_stripe::{Join, Picked, Stripe};
 use jc_types::config::Config;
 use jc_types::key::stripe_of;
 

@@ -1,7 +1,6 @@
 //! What may happen in a world, what is shown of it, and what a world keeps of its calls.
 use jc_model::event::{Change, LoadAnswer, Op, Reply, WriteAnswer};
-use jc_stripe::begun::Eviction;
-use jc_stripe::ticket::Reservation;
+use jc_stripe::{Eviction, Reservation};
 use jc_types::caller::Caller;
 use jc_types::key::Key;
 use jc_types::refusal::Refusal;

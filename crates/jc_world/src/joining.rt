@@ -4,7 +4,7 @@ ghost use Rattle.std.specs.List.{list_any};
 ghost use Rattle.jc_world.specs.World.{is_join, unjoined};
 ghost use Rattle.jc_world.specs.Sound.{joined_once};
 
-use jc_stripe::ticket::Join;
+use jc_stripe::Join;
 use jc_types::key::Key;
 
 /// Where a call's join of a key is.

@@ -32,9 +32,7 @@ use crate::stripes::{
 };
 use jc_model::contents::Contents;
 use jc_model::event::{Change, Event, LoadAnswer, Op, WriteAnswer};
-use jc_stripe::begun::{Begun, Picked};
-use jc_stripe::stripe::Stripe;
-use jc_stripe::ticket::{First, Join};
+use jc_stripe::{Begun, First, Join, Picked, Stripe};
 use jc_types::caller::Caller;
 use jc_types::config::Config;
 use jc_types::key::{Key, stripe_of};

@@ -7,7 +7,7 @@ ghost use Rattle.jc_world.specs.Premises.{read_answer, changed_to, report_of, is
 
 use crate::event::Part;
 use jc_model::event::{Change, LoadAnswer, WriteAnswer};
-use jc_stripe::ticket::First;
+use jc_stripe::First;
 use jc_types::value::Value;
 
 /// Whether the loader's answer is a failure, or what the store holds.

@@ -15,9 +15,9 @@ ghost use Rattle.jc_world.specs.Slots.{is_under, once, parts_of, part_under};
 
 use crate::event::Part;
 use jc_model::event::{Change, LoadAnswer, WriteAnswer};
-use jc_stripe::begun::StepDone;
-use jc_stripe::stripe::Stripe;
-use jc_stripe::ticket::{First, LoadTicket, Reservation, WriteTicket, played_load, played_write};
+use jc_stripe::{
+    First, LoadTicket, Reservation, StepDone, Stripe, WriteTicket, played_load, played_write,
+};
 use jc_types::key::Key;
 use std::marker::Model;
 

@@ -16,9 +16,7 @@ use crate::event::{Stepped, Under};
 use crate::room::push_in_room;
 use crate::slot::Slot;
 use jc_model::event::{Effect, Event, LoadAnswer, Op, Out, ProcessAnswer, Reply, WriteAnswer};
-use jc_stripe::begun::{Begun, Picked, StepDone};
-use jc_stripe::stripe::Stripe;
-use jc_stripe::ticket::{Join, Origin};
+use jc_stripe::{Begun, Join, Origin, Picked, StepDone, Stripe};
 use jc_types::config::Config;
 use jc_types::limits::{JOINERS_MAX, STEP_PLACES};
 use jc_types::value::Value;
@@ -44,7 +42,7 @@ fn history_len(stripe: &Stripe) -> usize
     ensures len { result ≡ length stripe.now.history }
     ensures reached { IsReached stripe.now }
 {
-    stripe.len()
+    stripe.events_len()
 }
 
 /// Copies the events of a stripe's history, from a place on, to the end of an order that has room.

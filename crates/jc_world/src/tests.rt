@@ -5,7 +5,7 @@ use crate::event::{Command, Part, Under};
 use crate::world::World;
 use jc_model::event::{Change, Event, LoadAnswer, Op, Reply, WriteAnswer};
 use jc_model::legal::legal;
-use jc_stripe::ticket::{First, Reservation};
+use jc_stripe::{First, Reservation};
 use jc_types::caller::Caller;
 use jc_types::config::Field;
 use jc_types::limits::SESSIONS_MAX;

@@ -12,7 +12,7 @@ use crate::event::{Part, PickedUp, Reported, Shown, Stepped, Under, WorldEvent};
 use crate::machine::Machine;
 use crate::room::push_in_room;
 use jc_model::event::{Change, Event, LoadAnswer, Reply};
-use jc_stripe::begun::Eviction;
+use jc_stripe::Eviction;
 use jc_stripe::phase_laws::{keeps_reserved, stays_reached};
 use jc_types::config::Config;
 use jc_types::key::Key;

@@ -12,7 +12,7 @@ loop-stripe-init c key = ap (λ (o : Option Bytes). found_after o c.args.stripes
 pub loop-stripe-preserved : goal.loop-stripe-preserved
 loop-stripe-preserved c key =
     let listed : c.deref.result.now ≡ by_use c.stripe-item.result.opening c.stripe-item.result.history =
-    c.deref.ensures.value ∙ c.in_ok-entries.ensures.ok ∙ ap (λ es. es ++ by_use c.stripe-item.result.opening c.stripe-item.result.history) c.new-entries.ensures.items
+    c.deref.ensures.value ∙ c.in_ok-entries.ensures.by_use ∙ ap (λ es. es ++ by_use c.stripe-item.result.opening c.stripe-item.result.history) c.new-entries.ensures.items
     in
     found_next c.args.stripes.now c.loop-stripe.stripe-index c.stripe-item.result (entry_at c.loop-stripe.all key) (entry_at c.add_entries.new.all key) c.deref.result.now key
     c.loop-stripe-test.true c.stripe-item.is (ap (map.from_entries {R = key_cmp}) listed ∙ c.entries.ensures.cache) (c.in_ok-add_entries.ensures key)

@@ -22,8 +22,8 @@ index_mut-stripe-requires c =
     let len = c.picking.stripes.ok in
     subst (λ n. n < vec_len c.picking.stripes) (sym number) (omega arith)
 
-pub pick_up-requires-clause-out : goal.pick_up-requires-clause-out
-pick_up-requires-clause-out c =
+pub pick_up-requires : goal.pick_up-requires
+pick_up-requires c =
     let i = c.picking.invariant in
     let home = home_of_join c.args.config.now c.picking.stripes.items c.picking.joins.items c.pop.new.self.items c.in-Some.join c.index_mut-stripe.result.now c.in-Some.ensures.items i.left i.joins in
     home.made (c.index_mut-stripe.ensures.value ∙ ap (λ n. get_or c.picking.stripes.items n c.index_mut-stripe.result.now) (c.stripe_of-number.ensures ∙ ap (λ k. stripe_of k c.args.config.now.stripes) c.key.ensures))
