@@ -19,6 +19,8 @@ ghost use Rattle.jc_stripe.specs.OnePhase.{IsPhaseOf};
 ghost use Rattle.jc_stripe.specs.declared.ticket.First.TheVariants.{Nobody};
 
 mod testing;
+#[cfg(test)]
+mod tests;
 
 use crate::appending::{append_group, make_step};
 use crate::begun::{Begun, Picked, StepDone};
