@@ -13,7 +13,7 @@ use crate::grammar::read;
 use crate::line::{Act, Line};
 use crate::printing::{put, put_audit, put_texts};
 use jc_model::event::{LoadAnswer, WriteAnswer};
-use jc_stripe::ticket::First;
+use jc_stripe::First;
 use jc_types::config::Config;
 use jc_types::key::Key;
 use jc_types::refusal::Refusal;

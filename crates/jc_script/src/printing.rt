@@ -11,7 +11,7 @@ use jc_types::key::Key;
 use jc_types::refusal::Refusal;
 use jc_types::value::Value;
 use jc_world::audit::Audit;
-use jc_stripe::begun::Eviction;
+use jc_stripe::Eviction;
 use jc_world::event::{PickedUp, Reported, Shown, Stepped, WorldEvent};
 use std::alloc::AllocError;
 
