@@ -56,7 +56,7 @@ fn has_answers(part: Option<&Part>) -> bool
 {
     match part {
         Some(part) => match &part.reservation.first {
-            First::Nobody => false,
+            First::Nobody | First::Processor => false,
             First::Loader => !matches!(&part.load, LoadAnswer::NotAsked),
             First::Writer(_) => !matches!(&part.report, WriteAnswer::NotAsked),
         },
