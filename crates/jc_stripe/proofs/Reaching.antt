@@ -14,7 +14,8 @@ use Rattle.jc_model.specs.declared.event.Event.{Event}
 use Rattle.jc_model.specs.Cache.{Bytes, entry_at}
 use Rattle.jc_model.specs.Table.{entry_after}
 use Rattle.jc_model.specs.Group.{Group, nothing_said, events_of}
-use Rattle.jc_model.specs.Legal.{Legal, IsHistory, of_one_stripe, event_key}
+use Rattle.jc_model.specs.Legal.{Legal, IsHistory, event_key}
+use Rattle.jc_model.proofs.Openings.{opening_of}
 use Rattle.jc_model.proofs.Lookups.{both}
 use Rattle.jc_stripe.specs.declared.begun.Begun.{Begun}
 use Rattle.jc_stripe.specs.declared.begun.Begun.TheVariants as begun
@@ -40,15 +41,6 @@ use Rattle.jc_stripe.specs.declared.ticket.Reservation.{Reservation}
 
 -- 1. A reached state's history is legal.
 
-same_stripe : (stripes number : ℕ) (keys : List Bytes) → list_all (λ k. stripe_of k stripes == number) keys ≡ true → of_one_stripe stripes keys ≡ true
-same_stripe stripes number [] h = refl
-same_stripe stripes number (k ∷ ks) h =
-    let parts = both (stripe_of k stripes == number) (list_all (λ q. stripe_of q stripes == number) ks) h in
-    go ks (eqb-true (stripe_of k stripes) number parts.0) parts.1
-  where
-    go : (qs : List Bytes) → stripe_of k stripes ≡ number → list_all (λ q. stripe_of q stripes == number) qs ≡ true → list_all (λ q. stripe_of q stripes == stripe_of k stripes) qs ≡ true
-    go qs e h = ap (λ n. list_all (λ q. stripe_of q stripes == n) qs) e ∙ h
-
 pub reached_legal : (state : State) → IsReached state → Legal state.config state.opening state.history
 reached_legal state old =
     let P : List (Bytes × Bytes) → Type 0 = λ o. Legal state.config o state.history in
@@ -56,8 +48,9 @@ reached_legal state old =
     subst P (sym old.opening) (record {
       config_fits = old.config_fits;
       once = refl;
-      few = omega arith;
-      stripe = same_stripe state.config.stripes state.stripe (map event_key state.history) (list_all-map (λ k. stripe_of k state.config.stripes == state.stripe) event_key state.history ∙ old.own);
+      stripe = state.stripe;
+      opens = opening_of state.config state.stripe [] refl (omega arith) refl;
+      own = old.own;
       next = state.cache;
       history = let Q : List (Bytes × Bytes) → Type 0 = λ o. IsHistory state.config (from_entries o) state.history state.cache in subst Q old.opening legal;
     })

@@ -2,8 +2,17 @@
 --     all-map        a test of all that a list is mapped to
 --     all_not        one that fails a test at a place
 --     all_more       a test of the first ones, and of one more
-use Rattle.std.proofs.Common.{◌≡◌, ◌&&◌, ◌+◌, ℕ, zero, suc, List, [], ◌∷◌, map, take, Bool, true, false, Some, refl, sym, ap, ◌∙◌, slice_get, add-one}
+use Rattle.std.proofs.Common.{◌≡◌, ◌&&◌, ◌+◌, ℕ, zero, suc, List, [], ◌∷◌, map, take, Bool, true, false, cond, Option, None, Some, IsSomeAnd, find, option_map, ◌==◌, refl, sym, ap, ◌∙◌, slice_get, add-one}
+use Rattle.std.proofs.lemmas.Bool.{eqb-true}
 use Rattle.std.specs.List.{list_all}
+use Rattle.std.specs.Cmp.Lexicographic.{same_text}
+use Rattle.jc_model.specs.Cache.{Bytes}
+use Rattle.jc_inflight.specs.declared.joiner.Joiner.{Joiner}
+use Rattle.jc_reserve.specs.declared.held.Held.{Held}
+use Rattle.jc_reserve.specs.Reserving.{has_key}
+use Rattle.jc_stripe.specs.declared.ticket.Note.{Note}
+use Rattle.jc_stripe.specs.State.{is_key}
+use Rattle.jc_stripe.specs.Inside.{note_reservation}
 use Rattle.jc_stripe.proofs.Beside.{join_and}
 use Rattle.jc_model.proofs.Lookups.{both}
 
@@ -25,3 +34,41 @@ all_more p [] i x h t before = cc
 all_more p (y ∷ ys) zero x h t before = let is : y ≡ x = cc in join_and _ _ (ap p is ∙ t) refl
 all_more p (y ∷ ys) (suc i) x h t before =
     let parts = both (p y) (list_all p (take i ys)) before in join_and _ _ parts.0 (all_more p ys i x h t parts.1)
+
+-- what is found at a key is its reservation
+pub held_found : (key : Bytes) (hs : List (Held Note)) (number : ℕ) (note : Note) → option_map {U = ℕ × Note} (λ h. (h.reservation, h.note)) (find (has_key key) hs) ≡ Some (number, note)
+    → find (is_key key) (map note_reservation hs) ≡ Some (note_reservation (record { key = key; reservation = number; note = note }))
+held_found key [] number note h = cc
+held_found key (x ∷ xs) number note h =
+    elim (has_key key x) as (λ b. has_key key x ≡ b → option_map {U = ℕ × Note} (λ h. (h.reservation, h.note)) (cond b (Some x) (find (has_key key) xs)) ≡ Some (number, note)
+    → cond b (Some (note_reservation x)) (find (is_key key) (map note_reservation xs)) ≡ Some (note_reservation (record { key = key; reservation = number; note = note }))) [
+      | true ↦ λ e h.
+          let pair : ◌≡◌ {A = ℕ × Note} (x.reservation, x.note) (number, note) = cc in
+          let k : key ≡ x.key = same_text key x.key (sym e) in
+          λ i. Some (note_reservation (record { key = sym k i; reservation = (pair i).0; note = (pair i).1 }))
+      | false ↦ λ e h. held_found key xs number note h
+    ] refl h
+
+pub held_missing : (key : Bytes) (hs : List (Held Note)) → option_map {U = ℕ × Note} (λ h. (h.reservation, h.note)) (find (has_key key) hs) ≡ None → find (is_key key) (map note_reservation hs) ≡ None
+held_missing key [] h = refl
+held_missing key (x ∷ xs) h =
+    elim (has_key key x) as (λ b. option_map {U = ℕ × Note} (λ h. (h.reservation, h.note)) (cond b (Some x) (find (has_key key) xs)) ≡ None → cond b (Some (note_reservation x)) (find (is_key key) (map note_reservation xs)) ≡ None) [
+      | true ↦ λ h. cc
+      | false ↦ λ h. held_missing key xs h
+    ] h
+
+-- the load that a joiner has joined
+pub load_then : (o : Option Joiner) (load other : ℕ) → option_map (λ j. j.load) o ≡ Some load → (load == other) ≡ true → IsSomeAnd o (λ j. j.load ≡ other)
+load_then None load other h t = cc
+load_then (Some j) load other h t = let is : j.load ≡ load = cc in is ∙ eqb-true load other t
+
+pub load_back : (o : Option Joiner) (load other : ℕ) → option_map (λ j. j.load) o ≡ Some load → IsSomeAnd o (λ j. j.load ≡ other) → load ≡ other
+load_back None load other h t = cc
+load_back (Some j) load other h t = let is : j.load ≡ load = cc in sym is ∙ t
+
+pub no_load : (o : Option Joiner) (other : ℕ) → option_map (λ j. j.load) o ≡ None → IsSomeAnd o (λ j. j.load ≡ other) → ⊥
+no_load None other h t = t
+no_load (Some j) other h t = some_not j.load h
+  where
+    some_not : (load : ℕ) → Some load ≡ None → ⊥
+    some_not load h = cc

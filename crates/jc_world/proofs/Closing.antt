@@ -1,49 +1,362 @@
--- What is out when a world is closed: each slot's ticket and each join, in the stripe of its key.
-use Rattle.std.proofs.Common.{◌≡◌, List, [], ◌∷◌, Bool, true, cond, Option, None, Some, IsSomeAnd, All, is_none, sym, ap, ◌∙◌}
-use Rattle.std.proofs.lemmas.Cmp.{nat_list_cmp_total}
-use Rattle.std.proofs.lemmas.List.Elements.{All-nil, All-cons}
-use Rattle.std.specs.FinMap.{find, get-from_entries}
+-- The end of a world: each slot's reservation is over, and then each join.
+--     ended          one slot less, once its reservation is over
+--     none_reserved  with no slot left no key is reserved
+--     picked         one join less, once it has its answer
+--     never_waits    where no key is reserved no joiner waits
+--     slots_out, joins_out      what is out in a world that is sound
+use Rattle.std.proofs.Common.{inl, inr, ◌⊎◌, ◌≡◌, ◌==◌, ◌&&◌, ◌||◌, ◌+◌, ℕ, List, [], ◌∷◌, ◌++◌, length, Bool, true, false, cond, not, Option, None, Some, IsSomeAnd, is_none, is_some, option_map, slice_get, slice_set, get_or, ◌<◌, arith, refl, sym, ap, ◌∙◌, subst}
+use Rattle.std.specs.List.{list_all, list_any}
+use Rattle.std.specs.Ordering.{eq_by_cmp}
+use Rattle.std.specs.Cmp.{eq_by_cmp_equiv}
+use Rattle.std.specs.Cmp.Lexicographic.{pointwise, texts_ties}
+use Rattle.std.proofs.lemmas.Bool.{eq-eqb, eqb-true}
+use Rattle.std.proofs.lemmas.Cmp.{nat_list_cmp_total, nat_list_eq_equiv}
+use Rattle.std.specs.FinMap.{find, get, get-from_entries}
+use Rattle.std.proofs.Common.{find as find_in}
+use Rattle.jc_types.specs.declared.config.Config.{Config}
+use Rattle.jc_types.specs.Stripes.{stripe_of}
+use Rattle.jc_model.specs.declared.event.Out.{Out}
 use Rattle.jc_model.specs.Cache.{Bytes, key_cmp}
 use Rattle.jc_model.proofs.Lookups.{both, none_is}
-use Rattle.jc_stripe.specs.Claim.{JoinClaim}
-use Rattle.jc_stripe.specs.State.{State, Reserved, claimed, IsOut}
-use Rattle.jc_stripe.specs.Closed.{IsJoinedIn}
+use Rattle.jc_inflight.specs.declared.joiner.Joiner.{Joiner}
+use Rattle.jc_inflight.specs.declared.joiner.JoinState.TheVariants.{Waiting}
+use Rattle.jc_inflight.specs.Joining.{belongs_to as is_joiner_of}
+use Rattle.jc_stripe.specs.declared.begun.StepDone.{StepDone}
+use Rattle.jc_stripe.specs.declared.begun.Picked.{Picked}
+use Rattle.jc_stripe.specs.declared.begun.Picked.TheVariants as picked
+use Rattle.jc_stripe.specs.declared.ticket.Reservation.{Reservation}
+use Rattle.jc_stripe.specs.Tickets.{JoinClaim}
+use Rattle.jc_stripe.specs.State.{State, is_of, is_key, without_key, IsOut, IsJoined}
+use Rattle.jc_stripe.specs.Phases.{Commits, Withdraws, PicksUp, without_joiner}
+use Rattle.jc_stripe.specs.Reached.{JoinFits, AllJoin, IsReached}
+use Rattle.jc_stripe.specs.Laws.{StaysReached}
 use Rattle.jc_world.specs.declared.event.Part.{Part}
 use Rattle.jc_world.specs.declared.machine.Machine.TheInside.{Inside}
-use Rattle.jc_world.specs.World.{WorldState, home, stripe_for, claim_of}
-use Rattle.jc_world.specs.Sound.{IsSoundWorld, IsHeld, AllWaitedFor}
-use Rattle.jc_world.specs.Slots.{once, IsEntryOut}
+use Rattle.jc_world.specs.World.{WorldState, stripe_for, is_join}
+use Rattle.jc_world.specs.Sound.{IsSoundWorld, IsHeld, AllWaitedFor, joined_once}
+use Rattle.jc_world.specs.Slots.{once}
 use Rattle.jc_world.specs.Inside.{world_of, IsKept}
+use Rattle.jc_world.specs.Ending.{IsLeft, AreLeft, out_at, IsEntryOut, AllOut, HasSlots, IsJoinOut, AllJoinsOut, HasJoins, NoneReserved}
 use Rattle.jc_world.proofs.Listed.{Entry, tied, split}
+use Rattle.jc_world.proofs.Numbered.{within, at_index}
+use Rattle.jc_world.proofs.Places.{at_stripe}
+use Rattle.jc_world.proofs.Shares.{all, set_cases, length-slice_set, all_filter, all_imply, some_of}
+use Rattle.jc_world.proofs.Underway.{others_left, same_bytes, test_owned}
+use Rattle.jc_world.proofs.Reservations.{found_left}
+use Rattle.jc_world.proofs.Joiners.{joiner_of, find_kept, joined_resolved, joined_dissolved}
+use Rattle.jc_world.proofs.Callers.{refuted}
+
+-- 1. The last of the slots.
+
+-- a key that isn't found isn't the last one's, and isn't before it
+unfound_last : (key : Bytes) (xs : List Entry) (e : Entry) → find key_cmp key (xs ++ e ∷ []) ≡ None → (find key_cmp key xs ≡ None) × (eq_by_cmp key_cmp key e.0 ≡ false)
+unfound_last key [] e h = (refl, elim (eq_by_cmp key_cmp key e.0) as (λ b. cond b (Some e.1) None ≡ None → b ≡ false) [ true ↦ λ h. cc | false ↦ λ h. refl ] h)
+unfound_last key (x ∷ xs) e h =
+    elim (eq_by_cmp key_cmp key x.0) as (λ b. cond b (Some x.1) (find key_cmp key (xs ++ e ∷ [])) ≡ None → (cond b (Some x.1) (find key_cmp key xs) ≡ None) × (eq_by_cmp key_cmp key e.0 ≡ false)) [
+      | true ↦ λ h. cc
+      | false ↦ λ h. unfound_last key xs e h
+    ] h
+
+-- where no key stands twice, none does without the last
+once_left : (xs : List Entry) (e : Entry) → once (xs ++ e ∷ []) ≡ true → once xs ≡ true
+once_left [] e h = refl
+once_left (x ∷ xs) e h =
+    let parts = both (is_none (find key_cmp x.0 (xs ++ e ∷ []))) (once (xs ++ e ∷ [])) h in
+    all _ _ (ap is_none (unfound_last x.0 xs e (none_is _ parts.0)).0) (once_left xs e parts.1)
+
+-- the last slot's reservation is out, and so are the others
+last_out : (config : Config) (ss : List State) (xs : List Entry) (e : Entry) → AllOut config ss (xs ++ e ∷ []) → IsEntryOut config ss e
+last_out config ss [] e h = h.0
+last_out config ss (x ∷ xs) e h = last_out config ss xs e h.1
+
+others_out : (config : Config) (ss : List State) (xs : List Entry) (e : Entry) → AllOut config ss (xs ++ e ∷ []) → AllOut config ss xs
+others_out config ss [] e h = tt
+others_out config ss (x ∷ xs) e h = (h.0, others_out config ss xs e h.1)
+
+-- 2. A reservation that is over.
+
+-- what that leaves of its stripe
+pub record IsOver (key : Bytes) (from to : State) : Type 0 where
+  pub config_is : to.config ≡ from.config
+  pub number_is : to.stripe ≡ from.stripe
+  pub origin_is : to.origin ≡ from.origin
+  pub left : to.reservations ≡ without_key key from.reservations
+  pub joins : (j : JoinClaim) → IsJoined from j → IsJoined to j
+  pub reached : IsReached to
+
+-- its commit
+committed : StaysReached → (from to : State) (r : Reservation) (out : Out) (done : StepDone) → IsReached from → Commits from r out done to → IsOver r.key from to
+committed stays from to r out done reached h = record {
+  config_is = ap (λ (s : State). s.config) h.1.after;
+  number_is = ap (λ (s : State). s.stripe) h.1.after;
+  origin_is = ap (λ (s : State). s.origin) h.1.after;
+  left = ap (λ (s : State). s.reservations) h.1.after;
+  joins = λ j t.
+      let J : List Joiner → Type 0 = λ js. IsSomeAnd (joiner_of j.caller j.key js) (λ x. x.load ≡ j.load) in
+      subst J (sym (ap (λ (s : State). s.joiners) h.1.after)) (joined_resolved (λ x. x.load ≡ j.load) r.number done.place (done.place + 1) j.caller j.key from.joiners (λ place x k. k) t);
+  reached = stays.commits from to r out done reached h;
+}
+
+-- its withdrawal
+given_back : StaysReached → (from to : State) (r : Reservation) → IsReached from → Withdraws from r to → IsOver r.key from to
+given_back stays from to r reached h = record {
+  config_is = ap (λ (s : State). s.config) h.1;
+  number_is = ap (λ (s : State). s.stripe) h.1;
+  origin_is = ap (λ (s : State). s.origin) h.1;
+  left = ap (λ (s : State). s.reservations) h.1;
+  joins = λ j t.
+      let J : List Joiner → Type 0 = λ js. IsSomeAnd (joiner_of j.caller j.key js) (λ x. x.load ≡ j.load) in
+      subst J (sym (ap (λ (s : State). s.joiners) h.1)) (joined_dissolved (λ x. x.load ≡ j.load) r.number j.caller j.key from.joiners (λ x k. k) t);
+  reached = stays.withdraws from to r reached h;
+}
+
+-- the one or the other
+pub over : StaysReached → (from to : State) (r : Reservation) → IsReached from → ((out : Out) × (done : StepDone) × Commits from r out done to) ⊎ Withdraws from r to → IsOver r.key from to
+over stays from to r reached (inl h) = committed stays from to r h.0 h.1 reached h.2
+over stays from to r reached (inr h) = given_back stays from to r reached h
+
+-- the stripes are still reached
+pub left_set : (config : Config) (ss : List State) (n : ℕ) (from to : State) → AreLeft config ss → slice_get ss n ≡ Some from → to.config ≡ from.config → to.stripe ≡ from.stripe → to.origin ≡ from.origin → IsReached to → AreLeft config (slice_set ss n to)
+left_set config ss n from to left at config_is number_is origin_is reached =
+    let was = left.each n from at in
+    let now : IsLeft config n to = record { config_is = config_is ∙ was.config_is; number_is = number_is ∙ was.number_is; origin_is = origin_is ∙ was.origin_is; reached = reached } in
+    record {
+      count = length-slice_set ss n to ∙ left.count;
+      each = λ m s. set_cases ss n m to s
+          (λ same is. let P : ℕ → Type 0 = λ m. IsLeft config m s in let Q : State → Type 0 = λ s. IsLeft config n s in subst P same (subst Q is now))
+          (λ apart here. left.each m s here);
+    }
+
+-- the others are still out
+still_out : (config : Config) (ss : List State) (n : ℕ) (from to : State) (x e : Entry) → slice_get ss n ≡ Some from → IsOver e.0 from to → eq_by_cmp key_cmp x.0 e.0 ≡ false → IsEntryOut config ss x → IsEntryOut config (slice_set ss n to) x
+still_out config ss n from to x e at is apart =
+    let F : State → Type 0 = λ s. (x.1.reservation.key ≡ x.0) × IsOut s x.1.reservation in
+    at_stripe ss n (stripe_of x.0 config.stripes) from to (λ o y. IsSomeAnd o F → IsSomeAnd y F) at
+    (λ h.
+    let R : List Reservation → Type 0 = λ rs. find_in (is_key x.1.reservation.key) rs ≡ Some x.1.reservation in
+    (h.0, subst R (sym is.left) (found_left x.1.reservation.key e.0 from.reservations (ap (λ k. eq_by_cmp key_cmp k e.0) h.0 ∙ apart) ∙ h.1)))
+    (λ h. h)
+
+all_still : (config : Config) (ss : List State) (n : ℕ) (from to : State) (xs : List Entry) (e : Entry) → slice_get ss n ≡ Some from → IsOver e.0 from to → once (xs ++ e ∷ []) ≡ true → AllOut config ss xs → AllOut config (slice_set ss n to) xs
+all_still config ss n from to [] e at is o h = tt
+all_still config ss n from to (x ∷ xs) e at is o h =
+    let parts = both (is_none (find key_cmp x.0 (xs ++ e ∷ []))) (once (xs ++ e ∷ [])) o in
+    (still_out config ss n from to x e at is (unfound_last x.0 xs e (none_is _ parts.0)).1 h.0, all_still config ss n from to xs e at is parts.1 h.1)
+
+-- a key that is found, and isn't the last one's, is found before it
+found_before : (key : Bytes) (xs : List Entry) (e : Entry) → eq_by_cmp key_cmp key e.0 ≡ false → is_some (find key_cmp key (xs ++ e ∷ [])) ≡ true → is_some (find key_cmp key xs) ≡ true
+found_before key [] e apart h = let t : is_some {T = Part} None ≡ true = sym (ap (λ b. is_some (cond b (Some e.1) None)) apart) ∙ h in t
+found_before key (x ∷ xs) e apart h =
+    elim (eq_by_cmp key_cmp key x.0) as (λ b. is_some (cond b (Some x.1) (find key_cmp key (xs ++ e ∷ []))) ≡ true → is_some (cond b (Some x.1) (find key_cmp key xs)) ≡ true) [
+      | true ↦ λ h. refl
+      | false ↦ λ h. found_before key xs e apart h
+    ] h
+
+-- so each reservation of another key has its slot before it
+backs : (xs : List Entry) (e : Entry) (rs : List Reservation) → list_all (λ r. is_some (find key_cmp r.key (xs ++ e ∷ []))) rs ≡ true → list_all (λ r. not (is_key e.0 r)) rs ≡ true → list_all (λ r. is_some (find key_cmp r.key xs)) rs ≡ true
+backs xs e [] h k = refl
+backs xs e (r ∷ rs) h k =
+    let a = both (is_some (find key_cmp r.key (xs ++ e ∷ []))) (list_all (λ (r : Reservation). is_some (find key_cmp r.key (xs ++ e ∷ []))) rs) h in
+    let b = both (not (is_key e.0 r)) (list_all (λ (r : Reservation). not (is_key e.0 r)) rs) k in
+    all _ _ (found_before r.key xs e ((eq_by_cmp_equiv nat_list_cmp_total).symm r.key e.0 ∙ sym (texts_ties e.0 r.key) ∙ not_true (is_key e.0 r) b.0) a.0) (backs xs e rs a.1 b.1)
+  where
+    not_true : (b : Bool) → not b ≡ true → b ≡ false
+    not_true true h = cc
+    not_true false h = refl
+
+-- the reservations of another stripe are of other keys
+other_stripe : (config : Config) (key : Bytes) (m : ℕ) (s : State) (rs : List Reservation) → IsLeft config m s → (stripe_of key config.stripes ≡ m → ⊥) → list_all (λ r. is_of s r.key) rs ≡ true → list_all (λ r. not (is_key key r)) rs ≡ true
+other_stripe config key m s rs at apart = all_imply (λ (r : Reservation). is_of s r.key) (λ r. not (is_key key r)) rs (λ r mine. ap not (refuted (is_key key r) (λ same.
+    let keys = same_bytes key r.key same in
+    let number : stripe_of r.key s.config.stripes ≡ s.stripe = eqb-true (stripe_of r.key s.config.stripes) s.stripe mine in
+    apart (ap (λ k. stripe_of k config.stripes) keys ∙ ap (λ (c : Config). stripe_of r.key c.stripes) (sym at.config_is) ∙ number ∙ at.number_is))))
+
+-- one slot less
+pub ended : (config : Config) (ss : List State) (from to : State) (xs : List Entry) (e : Entry) → AreLeft config ss → slice_get ss (stripe_of e.0 config.stripes) ≡ Some from → IsOver e.0 from to → HasSlots config ss (xs ++ e ∷ [])
+    → HasSlots config (slice_set ss (stripe_of e.0 config.stripes) to) xs
+ended config ss from to xs e left at is h =
+    let n = stripe_of e.0 config.stripes in
+    record {
+      once_is = once_left xs e h.once_is;
+      out = all_still config ss n from to xs e at is h.once_is (others_out config ss xs e h.out);
+      back = λ m s. set_cases ss n m to s
+          (λ same here.
+          let B : List Reservation → Type 0 = λ rs. list_all (λ r. is_some (find key_cmp r.key xs)) rs ≡ true in
+          let some : list_all (λ r. is_some (find key_cmp r.key (xs ++ e ∷ []))) (without_key e.0 from.reservations) ≡ true =
+          all_filter (λ r. not (is_key e.0 r)) (λ r. is_some (find key_cmp r.key (xs ++ e ∷ []))) from.reservations (h.back n from at) in
+          subst B (sym is.left ∙ ap (λ (s : State). s.reservations) here) (backs xs e (without_key e.0 from.reservations) some (others_left e.0 from.reservations)))
+          (λ apart here. backs xs e s.reservations (h.back m s here) (other_stripe config e.0 m s s.reservations (left.each m s here) apart (left.each m s here).reached.keys));
+    }
+
+-- the joins are still out
+pub joins_kept : (config : Config) (ss : List State) (n : ℕ) (from to : State) (js : List JoinClaim) → slice_get ss n ≡ Some from → ((j : JoinClaim) → IsJoined from j → IsJoined to j) → HasJoins config ss js → HasJoins config (slice_set ss n to) js
+joins_kept config ss n from to js at keeps h = record { once_is = h.once_is; out = each js h.out }
+  where
+    each : (js : List JoinClaim) → AllJoinsOut config ss js → AllJoinsOut config (slice_set ss n to) js
+    each [] h = tt
+    each (j ∷ js) h =
+        let F : State → Type 0 = λ s. IsJoined s j in
+        (at_stripe ss n (stripe_of j.key config.stripes) from to (λ o y. IsSomeAnd o F → IsSomeAnd y F) at (keeps j) (λ h. h) h.0, each js h.1)
+
+-- with no slot left no key is reserved
+pub none_reserved : (config : Config) (ss : List State) → HasSlots config ss [] → NoneReserved ss
+none_reserved config ss h = λ n s at. nothing s.reservations (h.back n s at)
+  where
+    no_entries : List Entry
+    no_entries = []
+
+    nothing : (rs : List Reservation) → list_all (λ r. is_some (find key_cmp r.key no_entries)) rs ≡ true → rs ≡ []
+    nothing [] h = refl
+    nothing (r ∷ rs) h = cc
+
+-- 3. A join that has its answer.
+
+-- the last join is out, and so are the others
+pub last_join : (config : Config) (ss : List State) (js : List JoinClaim) (join : JoinClaim) → AllJoinsOut config ss (js ++ join ∷ []) → IsJoinOut config ss join
+last_join config ss [] join h = h.0
+last_join config ss (x ∷ xs) join h = last_join config ss xs join h.1
+
+-- where no key is reserved no joiner waits
+never : (s : State) (p : Joiner → Bool) (js : List Joiner) → s.reservations ≡ [] → AllJoin s js → option_map (λ (j : Joiner). j.state) (find_in p js) ≡ Some Waiting → ⊥
+never s p [] none fits h = cc
+never s p (x ∷ xs) none fits h =
+    elim (p x) as (λ b. option_map (λ (j : Joiner). j.state) (cond b (Some x) (find_in p xs)) ≡ Some Waiting → ⊥) [
+      | true ↦ λ h.
+          let is : x.state ≡ Waiting = cc in
+          let finds : JoinFits s x Waiting = subst (JoinFits s x) is fits.0 in
+          let t : None ≡ Some x.load = ap (λ (rs : List Reservation). Rattle.jc_stripe.specs.Refusals.load_at (find_in (is_key x.key) rs)) (sym none) ∙ finds.load in cc
+      | false ↦ λ h. never s p xs none fits.1 h
+    ] h
+
+pub never_waits : (s to : State) (join back : JoinClaim) → IsReached s → s.reservations ≡ [] → PicksUp s join (picked.NotYet back) to → ⊥
+never_waits s to join back reached none h = never s (is_joiner_of join.caller join.key) s.joiners none reached.joins h.1
+
+-- so a pick-up takes the joiner out
+pub picked_left : (from to : State) (join : JoinClaim) (p : Picked) → IsReached from → from.reservations ≡ [] → PicksUp from join p to → to ≡ without_joiner from join
+picked_left from to join (picked.Answer reply place shared_with) reached none h = h.3
+picked_left from to join picked.Again reached none h = h.2
+picked_left from to join (picked.NotYet back) reached none h = absurd (never_waits from to join back reached none h)
+
+-- a joiner of another call or key stays
+other_joined : (from : State) (join j : JoinClaim) → is_join j.caller.call j.key join ≡ false → IsJoined from j → IsJoined (without_joiner from join) j
+other_joined from join j apart h =
+    let J : Option Joiner → Type 0 = λ o. IsSomeAnd o (λ x. x.load ≡ j.load) in
+    subst J (sym (find_kept (is_joiner_of j.caller j.key) (λ x. not (is_joiner_of join.caller join.key x)) from.joiners (λ x t. ap not (refuted (is_joiner_of join.caller join.key x) (λ e.
+    let mine = parts_of_test j x t in
+    let same = parts_of_test join x e in
+    let its : is_join j.caller.call j.key join ≡ true = all _ _ (eq-eqb join.caller.call j.caller.call (sym same.0 ∙ mine.0)) (ap (pointwise ◌==◌ j.key) (sym same.1 ∙ mine.1) ∙ nat_list_eq_equiv.refl j.key) in
+    let t : true ≡ false = sym its ∙ apart in cc))))) h
+  where
+    parts_of_test : (j : JoinClaim) (x : Joiner) → is_joiner_of j.caller j.key x ≡ true → (x.caller.call ≡ j.caller.call) × (x.key ≡ j.key)
+    parts_of_test j x t =
+        let parts = both ((x.caller.session == j.caller.session) && (x.caller.call == j.caller.call)) (pointwise ◌==◌ j.key x.key) t in
+        (eqb-true x.caller.call j.caller.call (both (x.caller.session == j.caller.session) (x.caller.call == j.caller.call) parts.0).1, sym (same_bytes j.key x.key parts.1))
+
+-- none of a list passes a test where none of it and of one more does
+none_of : (p : JoinClaim → Bool) (xs : List JoinClaim) (y : JoinClaim) → not (list_any p (xs ++ y ∷ [])) ≡ true → (not (list_any p xs) ≡ true) × (p y ≡ false)
+none_of p [] y h = (refl, elim (p y) as (λ b. not (b || false) ≡ true → b ≡ false) [ true ↦ λ h. cc | false ↦ λ h. refl ] h)
+none_of p (x ∷ xs) y h = elim (p x) as (λ b. not (b || list_any p (xs ++ y ∷ [])) ≡ true → (not (b || list_any p xs) ≡ true) × (p y ≡ false)) [ true ↦ λ h. cc | false ↦ λ h. none_of p xs y h ] h
+
+-- one join less
+pub picked_up : (config : Config) (ss : List State) (from to : State) (js : List JoinClaim) (join : JoinClaim) → slice_get ss (stripe_of join.key config.stripes) ≡ Some from → to ≡ without_joiner from join → HasJoins config ss (js ++ join ∷ [])
+    → HasJoins config (slice_set ss (stripe_of join.key config.stripes) to) js
+picked_up config ss from to js join at is h = record { once_is = singles js h.once_is; out = each js h.once_is h.out }
+  where
+    n : ℕ
+    n = stripe_of join.key config.stripes
+
+    singles : (js : List JoinClaim) → joined_once (js ++ join ∷ []) ≡ true → joined_once js ≡ true
+    singles [] o = refl
+    singles (x ∷ xs) o =
+        let parts = both (not (list_any (is_join x.caller.call x.key) (xs ++ join ∷ []))) (joined_once (xs ++ join ∷ [])) o in
+        all _ _ (none_of (is_join x.caller.call x.key) xs join parts.0).0 (singles xs parts.1)
+
+    each : (js : List JoinClaim) → joined_once (js ++ join ∷ []) ≡ true → AllJoinsOut config ss (js ++ join ∷ []) → AllJoinsOut config (slice_set ss n to) js
+    each [] o h = tt
+    each (x ∷ xs) o h =
+        let parts = both (not (list_any (is_join x.caller.call x.key) (xs ++ join ∷ []))) (joined_once (xs ++ join ∷ [])) o in
+        let F : State → Type 0 = λ s. IsJoined s x in (
+          at_stripe ss n (stripe_of x.key config.stripes) from to (λ o y. IsSomeAnd o F → IsSomeAnd y F) at
+              (λ h. subst F (sym is) (other_joined from join x (none_of (is_join x.caller.call x.key) xs join parts.0).1 h)) (λ h. h) h.0,
+          each xs parts.1 h.1,
+        )
+
+-- and still no key is reserved
+pub none_set : (ss : List State) (n : ℕ) (from to : State) → slice_get ss n ≡ Some from → to.reservations ≡ from.reservations → NoneReserved ss → NoneReserved (slice_set ss n to)
+none_set ss n from to at same none = λ m s. set_cases ss n m to s (λ e is. ap (λ (s : State). s.reservations) (sym is) ∙ same ∙ none n from at) (λ apart here. none m s here)
+
+-- 4. The stripe of the last slot, and of the last join.
+
+-- what is known of it
+pub record IsHome (config : Config) (ss : List State) (key : Bytes) (from : State) (P : State → Type 0) : Type 0 where
+  pub some : 0 < config.stripes
+  pub within_is : stripe_of key config.stripes < length ss
+  pub at : from ≡ get_or ss (stripe_of key config.stripes) from → slice_get ss (stripe_of key config.stripes) ≡ Some from
+  pub made : from ≡ get_or ss (stripe_of key config.stripes) from → P from
+
+-- of a condition on it
+pub home_of : (config : Config) (ss : List State) (key : Bytes) (from : State) (P : State → Type 0) → AreLeft config ss → IsSomeAnd (out_at config ss key) P → IsHome config ss key from P
+home_of config ss key from P left h =
+    let n = stripe_of key config.stripes in
+    let in_it = within ss n P h in
+    let count = left.count in
+    record {
+      some = omega arith;
+      within_is = in_it;
+      at = λ is. at_index ss n from P h is;
+      made = λ is. let Q : Option State → Type 0 = λ o. IsSomeAnd o P in subst Q (at_index ss n from P h is) h;
+    }
+
+-- the home of the last slot
+pub home_of_slot : (config : Config) (ss : List State) (slots xs : List Entry) (e : Entry) (from : State) → slots ≡ xs ++ e ∷ [] → AreLeft config ss → HasSlots config ss slots
+    → IsHome config ss e.0 from (λ s. (e.1.reservation.key ≡ e.0) × IsOut s e.1.reservation)
+home_of_slot config ss slots xs e from is left h = home_of config ss e.0 from _ left (last_out config ss xs e (subst (AllOut config ss) is h.out))
+
+-- and of the last join
+pub home_of_join : (config : Config) (ss : List State) (joins xs : List JoinClaim) (join : JoinClaim) (from : State) → joins ≡ xs ++ join ∷ [] → AreLeft config ss → HasJoins config ss joins → IsHome config ss join.key from (λ s. IsJoined s join)
+home_of_join config ss joins xs join from is left h = home_of config ss join.key from _ left (last_join config ss xs join (subst (AllJoinsOut config ss) is h.out))
+
+-- 5. What is out in a world that is sound.
 
 -- what holds of each key's part holds of each slot, where no key stands twice
-each_slot : (P : Entry → Type 0) (slots : List Entry) → once slots ≡ true → ((key : Bytes) (part : Part) → find key_cmp key slots ≡ Some part → P (key, part)) → All P slots
-each_slot P [] o each = All-nil P
-each_slot P (x ∷ xs) o each =
+each_slot : (config : Config) (ss : List State) (slots : List Entry) → once slots ≡ true → ((key : Bytes) (part : Part) → find key_cmp key slots ≡ Some part → IsEntryOut config ss (key, part)) → AllOut config ss slots
+each_slot config ss [] o each = tt
+each_slot config ss (x ∷ xs) o each =
     let parts = both (is_none (find key_cmp x.0 xs)) (once xs) o in
-    let rest : (key : Bytes) (part : Part) → find key_cmp key xs ≡ Some part → P (key, part) = λ key part h. each key part (split key x.0 (λ (b : Bool). cond b (Some x.1) (find key_cmp key xs) ≡ Some part) (λ e. let twice : Some part ≡ None = sym h ∙ ap (λ k. find key_cmp k xs) e ∙ none_is _ parts.0 in cc) (λ e. h)) in
-    All-cons P x xs (each x.0 x.1 (ap (λ b. cond b (Some x.1) (find key_cmp x.0 xs)) (tied x.0))) (each_slot P xs parts.1 rest)
+    let rest : (key : Bytes) (part : Part) → find key_cmp key xs ≡ Some part → IsEntryOut config ss (key, part) = λ key part h.
+    each key part (split key x.0 (λ (b : Bool). cond b (Some x.1) (find key_cmp key xs) ≡ Some part) (λ e. let twice : Some part ≡ None = sym h ∙ ap (λ k. find key_cmp k xs) e ∙ none_is _ parts.0 in cc) (λ e. h))
+    in
+    (each x.0 x.1 (ap (λ b. cond b (Some x.1) (find key_cmp x.0 xs)) (tied x.0)), each_slot config ss xs parts.1 rest)
 
 -- a part has its reservation
-held_out : (w : WorldState) (key : Bytes) (part : Part) → IsSomeAnd (stripe_for w key) (λ s. IsHeld w s key part) → IsSomeAnd (stripe_for w key) (λ s. IsOut s (claim_of key part) part.first)
-held_out w key part h = go (stripe_for w key) h
-  where
-    asked : (o : Option Reserved) → IsSomeAnd o (λ r. (r.op ≡ part.op) × (r.first ≡ part.first) × (r.call ≡ part.call)) → IsSomeAnd o (λ r. r.first ≡ part.first)
-    asked None h = h
-    asked (Some r) h = h.1
+held_out : (w : WorldState) (key : Bytes) (part : Part) (o : Option State) → IsSomeAnd o (λ s. IsHeld w s key part) → IsSomeAnd o (λ s. (part.reservation.key ≡ key) × IsOut s part.reservation)
+held_out w key part None h = h
+held_out w key part (Some s) h = (h.key_is, h.out)
 
-    go : (o : Option State) → IsSomeAnd o (λ s. IsHeld w s key part) → IsSomeAnd o (λ s. IsOut s (claim_of key part) part.first)
-    go None h = h
-    go (Some s) h = asked (claimed s (claim_of key part)) h.out
+-- the stripes are reached
+pub all_left : (w : WorldState) → IsSoundWorld w → AreLeft w.config w.stripes
+all_left w sound = record {
+  count = sound.shape.count;
+  each = λ n s at. let h = sound.shape.each n s at in record { config_is = h.config_is; number_is = h.number_is; origin_is = h.origin_is; reached = h.reached };
+}
 
 -- each slot's ticket is out
-pub slots_out : (m : Inside) → IsKept m → IsSoundWorld (world_of m) → All (IsEntryOut m.stripes.items) m.slots.items
-slots_out m kept sound = each_slot (IsEntryOut m.stripes.items) m.slots.items kept (λ key part h. record {
-  place = home (world_of m) key;
-  out = held_out (world_of m) key part (sound.held key part (get-from_entries nat_list_cmp_total m.slots.items key ∙ h));
-})
+pub slots_out : (m : Inside) → IsKept m → IsSoundWorld (world_of m) → HasSlots m.config m.stripes.items m.slots.items
+slots_out m kept sound =
+    let w = world_of m in
+    let slots = m.slots.items in
+    record {
+      once_is = kept;
+      out = each_slot m.config m.stripes.items slots kept (λ key part h. held_out w key part (stripe_for w key) (sound.held key part (get-from_entries nat_list_cmp_total slots key ∙ h)));
+      back = λ n s at. test_owned w (λ r. is_some (find key_cmp r.key slots)) s.reservations (λ r h.
+          let part = some_of (get w.parts r.key) (λ part. part.reservation.caller.call ≡ r.caller.call) h.part in
+          ap is_some (sym (get-from_entries nat_list_cmp_total slots r.key) ∙ part.1)) (sound.owned n s at);
+    }
 
 -- each join is joined
-pub joins_out : (w : WorldState) (joins : List JoinClaim) → AllWaitedFor w joins → All (IsJoinedIn w.stripes) joins
-joins_out w [] waited = All-nil (IsJoinedIn w.stripes)
-joins_out w (j ∷ js) waited = All-cons (IsJoinedIn w.stripes) j js (record { place = home w j.key; joined = waited.0.out }) (joins_out w js waited.1)
+pub joins_out : (w : WorldState) → IsSoundWorld w → HasJoins w.config w.stripes w.joins
+joins_out w sound = record { once_is = sound.once; out = each w.joins sound.joins }
+  where
+    each : (joins : List JoinClaim) → AllWaitedFor w joins → AllJoinsOut w.config w.stripes joins
+    each [] h = tt
+    each (j ∷ js) h = (h.0.out, each js h.1)

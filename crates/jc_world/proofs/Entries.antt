@@ -1,9 +1,10 @@
 -- What a step leaves of each entry, and what of that the store says.
-use Rattle.std.proofs.Common.{◌≡◌, ◌==◌, ◌&&◌, ℕ, List, Bool, true, false, cond, Option, None, Some, is_some, is_none, refl, sym, ap, ◌∙◌, subst}
+use Rattle.std.proofs.Common.{◌≡◌, ◌==◌, ◌&&◌, List, Bool, true, false, cond, Option, None, Some, is_some, is_none, refl, sym, ap, ◌∙◌, subst}
 use Rattle.std.specs.Ordering.{eq_by_cmp}
 use Rattle.std.specs.Cmp.{eq_by_cmp_equiv}
 use Rattle.std.proofs.lemmas.Cmp.{nat_list_cmp_total}
 use Rattle.std.specs.FinMap.{remove, len, get-remove}
+use Rattle.jc_types.specs.declared.caller.Caller.{Caller}
 use Rattle.jc_types.specs.declared.config.Config.{Config}
 use Rattle.jc_model.specs.declared.event.Op.{Op}
 use Rattle.jc_model.specs.declared.event.Op.TheVariants.{Get, ContainsKey, Put, GetAndPut, PutIfAbsent, Remove, RemoveIf, GetAndRemove, Replace, ReplaceIf, GetAndReplace, Clear, LoadAll, Invoke}
@@ -14,18 +15,18 @@ use Rattle.jc_model.specs.declared.event.LoadAnswer.{LoadAnswer}
 use Rattle.jc_model.specs.declared.event.LoadAnswer.TheVariants as load
 use Rattle.jc_model.specs.declared.event.WriteAnswer.TheVariants as write
 use Rattle.jc_model.specs.declared.event.ProcessAnswer.TheVariants as process
-use Rattle.jc_model.specs.declared.event.Reply.{Reply}
 use Rattle.jc_model.specs.declared.event.Cause.{Cause}
 use Rattle.jc_model.specs.Cache.{Bytes, Cache, key_cmp, entry_at, with_entry}
-use Rattle.jc_model.specs.Table.{entry_after, write_ask, holds, entry_without_fault, ask_if}
+use Rattle.jc_model.specs.Table.{entry_after, write_ask, holds, entry_without_fault, ask_if, always_if}
 use Rattle.jc_model.specs.Group.{nothing_said, without_victim, without_own, write_only, load_only}
 use Rattle.jc_model.specs.Lawful.{loads_whole}
 use Rattle.jc_model.specs.Processor.{found_in}
 use Rattle.jc_model.proofs.Lookups.{both, none_is, same_key, get-with_entry}
+use Rattle.jc_stripe.specs.declared.begun.StepDone.{StepDone}
 use Rattle.jc_stripe.specs.State.{State}
-use Rattle.jc_stripe.specs.Refusals.{first_asked, loader_if, writer_if}
+use Rattle.jc_stripe.specs.Refusals.{first_asked, first_by, writer_for}
 use Rattle.jc_stripe.specs.OrderOfUse.{least_used}
-use Rattle.jc_stripe.specs.Phases.{Steps, group_made, overflows, victim_of}
+use Rattle.jc_stripe.specs.Phases.{Steps, new_group, overflows, victim}
 use Rattle.jc_stripe.specs.declared.ticket.First.TheVariants.{Nobody, Loader, Writer}
 use Rattle.jc_world.specs.Premises.{changed_to}
 use Rattle.jc_world.specs.Sound.{Agrees}
@@ -76,26 +77,26 @@ came : (a b c : Bool) → ((a && b) && c) ≡ true → a ≡ true
 came a b c h = (both a b ((both (a && b) c h).0)).0
 
 -- what the step finds at its key
-found_before : (s : State) (key : Bytes) (op : Op) (out : Out) → entry_at (without_victim s.cache (victim_of s key op out)) key ≡ entry_at s.cache key
+found_before : (s : State) (key : Bytes) (op : Op) (out : Out) → entry_at (without_victim s.cache (victim s key op out)) key ≡ entry_at s.cache key
 found_before s key op out =
     found_without s.cache key (overflows s key op out) (least_used s)
     (λ over. none_is (entry_at s.cache key) (came (is_none (entry_at s.cache key)) (is_some (entry_after op (entry_at s.cache key) out)) (len s.cache == s.config.capacity) over))
 
 -- a step's entries agree with what is stored where its own and the others' do
-pub agrees_stepped : (old new : State) (session call : ℕ) (key : Bytes) (op : Op) (out : Out) (callers : List (ℕ × ℕ)) (reply : Reply) (place : ℕ) (q : Bytes) (stored : Option Bytes) → Steps old session call key op out callers reply place new
+pub agrees_stepped : (old new : State) (caller : Caller) (key : Bytes) (op : Op) (out : Out) (callers : List Caller) (done : StepDone) (q : Bytes) (stored : Option Bytes) → Steps old caller key op out callers done new
     → Agrees (cond (eq_by_cmp key_cmp q key) (entry_after op (entry_at old.cache key) out) (entry_at old.cache q)) stored → Agrees (entry_at new.cache q) stored
-agrees_stepped old new session call key op out callers reply place q stored steps h =
+agrees_stepped old new caller key op out callers done q stored steps h =
     let P : State → Type 0 = λ s. Agrees (entry_at s.cache q) stored in
     let Q : Option Bytes → Type 0 = λ o. Agrees o stored in
-    let group = group_made old session call key op out callers steps.short in
-    let left : Cache = without_victim old.cache (victim_of old key op out) in
+    let group = new_group old caller key op out callers steps.short in
+    let left : Cache = without_victim old.cache (victim old key op out) in
     let found = found_before old key op out in
     let made : Agrees (cond (eq_by_cmp key_cmp q key) (entry_after op (entry_at left key) out) (entry_at left q)) stored =
     split q key (λ b. Agrees (cond b (entry_after op (entry_at old.cache key) out) (entry_at old.cache q)) stored → Agrees (cond b (entry_after op (entry_at left key) out) (entry_at left q)) stored)
     (λ same h. subst Q (ap (λ e. entry_after op e out) (sym found)) h)
-    (λ apart h. agrees_without old.cache (victim_of old key op out) q stored h) h
+    (λ apart h. agrees_without old.cache (victim old key op out) q stored h) h
     in
-    subst P (sym steps.goes_on)
+    subst P (sym steps.after)
     (agrees_evicted (with_entry left key (entry_after op (entry_at left key) out)) key group.evicted q stored (subst Q (sym (get-with_entry left key (entry_after op (entry_at left key) out) q)) made))
 
 -- 2. The tables: what a write leaves is what was asked for.
@@ -136,24 +137,25 @@ writes op entry change h = not_asked change _ h
 -- 3. Whom a call asks first.
 
 -- a writer that is asked is asked for this
-writer_is : (b : Bool) (asks : Option Change) (change : Change) → writer_if b asks ≡ Writer change → asks ≡ Some change
+writer_is : (b : Bool) (asks : Option Change) (change : Change) → writer_for (cond b asks None) ≡ Writer change → asks ≡ Some change
 writer_is true (Some asks) change h = cc
 writer_is true None change h = cc
 writer_is false asks change h = cc
 
 -- where the writer table is read, no loader is asked
-no_loader : (b : Bool) (asks : Option Change) (A : Type 0) → writer_if b asks ≡ Loader → A
+no_loader : (b : Bool) (asks : Option Change) (A : Type 0) → writer_for (cond b asks None) ≡ Loader → A
 no_loader true (Some asks) A h = cc
 no_loader true None A h = cc
 no_loader false asks A h = cc
 
 -- where the loader table is read, no writer is asked
-no_writer : (b : Bool) (change : Change) (A : Type 0) → loader_if b ≡ Writer change → A
-no_writer true change A h = cc
-no_writer false change A h = cc
+no_writer : (b write : Bool) (change : Change) (A : Type 0) → first_by (always_if b) (cond write None None) ≡ Writer change → A
+no_writer true write change A h = cc
+no_writer false true change A h = cc
+no_writer false false change A h = cc
 
 -- with write-through on, nobody is asked only where there is nothing to write
-unasked : (b : Bool) (asks : Option Change) → writer_if b asks ≡ Nobody → b ≡ true → asks ≡ None
+unasked : (b : Bool) (asks : Option Change) → writer_for (cond b asks None) ≡ Nobody → b ≡ true → asks ≡ None
 unasked true None h on = refl
 unasked true (Some asks) h on = cc
 unasked false asks h on = cc
@@ -162,12 +164,14 @@ unasked false asks h on = cc
 pub loads_asked : (config : Config) (op : Op) (entry : Option Bytes) → first_asked config op entry ≡ Loader → loads_whole op ≡ true
 loads_asked config Get entry h = refl
 loads_asked config (LoadAll replace) entry h = refl
-loads_asked config op entry h = no_loader _ _ _ h
+loads_asked config Invoke entry h = cc
+loads_asked config op entry h = no_loader config.write_through (write_ask op entry process.NotAsked) _ h
 
 -- the writer is asked first for what the operation asks for
 pub writes_asked : (config : Config) (op : Op) (entry : Option Bytes) (change : Change) → first_asked config op entry ≡ Writer change → write_ask op entry process.NotAsked ≡ Some change
-writes_asked config Get entry change h = no_writer _ change _ h
-writes_asked config (LoadAll replace) entry change h = no_writer _ change _ h
+writes_asked config Get entry change h = no_writer _ config.write_through change _ h
+writes_asked config (LoadAll replace) entry change h = no_writer _ config.write_through change _ h
+writes_asked config Invoke entry change h = cc
 writes_asked config op entry change h = writer_is config.write_through (write_ask op entry process.NotAsked) change h
 
 -- 4. What agrees with the store goes on to.
@@ -213,4 +217,5 @@ keeps Invoke entry stored h kept = kept
 pub asks_nobody : (config : Config) (op : Op) (entry stored : Option Bytes) → config.write_through ≡ true → first_asked config op entry ≡ Nobody → Agrees entry stored → Agrees (entry_after op entry nothing_said) stored
 asks_nobody config Get entry stored on h kept = kept
 asks_nobody config (LoadAll replace) entry stored on h kept = kept
+asks_nobody config Invoke entry stored on h kept = kept
 asks_nobody config op entry stored on h kept = keeps op entry stored (unasked config.write_through (write_ask op entry process.NotAsked) h on) kept

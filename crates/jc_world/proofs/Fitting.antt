@@ -68,7 +68,7 @@ one_fits w e fit = fits_then w e [] fit (λ seen mid happens. none_fit mid)
 -- once the writer has changed the store, it is still waited for
 still_waits : (call : ℕ) (o : Option Part) (part : Part) → of_call call o ≡ Some part → waits_for_report (of_call call o) ≡ true → waits_for_report (of_call call (Some (record part { is_changed = true }))) ≡ true
 still_waits call o part is waits =
-    ap (λ b. waits_for_report (cond b (Some (record part { is_changed = true })) None)) (eq-eqb part.call call (of_call-at call o part is).1)
+    ap (λ b. waits_for_report (cond b (Some (record part { is_changed = true })) None)) (eq-eqb part.reservation.caller.call call (of_call-at call o part is).1)
     ∙ sym (ap waits_for_report is) ∙ waits
 
 -- the writer's return, behind its change of the store
@@ -122,15 +122,15 @@ new_free w call key new old =
     (ap is_none (missing (part_of w call key) (λ part is.
     let at = of_call-at call (get w.parts key) part is in
     let held = some_of (stripe_for w key) (λ (s : State). IsHeld w s key part) (old.held key part at.0) in
-    nobody w call part.call (λ u. u.command.key ≡ key) none at.1 held.2.call)))
+    nobody w call part.reservation.caller.call (λ u. u.command.key ≡ key) none at.1 held.2.call)))
     (ap not (refuted (is_joined w call key) (λ joined.
     let j = join_any w (is_join call key) w.joins joined old.joins in
-    nobody w call j.0.call (λ u. (u.session ≡ j.0.session) × (u.command.key ≡ j.0.key)) none (join_is call key j.0 j.2).0 j.3.call)))
+    nobody w call j.0.caller.call (λ u. (u.caller.session ≡ j.0.caller.session) × (u.command.key ≡ j.0.key)) none (join_is call key j.0 j.2).0 j.3.call)))
 
 -- a call's first phase, behind its beginning
 pub start_fits : (w : WorldState) → IsSoundWorld w → StartFits w
 start_fits w old call session command fit =
-    let u : Under = record { session = session; number = call; command = command } in
+    let u : Under = record { caller = record { session = session; call = call }; command = command } in
     let new : is_new w.last call ≡ true = (both _ _ (both _ _ fit).0).1 in
     let here : find (has_number call) (w.calls ++ u ∷ []) ≡ Some u =
     find-append (has_number call) w.calls (u ∷ []) ∙ ap (λ o. option_or o (find (has_number call) (u ∷ []))) (new_under w call new old) ∙ ap (λ b. cond b (Some u) None) (nat_eq_equiv.refl call)

@@ -5,7 +5,7 @@
 --     agrees         an entry of a coherent world doesn't differ
 --     none_differ    so none does
 use Rattle.std.specs.Prelude.{T}
-use Rattle.std.proofs.Common.{◌≡◌, ◌==◌, ◌+◌, ◌%◌, ◌<◌, ℕ, zero, suc, sum, length, List, [], ◌∷◌, ◌++◌, Bool, true, false, cond, not, ◌&&◌, Option, None, Some, IfSome, filter, map, slice_get, get_or, drop, add-one, drop-cons, refl, sym, ap, ◌∙◌, subst, arith}
+use Rattle.std.proofs.Common.{◌≡◌, ◌==◌, ◌+◌, ◌%◌, ◌<◌, ℕ, zero, suc, length, List, [], ◌∷◌, ◌++◌, Bool, true, false, cond, not, ◌&&◌, Option, None, Some, IfSome, filter, map, slice_get, get_or, drop, add-one, drop-cons, refl, sym, ap, ◌∙◌, subst, arith}
 use Rattle.std.specs.List.{list_all}
 use Rattle.std.specs.declared.cmp.Ordering.{Ordering}
 use Rattle.std.specs.declared.cmp.Ordering.TheVariants.{Less, Equal, Greater}
@@ -18,6 +18,7 @@ use Rattle.std.proofs.lemmas.Bool.{ne_eqb}
 use Rattle.std.proofs.lemmas.Cmp.{nat_list_cmp_total}
 use Rattle.std.proofs.lemmas.List.Folds.{list_all-append}
 use Rattle.jc_types.specs.declared.config.Config.{Config}
+use Rattle.jc_types.specs.Stripes.{stripe_of}
 use Rattle.jc_model.specs.declared.event.Event.{Event}
 use Rattle.jc_model.specs.declared.event.Cause.{Cause}
 use Rattle.jc_model.specs.Cache.{Bytes, Cache, key_cmp, entry_at}
@@ -126,7 +127,7 @@ pub gathered : (w : WorldState) (key : Bytes) → IsSoundWorld w → found_after
 gathered w key old =
     found_one None w.stripes key (home w key) (λ i s at apart.
     let h = old.shape.each i s at in
-    homes s key h.reached (ap (λ (c : Config). sum key % c.stripes == s.number) h.config_is ∙ ap (λ n. home w key == n) h.number_is ∙ ne_eqb (home w key) i apart))
+    homes s key h.reached (ap (λ (c : Config). stripe_of key c.stripes == s.stripe) h.config_is ∙ ap (λ n. home w key == n) h.number_is ∙ ne_eqb (home w key) i apart))
     ∙ or_none (cached w key)
 
 -- the entries of a further stripe

@@ -15,18 +15,17 @@ use Rattle.std.specs.Cmp.Lexicographic.{pointwise}
 use Rattle.std.specs.FinMap.{get, insert, remove, get-insert, get-remove}
 use Rattle.std.proofs.lemmas.Bool.{eqb-true}
 use Rattle.std.proofs.lemmas.Cmp.{nat_list_cmp_total, nat_eq_equiv, nat_list_eq_equiv}
+use Rattle.jc_types.specs.declared.caller.Caller.{Caller}
 use Rattle.jc_model.specs.Cache.{Bytes, key_cmp}
 use Rattle.jc_model.proofs.Lookups.{both, same_key}
 use Rattle.jc_inflight.specs.declared.joiner.Joiner.{Joiner}
 use Rattle.jc_inflight.specs.declared.joiner.JoinState.{JoinState}
-use Rattle.jc_inflight.specs.declared.joiner.JoinState.TheVariants.{Waiting, Parked}
-use Rattle.jc_inflight.specs.declared.joiner.Parked.TheVariants as parked
-use Rattle.jc_inflight.specs.Joined.{is_of, is_waiting, waits_for, callers_of, is_joined as has_joined}
-use Rattle.jc_inflight.specs.Resolving.{answered, answered_from}
-use Rattle.jc_inflight.specs.Dissolving.{dissolved}
-use Rattle.jc_inflight.specs.Taking.{joiner_of}
-use Rattle.jc_stripe.specs.Claim.{JoinClaim}
-use Rattle.jc_stripe.specs.Phases.{is_apart}
+use Rattle.jc_inflight.specs.declared.joiner.JoinState.TheVariants.{Waiting, Answered, Again}
+use Rattle.jc_inflight.specs.Joining.{belongs_to, is_waiting, waits_for, callers_of}
+use Rattle.jc_inflight.specs.Resolving.{with_answer, answered_from}
+use Rattle.jc_inflight.specs.Dissolving.{after_dissolve as dissolved}
+use Rattle.jc_stripe.specs.Tickets.{JoinClaim}
+use Rattle.jc_stripe.specs.Phases.{is_other_join}
 use Rattle.jc_stripe.specs.Reached.{are_apart}
 use Rattle.jc_world.specs.declared.event.Under.{Under}
 use Rattle.jc_world.specs.declared.event.Part.{Part}
@@ -35,69 +34,74 @@ use Rattle.jc_world.specs.Sound.{has_answer, is_told, IsWaitedFor, AllWaitedFor,
 use Rattle.jc_world.proofs.Shares.{all, some_of, turned_eq, Each, each_map}
 use Rattle.jc_world.proofs.Underway.{same_bytes}
 
+-- the joiner of a caller at a key
+abbrev pub joiner_of : Caller → Bytes → List Joiner → Option Joiner
+joiner_of caller key joiners = find (belongs_to caller key) joiners
+
 -- 1. What is parked.
 
 -- what waits has no answer
 pub unanswered : (s : JoinState) → is_waiting s ≡ true → has_answer s ≡ true → ⊥
 unanswered Waiting h k = cc
-unanswered (Parked p) h k = cc
+unanswered (Answered place shared) h k = cc
+unanswered Again h k = cc
 
 -- an answer that is parked stays where others are parked
-pub told_resolved : (load step place session number : ℕ) (key : Bytes) (js : List Joiner) → is_told (joiner_of session number key js) ≡ true → is_told (joiner_of session number key (answered_from load step place js)) ≡ true
-told_resolved load step place session number key [] h = h
-told_resolved load step place session number key (x ∷ xs) h =
-    let p = is_of session number key in
-    elim (waits_for load x) as (λ b. is_told (find p (cond b (answered place step x ∷ answered_from load step (place + 1) xs) (x ∷ answered_from load step place xs))) ≡ true) [
-      | true ↦ elim (p x) as (λ b. is_told (cond b (Some x) (find p xs)) ≡ true → is_told (cond b (Some (answered place step x)) (find p (answered_from load step (place + 1) xs))) ≡ true) [
+pub told_resolved : (load step place : ℕ) (caller : Caller) (key : Bytes) (js : List Joiner) → is_told (joiner_of caller key js) ≡ true → is_told (joiner_of caller key (answered_from load step place js)) ≡ true
+told_resolved load step place caller key [] h = h
+told_resolved load step place caller key (x ∷ xs) h =
+    let p = belongs_to caller key in
+    elim (waits_for load x) as (λ b. is_told (find p (cond b (with_answer place step x ∷ answered_from load step (place + 1) xs) (x ∷ answered_from load step place xs))) ≡ true) [
+      | true ↦ elim (p x) as (λ b. is_told (cond b (Some x) (find p xs)) ≡ true → is_told (cond b (Some (with_answer place step x)) (find p (answered_from load step (place + 1) xs))) ≡ true) [
         | true ↦ λ h. refl
-        | false ↦ λ h. told_resolved load step (place + 1) session number key xs h
+        | false ↦ λ h. told_resolved load step (place + 1) caller key xs h
       ] h
       | false ↦ elim (p x) as (λ b. is_told (cond b (Some x) (find p xs)) ≡ true → is_told (cond b (Some x) (find p (answered_from load step place xs))) ≡ true) [
         | true ↦ λ h. h
-        | false ↦ λ h. told_resolved load step place session number key xs h
+        | false ↦ λ h. told_resolved load step place caller key xs h
       ] h
     ]
 
 -- one that is found and waits for the load gets its answer
-pub told_waiting : (load step place session number : ℕ) (key : Bytes) (js : List Joiner) (j : Joiner) → joiner_of session number key js ≡ Some j → waits_for load j ≡ true → is_told (joiner_of session number key (answered_from load step place js)) ≡ true
-told_waiting load step place session number key [] j h waits = cc
-told_waiting load step place session number key (x ∷ xs) j h waits =
-    let p = is_of session number key in
-    elim (waits_for load x) as (λ b. waits_for load x ≡ b → is_told (find p (cond b (answered place step x ∷ answered_from load step (place + 1) xs) (x ∷ answered_from load step place xs))) ≡ true) [
-      | true ↦ λ e. elim (p x) as (λ b. cond b (Some x) (find p xs) ≡ Some j → is_told (cond b (Some (answered place step x)) (find p (answered_from load step (place + 1) xs))) ≡ true) [
+pub told_waiting : (load step place : ℕ) (caller : Caller) (key : Bytes) (js : List Joiner) (j : Joiner) → joiner_of caller key js ≡ Some j → waits_for load j ≡ true → is_told (joiner_of caller key (answered_from load step place js)) ≡ true
+told_waiting load step place caller key [] j h waits = cc
+told_waiting load step place caller key (x ∷ xs) j h waits =
+    let p = belongs_to caller key in
+    elim (waits_for load x) as (λ b. waits_for load x ≡ b → is_told (find p (cond b (with_answer place step x ∷ answered_from load step (place + 1) xs) (x ∷ answered_from load step place xs))) ≡ true) [
+      | true ↦ λ e. elim (p x) as (λ b. cond b (Some x) (find p xs) ≡ Some j → is_told (cond b (Some (with_answer place step x)) (find p (answered_from load step (place + 1) xs))) ≡ true) [
         | true ↦ λ h. refl
-        | false ↦ λ h. told_waiting load step (place + 1) session number key xs j h waits
+        | false ↦ λ h. told_waiting load step (place + 1) caller key xs j h waits
       ] h
       | false ↦ λ e. elim (p x) as (λ b. cond b (Some x) (find p xs) ≡ Some j → is_told (cond b (Some x) (find p (answered_from load step place xs))) ≡ true) [
         | true ↦ λ h. let is : x ≡ j = cc in let t : true ≡ false = sym waits ∙ ap (waits_for load) (sym is) ∙ e in cc
-        | false ↦ λ h. told_waiting load step place session number key xs j h waits
+        | false ↦ λ h. told_waiting load step place caller key xs j h waits
       ] h
     ] refl
 
 -- an answer that is parked stays where a load is withdrawn
-pub told_dissolved : (load session number : ℕ) (key : Bytes) (js : List Joiner) → is_told (joiner_of session number key js) ≡ true → is_told (joiner_of session number key (dissolved load js)) ≡ true
-told_dissolved load session number key [] h = h
-told_dissolved load session number key (x ∷ xs) h =
-    let p = is_of session number key in
-    elim (waits_for load x) as (λ b. waits_for load x ≡ b → is_told (find p (cond b (record x { state = Parked parked.Again }) x ∷ dissolved load xs)) ≡ true) [
-      | true ↦ λ e. elim (p x) as (λ b. is_told (cond b (Some x) (find p xs)) ≡ true → is_told (cond b (Some (record x { state = Parked parked.Again })) (find p (dissolved load xs))) ≡ true) [
+pub told_dissolved : (load : ℕ) (caller : Caller) (key : Bytes) (js : List Joiner) → is_told (joiner_of caller key js) ≡ true → is_told (joiner_of caller key (dissolved load js)) ≡ true
+told_dissolved load caller key [] h = h
+told_dissolved load caller key (x ∷ xs) h =
+    let p = belongs_to caller key in
+    elim (waits_for load x) as (λ b. waits_for load x ≡ b → is_told (find p (cond b (record x { state = Again }) x ∷ dissolved load xs)) ≡ true) [
+      | true ↦ λ e. elim (p x) as (λ b. is_told (cond b (Some x) (find p xs)) ≡ true → is_told (cond b (Some (record x { state = Again })) (find p (dissolved load xs))) ≡ true) [
         | true ↦ λ h. absurd (unanswered x.state (both (x.load == load) (is_waiting x.state) e).1 h)
-        | false ↦ λ h. told_dissolved load session number key xs h
+        | false ↦ λ h. told_dissolved load caller key xs h
       ] h
       | false ↦ λ e. elim (p x) as (λ b. is_told (cond b (Some x) (find p xs)) ≡ true → is_told (cond b (Some x) (find p (dissolved load xs))) ≡ true) [
         | true ↦ λ h. h
-        | false ↦ λ h. told_dissolved load session number key xs h
+        | false ↦ λ h. told_dissolved load caller key xs h
       ] h
     ] refl
 
 -- and where one more joins
-pub told_pushed : (session number : ℕ) (key : Bytes) (js more : List Joiner) → is_told (joiner_of session number key js) ≡ true → is_told (joiner_of session number key (js ++ more)) ≡ true
-told_pushed session number key [] more h = cc
-told_pushed session number key (x ∷ xs) more h =
-    let p = is_of session number key in
+pub told_pushed : (caller : Caller) (key : Bytes) (js more : List Joiner) → is_told (joiner_of caller key js) ≡ true → is_told (joiner_of caller key (js ++ more)) ≡ true
+told_pushed caller key [] more h = cc
+told_pushed caller key (x ∷ xs) more h =
+    let p = belongs_to caller key in
     elim (p x) as (λ b. is_told (cond b (Some x) (find p xs)) ≡ true → is_told (cond b (Some x) (find p (xs ++ more))) ≡ true) [
       | true ↦ λ h. h
-      | false ↦ λ h. told_pushed session number key xs more h
+      | false ↦ λ h. told_pushed caller key xs more h
     ] h
 
 -- what passes one test is found among what passes another that follows
@@ -128,10 +132,10 @@ any_kept p q (x ∷ xs) f h =
 -- 2. A joiner is found.
 
 -- two joiners that are apart are not one
-not_of : (x j : Joiner) → is_apart x.session x.number x.key j ≡ true → is_of j.session j.number j.key x ≡ false
+not_of : (x j : Joiner) → is_other_join x.caller x.key j ≡ true → belongs_to j.caller j.key x ≡ false
 not_of x j h =
-    (λ i. (turned_eq x.session j.session i && turned_eq x.number j.number i) && pointwise ◌==◌ j.key x.key)
-    ∙ go (j.session == x.session) (j.number == x.number) (pointwise ◌==◌ j.key x.key) h
+    (λ i. (turned_eq x.caller.session j.caller.session i && turned_eq x.caller.call j.caller.call i) && pointwise ◌==◌ j.key x.key)
+    ∙ go (j.caller.session == x.caller.session) (j.caller.call == x.caller.call) (pointwise ◌==◌ j.key x.key) h
   where
     go : (s n k : Bool) → (not s || (n && not k)) ≡ true → ((s && n) && k) ≡ false
     go false n k h = refl
@@ -140,50 +144,73 @@ not_of x j h =
     go true true true h = cc
 
 -- each joiner is found by its session, number and key
-pub each_own : (js : List Joiner) → are_apart js ≡ true → Each (λ (j : Joiner). joiner_of j.session j.number j.key js ≡ Some j) js
+pub each_own : (js : List Joiner) → are_apart js ≡ true → Each (λ (j : Joiner). joiner_of j.caller j.key js ≡ Some j) js
 each_own [] h = tt
 each_own (x ∷ xs) h =
-    let parts = both (list_all (is_apart x.session x.number x.key) xs) (are_apart xs) h in (
-      ap (λ b. cond b (Some x) (find (is_of x.session x.number x.key) xs)) (all _ _ (all _ _ (nat_eq_equiv.refl x.session) (nat_eq_equiv.refl x.number)) (nat_list_eq_equiv.refl x.key)),
+    let parts = both (list_all (is_other_join x.caller x.key) xs) (are_apart xs) h in (
+      ap (λ b. cond b (Some x) (find (belongs_to x.caller x.key) xs)) (all _ _ (all _ _ (nat_eq_equiv.refl x.caller.session) (nat_eq_equiv.refl x.caller.call)) (nat_list_eq_equiv.refl x.key)),
       behind xs (each_own xs parts.1) parts.0,
     )
   where
-    behind : (ys : List Joiner) → Each (λ (j : Joiner). joiner_of j.session j.number j.key xs ≡ Some j) ys → list_all (is_apart x.session x.number x.key) ys ≡ true → Each (λ (j : Joiner). joiner_of j.session j.number j.key (x ∷ xs) ≡ Some j) ys
+    behind : (ys : List Joiner) → Each (λ (j : Joiner). joiner_of j.caller j.key xs ≡ Some j) ys → list_all (is_other_join x.caller x.key) ys ≡ true → Each (λ (j : Joiner). joiner_of j.caller j.key (x ∷ xs) ≡ Some j) ys
     behind [] h apart = tt
     behind (y ∷ ys) h apart =
-        let parts = both (is_apart x.session x.number x.key y) (list_all (is_apart x.session x.number x.key) ys) apart in
-        (ap (λ b. cond b (Some x) (find (is_of y.session y.number y.key) xs)) (not_of x y parts.0) ∙ h.0, behind ys h.1 parts.1)
+        let parts = both (is_other_join x.caller x.key y) (list_all (is_other_join x.caller x.key) ys) apart in
+        (ap (λ b. cond b (Some x) (find (belongs_to y.caller y.key) xs)) (not_of x y parts.0) ∙ h.0, behind ys h.1 parts.1)
 
 -- the callers of a load, from the joiners that wait for it
-pub each_caller : (P : ℕ → ℕ → Type 0) (load : ℕ) (js : List Joiner) → Each (λ (j : Joiner). waits_for load j ≡ true → P j.session j.number) js → Each (λ (c : ℕ × ℕ). P c.0 c.1) (callers_of load js)
+pub each_caller : (P : Caller → Type 0) (load : ℕ) (js : List Joiner) → Each (λ (j : Joiner). waits_for load j ≡ true → P j.caller) js → Each (λ (c : Caller). P c) (callers_of load js)
 each_caller P load [] h = tt
 each_caller P load (x ∷ xs) h =
-    elim (waits_for load x) as (λ b. waits_for load x ≡ b → Each (λ (c : ℕ × ℕ). P c.0 c.1) (map (λ (j : Joiner). (j.session, j.number)) (cond b (x ∷ filter (waits_for load) xs) (filter (waits_for load) xs)))) [
+    elim (waits_for load x) as (λ b. waits_for load x ≡ b → Each (λ (c : Caller). P c) (map (λ (j : Joiner). j.caller) (cond b (x ∷ filter (waits_for load) xs) (filter (waits_for load) xs)))) [
       | true ↦ λ e. (h.0 e, each_caller P load xs h.1)
       | false ↦ λ e. each_caller P load xs h.1
     ] refl
 
 -- 3. A joiner is there.
 
--- who is there is there where some are answered
-pub any_resolved : (load step place session number : ℕ) (key : Bytes) (js : List Joiner) → has_joined session number key js ≡ true → has_joined session number key (answered_from load step place js) ≡ true
-any_resolved load step place session number key [] h = h
-any_resolved load step place session number key (x ∷ xs) h =
-    let p = is_of session number key in
-    elim (waits_for load x) as (λ b. list_any p (cond b (answered place step x ∷ answered_from load step (place + 1) xs) (x ∷ answered_from load step place xs)) ≡ true) [
-      | true ↦ elim (p x) as (λ b. (b || list_any p xs) ≡ true → (b || list_any p (answered_from load step (place + 1) xs)) ≡ true) [ true ↦ λ h. refl | false ↦ λ h. any_resolved load step (place + 1) session number key xs h ] h
-      | false ↦ elim (p x) as (λ b. (b || list_any p xs) ≡ true → (b || list_any p (answered_from load step place xs)) ≡ true) [ true ↦ λ h. refl | false ↦ λ h. any_resolved load step place session number key xs h ] h
+-- who has joined a load has joined it where some are answered
+pub joined_resolved : (P : Joiner → Type 0) (load step place : ℕ) (caller : Caller) (key : Bytes) (js : List Joiner) → ((place : ℕ) (x : Joiner) → P x → P (with_answer place step x)) → IsSomeAnd (joiner_of caller key js) P → IsSomeAnd (joiner_of caller key (answered_from load step place js)) P
+joined_resolved P load step place caller key [] f h = h
+joined_resolved P load step place caller key (x ∷ xs) f h =
+    let p = belongs_to caller key in
+    elim (waits_for load x) as (λ b. IsSomeAnd (find p (cond b (with_answer place step x ∷ answered_from load step (place + 1) xs) (x ∷ answered_from load step place xs))) P) [
+      | true ↦ elim (p x) as (λ b. IsSomeAnd (cond b (Some x) (find p xs)) P → IsSomeAnd (cond b (Some (with_answer place step x)) (find p (answered_from load step (place + 1) xs))) P) [
+        | true ↦ λ h. f place x h
+        | false ↦ λ h. joined_resolved P load step (place + 1) caller key xs f h
+      ] h
+      | false ↦ elim (p x) as (λ b. IsSomeAnd (cond b (Some x) (find p xs)) P → IsSomeAnd (cond b (Some x) (find p (answered_from load step place xs))) P) [
+        | true ↦ λ h. h
+        | false ↦ λ h. joined_resolved P load step place caller key xs f h
+      ] h
     ]
 
--- or are to begin again
-pub any_dissolved : (load session number : ℕ) (key : Bytes) (js : List Joiner) → has_joined session number key js ≡ true → has_joined session number key (dissolved load js) ≡ true
-any_dissolved load session number key [] h = h
-any_dissolved load session number key (x ∷ xs) h =
-    let p = is_of session number key in
-    elim (waits_for load x) as (λ b. list_any p (cond b (record x { state = Parked parked.Again }) x ∷ dissolved load xs) ≡ true) [
-      | true ↦ elim (p x) as (λ b. (b || list_any p xs) ≡ true → (b || list_any p (dissolved load xs)) ≡ true) [ true ↦ λ h. refl | false ↦ λ h. any_dissolved load session number key xs h ] h
-      | false ↦ elim (p x) as (λ b. (b || list_any p xs) ≡ true → (b || list_any p (dissolved load xs)) ≡ true) [ true ↦ λ h. refl | false ↦ λ h. any_dissolved load session number key xs h ] h
+-- or are to retry
+pub joined_dissolved : (P : Joiner → Type 0) (load : ℕ) (caller : Caller) (key : Bytes) (js : List Joiner) → ((x : Joiner) → P x → P (record x { state = Again })) → IsSomeAnd (joiner_of caller key js) P → IsSomeAnd (joiner_of caller key (dissolved load js)) P
+joined_dissolved P load caller key [] f h = h
+joined_dissolved P load caller key (x ∷ xs) f h =
+    let p = belongs_to caller key in
+    elim (waits_for load x) as (λ b. IsSomeAnd (find p (cond b (record x { state = Again }) x ∷ dissolved load xs)) P) [
+      | true ↦ elim (p x) as (λ b. IsSomeAnd (cond b (Some x) (find p xs)) P → IsSomeAnd (cond b (Some (record x { state = Again })) (find p (dissolved load xs))) P) [
+        | true ↦ λ h. f x h
+        | false ↦ λ h. joined_dissolved P load caller key xs f h
+      ] h
+      | false ↦ elim (p x) as (λ b. IsSomeAnd (cond b (Some x) (find p xs)) P → IsSomeAnd (cond b (Some x) (find p (dissolved load xs))) P) [
+        | true ↦ λ h. h
+        | false ↦ λ h. joined_dissolved P load caller key xs f h
+      ] h
     ]
+
+-- or where one more joins
+pub joined_front : (P : Joiner → Type 0) (p : Joiner → Bool) (xs ys : List Joiner) → IsSomeAnd (find p xs) P → IsSomeAnd (find p (xs ++ ys)) P
+joined_front P p [] ys h = absurd h
+joined_front P p (x ∷ xs) ys h = elim (p x) as (λ b. IsSomeAnd (cond b (Some x) (find p xs)) P → IsSomeAnd (cond b (Some x) (find p (xs ++ ys))) P) [ true ↦ λ h. h | false ↦ λ h. joined_front P p xs ys h ] h
+
+-- and the last has, where none before it is of its call and key
+pub joined_last : (P : Joiner → Type 0) (p : Joiner → Bool) (xs : List Joiner) (y : Joiner) → find p xs ≡ None → p y ≡ true → P y → IsSomeAnd (find p (xs ++ y ∷ [])) P
+joined_last P p [] y none e h = let Q : Bool → Type 0 = λ b. IsSomeAnd (cond b (Some y) None) P in subst Q (sym e) h
+joined_last P p (x ∷ xs) y none e h =
+    elim (p x) as (λ b. cond b (Some x) (find p xs) ≡ None → IsSomeAnd (cond b (Some x) (find p (xs ++ y ∷ []))) P) [ true ↦ λ t. cc | false ↦ λ t. joined_last P p xs y t e h ] none
 
 -- one is there where more are
 pub any_front : {A : Type 0} (p : A → Bool) (xs ys : List A) → list_any p xs ≡ true → list_any p (xs ++ ys) ≡ true
@@ -215,7 +242,7 @@ called_all w n m (x ∷ xs) f h = (f x h.0, called_all w n m xs f h.1)
 pub called_resolved : (w : WorldState) (m load step place : ℕ) (js : List Joiner) → AllCalled w m js → AllCalled w m (answered_from load step place js)
 called_resolved w m load step place [] h = tt
 called_resolved w m load step place (x ∷ xs) h =
-    elim (waits_for load x) as (λ b. AllCalled w m (cond b (answered place step x ∷ answered_from load step (place + 1) xs) (x ∷ answered_from load step place xs))) [
+    elim (waits_for load x) as (λ b. AllCalled w m (cond b (with_answer place step x ∷ answered_from load step (place + 1) xs) (x ∷ answered_from load step place xs))) [
       | true ↦ (record { home_is = h.0.home_is; join = h.0.join; call = h.0.call }, called_resolved w m load step (place + 1) xs h.1)
       | false ↦ (h.0, called_resolved w m load step place xs h.1)
     ]
@@ -224,7 +251,7 @@ called_resolved w m load step place (x ∷ xs) h =
 pub called_dissolved : (w : WorldState) (m load : ℕ) (js : List Joiner) → AllCalled w m js → AllCalled w m (dissolved load js)
 called_dissolved w m load [] h = tt
 called_dissolved w m load (x ∷ xs) h =
-    elim (waits_for load x) as (λ b. AllCalled w m (cond b (record x { state = Parked parked.Again }) x ∷ dissolved load xs)) [
+    elim (waits_for load x) as (λ b. AllCalled w m (cond b (record x { state = Again }) x ∷ dissolved load xs)) [
       | true ↦ (record { home_is = h.0.home_is; join = h.0.join; call = h.0.call }, called_dissolved w m load xs h.1)
       | false ↦ (h.0, called_dissolved w m load xs h.1)
     ]
@@ -280,12 +307,12 @@ waited_pushed w [] j h one = (one, tt)
 waited_pushed w (x ∷ xs) j h one = (h.0, waited_pushed w xs j h.1 one)
 
 -- each join is there, by its call and its key
-pub each_joined : (js : List JoinClaim) → Each (λ (j : JoinClaim). list_any (is_join j.call j.key) js ≡ true) js
+pub each_joined : (js : List JoinClaim) → Each (λ (j : JoinClaim). list_any (is_join j.caller.call j.key) js ≡ true) js
 each_joined [] = tt
 each_joined (x ∷ xs) = (
-  ap (λ b. b || list_any (is_join x.call x.key) xs) (all _ _ (nat_eq_equiv.refl x.call) (nat_list_eq_equiv.refl x.key)),
-  each_map (λ (j : JoinClaim). list_any (is_join j.call j.key) xs ≡ true) (λ (j : JoinClaim). (is_join j.call j.key x || list_any (is_join j.call j.key) xs) ≡ true) xs
-      (λ j h. or_second (is_join j.call j.key x) (list_any (is_join j.call j.key) xs) h) (each_joined xs),
+  ap (λ b. b || list_any (is_join x.caller.call x.key) xs) (all _ _ (nat_eq_equiv.refl x.caller.call) (nat_list_eq_equiv.refl x.key)),
+  each_map (λ (j : JoinClaim). list_any (is_join j.caller.call j.key) xs ≡ true) (λ (j : JoinClaim). (is_join j.caller.call j.key x || list_any (is_join j.caller.call j.key) xs) ≡ true) xs
+      (λ j h. or_second (is_join j.caller.call j.key x) (list_any (is_join j.caller.call j.key) xs) h) (each_joined xs),
 )
   where
     or_second : (a b : Bool) → b ≡ true → (a || b) ≡ true
@@ -311,8 +338,8 @@ waited_found w p (x ∷ xs) j h waited =
     ] h
 
 -- a join is of its call and its key
-pub join_is : (call : ℕ) (key : Bytes) (j : JoinClaim) → is_join call key j ≡ true → (j.call ≡ call) × (j.key ≡ key)
-join_is call key j h = let parts = both (j.call == call) (pointwise ◌==◌ key j.key) h in (eqb-true j.call call parts.0, sym (same_bytes key j.key parts.1))
+pub join_is : (call : ℕ) (key : Bytes) (j : JoinClaim) → is_join call key j ≡ true → (j.caller.call ≡ call) × (j.key ≡ key)
+join_is call key j h = let parts = both (j.caller.call == call) (pointwise ◌==◌ key j.key) h in (eqb-true j.caller.call call parts.0, sym (same_bytes key j.key parts.1))
 
 -- where a call has joined, it has no part
 pub joined_no_part : (w : WorldState) (call : ℕ) (key : Bytes) → is_joined w call key ≡ true → AllWaitedFor w w.joins → part_of w call key ≡ None
@@ -323,9 +350,9 @@ joined_no_part w call key h waited =
 
 -- a call without a join of its key is none that has joined
 pub other_call : (w : WorldState) (call : ℕ) (u : Under) → under w call ≡ Some u → is_joined w call u.command.key ≡ false → (number session : ℕ) (key : Bytes) → is_joined w number key ≡ true
-    → IsSomeAnd (under w number) (λ v. (v.session ≡ session) × (v.command.key ≡ key)) → (number == call) ≡ false
+    → IsSomeAnd (under w number) (λ v. (v.caller.session ≡ session) × (v.command.key ≡ key)) → (number == call) ≡ false
 other_call w call u is free number session key joined h =
-    let v = some_of (under w number) (λ v. (v.session ≡ session) × (v.command.key ≡ key)) h in
+    let v = some_of (under w number) (λ v. (v.caller.session ≡ session) × (v.command.key ≡ key)) h in
     refuted (number == call) (λ same.
     let one : number ≡ call = eqb-true number call same in
     let t : Some v.0 ≡ Some u = sym v.1 ∙ ap (under w) one ∙ is in
@@ -353,27 +380,27 @@ none_left p q (x ∷ xs) h =
 pub once_filter : (q : JoinClaim → Bool) (js : List JoinClaim) → joined_once js ≡ true → joined_once (filter q js) ≡ true
 once_filter q [] h = h
 once_filter q (x ∷ xs) h =
-    let parts = both (not (list_any (is_join x.call x.key) xs)) (joined_once xs) h in
+    let parts = both (not (list_any (is_join x.caller.call x.key) xs)) (joined_once xs) h in
     elim (q x) as (λ b. joined_once (cond b (x ∷ filter q xs) (filter q xs)) ≡ true) [
-      | true ↦ all _ _ (none_left (is_join x.call x.key) q xs parts.0) (once_filter q xs parts.1)
+      | true ↦ all _ _ (none_left (is_join x.caller.call x.key) q xs parts.0) (once_filter q xs parts.1)
       | false ↦ once_filter q xs parts.1
     ]
 
 -- a join of another call or key is no join of this one
-not_joined : (j x : JoinClaim) → is_join j.call j.key x ≡ false → is_join x.call x.key j ≡ false
-not_joined j x h = (λ i. turned_eq j.call x.call i && turned_key x.key j.key i) ∙ h
+not_joined : (j x : JoinClaim) → is_join j.caller.call j.key x ≡ false → is_join x.caller.call x.key j ≡ false
+not_joined j x h = (λ i. turned_eq j.caller.call x.caller.call i && turned_key x.key j.key i) ∙ h
   where
     turned_key : (a b : Bytes) → pointwise ◌==◌ a b ≡ pointwise ◌==◌ b a
     turned_key a b = nat_list_eq_equiv.symm a b
 
 -- nor with one more, which is of another
-pub once_pushed : (js : List JoinClaim) (j : JoinClaim) → not (list_any (is_join j.call j.key) js) ≡ true → joined_once js ≡ true → joined_once (js ++ j ∷ []) ≡ true
+pub once_pushed : (js : List JoinClaim) (j : JoinClaim) → not (list_any (is_join j.caller.call j.key) js) ≡ true → joined_once js ≡ true → joined_once (js ++ j ∷ []) ≡ true
 once_pushed [] j h o = refl
 once_pushed (x ∷ xs) j h o =
-    let parts = both (not (list_any (is_join x.call x.key) xs)) (joined_once xs) o in
-    elim (is_join j.call j.key x) as (λ b. is_join j.call j.key x ≡ b → not (b || list_any (is_join j.call j.key) xs) ≡ true → (not (list_any (is_join x.call x.key) (xs ++ j ∷ [])) && joined_once (xs ++ j ∷ [])) ≡ true) [
+    let parts = both (not (list_any (is_join x.caller.call x.key) xs)) (joined_once xs) o in
+    elim (is_join j.caller.call j.key x) as (λ b. is_join j.caller.call j.key x ≡ b → not (b || list_any (is_join j.caller.call j.key) xs) ≡ true → (not (list_any (is_join x.caller.call x.key) (xs ++ j ∷ [])) && joined_once (xs ++ j ∷ [])) ≡ true) [
       | true ↦ λ e h. cc
-      | false ↦ λ e h. all _ _ (none_more (is_join x.call x.key) xs j parts.0 (not_joined j x e)) (once_pushed xs j h parts.1)
+      | false ↦ λ e h. all _ _ (none_more (is_join x.caller.call x.key) xs j parts.0 (not_joined j x e)) (once_pushed xs j h parts.1)
     ] refl h
   where
     none_more : (p : JoinClaim → Bool) (ys : List JoinClaim) (y : JoinClaim) → not (list_any p ys) ≡ true → p y ≡ false → not (list_any p (ys ++ y ∷ [])) ≡ true
@@ -383,7 +410,7 @@ once_pushed (x ∷ xs) j h o =
 -- 6. The parts of calls that have joined.
 
 -- a call has no part where another's is put
-pub none_inserted : (parts : Parts) (key q : Bytes) (part : Part) (call : ℕ) → of_call call (get parts q) ≡ None → (q ≡ key → (part.call == call) ≡ false) → of_call call (get (insert parts key part) q) ≡ None
+pub none_inserted : (parts : Parts) (key q : Bytes) (part : Part) (call : ℕ) → of_call call (get parts q) ≡ None → (q ≡ key → (part.reservation.caller.call == call) ≡ false) → of_call call (get (insert parts key part) q) ≡ None
 none_inserted parts key q part call none other =
     ap (of_call call) (get-insert nat_list_cmp_total parts key part q)
     ∙ (elim (eq_by_cmp key_cmp q key) as (λ b. eq_by_cmp key_cmp q key ≡ b → of_call call (cond b (Some part) (get parts q)) ≡ None) [
@@ -397,12 +424,12 @@ none_removed parts key q call none =
     ap (of_call call) (get-remove nat_list_cmp_total parts key q) ∙ (elim (eq_by_cmp key_cmp q key) as (λ b. of_call call (cond b None (get parts q)) ≡ None) [ true ↦ refl | false ↦ none ])
 
 -- a part whose call has none at this key is another's
-pub part_other : (o : Option Part) (old : Part) (call : ℕ) → o ≡ Some old → of_call call o ≡ None → (old.call == call) ≡ false
+pub part_other : (o : Option Part) (old : Part) (call : ℕ) → o ≡ Some old → of_call call o ≡ None → (old.reservation.caller.call == call) ≡ false
 part_other None old call is none = cc
 part_other (Some p) old call is none =
     let same : p ≡ old = cc in
-    let P : Part → Type 0 = λ x. (x.call == call) ≡ false in
-    subst P same (elim (p.call == call) as (λ b. cond b (Some p) None ≡ None → b ≡ false) [ true ↦ λ h. cc | false ↦ λ h. refl ] none)
+    let P : Part → Type 0 = λ x. (x.reservation.caller.call == call) ≡ false in
+    subst P same (elim (p.reservation.caller.call == call) as (λ b. cond b (Some p) None ≡ None → b ≡ false) [ true ↦ λ h. cc | false ↦ λ h. refl ] none)
 
 -- 7. A join in the list.
 
@@ -423,7 +450,7 @@ stands_from : (call : ℕ) (key : Bytes) (js : List JoinClaim) (k i : ℕ) → p
 stands_from call key [] k i h o = cc
 stands_from call key (x ∷ xs) k i h o =
     let p = is_join call key in
-    let parts = both (not (list_any (is_join x.call x.key) xs)) (joined_once xs) o in
+    let parts = both (not (list_any (is_join x.caller.call x.key) xs)) (joined_once xs) o in
     elim (p x) as (λ b. p x ≡ b → cond b (Some k) (position_from p (k + 1) xs) ≡ Some i → (j : ℕ) × (i ≡ k + j) × Stands call key (x ∷ xs) j) [
       | true ↦ λ e h.
           let is : k ≡ i = cc in

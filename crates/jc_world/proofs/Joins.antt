@@ -7,6 +7,7 @@ use Rattle.std.specs.Cmp.Lexicographic.{pointwise}
 use Rattle.std.specs.FinMap.{get, insert, remove}
 use Rattle.std.proofs.lemmas.Bool.{eq-eqb, eqb-true}
 use Rattle.std.proofs.lemmas.Cmp.{nat_eq_equiv, nat_list_eq_equiv}
+use Rattle.jc_types.specs.declared.caller.Caller.{Caller}
 use Rattle.jc_types.specs.declared.config.Config.{Config}
 use Rattle.jc_types.specs.Limits.{checked}
 use Rattle.jc_model.specs.declared.event.Event.{Event}
@@ -14,13 +15,13 @@ use Rattle.jc_model.specs.Cache.{Bytes, Cache}
 use Rattle.jc_model.proofs.Lookups.{both, none_is}
 use Rattle.jc_inflight.specs.declared.joiner.Joiner.{Joiner}
 use Rattle.jc_inflight.specs.declared.joiner.JoinState.TheVariants.{Waiting}
-use Rattle.jc_inflight.specs.Joined.{is_of as is_joiner_of, callers_of, is_joined as has_joined}
-use Rattle.jc_inflight.specs.Resolving.{resolved}
-use Rattle.jc_inflight.specs.Taking.{without}
-use Rattle.jc_stripe.specs.declared.ticket.First.TheVariants.{Loader, Writer}
-use Rattle.jc_stripe.specs.Claim.{Claim, JoinClaim}
-use Rattle.jc_stripe.specs.State.{State, Reserved, claimed}
-use Rattle.jc_stripe.specs.Phases.{Withdraws, Steps, settled, joined_by, left_by}
+use Rattle.jc_inflight.specs.Joining.{belongs_to as is_joiner_of}
+use Rattle.jc_inflight.specs.Resolving.{after_resolve as resolved}
+use Rattle.jc_inflight.specs.Taking.{without_joiner as without}
+use Rattle.jc_stripe.specs.declared.ticket.Reservation.{Reservation}
+use Rattle.jc_stripe.specs.Tickets.{Ticket, JoinClaim}
+use Rattle.jc_stripe.specs.State.{State, IsJoined}
+use Rattle.jc_stripe.specs.Phases.{Withdraws, with_joiner, without_joiner}
 use Rattle.jc_world.specs.declared.event.Command.{Command}
 use Rattle.jc_world.specs.declared.event.Part.{Part}
 use Rattle.jc_world.specs.declared.event.Premises.{Premises}
@@ -29,38 +30,38 @@ use Rattle.jc_world.specs.declared.event.Shown.TheVariants as shown
 use Rattle.jc_world.specs.declared.event.Under.{Under}
 use Rattle.jc_world.specs.declared.event.WorldEvent.{WorldEvent}
 use Rattle.jc_world.specs.declared.event.WorldEvent.TheVariants as event
-use Rattle.jc_world.specs.World.{WorldState, Parts, home, stripe_for, start, has_number, under, over, of_call, part_of, is_join, join_of, is_joined, unjoined, claim_of, out_of}
+use Rattle.jc_world.specs.World.{WorldState, Parts, home, stripe_for, start, has_number, under, over, of_call, part_of, is_join, join_of, is_joined, unjoined}
 use Rattle.jc_world.specs.Events.{may_leave, fits, with_stripe, goes_on, call_over, new_part, without_part, with_join, Starts, Ends, Picks, Happens}
 use Rattle.jc_world.specs.Sound.{IsHeld, IsWaitedFor, AllWaitedFor, IsCalled, AllCalled, IsSoundWorld}
 use Rattle.jc_world.proofs.Halves.{HasJoins}
 use Rattle.jc_world.proofs.Places.{at_stripe, stripe_put}
-use Rattle.jc_world.proofs.Shares.{all, some_of, is_some_and, set_cases, turned_eq}
+use Rattle.jc_world.proofs.Shares.{all, some_of, is_some_and, set_cases, turned_eq, found_test}
 use Rattle.jc_world.proofs.Underway.{found_number, find_over, find_pushed, of_call-at, same_bytes}
-use Rattle.jc_world.proofs.Joiners.{any_kept, any_front, any_last, any_resolved, any_dissolved, called_on, called_all, called_resolved, called_dissolved, called_pushed, once_pushed, once_filter, waited_on, waited_all, waited_pushed, each_joined, join_is, joined_no_part, other_call, none_inserted, none_removed, part_other}
+use Rattle.jc_world.proofs.Joiners.{joiner_of, any_kept, any_front, any_last, joined_resolved, joined_dissolved, joined_front, joined_last, find_kept, called_found, called_on, called_all, called_resolved, called_dissolved, called_pushed, once_pushed, once_filter, waited_on, waited_all, waited_pushed, each_joined, join_is, joined_no_part, other_call, none_inserted, none_removed, part_other}
 use Rattle.jc_world.proofs.Callers.{MayStart, may_start_at, may_leave_at, start_is, refuted, Picking, picking}
 
 -- 1. What goes on.
 
 -- a joiner is of its session, its call and its key
-joiner_is : (session number : ℕ) (key : Bytes) (j : Joiner) → is_joiner_of session number key j ≡ true → (j.session ≡ session) × (j.number ≡ number) × (j.key ≡ key)
-joiner_is session number key j h =
-    let parts = both ((j.session == session) && (j.number == number)) (pointwise ◌==◌ key j.key) h in
-    let pair = both (j.session == session) (j.number == number) parts.0 in
-    (eqb-true j.session session pair.0, eqb-true j.number number pair.1, sym (same_bytes key j.key parts.1))
+joiner_is : (caller : Caller) (key : Bytes) (j : Joiner) → is_joiner_of caller key j ≡ true → (j.caller.session ≡ caller.session) × (j.caller.call ≡ caller.call) × (j.key ≡ key)
+joiner_is caller key j h =
+    let parts = both ((j.caller.session == caller.session) && (j.caller.call == caller.call)) (pointwise ◌==◌ key j.key) h in
+    let pair = both (j.caller.session == caller.session) (j.caller.call == caller.call) parts.0 in
+    (eqb-true j.caller.session caller.session pair.0, eqb-true j.caller.call caller.call pair.1, sym (same_bytes key j.key parts.1))
 
 -- a call of this session on this key
 abbrev IsOf : ℕ → Bytes → Under → Type 0
-IsOf session key u = (u.session ≡ session) × (u.command.key ≡ key)
+IsOf session key u = (u.caller.session ≡ session) × (u.command.key ≡ key)
 
 -- each join goes on to another world, with the same joins
-kept_joins : (w n : WorldState) → ((j : JoinClaim) → is_joined w j.call j.key ≡ true → IsWaitedFor w j → IsWaitedFor n j) → IsSoundWorld w → AllWaitedFor n w.joins
-kept_joins w n f old = waited_all w n (λ (j : JoinClaim). is_joined w j.call j.key ≡ true) w.joins f (each_joined w.joins) old.joins
+kept_joins : (w n : WorldState) → ((j : JoinClaim) → is_joined w j.caller.call j.key ≡ true → IsWaitedFor w j → IsWaitedFor n j) → IsSoundWorld w → AllWaitedFor n w.joins
+kept_joins w n f old = waited_all w n (λ (j : JoinClaim). is_joined w j.caller.call j.key ≡ true) w.joins f (each_joined w.joins) old.joins
 
 -- what is there stays there where the stripe of a key is another
-out_on : (w : WorldState) (key : Bytes) (from to : State) (j : JoinClaim) → stripe_for w key ≡ Some from → (has_joined j.session j.call j.key from.joiners ≡ true → has_joined j.session j.call j.key to.joiners ≡ true)
-    → IsSomeAnd (stripe_for w j.key) (λ s. has_joined j.session j.call j.key s.joiners ≡ true) → IsSomeAnd (slice_get (slice_set w.stripes (home w key) to) (home w j.key)) (λ s. has_joined j.session j.call j.key s.joiners ≡ true)
+out_on : (w : WorldState) (key : Bytes) (from to : State) (j : JoinClaim) → stripe_for w key ≡ Some from → (IsJoined from j → IsJoined to j)
+    → IsSomeAnd (stripe_for w j.key) (λ s. IsJoined s j) → IsSomeAnd (slice_get (slice_set w.stripes (home w key) to) (home w j.key)) (λ s. IsJoined s j)
 out_on w key from to j there keeps =
-    let F : State → Type 0 = λ s. has_joined j.session j.call j.key s.joiners ≡ true in
+    let F : State → Type 0 = λ s. IsJoined s j in
     at_stripe w.stripes (home w key) (home w j.key) from to (λ o x. IsSomeAnd o F → IsSomeAnd x F) there keeps (λ h. h)
 
 -- each joiner goes on where the stripe of a key is another
@@ -86,7 +87,7 @@ joins_stored w store premises fresh goes old =
     }
 
 -- a key's part goes on
-joins_parted : (w : WorldState) (call : ℕ) (key : Bytes) (was part : Part) (premises : Premises) (store : Cache) → part_of w call key ≡ Some was → part.call ≡ was.call → IsSoundWorld w
+joins_parted : (w : WorldState) (call : ℕ) (key : Bytes) (was part : Part) (premises : Premises) (store : Cache) → part_of w call key ≡ Some was → part.reservation.caller.call ≡ was.reservation.caller.call → IsSoundWorld w
     → HasJoins (record w { parts = insert w.parts key part; premises = premises; store = store })
 joins_parted w call key was part premises store is same old =
     let new : WorldState = record w { parts = insert w.parts key part; premises = premises; store = store } in
@@ -96,7 +97,7 @@ joins_parted w call key was part premises store is same old =
           (λ j t h. record {
             out = h.out;
             call = h.call;
-            no_part = none_inserted w.parts key j.key part j.call h.no_part (λ e. ap (λ c. c == j.call) same ∙ part_other (get w.parts key) was j.call there (ap (λ k. of_call j.call (get w.parts k)) (sym e) ∙ h.no_part));
+            no_part = none_inserted w.parts key j.key part j.caller.call h.no_part (λ e. ap (λ c. c == j.caller.call) same ∙ part_other (get w.parts key) was j.caller.call there (ap (λ k. of_call j.caller.call (get w.parts k)) (sym e) ∙ h.no_part));
           }) old;
       called = λ m s at. called_all w new m s.joiners (λ j h. record { home_is = h.home_is; join = h.join; call = h.call }) (old.called m s at);
       once = old.once;
@@ -104,13 +105,13 @@ joins_parted w call key was part premises store is same old =
     }
 
 -- a call begins
-joins_called : (w : WorldState) (call session : ℕ) (command : Command) → IsSoundWorld w → HasJoins (record w { last = Some call; fresh = false; calls = w.calls ++ record { session = session; number = call; command = command } ∷ [] })
+joins_called : (w : WorldState) (call session : ℕ) (command : Command) → IsSoundWorld w → HasJoins (record w { last = Some call; fresh = false; calls = w.calls ++ record { caller = record { session = session; call = call }; command = command } ∷ [] })
 joins_called w call session command old =
-    let more : List Under = record { session = session; number = call; command = command } ∷ [] in
+    let more : List Under = record { caller = record { session = session; call = call }; command = command } ∷ [] in
     let new : WorldState = record w { last = Some call; fresh = false; calls = w.calls ++ more } in
     record {
-      joins = kept_joins w new (λ j t h. record { out = h.out; call = find_pushed (has_number j.call) w.calls more (IsOf j.session j.key) h.call; no_part = h.no_part }) old;
-      called = λ m s at. called_all w new m s.joiners (λ j h. record { home_is = h.home_is; join = h.join; call = find_pushed (has_number j.number) w.calls more (IsOf j.session j.key) h.call }) (old.called m s at);
+      joins = kept_joins w new (λ j t h. record { out = h.out; call = find_pushed (has_number j.caller.call) w.calls more (IsOf j.caller.session j.key) h.call; no_part = h.no_part }) old;
+      called = λ m s at. called_all w new m s.joiners (λ j h. record { home_is = h.home_is; join = h.join; call = find_pushed (has_number j.caller.call) w.calls more (IsOf j.caller.session j.key) h.call }) (old.called m s at);
       once = old.once;
       alone = λ f. let t : false ≡ true = f in cc;
     }
@@ -127,8 +128,8 @@ pub joins_over : (w : WorldState) (call : ℕ) (u : Under) → under w call ≡ 
 joins_over w call u is free old =
     let new = call_over w call in
     record {
-      joins = kept_joins w new (λ j t h. record { out = h.out; call = still_under w call u is free j.call j.session j.key t h.call; no_part = h.no_part }) old;
-      called = λ m s at. called_all w new m s.joiners (λ j h. record { home_is = h.home_is; join = h.join; call = still_under w call u is free j.number j.session j.key h.join h.call }) (old.called m s at);
+      joins = kept_joins w new (λ j t h. record { out = h.out; call = still_under w call u is free j.caller.call j.caller.session j.key t h.call; no_part = h.no_part }) old;
+      called = λ m s at. called_all w new m s.joiners (λ j h. record { home_is = h.home_is; join = h.join; call = still_under w call u is free j.caller.call j.caller.session j.key h.join h.call }) (old.called m s at);
       once = old.once;
       alone = λ f. (old.idle f).1;
     }
@@ -141,20 +142,20 @@ phase_world w key to order calls parts = record w { stripes = slice_set w.stripe
 
 -- the stripe keeps its joiners, and the calls that have joined go on without a part
 joins_phase : (w : WorldState) (key : Bytes) (from to : State) (order : List Event) (calls : List Under) (parts : Parts) → stripe_for w key ≡ Some from
-    → ((s k : ℕ) (q : Bytes) → has_joined s k q from.joiners ≡ true → has_joined s k q to.joiners ≡ true)
+    → ((j : JoinClaim) → IsJoined from j → IsJoined to j)
     → ((n : WorldState) → AllCalled n (home w key) from.joiners → AllCalled n (home w key) to.joiners)
     → ((number session : ℕ) (q : Bytes) → is_joined w number q ≡ true → IsSomeAnd (under w number) (IsOf session q) → IsSomeAnd (find (has_number number) calls) (IsOf session q))
     → ((number : ℕ) (q : Bytes) → is_joined w number q ≡ true → part_of w number q ≡ None → of_call number (get parts q) ≡ None)
     → IsSoundWorld w → HasJoins (phase_world w key to order calls parts)
 joins_phase w key from to order calls parts there keeps here still none old =
     let new = phase_world w key to order calls parts in
-    let on : (m : ℕ) (j : Joiner) → IsCalled w m j → IsCalled new m j = λ m j h. record { home_is = h.home_is; join = h.join; call = still j.number j.session j.key h.join h.call } in
+    let on : (m : ℕ) (j : Joiner) → IsCalled w m j → IsCalled new m j = λ m j h. record { home_is = h.home_is; join = h.join; call = still j.caller.call j.caller.session j.key h.join h.call } in
     record {
       joins = kept_joins w new
           (λ j t h. record {
-            out = out_on w key from to j there (keeps j.session j.call j.key) h.out;
-            call = still j.call j.session j.key t h.call;
-            no_part = none j.call j.key t h.no_part;
+            out = out_on w key from to j there (keeps j) h.out;
+            call = still j.caller.call j.caller.session j.key t h.call;
+            no_part = none j.caller.call j.key t h.no_part;
           }) old;
       called = called_set w new key from to there (λ h. here new (called_all w new (home w key) from.joiners (on (home w key)) h)) (λ m js apart h. called_all w new m js (on m) h) old;
       once = old.once;
@@ -162,55 +163,67 @@ joins_phase w key from to order calls parts there keeps here still none old =
     }
 
 -- a call is under way, so the world is not fresh
-begun_before : (w : WorldState) (u : Under) → under w u.number ≡ Some u → w.fresh ≡ true → IsSoundWorld w → ⊥
-begun_before w u here f old = let t : None ≡ Some u = ap (find (has_number u.number)) (sym (old.idle f).0) ∙ here in cc
+begun_before : (w : WorldState) (u : Under) → under w u.caller.call ≡ Some u → w.fresh ≡ true → IsSoundWorld w → ⊥
+begun_before w u here f old = let t : None ≡ Some u = ap (find (has_number u.caller.call)) (sym (old.idle f).0) ∙ here in cc
 
 -- joiners that stay
-same_joiners : (from to : State) → to.joiners ≡ from.joiners → (s k : ℕ) (q : Bytes) → has_joined s k q from.joiners ≡ true → has_joined s k q to.joiners ≡ true
-same_joiners from to same s k q h = ap (has_joined s k q) same ∙ h
+same_joiners : (from to : State) → to.joiners ≡ from.joiners → (j : JoinClaim) → IsJoined from j → IsJoined to j
+same_joiners from to same j h = let P : List Joiner → Type 0 = λ js. IsSomeAnd (joiner_of j.caller j.key js) (λ x. x.load ≡ j.load) in subst P (sym same) h
 
 -- and so stay what they have
 same_called : (m : ℕ) (from to : State) → to.joiners ≡ from.joiners → (n : WorldState) → AllCalled n m from.joiners → AllCalled n m to.joiners
 same_called m from to same n h = subst (AllCalled n m) (sym same) h
 
 -- the part of a call that hasn't joined is another's
-none_reserved : (w : WorldState) (u : Under) (part : Part) → part.call ≡ u.number → is_joined w u.number u.command.key ≡ false → (number : ℕ) (q : Bytes) → is_joined w number q ≡ true → part_of w number q ≡ None
+none_reserved : (w : WorldState) (u : Under) (part : Part) → part.reservation.caller.call ≡ u.caller.call → is_joined w u.caller.call u.command.key ≡ false → (number : ℕ) (q : Bytes) → is_joined w number q ≡ true → part_of w number q ≡ None
     → of_call number (get (insert w.parts u.command.key part) q) ≡ None
 none_reserved w u part call_is free number q joined none =
-    none_inserted w.parts u.command.key q part number none (λ same. ap (λ c. c == number) call_is ∙ refuted (u.number == number) (λ e.
-    let t : true ≡ false = sym joined ∙ (λ i. is_joined w (sym (eqb-true u.number number e) i) (same i)) ∙ free in cc))
+    none_inserted w.parts u.command.key q part number none (λ same. ap (λ c. c == number) call_is ∙ refuted (u.caller.call == number) (λ e.
+    let t : true ≡ false = sym joined ∙ (λ i. is_joined w (sym (eqb-true u.caller.call number e) i) (same i)) ∙ free in cc))
 
 -- 4. The first phase.
 
+-- what cannot be there is none
+not_there : {A : Type 0} (o : Option A) → ((x : A) → o ≡ Some x → ⊥) → o ≡ None
+not_there None h = refl
+not_there (Some x) h = absurd (h x refl)
+
 -- the call has joined a load
-joins_joined : (w : WorldState) (u : Under) (from to : State) (join : JoinClaim) (load : ℕ) → stripe_for w u.command.key ≡ Some from → join ≡ record { session = u.session; call = u.number; key = u.command.key } → to ≡ joined_by from join load
+joins_joined : (w : WorldState) (u : Under) (from to : State) (join : JoinClaim) → stripe_for w u.command.key ≡ Some from → join ≡ record { caller = u.caller; key = u.command.key; load = join.load } → to ≡ with_joiner from join
     → MayStart w u → IsSoundWorld w → HasJoins (with_join (with_stripe w u.command.key to) join)
-joins_joined w u from to join load there join_is to_is may old =
+joins_joined w u from to join there join_is to_is may old =
     let key = u.command.key in
     let new : WorldState = with_join (with_stripe w key to) join in
-    let next : Joiner = record { session = join.session; number = join.call; key = join.key; load = load; state = Waiting } in
+    let next : Joiner = record { caller = join.caller; key = join.key; load = join.load; state = Waiting } in
     let joiners : to.joiners ≡ from.joiners ++ next ∷ [] = ap (λ (s : State). s.joiners) to_is in
-    let keeps : (s k : ℕ) (q : Bytes) → has_joined s k q from.joiners ≡ true → has_joined s k q to.joiners ≡ true = λ s k q t. ap (has_joined s k q) joiners ∙ any_front (is_joiner_of s k q) from.joiners (next ∷ []) t in
-    let session_is : join.session ≡ u.session = ap (λ (j : JoinClaim). j.session) join_is in
-    let call_is : join.call ≡ u.number = ap (λ (j : JoinClaim). j.call) join_is in
+    let J : JoinClaim → List Joiner → Type 0 = λ j js. IsSomeAnd (joiner_of j.caller j.key js) (λ x. x.load ≡ j.load) in
+    let keeps : (j : JoinClaim) → IsJoined from j → IsJoined to j = λ j t. subst (J j) (sym joiners) (joined_front (λ x. x.load ≡ j.load) (is_joiner_of j.caller j.key) from.joiners (next ∷ []) t) in
+    let session_is : join.caller.session ≡ u.caller.session = ap (λ (j : JoinClaim). j.caller.session) join_is in
+    let call_is : join.caller.call ≡ u.caller.call = ap (λ (j : JoinClaim). j.caller.call) join_is in
     let key_is : join.key ≡ key = ap (λ (j : JoinClaim). j.key) join_is in
-    let on : (m : ℕ) (j : Joiner) → IsCalled w m j → IsCalled new m j = λ m j h. record { home_is = h.home_is; join = any_front (is_join j.number j.key) w.joins (join ∷ []) h.join; call = h.call } in
-    let its_call : IsSomeAnd (under w join.call) (IsOf join.session join.key) = is_some_and (under w join.call) (IsOf join.session join.key) u (ap (under w) call_is ∙ may.here) (sym session_is, sym key_is) in
+    let on : (m : ℕ) (j : Joiner) → IsCalled w m j → IsCalled new m j = λ m j h. record { home_is = h.home_is; join = any_front (is_join j.caller.call j.key) w.joins (join ∷ []) h.join; call = h.call } in
+    let its_call : IsSomeAnd (under w join.caller.call) (IsOf join.caller.session join.key) = is_some_and (under w join.caller.call) (IsOf join.caller.session join.key) u (ap (under w) call_is ∙ may.here) (sym session_is, sym key_is) in
     let one : IsCalled new (home w key) next = record {
       home_is = ap (home w) key_is;
-      join = any_last (is_join join.call join.key) w.joins join (all _ _ (nat_eq_equiv.refl join.call) (nat_list_eq_equiv.refl join.key));
+      join = any_last (is_join join.caller.call join.key) w.joins join (all _ _ (nat_eq_equiv.refl join.caller.call) (nat_list_eq_equiv.refl join.key));
       call = its_call;
     } in
-    let F : State → Type 0 = λ s. has_joined join.session join.call join.key s.joiners ≡ true in
+    let F : State → Type 0 = λ s. IsJoined s join in
+    let alone : joiner_of join.caller join.key from.joiners ≡ None = not_there (joiner_of join.caller join.key from.joiners) (λ x e.
+    let its = joiner_is join.caller join.key x (found_test (is_joiner_of join.caller join.key) from.joiners x e) in
+    let had = (called_found w (home w key) (is_joiner_of join.caller join.key) from.joiners x e (old.called (home w key) from there)).join in
+    let t : true ≡ false = sym had ∙ (λ i. is_joined w ((its.1 ∙ call_is) i) ((its.2 ∙ key_is) i)) ∙ may.alone in cc)
+    in
     let waits : IsWaitedFor new join = record {
       out = is_some_and (stripe_for new join.key) F to (ap (λ k. slice_get new.stripes (home w k)) key_is ∙ stripe_put w.stripes (home w key) from to there)
-          (ap (has_joined join.session join.call join.key) joiners
-          ∙ any_last (is_joiner_of join.session join.call join.key) from.joiners next (all _ _ (all _ _ (nat_eq_equiv.refl join.session) (nat_eq_equiv.refl join.call)) (nat_list_eq_equiv.refl join.key)));
+          (subst (J join) (sym joiners)
+          (joined_last (λ x. x.load ≡ join.load) (is_joiner_of join.caller join.key) from.joiners next alone
+          (all _ _ (all _ _ (nat_eq_equiv.refl join.caller.session) (nat_eq_equiv.refl join.caller.call)) (nat_list_eq_equiv.refl join.key)) refl));
       call = its_call;
-      no_part = (λ i. part_of w (call_is i) (key_is i)) ∙ none_is (part_of w u.number key) may.none;
+      no_part = (λ i. part_of w (call_is i) (key_is i)) ∙ none_is (part_of w u.caller.call key) may.none;
     } in
     record {
-      joins = waited_pushed new w.joins join (kept_joins w new (λ j t h. record { out = out_on w key from to j there (keeps j.session j.call j.key) h.out; call = h.call; no_part = h.no_part }) old) waits;
+      joins = waited_pushed new w.joins join (kept_joins w new (λ j t h. record { out = out_on w key from to j there (keeps j) h.out; call = h.call; no_part = h.no_part }) old) waits;
       called = called_set w new key from to there
           (λ h. subst (AllCalled new (home w key)) (sym joiners) (called_pushed new (home w key) from.joiners next (called_all w new (home w key) from.joiners (on (home w key)) h) one))
           (λ m js apart h. called_all w new m js (on m) h) old;
@@ -220,23 +233,23 @@ joins_joined w u from to join load there join_is to_is may old =
 
 -- by what is shown of the first phase
 joins_started : (w new : WorldState) (u : Under) (from to : State) (seen : Shown) → stripe_for w u.command.key ≡ Some from → Starts w u from to seen new → MayStart w u → IsSoundWorld w → HasJoins new
-joins_started w new u from to (shown.Refused refusal) there h may old = subst HasJoins (sym h.1) (joins_over w u.number u may.here may.alone old)
+joins_started w new u from to (shown.Refused refusal) there h may old = subst HasJoins (sym h.1) (joins_over w u.caller.call u may.here may.alone old)
 joins_started w new u from to (shown.Stepped seen) there h may old =
-    let same : to.joiners ≡ from.joiners = ap (λ (s : State). s.joiners) h.0.2.goes_on in
+    let same : to.joiners ≡ from.joiners = ap (λ (s : State). s.joiners) h.0.2.after in
     subst HasJoins (sym h.2)
-    (joins_phase w u.command.key from to (goes_on w u.command.key from to).order (over u.number w.calls) w.parts there (same_joiners from to same) (same_called (home w u.command.key) from to same)
-    (λ number session q t k. still_under w u.number u may.here may.alone number session q t k) (λ number q t k. k) old)
+    (joins_phase w u.command.key from to (goes_on w u.command.key from to).order (over u.caller.call w.calls) w.parts there (same_joiners from to same) (same_called (home w u.command.key) from to same)
+    (λ number session q t k. still_under w u.caller.call u may.here may.alone number session q t k) (λ number q t k. k) old)
 joins_started w new u from to shown.Loads there h may old =
     let same : to.joiners ≡ from.joiners = ap (λ (s : State). s.joiners) h.1.4 in
-    let part = new_part u h.0.number Loader in
+    let part = new_part h.0.reservation in
     subst HasJoins (sym h.2)
-    (joins_phase w u.command.key from to w.order w.calls (insert w.parts u.command.key part) there (same_joiners from to same) (same_called (home w u.command.key) from to same) (λ number session q t k. k) (none_reserved w u part refl may.alone) old)
+    (joins_phase w u.command.key from to w.order w.calls (insert w.parts u.command.key part) there (same_joiners from to same) (same_called (home w u.command.key) from to same) (λ number session q t k. k) (none_reserved w u part (ap (λ (t : Ticket). t.reservation.caller.call) h.1.3) may.alone) old)
 joins_started w new u from to (shown.Asks change) there h may old =
-    let same : to.joiners ≡ from.joiners = ap (λ (s : State). s.joiners) h.1.3 in
-    let part = new_part u h.0.claim.number (Writer change) in
-    subst HasJoins (sym h.2)
-    (joins_phase w u.command.key from to w.order w.calls (insert w.parts u.command.key part) there (same_joiners from to same) (same_called (home w u.command.key) from to same) (λ number session q t k. k) (none_reserved w u part refl may.alone) old)
-joins_started w new u from to shown.Joins there h may old = subst HasJoins (sym h.2) (joins_joined w u from to h.0 h.1.1.0 there h.1.1.2 h.1.1.3 may old)
+    let same : to.joiners ≡ from.joiners = ap (λ (s : State). s.joiners) h.1.4 in
+    let part = new_part h.0.reservation in
+    subst HasJoins (sym h.3)
+    (joins_phase w u.command.key from to w.order w.calls (insert w.parts u.command.key part) there (same_joiners from to same) (same_called (home w u.command.key) from to same) (λ number session q t k. k) (none_reserved w u part (ap (λ (t : Ticket). t.reservation.caller.call) h.1.3) may.alone) old)
+joins_started w new u from to shown.Joins there h may old = subst HasJoins (sym h.2) (joins_joined w u from to h.0 there h.1.2 h.1.3 may old)
 joins_started w new u from to seen there h may old = absurd h
 
 -- 5. The last phase, and a reservation that is given back.
@@ -256,24 +269,22 @@ part_under w call key part is old =
 -- by what is shown of the last phase
 joins_ended : (w new : WorldState) (call : ℕ) (key : Bytes) (part : Part) (from to : State) (seen : Shown) → part_of w call key ≡ Some part → stripe_for w key ≡ Some from → Ends w call key part from to seen new → IsSoundWorld w → HasJoins new
 joins_ended w new call key part from to (shown.Stepped seen) is there h old =
-    let S : Reserved → Type 0 = λ r. Steps (settled from (claim_of key part) seen.place) r.session r.call key r.op (out_of part) (callers_of part.number from.joiners) seen.reply seen.place to in
-    let c = some_of (claimed from (claim_of key part)) S h.0 in
-    let joiners : to.joiners ≡ resolved part.number seen.place from.joiners = ap (λ (s : State). s.joiners) (c.2).goes_on in
+    let joiners : to.joiners ≡ resolved part.reservation.number seen.place from.joiners = ap (λ (s : State). s.joiners) h.0.1.after in
     let u = some_of (under w call) (λ u. u.command.key ≡ key) (part_under w call key part is old) in
     let free : is_joined w call u.0.command.key ≡ false = ap (is_joined w call) u.2 ∙ unjoined_part w call key part is old in
     subst HasJoins (sym h.2)
     (joins_phase w key from to (goes_on w key from to).order (over call w.calls) (remove w.parts key) there
-    (λ s k q t. ap (has_joined s k q) joiners ∙ any_resolved part.number seen.place (seen.place + 1) s k q from.joiners t)
-    (λ n t. subst (AllCalled n (home w key)) (sym joiners) (called_resolved n (home w key) part.number seen.place (seen.place + 1) from.joiners t))
+    (λ j t. let J : List Joiner → Type 0 = λ js. IsSomeAnd (joiner_of j.caller j.key js) (λ x. x.load ≡ j.load) in subst J (sym joiners) (joined_resolved (λ x. x.load ≡ j.load) part.reservation.number seen.place (seen.place + 1) j.caller j.key from.joiners (λ place x k. k) t))
+    (λ n t. subst (AllCalled n (home w key)) (sym joiners) (called_resolved n (home w key) part.reservation.number seen.place (seen.place + 1) from.joiners t))
     (λ number session q t k. still_under w call u.0 u.1 free number session q t k) (λ number q t k. none_removed w.parts key q number k) old)
 joins_ended w new call key part from to seen is there h old = absurd h
 
 -- a reservation is given back
-joins_withdrawn : (w : WorldState) (key : Bytes) (claim : Claim) (from to : State) → stripe_for w key ≡ Some from → Withdraws from claim to → IsSoundWorld w → HasJoins (without_part (with_stripe w key to) key)
+joins_withdrawn : (w : WorldState) (key : Bytes) (claim : Reservation) (from to : State) → stripe_for w key ≡ Some from → Withdraws from claim to → IsSoundWorld w → HasJoins (without_part (with_stripe w key to) key)
 joins_withdrawn w key claim from to there h old =
     let joiners = ap (λ (s : State). s.joiners) h.1 in
     joins_phase w key from to w.order w.calls (remove w.parts key) there
-    (λ s k q t. ap (has_joined s k q) joiners ∙ any_dissolved claim.number s k q from.joiners t)
+    (λ j t. let J : List Joiner → Type 0 = λ js. IsSomeAnd (joiner_of j.caller j.key js) (λ x. x.load ≡ j.load) in subst J (sym joiners) (joined_dissolved (λ x. x.load ≡ j.load) claim.number j.caller j.key from.joiners (λ x k. k) t))
     (λ n t. subst (AllCalled n (home w key)) (sym joiners) (called_dissolved n (home w key) claim.number from.joiners t))
     (λ number session q t k. k) (λ number q t k. none_removed w.parts key q number k) old
 
@@ -296,13 +307,13 @@ others_go_on w call = record {
 }
 
 -- a call that has joined, and isn't on this key, is another
-apart_from : (w : WorldState) (call : ℕ) (key : Bytes) (join : JoinClaim) → Picking w call key join → (number session : ℕ) (q : Bytes) → (q ≡ key → number ≡ call → session ≡ join.session → ⊥) → IsSomeAnd (under w number) (IsOf session q) → (number == call) ≡ false
+apart_from : (w : WorldState) (call : ℕ) (key : Bytes) (join : JoinClaim) → Picking w call key join → (number session : ℕ) (q : Bytes) → (q ≡ key → number ≡ call → session ≡ join.caller.session → ⊥) → IsSomeAnd (under w number) (IsOf session q) → (number == call) ≡ false
 apart_from w call key join p number session q other h = refuted (number == call) (λ e.
     let v = some_of (under w number) (IsOf session q) h in
     let same : number ≡ call = eqb-true number call e in
     let t : Some v.0 ≡ Some p.u = sym v.1 ∙ ap (under w) same ∙ p.here in
     let is : v.0 ≡ p.u = cc in
-    other (sym v.2.1 ∙ ap (λ (x : Under). x.command.key) is ∙ p.key_is) same (sym v.2.0 ∙ ap (λ (x : Under). x.session) is ∙ p.session_is))
+    other (sym v.2.1 ∙ ap (λ (x : Under). x.command.key) is ∙ p.key_is) same (sym v.2.0 ∙ ap (λ (x : Under). x.caller.session) is ∙ p.session_is))
 
 -- a test that is passed by what is so
 join_of_is : (call number : ℕ) (key q : Bytes) → q ≡ key → number ≡ call → ((number == call) && pointwise ◌==◌ key q) ≡ true
@@ -314,40 +325,41 @@ denied true h k = cc
 denied false h k = cc
 
 -- the join is gone, and its joiner
-joins_picked : (w : WorldState) (call : ℕ) (key : Bytes) (join : JoinClaim) (from to : State) (calls : List Under) → join_of w call key ≡ Some join → stripe_for w key ≡ Some from → to ≡ left_by from join → GoOn w call calls → IsSoundWorld w
+joins_picked : (w : WorldState) (call : ℕ) (key : Bytes) (join : JoinClaim) (from to : State) (calls : List Under) → join_of w call key ≡ Some join → stripe_for w key ≡ Some from → to ≡ without_joiner from join → GoOn w call calls → IsSoundWorld w
     → HasJoins (record w { stripes = slice_set w.stripes (home w key) to; joins = unjoined call key w.joins; calls = calls })
 joins_picked w call key join from to calls joined there is go old =
     let new : WorldState = record w { stripes = slice_set w.stripes (home w key) to; joins = unjoined call key w.joins; calls = calls } in
     let p = picking w call key join joined old in
-    let its : Joiner → Bool = is_joiner_of join.session join.call join.key in
-    let joiners : to.joiners ≡ without join.session join.call join.key from.joiners = ap (λ (s : State). s.joiners) is in
-    let out : (j : JoinClaim) → not (is_join call key j) ≡ true → has_joined j.session j.call j.key from.joiners ≡ true → has_joined j.session j.call j.key to.joiners ≡ true = λ j other h.
-    ap (has_joined j.session j.call j.key) joiners
-    ∙ any_kept (is_joiner_of j.session j.call j.key) (λ x. not (its x)) from.joiners (λ x t. ap not (refuted (its x) (λ e.
-    let mine = joiner_is j.session j.call j.key x t in
-    let same = joiner_is join.session join.call join.key x e in
-    denied (is_join call key j) other (join_of_is call j.call key j.key (sym mine.2 ∙ same.2 ∙ p.join_key) (sym mine.1 ∙ same.1 ∙ p.call_is))))) h
+    let its : Joiner → Bool = is_joiner_of join.caller join.key in
+    let joiners : to.joiners ≡ without join.caller join.key from.joiners = ap (λ (s : State). s.joiners) is in
+    let out : (j : JoinClaim) → not (is_join call key j) ≡ true → IsJoined from j → IsJoined to j = λ j other h.
+    let J : Option Joiner → Type 0 = λ o. IsSomeAnd o (λ x. x.load ≡ j.load) in
+    subst J (sym (ap (joiner_of j.caller j.key) joiners
+    ∙ find_kept (is_joiner_of j.caller j.key) (λ x. not (its x)) from.joiners (λ x t. ap not (refuted (its x) (λ e.
+    let mine = joiner_is j.caller j.key x t in
+    let same = joiner_is join.caller join.key x e in
+    denied (is_join call key j) other (join_of_is call j.caller.call key j.key (sym mine.2 ∙ same.2 ∙ p.join_key) (sym mine.1 ∙ same.1 ∙ p.call_is))))))) h
     in
-    let on : (m : ℕ) (j : Joiner) → (j.key ≡ key → j.number ≡ call → j.session ≡ join.session → ⊥) → IsCalled w m j → IsCalled new m j = λ m j other h.
-    let apart = apart_from w call key join p j.number j.session j.key other h.call in
+    let on : (m : ℕ) (j : Joiner) → (j.key ≡ key → j.caller.call ≡ call → j.caller.session ≡ join.caller.session → ⊥) → IsCalled w m j → IsCalled new m j = λ m j other h.
+    let apart = apart_from w call key join p j.caller.call j.caller.session j.key other h.call in
     record {
       home_is = h.home_is;
-      join = any_kept (is_join j.number j.key) (λ x. not (is_join call key x)) w.joins (λ x t. ap not (refuted (is_join call key x) (λ e.
-          let mine = join_is j.number j.key x t in
+      join = any_kept (is_join j.caller.call j.key) (λ x. not (is_join call key x)) w.joins (λ x t. ap not (refuted (is_join call key x) (λ e.
+          let mine = join_is j.caller.call j.key x t in
           let same = join_is call key x e in
-          let t : true ≡ false = sym (eq-eqb j.number call (sym mine.0 ∙ same.0)) ∙ apart in cc))) h.join;
-      call = go.keeps j.number j.session j.key apart h.call;
+          let t : true ≡ false = sym (eq-eqb j.caller.call call (sym mine.0 ∙ same.0)) ∙ apart in cc))) h.join;
+      call = go.keeps j.caller.call j.caller.session j.key apart h.call;
     } in
     record {
-      joins = waited_on w new (λ j. not (is_join call key j)) (λ (j : JoinClaim). is_joined w j.call j.key ≡ true) w.joins
+      joins = waited_on w new (λ j. not (is_join call key j)) (λ (j : JoinClaim). is_joined w j.caller.call j.key ≡ true) w.joins
           (λ j other t h. record {
             out = out_on w key from to j there (out j other) h.out;
-            call = go.keeps j.call j.session j.key (apart_from w call key join p j.call j.session j.key (λ e f g. denied (is_join call key j) other (join_of_is call j.call key j.key e f)) h.call) h.call;
+            call = go.keeps j.caller.call j.caller.session j.key (apart_from w call key join p j.caller.call j.caller.session j.key (λ e f g. denied (is_join call key j) other (join_of_is call j.caller.call key j.key e f)) h.call) h.call;
             no_part = h.no_part;
           }) (each_joined w.joins) old.joins;
       called = called_set w new key from to there
           (λ h. subst (AllCalled new (home w key)) (sym joiners) (called_on w new (home w key) (λ j. not (its j)) from.joiners
-          (λ j other k. on (home w key) j (λ e f g. denied (its j) other (all _ _ (all _ _ (eq-eqb j.session join.session g) (eq-eqb j.number join.call (f ∙ sym p.call_is))) (ap (pointwise ◌==◌ join.key) (e ∙ sym p.join_key) ∙ nat_list_eq_equiv.refl join.key))) k) h))
+          (λ j other k. on (home w key) j (λ e f g. denied (its j) other (all _ _ (all _ _ (eq-eqb j.caller.session join.caller.session g) (eq-eqb j.caller.call join.caller.call (f ∙ sym p.call_is))) (ap (pointwise ◌==◌ join.key) (e ∙ sym p.join_key) ∙ nat_list_eq_equiv.refl join.key))) k) h))
           (λ m js apart h. called_all w new m js (λ j k. on m j (λ e f g. apart (ap (home w) (sym e) ∙ k.home_is)) k) h) old;
       once = once_filter (λ j. not (is_join call key j)) w.joins old.once;
       alone = λ f. absurd (let t : None ≡ Some p.u = ap (find (has_number call)) (sym (old.idle f).0) ∙ p.here in cc);
@@ -355,8 +367,8 @@ joins_picked w call key join from to calls joined there is go old =
 
 -- by what is shown of a pick-up
 joins_picks : (w new : WorldState) (call : ℕ) (key : Bytes) (join : JoinClaim) (from to : State) (seen : Shown) → join_of w call key ≡ Some join → stripe_for w key ≡ Some from → Picks w call key join from to seen new → IsSoundWorld w → HasJoins new
-joins_picks w new call key join from to (shown.PickedUp seen) joined there h old = subst HasJoins (sym h.2) (joins_picked w call key join from to (over call w.calls) joined there h.0.2 (others_go_on w call) old)
-joins_picks w new call key join from to shown.Again joined there h old = subst HasJoins (sym h.1) (joins_picked w call key join from to w.calls joined there h.0.1 (all_go_on w call) old)
+joins_picks w new call key join from to (shown.PickedUp seen) joined there h old = subst HasJoins (sym h.2) (joins_picked w call key join from to (over call w.calls) joined there h.0.3 (others_go_on w call) old)
+joins_picks w new call key join from to shown.Again joined there h old = subst HasJoins (sym h.1) (joins_picked w call key join from to w.calls joined there h.0.2 (all_go_on w call) old)
 joins_picks w new call key join from to shown.Waits joined there h old = subst HasJoins (sym h.1) (record { joins = old.joins; once = old.once; called = old.called; alone = λ f. (old.idle f).1 })
 joins_picks w new call key join from to seen joined there h old = absurd h
 
@@ -390,7 +402,7 @@ joins_happens w new (event.Say call key answer) seen fit h old = subst HasJoins 
 joins_happens w new (event.Change call key) seen fit h old = subst HasJoins (sym h.5) (joins_parted w call key h.0 _ w.premises _ h.2 refl old)
 joins_happens w new (event.Report call fault) seen fit h old = subst HasJoins (sym h.7) (joins_parted w call h.0.command.key h.1 _ _ w.store h.4 refl old)
 joins_happens w new (event.Commit call key) seen fit h old = joins_ended w new call key h.0 h.2 h.4 seen h.1 h.3 h.5 old
-joins_happens w new (event.Withdraw call key) seen fit h old = subst HasJoins (sym h.7) (joins_withdrawn w key (claim_of key h.0) h.2 h.4 h.3 h.5 old)
+joins_happens w new (event.Withdraw call key) seen fit h old = subst HasJoins (sym h.7) (joins_withdrawn w key h.0.reservation h.2 h.4 h.3 h.5 old)
 joins_happens w new (event.Leave call) seen fit h old = subst HasJoins (sym h.1) (joins_left w call fit old)
 joins_happens w new (event.PickUp call key) seen fit h old = joins_picks w new call key h.0 h.2 h.4 seen h.1 h.3 h.5 old
 joins_happens w new (event.Foreign key value) seen fit h old = subst HasJoins (sym h.1) (joins_stored w _ _ false (λ f. let t : false ≡ true = f in cc) old)

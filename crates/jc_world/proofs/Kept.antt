@@ -1,15 +1,16 @@
 -- Each event keeps what the parts and the store of a world say.
 use Rattle.std.proofs.Common.{◌≡◌, ◌==◌, ◌&&◌, ◌||◌, ◌+◌, ℕ, zero, suc, List, [], ◌∷◌, ◌++◌, Bool, true, false, cond, not, Option, None, Some, IsSomeAnd, Ok, find, refl, sym, ap, ◌∙◌, subst, is_none, slice_get, slice_set}
+use Rattle.std.specs.List.{list_any}
 use Rattle.std.specs.Ordering.{eq_by_cmp}
 use Rattle.std.specs.Cmp.Lexicographic.{texts_ties, pointwise}
 use Rattle.std.proofs.lemmas.Cmp.{nat_list_cmp_total}
 use Rattle.std.proofs.lemmas.Bool.{eqb-true}
 use Rattle.std.specs.FinMap.{get, insert, remove, get-empty, get-insert, get-remove}
+use Rattle.jc_types.specs.declared.caller.Caller.{Caller}
 use Rattle.jc_types.specs.declared.config.Config.{Config}
 use Rattle.jc_types.specs.Limits.{checked}
 use Rattle.jc_model.specs.declared.event.Op.{Op}
 use Rattle.jc_model.specs.declared.event.Event.{Event}
-use Rattle.jc_model.specs.declared.event.Reply.{Reply}
 use Rattle.jc_model.specs.declared.event.Change.{Change}
 use Rattle.jc_model.specs.declared.event.LoadAnswer.{LoadAnswer}
 use Rattle.jc_model.specs.declared.event.LoadAnswer.TheVariants as load
@@ -21,15 +22,18 @@ use Rattle.jc_model.specs.Table.{entry_after, write_ask, holds, is_load_given, i
 use Rattle.jc_model.specs.Group.{nothing_said, write_only}
 use Rattle.jc_model.specs.Processor.{found_in}
 use Rattle.jc_model.proofs.Lookups.{both, same_key, get-with_entry}
-use Rattle.jc_inflight.specs.Joined.{callers_of}
-use Rattle.jc_stripe.specs.Claim.{Claim, WriteClaim, JoinClaim}
-use Rattle.jc_stripe.specs.State.{State, Reserved, claimed, is_claim, unreserved, is_reserved}
-use Rattle.jc_stripe.specs.Phases.{Begins, Commits, Withdraws, Steps, settled}
+use Rattle.jc_inflight.specs.Joining.{callers_of}
+use Rattle.jc_stripe.specs.declared.ticket.Reservation.{Reservation}
+use Rattle.jc_stripe.specs.Tickets.{Ticket, JoinClaim, asks_loader, asks_writer}
+use Rattle.jc_stripe.specs.State.{State, without_key, is_reserved, is_key, new_reservation, IsOut}
+use Rattle.jc_stripe.specs.Phases.{Begins, Commits, Withdraws, Steps, after_commit}
+use Rattle.jc_stripe.specs.Refusals.{reserves}
+use Rattle.jc_stripe.specs.declared.begun.StepDone.{StepDone}
 use Rattle.jc_stripe.specs.Reached.{IsReached}
 use Rattle.jc_stripe.specs.Laws.{KeepsReserved}
 use Rattle.jc_stripe.specs.declared.begun.Begun.TheVariants as begun
 use Rattle.jc_stripe.specs.declared.ticket.First.{First}
-use Rattle.jc_stripe.specs.declared.ticket.First.TheVariants.{Nobody, Loader, Writer}
+use Rattle.jc_stripe.specs.declared.ticket.First.TheVariants.{Nobody, Loader, Writer, Processor}
 use Rattle.jc_world.specs.declared.event.Command.{Command}
 use Rattle.jc_world.specs.declared.event.Under.{Under}
 use Rattle.jc_world.specs.declared.event.Part.{Part}
@@ -37,9 +41,9 @@ use Rattle.jc_world.specs.declared.event.Premises.{Premises}
 use Rattle.jc_world.specs.declared.event.Shown.{Shown}
 use Rattle.jc_world.specs.declared.event.Shown.TheVariants as shown
 use Rattle.jc_world.specs.declared.event.WorldEvent.TheVariants as event
-use Rattle.jc_world.specs.World.{WorldState, Parts, home, stripe_for, cached, entry_in, empty_stripes, start, under, over, of_call, part_of, asks_loader, asks_writer, waits_for_load, waits_for_report, is_answered, is_untouched, join_of, is_joined, unjoined, claim_of, out_of, has_number, with_stored}
+use Rattle.jc_world.specs.World.{WorldState, Parts, home, stripe_for, cached, entry_in, empty_stripes, start, under, over, of_call, part_of, waits_for_load, waits_for_report, is_answered, is_untouched, join_of, is_joined, unjoined, out_of, has_number, with_stored}
 use Rattle.jc_world.specs.Premises.{changed_to, is_true_load, is_done, is_true_report, disturbed, premises_hold}
-use Rattle.jc_world.specs.Events.{fits, is_free, may_start, may_leave, answered, changed, reported, new_part, with_stripe, goes_on, call_over, with_part, without_part, Starts, Ends, Picks}
+use Rattle.jc_world.specs.Events.{fits, is_free, may_start, may_leave, answered, changed, reported, new_part, with_stripe, goes_on, call_over, with_part, without_part, step_of, Starts, Ends, Picks}
 use Rattle.jc_world.specs.Coherent.{Coherent, is_changed, all_hold}
 use Rattle.jc_world.specs.Sound.{KindFits, IsHeld, Agrees, IsTold, KeyTold, WrittenFor, IsSoundWorld}
 use Rattle.jc_world.proofs.Halves.{HasParts}
@@ -49,10 +53,6 @@ use Rattle.jc_world.proofs.Entries.{split, tied, agrees_stepped, writes, loads_a
 use Rattle.jc_world.proofs.Callers.{picking}
 
 -- 1. Small facts.
-
--- a reservation is the one of a part
-abbrev IsFor : Part → Reserved → Type 0
-IsFor part r = (r.op ≡ part.op) × (r.first ≡ part.first) × (r.call ≡ part.call)
 
 -- a call is on this key
 abbrev IsOn : Bytes → Under → Type 0
@@ -100,24 +100,24 @@ undisturbed on w l h = let t = (both (w && l) false ((both on (w && l && false) 
 pub is_there : (o : Option Part) (call : ℕ) (part : Part) → of_call call o ≡ Some part → o ≡ Some part
 is_there None call part h = cc
 is_there (Some p) call part h =
-    elim (p.call == call) as (λ b. cond b (Some p) None ≡ Some part → Some p ≡ Some part) [ true ↦ λ h. h | false ↦ λ h. cc ] h
+    elim (p.reservation.caller.call == call) as (λ b. cond b (Some p) None ≡ Some part → Some p ≡ Some part) [ true ↦ λ h. h | false ↦ λ h. cc ] h
 
 -- and has the call's number
-is_of_call : (o : Option Part) (call : ℕ) (part : Part) → of_call call o ≡ Some part → part.call ≡ call
+is_of_call : (o : Option Part) (call : ℕ) (part : Part) → of_call call o ≡ Some part → part.reservation.caller.call ≡ call
 is_of_call None call part h = cc
 is_of_call (Some p) call part h =
-    elim (p.call == call) as (λ b. (p.call == call) ≡ b → cond b (Some p) None ≡ Some part → part.call ≡ call) [
-      | true ↦ λ e h. let is : p ≡ part = cc in ap (λ (x : Part). x.call) (sym is) ∙ eqb-true p.call call e
+    elim (p.reservation.caller.call == call) as (λ b. (p.reservation.caller.call == call) ≡ b → cond b (Some p) None ≡ Some part → part.reservation.caller.call ≡ call) [
+      | true ↦ λ e h. let is : p ≡ part = cc in ap (λ (x : Part). x.reservation.caller.call) (sym is) ∙ eqb-true p.reservation.caller.call call e
       | false ↦ λ e h. cc
     ] refl h
 
 -- a part that is there, where the call has none, is another call's
-other_call : (o : Option Part) (call : ℕ) (part : Part) → o ≡ Some part → is_none (of_call call o) ≡ true → (part.call == call) ≡ false
+other_call : (o : Option Part) (call : ℕ) (part : Part) → o ≡ Some part → is_none (of_call call o) ≡ true → (part.reservation.caller.call == call) ≡ false
 other_call None call part is none = cc
 other_call (Some p) call part is none =
     let same : p ≡ part = cc in
-    let P : Part → Type 0 = λ x. (x.call == call) ≡ false in
-    subst P same (elim (p.call == call) as (λ b. is_none (cond b (Some p) None) ≡ true → b ≡ false) [ true ↦ λ h. cc | false ↦ λ h. refl ] none)
+    let P : Part → Type 0 = λ x. (x.reservation.caller.call == call) ≡ false in
+    subst P same (elim (p.reservation.caller.call == call) as (λ b. is_none (cond b (Some p) None) ≡ true → b ≡ false) [ true ↦ λ h. cc | false ↦ λ h. refl ] none)
 
 -- what holds of each value holds of what is there
 some_of : {A : Type 0} (o : Option A) (P : A → Type 0) → IsSomeAnd o P → (x : A) × (o ≡ Some x) × P x
@@ -197,16 +197,15 @@ held_at w key part s there at old = of_some (stripe_for w key) (λ s. IsHeld w s
 
 -- the key of a part that is held is reserved
 is_out_reserved : (w : WorldState) (s : State) (key : Bytes) (part : Part) → IsHeld w s key part → is_reserved s key ≡ true
-is_out_reserved w s key part h = out_reserved (claim_of key part) (IsFor part) s.reservations h.out
+is_out_reserved w s key part h = ap (is_reserved s) (sym h.key_is) ∙ out_reserved part.reservation.key part.reservation s.reservations h.out
 
 -- a key that is not reserved has no part
 pub unheld : (w : WorldState) (key : Bytes) (s : State) → stripe_for w key ≡ Some s → is_reserved s key ≡ false → IsSoundWorld w → get w.parts key ≡ None
 unheld w key s at free old = missing (get w.parts key) (λ p e. let t = is_out_reserved w s key p (held_at w key p s e at old) in cc)
 
 -- a part's ticket is out
-pub out_at : (w : WorldState) (call : ℕ) (key : Bytes) (part : Part) (from : State) → part_of w call key ≡ Some part → stripe_for w key ≡ Some from → IsSoundWorld w → IsSomeAnd (claimed from (claim_of key part)) (λ r. r.first ≡ part.first)
-out_at w call key part from is at old =
-    some_map (claimed from (claim_of key part)) (IsFor part) (λ r. r.first ≡ part.first) (λ r h. h.1) (held_at w key part from (is_there (get w.parts key) call part is) at old).out
+pub out_at : (w : WorldState) (call : ℕ) (key : Bytes) (part : Part) (from : State) → part_of w call key ≡ Some part → stripe_for w key ≡ Some from → IsSoundWorld w → IsOut from part.reservation
+out_at w call key part from is at old = (held_at w key part from (is_there (get w.parts key) call part is) at old).out
 
 -- a key's part has been reserved, so the world is not fresh
 worn : (w : WorldState) (key : Bytes) (part : Part) → get w.parts key ≡ Some part → IsSoundWorld w → w.fresh ≡ true → ⊥
@@ -252,31 +251,35 @@ aside w store fresh parts premises = record w { store = store; fresh = fresh; pa
 -- all parts stay held
 held_aside : (w : WorldState) (store : Cache) (fresh : Bool) (parts : Parts) (premises : Premises) → IsSoundWorld w → AllHeld (aside w store fresh parts premises) w.parts
 held_aside w store fresh parts premises old q p e =
-    some_map (stripe_for w q) (λ s. IsHeld w s q p) (λ s. IsHeld (aside w store fresh parts premises) s q p) (λ s h. record { out = h.out; kind = h.kind; call = h.call }) (old.held q p e)
+    some_map (stripe_for w q) (λ s. IsHeld w s q p) (λ s. IsHeld (aside w store fresh parts premises) s q p) (λ s h. record { key_is = h.key_is; out = h.out; kind = h.kind; call = h.call }) (old.held q p e)
 
 -- an answer of the loader changes nothing of what was asked
 kind_said : (first : First) (part : Part) (entry : Option Bytes) (answer : LoadAnswer) → asks_loader first ≡ true → KindFits first part entry → KindFits first (record part { load = answer }) entry
 kind_said Loader part entry answer h kind = kind
 kind_said (Writer change) part entry answer h kind = cc
 kind_said Nobody part entry answer h kind = cc
+kind_said Processor part entry answer h kind = cc
 
 -- nor does a report of the writer
 kind_reported : (first : First) (part : Part) (entry : Option Bytes) (report : WriteAnswer) → asks_writer first ≡ true → KindFits first part entry → KindFits first (record part { report = report }) entry
 kind_reported Loader part entry report h kind = cc
 kind_reported (Writer change) part entry report h kind = kind
 kind_reported Nobody part entry report h kind = cc
+kind_reported Processor part entry report h kind = cc
 
 -- nor does its change of the store
 kind_changed : (first : First) (part : Part) (entry : Option Bytes) → asks_writer first ≡ true → KindFits first part entry → KindFits first (record part { is_changed = true }) entry
 kind_changed Loader part entry h kind = cc
 kind_changed (Writer change) part entry h kind = kind
 kind_changed Nobody part entry h kind = cc
+kind_changed Processor part entry h kind = cc
 
 -- what the writer was asked was not asked of the loader
 unloaded : (first : First) (part : Part) (entry : Option Bytes) → asks_writer first ≡ true → KindFits first part entry → part.load ≡ load.NotAsked
 unloaded Loader part entry h kind = cc
 unloaded (Writer change) part entry h kind = kind.1
 unloaded Nobody part entry h kind = cc
+unloaded Processor part entry h kind = cc
 
 -- the loader has answered
 pub parts_answered : (w : WorldState) (call : ℕ) (key : Bytes) (part : Part) (answer : LoadAnswer) → part_of w call key ≡ Some part → waits_for_load (part_of w call key) ≡ true → IsSoundWorld w → HasParts (answered w key part answer)
@@ -284,10 +287,10 @@ parts_answered w call key part answer is waits old =
     let n = answered w key part answer in
     let new : Part = record part { load = answer } in
     let there = is_there (get w.parts key) call part is in
-    let asked = both (asks_loader part.first) (not (is_load_given part.load)) (sym (ap waits_for_load is) ∙ waits) in
+    let asked = both (asks_loader part.reservation.first) (not (is_load_given part.load)) (sym (ap waits_for_load is) ∙ waits) in
     record {
       held = held_insert n w.parts key new (held_aside w w.store w.fresh n.parts n.premises old)
-          (some_map (stripe_for w key) (λ s. IsHeld w s key part) (λ s. IsHeld n s key new) (λ s h. record { out = h.out; kind = kind_said part.first part (entry_at s.cache key) answer asked.0 h.kind; call = h.call }) (old.held key part there));
+          (some_map (stripe_for w key) (λ s. IsHeld w s key part) (λ s. IsHeld n s key new) (λ s h. record { key_is = h.key_is; out = h.out; kind = kind_said part.reservation.first part (entry_at s.cache key) answer asked.0 h.kind; call = h.call }) (old.held key part there));
       told = λ h.
           let hold = hold_loader w.config.write_through w.premises.writers w.premises.loaders (is_true_load answer (entry_at w.store key)) w.premises.quiet h in
           let all = old.told hold.0 in
@@ -298,17 +301,17 @@ parts_answered w call key part answer is waits old =
     }
 
 -- the writer has changed the store
-pub parts_changed : (w : WorldState) (call : ℕ) (key : Bytes) (part : Part) (change : Change) → part_of w call key ≡ Some part → part.first ≡ Writer change → waits_for_report (part_of w call key) ≡ true → IsSoundWorld w → HasParts (changed w key part change)
+pub parts_changed : (w : WorldState) (call : ℕ) (key : Bytes) (part : Part) (change : Change) → part_of w call key ≡ Some part → part.reservation.first ≡ Writer change → waits_for_report (part_of w call key) ≡ true → IsSoundWorld w → HasParts (changed w key part change)
 parts_changed w call key part change is asks waits old =
     let n = changed w key part change in
     let new : Part = record part { is_changed = true } in
     let there = is_there (get w.parts key) call part is in
-    let asked = both (asks_writer part.first) (not (is_write_given part.report)) (sym (ap waits_for_report is) ∙ waits) in
+    let asked = both (asks_writer part.reservation.first) (not (is_write_given part.report)) (sym (ap waits_for_report is) ∙ waits) in
     let at = stripe_at w key old in
     let held = held_at w key part at.0 there at.1 old in
     record {
       held = held_insert n w.parts key new (held_aside w n.store w.fresh n.parts n.premises old)
-          (some_map (stripe_for w key) (λ s. IsHeld w s key part) (λ s. IsHeld n s key new) (λ s h. record { out = h.out; kind = kind_changed part.first part (entry_at s.cache key) asked.0 h.kind; call = h.call }) (old.held key part there));
+          (some_map (stripe_for w key) (λ s. IsHeld w s key part) (λ s. IsHeld n s key new) (λ s h. record { key_is = h.key_is; out = h.out; kind = kind_changed part.reservation.first part (entry_at s.cache key) asked.0 h.kind; call = h.call }) (old.held key part there));
       told = λ h q.
           let P : Option Part → Type 0 = λ o. KeyTold o (entry_at n.store q) (cached w q) in
           let Q : Option Bytes → Type 0 = λ s. KeyTold (cond (eq_by_cmp key_cmp q key) (Some new) (get w.parts q)) s (cached w q) in
@@ -316,7 +319,7 @@ parts_changed w call key part change is asks waits old =
           (subst Q (sym (get-with_entry w.store key (changed_to change) q))
           (split q key (λ b. KeyTold (cond b (Some new) (get w.parts q)) (cond b (changed_to change) (entry_at w.store q)) (cached w q))
           (λ same. record {
-            loaded = let L : LoadAnswer → Type 0 = λ a. Agrees (found_in a) (changed_to change) in subst L (sym (unloaded part.first part (entry_at at.0.cache key) asked.0 held.kind)) tt;
+            loaded = let L : LoadAnswer → Type 0 = λ a. Agrees (found_in a) (changed_to change) in subst L (sym (unloaded part.reservation.first part (entry_at at.0.cache key) asked.0 held.kind)) tt;
             written = λ e. let W : First → Type 0 = λ f. WrittenFor f (changed_to change) in subst W (sym asks) refl;
             unwritten = λ e. absurd (let t : true ≡ false = e in cc);
             honest = λ e. absurd (not_true _ asked.1 e);
@@ -332,10 +335,10 @@ parts_reported w call key part report is waits old =
     let n = reported w key part report in
     let new : Part = record part { report = report } in
     let there = is_there (get w.parts key) call part is in
-    let asked = both (asks_writer part.first) (not (is_write_given part.report)) (sym (ap waits_for_report is) ∙ waits) in
+    let asked = both (asks_writer part.reservation.first) (not (is_write_given part.report)) (sym (ap waits_for_report is) ∙ waits) in
     record {
       held = held_insert n w.parts key new (held_aside w w.store w.fresh n.parts n.premises old)
-          (some_map (stripe_for w key) (λ s. IsHeld w s key part) (λ s. IsHeld n s key new) (λ s h. record { out = h.out; kind = kind_reported part.first part (entry_at s.cache key) report asked.0 h.kind; call = h.call }) (old.held key part there));
+          (some_map (stripe_for w key) (λ s. IsHeld w s key part) (λ s. IsHeld n s key new) (λ s h. record { key_is = h.key_is; out = h.out; kind = kind_reported part.reservation.first part (entry_at s.cache key) report asked.0 h.kind; call = h.call }) (old.held key part there));
       told = λ h.
           let hold = hold_writer w.config.write_through w.premises.writers (is_true_report report part) w.premises.loaders w.premises.quiet h in
           let all = old.told hold.0 in
@@ -386,12 +389,12 @@ parts_start config fits =
 
 -- a call has begun
 pub parts_called : (w : WorldState) (call session : ℕ) (command : Command) → fits w (event.Call call session command) ≡ true → IsSoundWorld w
-    → HasParts (record w { last = Some call; fresh = false; calls = w.calls ++ record { session = session; number = call; command = command } ∷ [] })
+    → HasParts (record w { last = Some call; fresh = false; calls = w.calls ++ record { caller = record { session = session; call = call }; command = command } ∷ [] })
 parts_called w call session command fit old =
-    let more : List Under = record { session = session; number = call; command = command } ∷ [] in
+    let more : List Under = record { caller = record { session = session; call = call }; command = command } ∷ [] in
     let n : WorldState = record w { last = Some call; fresh = false; calls = w.calls ++ more } in
     record {
-      held = λ q p e. some_map (stripe_for w q) (λ s. IsHeld w s q p) (λ s. IsHeld n s q p) (λ s h. record { out = h.out; kind = h.kind; call = under_more p.call (IsOn q) w.calls more h.call }) (old.held q p e);
+      held = λ q p e. some_map (stripe_for w q) (λ s. IsHeld w s q p) (λ s. IsHeld n s q p) (λ s h. record { key_is = h.key_is; out = h.out; kind = h.kind; call = under_more p.reservation.caller.call (IsOn q) w.calls more h.call }) (old.held q p e);
       told = old.told;
       fresh = λ f. absurd (let t : false ≡ true = f in cc);
       idle = λ f. absurd (let t : false ≡ true = f in cc);
@@ -401,7 +404,7 @@ parts_called w call session command fit old =
 
 -- the calls of these parts are under way
 abbrev StayUnder : Parts → List Under → Type 0
-StayUnder parts calls = (key : Bytes) (part : Part) → get parts key ≡ Some part → IsSomeAnd (find (has_number part.call) calls) (IsOn key)
+StayUnder parts calls = (key : Bytes) (part : Part) → get parts key ≡ Some part → IsSomeAnd (find (has_number part.reservation.caller.call) calls) (IsOn key)
 
 -- the calls of all parts are under way
 under_at : (w : WorldState) → IsSoundWorld w → StayUnder w.parts w.calls
@@ -414,17 +417,17 @@ same_under : (u v : Under) (o : Option Under) → o ≡ Some u → o ≡ Some v 
 same_under u v o h k = let e : Some u ≡ Some v = sym h ∙ k in cc
 
 -- a part that stands at its call's key, and is no part of this call's key, is another call's
-apart_from : (w : WorldState) (call : ℕ) (u : Under) (q : Bytes) (p : Part) → under w call ≡ Some u → get w.parts q ≡ Some p → IsSoundWorld w → (q ≡ u.command.key → (p.call == call) ≡ false) → (p.call == call) ≡ false
+apart_from : (w : WorldState) (call : ℕ) (u : Under) (q : Bytes) (p : Part) → under w call ≡ Some u → get w.parts q ≡ Some p → IsSoundWorld w → (q ≡ u.command.key → (p.reservation.caller.call == call) ≡ false) → (p.reservation.caller.call == call) ≡ false
 apart_from w call u q p is e old own =
-    let at = some_of (under w p.call) (IsOn q) (under_at w old q p e) in
-    elim (p.call == call) as (λ b. (p.call == call) ≡ b → b ≡ false) [
-      | true ↦ λ t. sym t ∙ own (sym at.2 ∙ ap (λ (v : Under). v.command.key) (same_under at.0 u (under w call) (ap (under w) (sym (eqb-true p.call call t)) ∙ at.1) is))
+    let at = some_of (under w p.reservation.caller.call) (IsOn q) (under_at w old q p e) in
+    elim (p.reservation.caller.call == call) as (λ b. (p.reservation.caller.call == call) ≡ b → b ≡ false) [
+      | true ↦ λ t. sym t ∙ own (sym at.2 ∙ ap (λ (v : Under). v.command.key) (same_under at.0 u (under w call) (ap (under w) (sym (eqb-true p.reservation.caller.call call t)) ∙ at.1) is))
       | false ↦ λ t. refl
     ] refl
 
 -- so it is still under way when this one is over
-left_under : (w : WorldState) (call : ℕ) (u : Under) (q : Bytes) (p : Part) → under w call ≡ Some u → get w.parts q ≡ Some p → IsSoundWorld w → (q ≡ u.command.key → (p.call == call) ≡ false) → IsSomeAnd (find (has_number p.call) (over call w.calls)) (IsOn q)
-left_under w call u q p is e old own = under_left p.call call (IsOn q) w.calls (apart_from w call u q p is e old own) (under_at w old q p e)
+left_under : (w : WorldState) (call : ℕ) (u : Under) (q : Bytes) (p : Part) → under w call ≡ Some u → get w.parts q ≡ Some p → IsSoundWorld w → (q ≡ u.command.key → (p.reservation.caller.call == call) ≡ false) → IsSomeAnd (find (has_number p.reservation.caller.call) (over call w.calls)) (IsOn q)
+left_under w call u q p is e old own = under_left p.reservation.caller.call call (IsOn q) w.calls (apart_from w call u q p is e old own) (under_at w old q p e)
 
 -- the call has no part at its key before its first phase
 none_before : (w : WorldState) (call : ℕ) (key : Bytes) (u : Under) → fits w (event.Start call key) ≡ true → under w call ≡ Some u → is_none (part_of w call u.command.key) ≡ true
@@ -437,77 +440,77 @@ over_free : (w : WorldState) (call : ℕ) (u : Under) → under w call ≡ Some 
 over_free w call u is none old q p e = left_under w call u q p is e old (λ same. other_call (get w.parts q) call p e (ap (λ k. is_none (part_of w call k)) same ∙ none))
 
 -- so where the first phase is the last
-over_started : (w : WorldState) (call : ℕ) (key : Bytes) (u : Under) → fits w (event.Start call key) ≡ true → under w call ≡ Some u → IsSoundWorld w → StayUnder w.parts (over u.number w.calls)
+over_started : (w : WorldState) (call : ℕ) (key : Bytes) (u : Under) → fits w (event.Start call key) ≡ true → under w call ≡ Some u → IsSoundWorld w → StayUnder w.parts (over u.caller.call w.calls)
 over_started w call key u fit is old =
     let P : ℕ → Type 0 = λ n. StayUnder w.parts (over n w.calls) in
     subst P (sym (found_number call w.calls u is)) (over_free w call u is (none_before w call key u fit is) old)
 
 -- a commit's call has no part but the one that goes
 over_ended : (w : WorldState) (call : ℕ) (key : Bytes) (part : Part) → part_of w call key ≡ Some part → IsSoundWorld w
-    → (q : Bytes) (p : Part) → get w.parts q ≡ Some p → eq_by_cmp key_cmp q key ≡ false → IsSomeAnd (find (has_number p.call) (over call w.calls)) (IsOn q)
+    → (q : Bytes) (p : Part) → get w.parts q ≡ Some p → eq_by_cmp key_cmp q key ≡ false → IsSomeAnd (find (has_number p.reservation.caller.call) (over call w.calls)) (IsOn q)
 over_ended w call key part is old q p e apart =
     let there = is_there (get w.parts key) call part is in
-    let at = some_of (under w part.call) (IsOn key) (under_at w old key part there) in
+    let at = some_of (under w part.reservation.caller.call) (IsOn key) (under_at w old key part there) in
     left_under w call at.0 q p (ap (under w) (sym (is_of_call (get w.parts key) call part is)) ∙ at.1) e old
     (λ same. absurd (let t : true ≡ false = sym (tied key) ∙ ap (λ k. eq_by_cmp key_cmp k key) (sym (same ∙ at.2)) ∙ apart in cc))
 
 -- 7. The first phase.
 
 -- a part stays held, where its reservation does, its entry is kept and its call goes on
-held_on : (w n : WorldState) (from next : State) (key : Bytes) (part : Part) → entry_at next.cache key ≡ entry_at from.cache key → IsSomeAnd (claimed next (claim_of key part)) (IsFor part) → IsSomeAnd (under n part.call) (IsOn key)
+held_on : (w n : WorldState) (from next : State) (key : Bytes) (part : Part) → entry_at next.cache key ≡ entry_at from.cache key → IsOut next part.reservation → IsSomeAnd (under n part.reservation.caller.call) (IsOn key)
     → IsHeld w from key part → IsHeld n next key part
-held_on w n from next key part same out call h = record { out = out; kind = let P : Option Bytes → Type 0 = λ e. KindFits part.first part e in subst P (sym same) h.kind; call = call }
+held_on w n from next key part same out call h = record { key_is = h.key_is; out = out; kind = let P : Option Bytes → Type 0 = λ e. KindFits part.reservation.first part e in subst P (sym same) h.kind; call = call }
 
 -- the same, at a stripe that is none or stays
-held_still : (w n : WorldState) (o : Option State) (key : Bytes) (part : Part) → IsSomeAnd (under n part.call) (IsOn key) → HeldIn w o key part → HeldIn n o key part
-held_still w n o key part call = some_map o (λ s. IsHeld w s key part) (λ s. IsHeld n s key part) (λ s h. record { out = h.out; kind = h.kind; call = call })
+held_still : (w n : WorldState) (o : Option State) (key : Bytes) (part : Part) → IsSomeAnd (under n part.reservation.caller.call) (IsOn key) → HeldIn w o key part → HeldIn n o key part
+held_still w n o key part call = some_map o (λ s. IsHeld w s key part) (λ s. IsHeld n s key part) (λ s h. record { key_is = h.key_is; out = h.out; kind = h.kind; call = call })
 
 -- the phase was refused
-parts_refused : (w : WorldState) (call : ℕ) (u : Under) → under w call ≡ Some u → StayUnder w.parts (over u.number w.calls) → IsSoundWorld w → HasParts (call_over w u.number)
+parts_refused : (w : WorldState) (call : ℕ) (u : Under) → under w call ≡ Some u → StayUnder w.parts (over u.caller.call w.calls) → IsSoundWorld w → HasParts (call_over w u.caller.call)
 parts_refused w call u is stay old = record {
-  held = λ q p e. held_still w (call_over w u.number) (stripe_for w q) q p (stay q p e) (old.held q p e);
+  held = λ q p e. held_still w (call_over w u.caller.call) (stripe_for w q) q p (stay q p e) (old.held q p e);
   told = old.told;
   fresh = old.fresh;
   idle = λ f. absurd (begun_before w call u is old f);
 }
 
 -- a step was put down
-held_stepped : KeepsReserved → (w n : WorldState) (u : Under) (from next : State) (reply : Reply) (place : ℕ) (q : Bytes) (p : Part) → IsReached from → Begins from u.session u.number u.command.key u.command.op (begun.Done reply place) next
-    → IsSomeAnd (under n p.call) (IsOn q) → IsHeld w from q p → IsHeld n next q p
-held_stepped kept w n u from next reply place q p reached begins call h =
-    let R : List Reserved → Type 0 = λ rs. IsSomeAnd (find (is_claim (claim_of q p)) rs) (IsFor p) in
+held_stepped : KeepsReserved → (w n : WorldState) (u : Under) (from next : State) (done : StepDone) (q : Bytes) (p : Part) → IsReached from → Begins from u.caller u.command.key u.command.op (begun.Done done) next
+    → IsSomeAnd (under n p.reservation.caller.call) (IsOn q) → IsHeld w from q p → IsHeld n next q p
+held_stepped kept w n u from next done q p reached begins call h =
+    let R : List Reservation → Type 0 = λ rs. find (is_key p.reservation.key) rs ≡ Some p.reservation in
     held_on w n from next q p
-    (kept.begins from next u.session u.number u.command.key u.command.op (begun.Done reply place) q reached begins (is_out_reserved w from q p h))
-    (subst R (sym (ap (λ (s : State). s.reservations) begins.2.goes_on)) h.out) call h
+    (kept.begins from next u.caller u.command.key u.command.op (begun.Done done) q reached begins (is_out_reserved w from q p h))
+    (subst R (sym (ap (λ (s : State). s.reservations) begins.2.after)) h.out) call h
 
 -- and the entries that agreed with the store do so still
-agrees_begun : (u : Under) (from next : State) (reply : Reply) (place : ℕ) (q : Bytes) (stored : Option Bytes) → Begins from u.session u.number u.command.key u.command.op (begun.Done reply place) next
+agrees_begun : (u : Under) (from next : State) (done : StepDone) (q : Bytes) (stored : Option Bytes) → Begins from u.caller u.command.key u.command.op (begun.Done done) next
     → from.config.write_through ≡ true → Agrees (entry_at from.cache q) stored → Agrees (entry_at next.cache q) stored
-agrees_begun u from next reply place q stored begins on agrees =
+agrees_begun u from next done q stored begins on agrees =
     let key = u.command.key in
     let op = u.command.op in
-    agrees_stepped from next u.session u.number key op nothing_said [] reply place q stored begins.2
+    agrees_stepped from next u.caller key op nothing_said [] done q stored begins.2
     (split q key (λ b. Agrees (cond b (entry_after op (entry_at from.cache key) nothing_said) (entry_at from.cache q)) stored)
     (λ same. asks_nobody from.config op (entry_at from.cache key) stored on begins.1 (let P : Bytes → Type 0 = λ k. Agrees (entry_at from.cache k) stored in subst P same agrees))
     (λ apart. agrees))
 
 -- so the parts and the store say what they said
-parts_stepped : KeepsReserved → (w : WorldState) (call : ℕ) (u : Under) (from next : State) (order : List Event) (reply : Reply) (place : ℕ) → under w call ≡ Some u → StayUnder w.parts (over u.number w.calls) → stripe_for w u.command.key ≡ Some from
-    → Begins from u.session u.number u.command.key u.command.op (begun.Done reply place) next → IsSoundWorld w
-    → HasParts (record w { stripes = slice_set w.stripes (home w u.command.key) next; order = order; calls = over u.number w.calls })
-parts_stepped kept w call u from next order reply place is stay at begins old =
+parts_stepped : KeepsReserved → (w : WorldState) (call : ℕ) (u : Under) (from next : State) (order : List Event) (done : StepDone) → under w call ≡ Some u → StayUnder w.parts (over u.caller.call w.calls) → stripe_for w u.command.key ≡ Some from
+    → Begins from u.caller u.command.key u.command.op (begun.Done done) next → IsSoundWorld w
+    → HasParts (record w { stripes = slice_set w.stripes (home w u.command.key) next; order = order; calls = over u.caller.call w.calls })
+parts_stepped kept w call u from next order done is stay at begins old =
     let key = u.command.key in
-    let n : WorldState = record w { stripes = slice_set w.stripes (home w key) next; order = order; calls = over u.number w.calls } in
+    let n : WorldState = record w { stripes = slice_set w.stripes (home w key) next; order = order; calls = over u.caller.call w.calls } in
     record {
       held = λ q p e.
           at_stripe w.stripes (home w key) (home w q) from next (λ o x. HeldIn w o q p → HeldIn n x q p) at
-          (λ h. held_stepped kept w n u from next reply place q p (old.shape.each (home w key) from at).reached begins (stay q p e) h)
+          (λ h. held_stepped kept w n u from next done q p (old.shape.each (home w key) from at).reached begins (stay q p e) h)
           (held_still w n (stripe_for w q) q p (stay q p e))
           (old.held q p e);
       told = λ hold q.
           let on : from.config.write_through ≡ true = ap (λ (c : Config). c.write_through) (config_at w (home w key) from at old) ∙ (both w.config.write_through (premises_hold w.premises) hold).0 in
           at_stripe w.stripes (home w key) (home w q) from next (λ o x. KeyTold (get w.parts q) (entry_at w.store q) (entry_in o q) → KeyTold (get w.parts q) (entry_at w.store q) (entry_in x q)) at
-          (told_on (get w.parts q) (entry_at w.store q) (entry_at from.cache q) (entry_at next.cache q) (agrees_begun u from next reply place q (entry_at w.store q) begins on))
+          (told_on (get w.parts q) (entry_at w.store q) (entry_at from.cache q) (entry_at next.cache q) (agrees_begun u from next done q (entry_at w.store q) begins on))
           (λ h. h)
           (old.told hold q);
       fresh = λ f. absurd (begun_before w call u is old f);
@@ -524,14 +527,14 @@ told_new part stored entry unloaded unchanged unreported agrees = record {
 }
 
 -- a key was reserved: its part is new, and the others are held on
-held_reserving : (w n : WorldState) (from next : State) (r : Reserved) (q : Bytes) (p : Part) → next.reservations ≡ from.reservations ++ r ∷ [] → next.cache ≡ from.cache
-    → IsSomeAnd (under n p.call) (IsOn q) → IsHeld w from q p → IsHeld n next q p
+held_reserving : (w n : WorldState) (from next : State) (r : Reservation) (q : Bytes) (p : Part) → next.reservations ≡ from.reservations ++ r ∷ [] → next.cache ≡ from.cache
+    → IsSomeAnd (under n p.reservation.caller.call) (IsOn q) → IsHeld w from q p → IsHeld n next q p
 held_reserving w n from next r q p reservations cache call h =
-    let R : List Reserved → Type 0 = λ rs. IsSomeAnd (find (is_claim (claim_of q p)) rs) (IsFor p) in
-    held_on w n from next q p (ap (λ c. entry_at c q) cache) (subst R (sym reservations) (found_more (is_claim (claim_of q p)) (IsFor p) from.reservations (r ∷ []) h.out)) call h
+    let R : List Reservation → Type 0 = λ rs. find (is_key p.reservation.key) rs ≡ Some p.reservation in
+    held_on w n from next q p (ap (λ c. entry_at c q) cache) (subst R (sym reservations) (found_more (is_key p.reservation.key) from.reservations (r ∷ []) p.reservation h.out)) call h
 
 -- so there is one part more
-parts_reserving : (w : WorldState) (key : Bytes) (from next : State) (r : Reserved) (part : Part) → stripe_for w key ≡ Some from → is_reserved from key ≡ false
+parts_reserving : (w : WorldState) (key : Bytes) (from next : State) (r : Reservation) (part : Part) → stripe_for w key ≡ Some from → is_reserved from key ≡ false
     → next.reservations ≡ from.reservations ++ r ∷ [] → next.cache ≡ from.cache → IsHeld (with_part (with_stripe w key next) key part) next key part
     → part.load ≡ load.NotAsked → part.is_changed ≡ false → part.report ≡ write.NotAsked → (w.fresh ≡ true → ⊥) → IsSoundWorld w
     → HasParts (with_part (with_stripe w key next) key part)
@@ -559,50 +562,56 @@ parts_reserving w key from next r part at free reservations cache one unloaded u
     }
 
 -- the call's own key, under its number
-own_call : (w : WorldState) (call : ℕ) (u : Under) → under w call ≡ Some u → IsSomeAnd (under w u.number) (IsOn u.command.key)
-own_call w call u is = some_at (under w u.number) (IsOn u.command.key) u (ap (under w) (found_number call w.calls u is) ∙ is) refl
+own_call : (w : WorldState) (call : ℕ) (u : Under) → under w call ≡ Some u → IsSomeAnd (under w u.caller.call) (IsOn u.command.key)
+own_call w call u is = some_at (under w u.caller.call) (IsOn u.command.key) u (ap (under w) (found_number call w.calls u is) ∙ is) refl
 
 -- a reservation is made of a key that was free: its part has it
-held_new : (w n : WorldState) (u : Under) (from next : State) (first : First) (number : ℕ) → is_reserved from u.command.key ≡ false → number ≡ from.next
-    → next.reservations ≡ from.reservations ++ record { key = u.command.key; number = from.next; session = u.session; call = u.number; op = u.command.op; first = first } ∷ []
-    → KindFits first (new_part u number first) (entry_at next.cache u.command.key) → IsSomeAnd (under n u.number) (IsOn u.command.key) → IsHeld n next u.command.key (new_part u number first)
-held_new w n u from next first number free number_is reservations kind call =
-    let key = u.command.key in
-    let r : Reserved = record { key = key; number = from.next; session = u.session; call = u.number; op = u.command.op; first = first } in
-    let F : Reserved → Type 0 = λ r. (r.op ≡ u.command.op) × (r.first ≡ first) × (r.call ≡ u.number) in
-    let P : List Reserved → Type 0 = λ rs. IsSomeAnd (find (is_claim (record { key = key; number = from.next })) rs) F in
-    let Q : ℕ → Type 0 = λ k. IsSomeAnd (find (is_claim (record { key = key; number = k })) next.reservations) F in
-    record { out = subst Q (sym number_is) (subst P (sym reservations) (new_out from key F r refl refl free (refl, refl, refl))); kind = kind; call = call }
+held_new : (n : WorldState) (key : Bytes) (from next : State) (r : Reservation) → is_reserved from key ≡ false → r.key ≡ key → next.reservations ≡ from.reservations ++ r ∷ []
+    → KindFits r.first (new_part r) (entry_at next.cache key) → IsSomeAnd (under n r.caller.call) (IsOn key) → IsHeld n next key (new_part r)
+held_new n key from next r free key_is reservations kind call =
+    let P : List Reservation → Type 0 = λ rs. find (is_key r.key) rs ≡ Some r in
+    record { key_is = key_is; out = subst P (sym reservations) (new_out from r (ap (is_reserved from) key_is ∙ free)); kind = kind; call = call }
+
+-- the same, under the caller of its reservation
+its_call : (w : WorldState) (call : ℕ) (u : Under) (r : Reservation) → under w call ≡ Some u → r.caller ≡ u.caller → IsSomeAnd (under w r.caller.call) (IsOn u.command.key)
+its_call w call u r is caller_is = let C : Caller → Type 0 = λ c. IsSomeAnd (under w c.call) (IsOn u.command.key) in subst C (sym caller_is) (own_call w call u is)
 
 -- the key is reserved, and the loader is asked
-parts_loads : (w : WorldState) (call : ℕ) (u : Under) (from next : State) (ticket : Claim) → under w call ≡ Some u → stripe_for w u.command.key ≡ Some from
-    → Begins from u.session u.number u.command.key u.command.op (begun.Load ticket) next → IsSoundWorld w → HasParts (with_part (with_stripe w u.command.key next) u.command.key (new_part u ticket.number Loader))
+parts_loads : (w : WorldState) (call : ℕ) (u : Under) (from next : State) (ticket : Ticket) → under w call ≡ Some u → stripe_for w u.command.key ≡ Some from
+    → Begins from u.caller u.command.key u.command.op (begun.Load ticket) next → IsSoundWorld w → HasParts (with_part (with_stripe w u.command.key next) u.command.key (new_part ticket.reservation))
 parts_loads w call u from next ticket is at begins old =
     let key = u.command.key in
-    let r : Reserved = record { key = key; number = from.next; session = u.session; call = u.number; op = u.command.op; first = Loader } in
-    let part = new_part u ticket.number Loader in
+    let op = u.command.op in
+    let r = ticket.reservation in
+    let part = new_part r in
     let n = with_part (with_stripe w key next) key part in
-    let free = was_free from u.number key u.command.op Loader begins.0 begins.1 begins.2 refl in
+    let r_is : r ≡ new_reservation from u.caller key op Loader = ap (λ (t : Ticket). t.reservation) begins.3 in
+    let free = was_free from u.caller key op Loader begins.0 begins.1 begins.2 refl in
     let reservations = ap (λ (s : State). s.reservations) begins.4 in
+    let K : Reservation → Type 0 = λ x. KindFits x.first (new_part x) (entry_at next.cache key) in
     parts_reserving w key from next r part at free reservations (ap (λ (s : State). s.cache) begins.4)
-    (held_new w n u from next Loader ticket.number free (ap (λ (t : Claim). t.number) begins.3) reservations (loads_asked from.config u.command.op (entry_at from.cache key) begins.2, refl, refl) (own_call w call u is))
+    (held_new n key from next r free (ap (λ (x : Reservation). x.key) r_is) reservations (subst K (sym r_is) (loads_asked from.config op (entry_at from.cache key) begins.2, refl, refl))
+    (its_call w call u r is (ap (λ (x : Reservation). x.caller) r_is)))
     refl refl refl (begun_before w call u is old) old
 
 -- the key is reserved, and the writer is asked
-parts_asks : (w : WorldState) (call : ℕ) (u : Under) (from next : State) (ticket : WriteClaim) (change : Change) → under w call ≡ Some u → stripe_for w u.command.key ≡ Some from
-    → Begins from u.session u.number u.command.key u.command.op (begun.Write ticket change) next → IsSoundWorld w → HasParts (with_part (with_stripe w u.command.key next) u.command.key (new_part u ticket.claim.number (Writer change)))
-parts_asks w call u from next ticket change is at begins old =
+parts_asks : (w : WorldState) (call : ℕ) (u : Under) (from next : State) (ticket : Ticket) (change : Change) → under w call ≡ Some u → stripe_for w u.command.key ≡ Some from
+    → Begins from u.caller u.command.key u.command.op (begun.Write ticket) next → ticket.reservation.first ≡ Writer change → IsSoundWorld w → HasParts (with_part (with_stripe w u.command.key next) u.command.key (new_part ticket.reservation))
+parts_asks w call u from next ticket change is at begins first old =
     let key = u.command.key in
     let op = u.command.op in
-    let r : Reserved = record { key = key; number = from.next; session = u.session; call = u.number; op = op; first = Writer change } in
-    let part = new_part u ticket.claim.number (Writer change) in
+    let r = ticket.reservation in
+    let part = new_part r in
     let n = with_part (with_stripe w key next) key part in
-    let free = was_free from u.number key op (Writer change) begins.0 (writer_alone from key op change begins.1) begins.1 refl in
-    let reservations = ap (λ (s : State). s.reservations) begins.3 in
-    let cache = ap (λ (s : State). s.cache) begins.3 in
+    let r_is : r ≡ new_reservation from u.caller key op r.first = ap (λ (t : Ticket). t.reservation) begins.3 in
+    let free = was_free from u.caller key op r.first begins.0 (writer_alone from key op r.first begins.1 begins.2) begins.1 (ap reserves first) in
+    let reservations = ap (λ (s : State). s.reservations) begins.4 in
+    let cache = ap (λ (s : State). s.cache) begins.4 in
+    let K : First → Type 0 = λ f. KindFits f part (entry_at next.cache key) in
     parts_reserving w key from next r part at free reservations cache
-    (held_new w n u from next (Writer change) ticket.claim.number free (ap (λ (t : WriteClaim). t.claim.number) begins.2) reservations
-    (ap (λ c. write_ask op (entry_at c key) process.NotAsked) cache ∙ writes_asked from.config op (entry_at from.cache key) change begins.1, refl) (own_call w call u is))
+    (held_new n key from next r free (ap (λ (x : Reservation). x.key) r_is) reservations
+    (subst K (sym first) ((λ i. write_ask (r_is i).op (entry_at (cache i) key) process.NotAsked) ∙ writes_asked from.config op (entry_at from.cache key) change (begins.1 ∙ first), refl))
+    (its_call w call u r is (ap (λ (x : Reservation). x.caller) r_is)))
     refl refl refl (begun_before w call u is old) old
 
 -- a stripe is another, whose entries and reservations are the same
@@ -613,7 +622,7 @@ parts_aside w key from next calls joins at cache reservations stay used old =
     record {
       held = λ q p e.
           at_stripe w.stripes (home w key) (home w q) from next (λ o x. HeldIn w o q p → HeldIn n x q p) at
-          (λ h. let R : List Reserved → Type 0 = λ rs. IsSomeAnd (find (is_claim (claim_of q p)) rs) (IsFor p) in held_on w n from next q p (ap (λ c. entry_at c q) cache) (subst R (sym reservations) h.out) (stay q p e) h)
+          (λ h. let R : List Reservation → Type 0 = λ rs. find (is_key p.reservation.key) rs ≡ Some p.reservation in held_on w n from next q p (ap (λ c. entry_at c q) cache) (subst R (sym reservations) h.out) (stay q p e) h)
           (held_still w n (stripe_for w q) q p (stay q p e))
           (old.held q p e);
       told = λ hold q.
@@ -630,13 +639,12 @@ pub parts_started : KeepsReserved → (w new : WorldState) (call : ℕ) (key : B
     → Starts w u from to seen new → IsSoundWorld w → HasParts new
 parts_started kept w new call key u from to (shown.Refused refusal) fit is at (begins, leaves) old = subst HasParts (sym leaves) (parts_refused w call u is (over_started w call key u fit is old) old)
 parts_started kept w new call key u from to (shown.Stepped seen) fit is at (begins, shows, leaves) old =
-    subst HasParts (sym leaves) (parts_stepped kept w call u from to (goes_on w u.command.key from to).order seen.reply seen.place is (over_started w call key u fit is old) at begins old)
+    subst HasParts (sym leaves) (parts_stepped kept w call u from to (goes_on w u.command.key from to).order (step_of seen) is (over_started w call key u fit is old) at begins old)
 parts_started kept w new call key u from to shown.Loads fit is at (ticket, begins, leaves) old = subst HasParts (sym leaves) (parts_loads w call u from to ticket is at begins old)
-parts_started kept w new call key u from to (shown.Asks change) fit is at (ticket, begins, leaves) old = subst HasParts (sym leaves) (parts_asks w call u from to ticket change is at begins old)
+parts_started kept w new call key u from to (shown.Asks change) fit is at (ticket, begins, first, leaves) old = subst HasParts (sym leaves) (parts_asks w call u from to ticket change is at begins first old)
 parts_started kept w new call key u from to shown.Joins fit is at (join, begins, leaves) old =
-    let load = begins.1 in
     subst HasParts (sym leaves)
-    (parts_aside w u.command.key from to w.calls (w.joins ++ join ∷ []) at (ap (λ (s : State). s.cache) load.3) (ap (λ (s : State). s.reservations) load.3) (under_at w old) (begun_before w call u is old) old)
+    (parts_aside w u.command.key from to w.calls (w.joins ++ join ∷ []) at (ap (λ (s : State). s.cache) begins.3) (ap (λ (s : State). s.reservations) begins.3) (under_at w old) (begun_before w call u is old) old)
 parts_started kept w new call key u from to seen fit is at h old = absurd h
 
 -- 8. The last phase.
@@ -651,57 +659,63 @@ agrees_written op entry stored change write.Done was asked given written unwritt
     subst P (written (sym honest) ∙ sym (writes op entry change asked)) (agrees_same stored)
 
 -- what a commit leaves agrees with the store
-agrees_ended : (first : First) (part : Part) (entry stored : Option Bytes) → part.first ≡ first → KindFits first part entry → ((asks_loader first && is_load_given part.load) || (asks_writer first && is_write_given part.report)) ≡ true
-    → IsTold part stored entry → Agrees (entry_after part.op entry (out_of part)) stored
+agrees_ended : (first : First) (part : Part) (entry stored : Option Bytes) → part.reservation.first ≡ first → KindFits first part entry → ((asks_loader first && is_load_given part.load) || (asks_writer first && is_write_given part.report)) ≡ true
+    → IsTold part stored entry → Agrees (entry_after part.reservation.op entry (out_of part)) stored
 agrees_ended Nobody part entry stored is kind answered h = absurd kind
+agrees_ended Processor part entry stored is kind answered h = absurd kind
 agrees_ended Loader part entry stored is kind answered h =
-    let P : WriteAnswer → Type 0 = λ r. Agrees (entry_after part.op entry (record { load = part.load; write = r; process = process.NotAsked })) stored in
-    subst P (sym kind.2) (loads part.op entry part.load stored kind.0 (h.unwritten kind.1) h.loaded)
+    let P : WriteAnswer → Type 0 = λ r. Agrees (entry_after part.reservation.op entry (record { load = part.load; write = r; process = process.NotAsked })) stored in
+    subst P (sym kind.2) (loads part.reservation.op entry part.load stored kind.0 (h.unwritten kind.1) h.loaded)
 agrees_ended (Writer change) part entry stored is kind answered h =
-    let P : LoadAnswer → Type 0 = λ a. Agrees (entry_after part.op entry (record { load = a; write = part.report; process = process.NotAsked })) stored in
+    let P : LoadAnswer → Type 0 = λ a. Agrees (entry_after part.reservation.op entry (record { load = a; write = part.report; process = process.NotAsked })) stored in
     let W : First → Type 0 = λ f. WrittenFor f stored in
-    subst P (sym kind.1) (agrees_written part.op entry stored change part.report part.is_changed kind.0 answered (λ e. subst W is (h.written e)) h.unwritten (h.honest answered))
+    subst P (sym kind.1) (agrees_written part.reservation.op entry stored change part.report part.is_changed kind.0 answered (λ e. subst W is (h.written e)) h.unwritten (h.honest answered))
+
+-- another key's part keeps its reservation
+others_out : (w : WorldState) (from : State) (key q : Bytes) (p : Part) → eq_by_cmp key_cmp q key ≡ false → IsHeld w from q p → find (is_key p.reservation.key) (without_key key from.reservations) ≡ Some p.reservation
+others_out w from key q p apart h = found_left p.reservation.key key from.reservations (ap (λ k. eq_by_cmp key_cmp k key) h.key_is ∙ apart) ∙ h.out
 
 -- a commit keeps the reservations of the other keys, and their entries
-held_ended : KeepsReserved → (w n : WorldState) (key : Bytes) (part : Part) (from next : State) (reply : Reply) (place : ℕ) (q : Bytes) (p : Part) → IsReached from → Commits from (claim_of key part) (out_of part) reply place next
-    → next.reservations ≡ unreserved key from.reservations → eq_by_cmp key_cmp q key ≡ false → IsSomeAnd (under n p.call) (IsOn q) → IsHeld w from q p → IsHeld n next q p
-held_ended kept w n key part from next reply place q p reached commits left apart call h =
-    let R : List Reserved → Type 0 = λ rs. IsSomeAnd (find (is_claim (claim_of q p)) rs) (IsFor p) in
-    let out = found_left (claim_of q p) key (IsFor p) from.reservations apart h.out in
+held_ended : KeepsReserved → (w n : WorldState) (key : Bytes) (part : Part) (from next : State) (done : StepDone) (q : Bytes) (p : Part) → part.reservation.key ≡ key → IsReached from → Commits from part.reservation (out_of part) done next
+    → next.reservations ≡ without_key key from.reservations → eq_by_cmp key_cmp q key ≡ false → IsSomeAnd (under n p.reservation.caller.call) (IsOn q) → IsHeld w from q p → IsHeld n next q p
+held_ended kept w n key part from next done q p key_is reached commits left apart call h =
+    let R : List Reservation → Type 0 = λ rs. find (is_key p.reservation.key) rs ≡ Some p.reservation in
+    let out = others_out w from key q p apart h in
     held_on w n from next q p
-    (kept.commits from next (claim_of key part) (out_of part) reply place q reached commits (out_reserved (claim_of q p) (IsFor p) (unreserved key from.reservations) out))
+    (kept.commits from next part.reservation (out_of part) done q reached commits
+    ((λ i. list_any (is_key (sym h.key_is i)) (without_key (key_is i) from.reservations)) ∙ out_reserved p.reservation.key p.reservation (without_key key from.reservations) out))
     (subst R (sym left) out) call h
 
 -- the step of a commit
-abbrev EndsBy : Bytes → Part → State → State → Reply → ℕ → Reserved → Type 0
-EndsBy key part from next reply place r = Steps (settled from (claim_of key part) place) r.session r.call key r.op (out_of part) (callers_of part.number from.joiners) reply place next
+abbrev EndsBy : Bytes → Part → State → State → StepDone → Type 0
+EndsBy key part from next done = Steps (after_commit from part.reservation done.place) part.reservation.caller key part.reservation.op (out_of part) (callers_of part.reservation.number from.joiners) done next
 
 -- a commit's own entry agrees with the store, where what the operation leaves does
-agrees_own : (key : Bytes) (part : Part) (r : Reserved) (from next : State) (reply : Reply) (place : ℕ) (stored : Option Bytes) → EndsBy key part from next reply place r
-    → Agrees (entry_after r.op (entry_at from.cache key) (out_of part)) stored → Agrees (entry_at next.cache key) stored
-agrees_own key part r from next reply place stored steps h =
-    agrees_stepped (settled from (claim_of key part) place) next r.session r.call key r.op (out_of part) (callers_of part.number from.joiners) reply place key stored steps
-    (let P : Bool → Type 0 = λ b. Agrees (cond b (entry_after r.op (entry_at from.cache key) (out_of part)) (entry_at from.cache key)) stored in subst P (sym (tied key)) h)
+agrees_own : (key : Bytes) (part : Part) (from next : State) (done : StepDone) (stored : Option Bytes) → EndsBy key part from next done
+    → Agrees (entry_after part.reservation.op (entry_at from.cache key) (out_of part)) stored → Agrees (entry_at next.cache key) stored
+agrees_own key part from next done stored steps h =
+    agrees_stepped (after_commit from part.reservation done.place) next part.reservation.caller key part.reservation.op (out_of part) (callers_of part.reservation.number from.joiners) done key stored steps
+    (let P : Bool → Type 0 = λ b. Agrees (cond b (entry_after part.reservation.op (entry_at from.cache key) (out_of part)) (entry_at from.cache key)) stored in subst P (sym (tied key)) h)
 
 -- and the others go on to
-agrees_other : (key : Bytes) (part : Part) (r : Reserved) (from next : State) (reply : Reply) (place : ℕ) (q : Bytes) (stored : Option Bytes) → EndsBy key part from next reply place r
+agrees_other : (key : Bytes) (part : Part) (from next : State) (done : StepDone) (q : Bytes) (stored : Option Bytes) → EndsBy key part from next done
     → eq_by_cmp key_cmp q key ≡ false → Agrees (entry_at from.cache q) stored → Agrees (entry_at next.cache q) stored
-agrees_other key part r from next reply place q stored steps apart h =
-    agrees_stepped (settled from (claim_of key part) place) next r.session r.call key r.op (out_of part) (callers_of part.number from.joiners) reply place q stored steps
-    (let P : Bool → Type 0 = λ b. Agrees (cond b (entry_after r.op (entry_at from.cache key) (out_of part)) (entry_at from.cache q)) stored in subst P (sym apart) h)
+agrees_other key part from next done q stored steps apart h =
+    agrees_stepped (after_commit from part.reservation done.place) next part.reservation.caller key part.reservation.op (out_of part) (callers_of part.reservation.number from.joiners) done q stored steps
+    (let P : Bool → Type 0 = λ b. Agrees (cond b (entry_after part.reservation.op (entry_at from.cache key) (out_of part)) (entry_at from.cache q)) stored in subst P (sym apart) h)
 
 -- so there is one part less
-parts_committed : KeepsReserved → (w : WorldState) (call : ℕ) (key : Bytes) (part : Part) (from next : State) (order : List Event) (reply : Reply) (place : ℕ) → part_of w call key ≡ Some part → is_answered (part_of w call key) ≡ true → stripe_for w key ≡ Some from
-    → Commits from (claim_of key part) (out_of part) reply place next → IsSoundWorld w
+parts_committed : KeepsReserved → (w : WorldState) (call : ℕ) (key : Bytes) (part : Part) (from next : State) (order : List Event) (done : StepDone) → part_of w call key ≡ Some part → is_answered (part_of w call key) ≡ true → stripe_for w key ≡ Some from
+    → Commits from part.reservation (out_of part) done next → IsSoundWorld w
     → HasParts (record w { stripes = slice_set w.stripes (home w key) next; order = order; calls = over call w.calls; parts = remove w.parts key })
-parts_committed kept w call key part from next order reply place is answered at commits old =
+parts_committed kept w call key part from next order done is answered at commits old =
     let n : WorldState = record w { stripes = slice_set w.stripes (home w key) next; order = order; calls = over call w.calls; parts = remove w.parts key } in
     let there = is_there (get w.parts key) call part is in
     let one = held_at w key part from there at old in
-    let found = some_of (claimed from (claim_of key part)) (IsFor part) one.out in
-    let r = found.0 in
-    let steps : EndsBy key part from next reply place r = of_some (claimed from (claim_of key part)) (EndsBy key part from next reply place) r found.1 commits in
-    let left : next.reservations ≡ unreserved key from.reservations = ap (λ (s : State). s.reservations) steps.goes_on in
+    let r = part.reservation in
+    let S : Bytes → Type 0 = λ k. Steps (after_commit from r done.place) r.caller k r.op (out_of part) (callers_of r.number from.joiners) done next in
+    let steps : EndsBy key part from next done = subst S one.key_is commits.1 in
+    let left : next.reservations ≡ without_key key from.reservations = ap (λ (s : State). s.reservations) steps.after ∙ ap (λ k. without_key k from.reservations) one.key_is in
     let reached = (old.shape.each (home w key) from at).reached in
     record {
       held = λ q p e.
@@ -710,7 +724,7 @@ parts_committed kept w call key part from next order reply place is answered at 
           (λ apart e.
           let call_on = over_ended w call key part is old q p e apart in
           at_stripe w.stripes (home w key) (home w q) from next (λ o x. HeldIn w o q p → HeldIn n x q p) at
-          (λ h. held_ended kept w n key part from next reply place q p reached commits left apart call_on h)
+          (λ h. held_ended kept w n key part from next done q p one.key_is reached commits left apart call_on h)
           (held_still w n (stripe_for w q) q p call_on)
           (old.held q p e))
           (sym (get-remove nat_list_cmp_total w.parts key q) ∙ e);
@@ -722,14 +736,13 @@ parts_committed kept w call key part from next order reply place is answered at 
           (λ same.
           let B : Bytes → Type 0 = λ k. Agrees (cached n k) (entry_at w.store k) in
           let S : Option State → Type 0 = λ o. Agrees (entry_in o key) (entry_at w.store key) in
-          let O : Op → Type 0 = λ op. Agrees (entry_after op (entry_at from.cache key) (out_of part)) (entry_at w.store key) in
           let T : Option State → Type 0 = λ o. IsTold part (entry_at w.store key) (entry_in o key) in
           let told = subst T at (told_at (get w.parts key) part (entry_at w.store key) (cached w key) there (all key)) in
-          let leaves = agrees_ended part.first part (entry_at from.cache key) (entry_at w.store key) refl one.kind (sym (ap is_answered is) ∙ answered) told in
-          subst B (sym same) (subst S (sym (stripe_put w.stripes (home w key) from next at)) (agrees_own key part r from next reply place (entry_at w.store key) steps (subst O (sym found.2.0) leaves))))
+          let leaves = agrees_ended part.reservation.first part (entry_at from.cache key) (entry_at w.store key) refl one.kind (sym (ap is_answered is) ∙ answered) told in
+          subst B (sym same) (subst S (sym (stripe_put w.stripes (home w key) from next at)) (agrees_own key part from next done (entry_at w.store key) steps leaves)))
           (λ apart.
           at_stripe w.stripes (home w key) (home w q) from next (λ o x. KeyTold (get w.parts q) (entry_at w.store q) (entry_in o q) → KeyTold (get w.parts q) (entry_at w.store q) (entry_in x q)) at
-          (told_on (get w.parts q) (entry_at w.store q) (entry_at from.cache q) (entry_at next.cache q) (agrees_other key part r from next reply place q (entry_at w.store q) steps apart))
+          (told_on (get w.parts q) (entry_at w.store q) (entry_at from.cache q) (entry_at next.cache q) (agrees_other key part from next done q (entry_at w.store q) steps apart))
           (λ h. h)
           (all q)));
       fresh = λ f. absurd (worn w key part there old f);
@@ -740,7 +753,7 @@ parts_committed kept w call key part from next order reply place is answered at 
 pub parts_ended : KeepsReserved → (w new : WorldState) (call : ℕ) (key : Bytes) (part : Part) (from to : State) (seen : Shown) → fits w (event.Commit call key) ≡ true → part_of w call key ≡ Some part → stripe_for w key ≡ Some from
     → Ends w call key part from to seen new → IsSoundWorld w → HasParts new
 parts_ended kept w new call key part from to (shown.Stepped seen) fit is at (commits, shows, leaves) old =
-    subst HasParts (sym leaves) (parts_committed kept w call key part from to (goes_on w key from to).order seen.reply seen.place is fit at commits old)
+    subst HasParts (sym leaves) (parts_committed kept w call key part from to (goes_on w key from to).order (step_of seen) is fit at commits old)
 parts_ended kept w new call key part from to seen fit is at h old = absurd h
 
 -- 9. A reservation is given back, a call leaves, and an answer is picked up.
@@ -759,11 +772,12 @@ unchanged (Some p) part is h =
 
 -- a reservation is given back, and with it its part
 pub parts_withdrawn : (w : WorldState) (call : ℕ) (key : Bytes) (part : Part) (from next : State) → is_untouched (part_of w call key) ≡ true → part_of w call key ≡ Some part → stripe_for w key ≡ Some from
-    → Withdraws from (claim_of key part) next → IsSoundWorld w → HasParts (without_part (with_stripe w key next) key)
+    → Withdraws from part.reservation next → IsSoundWorld w → HasParts (without_part (with_stripe w key next) key)
 parts_withdrawn w call key part from next fit is at withdraws old =
     let n : WorldState = without_part (with_stripe w key next) key in
     let there = is_there (get w.parts key) call part is in
-    let left : next.reservations ≡ unreserved key from.reservations = ap (λ (s : State). s.reservations) withdraws.1 in
+    let one = held_at w key part from there at old in
+    let left : next.reservations ≡ without_key key from.reservations = ap (λ (s : State). s.reservations) withdraws.1 ∙ ap (λ k. without_key k from.reservations) one.key_is in
     let cache : next.cache ≡ from.cache = ap (λ (s : State). s.cache) withdraws.1 in
     let same : (q : Bytes) → cached n q ≡ cached w q = λ q.
     at_stripe w.stripes (home w key) (home w q) from next (λ o x. entry_in x q ≡ entry_in o q) at (ap (λ c. entry_at c q) cache) refl
@@ -775,9 +789,9 @@ parts_withdrawn w call key part from next fit is at withdraws old =
           (λ apart e.
           at_stripe w.stripes (home w key) (home w q) from next (λ o x. HeldIn w o q p → HeldIn n x q p) at
           (λ h.
-          let R : List Reserved → Type 0 = λ rs. IsSomeAnd (find (is_claim (claim_of q p)) rs) (IsFor p) in
-          held_on w n from next q p (ap (λ c. entry_at c q) cache) (subst R (sym left) (found_left (claim_of q p) key (IsFor p) from.reservations apart h.out)) h.call h)
-          (some_map (stripe_for w q) (λ s. IsHeld w s q p) (λ s. IsHeld n s q p) (λ s h. record { out = h.out; kind = h.kind; call = h.call }))
+          let R : List Reservation → Type 0 = λ rs. find (is_key p.reservation.key) rs ≡ Some p.reservation in
+          held_on w n from next q p (ap (λ c. entry_at c q) cache) (subst R (sym left) (others_out w from key q p apart h)) h.call h)
+          (some_map (stripe_for w q) (λ s. IsHeld w s q p) (λ s. IsHeld n s q p) (λ s h. record { key_is = h.key_is; out = h.out; kind = h.kind; call = h.call }))
           (old.held q p e))
           (sym (get-remove nat_list_cmp_total w.parts key q) ∙ e);
       told = λ hold q.
@@ -817,12 +831,12 @@ parts_of_sound w h = record { held = h.held; told = h.told; fresh = h.fresh; idl
 pub parts_picks : (w new : WorldState) (call : ℕ) (key : Bytes) (join : JoinClaim) (from to : State) (seen : Shown) → join_of w call key ≡ Some join → stripe_for w key ≡ Some from → Picks w call key join from to seen new → IsSoundWorld w → HasParts new
 parts_picks w new call key join from to (shown.PickedUp seen) joined at h old =
     let p = picking w call key join joined old in
-    let is = h.0.2 in
+    let is = h.0.3 in
     subst HasParts (sym h.2)
     (parts_aside w key from to (over call w.calls) (unjoined call key w.joins) at (ap (λ (s : State). s.cache) is) (ap (λ (s : State). s.reservations) is) (over_free w call p.u p.here (ap is_none p.none) old) (begun_before w call p.u p.here old) old)
 parts_picks w new call key join from to shown.Again joined at h old =
     let p = picking w call key join joined old in
-    let is = h.0.1 in
+    let is = h.0.2 in
     subst HasParts (sym h.1)
     (parts_aside w key from to w.calls (unjoined call key w.joins) at (ap (λ (s : State). s.cache) is) (ap (λ (s : State). s.reservations) is) (under_at w old) (begun_before w call p.u p.here old) old)
 parts_picks w new call key join from to shown.Waits joined at h old = subst HasParts (sym h.1) (parts_of_sound w old)

@@ -36,7 +36,7 @@ at_from call key (x ∷ xs) k i h =
     elim (is_under call key x) as (λ b. is_under call key x ≡ b → cond b (Some k) (position_from (is_under call key) (k + 1) xs) ≡ Some i → (j : ℕ) × (i ≡ k + j) × Found call key (x ∷ xs) j) [
       | true ↦ λ e h.
           let is : k ≡ i = cc in
-          let tie = sym (texts_ties key x.0) ∙ (both (x.1.call == call) _ e).1 in
+          let tie = sym (texts_ties key x.0) ∙ (both (x.1.reservation.caller.call == call) _ e).1 in
           let same : x ≡ (key, x.1) = λ t. (sym (same_key key x.0 tie) t, x.1) in
           (0, omega arith, record { part = x.1; here = ap Some same; first = ap (λ b. cond b (Some x.1) (part_under call key xs)) e })
       | false ↦ λ e h.

@@ -9,35 +9,38 @@ use Rattle.std.specs.FinMap.{get, insert, remove, get-empty, get-insert, get-rem
 use Rattle.std.proofs.lemmas.Cmp.{nat_list_cmp_total}
 use Rattle.std.proofs.lemmas.List.Sums.{sum_by-cons, sum_by-append}
 use Rattle.std.proofs.Math.Seq.{drop-append_seam}
+use Rattle.jc_types.specs.declared.caller.Caller.{Caller}
 use Rattle.jc_types.specs.declared.config.Config.{Config}
 use Rattle.jc_model.specs.declared.event.Op.{Op}
 use Rattle.jc_model.specs.declared.event.Out.{Out}
 use Rattle.jc_model.specs.declared.event.Event.{Event}
 use Rattle.jc_model.specs.declared.event.Cause.{Cause}
 use Rattle.jc_model.specs.declared.event.LoadAnswer.{LoadAnswer}
-use Rattle.jc_model.specs.declared.event.Reply.{Reply}
 use Rattle.jc_model.specs.Cache.{Bytes, key_cmp, entry_at}
 use Rattle.jc_model.specs.Table.{is_load_given, is_write_given}
 use Rattle.jc_model.specs.Group.{Group, nothing_said, victim_events, step_event, step_place, shared_event, evicted_events, events_of}
 use Rattle.jc_model.proofs.Lookups.{both}
-use Rattle.jc_inflight.specs.Joined.{callers_of}
-use Rattle.jc_stripe.specs.declared.ticket.First.TheVariants.{Loader, Writer}
-use Rattle.jc_stripe.specs.Claim.{JoinClaim}
-use Rattle.jc_stripe.specs.State.{State, Reserved, claimed}
-use Rattle.jc_stripe.specs.Phases.{Steps, group_made, settled}
+use Rattle.jc_inflight.specs.Joining.{callers_of}
+use Rattle.jc_stripe.specs.declared.ticket.First.TheVariants.{Loader}
+use Rattle.jc_stripe.specs.Tickets.{JoinClaim, asks_loader}
+use Rattle.jc_stripe.specs.declared.begun.StepDone.{StepDone}
+use Rattle.jc_stripe.specs.Refusals.{reserves}
+use Rattle.jc_stripe.specs.State.{State}
+use Rattle.jc_stripe.specs.Phases.{Steps, new_group, after_commit}
 use Rattle.jc_world.specs.declared.event.Under.{Under}
 use Rattle.jc_world.specs.declared.event.Part.{Part}
 use Rattle.jc_world.specs.declared.event.Shown.{Shown}
 use Rattle.jc_world.specs.declared.event.Shown.TheVariants as shown
 use Rattle.jc_world.specs.declared.event.WorldEvent.{WorldEvent}
 use Rattle.jc_world.specs.declared.event.WorldEvent.TheVariants as event
-use Rattle.jc_world.specs.World.{WorldState, Parts, stripe_for, part_of, waits_for_load, asks_loader, is_untouched, claim_of, out_of}
+use Rattle.jc_world.specs.World.{WorldState, Parts, stripe_for, part_of, waits_for_load, is_untouched, out_of}
 use Rattle.jc_world.specs.Premises.{read_answer, report_of}
-use Rattle.jc_world.specs.Events.{fits, new_part, Starts, Ends, Picks, Happens, Step, Run}
+use Rattle.jc_world.specs.Events.{fits, new_part, step_of, Starts, Ends, Picks, Happens, Step, Run}
 use Rattle.jc_world.specs.Sound.{IsSoundWorld}
 use Rattle.jc_world.specs.Headline.{opened, is_answer, is_load, is_loaded}
-use Rattle.jc_world.proofs.Shares.{some_of, added}
+use Rattle.jc_world.proofs.Shares.{added}
 use Rattle.jc_world.proofs.Reservations.{was_free, writer_alone}
+use Rattle.jc_world.proofs.Callers.{part_key}
 use Rattle.jc_world.proofs.Entries.{split}
 use Rattle.jc_world.proofs.Kept.{is_there, unheld}
 use Rattle.jc_world.proofs.Sounding.{Laws, sound_step}
@@ -66,7 +69,7 @@ none_evicted key k None = refl
 none_evicted key k (Some cause) = refl
 
 -- nor does a step that shares a load
-none_shared : (key : Bytes) (place : ℕ) (k : Bytes) (answer : LoadAnswer) (callers : List (ℕ × ℕ)) → count_by (is_load key) (map (shared_event place k answer) callers) ≡ 0
+none_shared : (key : Bytes) (place : ℕ) (k : Bytes) (answer : LoadAnswer) (callers : List Caller) → count_by (is_load key) (map (shared_event place k answer) callers) ≡ 0
 none_shared key place k answer [] = refl
 none_shared key place k answer (c ∷ cs) =
     sum_by-cons (λ e. cond (is_load key e) 1 0) (shared_event place k answer c) (map (shared_event place k answer) cs) ∙ ap (λ n. 0 + n) (none_shared key place k answer cs)
@@ -86,12 +89,12 @@ group_loads key place group =
     omega arith
 
 -- so does a step of a stripe
-step_loads : (old new : State) (session call : ℕ) (key : Bytes) (op : Op) (out : Out) (callers : List (ℕ × ℕ)) (reply : Reply) (place : ℕ) (q : Bytes) → Steps old session call key op out callers reply place new
+step_loads : (old new : State) (caller : Caller) (key : Bytes) (op : Op) (out : Out) (callers : List Caller) (done : StepDone) (q : Bytes) → Steps old caller key op out callers done new
     → count_by (is_load q) (added old new) ≡ one_if (pointwise ◌==◌ q key && is_load_given out.load)
-step_loads old new session call key op out callers reply place q steps =
-    let group = group_made old session call key op out callers steps.short in
+step_loads old new caller key op out callers done q steps =
+    let group = new_group old caller key op out callers steps.short in
     let events = events_of (length old.history) group in
-    let history : new.history ≡ old.history ++ events = ap (λ (s : State). s.history) steps.goes_on in
+    let history : new.history ≡ old.history ++ events = ap (λ (s : State). s.history) steps.after in
     ap (λ h. count_by (is_load q) (drop (length old.history) h)) history
     ∙ ap (count_by (is_load q)) (drop-append_seam old.history events)
     ∙ group_loads q (length old.history) group
@@ -130,7 +133,7 @@ not_true false h = refl
 
 -- a loader that is waited for has given no answer
 no_answer : (o : Option Part) (part : Part) → o ≡ Some part → waits_for_load o ≡ true → is_load_given part.load ≡ false
-no_answer o part is waits = not_true (is_load_given part.load) (both (asks_loader part.first) (not (is_load_given part.load)) (sym (ap waits_for_load is) ∙ waits)).1
+no_answer o part is waits = not_true (is_load_given part.load) (both (asks_loader part.reservation.first) (not (is_load_given part.load)) (sym (ap waits_for_load is) ∙ waits)).1
 
 -- what is untouched has none
 no_touch : (o : Option Part) (part : Part) → o ≡ Some part → is_untouched o ≡ true → is_load_given part.load ≡ false
@@ -164,7 +167,7 @@ total_started w new u from to (shown.Refused refusal) q there h old = ap (λ (x 
 total_started w new u from to (shown.Stepped seen) q there h old =
     let key = u.command.key in
     let steps = h.0.2 in
-    let added_is = step_loads from to u.session u.number key u.command.op nothing_said [] seen.reply seen.place q steps in
+    let added_is = step_loads from to u.caller key u.command.op nothing_said [] (step_of seen) q steps in
     let none : one_if (pointwise ◌==◌ q key && false) ≡ 0 = ap one_if (and_false (pointwise ◌==◌ q key)) in
     let more = none_append q w.order (added from to) in
     let kept = one_if (is_loaded (get w.parts q)) in
@@ -172,30 +175,29 @@ total_started w new u from to (shown.Stepped seen) q there h old =
     ap (λ (x : WorldState). total x q) h.2 ∙ grows
 total_started w new u from to shown.Loads q there h old =
     let key = u.command.key in
-    let part = new_part u h.0.number Loader in
-    let free = was_free from u.number key u.command.op Loader h.1.0 h.1.1 h.1.2 refl in
+    let part = new_part h.0.reservation in
+    let free = was_free from u.caller key u.command.op Loader h.1.0 h.1.1 h.1.2 refl in
     let none = unheld w key from there free old in
     ap (λ (x : WorldState). total x q) h.2
     ∙ ap (λ b. count_by (is_load q) w.order + one_if b) (loaded_inserted w.parts key q part (λ same. sym (ap is_loaded (ap (get w.parts) same ∙ none))))
 total_started w new u from to (shown.Asks change) q there h old =
     let key = u.command.key in
-    let part = new_part u h.0.claim.number (Writer change) in
-    let free = was_free from u.number key u.command.op (Writer change) h.1.0 (writer_alone from key u.command.op change h.1.1) h.1.1 refl in
+    let part = new_part h.0.reservation in
+    let free = was_free from u.caller key u.command.op h.0.reservation.first h.1.0 (writer_alone from key u.command.op h.0.reservation.first h.1.1 h.1.2) h.1.1 (ap reserves h.2) in
     let none = unheld w key from there free old in
-    ap (λ (x : WorldState). total x q) h.2
+    ap (λ (x : WorldState). total x q) h.3
     ∙ ap (λ b. count_by (is_load q) w.order + one_if b) (loaded_inserted w.parts key q part (λ same. sym (ap is_loaded (ap (get w.parts) same ∙ none))))
 total_started w new u from to shown.Joins q there h old = ap (λ (x : WorldState). total x q) h.2
 total_started w new u from to seen q there h old = absurd h
 
 -- the last phase: what was kept stands in the step
-total_ended : (w new : WorldState) (call : ℕ) (key : Bytes) (part : Part) (from to : State) (seen : Shown) (q : Bytes) → part_of w call key ≡ Some part → Ends w call key part from to seen new → total new q ≡ total w q
-total_ended w new call key part from to (shown.Stepped seen) q is h =
-    let S : Reserved → Type 0 = λ r. Steps (settled from (claim_of key part) seen.place) r.session r.call key r.op (out_of part) (callers_of part.number from.joiners) seen.reply seen.place to in
-    let c = some_of (claimed from (claim_of key part)) S h.0 in
-    let r = c.0 in
+total_ended : (w new : WorldState) (call : ℕ) (key : Bytes) (part : Part) (from to : State) (seen : Shown) (q : Bytes) → part_of w call key ≡ Some part → part.reservation.key ≡ key → Ends w call key part from to seen new → total new q ≡ total w q
+total_ended w new call key part from to (shown.Stepped seen) q is key_is h =
+    let r = part.reservation in
     let there = is_there (get w.parts key) call part is in
-    let mid = settled from (claim_of key part) seen.place in
-    let added_is : count_by (is_load q) (added from to) ≡ one_if (pointwise ◌==◌ q key && is_load_given part.load) = step_loads mid to r.session r.call key r.op (out_of part) (callers_of part.number from.joiners) seen.reply seen.place q c.2 in
+    let mid = after_commit from r seen.place in
+    let added_is : count_by (is_load q) (added from to) ≡ one_if (pointwise ◌==◌ q key && is_load_given part.load) =
+    step_loads mid to r.caller r.key r.op (out_of part) (callers_of r.number from.joiners) (step_of seen) q h.0.1 ∙ ap (λ k. one_if (pointwise ◌==◌ q k && is_load_given part.load)) key_is in
     let tied = ap (λ b. one_if (b && is_load_given part.load)) (texts_ties q key) in
     let more = none_append q w.order (added from to) in
     let n = count_by (is_load q) w.order in
@@ -207,7 +209,7 @@ total_ended w new call key part from to (shown.Stepped seen) q is h =
     ∙ split q key P
     (λ same. let was : one_if (is_loaded (get w.parts q)) ≡ one_if (is_load_given part.load) = ap one_if (loaded_at w key q part there same) in omega arith)
     (λ apart. omega arith)
-total_ended w new call key part from to seen q is h = absurd h
+total_ended w new call key part from to seen q is key_is h = absurd h
 
 -- an answer is picked up
 total_picks : (w new : WorldState) (call : ℕ) (key : Bytes) (join : JoinClaim) (from to : State) (seen : Shown) (q : Bytes) → Picks w call key join from to seen new → total new q ≡ total w q
@@ -236,7 +238,7 @@ total_happens w new (event.Report call fault) seen q fit h old =
     let there = is_there (get w.parts key) call h.1 h.4 in
     unanswered false (total new q) (total w q) refl
     (ap (λ (x : WorldState). total x q) h.7 ∙ ap (λ b. count_by (is_load q) w.order + one_if b) (loaded_inserted w.parts key q (record h.1 { report = report_of fault }) (λ same. sym (loaded_at w key q h.1 there same))))
-total_happens w new (event.Commit call key) seen q fit h old = unanswered false (total new q) (total w q) refl (total_ended w new call key h.0 h.2 h.4 seen q h.1 h.5)
+total_happens w new (event.Commit call key) seen q fit h old = unanswered false (total new q) (total w q) refl (total_ended w new call key h.0 h.2 h.4 seen q h.1 (part_key w call key h.0 h.1 old) h.5)
 total_happens w new (event.Withdraw call key) seen q fit h old =
     let there = is_there (get w.parts key) call h.0 h.1 in
     unanswered false (total new q) (total w q) refl

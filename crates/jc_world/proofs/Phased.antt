@@ -1,20 +1,20 @@
 -- What the machine of a world does in a first and a last phase is what the definitions say.
-use Rattle.std.proofs.Common.{◌≡◌, ◌∙◌, ℕ, zero, suc, List, [], ◌∷◌, ◌++◌, length, drop, Option, Some, None, IsSomeAnd, true, slice_get, slice_set, refl, sym, ap, subst, append-nil}
+use Rattle.std.proofs.Common.{false, ◌≡◌, ◌∙◌, ℕ, zero, suc, List, [], ◌∷◌, ◌++◌, length, drop, Option, Some, None, IsSomeAnd, true, slice_get, slice_set, refl, sym, ap, subst, append-nil}
 use Rattle.std.specs.FinMap.{get, insert, remove}
 use Rattle.jc_model.specs.Cache.{Bytes, entry_at}
 use Rattle.jc_model.specs.declared.event.Change.{Change}
-use Rattle.jc_model.specs.declared.event.Reply.{Reply}
 use Rattle.jc_model.specs.declared.event.Event.{Event}
-use Rattle.jc_inflight.specs.Joined.{is_joined as has_joined}
-use Rattle.jc_stripe.specs.Claim.{Claim, WriteClaim, JoinClaim}
-use Rattle.jc_stripe.specs.State.{State, Reserved, claimed}
-use Rattle.jc_stripe.specs.Refusals.{has_phases}
+use Rattle.jc_stripe.specs.Tickets.{Ticket, JoinClaim, asks_writer}
+use Rattle.jc_stripe.specs.State.{State, IsOut, IsJoined}
+use Rattle.jc_stripe.specs.Refusals.{has_phases, reserves}
 use Rattle.jc_stripe.specs.Phases.{MayBegin, Begins, Commits, Withdraws, PicksUp}
 use Rattle.jc_stripe.specs.declared.begun.Picked.{Picked}
 use Rattle.jc_stripe.specs.declared.begun.Picked.TheVariants as picked
 use Rattle.jc_stripe.specs.declared.begun.Begun.{Begun}
 use Rattle.jc_stripe.specs.declared.begun.Begun.TheVariants as begun
-use Rattle.jc_stripe.specs.declared.ticket.First.TheVariants.{Loader, Writer}
+use Rattle.jc_stripe.specs.declared.begun.StepDone.{StepDone}
+use Rattle.jc_stripe.specs.declared.ticket.First.{First}
+use Rattle.jc_stripe.specs.declared.ticket.First.TheVariants.{Nobody, Loader, Writer, Processor}
 use Rattle.jc_stripe.specs.declared.ticket.Origin.TheVariants.{Played}
 use Rattle.jc_types.specs.declared.refusal.Refusal.{Refusal}
 use Rattle.jc_world.specs.declared.event.Under.{Under}
@@ -23,8 +23,8 @@ use Rattle.jc_world.specs.declared.event.Stepped.{Stepped}
 use Rattle.jc_world.specs.declared.event.PickedUp.{PickedUp}
 use Rattle.jc_world.specs.declared.event.WorldEvent.TheVariants as event
 use Rattle.jc_world.specs.declared.event.Shown.TheVariants as shown
-use Rattle.jc_world.specs.World.{WorldState, Parts, home, stripe_for, under, over, part_of, join_of, unjoined, claim_of, out_of}
-use Rattle.jc_world.specs.Events.{fits, Happens, ShowsStep, victim_first, gone_last, new_part}
+use Rattle.jc_world.specs.World.{WorldState, Parts, home, stripe_for, under, over, part_of, join_of, unjoined, out_of}
+use Rattle.jc_world.specs.Events.{fits, Happens, step_of, new_part}
 use Rattle.jc_world.specs.Sound.{IsHeld, KindFits, IsSoundWorld}
 use Rattle.jc_world.specs.World.{is_join}
 use Rattle.jc_world.proofs.Numbered.{some_of}
@@ -37,10 +37,10 @@ use Rattle.jc_world.proofs.Kept.{unheld, stripe_at}
 
 -- 1. Before the first phase.
 
-pub may_begin_at : (w : WorldState) (call : ℕ) (key : Bytes) (u : Under) → fits w (event.Start call key) ≡ true → under w call ≡ Some u → IsSoundWorld w → IsSomeAnd (stripe_for w u.command.key) (λ s. MayBegin s u.session u.number u.command.key)
+pub may_begin_at : (w : WorldState) (call : ℕ) (key : Bytes) (u : Under) → fits w (event.Start call key) ≡ true → under w call ≡ Some u → IsSoundWorld w → IsSomeAnd (stripe_for w u.command.key) (λ s. MayBegin s u.caller u.command.key)
 may_begin_at w call key u fit is sound =
     let s = stripe_at w u.command.key sound in
-    let P : Option State → Type 0 = λ o. IsSomeAnd o (λ s. MayBegin s u.session u.number u.command.key) in
+    let P : Option State → Type 0 = λ o. IsSomeAnd o (λ s. MayBegin s u.caller u.command.key) in
     subst P (sym s.1) (begins_at w call key u s.0 fit is s.1 sound)
 
 -- a call under way has phases
@@ -63,49 +63,26 @@ pub record Phased (v : WorldState) (number : ℕ) (phase : State → State → T
   pub stripes_are : stripes ≡ slice_set v.stripes number to
   pub order_is : order ≡ v.order ++ drop (length from.history) to.history
 
--- what it shows of a step, of a stripe that had so many events before
-pub record Shows (stripes : List State) (number before : ℕ) (reply : Reply) (place : ℕ) (seen : Stepped) : Type 0 where
-  pub step : (seen.reply ≡ reply) × (seen.place ≡ place) × (seen.stripe ≡ number)
-  pub victim : IsSomeAnd (slice_get stripes number) (λ s. seen.victim ≡ victim_first (drop before s.history))
-  pub evicted : IsSomeAnd (slice_get stripes number) (λ s. seen.evicted ≡ gone_last place s.history)
-
--- what holds of the stripe that was set
-of_set : (v : WorldState) (number : ℕ) (from to : State) (stripes : List State) (P : State → Type 0) → slice_get v.stripes number ≡ Some from → stripes ≡ slice_set v.stripes number to → IsSomeAnd (slice_get stripes number) P → P to
-of_set v number from to stripes P at stripes_are h =
-    let Q : List State → Type 0 = λ xs. IsSomeAnd (slice_get xs number) P in
-    let R : Option State → Type 0 = λ o. IsSomeAnd o P in
-    subst R (get-set v.stripes number from to at) (subst Q stripes_are h)
-
--- so what is shown is what the definition says
-pub shows_step : (v : WorldState) (key : Bytes) (number before : ℕ) (from to : State) (stripes : List State) (reply : Reply) (place : ℕ) (seen : Stepped) → slice_get v.stripes number ≡ Some from → stripes ≡ slice_set v.stripes number to → number ≡ home v key → before ≡ length from.history
-    → Shows stripes number before reply place seen → ShowsStep v key from to seen
-shows_step v key number before from to stripes reply place seen at stripes_are home_is before_is shows = record {
-  stripe_is = shows.step.2 ∙ home_is;
-  victim_is = of_set v number from to stripes (λ s. seen.victim ≡ victim_first (drop before s.history)) at stripes_are shows.victim ∙ ap (λ n. victim_first (drop n to.history)) before_is;
-  evicted_is = of_set v number from to stripes (λ s. seen.evicted ≡ gone_last place s.history) at stripes_are shows.evicted ∙ ap (λ n. gone_last n to.history) (sym shows.step.1);
-}
-
 -- 3. A first phase.
 
 abbrev pub BeginsAs : Under → Begun → State → State → Type 0
-BeginsAs u b from to = Begins from u.session u.number u.command.key u.command.op b to
+BeginsAs u b from to = Begins from u.caller u.command.key u.command.op b to
 
-pub started_done : (v next : WorldState) (call : ℕ) (key : Bytes) (u : Under) (number before : ℕ) (reply : Reply) (place : ℕ) (seen : Stepped) (stripes : List State) (order : List Event) → under v call ≡ Some u → number ≡ home v u.command.key
-    → (p : Phased v number (BeginsAs u (begun.Done reply place)) stripes order) → before ≡ length p.from.history → Shows stripes number before reply place seen
-    → next ≡ record v { stripes = stripes; order = order; calls = over u.number v.calls } → Happens v (event.Start call key) (shown.Stepped seen) next
-started_done v next call key u number before reply place seen stripes order is home_is p before_is shows next_is =
+pub started_done : (v next : WorldState) (call : ℕ) (key : Bytes) (u : Under) (number : ℕ) (done : StepDone) (seen : Stepped) (stripes : List State) (order : List Event) → under v call ≡ Some u → number ≡ home v u.command.key
+    → Phased v number (BeginsAs u (begun.Done done)) stripes order → step_of seen ≡ done → seen.stripe ≡ number
+    → next ≡ record v { stripes = stripes; order = order; calls = over u.caller.call v.calls } → Happens v (event.Start call key) (shown.Stepped seen) next
+started_done v next call key u number done seen stripes order is home_is p shows stripe_is next_is =
     let At : ℕ → Type 0 = λ n. slice_get v.stripes n ≡ Some p.from in
-    let B : Reply → Type 0 = λ r. Begins p.from u.session u.number u.command.key u.command.op (begun.Done r place) p.to in
-    let C : ℕ → Type 0 = λ n. Begins p.from u.session u.number u.command.key u.command.op (begun.Done seen.reply n) p.to in (
+    let B : StepDone → Type 0 = λ d. Begins p.from u.caller u.command.key u.command.op (begun.Done d) p.to in (
       u,
       is,
       p.from,
       subst At home_is p.at,
       p.to,
       (
-        subst C (sym shows.step.1) (subst B (sym shows.step.0) p.step),
-        shows_step v u.command.key number before p.from p.to stripes reply place seen p.at p.stripes_are home_is before_is shows,
-        next_is ∙ (λ i. record v { stripes = (p.stripes_are ∙ ap (λ n. slice_set v.stripes n p.to) home_is) i; order = p.order_is i; calls = over u.number v.calls }),
+        subst B (sym shows) p.made,
+        stripe_is ∙ home_is,
+        next_is ∙ (λ i. record v { stripes = (p.stripes_are ∙ ap (λ n. slice_set v.stripes n p.to) home_is) i; order = p.order_is i; calls = over u.caller.call v.calls }),
       ),
     )
 
@@ -125,7 +102,7 @@ none_new order xs ys e = ap (λ zs. order ++ drop (length ys) zs) e ∙ ap (λ z
 
 pub started_refused : (v next : WorldState) (call : ℕ) (key : Bytes) (u : Under) (number : ℕ) (refusal : Refusal) (stripes : List State) (order : List Event) → under v call ≡ Some u → number ≡ home v u.command.key
     → Phased v number (BeginsAs u (begun.Refused refusal)) stripes order
-    → next ≡ record v { stripes = stripes; order = order; calls = over u.number v.calls } → Happens v (event.Start call key) (shown.Refused refusal) next
+    → next ≡ record v { stripes = stripes; order = order; calls = over u.caller.call v.calls } → Happens v (event.Start call key) (shown.Refused refusal) next
 started_refused v next call key u number refusal stripes order is home_is p next_is =
     let At : ℕ → Type 0 = λ n. slice_get v.stripes n ≡ Some p.from in (
       u,
@@ -134,17 +111,17 @@ started_refused v next call key u number refusal stripes order is home_is p next
       subst At home_is p.at,
       p.to,
       (
-        p.step,
+        p.made,
         next_is ∙ (λ i. record v {
-          stripes = (p.stripes_are ∙ same_set v.stripes number p.from p.to p.at p.step.1) i;
-          order = (p.order_is ∙ none_new v.order p.to.history p.from.history (ap (λ (s : State). s.history) p.step.1)) i;
-          calls = over u.number v.calls;
+          stripes = (p.stripes_are ∙ same_set v.stripes number p.from p.to p.at p.made.1) i;
+          order = (p.order_is ∙ none_new v.order p.to.history p.from.history (ap (λ (s : State). s.history) p.made.1)) i;
+          calls = over u.caller.call v.calls;
         }),
       ),
     )
 
-pub started_loads : (v next : WorldState) (call : ℕ) (key : Bytes) (u : Under) (number : ℕ) (ticket : Claim) (stripes : List State) (order : List Event) (parts : Parts) → under v call ≡ Some u → number ≡ home v u.command.key
-    → Phased v number (BeginsAs u (begun.Load ticket)) stripes order → parts ≡ insert v.parts u.command.key (new_part u ticket.number Loader)
+pub started_loads : (v next : WorldState) (call : ℕ) (key : Bytes) (u : Under) (number : ℕ) (ticket : Ticket) (stripes : List State) (order : List Event) (parts : Parts) → under v call ≡ Some u → number ≡ home v u.command.key
+    → Phased v number (BeginsAs u (begun.Load ticket)) stripes order → parts ≡ insert v.parts u.command.key (new_part ticket.reservation)
     → next ≡ record v { stripes = stripes; order = order; parts = parts } → Happens v (event.Start call key) shown.Loads next
 started_loads v next call key u number ticket stripes order parts is home_is p parts_are next_is =
     let At : ℕ → Type 0 = λ n. slice_get v.stripes n ≡ Some p.from in (
@@ -155,10 +132,10 @@ started_loads v next call key u number ticket stripes order parts is home_is p p
       p.to,
       (
         ticket,
-        p.step,
+        p.made,
         next_is ∙ (λ i. record v {
           stripes = (p.stripes_are ∙ ap (λ n. slice_set v.stripes n p.to) home_is) i;
-          order = (p.order_is ∙ none_new v.order p.to.history p.from.history (ap (λ (s : State). s.history) p.step.4)) i;
+          order = (p.order_is ∙ none_new v.order p.to.history p.from.history (ap (λ (s : State). s.history) p.made.4)) i;
           parts = parts_are i;
         }),
       ),
@@ -169,8 +146,7 @@ pub started_joins : (v next : WorldState) (call : ℕ) (key : Bytes) (u : Under)
     → Phased v number (BeginsAs u (begun.Joined join)) stripes order → joins ≡ v.joins ++ join ∷ []
     → next ≡ record v { stripes = stripes; order = order; joins = joins } → Happens v (event.Start call key) shown.Joins next
 started_joins v next call key u number join stripes order joins is home_is p joins_are next_is =
-    let At : ℕ → Type 0 = λ n. slice_get v.stripes n ≡ Some p.from in
-    let load = p.step.1 in (
+    let At : ℕ → Type 0 = λ n. slice_get v.stripes n ≡ Some p.from in (
       u,
       is,
       p.from,
@@ -178,19 +154,19 @@ started_joins v next call key u number join stripes order joins is home_is p joi
       p.to,
       (
         join,
-        p.step,
+        p.made,
         next_is ∙ (λ i. record v {
           stripes = (p.stripes_are ∙ ap (λ n. slice_set v.stripes n p.to) home_is) i;
-          order = (p.order_is ∙ none_new v.order p.to.history p.from.history (ap (λ (s : State). s.history) load.3)) i;
+          order = (p.order_is ∙ none_new v.order p.to.history p.from.history (ap (λ (s : State). s.history) p.made.3)) i;
           joins = joins_are i;
         }),
       ),
     )
 
-pub started_asks : (v next : WorldState) (call : ℕ) (key : Bytes) (u : Under) (number : ℕ) (ticket : WriteClaim) (change : Change) (stripes : List State) (order : List Event) (parts : Parts) → under v call ≡ Some u → number ≡ home v u.command.key
-    → Phased v number (BeginsAs u (begun.Write ticket change)) stripes order → parts ≡ insert v.parts u.command.key (new_part u ticket.claim.number (Writer change))
+pub started_asks : (v next : WorldState) (call : ℕ) (key : Bytes) (u : Under) (number : ℕ) (ticket : Ticket) (change : Change) (stripes : List State) (order : List Event) (parts : Parts) → under v call ≡ Some u → number ≡ home v u.command.key
+    → Phased v number (BeginsAs u (begun.Write ticket)) stripes order → ticket.reservation.first ≡ Writer change → parts ≡ insert v.parts u.command.key (new_part ticket.reservation)
     → next ≡ record v { stripes = stripes; order = order; parts = parts } → Happens v (event.Start call key) (shown.Asks change) next
-started_asks v next call key u number ticket change stripes order parts is home_is p parts_are next_is =
+started_asks v next call key u number ticket change stripes order parts is home_is p first parts_are next_is =
     let At : ℕ → Type 0 = λ n. slice_get v.stripes n ≡ Some p.from in (
       u,
       is,
@@ -199,71 +175,77 @@ started_asks v next call key u number ticket change stripes order parts is home_
       p.to,
       (
         ticket,
-        p.step,
+        p.made,
+        first,
         next_is ∙ (λ i. record v {
           stripes = (p.stripes_are ∙ ap (λ n. slice_set v.stripes n p.to) home_is) i;
-          order = (p.order_is ∙ none_new v.order p.to.history p.from.history (ap (λ (s : State). s.history) p.step.3)) i;
+          order = (p.order_is ∙ none_new v.order p.to.history p.from.history (ap (λ (s : State). s.history) p.made.4)) i;
           parts = parts_are i;
         }),
       ),
     )
 
 -- a key for which a ticket is given has no part yet
-pub free_load : (v : WorldState) (u : Under) (number : ℕ) (ticket : Claim) (stripes : List State) (order : List Event) → number ≡ home v u.command.key → Phased v number (BeginsAs u (begun.Load ticket)) stripes order → IsSoundWorld v
-    → (get v.parts u.command.key ≡ None) × (ticket.key ≡ u.command.key)
+pub free_load : (v : WorldState) (u : Under) (number : ℕ) (ticket : Ticket) (stripes : List State) (order : List Event) → number ≡ home v u.command.key → Phased v number (BeginsAs u (begun.Load ticket)) stripes order → IsSoundWorld v
+    → (get v.parts u.command.key ≡ None) × (ticket.reservation.key ≡ u.command.key) × (ticket.asked ≡ false)
 free_load v u number ticket stripes order home_is p sound =
-    let At : ℕ → Type 0 = λ n. slice_get v.stripes n ≡ Some p.from in
-    (unheld v u.command.key p.from (subst At home_is p.at) (was_free p.from u.number u.command.key u.command.op Loader p.step.0 p.step.1 p.step.2 refl) sound, ap (λ (t : Claim). t.key) p.step.3)
+    let At : ℕ → Type 0 = λ n. slice_get v.stripes n ≡ Some p.from in (
+      unheld v u.command.key p.from (subst At home_is p.at) (was_free p.from u.caller u.command.key u.command.op Loader p.made.0 p.made.1 p.made.2 refl) sound,
+      ap (λ (t : Ticket). t.reservation.key) p.made.3,
+      ap (λ (t : Ticket). t.asked) p.made.3,
+    )
 
-pub free_write : (v : WorldState) (u : Under) (number : ℕ) (ticket : WriteClaim) (change : Change) (stripes : List State) (order : List Event) → number ≡ home v u.command.key → Phased v number (BeginsAs u (begun.Write ticket change)) stripes order → IsSoundWorld v
-    → (get v.parts u.command.key ≡ None) × (ticket.claim.key ≡ u.command.key) × (ticket.change ≡ change)
-free_write v u number ticket change stripes order home_is p sound =
+pub free_write : (v : WorldState) (u : Under) (number : ℕ) (ticket : Ticket) (stripes : List State) (order : List Event) → number ≡ home v u.command.key → Phased v number (BeginsAs u (begun.Write ticket)) stripes order → IsSoundWorld v
+    → (get v.parts u.command.key ≡ None) × (ticket.reservation.key ≡ u.command.key) × (ticket.asked ≡ false)
+free_write v u number ticket stripes order home_is p sound =
     let At : ℕ → Type 0 = λ n. slice_get v.stripes n ≡ Some p.from in
-    (unheld v u.command.key p.from (subst At home_is p.at) (was_free p.from u.number u.command.key u.command.op (Writer change) p.step.0 (writer_alone p.from u.command.key u.command.op change p.step.1) p.step.1 refl) sound, ap (λ (t : WriteClaim). t.claim.key) p.step.2, ap (λ (t : WriteClaim). t.change) p.step.2)
+    let first = ticket.reservation.first in (
+      unheld v u.command.key p.from (subst At home_is p.at)
+          (was_free p.from u.caller u.command.key u.command.op first p.made.0 (writer_alone p.from u.command.key u.command.op first p.made.1 p.made.2) p.made.1 (writer_reserves first p.made.2)) sound,
+      ap (λ (t : Ticket). t.reservation.key) p.made.3,
+      ap (λ (t : Ticket). t.asked) p.made.3,
+    )
+  where
+    writer_reserves : (first : First) → asks_writer first ≡ true → reserves first ≡ true
+    writer_reserves Nobody h = cc
+    writer_reserves Loader h = refl
+    writer_reserves (Writer change) h = refl
+    writer_reserves Processor h = refl
 
 -- 4. A last phase.
 
-abbrev pub CommitsAs : Bytes → Part → Reply → ℕ → State → State → Type 0
-CommitsAs key part reply place from to = Commits from (claim_of key part) (out_of part) reply place to
+abbrev pub CommitsAs : Part → StepDone → State → State → Type 0
+CommitsAs part done from to = Commits from part.reservation (out_of part) done to
 
-pub ended : (v next : WorldState) (call : ℕ) (key : Bytes) (part : Part) (number before : ℕ) (reply : Reply) (place : ℕ) (seen : Stepped) (stripes : List State) (order : List Event) (parts : Parts) → part_of v call key ≡ Some part → number ≡ home v key
-    → (p : Phased v number (CommitsAs key part reply place) stripes order) → before ≡ length p.from.history → Shows stripes number before reply place seen → parts ≡ remove v.parts key
+pub ended : (v next : WorldState) (call : ℕ) (key : Bytes) (part : Part) (number : ℕ) (done : StepDone) (seen : Stepped) (stripes : List State) (order : List Event) (parts : Parts) → part_of v call key ≡ Some part → number ≡ home v key
+    → Phased v number (CommitsAs part done) stripes order → step_of seen ≡ done → seen.stripe ≡ number → parts ≡ remove v.parts key
     → next ≡ record v { stripes = stripes; order = order; calls = over call v.calls; parts = parts } → Happens v (event.Commit call key) (shown.Stepped seen) next
-ended v next call key part number before reply place seen stripes order parts is home_is p before_is shows parts_are next_is =
+ended v next call key part number done seen stripes order parts is home_is p shows stripe_is parts_are next_is =
     let At : ℕ → Type 0 = λ n. slice_get v.stripes n ≡ Some p.from in
-    let B : Reply → Type 0 = λ r. Commits p.from (claim_of key part) (out_of part) r place p.to in
-    let C : ℕ → Type 0 = λ n. Commits p.from (claim_of key part) (out_of part) seen.reply n p.to in (
+    let B : StepDone → Type 0 = λ d. Commits p.from part.reservation (out_of part) d p.to in (
       part,
       is,
       p.from,
       subst At home_is p.at,
       p.to,
       (
-        subst C (sym shows.step.1) (subst B (sym shows.step.0) p.step),
-        shows_step v key number before p.from p.to stripes reply place seen p.at p.stripes_are home_is before_is shows,
+        subst B (sym shows) p.made,
+        stripe_is ∙ home_is,
         next_is ∙ (λ i. record v { stripes = (p.stripes_are ∙ ap (λ n. slice_set v.stripes n p.to) home_is) i; order = p.order_is i; calls = over call v.calls; parts = parts_are i }),
       ),
     )
 
 -- what a commit needs of the stripe
 pub may_end_at : (v : WorldState) (call : ℕ) (key : Bytes) (part : Part) (number : ℕ) → part_of v call key ≡ Some part → number ≡ home v key → IsSoundWorld v
-    → IsSomeAnd (slice_get v.stripes number) (λ s. IsSomeAnd (claimed s (claim_of key part)) (λ r. r.first ≡ part.first) × KindFits part.first part (entry_at s.cache key) × (s.origin ≡ Played))
+    → IsSomeAnd (slice_get v.stripes number) (λ s. IsOut s part.reservation × KindFits part.reservation.first part (entry_at s.cache key) × (s.origin ≡ Played))
 may_end_at v call key part number is home_is sound =
     let found = some_of (stripe_for v key) (λ s. IsHeld v s key part) (sound.held key part (is_part (get v.parts key) call part is)) in
     let s = found.0 in
     let held = found.2 in
-    let P : State → Type 0 = λ s. IsSomeAnd (claimed s (claim_of key part)) (λ r. r.first ≡ part.first) × KindFits part.first part (entry_at s.cache key) × (s.origin ≡ Played) in
+    let P : State → Type 0 = λ s. IsOut s part.reservation × KindFits part.reservation.first part (entry_at s.cache key) × (s.origin ≡ Played) in
     let Q : Option State → Type 0 = λ o. IsSomeAnd o P in
     let R : ℕ → Type 0 = λ n. IsSomeAnd (slice_get v.stripes n) P in
-    subst R (sym home_is) (subst Q (sym found.1) (
-      some_map (claimed s (claim_of key part)) held.out,
-      held.kind,
-      (sound.shape.each (home v key) s found.1).origin_is,
-    ))
-  where
-    some_map : (o : Option Reserved) → IsSomeAnd o (λ r. (r.op ≡ part.op) × (r.first ≡ part.first) × (r.call ≡ part.call)) → IsSomeAnd o (λ r. r.first ≡ part.first)
-    some_map None h = absurd h
-    some_map (Some r) h = h.1
+    subst R (sym home_is) (subst Q (sym found.1) (held.out, held.kind, (sound.shape.each (home v key) s found.1).origin_is))
 
 -- 5. A reservation that is given back.
 
@@ -276,18 +258,17 @@ pub record Changed (v : WorldState) (number : ℕ) (phase : State → State → 
   pub stripes_are : stripes ≡ slice_set v.stripes number to
 
 -- what it needs of the stripe
-pub may_withdraw_at : (v : WorldState) (call : ℕ) (key : Bytes) (part : Part) (number : ℕ) → part_of v call key ≡ Some part → number ≡ home v key → IsSoundWorld v
-    → IsSomeAnd (slice_get v.stripes number) (λ s. IsSomeAnd (claimed s (claim_of key part)) (λ r. r.first ≡ part.first))
+pub may_withdraw_at : (v : WorldState) (call : ℕ) (key : Bytes) (part : Part) (number : ℕ) → part_of v call key ≡ Some part → number ≡ home v key → IsSoundWorld v → IsSomeAnd (slice_get v.stripes number) (λ s. IsOut s part.reservation)
 may_withdraw_at v call key part number is home_is sound =
     weaker (slice_get v.stripes number) (may_end_at v call key part number is home_is sound)
   where
-    weaker : (o : Option State) → IsSomeAnd o (λ s. IsSomeAnd (claimed s (claim_of key part)) (λ r. r.first ≡ part.first) × KindFits part.first part (entry_at s.cache key) × (s.origin ≡ Played)) → IsSomeAnd o (λ s. IsSomeAnd (claimed s (claim_of key part)) (λ r. r.first ≡ part.first))
+    weaker : (o : Option State) → IsSomeAnd o (λ s. IsOut s part.reservation × KindFits part.reservation.first part (entry_at s.cache key) × (s.origin ≡ Played)) → IsSomeAnd o (λ s. IsOut s part.reservation)
     weaker None h = h
     weaker (Some s) h = h.0
 
 -- the reservation was given back
 pub withdrawn_at : (v next : WorldState) (call : ℕ) (key : Bytes) (part : Part) (number : ℕ) (stripes : List State) (parts : Parts) → part_of v call key ≡ Some part → number ≡ home v key
-    → Changed v number (λ from to. Withdraws from (claim_of key part) to) stripes → parts ≡ remove v.parts key
+    → Changed v number (λ from to. Withdraws from part.reservation to) stripes → parts ≡ remove v.parts key
     → next ≡ record v { stripes = stripes; parts = parts } → Happens v (event.Withdraw call key) shown.Withdrawn next
 withdrawn_at v next call key part number stripes parts is home_is p parts_are next_is =
     let At : ℕ → Type 0 = λ n. slice_get v.stripes n ≡ Some p.from in (
@@ -296,7 +277,7 @@ withdrawn_at v next call key part number stripes parts is home_is p parts_are ne
       p.from,
       subst At home_is p.at,
       p.to,
-      p.step,
+      p.made,
       refl,
       next_is ∙ (λ i. record v { stripes = (p.stripes_are ∙ ap (λ n. slice_set v.stripes n p.to) home_is) i; parts = parts_are i }),
     )
@@ -304,11 +285,11 @@ withdrawn_at v next call key part number stripes parts is home_is p parts_are ne
 -- 6. An answer that is picked up.
 
 -- the joiner of a join is in the stripe of its key
-pub joiner_at : (v : WorldState) (call : ℕ) (key : Bytes) (join : JoinClaim) (number : ℕ) → join_of v call key ≡ Some join → number ≡ home v key → IsSoundWorld v → IsSomeAnd (slice_get v.stripes number) (λ s. has_joined join.session join.call join.key s.joiners ≡ true)
+pub joiner_at : (v : WorldState) (call : ℕ) (key : Bytes) (join : JoinClaim) (number : ℕ) → join_of v call key ≡ Some join → number ≡ home v key → IsSoundWorld v → IsSomeAnd (slice_get v.stripes number) (λ s. IsJoined s join)
 joiner_at v call key join number is home_is sound =
     let h = waited_found v (is_join call key) v.joins join is sound.joins in
     let key_is = (join_is call key join (found_test (is_join call key) v.joins join is)).1 in
-    let P : ℕ → Type 0 = λ n. IsSomeAnd (slice_get v.stripes n) (λ s. has_joined join.session join.call join.key s.joiners ≡ true) in
+    let P : ℕ → Type 0 = λ n. IsSomeAnd (slice_get v.stripes n) (λ s. IsJoined s join) in
     subst P (ap (home v) key_is ∙ sym home_is) h.out
 
 -- a pick-up of this join
@@ -327,7 +308,7 @@ picked_answer v next call key join number seen stripes is home_is stripe_is p ne
       subst At home_is p.at,
       p.to,
       (
-        p.step,
+        p.made,
         stripe_is ∙ home_is,
         next_is ∙ (λ i. record v { stripes = (p.stripes_are ∙ ap (λ n. slice_set v.stripes n p.to) home_is) i; joins = unjoined call key v.joins; calls = over call v.calls }),
       ),
@@ -344,7 +325,7 @@ picked_again v next call key join number stripes is home_is p next_is =
       p.from,
       subst At home_is p.at,
       p.to,
-      (p.step, next_is ∙ (λ i. record v { stripes = (p.stripes_are ∙ ap (λ n. slice_set v.stripes n p.to) home_is) i; joins = unjoined call key v.joins })),
+      (p.made, next_is ∙ (λ i. record v { stripes = (p.stripes_are ∙ ap (λ n. slice_set v.stripes n p.to) home_is) i; joins = unjoined call key v.joins })),
     )
 
 -- the load isn't over
@@ -353,11 +334,11 @@ pub picked_nothing : (v next : WorldState) (call : ℕ) (key : Bytes) (join back
     → next ≡ record v { stripes = stripes } → Happens v (event.PickUp call key) shown.Waits next
 picked_nothing v next call key join back number stripes is home_is p next_is =
     let At : ℕ → Type 0 = λ n. slice_get v.stripes n ≡ Some p.from in
-    let made : PicksUp p.from join (picked.NotYet join) p.to = (p.step.0, refl, p.step.2) in (
+    let made : PicksUp p.from join (picked.NotYet join) p.to = (p.made.0, p.made.1, refl, p.made.3) in (
       join,
       is,
       p.from,
       subst At home_is p.at,
       p.to,
-      (made, next_is ∙ (λ i. record v { stripes = (p.stripes_are ∙ same_set v.stripes number p.from p.to p.at p.step.2) i })),
+      (made, next_is ∙ (λ i. record v { stripes = (p.stripes_are ∙ same_set v.stripes number p.from p.to p.at p.made.3) i })),
     )

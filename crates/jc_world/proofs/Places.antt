@@ -58,11 +58,11 @@ home_stripe w key shape = (
 -- 2. The calls.
 
 -- a call that is found has the number
-pub found_number : (n : ℕ) (calls : List Under) (u : Under) → find (has_number n) calls ≡ Some u → u.number ≡ n
+pub found_number : (n : ℕ) (calls : List Under) (u : Under) → find (has_number n) calls ≡ Some u → u.caller.call ≡ n
 found_number n [] u h = cc
 found_number n (x ∷ xs) u h =
-    elim (x.number == n) as (λ b. (x.number == n) ≡ b → cond b (Some x) (find (has_number n) xs) ≡ Some u → u.number ≡ n) [
-      | true ↦ λ e h. let is : x ≡ u = cc in ap (λ (v : Under). v.number) (sym is) ∙ eqb-true x.number n e
+    elim (x.caller.call == n) as (λ b. (x.caller.call == n) ≡ b → cond b (Some x) (find (has_number n) xs) ≡ Some u → u.caller.call ≡ n) [
+      | true ↦ λ e h. let is : x ≡ u = cc in ap (λ (v : Under). v.caller.call) (sym is) ∙ eqb-true x.caller.call n e
       | false ↦ λ e h. found_number n xs u h
     ] refl h
 
@@ -74,12 +74,12 @@ number_clash a n m h k = grind (arith, nat_tests)
 pub under_left : (n m : ℕ) (P : Under → Type 0) (calls : List Under) → (n == m) ≡ false → IsSomeAnd (find (has_number n) calls) P → IsSomeAnd (find (has_number n) (over m calls)) P
 under_left n m P [] apart h = absurd h
 under_left n m P (x ∷ xs) apart h =
-    elim (x.number == n) as (λ b. (x.number == n) ≡ b → IsSomeAnd (cond b (Some x) (find (has_number n) xs)) P → IsSomeAnd (find (has_number n) (cond (not (x.number == m)) (x ∷ over m xs) (over m xs))) P) [
-      | true ↦ λ e h. elim (x.number == m) as (λ b. (x.number == m) ≡ b → IsSomeAnd (find (has_number n) (cond (not b) (x ∷ over m xs) (over m xs))) P) [
-        | true ↦ λ f. absurd (let t = number_clash x.number n m e f in cc)
+    elim (x.caller.call == n) as (λ b. (x.caller.call == n) ≡ b → IsSomeAnd (cond b (Some x) (find (has_number n) xs)) P → IsSomeAnd (find (has_number n) (cond (not (x.caller.call == m)) (x ∷ over m xs) (over m xs))) P) [
+      | true ↦ λ e h. elim (x.caller.call == m) as (λ b. (x.caller.call == m) ≡ b → IsSomeAnd (find (has_number n) (cond (not b) (x ∷ over m xs) (over m xs))) P) [
+        | true ↦ λ f. absurd (let t = number_clash x.caller.call n m e f in cc)
         | false ↦ λ f. let Q : Bool → Type 0 = λ b. IsSomeAnd (cond b (Some x) (find (has_number n) (over m xs))) P in subst Q (sym e) h
       ] refl
-      | false ↦ λ e h. elim (x.number == m) as (λ b. IsSomeAnd (find (has_number n) (cond (not b) (x ∷ over m xs) (over m xs))) P) [
+      | false ↦ λ e h. elim (x.caller.call == m) as (λ b. IsSomeAnd (find (has_number n) (cond (not b) (x ∷ over m xs) (over m xs))) P) [
         | true ↦ under_left n m P xs apart h
         | false ↦ let Q : Bool → Type 0 = λ b. IsSomeAnd (cond b (Some x) (find (has_number n) (over m xs))) P in subst Q (sym e) (under_left n m P xs apart h)
       ]
@@ -89,4 +89,4 @@ under_left n m P (x ∷ xs) apart h =
 pub under_more : (n : ℕ) (P : Under → Type 0) (calls more : List Under) → IsSomeAnd (find (has_number n) calls) P → IsSomeAnd (find (has_number n) (calls ++ more)) P
 under_more n P [] more h = absurd h
 under_more n P (x ∷ xs) more h =
-    elim (x.number == n) as (λ b. IsSomeAnd (cond b (Some x) (find (has_number n) xs)) P → IsSomeAnd (cond b (Some x) (find (has_number n) (xs ++ more))) P) [ true ↦ λ h. h | false ↦ λ h. under_more n P xs more h ] h
+    elim (x.caller.call == n) as (λ b. IsSomeAnd (cond b (Some x) (find (has_number n) xs)) P → IsSomeAnd (cond b (Some x) (find (has_number n) (xs ++ more))) P) [ true ↦ λ h. h | false ↦ λ h. under_more n P xs more h ] h

@@ -1,16 +1,18 @@
 -- The order's parts: what a stripe puts down stands in its own part, and behind what may stand before it.
 --     GoesOn         a stripe puts more events down
 --     shape_set      the shape of a world, where one stripe is another and the order is that stripe's longer one
---     AllBy          each step among events is of such a session and number
+--     AllBy          each step among events is of such a caller
 --     added_order    steps of calls whose numbers are not in the order may stand at its end
-use Rattle.std.proofs.Common.{◌≡◌, ◌==◌, ◌&&◌, ◌||◌, ◌%◌, ℕ, zero, suc, sum, List, [], ◌∷◌, ◌++◌, length, drop, Bool, true, false, cond, not, Option, None, Some, IsSomeAnd, filter, find, map, nat_lt, slice_get, slice_set, refl, sym, ap, ◌∙◌, subst, arith, append-nil}
+use Rattle.std.proofs.Common.{◌≡◌, ◌==◌, ◌&&◌, ◌||◌, ℕ, zero, suc, List, [], ◌∷◌, ◌++◌, length, drop, Bool, true, false, cond, not, Option, None, Some, IsSomeAnd, filter, find, map, nat_lt, slice_get, slice_set, refl, sym, ap, ◌∙◌, subst, arith, append-nil}
 use Rattle.std.specs.List.{list_all}
 use Rattle.std.proofs.Math.Seq.{drop-append_seam}
 use Rattle.std.proofs.lemmas.Bool.{ne_eqb, eqb-true}
 use Rattle.std.proofs.lemmas.Bool.Decides.{nat_tests}
 use Rattle.std.proofs.lemmas.List.Elements.{filter-append}
 use Rattle.std.proofs.lemmas.List.Folds.{list_all-append}
+use Rattle.jc_types.specs.declared.caller.Caller.{Caller}
 use Rattle.jc_types.specs.declared.config.Config.{Config}
+use Rattle.jc_types.specs.Stripes.{stripe_of}
 use Rattle.jc_types.specs.Limits.{checked}
 use Rattle.jc_model.specs.declared.event.Op.{Op}
 use Rattle.jc_model.specs.declared.event.Out.{Out}
@@ -108,7 +110,7 @@ each_map P Q (x ∷ xs) f h = (f x h.0, each_map P Q xs f h.1)
 pub record GoesOn (from to : State) : Type 0 where
   pub more : List Event
   pub config_is : to.config ≡ from.config
-  pub number_is : to.number ≡ from.number
+  pub number_is : to.stripe ≡ from.stripe
   pub origin_is : to.origin ≡ from.origin
   pub history_is : to.history ≡ from.history ++ more
 
@@ -137,8 +139,8 @@ none_kept p q (x ∷ xs) f h = let parts = both (p x) (list_all p xs) h in ap (�
 own_added : (w : WorldState) (n : ℕ) (from to : State) (g : GoesOn from to) → IsStripe w n from → IsReached to → list_all (is_of_stripe w.config.stripes n) g.more ≡ true
 own_added w n from to g at reached =
     let s : to.config.stripes ≡ w.config.stripes = ap (λ (c : Config). c.stripes) (g.config_is ∙ at.config_is) in
-    let m : to.number ≡ n = g.number_is ∙ at.number_is in
-    let e : list_all (is_of_stripe to.config.stripes to.number) to.history ≡ list_all (is_of_stripe w.config.stripes n) (from.history ++ g.more) = λ i. list_all (is_of_stripe (s i) (m i)) (g.history_is i) in
+    let m : to.stripe ≡ n = g.number_is ∙ at.number_is in
+    let e : list_all (is_of_stripe to.config.stripes to.stripe) to.history ≡ list_all (is_of_stripe w.config.stripes n) (from.history ++ g.more) = λ i. list_all (is_of_stripe (s i) (m i)) (g.history_is i) in
     all_back (is_of_stripe w.config.stripes n) from.history g.more (sym e ∙ reached.own)
 
 -- so the stripe's part of the order grows by it
@@ -152,7 +154,7 @@ share_grows w n from to g at reached =
 
 -- an event is of one stripe
 one_stripe : (stripes n m : ℕ) (e : Event) → (n ≡ m → ⊥) → is_of_stripe stripes n e ≡ true → is_of_stripe stripes m e ≡ false
-one_stripe stripes n m e apart h = ne_eqb (sum (event_key e) % stripes) m (λ is. apart (sym (eqb-true (sum (event_key e) % stripes) n h) ∙ is))
+one_stripe stripes n m e apart h = ne_eqb (stripe_of (event_key e) stripes) m (λ is. apart (sym (eqb-true (stripe_of (event_key e) stripes) n h) ∙ is))
 
 -- and the others' parts stay
 pub share_stays : (w : WorldState) (n m : ℕ) (from to : State) → GoesOn from to → IsStripe w n from → IsReached to → (n ≡ m → ⊥) → of_stripe w.config.stripes m (w.order ++ added from to) ≡ of_stripe w.config.stripes m w.order
@@ -178,7 +180,7 @@ shape_same w n config stripes order shape = record {
 
 -- one stripe is another, and the order has all that it put down
 pub shape_set : (w n : WorldState) (key : Bytes) (from to : State) → n.config ≡ w.config → n.stripes ≡ slice_set w.stripes (home w key) to → IsShaped w → stripe_for w key ≡ Some from
-    → to.config ≡ from.config → to.number ≡ from.number → to.origin ≡ from.origin → IsReached to
+    → to.config ≡ from.config → to.stripe ≡ from.stripe → to.origin ≡ from.origin → IsReached to
     → of_stripe w.config.stripes (home w key) n.order ≡ to.history
     → ((m : ℕ) → (home w key ≡ m → ⊥) → of_stripe w.config.stripes m n.order ≡ of_stripe w.config.stripes m w.order) → IsShaped n
 shape_set w n key from to config_is stripes_are shape there config number origin reached share rest =
@@ -205,46 +207,46 @@ first_two true b c h = refl
 first_two false true c h = refl
 first_two false false c h = cc
 
-before_comes : (session number : ℕ) (key : Bytes) (event : Event) → is_before session number event ≡ true → may_come event session number key ≡ true
-before_comes session number key (Step s n op k out shared reply) h = first_two (not (s == session)) (nat_lt n number) _ h
-before_comes session number key (Evict k cause) h = refl
+before_comes : (caller : Caller) (key : Bytes) (event : Event) → is_before caller event ≡ true → may_come event caller key ≡ true
+before_comes caller key (Step who op k out shared reply) h = first_two (not (who.session == caller.session)) (nat_lt who.call caller.call) _ h
+before_comes caller key (Evict k cause) h = refl
 
 -- so it may come behind an order without its number
-pub all_come : (order : List Event) (session number : ℕ) (key : Bytes) → none_from order session number ≡ true → list_all (λ e. may_come e session number key) order ≡ true
-all_come order session number key none = all_imply (is_before session number) (λ e. may_come e session number key) order (before_comes session number key) none
+pub all_come : (order : List Event) (caller : Caller) (key : Bytes) → none_from order caller ≡ true → list_all (λ e. may_come e caller key) order ≡ true
+all_come order caller key none = all_imply (is_before caller) (λ e. may_come e caller key) order (before_comes caller key) none
 
--- each step among these events is of such a session and number
-abbrev pub AllBy : (ℕ → ℕ → Type 0) → List Event → Type 0
+-- each step among these events is of such a caller
+abbrev pub AllBy : (Caller → Type 0) → List Event → Type 0
 AllBy P [] = Unit {0}
-AllBy P (Step s n op key out shared reply ∷ events) = P s n × AllBy P events
+AllBy P (Step who op key out shared reply ∷ events) = P who × AllBy P events
 AllBy P (Evict key cause ∷ events) = AllBy P events
 
-pub by_map : (P Q : ℕ → ℕ → Type 0) (es : List Event) → ((s n : ℕ) → P s n → Q s n) → AllBy P es → AllBy Q es
+pub by_map : (P Q : Caller → Type 0) (es : List Event) → ((c : Caller) → P c → Q c) → AllBy P es → AllBy Q es
 by_map P Q [] f h = tt
-by_map P Q (Step s n op key out shared reply ∷ es) f h = (f s n h.0, by_map P Q es f h.1)
+by_map P Q (Step who op key out shared reply ∷ es) f h = (f who h.0, by_map P Q es f h.1)
 by_map P Q (Evict key cause ∷ es) f h = by_map P Q es f h
 
-by_append : (P : ℕ → ℕ → Type 0) (xs ys : List Event) → AllBy P xs → AllBy P ys → AllBy P (xs ++ ys)
+by_append : (P : Caller → Type 0) (xs ys : List Event) → AllBy P xs → AllBy P ys → AllBy P (xs ++ ys)
 by_append P [] ys h k = k
-by_append P (Step s n op key out shared reply ∷ xs) ys h k = (h.0, by_append P xs ys h.1 k)
+by_append P (Step who op key out shared reply ∷ xs) ys h k = (h.0, by_append P xs ys h.1 k)
 by_append P (Evict key cause ∷ xs) ys h k = by_append P xs ys h k
 
 -- the evictions of a group are of nobody
-by_victim : (P : ℕ → ℕ → Type 0) (victim : Option Bytes) → AllBy P (victim_events victim)
+by_victim : (P : Caller → Type 0) (victim : Option Bytes) → AllBy P (victim_events victim)
 by_victim P None = tt
 by_victim P (Some key) = tt
 
-by_evicted : (P : ℕ → ℕ → Type 0) (key : Bytes) (cause : Option Cause) → AllBy P (evicted_events key cause)
+by_evicted : (P : Caller → Type 0) (key : Bytes) (cause : Option Cause) → AllBy P (evicted_events key cause)
 by_evicted P key None = tt
 by_evicted P key (Some cause) = tt
 
 -- each caller's shared step is its own
-by_shared : (P : ℕ → ℕ → Type 0) (place : ℕ) (key : Bytes) (answer : LoadAnswer) (callers : List (ℕ × ℕ)) → Each (λ (c : ℕ × ℕ). P c.0 c.1) callers → AllBy P (map (shared_event place key answer) callers)
+by_shared : (P : Caller → Type 0) (place : ℕ) (key : Bytes) (answer : LoadAnswer) (callers : List Caller) → Each (λ (c : Caller). P c) callers → AllBy P (map (shared_event place key answer) callers)
 by_shared P place key answer [] h = tt
 by_shared P place key answer (c ∷ cs) h = (h.0, by_shared P place key answer cs h.1)
 
 -- the events of a group are of its call and of the callers that share its load
-pub by_group : (P : ℕ → ℕ → Type 0) (place : ℕ) (group : Group) → P group.session group.number → Each (λ (c : ℕ × ℕ). P c.0 c.1) group.joined → AllBy P (events_of place group)
+pub by_group : (P : Caller → Type 0) (place : ℕ) (group : Group) → P group.caller → Each (λ (c : Caller). P c) group.joined → AllBy P (events_of place group)
 by_group P place group one callers =
     let front = victim_events group.victim in
     let steps = step_event group ∷ map (shared_event (step_place place group) group.step.key group.step.out.load) group.joined in
@@ -252,29 +254,29 @@ by_group P place group one callers =
     by_append P (front ++ steps) (evicted_events group.step.key group.evicted) (by_append P front steps (by_victim P group.victim) all_steps) (by_evicted P group.step.key group.evicted)
 
 -- a fact of each event, where it holds of each step
-pub all_by : (P : ℕ → ℕ → Type 0) (p : Event → Bool) (es : List Event) → ((s n : ℕ) (op : Op) (key : Bytes) (out : Out) (shared : Option ℕ) (reply : Reply) → P s n → p (Step s n op key out shared reply) ≡ true)
+pub all_by : (P : Caller → Type 0) (p : Event → Bool) (es : List Event) → ((who : Caller) (op : Op) (key : Bytes) (out : Out) (shared : Option ℕ) (reply : Reply) → P who → p (Step who op key out shared reply) ≡ true)
     → ((key : Bytes) (cause : Cause) → p (Evict key cause) ≡ true) → AllBy P es → list_all p es ≡ true
 all_by P p [] f g h = refl
-all_by P p (Step s n op key out shared reply ∷ es) f g h = all _ _ (f s n op key out shared reply h.0) (all_by P p es f g h.1)
+all_by P p (Step who op key out shared reply ∷ es) f g h = all _ _ (f who op key out shared reply h.0) (all_by P p es f g h.1)
 all_by P p (Evict key cause ∷ es) f g h = all _ _ (g key cause) (all_by P p es f g h)
 
 -- what is before such a step may stand before it
-before_follows : (x : Event) (s n : ℕ) (op : Op) (key : Bytes) (out : Out) (shared : Option ℕ) (reply : Reply) → is_before s n x ≡ true → may_follow x (Step s n op key out shared reply) ≡ true
-before_follows (Step s' n' op' key' out' shared' reply') s n op key out shared reply h = first_two (not (s' == s)) (nat_lt n' n) _ h
-before_follows (Evict key' cause) s n op key out shared reply h = refl
+before_follows : (x : Event) (who : Caller) (op : Op) (key : Bytes) (out : Out) (shared : Option ℕ) (reply : Reply) → is_before who x ≡ true → may_follow x (Step who op key out shared reply) ≡ true
+before_follows (Step who' op' key' out' shared' reply') who op key out shared reply h = first_two (not (who'.session == who.session)) (nat_lt who'.call who.call) _ h
+before_follows (Evict key' cause) who op key out shared reply h = refl
 
 -- and everything before an eviction
 before_evict : (x : Event) (key : Bytes) (cause : Cause) → may_follow x (Evict key cause) ≡ true
-before_evict (Step s n op key' out shared reply) key cause = refl
+before_evict (Step who op key' out shared reply) key cause = refl
 before_evict (Evict key' cause') key cause = refl
 
 -- events may stand behind an order without their numbers
-all_follow : (xs ys : List Event) → AllBy (λ s n. none_from xs s n ≡ true) ys → list_all (λ x. list_all (may_follow x) ys) xs ≡ true
+all_follow : (xs ys : List Event) → AllBy (λ who. none_from xs who ≡ true) ys → list_all (λ x. list_all (may_follow x) ys) xs ≡ true
 all_follow [] ys h = refl
 all_follow (x ∷ xs) ys h = all _ _
-    (all_by (λ s n. none_from (x ∷ xs) s n ≡ true) (may_follow x) ys
-    (λ s n op key out shared reply k. before_follows x s n op key out shared reply (both (is_before s n x) (none_from xs s n) k).0) (before_evict x) h)
-    (all_follow xs ys (by_map (λ s n. none_from (x ∷ xs) s n ≡ true) (λ s n. none_from xs s n ≡ true) ys (λ s n k. (both (is_before s n x) (none_from xs s n) k).1) h))
+    (all_by (λ who. none_from (x ∷ xs) who ≡ true) (may_follow x) ys
+    (λ who op key out shared reply k. before_follows x who op key out shared reply (both (is_before who x) (none_from xs who) k).0) (before_evict x) h)
+    (all_follow xs ys (by_map (λ who. none_from (x ∷ xs) who ≡ true) (λ who. none_from xs who ≡ true) ys (λ who k. (both (is_before who x) (none_from xs who) k).1) h))
 
 -- two parts in order, of which the one may stand behind the other
 order_joined : (xs ys : List Event) → in_order xs ≡ true → in_order ys ≡ true → list_all (λ x. list_all (may_follow x) ys) xs ≡ true → in_order (xs ++ ys) ≡ true
@@ -290,7 +292,7 @@ order_back [] ys h = h
 order_back (x ∷ xs) ys h = order_back xs ys (both (list_all (may_follow x) (xs ++ ys)) (in_order (xs ++ ys)) h).1
 
 -- the order with the steps of calls whose numbers it doesn't have
-pub added_order : (order : List Event) (from to : State) (g : GoesOn from to) → IsReached to → in_order order ≡ true → AllBy (λ s n. none_from order s n ≡ true) g.more → in_order (order ++ added from to) ≡ true
+pub added_order : (order : List Event) (from to : State) (g : GoesOn from to) → IsReached to → in_order order ≡ true → AllBy (λ who. none_from order who ≡ true) g.more → in_order (order ++ added from to) ≡ true
 added_order order from to g reached h none =
     ap (λ more. in_order (order ++ more)) (added_is from to g)
     ∙ order_joined order g.more h (order_back from.history g.more (sym (ap in_order g.history_is) ∙ reached.legal.order)) (all_follow order g.more none)
@@ -300,12 +302,12 @@ added_all : (p : Event → Bool) (order : List Event) (from to : State) (g : Goe
 added_all p order from to g before here = list_all-append p order (added from to) ∙ all _ _ before (ap (list_all p) (added_is from to g) ∙ here)
 
 -- the numbers of the steps are at most the last
-pub numbers_added : (last : Option ℕ) (order : List Event) (from to : State) (g : GoesOn from to) → list_all (number_up_to last) order ≡ true → AllBy (λ s n. is_up_to last n ≡ true) g.more → list_all (number_up_to last) (order ++ added from to) ≡ true
+pub numbers_added : (last : Option ℕ) (order : List Event) (from to : State) (g : GoesOn from to) → list_all (number_up_to last) order ≡ true → AllBy (λ who. is_up_to last who.call ≡ true) g.more → list_all (number_up_to last) (order ++ added from to) ≡ true
 numbers_added last order from to g before here =
-    added_all (number_up_to last) order from to g before (all_by (λ s n. is_up_to last n ≡ true) (number_up_to last) g.more (λ s n op key out shared reply h. h) (λ key cause. refl) here)
+    added_all (number_up_to last) order from to g before (all_by (λ who. is_up_to last who.call ≡ true) (number_up_to last) g.more (λ who op key out shared reply h. h) (λ key cause. refl) here)
 
 -- a call of another session is still above all steps of its session
-pub none_added : (order : List Event) (from to : State) (session number : ℕ) (g : GoesOn from to) → none_from order session number ≡ true → AllBy (λ s n. not (s == session) ≡ true) g.more → none_from (order ++ added from to) session number ≡ true
-none_added order from to session number g before here =
-    added_all (is_before session number) order from to g before
-    (all_by (λ s n. not (s == session) ≡ true) (is_before session number) g.more (λ s n op key out shared reply h. ap (λ b. b || nat_lt n number) h) (λ key cause. refl) here)
+pub none_added : (order : List Event) (from to : State) (caller : Caller) (g : GoesOn from to) → none_from order caller ≡ true → AllBy (λ who. not (who.session == caller.session) ≡ true) g.more → none_from (order ++ added from to) caller ≡ true
+none_added order from to caller g before here =
+    added_all (is_before caller) order from to g before
+    (all_by (λ who. not (who.session == caller.session) ≡ true) (is_before caller) g.more (λ who op key out shared reply h. ap (λ b. b || nat_lt who.call caller.call) h) (λ key cause. refl) here)

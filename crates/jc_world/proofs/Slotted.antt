@@ -8,9 +8,10 @@ use Rattle.jc_model.specs.declared.event.Change.{Change}
 use Rattle.jc_model.specs.Table.{is_write_given}
 use Rattle.jc_model.proofs.Lookups.{both, exact, none_is}
 use Rattle.jc_stripe.specs.declared.ticket.First.{First}
-use Rattle.jc_stripe.specs.declared.ticket.First.TheVariants.{Nobody, Loader, Writer}
+use Rattle.jc_stripe.specs.declared.ticket.First.TheVariants.{Nobody, Loader, Writer, Processor}
+use Rattle.jc_stripe.specs.Tickets.{asks_writer}
 use Rattle.jc_world.specs.declared.event.Part.{Part}
-use Rattle.jc_world.specs.World.{WorldState, of_call, part_of, asks_writer, waits_for_report, is_answered, is_untouched}
+use Rattle.jc_world.specs.World.{WorldState, of_call, part_of, waits_for_report, is_answered, is_untouched}
 use Rattle.jc_world.specs.declared.event.WorldEvent.TheVariants as event
 use Rattle.jc_world.specs.Events.{fits}
 use Rattle.std.specs.Cmp.Lexicographic.{texts_ties}
@@ -22,17 +23,17 @@ use Rattle.jc_world.proofs.Listed.{Entry, once-push, split}
 pub is_part : (o : Option Part) (call : ℕ) (part : Part) → of_call call o ≡ Some part → o ≡ Some part
 is_part None call part h = cc
 is_part (Some p) call part h =
-    elim (p.call == call) as (λ b. cond b (Some p) None ≡ Some part → Some p ≡ Some part) [ true ↦ λ h. h | false ↦ λ h. cc ] h
+    elim (p.reservation.caller.call == call) as (λ b. cond b (Some p) None ≡ Some part → Some p ≡ Some part) [ true ↦ λ h. h | false ↦ λ h. cc ] h
 
 -- by the call first, where no key stands twice
 part_under_is : (call : ℕ) (key : Bytes) (slots : List Entry) → once slots ≡ true → part_under call key slots ≡ of_call call (find key_cmp key slots)
 part_under_is call key [] once = refl
 part_under_is call key (x ∷ xs) once =
     let parts = both (is_none (find key_cmp x.0 xs)) _ once in
-    ap (λ b. cond ((x.1.call == call) && b) (Some x.1) (part_under call key xs)) (texts_ties key x.0)
-    ∙ split key x.0 (λ b. cond ((x.1.call == call) && b) (Some x.1) (part_under call key xs) ≡ of_call call (cond b (Some x.1) (find key_cmp key xs)))
-    (λ e. here (x.1.call == call) x.1 (part_under call key xs) (part_under_is call key xs parts.1 ∙ ap (of_call call) (ap (λ k. find key_cmp k xs) e ∙ none_is _ parts.0)))
-    (λ e. there (x.1.call == call) (part_under call key xs) (Some x.1) ∙ part_under_is call key xs parts.1)
+    ap (λ b. cond ((x.1.reservation.caller.call == call) && b) (Some x.1) (part_under call key xs)) (texts_ties key x.0)
+    ∙ split key x.0 (λ b. cond ((x.1.reservation.caller.call == call) && b) (Some x.1) (part_under call key xs) ≡ of_call call (cond b (Some x.1) (find key_cmp key xs)))
+    (λ e. here (x.1.reservation.caller.call == call) x.1 (part_under call key xs) (part_under_is call key xs parts.1 ∙ ap (of_call call) (ap (λ k. find key_cmp k xs) e ∙ none_is _ parts.0)))
+    (λ e. there (x.1.reservation.caller.call == call) (part_under call key xs) (Some x.1) ∙ part_under_is call key xs parts.1)
   where
     here : (b : Bool) (part : Part) (rest : Option Part) → rest ≡ None → cond (b && true) (Some part) rest ≡ cond b (Some part) None
     here true part rest e = refl
@@ -47,8 +48,8 @@ pub in_slots : (m : Inside) (w : WorldState) (call : ℕ) (key : Bytes) → IsKe
 in_slots m w call key kept same =
     part_under_is call key m.slots.items kept ∙ ap (of_call call) (sym (get-from_entries nat_list_cmp_total m.slots.items key)) ∙ ap (λ (x : WorldState). part_of x call key) same
 
-pub may_set : (o : Option Part) (part new : Part) → o ≡ Some part → new.number ≡ part.number → new.first ≡ part.first → IsSomeAnd o (λ old. (new.number ≡ old.number) × (new.first ≡ old.first))
-may_set o part new is number first = let P : Option Part → Type 0 = λ o. IsSomeAnd o (λ old. (new.number ≡ old.number) × (new.first ≡ old.first)) in subst P (sym is) (number, first)
+pub may_set : (o : Option Part) (part new : Part) → o ≡ Some part → new.reservation ≡ part.reservation → IsSomeAnd o (λ old. new.reservation ≡ old.reservation)
+may_set o part new is same = let P : Option Part → Type 0 = λ o. IsSomeAnd o (λ old. new.reservation ≡ old.reservation) in subst P (sym is) same
 
 -- a slot is put behind the others
 pub pushed : (slots items : List Entry) (key : Bytes) (part : Part) → get (parts_of slots) key ≡ None → items ≡ slots ++ (key, part) ∷ [] → once slots ≡ true → (parts_of items ≡ map.insert (parts_of slots) key part) × (once items ≡ true)
@@ -57,13 +58,14 @@ pushed slots items key part none is old =
     (ap parts_of is ∙ map.from_entries_push nat_list_cmp_total exact slots key part free, ap once is ∙ once-push slots key part free old)
 
 -- whose writer is waited for was asked for a change
-pub waits_writer : (part : Part) → waits_for_report (Some part) ≡ true → (change : Change) × (part.first ≡ Writer change)
-waits_writer part h = go part.first refl ((both (asks_writer part.first) (not (is_write_given part.report)) h).0)
+pub waits_writer : (part : Part) → waits_for_report (Some part) ≡ true → (change : Change) × (part.reservation.first ≡ Writer change)
+waits_writer part h = go part.reservation.first refl ((both (asks_writer part.reservation.first) (not (is_write_given part.report)) h).0)
   where
-    go : (first : First) → part.first ≡ first → asks_writer first ≡ true → (change : Change) × (part.first ≡ Writer change)
+    go : (first : First) → part.reservation.first ≡ first → asks_writer first ≡ true → (change : Change) × (part.reservation.first ≡ Writer change)
     go Nobody e h = cc
     go Loader e h = cc
     go (Writer change) e h = (change, e)
+    go Processor e h = cc
 
 pub answered_some : (o : Option Part) → is_answered o ≡ true → (part : Part) × (o ≡ Some part)
 answered_some None h = cc

@@ -11,11 +11,13 @@ use Rattle.std.specs.Cmp.Lexicographic.{pointwise, texts_ties}
 use Rattle.std.proofs.lemmas.Bool.{eqb-true}
 use Rattle.std.proofs.lemmas.Cmp.{nat_eq_equiv}
 use Rattle.std.proofs.lemmas.Bool.Decides.{nat_tests}
+use Rattle.jc_types.specs.declared.caller.Caller.{Caller}
 use Rattle.jc_model.specs.declared.event.Event.{Event}
 use Rattle.jc_model.specs.declared.event.Event.TheVariants.{Step, Evict}
 use Rattle.jc_model.specs.Cache.{Bytes}
 use Rattle.jc_model.proofs.Lookups.{both, same_key}
-use Rattle.jc_stripe.specs.State.{Reserved, is_key, unreserved}
+use Rattle.jc_stripe.specs.declared.ticket.Reservation.{Reservation}
+use Rattle.jc_stripe.specs.State.{is_key, without_key}
 use Rattle.jc_world.specs.declared.event.Under.{Under}
 use Rattle.jc_world.specs.declared.event.Part.{Part}
 use Rattle.jc_world.specs.World.{WorldState, has_number, is_of, over, of_call}
@@ -26,8 +28,8 @@ use Rattle.jc_world.proofs.Shares.{all, turned_eq, all_filter, all_imply, found_
 -- 1. A call that is over.
 
 -- a call that is found has the number
-pub found_number : (call : ℕ) (calls : List Under) (u : Under) → find (has_number call) calls ≡ Some u → u.number ≡ call
-found_number call calls u h = eqb-true u.number call (found_test (has_number call) calls u h)
+pub found_number : (call : ℕ) (calls : List Under) (u : Under) → find (has_number call) calls ≡ Some u → u.caller.call ≡ call
+found_number call calls u h = eqb-true u.caller.call call (found_test (has_number call) calls u h)
 
 -- a number is not two others
 clash : (a b n : ℕ) → (a == b) ≡ false → (n == a) ≡ true → (n == b) ≡ false
@@ -38,7 +40,7 @@ pub find_over : (call other : ℕ) (calls : List Under) → (call == other) ≡ 
 find_over call other [] apart = refl
 find_over call other (x ∷ xs) apart =
     elim (has_number call x) as (λ b. has_number call x ≡ b → find (has_number other) (cond (not b) (x ∷ over call xs) (over call xs)) ≡ cond (has_number other x) (Some x) (find (has_number other) xs)) [
-      | true ↦ λ e. find_over call other xs apart ∙ sym (ap (λ b. cond b (Some x) (find (has_number other) xs)) (clash call other x.number apart e))
+      | true ↦ λ e. find_over call other xs apart ∙ sym (ap (λ b. cond b (Some x) (find (has_number other) xs)) (clash call other x.caller.call apart e))
       | false ↦ λ e. ap (λ r. cond (has_number other x) (Some x) r) (find_over call other xs apart)
     ] refl
 
@@ -66,54 +68,54 @@ calls_on w n P [] f each fit = tt
 calls_on w n P (x ∷ xs) f each fit = (f x each.0 fit.0, fit.1, calls_on w n P xs f each.1 fit.2)
 
 -- a call of another number is not found
-number_apart : (x u : Under) → is_apart x u ≡ true → has_number u.number x ≡ false
-number_apart x u h = go (x.number == u.number) (ap not (turned_eq x.number u.number) ∙ (both (not (u.session == x.session)) (not (u.number == x.number)) h).1)
+number_apart : (x u : Under) → is_apart x u ≡ true → has_number u.caller.call x ≡ false
+number_apart x u h = go (x.caller.call == u.caller.call) (ap not (turned_eq x.caller.call u.caller.call) ∙ (both (not (u.caller.session == x.caller.session)) (not (u.caller.call == x.caller.call)) h).1)
   where
     go : (b : Bool) → not b ≡ true → b ≡ false
     go true h = cc
     go false h = refl
 
 -- each call is found by its number
-pub each_found : (w : WorldState) (calls : List Under) → CallsFit w calls → Each (λ (u : Under). find (has_number u.number) calls ≡ Some u) calls
+pub each_found : (w : WorldState) (calls : List Under) → CallsFit w calls → Each (λ (u : Under). find (has_number u.caller.call) calls ≡ Some u) calls
 each_found w [] fit = tt
 each_found w (x ∷ xs) fit = (
-  ap (λ b. cond b (Some x) (find (has_number x.number) xs)) (nat_eq_equiv.refl x.number),
+  ap (λ b. cond b (Some x) (find (has_number x.caller.call) xs)) (nat_eq_equiv.refl x.caller.call),
   behind xs (each_found w xs fit.2) fit.1,
 )
   where
-    behind : (ys : List Under) → Each (λ (u : Under). find (has_number u.number) xs ≡ Some u) ys → list_all (is_apart x) ys ≡ true → Each (λ (u : Under). find (has_number u.number) (x ∷ xs) ≡ Some u) ys
+    behind : (ys : List Under) → Each (λ (u : Under). find (has_number u.caller.call) xs ≡ Some u) ys → list_all (is_apart x) ys ≡ true → Each (λ (u : Under). find (has_number u.caller.call) (x ∷ xs) ≡ Some u) ys
     behind [] h apart = tt
     behind (y ∷ ys) h apart =
         let parts = both (is_apart x y) (list_all (is_apart x) ys) apart in
-        (ap (λ b. cond b (Some x) (find (has_number y.number) xs)) (number_apart x y parts.0) ∙ h.0, behind ys h.1 parts.1)
+        (ap (λ b. cond b (Some x) (find (has_number y.caller.call) xs)) (number_apart x y parts.0) ∙ h.0, behind ys h.1 parts.1)
 
 -- of another session
 abbrev pub is_elsewhere : ℕ → Under → Bool
-is_elsewhere session u = not (u.session == session)
+is_elsewhere session u = not (u.caller.session == session)
 
 -- calls that are apart are of two sessions
-elsewhere : (x u : Under) → is_apart x u ≡ true → is_elsewhere x.session u ≡ true
-elsewhere x u h = (both (not (u.session == x.session)) (not (u.number == x.number)) h).0
+elsewhere : (x u : Under) → is_apart x u ≡ true → is_elsewhere x.caller.session u ≡ true
+elsewhere x u h = (both (not (u.caller.session == x.caller.session)) (not (u.caller.call == x.caller.call)) h).0
 
 -- the calls beside one under way are of other sessions
-pub apart_over : (w : WorldState) (call : ℕ) (calls : List Under) (u : Under) → find (has_number call) calls ≡ Some u → CallsFit w calls → list_all (is_elsewhere u.session) (over call calls) ≡ true
+pub apart_over : (w : WorldState) (call : ℕ) (calls : List Under) (u : Under) → find (has_number call) calls ≡ Some u → CallsFit w calls → list_all (is_elsewhere u.caller.session) (over call calls) ≡ true
 apart_over w call [] u h fit = cc
 apart_over w call (x ∷ xs) u h fit =
-    elim (has_number call x) as (λ b. cond b (Some x) (find (has_number call) xs) ≡ Some u → list_all (is_elsewhere u.session) (cond (not b) (x ∷ over call xs) (over call xs)) ≡ true) [
+    elim (has_number call x) as (λ b. cond b (Some x) (find (has_number call) xs) ≡ Some u → list_all (is_elsewhere u.caller.session) (cond (not b) (x ∷ over call xs) (over call xs)) ≡ true) [
       | true ↦ λ h.
           let is : x ≡ u = cc in
-          let here = all_filter (λ o. not (has_number call o)) (is_elsewhere x.session) xs (all_imply (is_apart x) (is_elsewhere x.session) xs (elsewhere x) fit.1) in
-          ap (λ (y : Under). list_all (is_elsewhere y.session) (over call xs)) (sym is) ∙ here
+          let here = all_filter (λ o. not (has_number call o)) (is_elsewhere x.caller.session) xs (all_imply (is_apart x) (is_elsewhere x.caller.session) xs (elsewhere x) fit.1) in
+          ap (λ (y : Under). list_all (is_elsewhere y.caller.session) (over call xs)) (sym is) ∙ here
       | false ↦ λ h.
           let away = elsewhere x u (found_all (has_number call) (is_apart x) xs u h fit.1) in
-          all _ _ (ap not (turned_eq x.session u.session) ∙ away) (apart_over w call xs u h fit.2)
+          all _ _ (ap not (turned_eq x.caller.session u.caller.session) ∙ away) (apart_over w call xs u h fit.2)
     ] h
 
 -- a call under way of another number is of another session
 pub elsewhere_found : (w : WorldState) (call other : ℕ) (calls : List Under) (u v : Under) → CallsFit w calls → find (has_number call) calls ≡ Some u → find (has_number other) calls ≡ Some v
-    → (call == other) ≡ false → is_elsewhere u.session v ≡ true
+    → (call == other) ≡ false → is_elsewhere u.caller.session v ≡ true
 elsewhere_found w call other calls u v fit one two apart =
-    found_all (has_number other) (is_elsewhere u.session) (over call calls) v (find_over call other calls apart ∙ two) (apart_over w call calls u one fit)
+    found_all (has_number other) (is_elsewhere u.caller.session) (over call calls) v (find_over call other calls apart ∙ two) (apart_over w call calls u one fit)
 
 -- 3. A new call.
 
@@ -146,7 +148,7 @@ up_self call = go call
 
 -- so is the number of an event
 event_more : (last : Option ℕ) (call : ℕ) (e : Event) → is_new last call ≡ true → number_up_to last e ≡ true → number_up_to (Some call) e ≡ true
-event_more last call (Step s n op k out shared reply) new up = up_more last call n new up
+event_more last call (Step who op k out shared reply) new up = up_more last call who.call new up
 event_more last call (Evict k c) new up = refl
 
 -- and of all events
@@ -159,17 +161,17 @@ or-right true b h = refl
 or-right false b h = h
 
 -- an event is before a new call
-event_before : (last : Option ℕ) (session call : ℕ) (e : Event) → is_new last call ≡ true → number_up_to last e ≡ true → is_before session call e ≡ true
-event_before last session call (Step s n op k out shared reply) new up = or-right _ _ (up_to_new last call n new up)
-event_before last session call (Evict k c) new up = refl
+event_before : (last : Option ℕ) (caller : Caller) (e : Event) → is_new last caller.call ≡ true → number_up_to last e ≡ true → is_before caller e ≡ true
+event_before last caller (Step who op k out shared reply) new up = or-right _ _ (up_to_new last caller.call who.call new up)
+event_before last caller (Evict k c) new up = refl
 
 -- no step has the number of a new call, or a higher one
-pub none_new : (last : Option ℕ) (session call : ℕ) (order : List Event) → is_new last call ≡ true → list_all (number_up_to last) order ≡ true → none_from order session call ≡ true
-none_new last session call order new h = all_imply (number_up_to last) (is_before session call) order (λ e. event_before last session call e new) h
+pub none_new : (last : Option ℕ) (caller : Caller) (order : List Event) → is_new last caller.call ≡ true → list_all (number_up_to last) order ≡ true → none_from order caller ≡ true
+none_new last caller order new h = all_imply (number_up_to last) (is_before caller) order (λ e. event_before last caller e new) h
 
 -- a session that is not busy has no call of these
-not_busy : (session : ℕ) (x : Under) (xs : List Under) → not (list_any (is_of session) (x ∷ xs)) ≡ true → (not (session == x.session) ≡ true) × (not (list_any (is_of session) xs) ≡ true)
-not_busy session x xs h = let parts = neither (is_of session x) (list_any (is_of session) xs) h in (ap not (turned_eq session x.session) ∙ parts.0, parts.1)
+not_busy : (session : ℕ) (x : Under) (xs : List Under) → not (list_any (is_of session) (x ∷ xs)) ≡ true → (not (session == x.caller.session) ≡ true) × (not (list_any (is_of session) xs) ≡ true)
+not_busy session x xs h = let parts = neither (is_of session x) (list_any (is_of session) xs) h in (ap not (turned_eq session x.caller.session) ∙ parts.0, parts.1)
   where
     neither : (a b : Bool) → not (a || b) ≡ true → (not a ≡ true) × (not b ≡ true)
     neither true b h = cc
@@ -181,13 +183,13 @@ pushed_apart p [] u h one = all _ _ one refl
 pushed_apart p (x ∷ xs) u h one = let parts = both (p x) (list_all p xs) h in all _ _ parts.0 (pushed_apart p xs u parts.1 one)
 
 -- the calls fit with a new one
-pub calls_pushed : (w n : WorldState) (u : Under) (calls : List Under) → is_new w.last u.number ≡ true → not (list_any (is_of u.session) calls) ≡ true
+pub calls_pushed : (w n : WorldState) (u : Under) (calls : List Under) → is_new w.last u.caller.call ≡ true → not (list_any (is_of u.caller.session) calls) ≡ true
     → ((x : Under) → FitsCall w x → FitsCall n x) → FitsCall n u → CallsFit w calls → CallsFit n (calls ++ u ∷ [])
 calls_pushed w n u [] new free f fit rest = (fit, refl, tt)
 calls_pushed w n u (x ∷ xs) new free f fit rest =
-    let away = not_busy u.session x xs free in (
+    let away = not_busy u.caller.session x xs free in (
       f x rest.0,
-      pushed_apart (is_apart x) xs u rest.1 (all _ _ away.0 (less_not x.number u.number (up_to_new w.last u.number x.number new rest.0.number))),
+      pushed_apart (is_apart x) xs u rest.1 (all _ _ away.0 (less_not x.caller.call u.caller.call (up_to_new w.last u.caller.call x.caller.call new rest.0.number))),
       calls_pushed w n u xs new away.1 f fit rest.2,
     )
 
@@ -200,28 +202,28 @@ find_pushed p (x ∷ xs) more P h =
 -- 4. What the reservations own.
 
 -- what passes a test is owned in another world
-pub all_owned : (w new : WorldState) (p : Reserved → Bool) (rs : List Reserved) → ((r : Reserved) → p r ≡ true → IsOwned w r → IsOwned new r) → list_all p rs ≡ true → AllOwned w rs → AllOwned new rs
+pub all_owned : (w new : WorldState) (p : Reservation → Bool) (rs : List Reservation) → ((r : Reservation) → p r ≡ true → IsOwned w r → IsOwned new r) → list_all p rs ≡ true → AllOwned w rs → AllOwned new rs
 all_owned w new p [] f h owned = tt
 all_owned w new p (r ∷ rs) f h owned = let parts = both (p r) (list_all p rs) h in (f r parts.0 owned.0, all_owned w new p rs f parts.1 owned.1)
 
 -- each reservation is owned in another world
-pub each_owned : (w new : WorldState) (rs : List Reserved) → ((r : Reserved) → IsOwned w r → IsOwned new r) → AllOwned w rs → AllOwned new rs
+pub each_owned : (w new : WorldState) (rs : List Reservation) → ((r : Reservation) → IsOwned w r → IsOwned new r) → AllOwned w rs → AllOwned new rs
 each_owned w new [] f owned = tt
 each_owned w new (r ∷ rs) f owned = (f r owned.0, each_owned w new rs f owned.1)
 
 -- one more is owned
-pub owned_pushed : (w : WorldState) (rs : List Reserved) (r : Reserved) → AllOwned w rs → IsOwned w r → AllOwned w (rs ++ r ∷ [])
+pub owned_pushed : (w : WorldState) (rs : List Reservation) (r : Reservation) → AllOwned w rs → IsOwned w r → AllOwned w (rs ++ r ∷ [])
 owned_pushed w [] r owned one = (one, tt)
 owned_pushed w (x ∷ xs) r owned one = (owned.0, owned_pushed w xs r owned.1 one)
 
 -- those left are owned
-pub owned_left : (w : WorldState) (key : Bytes) (rs : List Reserved) → AllOwned w rs → AllOwned w (unreserved key rs)
+pub owned_left : (w : WorldState) (key : Bytes) (rs : List Reservation) → AllOwned w rs → AllOwned w (without_key key rs)
 owned_left w key [] owned = tt
 owned_left w key (x ∷ xs) owned =
-    elim (not (is_key key x)) as (λ b. AllOwned w (cond b (x ∷ unreserved key xs) (unreserved key xs))) [ true ↦ (owned.0, owned_left w key xs owned.1) | false ↦ owned_left w key xs owned.1 ]
+    elim (not (is_key key x)) as (λ b. AllOwned w (cond b (x ∷ without_key key xs) (without_key key xs))) [ true ↦ (owned.0, owned_left w key xs owned.1) | false ↦ owned_left w key xs owned.1 ]
 
 -- one that is found is owned
-pub owned_found : (w : WorldState) (p : Reserved → Bool) (rs : List Reserved) (r : Reserved) → find p rs ≡ Some r → AllOwned w rs → IsOwned w r
+pub owned_found : (w : WorldState) (p : Reservation → Bool) (rs : List Reservation) (r : Reservation) → find p rs ≡ Some r → AllOwned w rs → IsOwned w r
 owned_found w p [] r h owned = cc
 owned_found w p (x ∷ xs) r h owned =
     elim (p x) as (λ b. cond b (Some x) (find p xs) ≡ Some r → IsOwned w r) [
@@ -230,16 +232,16 @@ owned_found w p (x ∷ xs) r h owned =
     ] h
 
 -- the reservations that are left are of other keys
-pub others_left : (key : Bytes) (rs : List Reserved) → list_all (λ r. not (is_key key r)) (unreserved key rs) ≡ true
+pub others_left : (key : Bytes) (rs : List Reservation) → list_all (λ r. not (is_key key r)) (without_key key rs) ≡ true
 others_left key [] = refl
 others_left key (x ∷ xs) =
-    elim (is_key key x) as (λ b. is_key key x ≡ b → list_all (λ r. not (is_key key r)) (cond (not b) (x ∷ unreserved key xs) (unreserved key xs)) ≡ true) [
+    elim (is_key key x) as (λ b. is_key key x ≡ b → list_all (λ r. not (is_key key r)) (cond (not b) (x ∷ without_key key xs) (without_key key xs)) ≡ true) [
       | true ↦ λ e. others_left key xs
       | false ↦ λ e. all _ _ (ap not e) (others_left key xs)
     ] refl
 
 -- a condition on each reservation from what it owns
-pub test_owned : (w : WorldState) (p : Reserved → Bool) (rs : List Reserved) → ((r : Reserved) → IsOwned w r → p r ≡ true) → AllOwned w rs → list_all p rs ≡ true
+pub test_owned : (w : WorldState) (p : Reservation → Bool) (rs : List Reservation) → ((r : Reservation) → IsOwned w r → p r ≡ true) → AllOwned w rs → list_all p rs ≡ true
 test_owned w p [] f owned = refl
 test_owned w p (r ∷ rs) f owned = all _ _ (f r owned.0) (test_owned w p rs f owned.1)
 
@@ -248,18 +250,18 @@ pub same_bytes : (a b : Bytes) → pointwise ◌==◌ a b ≡ true → a ≡ b
 same_bytes a b h = same_key a b (sym (texts_ties a b) ∙ h)
 
 -- a call's part is the key's, and names the call
-pub of_call-at : (call : ℕ) (o : Option Part) (part : Part) → of_call call o ≡ Some part → (o ≡ Some part) × (part.call ≡ call)
+pub of_call-at : (call : ℕ) (o : Option Part) (part : Part) → of_call call o ≡ Some part → (o ≡ Some part) × (part.reservation.caller.call ≡ call)
 of_call-at call None part h = cc
 of_call-at call (Some p) part h =
-    elim (p.call == call) as (λ b. (p.call == call) ≡ b → cond b (Some p) None ≡ Some part → (Some p ≡ Some part) × (part.call ≡ call)) [
-      | true ↦ λ e h. let is : p ≡ part = cc in (h, ap (λ (q : Part). q.call) (sym is) ∙ eqb-true p.call call e)
+    elim (p.reservation.caller.call == call) as (λ b. (p.reservation.caller.call == call) ≡ b → cond b (Some p) None ≡ Some part → (Some p ≡ Some part) × (part.reservation.caller.call ≡ call)) [
+      | true ↦ λ e h. let is : p ≡ part = cc in (h, ap (λ (q : Part). q.reservation.caller.call) (sym is) ∙ eqb-true p.reservation.caller.call call e)
       | false ↦ λ e h. cc
     ] refl h
 
 -- where a call has no part, the key has none that names it
-pub of_call-none : (call : ℕ) (o : Option Part) (part : Part) → is_none (of_call call o) ≡ true → o ≡ Some part → (part.call == call) ≡ true → ⊥
+pub of_call-none : (call : ℕ) (o : Option Part) (part : Part) → is_none (of_call call o) ≡ true → o ≡ Some part → (part.reservation.caller.call == call) ≡ true → ⊥
 of_call-none call None part none is e = cc
 of_call-none call (Some p) part none is e =
     let same : p ≡ part = cc in
-    let here : (p.call == call) ≡ true = ap (λ (q : Part). q.call == call) same ∙ e in
+    let here : (p.reservation.caller.call == call) ≡ true = ap (λ (q : Part). q.reservation.caller.call == call) same ∙ e in
     let t : false ≡ true = sym (ap (λ b. is_none {T = Part} (cond b (Some p) None)) here) ∙ none in cc

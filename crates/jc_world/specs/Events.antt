@@ -1,6 +1,6 @@
 -- The world as a machine: when an event fits, what it shows, and what it leaves.
 --     is_single                   an operation is a call by itself: each but `Clear`, `LoadAll` and `Invoke`
---     is_session                  a number is that of a session: 1 to 32
+--     is_session                  a number is that of a session: from 1 to the most sessions
 --     is_new                      a call's number is above all before it
 --     is_free                     a call has neither a reservation nor a join of a key
 --     may_start                   the key is the call's, and the call has neither a reservation nor a join of it
@@ -8,11 +8,8 @@
 --     may_report                  the writer was asked for the call's key, and hasn't returned
 --     fits                        whether an event fits
 --     with_stripe                 the world with a key's stripe at another state
---     goes_on                     the same, and what the stripe put down stands at the end of the order
---     victim_first                who is evicted by the first of these events, if one is
---     gone_at                     the event at a place, if it is an eviction behind the step
---     gone_last                   the last of these events, if it is an eviction behind the step
---     ShowsStep                   what is shown of a step: its stripe, and the evictions that were put down with it
+--     goes_on                     the same, and what the stripe appended to its history stands at the end of the order
+--     step_of                     what is shown of a step, but for its stripe
 --     call_over                   the world with a call over
 --     new_part                    what is kept of a key that was just reserved
 --     with_part, without_part     the world with this part of a key, and with none
@@ -29,27 +26,27 @@
 --     is_fit, all_fit             what is shown is not the fault of an event that doesn't fit, and nothing that is shown is
 --     AllFit                      whatever the world may choose, each of these events fits when it comes
 --     StartFits                   where a call fits, its first phase fits directly behind it
-use Rattle.std.specs.Prelude.{◌≡◌, ◌==◌, ◌⊎◌, ℕ, List, [], ◌∷◌, ◌++◌, length, drop, Bool, true, false, not, ◌&&◌, Option, None, Some, is_none, nat_lt, slice_get, slice_set, ◌-◌, if◌then◌else◌}
+use Rattle.std.specs.Prelude.{◌≡◌, ◌==◌, ◌⊎◌, ℕ, List, [], ◌∷◌, ◌++◌, length, drop, Bool, true, false, not, ◌&&◌, Option, None, Some, is_none, nat_lt, slice_set}
 use Rattle.std.specs.List.{list_all}
 use Rattle.std.specs.Cmp.Lexicographic.{pointwise}
 use Rattle.std.specs.FinMap.{insert, remove}
+use Rattle.jc_types.specs.declared.limits.TheConstants.{SESSIONS_MAX}
 use Rattle.jc_types.specs.Limits.{between}
 use Rattle.jc_model.specs.declared.event.Op.{Op}
 use Rattle.jc_model.specs.declared.event.Op.TheVariants.{Get, ContainsKey, Put, GetAndPut, PutIfAbsent, Remove, RemoveIf, GetAndRemove, Replace, ReplaceIf, GetAndReplace, Clear, LoadAll, Invoke}
 use Rattle.jc_model.specs.declared.event.Change.{Change}
-use Rattle.jc_model.specs.declared.event.Event.{Event}
-use Rattle.jc_model.specs.declared.event.Event.TheVariants as stripe
 use Rattle.jc_model.specs.declared.event.LoadAnswer.{LoadAnswer}
 use Rattle.jc_model.specs.declared.event.LoadAnswer.TheVariants as load
 use Rattle.jc_model.specs.declared.event.WriteAnswer.{WriteAnswer}
 use Rattle.jc_model.specs.declared.event.WriteAnswer.TheVariants as write
 use Rattle.jc_model.specs.Cache.{Bytes, entry_at, with_entry}
 use Rattle.jc_model.specs.Table.{is_load_given}
+use Rattle.jc_stripe.specs.declared.begun.StepDone.{StepDone}
 use Rattle.jc_stripe.specs.declared.begun.Begun.TheVariants as begun
-use Rattle.jc_stripe.specs.declared.ticket.First.{First}
-use Rattle.jc_stripe.specs.declared.ticket.First.TheVariants.{Loader, Writer}
+use Rattle.jc_stripe.specs.declared.ticket.First.TheVariants.{Writer}
+use Rattle.jc_stripe.specs.declared.ticket.Reservation.{Reservation}
 use Rattle.jc_stripe.specs.declared.begun.Picked.TheVariants as picked
-use Rattle.jc_stripe.specs.Claim.{Claim, WriteClaim, JoinClaim}
+use Rattle.jc_stripe.specs.Tickets.{Ticket, JoinClaim}
 use Rattle.jc_stripe.specs.State.{State}
 use Rattle.jc_stripe.specs.Phases.{Begins, Commits, Withdraws, PicksUp}
 use Rattle.jc_world.specs.declared.event.Command.{Command}
@@ -58,10 +55,9 @@ use Rattle.jc_world.specs.declared.event.WorldEvent.TheVariants as event
 use Rattle.jc_world.specs.declared.event.Shown.{Shown}
 use Rattle.jc_world.specs.declared.event.Shown.TheVariants as shown
 use Rattle.jc_world.specs.declared.event.Stepped.{Stepped}
-use Rattle.jc_world.specs.declared.event.Gone.{Gone}
 use Rattle.jc_world.specs.declared.event.Under.{Under}
 use Rattle.jc_world.specs.declared.event.Part.{Part}
-use Rattle.jc_world.specs.World.{WorldState, home, stripe_for, is_busy, under, over, part_of, waits_for_load, waits_for_report, is_answered, is_untouched, join_of, is_joined, unjoined, claim_of, out_of}
+use Rattle.jc_world.specs.World.{WorldState, home, stripe_for, is_busy, under, over, part_of, waits_for_load, waits_for_report, is_answered, is_untouched, join_of, is_joined, unjoined, out_of}
 use Rattle.jc_world.specs.Premises.{read_answer, changed_to, report_of, is_true_load, is_true_report, with_loader, with_writer, disturbed}
 
 -- 1. When an event fits.
@@ -83,9 +79,9 @@ is_single Clear = false
 is_single (LoadAll replace) = false
 is_single Invoke = false
 
--- there are 32 sessions
+-- the sessions are numbered from 1
 abbrev pub is_session : ℕ → Bool
-is_session session = between 1 32 session
+is_session session = between 1 SESSIONS_MAX session
 
 -- the number is above all before it
 abbrev pub is_new : Option ℕ → ℕ → Bool
@@ -130,39 +126,20 @@ fits w (event.Foreign key value) = true
 abbrev pub with_stripe : WorldState → Bytes → State → WorldState
 with_stripe w key to = record w { stripes = slice_set w.stripes (home w key) to }
 
--- the same, and what it put down stands at the end of the order
+-- the same, and what it appended to its history stands at the end of the order
 abbrev pub goes_on : WorldState → Bytes → State → State → WorldState
 goes_on w key from to = record w { stripes = slice_set w.stripes (home w key) to; order = w.order ++ drop (length from.history) to.history }
 
--- who goes first in these events, if one does
-abbrev pub victim_first : List Event → Option Bytes
-victim_first [] = None
-victim_first (stripe.Evict key cause ∷ events) = Some key
-victim_first (stripe.Step session number op key out shared_with reply ∷ events) = None
-
--- the event at a place, if it is an eviction behind a step
-abbrev pub gone_at : ℕ → ℕ → Option Event → Option Gone
-gone_at step place None = None
-gone_at step place (Some (stripe.Evict key cause)) = if nat_lt step place then Some (record { cause = cause; place = place }) else None
-gone_at step place (Some (stripe.Step session number op key out shared_with reply)) = None
-
--- the last event, if it is an eviction behind the step at a place
-abbrev pub gone_last : ℕ → List Event → Option Gone
-gone_last step events = gone_at step (length events - 1) (slice_get events (length events - 1))
-
--- what is shown of a step: its stripe, and the evictions that were put down with it
-pub record ShowsStep (old : WorldState) (key : Bytes) (from to : State) (seen : Stepped) : Type 0 where
-  pub stripe_is : seen.stripe ≡ home old key
-  pub victim_is : seen.victim ≡ victim_first (drop (length from.history) to.history)
-  pub evicted_is : seen.evicted ≡ gone_last seen.place to.history
+-- what is shown of a step, but for its stripe: its reply, its place, and the evictions that were made with it
+abbrev pub step_of : Stepped → StepDone
+step_of seen = record { reply = seen.reply; place = seen.place; victim = seen.victim; evicted = seen.evicted }
 
 abbrev pub call_over : WorldState → ℕ → WorldState
 call_over w call = record w { calls = over call w.calls }
 
 -- what is kept of a key that was reserved
-abbrev pub new_part : Under → ℕ → First → Part
-new_part u number first =
-    record { call = u.number; number = number; op = u.command.op; first = first; load = load.NotAsked; is_changed = false; report = write.NotAsked }
+abbrev pub new_part : Reservation → Part
+new_part r = record { reservation = r; load = load.NotAsked; is_changed = false; report = write.NotAsked }
 
 abbrev pub with_part : WorldState → Bytes → Part → WorldState
 with_part w key part = record w { parts = insert w.parts key part }
@@ -181,28 +158,28 @@ without_join w call key = record w { joins = unjoined call key w.joins }
 -- of a call whose stripe is at `from`, and is then at `to`
 abbrev pub Starts : WorldState → Under → State → State → Shown → WorldState → Type 0
 Starts old u from to (shown.Refused refusal) new =
-    Begins from u.session u.number u.command.key u.command.op (begun.Refused refusal) to × (new ≡ call_over old u.number)
+    Begins from u.caller u.command.key u.command.op (begun.Refused refusal) to × (new ≡ call_over old u.caller.call)
 Starts old u from to (shown.Stepped seen) new =
-    Begins from u.session u.number u.command.key u.command.op (begun.Done seen.reply seen.place) to
-    × ShowsStep old u.command.key from to seen × (new ≡ call_over (goes_on old u.command.key from to) u.number)
+    Begins from u.caller u.command.key u.command.op (begun.Done (step_of seen)) to
+    × (seen.stripe ≡ home old u.command.key) × (new ≡ call_over (goes_on old u.command.key from to) u.caller.call)
 Starts old u from to shown.Loads new =
-    (ticket : Claim) × Begins from u.session u.number u.command.key u.command.op (begun.Load ticket) to
-    × (new ≡ with_part (with_stripe old u.command.key to) u.command.key (new_part u ticket.number Loader))
+    (ticket : Ticket) × Begins from u.caller u.command.key u.command.op (begun.Load ticket) to
+    × (new ≡ with_part (with_stripe old u.command.key to) u.command.key (new_part ticket.reservation))
 Starts old u from to (shown.Asks change) new =
-    (ticket : WriteClaim) × Begins from u.session u.number u.command.key u.command.op (begun.Write ticket change) to
-    × (new ≡ with_part (with_stripe old u.command.key to) u.command.key (new_part u ticket.claim.number (Writer change)))
+    (ticket : Ticket) × Begins from u.caller u.command.key u.command.op (begun.Write ticket) to × (ticket.reservation.first ≡ Writer change)
+    × (new ≡ with_part (with_stripe old u.command.key to) u.command.key (new_part ticket.reservation))
 Starts old u from to shown.Joins new =
-    (join : JoinClaim) × Begins from u.session u.number u.command.key u.command.op (begun.Joined join) to
+    (join : JoinClaim) × Begins from u.caller u.command.key u.command.op (begun.Joined join) to
     × (new ≡ with_join (with_stripe old u.command.key to) join)
 Starts old u from to seen new = ⊥
 
 abbrev pub Ends : WorldState → ℕ → Bytes → Part → State → State → Shown → WorldState → Type 0
 Ends old call key part from to (shown.Stepped seen) new =
-    Commits from (claim_of key part) (out_of part) seen.reply seen.place to
-    × ShowsStep old key from to seen × (new ≡ without_part (call_over (goes_on old key from to) call) key)
+    Commits from part.reservation (out_of part) (step_of seen) to
+    × (seen.stripe ≡ home old key) × (new ≡ without_part (call_over (goes_on old key from to) call) key)
 Ends old call key part from to seen new = ⊥
 
--- of a call that has joined the load of a key: its answer, with which the call is over, or leave to begin again, or nothing yet
+-- of a call that has joined the load of a key: its answer, with which the call is over, or that it is to retry, or nothing yet
 abbrev pub Picks : WorldState → ℕ → Bytes → JoinClaim → State → State → Shown → WorldState → Type 0
 Picks old call key join from to (shown.PickedUp seen) new =
     PicksUp from join (picked.Answer seen.reply seen.place seen.shared) to × (seen.stripe ≡ home old key)
@@ -231,7 +208,7 @@ reported w key part report = record (with_part w key (record part { report = rep
 abbrev pub Happens : WorldState → WorldEvent → Shown → WorldState → Type 0
 Happens old (event.Call call session command) seen new =
     (seen ≡ shown.Begun)
-    × (new ≡ record old { last = Some call; fresh = false; calls = old.calls ++ record { session = session; number = call; command = command } ∷ [] })
+    × (new ≡ record old { last = Some call; fresh = false; calls = old.calls ++ record { caller = record { session = session; call = call }; command = command } ∷ [] })
 Happens old (event.Start call key) seen new =
     (u : Under) × (under old call ≡ Some u) × (from : State) × (stripe_for old u.command.key ≡ Some from) × (to : State) × Starts old u from to seen new
 Happens old (event.Read call key) seen new =
@@ -240,14 +217,14 @@ Happens old (event.Read call key) seen new =
 Happens old (event.Say call key answer) seen new =
     (part : Part) × (part_of old call key ≡ Some part) × (seen ≡ shown.Says answer) × (new ≡ answered old key part answer)
 Happens old (event.Change call key) seen new =
-    (part : Part) × (change : Change) × (part_of old call key ≡ Some part) × (part.first ≡ Writer change) × (seen ≡ shown.Changed) × (new ≡ changed old key part change)
+    (part : Part) × (change : Change) × (part_of old call key ≡ Some part) × (part.reservation.first ≡ Writer change) × (seen ≡ shown.Changed) × (new ≡ changed old key part change)
 Happens old (event.Report call fault) seen new =
-    (u : Under) × (part : Part) × (change : Change) × (under old call ≡ Some u) × (part_of old call u.command.key ≡ Some part) × (part.first ≡ Writer change)
+    (u : Under) × (part : Part) × (change : Change) × (under old call ≡ Some u) × (part_of old call u.command.key ≡ Some part) × (part.reservation.first ≡ Writer change)
     × (seen ≡ shown.Reported (record { change = change; is_changed = part.is_changed; fault = fault })) × (new ≡ reported old u.command.key part (report_of fault))
 Happens old (event.Commit call key) seen new =
     (part : Part) × (part_of old call key ≡ Some part) × (from : State) × (stripe_for old key ≡ Some from) × (to : State) × Ends old call key part from to seen new
 Happens old (event.Withdraw call key) seen new =
-    (part : Part) × (part_of old call key ≡ Some part) × (from : State) × (stripe_for old key ≡ Some from) × (to : State) × Withdraws from (claim_of key part) to
+    (part : Part) × (part_of old call key ≡ Some part) × (from : State) × (stripe_for old key ≡ Some from) × (to : State) × Withdraws from part.reservation to
     × (seen ≡ shown.Withdrawn) × (new ≡ without_part (with_stripe old key to) key)
 Happens old (event.Leave call) seen new = (seen ≡ shown.Left) × (new ≡ call_over old call)
 Happens old (event.PickUp call key) seen new =

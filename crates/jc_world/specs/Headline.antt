@@ -46,8 +46,8 @@ is_answer key e seen = false
 
 -- a step of a key that has an answer of the loader, which it shares with no step before it
 abbrev pub is_load : Bytes → Event → Bool
-is_load key (stripe.Step session number op k out None reply) = pointwise ◌==◌ key k && is_load_given out.load
-is_load key (stripe.Step session number op k out (Some place) reply) = false
+is_load key (stripe.Step caller op k out None reply) = pointwise ◌==◌ key k && is_load_given out.load
+is_load key (stripe.Step caller op k out (Some place) reply) = false
 is_load key (stripe.Evict k cause) = false
 
 -- an answer of the loader is kept for the commit

@@ -7,5 +7,6 @@ pub mod Played
 pub mod Sound
 pub mod Slots
 pub mod Inside
+pub mod Ending
 pub mod Gathered
 pub mod Headline

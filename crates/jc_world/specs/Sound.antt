@@ -2,8 +2,8 @@
 --     IsStripe                      a stripe of the world: it is reached, and its history is its part of the order
 --     IsShaped                      there is a stripe for each number
 --     is_up_to, number_up_to        a number is at most the last call's, and so is the number of an event's step
---     is_before                     an event is no step of a session with this number or a higher one
---     none_from                     no step of a session has this number or a higher one
+--     is_before                     an event is no step of a caller's session with its call number or a higher one
+--     none_from                     no step of a caller's session has its call number or a higher one
 --     has_answer, is_told           an answer is parked for a joiner in this state, and for a joiner that is there
 --     is_served_in, is_served       the answer of a load that it has joined is parked for a call, in a stripe and in the world
 --     is_apart                      two calls are of different sessions, and have different numbers
@@ -23,9 +23,10 @@
 --     KeyTold                       as long as the premises hold: what is known of any key, by its part, the store's value and the
 --                                   cached one
 --     IsSoundWorld                  all of it; and while a world is fresh, nothing is cached, reserved, joined or under way
-use Rattle.std.specs.Prelude.{◌≡◌, ◌==◌, ℕ, List, [], ◌∷◌, length, Ok, Bool, true, false, not, ◌&&◌, ◌||◌, Option, None, Some, IfSome, IsSomeAnd, slice_get, nat_le, nat_lt}
+use Rattle.std.specs.Prelude.{◌≡◌, ◌==◌, ℕ, List, [], ◌∷◌, length, Ok, Bool, true, false, not, ◌&&◌, ◌||◌, Option, None, Some, IfSome, IsSomeAnd, find, slice_get, nat_le, nat_lt}
 use Rattle.std.specs.List.{list_all, list_any}
 use Rattle.std.specs.FinMap.{get}
+use Rattle.jc_types.specs.declared.caller.Caller.{Caller}
 use Rattle.jc_types.specs.Limits.{checked}
 use Rattle.jc_model.specs.declared.event.Event.{Event}
 use Rattle.jc_model.specs.declared.event.Event.TheVariants as stripe
@@ -38,20 +39,19 @@ use Rattle.jc_model.specs.Lawful.{loads_whole}
 use Rattle.jc_model.specs.Legal.{in_order, of_stripe}
 use Rattle.jc_model.specs.Processor.{found_in}
 use Rattle.jc_stripe.specs.declared.ticket.First.{First}
-use Rattle.jc_stripe.specs.declared.ticket.First.TheVariants.{Nobody, Loader, Writer}
+use Rattle.jc_stripe.specs.declared.ticket.First.TheVariants.{Nobody, Loader, Writer, Processor}
 use Rattle.jc_stripe.specs.declared.ticket.Origin.TheVariants.{Played}
 use Rattle.jc_inflight.specs.declared.joiner.Joiner.{Joiner}
 use Rattle.jc_inflight.specs.declared.joiner.JoinState.{JoinState}
-use Rattle.jc_inflight.specs.declared.joiner.JoinState.TheVariants.{Waiting, Parked}
-use Rattle.jc_inflight.specs.declared.joiner.Parked.TheVariants as parked
-use Rattle.jc_inflight.specs.Joined.{is_joined as has_joined}
-use Rattle.jc_inflight.specs.Taking.{joiner_of}
-use Rattle.jc_stripe.specs.Claim.{JoinClaim}
-use Rattle.jc_stripe.specs.State.{State, Reserved, claimed}
+use Rattle.jc_inflight.specs.declared.joiner.JoinState.TheVariants.{Waiting, Answered, Again}
+use Rattle.jc_inflight.specs.Joining.{belongs_to}
+use Rattle.jc_stripe.specs.declared.ticket.Reservation.{Reservation}
+use Rattle.jc_stripe.specs.Tickets.{JoinClaim}
+use Rattle.jc_stripe.specs.State.{State, IsOut, IsJoined}
 use Rattle.jc_stripe.specs.Reached.{IsReached}
 use Rattle.jc_world.specs.declared.event.Under.{Under}
 use Rattle.jc_world.specs.declared.event.Part.{Part}
-use Rattle.jc_world.specs.World.{WorldState, home, stripe_for, cached, under, part_of, is_join, is_joined, claim_of}
+use Rattle.jc_world.specs.World.{WorldState, home, stripe_for, cached, under, part_of, is_join, is_joined}
 use Rattle.jc_world.specs.Premises.{changed_to, is_done}
 use Rattle.jc_world.specs.Events.{is_single}
 use Rattle.jc_world.specs.Coherent.{all_hold}
@@ -60,7 +60,7 @@ use Rattle.jc_world.specs.Coherent.{all_hold}
 
 pub record IsStripe (w : WorldState) (number : ℕ) (s : State) : Type 0 where
   pub config_is : s.config ≡ w.config
-  pub number_is : s.number ≡ number
+  pub number_is : s.stripe ≡ number
   pub origin_is : s.origin ≡ Played
   pub reached : IsReached s
   pub share : of_stripe w.config.stripes number w.order ≡ s.history
@@ -78,21 +78,21 @@ is_up_to None number = false
 is_up_to (Some last) number = nat_le number last
 
 abbrev pub number_up_to : Option ℕ → Event → Bool
-number_up_to last (stripe.Step session number op key out shared_with reply) = is_up_to last number
+number_up_to last (stripe.Step caller op key out shared_with reply) = is_up_to last caller.call
 number_up_to last (stripe.Evict key cause) = true
 
-abbrev pub is_before : ℕ → ℕ → Event → Bool
-is_before session number (stripe.Step s n op key out shared_with reply) = not (s == session) || nat_lt n number
-is_before session number (stripe.Evict key cause) = true
+abbrev pub is_before : Caller → Event → Bool
+is_before caller (stripe.Step who op key out shared_with reply) = not (who.session == caller.session) || nat_lt who.call caller.call
+is_before caller (stripe.Evict key cause) = true
 
-abbrev pub none_from : List Event → ℕ → ℕ → Bool
-none_from order session number = list_all (is_before session number) order
+abbrev pub none_from : List Event → Caller → Bool
+none_from order caller = list_all (is_before caller) order
 
 -- an answer is parked
 abbrev pub has_answer : JoinState → Bool
 has_answer Waiting = false
-has_answer (Parked (parked.Answer place shared)) = true
-has_answer (Parked parked.Again) = false
+has_answer (Answered place shared_with) = true
+has_answer Again = false
 
 abbrev pub is_told : Option Joiner → Bool
 is_told None = false
@@ -101,20 +101,20 @@ is_told (Some j) = has_answer j.state
 -- at the stripe of its key
 abbrev pub is_served_in : Option State → Under → Bool
 is_served_in None u = false
-is_served_in (Some s) u = is_told (joiner_of u.session u.number u.command.key s.joiners)
+is_served_in (Some s) u = is_told (find (belongs_to u.caller u.command.key) s.joiners)
 
 abbrev pub is_served : WorldState → Under → Bool
 is_served w u = is_served_in (stripe_for w u.command.key) u
 
 -- another session's call, with another number
 abbrev pub is_apart : Under → Under → Bool
-is_apart u other = not (other.session == u.session) && not (other.number == u.number)
+is_apart u other = not (other.caller.session == u.caller.session) && not (other.caller.call == u.caller.call)
 
 -- a call that is served has its step in the order
 pub record FitsCall (w : WorldState) (u : Under) : Type 0 where
   pub single : is_single u.command.op ≡ true
-  pub number : is_up_to w.last u.number ≡ true
-  pub none : is_served w u ≡ false → none_from w.order u.session u.number ≡ true
+  pub number : is_up_to w.last u.caller.call ≡ true
+  pub none : is_served w u ≡ false → none_from w.order u.caller ≡ true
 
 abbrev pub CallsFit : WorldState → List Under → Type 0
 CallsFit w [] = Unit {0}
@@ -125,21 +125,23 @@ CallsFit w (u ∷ us) = FitsCall w u × (list_all (is_apart u) us ≡ true) × C
 -- what was asked of the loader was not asked of the writer; a write is still what its operation asks for
 abbrev pub KindFits : First → Part → Option Bytes → Type 0
 KindFits Nobody part entry = ⊥
-KindFits Loader part entry = (loads_whole part.op ≡ true) × (part.is_changed ≡ false) × (part.report ≡ write.NotAsked)
-KindFits (Writer change) part entry = (write_ask part.op entry process.NotAsked ≡ Some change) × (part.load ≡ load.NotAsked)
+KindFits Loader part entry = (loads_whole part.reservation.op ≡ true) × (part.is_changed ≡ false) × (part.report ≡ write.NotAsked)
+KindFits (Writer change) part entry = (write_ask part.reservation.op entry process.NotAsked ≡ Some change) × (part.load ≡ load.NotAsked)
+KindFits Processor part entry = ⊥
 
 -- the part of a key whose stripe is `s`
 pub record IsHeld (w : WorldState) (s : State) (key : Bytes) (part : Part) : Type 0 where
-  pub out : IsSomeAnd (claimed s (claim_of key part)) (λ r. (r.op ≡ part.op) × (r.first ≡ part.first) × (r.call ≡ part.call))
-  pub kind : KindFits part.first part (entry_at s.cache key)
-  pub call : IsSomeAnd (under w part.call) (λ u. u.command.key ≡ key)
+  pub key_is : part.reservation.key ≡ key
+  pub out : IsOut s part.reservation
+  pub kind : KindFits part.reservation.first part (entry_at s.cache key)
+  pub call : IsSomeAnd (under w part.reservation.caller.call) (λ u. u.command.key ≡ key)
 
 -- the reservation of a call under way, with its part
-pub record IsOwned (w : WorldState) (r : Reserved) : Type 0 where
-  pub part : IsSomeAnd (get w.parts r.key) (λ part. part.call ≡ r.call)
-  pub call : IsSomeAnd (under w r.call) (λ u. (u.session ≡ r.session) × (u.command.key ≡ r.key))
+pub record IsOwned (w : WorldState) (r : Reservation) : Type 0 where
+  pub part : IsSomeAnd (get w.parts r.key) (λ part. part.reservation.caller.call ≡ r.caller.call)
+  pub call : IsSomeAnd (under w r.caller.call) (λ u. (u.caller.session ≡ r.caller.session) × (u.command.key ≡ r.key))
 
-abbrev pub AllOwned : WorldState → List Reserved → Type 0
+abbrev pub AllOwned : WorldState → List Reservation → Type 0
 AllOwned w [] = Unit {0}
 AllOwned w (r ∷ rs) = IsOwned w r × AllOwned w rs
 
@@ -147,9 +149,9 @@ AllOwned w (r ∷ rs) = IsOwned w r × AllOwned w rs
 
 -- the joiner is in the stripe of its key, and the call is under way with no part
 pub record IsWaitedFor (w : WorldState) (join : JoinClaim) : Type 0 where
-  pub out : IsSomeAnd (stripe_for w join.key) (λ s. has_joined join.session join.call join.key s.joiners ≡ true)
-  pub call : IsSomeAnd (under w join.call) (λ u. (u.session ≡ join.session) × (u.command.key ≡ join.key))
-  pub no_part : part_of w join.call join.key ≡ None
+  pub out : IsSomeAnd (stripe_for w join.key) (λ s. IsJoined s join)
+  pub call : IsSomeAnd (under w join.caller.call) (λ u. (u.caller.session ≡ join.caller.session) × (u.command.key ≡ join.key))
+  pub no_part : part_of w join.caller.call join.key ≡ None
 
 abbrev pub AllWaitedFor : WorldState → List JoinClaim → Type 0
 AllWaitedFor w [] = Unit {0}
@@ -158,13 +160,13 @@ AllWaitedFor w (j ∷ js) = IsWaitedFor w j × AllWaitedFor w js
 -- no two joins are of one call and one key
 abbrev pub joined_once : List JoinClaim → Bool
 joined_once [] = true
-joined_once (j ∷ js) = not (list_any (is_join j.call j.key) js) && joined_once js
+joined_once (j ∷ js) = not (list_any (is_join j.caller.call j.key) js) && joined_once js
 
 -- the joiner of a call under way, with its join, in the stripe of its key
 pub record IsCalled (w : WorldState) (number : ℕ) (j : Joiner) : Type 0 where
   pub home_is : home w j.key ≡ number
-  pub join : is_joined w j.number j.key ≡ true
-  pub call : IsSomeAnd (under w j.number) (λ u. (u.session ≡ j.session) × (u.command.key ≡ j.key))
+  pub join : is_joined w j.caller.call j.key ≡ true
+  pub call : IsSomeAnd (under w j.caller.call) (λ u. (u.caller.session ≡ j.caller.session) × (u.command.key ≡ j.key))
 
 abbrev pub AllCalled : WorldState → ℕ → List Joiner → Type 0
 AllCalled w number [] = Unit {0}
@@ -180,10 +182,11 @@ abbrev pub WrittenFor : First → Option Bytes → Type 0
 WrittenFor Nobody stored = ⊥
 WrittenFor Loader stored = ⊥
 WrittenFor (Writer change) stored = stored ≡ changed_to change
+WrittenFor Processor stored = ⊥
 
 pub record IsTold (part : Part) (stored entry : Option Bytes) : Type 0 where
   pub loaded : Agrees (found_in part.load) stored
-  pub written : part.is_changed ≡ true → WrittenFor part.first stored
+  pub written : part.is_changed ≡ true → WrittenFor part.reservation.first stored
   pub unwritten : part.is_changed ≡ false → Agrees entry stored
   pub honest : is_write_given part.report ≡ true → is_done part.report ≡ part.is_changed
 

@@ -1,4 +1,4 @@
--- A world: a state for each stripe, one store, the calls under way, and one order of all that was put down.
+-- A world: a state for each stripe, one store, the calls under way, and one order of all events.
 --     Parts                           by key, what the call that has reserved it asked and heard so far
 --     WorldState                      the world as a caller may know it
 --     home                            the number of the stripe that a key belongs to
@@ -13,33 +13,30 @@
 --     over                            the calls without one that is over
 --     of_call                         a part, if it is this call's
 --     part_of                         what a call has asked and heard for a key that it has reserved
---     asks_loader, asks_writer        the loader was asked, and the writer was
 --     waits_for_load                  the loader was asked, and hasn't answered
 --     waits_for_report                the writer was asked, and hasn't returned
 --     is_answered                     all that was asked is answered
 --     is_untouched                    the key is reserved, and nothing was said outside for it, and nothing done
---     claim_of                        the reservation of a part, by its key and number
 --     out_of                          what was said outside for a part
 --     is_join                         a join is of this call and this key
 --     join_of                         a call's join of a key, if it has one
 --     is_joined                       a call has joined a load of a key, and hasn't its answer
 --     unjoined                        the joins of the others
 --     with_stored                     the world with this value in its store
-use Rattle.std.specs.Prelude.{◌==◌, ℕ, zero, suc, ◌+◌, ◌%◌, sum, List, [], ◌∷◌, Bool, true, false, not, ◌&&◌, ◌||◌, Option, None, Some, find, filter, slice_get, if◌then◌else◌}
+use Rattle.std.specs.Prelude.{◌==◌, ℕ, zero, suc, ◌+◌, List, [], ◌∷◌, Bool, true, false, not, ◌&&◌, ◌||◌, Option, None, Some, find, filter, slice_get, if◌then◌else◌}
 use Rattle.std.specs.List.{list_any}
 use Rattle.std.specs.Cmp.Lexicographic.{pointwise}
 use Rattle.std.specs.FinMap.{FinMap, empty}
 use Rattle.std.specs.FinMap as map
 use Rattle.jc_types.specs.declared.config.Config.{Config}
+use Rattle.jc_types.specs.Stripes.{stripe_of}
 use Rattle.jc_model.specs.declared.event.Event.{Event}
 use Rattle.jc_model.specs.declared.event.Out.{Out}
 use Rattle.jc_model.specs.declared.event.ProcessAnswer.TheVariants as process
 use Rattle.jc_model.specs.Cache.{Bytes, Cache, key_cmp, entry_at, with_entry}
 use Rattle.jc_model.specs.Table.{is_load_given, is_write_given}
-use Rattle.jc_stripe.specs.declared.ticket.First.{First}
-use Rattle.jc_stripe.specs.declared.ticket.First.TheVariants.{Nobody, Loader, Writer}
 use Rattle.jc_stripe.specs.declared.ticket.Origin.TheVariants.{Played}
-use Rattle.jc_stripe.specs.Claim.{Claim, JoinClaim}
+use Rattle.jc_stripe.specs.Tickets.{JoinClaim, asks_loader, asks_writer}
 use Rattle.jc_stripe.specs.State.{State}
 use Rattle.jc_world.specs.declared.event.Under.{Under}
 use Rattle.jc_world.specs.declared.event.Part.{Part}
@@ -52,7 +49,7 @@ Parts = FinMap key_cmp Part
 pub record WorldState : Type 0 where
   pub config : Config
   pub stripes : List State
-  pub order : List Event  -- all that was put down, over all stripes
+  pub order : List Event  -- all events, over all stripes
   pub store : Cache
   pub fresh : Bool  -- no call has begun, and nobody else has written the store
   pub last : Option ℕ  -- the highest number of a call so far
@@ -65,7 +62,7 @@ pub record WorldState : Type 0 where
 
 -- the stripe that a key belongs to
 abbrev pub home : WorldState → Bytes → ℕ
-home w key = sum key % w.config.stripes
+home w key = stripe_of key w.config.stripes
 
 abbrev pub stripe_for : WorldState → Bytes → Option State
 stripe_for w key = slice_get w.stripes (home w key)
@@ -80,7 +77,7 @@ cached w key = entry_in (stripe_for w key) key
 -- an empty stripe
 abbrev pub empty_stripe : Config → ℕ → State
 empty_stripe config number =
-    record { config = config; number = number; origin = Played; opening = []; cache = empty; reservations = []; joiners = []; history = []; next = 0 }
+    record { config = config; stripe = number; origin = Played; opening = []; cache = empty; reservations = []; joiners = []; history = []; next = 0 }
 
 -- as many, from a number on
 abbrev pub empty_stripes : Config → ℕ → ℕ → List State
@@ -105,10 +102,10 @@ start config =
 -- 2. Calls.
 
 abbrev pub has_number : ℕ → Under → Bool
-has_number call u = u.number == call
+has_number call u = u.caller.call == call
 
 abbrev pub is_of : ℕ → Under → Bool
-is_of session u = u.session == session
+is_of session u = u.caller.session == session
 
 -- the session has a call under way
 abbrev pub is_busy : WorldState → ℕ → Bool
@@ -125,43 +122,30 @@ over call calls = filter (λ u. not (has_number call u)) calls
 
 abbrev pub of_call : ℕ → Option Part → Option Part
 of_call call None = None
-of_call call (Some part) = if part.call == call then Some part else None
+of_call call (Some part) = if part.reservation.caller.call == call then Some part else None
 
 abbrev pub part_of : WorldState → ℕ → Bytes → Option Part
 part_of w call key = of_call call (map.get w.parts key)
 
-abbrev pub asks_loader : First → Bool
-asks_loader Nobody = false
-asks_loader Loader = true
-asks_loader (Writer change) = false
-
-abbrev pub asks_writer : First → Bool
-asks_writer Nobody = false
-asks_writer Loader = false
-asks_writer (Writer change) = true
-
 -- the loader was asked, and hasn't answered
 abbrev pub waits_for_load : Option Part → Bool
 waits_for_load None = false
-waits_for_load (Some part) = asks_loader part.first && not (is_load_given part.load)
+waits_for_load (Some part) = asks_loader part.reservation.first && not (is_load_given part.load)
 
 -- the writer was asked, and hasn't returned
 abbrev pub waits_for_report : Option Part → Bool
 waits_for_report None = false
-waits_for_report (Some part) = asks_writer part.first && not (is_write_given part.report)
+waits_for_report (Some part) = asks_writer part.reservation.first && not (is_write_given part.report)
 
 -- all that was asked is answered
 abbrev pub is_answered : Option Part → Bool
 is_answered None = false
-is_answered (Some part) = (asks_loader part.first && is_load_given part.load) || (asks_writer part.first && is_write_given part.report)
+is_answered (Some part) = (asks_loader part.reservation.first && is_load_given part.load) || (asks_writer part.reservation.first && is_write_given part.report)
 
 -- nothing was said outside, and nothing done
 abbrev pub is_untouched : Option Part → Bool
 is_untouched None = false
 is_untouched (Some part) = not (is_load_given part.load) && not part.is_changed && not (is_write_given part.report)
-
-abbrev pub claim_of : Bytes → Part → Claim
-claim_of key part = record { key = key; number = part.number }
 
 -- what was said outside
 abbrev pub out_of : Part → Out
@@ -170,7 +154,7 @@ out_of part = record { load = part.load; write = part.report; process = process.
 -- 4. The calls that have joined a load.
 
 abbrev pub is_join : ℕ → Bytes → JoinClaim → Bool
-is_join call key join = (join.call == call) && pointwise ◌==◌ key join.key
+is_join call key join = (join.caller.call == call) && pointwise ◌==◌ key join.key
 
 abbrev pub join_of : WorldState → ℕ → Bytes → Option JoinClaim
 join_of w call key = find (is_join call key) w.joins

@@ -5,7 +5,7 @@ ghost use Rattle.jc_model.specs.Cache.{Bytes, key_cmp, entry_at};
 ghost use Rattle.jc_world.specs.Gathered.{or_else, found_after};
 
 use jc_model::contents::Contents;
-use jc_stripe::stripe::Stripe;
+use jc_stripe::Stripe;
 use jc_types::key::Key;
 use jc_types::value::Value;
 use std::alloc::{AllocError, Global};
@@ -19,7 +19,7 @@ pub struct Audit {
     pub store: Vec<(Key, Value)>,
     /// The keys whose cached value isn't the store's, but for those whose writer has changed the store and isn't committed.
     pub differing: Vec<Key>,
-    /// How many events all stripes have put down.
+    /// How many events the histories of all stripes have.
     pub events: usize,
     /// Whether the order of all events is one legal history, and what is cached is what it leaves. It always is.
     pub is_legal: bool,
@@ -41,7 +41,9 @@ pub(crate) fn gather(alloc: Global, stripes: &[Stripe]) -> Result<Contents, Allo
 {
     let mut all = Contents::new(alloc);
     for stripe in stripes {
-        add_entries(&mut all, stripe.entries())?;
+        let mut entries = Vec::new(alloc);
+        stripe.entries(&mut entries)?;
+        add_entries(&mut all, &entries)?;
     }
     Ok(all)
 }

@@ -1,20 +1,18 @@
 //! The calls under way. A session has one at most, so there are never more than there are sessions.
-ghost use Rattle.std.specs.Prelude.{◌≡◌, true, find, option_copied, IsTrue};
+ghost use Rattle.std.specs.Prelude.{◌≡◌, true, find, option_copied};
 ghost use Rattle.std.specs.List.{list_any};
 ghost use Rattle.jc_world.specs.World.{has_number, is_of, over};
 ghost use Rattle.jc_world.specs.Events.{is_single, is_session, is_new};
 
 use crate::event::Under;
 use jc_model::event::Op;
-
-/// The sessions of a world have the numbers 1 to this.
-pub const SESSIONS_MAX: u32 = 32;
+use jc_types::limits::SESSIONS_MAX;
 
 /// Whether an operation is a call by itself.
 pub(crate) fn is_single_op(op: &Op) -> bool
     ensures { result ≡ is_single op.now }
 {
-    !matches!(op, Op::Clear | Op::LoadAll(_) | Op::Invoke)
+    !matches!(op, Op::Clear | Op::LoadAll { .. } | Op::Invoke)
 }
 
 /// Whether this is the number of a session.
@@ -38,19 +36,19 @@ pub(crate) fn is_above(last: Option<u64>, call: u64) -> bool
 pub(crate) fn has_call(calls: &[Under], session: u32) -> bool
     ensures { result ≡ list_any (is_of session) calls.now }
 {
-    calls.iter().any(|u| u.session == session)
+    calls.iter().any(|u| u.caller.session == session)
 }
 
 /// The call with this number.
 pub(crate) fn find_call(calls: &[Under], call: u64) -> Option<&Under>
     ensures { option_copied result ≡ find (has_number call) calls.now }
 {
-    calls.iter().find(|u| u.number == call)
+    calls.iter().find(|u| u.caller.call == call)
 }
 
 /// Takes a call that is over out.
 pub(crate) fn drop_call(calls: &mut Vec<Under>, call: u64)
     ensures { calls.new.items ≡ over call calls.old.items }
 {
-    calls.retain(|u| u.number != call);
+    calls.retain(|u| u.caller.call != call);
 }

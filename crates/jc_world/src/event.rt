@@ -1,6 +1,7 @@
 //! What may happen in a world, what is shown of it, and what a world keeps of its calls.
-use jc_model::event::{Cause, Change, LoadAnswer, Op, Reply, WriteAnswer};
-use jc_stripe::ticket::First;
+use jc_model::event::{Change, LoadAnswer, Op, Reply, WriteAnswer};
+use jc_stripe::{Eviction, Reservation};
+use jc_types::caller::Caller;
 use jc_types::key::Key;
 use jc_types::refusal::Refusal;
 use jc_types::value::Value;
@@ -20,32 +21,32 @@ pub struct Command {
 pub enum WorldEvent {
     /// A session begins a call. It has no phase yet.
     ///
-    /// It fits where the number is above all before it, the session is one and has no call under way, and the operation is a call
+    /// It fits if the number is above all before it, the session is one and has no call under way, and the operation is a call
     /// by itself.
     Call {
         /// The call's number, which is to be above that of every call before it, of any session.
         call: u64,
-        /// The session, from 1 to [`SESSIONS_MAX`](crate::calls::SESSIONS_MAX).
+        /// The session, from 1 to [`SESSIONS_MAX`](jc_types::limits::SESSIONS_MAX).
         session: u32,
         /// What the call does.
         command: Command,
     },
-    /// The first phase of the call's key. It fits where the call has neither reserved the key nor joined its load: before its first
-    /// phase, and once it was told to begin again or has given its reservation back.
+    /// The first phase of the call's key. It fits if the call has neither reserved the key nor joined its load: before its first
+    /// phase, and once it was told to retry or has given its reservation back.
     Start {
         /// The call's number.
         call: u64,
         /// The call's key.
         key: Key,
     },
-    /// The loader reads the store, and its answer is kept for the commit. It fits where the loader is asked and hasn't answered.
+    /// The loader reads the store, and its answer is kept for the commit. It fits if the loader is asked and hasn't answered.
     Read {
         /// The number of the call that has the loader asked.
         call: u64,
         /// The key that the call has reserved.
         key: Key,
     },
-    /// The loader answers this, whatever the store holds. It fits where the loader is asked and hasn't answered.
+    /// The loader answers this, whatever the store holds. It fits if the loader is asked and hasn't answered.
     Say {
         /// The number of the call that has the loader asked.
         call: u64,
@@ -54,14 +55,14 @@ pub enum WorldEvent {
         /// What the loader answers: anything but `NotAsked`.
         answer: LoadAnswer,
     },
-    /// The writer changes the store, as it was asked. It fits where the writer is asked and hasn't returned, also once more.
+    /// The writer changes the store, as it was asked. It fits if the writer is asked and hasn't returned, also once more.
     Change {
         /// The number of the call that has the writer asked.
         call: u64,
         /// The key that the call has reserved.
         key: Key,
     },
-    /// The writer returns. It fits where the writer is asked for the call's key and hasn't returned, whether it has changed the
+    /// The writer returns. It fits if the writer is asked for the call's key and hasn't returned, whether it has changed the
     /// store or not.
     Report {
         /// The number of the call that has the writer asked.
@@ -69,26 +70,26 @@ pub enum WorldEvent {
         /// The code with which the writer failed, or none where it reports success.
         fault: Option<u32>,
     },
-    /// The last phase of the call's key. It fits where the one that was asked, loader or writer, has answered.
+    /// The last phase of the call's key. It fits if the one that was asked, loader or writer, has answered.
     Commit {
         /// The call's number.
         call: u64,
         /// The key that the call has reserved.
         key: Key,
     },
-    /// The reservation of the call's key is given back. It fits where nothing was said outside for it and nothing done.
+    /// The reservation of the call's key is given back. It fits if nothing was said outside for it and nothing done.
     Withdraw {
         /// The call's number.
         call: u64,
         /// The key that the call has reserved.
         key: Key,
     },
-    /// The call is over, without a reply. It fits where the call has neither reserved its key nor joined its load.
+    /// The call is over, without a reply. It fits if the call has neither reserved its key nor joined its load.
     Leave {
         /// The call's number.
         call: u64,
     },
-    /// A call that has joined a load asks for its answer. It fits until the call was given that answer or told to begin again, so
+    /// A call that has joined a load asks for its answer. It fits until the call was given that answer or told to retry, so
     /// also where the load isn't over.
     PickUp {
         /// The number of the call that has joined.
@@ -105,16 +106,7 @@ pub enum WorldEvent {
     },
 }
 
-/// An eviction of what a step had inserted.
-#[derive(Clone, Copy, Debug, PartialEq, Eq)]
-pub struct Gone {
-    /// Why it went.
-    pub cause: Cause,
-    /// The place of the eviction in the stripe's history. Between it and the step stand those that share the step's load.
-    pub place: u32,
-}
-
-/// A step that was put down.
+/// A step that was appended to the history of its stripe.
 #[derive(Clone, Copy, Debug, PartialEq, Eq)]
 pub struct Stepped {
     /// What the call is answered.
@@ -123,10 +115,10 @@ pub struct Stepped {
     pub stripe: usize,
     /// The place of the step in the stripe's history, from 0.
     pub place: u32,
-    /// Who was evicted directly before the step, since the stripe was full.
+    /// The key that was evicted directly before the step, if the stripe was full.
     pub victim: Option<Key>,
     /// The eviction of the step's own key after it, if it was evicted.
-    pub evicted: Option<Gone>,
+    pub evicted: Option<Eviction>,
 }
 
 /// The answer of a load that a call had joined.
@@ -158,7 +150,7 @@ pub struct Reported {
 pub enum Shown {
     /// The call has begun.
     Begun,
-    /// A step was put down, in a first or a last phase.
+    /// A step was appended to the history of its stripe, in a first or a last phase.
     Stepped(Stepped),
     /// The key is reserved, and the loader is asked.
     Loads,
@@ -184,7 +176,7 @@ pub enum Shown {
     PickedUp(PickedUp),
     /// The load that the call has joined isn't over.
     Waits,
-    /// The load that the call had joined was withdrawn: the call is to begin again.
+    /// The load that the call had joined was withdrawn: the call is to retry.
     Again,
     /// Somebody else has written the store.
     Written,
@@ -195,10 +187,8 @@ pub enum Shown {
 /// A call under way.
 #[derive(Clone, Copy, Debug, PartialEq, Eq)]
 pub struct Under {
-    /// The session that calls, from 1 to [`SESSIONS_MAX`](crate::calls::SESSIONS_MAX).
-    pub session: u32,
-    /// The call's number.
-    pub number: u64,
+    /// Who calls: a session, from 1 to [`SESSIONS_MAX`](jc_types::limits::SESSIONS_MAX), and the call's number.
+    pub caller: Caller,
     /// What the call does.
     pub command: Command,
 }
@@ -206,14 +196,8 @@ pub struct Under {
 /// A key that a call has reserved: whom the call asked, and what was said so far.
 #[derive(Clone, Copy, Debug, PartialEq, Eq)]
 pub struct Part {
-    /// The call's number.
-    pub call: u64,
-    /// The reservation's number.
-    pub number: u64,
-    /// What is called.
-    pub op: Op,
-    /// Whom the call asked: the loader, or the writer for a change. It is never `Nobody`.
-    pub first: First,
+    /// The reservation: who reserved the key, for what, and whom the call asked. It is the loader, or the writer for a change.
+    pub reservation: Reservation,
     /// What the loader said so far: `NotAsked` until it has answered.
     pub load: LoadAnswer,
     /// Whether the writer has changed the store.

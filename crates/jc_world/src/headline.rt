@@ -4,7 +4,7 @@ ghost use Rattle.jc_world.specs.Headline.{StaysLegal, StaysCoherent, CountsLoads
 use jc_stripe::phase_laws::{keeps_reserved, stays_reached};
 
 /// After every list of events, on a world of any shape within its limits and with any values in its store at the start: the order
-/// of all that was put down is one legal history over all stripes, each stripe's history is its part of it, and what each stripe
+/// of all events is one legal history over all stripes, each stripe's history is its part of it, and what each stripe
 /// caches is what its part leaves.
 ///
 /// That a reply and a place that are shown are those of a step of that history stands in the clause of `World::play`.

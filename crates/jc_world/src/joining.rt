@@ -1,12 +1,10 @@
 //! The calls that have joined a load and haven't its answer, with their joins.
-ghost use Rattle.std.specs.Prelude.{◌≡◌, ◌<◌, ◌≤◌, true, Option, Some, All, find, insert, position, vec_len, vec_capacity};
+ghost use Rattle.std.specs.Prelude.{◌≡◌, ◌<◌, ◌≤◌, true, Option, Some, find, insert, position, vec_len, vec_capacity};
 ghost use Rattle.std.specs.List.{list_any};
-ghost use Rattle.jc_stripe.specs.Closed.{IsJoinedIn};
 ghost use Rattle.jc_world.specs.World.{is_join, unjoined};
 ghost use Rattle.jc_world.specs.Sound.{joined_once};
 
-use jc_stripe::closed::ClosedStripes;
-use jc_stripe::ticket::Join;
+use jc_stripe::Join;
 use jc_types::key::Key;
 
 /// Where a call's join of a key is.
@@ -15,7 +13,7 @@ fn place_of(joins: &[Join], call: u64, key: &Key) -> Option<usize>
 {
     joins
         .iter()
-        .position(|join| join.caller().number == call && *key == join.key())
+        .position(|join| join.caller().call == call && *key == *join.key())
 }
 
 /// Whether a call has joined a load of a key.
@@ -51,14 +49,4 @@ pub(crate) fn put_back(joins: &mut Vec<Join>, join: Join, place: usize)
         Ok(()) => {}
         Err(_failed) => unreachable!(),
     }
-}
-
-/// Lets all joins go. Their joiners are in these stripes.
-pub(crate) fn let_go_joins(mut joins: Vec<Join>, stripes: &ClosedStripes)
-    requires { All (IsJoinedIn stripes.now) joins.items }
-{
-    while let Some(join) = joins.pop() {
-        stripes.end_join(join);
-    }
-    joins.destroy_empty();
 }

@@ -2,7 +2,8 @@
 #![tactic(auto)]
 
 pub mod audit;
-pub mod calls;
+mod calls;
+mod ending;
 pub mod event;
 pub mod headline;
 mod joining;

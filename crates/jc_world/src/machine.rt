@@ -1,41 +1,39 @@
 //! The machine below a world: what each kind of event does.
-ghost use Rattle.std.specs.Prelude.{IsTrue, option_copied, ◌≡◌, ◌&&◌, not, ◌++◌, ◌∷◌, [], true, false, All, Ok, IfOk, OnErr, OnOk, Option, None, Some};
+ghost use Rattle.std.specs.Prelude.{IsTrue, option_copied, ◌≡◌, ◌&&◌, not, ◌++◌, ◌∷◌, [], true, false, Ok, IfOk, OnErr, OnOk, Option, None, Some};
 ghost use Rattle.std.specs.FinMap as map;
 ghost use Rattle.jc_types.specs.Limits.{checked};
 ghost use Rattle.jc_model.specs.Cache.{entry_at, with_entry};
-ghost use Rattle.jc_model.specs.Table.{is_load_given, holds};
+ghost use Rattle.jc_model.specs.Table.{holds};
 ghost use Rattle.jc_stripe.specs.declared.ticket.First.TheVariants.{Writer};
 ghost use Rattle.jc_model.specs.declared.event.Change.{Change};
 ghost use Rattle.jc_world.specs.declared.event.WorldEvent.TheVariants as event;
 ghost use Rattle.jc_world.specs.declared.event.Shown.TheVariants as shown;
 ghost use Rattle.jc_world.specs.declared.event.Part.{Part};
-ghost use Rattle.jc_world.specs.World.{start, is_busy, under, of_call, part_of, waits_for_load, waits_for_report, is_answered, is_joined, with_stored};
-ghost use Rattle.jc_world.specs.Premises.{read_answer, report_of, disturbed};
+ghost use Rattle.jc_world.specs.World.{start, is_busy, under, part_of, waits_for_load, waits_for_report, is_joined, with_stored};
+ghost use Rattle.jc_world.specs.Premises.{report_of, disturbed};
 ghost use Rattle.jc_world.specs.Events.{is_single, is_session, is_new, may_start, may_leave, is_free, may_report, fits, answered, changed, reported, Happens, Step};
 ghost use Rattle.jc_world.specs.Sound.{IsSoundWorld};
-ghost use Rattle.jc_world.specs.Slots.{IsEntryOut};
 ghost use Rattle.jc_world.specs.Coherent.{is_changed, all_hold, Coherent};
 ghost use Rattle.jc_world.specs.Audit.{differs, differing, IsAudit};
 
 use crate::audit::{Audit, gather};
 use crate::calls::{drop_call, find_call, has_call, is_above, is_known, is_single_op};
+use crate::ending::{end_all, pick_all};
 use crate::event::{Command, Part, PickedUp, Premises, Reported, Shown, Under, WorldEvent};
-use crate::joining::{has_joined, let_go_joins, put_back, take_join};
+use crate::joining::{has_joined, put_back, take_join};
 use crate::outside::{
     and_now, answer_of, entry_after, is_all_answered, is_honest_load, is_honest_report,
-    is_load_given, is_never_touched, is_waiting_for_load, is_waiting_for_report, report_with,
+    is_never_touched, is_waiting_for_load, is_waiting_for_report, report_with,
 };
 use crate::room::push_in_room;
 use crate::slot::{Slot, part_at, part_under, set_part, take_slot};
 use crate::stripes::{
-    EVENTS_MAX, begin_at, commit_at, make_stripes, pick_up_at, shown_at, withdraw_at,
+    EVENTS_MAX, begin_at, commit_at, make_stripes, pick_up_at, shown_of, withdraw_at,
 };
 use jc_model::contents::Contents;
 use jc_model::event::{Change, Event, LoadAnswer, Op, WriteAnswer};
-use jc_stripe::begun::{Begun, Picked};
-use jc_stripe::closed::ClosedStripes;
-use jc_stripe::stripe::Stripe;
-use jc_stripe::ticket::{First, Join};
+use jc_stripe::{Begun, First, Join, Picked, Stripe};
+use jc_types::caller::Caller;
 use jc_types::config::Config;
 use jc_types::key::{Key, stripe_of};
 use jc_types::value::Value;
@@ -98,11 +96,11 @@ fn with_report(part: Part, report: WriteAnswer) -> Part
 
 /// What the writer was asked for.
 fn change_in(part: &Part) -> Option<Change>
-    ensures { (change : Change) → (result ≡ Some change → part.now.first ≡ Writer change) × (part.now.first ≡ Writer change → result ≡ Some change) }
+    ensures { (change : Change) → (result ≡ Some change → part.now.reservation.first ≡ Writer change) × (part.now.reservation.first ≡ Writer change → result ≡ Some change) }
 {
-    match part.first {
+    match part.reservation.first {
         First::Writer(change) => Some(change),
-        _ => None,
+        First::Nobody | First::Loader | First::Processor => None,
     }
 }
 
@@ -180,7 +178,7 @@ impl Machine {
         self.store.get(key)
     }
 
-    /// The order of all that was put down.
+    /// The order of all events.
     pub(crate) fn order(&self) -> &[Event]
         ensures { result.now ≡ self.now.order }
     {
@@ -197,15 +195,14 @@ impl Machine {
 
     /// A call begins.
     fn open(&mut self, call: u64, session: u32, command: &Command) -> Result<(), AllocError>
-        ensures ok { OnOk result (self.new ≡ record self.old { last = Some call; fresh = false; calls = self.old.calls ++ record { session = session; number = call; command = command.now } ∷ [] }) }
+        ensures ok { OnOk result (self.new ≡ record self.old { last = Some call; fresh = false; calls = self.old.calls ++ record { caller = record { session = session; call = call }; command = command.now } ∷ [] }) }
         ensures err { OnErr result (self.new ≡ self.old) }
     {
         // Names the types of the values that a generic call moves here: the prover looks for their models in the types that a
         // function names. So does the other of this name below.
         let _types: Option<(Op, Value)> = None;
         self.calls.push(Under {
-            session,
-            number: call,
+            caller: Caller { session, call },
             command: *command,
         })?;
         self.last = Some(call);
@@ -233,7 +230,7 @@ impl Machine {
     /// The writer changes the store.
     fn change(&mut self, call: u64, key: &Key) -> Result<(), AllocError>
         requires { waits_for_report (part_of self.old call key.now) ≡ true }
-        ensures ok { OnOk result ((part : Part) × (change : Change) × (part_of self.old call key.now ≡ Some part) × (part.first ≡ Writer change) × (self.new ≡ changed self.old key.now part change)) }
+        ensures ok { OnOk result ((part : Part) × (change : Change) × (part_of self.old call key.now ≡ Some part) × (part.reservation.first ≡ Writer change) × (self.new ≡ changed self.old key.now part change)) }
         ensures err { OnErr result (self.new ≡ self.old) }
     {
         match self.part_of(call, key).copied() {
@@ -252,7 +249,7 @@ impl Machine {
     /// The writer returns.
     fn report(&mut self, call: u64, key: &Key, fault: Option<u32>) -> Reported
         requires { waits_for_report (part_of self.old call key.now) ≡ true }
-        ensures { (part : Part) × (change : Change) × (part_of self.old call key.now ≡ Some part) × (part.first ≡ Writer change)
+        ensures { (part : Part) × (change : Change) × (part_of self.old call key.now ≡ Some part) × (part.reservation.first ≡ Writer change)
             × (result ≡ record { change = change; is_changed = part.is_changed; fault = fault }) × (self.new ≡ reported self.old key.now part (report_of fault)) }
     {
         match self.part_of(call, key).copied() {
@@ -303,18 +300,19 @@ impl Machine {
             unreachable!()
         };
         let number = stripe_of(&u.command.key, self.config.stripes);
-        let (begun, before) = begin_at(&mut self.stripes, &mut self.order, number, &u);
+        let begun = begin_at(&mut self.stripes, &mut self.order, number, &u);
         match begun {
-            Begun::Done(reply, place) => {
-                drop_call(&mut self.calls, u.number);
-                Ok(Shown::Stepped(shown_at(&self.stripes, number, before, reply, place)))
+            Begun::Done(done) => {
+                drop_call(&mut self.calls, u.caller.call);
+                Ok(Shown::Stepped(shown_of(number, done)))
             }
             Begun::Load(ticket) => {
-                push_in_room(&mut self.slots, Slot::loading(ticket, &u));
+                push_in_room(&mut self.slots, Slot::loading(ticket));
                 Ok(Shown::Loads)
             }
-            Begun::Write(ticket, change) => {
-                push_in_room(&mut self.slots, Slot::writing(ticket, &u));
+            Begun::Write(ticket) => {
+                let (slot, change) = Slot::writing(ticket);
+                push_in_room(&mut self.slots, slot);
                 Ok(Shown::Asks(change))
             }
             Begun::Joined(join) => {
@@ -322,7 +320,7 @@ impl Machine {
                 Ok(Shown::Joins)
             }
             Begun::Refused(refusal) => {
-                drop_call(&mut self.calls, u.number);
+                drop_call(&mut self.calls, u.caller.call);
                 Ok(Shown::Refused(refusal))
             }
         }
@@ -339,8 +337,8 @@ impl Machine {
         let number = stripe_of(key, self.config.stripes);
         let slot = take_slot(&mut self.slots, call, key);
         drop_call(&mut self.calls, call);
-        let (reply, place, before) = commit_at(&mut self.stripes, &mut self.order, number, slot);
-        Ok(Shown::Stepped(shown_at(&self.stripes, number, before, reply, place)))
+        let done = commit_at(&mut self.stripes, &mut self.order, number, slot);
+        Ok(Shown::Stepped(shown_of(number, done)))
     }
 
     /// The reservation of a key is given back.
@@ -363,7 +361,11 @@ impl Machine {
         let stripe = stripe_of(key, self.config.stripes);
         let (join, place) = take_join(&mut self.joins, call, key);
         match pick_up_at(&mut self.stripes, stripe, join) {
-            Picked::Answer(reply, step, shared) => {
+            Picked::Answer {
+                reply,
+                place: step,
+                shared_with: shared,
+            } => {
                 drop_call(&mut self.calls, call);
                 Shown::PickedUp(PickedUp {
                     reply,
@@ -441,7 +443,7 @@ impl Machine {
             WorldEvent::Start { call, key } => self.may_start(*call, key),
             WorldEvent::Read { call, key } => is_waiting_for_load(self.part_of(*call, key)),
             WorldEvent::Say { call, key, answer } => {
-                is_load_given(*answer) && is_waiting_for_load(self.part_of(*call, key))
+                answer.is_given() && is_waiting_for_load(self.part_of(*call, key))
             }
             WorldEvent::Change { call, key } => is_waiting_for_report(self.part_of(*call, key)),
             WorldEvent::Report { call, fault: _ } => self.may_report(*call),
@@ -574,13 +576,13 @@ impl Machine {
         })
     }
 
-    /// Ends the machine, and with its stripes the tickets and joins that are still out.
+    /// Ends the machine: what was answered is committed, the other reservations are given back, and the joins are picked up.
     pub(crate) fn close(self)
         requires { IsSoundWorld self }
     {
         let Machine {
-            config: _,
-            stripes,
+            config,
+            mut stripes,
             order: _,
             store: _,
             fresh: _,
@@ -590,9 +592,8 @@ impl Machine {
             joins,
             premises: _,
         } = self;
-        let closed = ClosedStripes::new(stripes);
-        let_go_all(slots, &closed);
-        let_go_joins(joins, &closed);
+        end_all(&config, &mut stripes, slots, &joins);
+        pick_all(&config, &mut stripes, joins);
     }
 }
 
@@ -614,14 +615,4 @@ fn is_changing(part: Option<Part>) -> bool
         Some(part) => part.is_changed,
         None => false,
     }
-}
-
-/// Lets all tickets go. They are out in these stripes.
-fn let_go_all(mut slots: Vec<Slot>, stripes: &ClosedStripes)
-    requires { All (IsEntryOut stripes.now) slots.items }
-{
-    while let Some(slot) = slots.pop() {
-        slot.let_go(stripes);
-    }
-    slots.destroy_empty();
 }

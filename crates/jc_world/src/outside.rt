@@ -1,12 +1,13 @@
 //! What loaders and writers say, and whether they are honest.
 ghost use Rattle.std.specs.Prelude.{◌≡◌, ◌&&◌, option_copied};
-ghost use Rattle.jc_model.specs.Table.{is_load_given, is_write_given, alike};
-ghost use Rattle.jc_world.specs.World.{asks_loader, asks_writer, waits_for_load, waits_for_report, is_answered, is_untouched};
+ghost use Rattle.jc_model.specs.Table.{alike};
+ghost use Rattle.jc_stripe.specs.Tickets.{asks_loader, asks_writer};
+ghost use Rattle.jc_world.specs.World.{waits_for_load, waits_for_report, is_answered, is_untouched};
 ghost use Rattle.jc_world.specs.Premises.{read_answer, changed_to, report_of, is_true_load, is_done, is_true_report};
 
 use crate::event::Part;
 use jc_model::event::{Change, LoadAnswer, WriteAnswer};
-use jc_stripe::ticket::First;
+use jc_stripe::First;
 use jc_types::value::Value;
 
 /// Whether the loader's answer is a failure, or what the store holds.
@@ -33,20 +34,6 @@ pub(crate) fn answer_of(stored: Option<Value>) -> LoadAnswer
     }
 }
 
-/// Whether the loader has answered.
-pub(crate) fn is_load_given(answer: LoadAnswer) -> bool
-    ensures { result ≡ is_load_given answer }
-{
-    !matches!(answer, LoadAnswer::NotAsked)
-}
-
-/// Whether the writer has returned.
-pub(crate) fn is_write_given(report: WriteAnswer) -> bool
-    ensures { result ≡ is_write_given report }
-{
-    !matches!(report, WriteAnswer::NotAsked)
-}
-
 fn is_loader(first: &First) -> bool
     ensures { result ≡ asks_loader first.now }
 {
@@ -64,7 +51,7 @@ pub(crate) fn is_waiting_for_load(part: Option<&Part>) -> bool
     ensures { result ≡ waits_for_load (option_copied part.entry) }
 {
     match part {
-        Some(part) => is_loader(&part.first) && !is_load_given(part.load),
+        Some(part) => is_loader(&part.reservation.first) && !part.load.is_given(),
         None => false,
     }
 }
@@ -74,7 +61,7 @@ pub(crate) fn is_waiting_for_report(part: Option<&Part>) -> bool
     ensures { result ≡ waits_for_report (option_copied part.entry) }
 {
     match part {
-        Some(part) => is_writer(&part.first) && !is_write_given(part.report),
+        Some(part) => is_writer(&part.reservation.first) && !part.report.is_given(),
         None => false,
     }
 }
@@ -85,8 +72,8 @@ pub(crate) fn is_all_answered(part: Option<&Part>) -> bool
 {
     match part {
         Some(part) => {
-            (is_loader(&part.first) && is_load_given(part.load))
-                || (is_writer(&part.first) && is_write_given(part.report))
+            (is_loader(&part.reservation.first) && part.load.is_given())
+                || (is_writer(&part.reservation.first) && part.report.is_given())
         }
         None => false,
     }
@@ -97,9 +84,7 @@ pub(crate) fn is_never_touched(part: Option<&Part>) -> bool
     ensures { result ≡ is_untouched (option_copied part.entry) }
 {
     match part {
-        Some(part) => {
-            !is_load_given(part.load) && !part.is_changed && !is_write_given(part.report)
-        }
+        Some(part) => { !part.load.is_given() && !part.is_changed && !part.report.is_given() }
         None => false,
     }
 }

@@ -1,21 +1,23 @@
 //! The keys that calls have reserved, with their tickets.
-ghost use Rattle.std.specs.Prelude.{◌≡◌, true, Option, None, Some, option_copied, position, is_some, IsSomeAnd, IsTrue};
+ghost use Rattle.std.specs.Prelude.{◌≡◌, ◌⊎◌, true, false, Option, None, Some, option_copied, position, is_some, IsSomeAnd, IsTrue};
 ghost use Rattle.std.specs.FinMap as map;
+ghost use Rattle.jc_model.specs.declared.event.Out.{Out};
 ghost use Rattle.jc_model.specs.Cache.{key_cmp, entry_at};
-ghost use Rattle.jc_stripe.specs.State.{claimed};
+ghost use Rattle.jc_stripe.specs.declared.begun.StepDone.{StepDone};
+ghost use Rattle.jc_stripe.specs.State.{IsOut};
 ghost use Rattle.jc_stripe.specs.Phases.{Commits, Withdraws};
-ghost use Rattle.jc_stripe.specs.declared.ticket.First.TheVariants.{Loader, Writer};
+ghost use Rattle.jc_stripe.specs.declared.ticket.First.TheVariants.{Writer};
 ghost use Rattle.jc_stripe.specs.declared.ticket.Origin.TheVariants.{Played};
-ghost use Rattle.jc_world.specs.World.{claim_of, out_of, is_answered};
+ghost use Rattle.jc_world.specs.World.{out_of, is_answered};
 ghost use Rattle.jc_world.specs.Events.{new_part};
 ghost use Rattle.jc_world.specs.Sound.{KindFits};
-ghost use Rattle.jc_world.specs.Slots.{is_under, once, parts_of, part_under, IsEntryOut};
+ghost use Rattle.jc_world.specs.Slots.{is_under, once, parts_of, part_under};
 
-use crate::event::{Part, Under};
-use jc_model::event::{Change, LoadAnswer, Reply, WriteAnswer};
-use jc_stripe::closed::ClosedStripes;
-use jc_stripe::stripe::Stripe;
-use jc_stripe::ticket::{First, LoadTicket, WriteTicket, played_load, played_write};
+use crate::event::Part;
+use jc_model::event::{Change, LoadAnswer, WriteAnswer};
+use jc_stripe::{
+    First, LoadTicket, Reservation, StepDone, Stripe, WriteTicket, played_load, played_write,
+};
 use jc_types::key::Key;
 use std::marker::Model;
 
@@ -25,7 +27,8 @@ pub(crate) enum Ticket {
     Write(WriteTicket),
 }
 
-/// A key that a call has reserved, with its ticket.
+/// A key that a call has reserved, with its ticket. The loader or writer is asked at the commit, as one asks who is played: so a
+/// slot's ticket was not asked.
 pub(crate) struct Slot {
     ticket: Ticket,
     part: Part,
@@ -45,62 +48,67 @@ impl Model for Slot {
 }
 
 /// What is kept of a key that was just reserved.
-fn part_for(u: &Under, number: u64, first: First) -> Part
-    ensures { result ≡ new_part u.now number first }
+fn part_for(reservation: &Reservation) -> Part
+    ensures { result ≡ new_part reservation.now }
 {
     Part {
-        call: u.number,
-        number,
-        op: u.command.op,
-        first,
+        reservation: *reservation,
         load: LoadAnswer::NotAsked,
         is_changed: false,
         report: WriteAnswer::NotAsked,
     }
 }
 
+/// What the writer is to be asked for.
+fn change_for(ticket: &WriteTicket) -> Change
+    ensures { ticket.now.reservation.first ≡ Writer result }
+{
+    match ticket.reservation().first {
+        First::Writer(change) => change,
+        First::Nobody | First::Loader | First::Processor => unreachable!(),
+    }
+}
+
 impl Slot {
-    /// The loader was asked.
-    pub(crate) fn loading(ticket: LoadTicket, u: &Under) -> Slot
-        ensures { result ≡ (ticket.key, new_part u.now ticket.number Loader) }
+    /// The loader is to be asked.
+    pub(crate) fn loading(ticket: LoadTicket) -> Slot
+        requires { ticket.asked ≡ false }
+        ensures { result ≡ (ticket.reservation.key, new_part ticket.reservation) }
     {
-        let part = part_for(u, ticket.ask().number, First::Loader);
+        let part = part_for(ticket.reservation());
         Slot {
             ticket: Ticket::Load(ticket),
             part,
         }
     }
 
-    /// The writer was asked.
-    pub(crate) fn writing(ticket: WriteTicket, u: &Under) -> Slot
-        ensures { result ≡ (ticket.claim.key, new_part u.now ticket.claim.number (Writer ticket.change)) }
+    /// The writer is to be asked, for a change.
+    pub(crate) fn writing(ticket: WriteTicket) -> (Slot, Change)
+        requires { ticket.asked ≡ false }
+        ensures slot { result.0 ≡ (ticket.reservation.key, new_part ticket.reservation) }
+        ensures change { ticket.reservation.first ≡ Writer result.1 }
     {
-        // Names the type of a value that a generic call moves here: the prover looks for its model in the types that a function
-        // names.
-        let _types: Option<Change> = None;
-        let ask = ticket.ask();
-        let part = part_for(u, ask.number, First::Writer(ask.change));
-        Slot {
+        let change = change_for(&ticket);
+        let part = part_for(ticket.reservation());
+        let slot = Slot {
             ticket: Ticket::Write(ticket),
             part,
-        }
+        };
+        (slot, change)
     }
 
     /// The key.
     pub(crate) fn key(&self) -> Key
         ensures { result ≡ self.now.0 }
     {
-        match &self.ticket {
-            Ticket::Load(ticket) => ticket.ask().key,
-            Ticket::Write(ticket) => ticket.ask().key,
-        }
+        self.part.reservation.key
     }
 
     /// The call.
     fn call(&self) -> u64
-        ensures { result ≡ self.now.1.call }
+        ensures { result ≡ self.now.1.reservation.caller.call }
     {
-        self.part.call
+        self.part.reservation.caller.call
     }
 
     /// What was asked and said.
@@ -112,38 +120,37 @@ impl Slot {
 
     /// More was said.
     pub(crate) fn set(&mut self, part: Part)
-        requires number { part.number ≡ self.old.1.number }
-        requires first { part.first ≡ self.old.1.first }
+        requires { part.reservation ≡ self.old.1.reservation }
         ensures { self.new ≡ (self.old.0, part) }
     {
         self.part = part;
     }
 
     /// The last phase.
-    pub(crate) fn end(self, stripe: &mut Stripe) -> (Reply, u32)
-        requires out { IsSomeAnd (claimed stripe.old (claim_of self.0 self.1)) (λ r. r.first ≡ self.1.first) }
-        requires kind { KindFits self.1.first self.1 (entry_at stripe.old.cache self.0) }
+    pub(crate) fn end(self, stripe: &mut Stripe) -> StepDone
+        requires out { IsOut stripe.old self.1.reservation }
+        requires kind { KindFits self.1.reservation.first self.1 (entry_at stripe.old.cache self.0) }
         requires answered { is_answered (Some self.1) ≡ true }
         requires origin { stripe.old.origin ≡ Played }
-        ensures { Commits stripe.old (claim_of self.0 self.1) (out_of self.1) result.0 result.1 stripe.new }
+        ensures { Commits stripe.old self.1.reservation (out_of self.1) result stripe.new }
     {
         let Slot { ticket, part } = self;
         match ticket {
-            Ticket::Load(ticket) => {
-                let done = played_load(&ticket.ask(), part.load);
-                stripe.commit_load(ticket, done)
+            Ticket::Load(mut ticket) => {
+                let ask = ticket.ask();
+                stripe.commit_load(ticket, played_load(ask, part.load))
             }
-            Ticket::Write(ticket) => {
-                let done = played_write(&ticket.ask(), part.report);
-                stripe.commit_write(ticket, done)
+            Ticket::Write(mut ticket) => {
+                let ask = ticket.ask();
+                stripe.commit_write(ticket, played_write(ask, part.report))
             }
         }
     }
 
     /// The reservation is given back.
     pub(crate) fn withdraw(self, stripe: &mut Stripe)
-        requires { IsSomeAnd (claimed stripe.old (claim_of self.0 self.1)) (λ r. r.first ≡ self.1.first) }
-        ensures { Withdraws stripe.old (claim_of self.0 self.1) stripe.new }
+        requires { IsOut stripe.old self.1.reservation }
+        ensures { Withdraws stripe.old self.1.reservation stripe.new }
     {
         let Slot { ticket, part: _ } = self;
         match ticket {
@@ -152,15 +159,47 @@ impl Slot {
         }
     }
 
-    /// The ticket, which is out in one of these stripes, ends with them.
-    pub(crate) fn let_go(self, stripes: &ClosedStripes)
-        requires { IsEntryOut stripes.now self }
+    /// The reservation is over, as its world ends: it is committed if it was answered, and else given back.
+    pub(crate) fn close(self, stripe: &mut Stripe)
+        requires out { IsOut stripe.old self.1.reservation }
+        requires origin { stripe.old.origin ≡ Played }
+        ensures { ((out : Out) × (done : StepDone) × Commits stripe.old self.1.reservation out done stripe.new) ⊎ Withdraws stripe.old self.1.reservation stripe.new }
     {
-        let Slot { ticket, part: _ } = self;
+        let Slot { ticket, part } = self;
         match ticket {
-            Ticket::Load(ticket) => stripes.end_load(ticket),
-            Ticket::Write(ticket) => stripes.end_write(ticket),
+            Ticket::Load(ticket) => close_load(ticket, part.load, stripe),
+            Ticket::Write(ticket) => close_write(ticket, part.report, stripe),
         }
+    }
+}
+
+/// Commits a load that was answered, and gives another one back.
+fn close_load(mut ticket: LoadTicket, answer: LoadAnswer, stripe: &mut Stripe)
+    requires out { IsOut stripe.old ticket.reservation }
+    requires unasked { ticket.asked ≡ false }
+    requires origin { stripe.old.origin ≡ Played }
+    ensures { ((out : Out) × (done : StepDone) × Commits stripe.old ticket.reservation out done stripe.new) ⊎ Withdraws stripe.old ticket.reservation stripe.new }
+{
+    if answer.is_given() {
+        let ask = ticket.ask();
+        stripe.commit_load(ticket, played_load(ask, answer));
+    } else {
+        stripe.withdraw_load(ticket);
+    }
+}
+
+/// Commits a write that was answered, and gives another one back.
+fn close_write(mut ticket: WriteTicket, answer: WriteAnswer, stripe: &mut Stripe)
+    requires out { IsOut stripe.old ticket.reservation }
+    requires unasked { ticket.asked ≡ false }
+    requires origin { stripe.old.origin ≡ Played }
+    ensures { ((out : Out) × (done : StepDone) × Commits stripe.old ticket.reservation out done stripe.new) ⊎ Withdraws stripe.old ticket.reservation stripe.new }
+{
+    if answer.is_given() {
+        let ask = ticket.ask();
+        stripe.commit_write(ticket, played_write(ask, answer));
+    } else {
+        stripe.withdraw_write(ticket);
     }
 }
 
@@ -175,7 +214,7 @@ fn place_of(slots: &[Slot], call: u64, key: &Key) -> Option<usize>
 
 /// Says more of a call's key that has its slot.
 pub(crate) fn set_part(slots: &mut Vec<Slot>, call: u64, key: &Key, part: Part)
-    requires there { IsSomeAnd (part_under call key.now slots.old.items) (λ old. (part.number ≡ old.number) × (part.first ≡ old.first)) }
+    requires there { IsSomeAnd (part_under call key.now slots.old.items) (λ old. part.reservation ≡ old.reservation) }
     requires once { once slots.old.items ≡ true }
     ensures parts { parts_of slots.new.items ≡ map.insert (parts_of slots.old.items) key.now part }
     ensures once { once slots.new.items ≡ true }

@@ -1,13 +1,14 @@
 //! Runs of a world. Each ends with `close`, since a world can't be dropped.
 //!
 //! They stand in texts, since a check proves a table of rows at a price that grows faster than its length.
-use crate::calls::SESSIONS_MAX;
 use crate::event::{Command, Part, Under};
 use crate::world::World;
 use jc_model::event::{Change, Event, LoadAnswer, Op, Reply, WriteAnswer};
 use jc_model::legal::legal;
-use jc_stripe::ticket::First;
+use jc_stripe::{First, Reservation};
+use jc_types::caller::Caller;
 use jc_types::config::Field;
+use jc_types::limits::SESSIONS_MAX;
 use jc_types::refusal::Refusal;
 use script::words::{key_of, value_of};
 use script::{config, goes_on, played, runs};
@@ -58,19 +59,25 @@ history 4 legal
 fn asks_for_the_put(rt: &impl Abort, world: &World) {
     let a = key_of(rt, "a");
     let two = value_of(rt, "2");
-    let under = Under {
+    let caller = Caller {
         session: 1,
-        number: 2,
+        call: 2,
+    };
+    let under = Under {
+        caller,
         command: Command {
             op: Op::Put(two),
             key: a,
         },
     };
     let part = Part {
-        call: 2,
-        number: 1,
-        op: Op::Put(two),
-        first: First::Writer(Change::Write(two)),
+        reservation: Reservation {
+            caller,
+            key: a,
+            op: Op::Put(two),
+            number: 1,
+            first: First::Writer(Change::Write(two)),
+        },
         load: LoadAnswer::NotAsked,
         is_changed: true,
         report: WriteAnswer::NotAsked,
@@ -93,16 +100,14 @@ fn shows_a_put_after_its_commit(rt: HostRuntime) {
 fn answered_otherwise(event: Event) -> Event {
     match event {
         Event::Step {
-            session,
-            number,
+            caller,
             op,
             key,
             out,
             shared_with,
             reply: _,
         } => Event::Step {
-            session,
-            number,
+            caller,
             op,
             key,
             out,
@@ -191,7 +196,7 @@ fn leaves_out_what_does_not_fit(rt: HostRuntime) {
     runs(&rt, rt.alloc(), UNFIT);
 }
 
-// The ticket that is out goes with the world.
+// The reservation that is out is given back with the world.
 const RESERVED: &str = "\
 open 1 2 100 read write
 ==
@@ -247,7 +252,7 @@ fn shares_a_load_with_those_that_join(rt: HostRuntime) {
     runs(&rt, rt.alloc(), JOINED);
 }
 
-// In the end a join that is out goes with the world, too.
+// In the end a reservation is given back, and a join that is out is told to retry.
 const WITHDRAWN: &str = "\
 open 1 2 100 read write
 set a 1
@@ -283,7 +288,7 @@ busy s2
 ";
 
 #[test]
-fn begins_again_where_a_load_is_withdrawn(rt: HostRuntime) {
+fn retries_where_a_load_is_withdrawn(rt: HostRuntime) {
     runs(&rt, rt.alloc(), WITHDRAWN);
 }
 

@@ -8,10 +8,11 @@ ghost use Rattle.jc_world.specs.Coherent.{all_hold, Coherent};
 ghost use Rattle.jc_world.specs.Audit.{IsOrder, HasParts, IsAudit};
 
 use crate::audit::Audit;
-use crate::event::{Gone, Part, PickedUp, Reported, Shown, Stepped, Under, WorldEvent};
+use crate::event::{Part, PickedUp, Reported, Shown, Stepped, Under, WorldEvent};
 use crate::machine::Machine;
 use crate::room::push_in_room;
 use jc_model::event::{Change, Event, LoadAnswer, Reply};
+use jc_stripe::Eviction;
 use jc_stripe::phase_laws::{keeps_reserved, stays_reached};
 use jc_types::config::Config;
 use jc_types::key::Key;
@@ -46,7 +47,7 @@ impl Model for World {
 impl World {
     /// An empty cache of this shape beside an empty store, and no call.
     ///
-    /// A shape that `Config::check` refuses is refused with its `BadConfig`, and want of memory with `OutOfMemory`.
+    /// A shape that `Config::check` refuses is refused with its `BadConfig`, and lack of memory with `OutOfMemory`.
     pub fn new(alloc: Global, config: &Config) -> Result<World, Refusal>
         ensures made { IfOk result (λ w. w ≡ record { world = start config.now; taken = 0 }) }
         ensures ok { IsOk result → checked config.now ≡ Ok tt }
@@ -84,7 +85,7 @@ impl World {
             (
                 Reply,
                 Stepped,
-                Gone,
+                Eviction,
                 PickedUp,
                 Reported,
                 LoadAnswer,
@@ -111,7 +112,7 @@ impl World {
         self.played
     }
 
-    /// All that was put down, over all stripes: one legal history, and what is cached is what it leaves. The history of each stripe
+    /// All events, over all stripes: one legal history, and what is cached is what it leaves. The history of each stripe
     /// is its part of it: a place in a stripe, as it is shown, counts the events of that stripe alone.
     pub fn order(&self) -> &[Event]
         ensures order { result.now ≡ self.now.world.order }
@@ -183,8 +184,10 @@ impl World {
         self.machine.audit(alloc)
     }
 
-    /// Ends the world. What it held is given up, and with it the tickets and joins that are still out: each is in one of the stripes
-    /// that end here.
+    /// Ends the world: each reservation that was answered is committed, each other one is given back, and each call that has joined a
+    /// load picks up its answer. Nothing is left that would have to be ended.
+    ///
+    /// It takes no memory, so it doesn't fail.
     pub fn close(self) {
         let World { machine, played: _ } = self;
         machine.close();

@@ -1,7 +1,8 @@
 //! Tests of a stripe, by which a driver that had let it go sees whether a condition of a phase still holds. They change
 //! nothing.
-ghost use Rattle.std.specs.Prelude.{◌≡◌, ◌↔◌, ◌≤◌, Some, true, false, IsTrue, length, map, take};
+ghost use Rattle.std.specs.Prelude.{◌≡◌, ◌↔◌, IsTrue, find, map, option_map};
 ghost use Rattle.std.specs.List.{list_all};
+ghost use Rattle.jc_inflight.specs.Joining.{belongs_to};
 ghost use Rattle.jc_stripe.specs.Inside.{note_reservation};
 ghost use Rattle.jc_stripe.specs.State.{is_of, reservation_of, IsOut, IsJoined};
 ghost use Rattle.jc_stripe.specs.Phases.{MayBegin, is_other_call, is_other_join};
@@ -33,16 +34,78 @@ fn is_other_join(joiner: &Joiner, caller: Caller, key: &Key) -> bool
     who.session != caller.session || (who.call == caller.call && joiner.key != *key)
 }
 
+fn all_held_are_other(held: &[Held<Note>], caller: Caller, key: &Key) -> bool
+    ensures { result ≡ list_all (λ h. is_other_call caller key.now (note_reservation h)) held.now }
+{
+    held.iter().all(|h| is_other_call(h, caller, key))
+}
+
 fn are_other_calls(held: &[Held<Note>], caller: Caller, key: &Key) -> bool
     ensures { result ≡ list_all (is_other_call caller key.now) (map note_reservation held.now) }
 {
-    held.iter().all(|h| is_other_call(h, caller, key))
+    all_held_are_other(held, caller, key)
 }
 
 fn are_other_joins(joiners: &[Joiner], caller: Caller, key: &Key) -> bool
     ensures { result ≡ list_all (is_other_join caller key.now) joiners.now }
 {
     joiners.iter().all(|j| is_other_join(j, caller, key))
+}
+
+/// Whether two operations are one.
+fn is_same_op(first: &Op, second: &Op) -> bool
+    ensures { IsTrue result ↔ (first.now ≡ second.now) }
+{
+    *first == *second
+}
+
+/// Whether two calls ask the same one first.
+fn is_same_first(first: &First, second: &First) -> bool
+    ensures { IsTrue result ↔ (first.now ≡ second.now) }
+{
+    *first == *second
+}
+
+/// Whether two callers are one.
+fn is_same_caller(first: &Caller, second: &Caller) -> bool
+    ensures { IsTrue result ↔ (first.now ≡ second.now) }
+{
+    first.session == second.session && first.call == second.call
+}
+
+/// Whether two keys are one.
+fn is_same_key(first: &Key, second: &Key) -> bool
+    ensures { IsTrue result ↔ (first.now ≡ second.now) }
+{
+    *first == *second
+}
+
+/// Whether two reservations are one.
+fn is_same(first: &Reservation, second: &Reservation) -> bool
+    ensures { IsTrue result ↔ (first.now ≡ second.now) }
+{
+    first.number == second.number
+        && is_same_caller(&first.caller, &second.caller)
+        && is_same_key(&first.key, &second.key)
+        && is_same_op(&first.op, &second.op)
+        && is_same_first(&first.first, &second.first)
+}
+
+/// The call's joiner at a key, if it is among the joiners.
+fn joiner_of(joiners: &[Joiner], caller: Caller, key: &Key) -> Option<Joiner>
+    ensures { result ≡ find (belongs_to caller key.now) joiners.now }
+{
+    joiners.iter().copied().find(|j| j.belongs_to(caller, key))
+}
+
+/// The load that a call has joined at a key, if it is among the joiners.
+fn load_joined(joiners: &[Joiner], caller: Caller, key: &Key) -> Option<u64>
+    ensures { result ≡ option_map (λ j. j.load) (find (belongs_to caller key.now) joiners.now) }
+{
+    match joiner_of(joiners, caller, key) {
+        Some(joiner) => Some(joiner.load),
+        None => None,
+    }
 }
 
 /// Whether a step of this caller at this key may come after each event of a history. It reads the whole history.
@@ -106,7 +169,7 @@ impl Stripe {
         ensures { IsTrue result ↔ IsOut self.now reservation.now }
     {
         match self.reservation(&reservation.key) {
-            Some(held) => held == *reservation,
+            Some(held) => is_same(&held, reservation),
             None => false,
         }
     }
@@ -117,28 +180,24 @@ impl Stripe {
     {
         // Names a type that a generic call moves here, so that the prover finds its model.
         let _types: Option<Change> = None;
-        let (number, note) = self.reservations.find(key)?;
-        Some(Reservation {
-            caller: note.caller,
-            key: *key,
-            op: note.op,
-            number,
-            first: note.first,
-        })
+        match self.reservations.find(key) {
+            Some((number, note)) => Some(Reservation {
+                caller: note.caller,
+                key: *key,
+                op: note.op,
+                number,
+                first: note.first,
+            }),
+            None => None,
+        }
     }
 
     /// Whether a join is out here: its call is among the joiners of its key, and joined this load.
     pub fn holds_join(&self, join: &Join) -> bool
         ensures { IsTrue result ↔ IsJoined self.now join.now }
     {
-        let (caller, key) = (join.caller(), join.key());
-        match self
-            .joiners
-            .list()
-            .iter()
-            .find(|j| j.belongs_to(caller, key))
-        {
-            Some(joiner) => joiner.load == join.load(),
+        match load_joined(self.joiners.list(), join.caller(), join.key()) {
+            Some(load) => load == join.load(),
             None => false,
         }
     }

@@ -58,7 +58,10 @@ impl Lot {
             6 => Op::RemoveIf(first),
             7 => Op::GetAndRemove,
             8 => Op::Replace(first),
-            9 => Op::ReplaceIf(first, second),
+            9 => Op::ReplaceIf {
+                old: first,
+                new: second,
+            },
             10 => Op::GetAndReplace(first),
             _ => Op::Get,
         }
@@ -118,7 +121,7 @@ fn use_of(op: &Op, reply: &Reply, was: Option<Value>) -> Use {
         (Op::Remove | Op::GetAndRemove, _) => Use::Gone,
         (Op::RemoveIf(_), Reply::Flag(true)) => Use::Gone,
         (Op::PutIfAbsent(value) | Op::Replace(value), Reply::Flag(true)) => Use::Front(*value),
-        (Op::ReplaceIf(_, value), Reply::Flag(true)) => Use::Front(*value),
+        (Op::ReplaceIf { old: _, new: value }, Reply::Flag(true)) => Use::Front(*value),
         (Op::GetAndReplace(value), Reply::Value(Some(_))) => Use::Front(*value),
         _ => stays,
     }

@@ -2,7 +2,7 @@ use Rattle.std.proofs.Common.{◌≡◌, ◌∙◌, ℕ, Some, None, List, is_so
 use Rattle.std.proofs.lemmas.Option.{slice_get_read, slice_get_within, same_Some}
 use Rattle.std.specs.List.{insert}
 use Rattle.jc_model.specs.Cache.{Bytes}
-use Rattle.jc_stripe.specs.Claim.{JoinClaim}
+use Rattle.jc_stripe.specs.Tickets.{JoinClaim}
 use Rattle.jc_world.specs.World.{is_join}
 use Rattle.jc_world.specs.Sound.{joined_once}
 use Rattle.jc_world.proofs.Joiners.{Stands, stands_at, any_position, put_back_at}

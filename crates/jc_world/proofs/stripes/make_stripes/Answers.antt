@@ -8,4 +8,4 @@ loop-number-preserved c =
     let n = c.loop-number.number in
     let end = c.args.config.now.stripes in
     ap (λ xs. xs ++ empty_stripes c.args.config.now (n + 1) (end - (n + 1))) c.in_ok-push.ensures.items
-    ∙ made_more c.args.config.now c.loop-number.step.items c.in_ok-new.field-0 n end c.loop-number-test.true c.in_ok-new.ensures ∙ c.loop-number.invariant
+    ∙ made_more c.args.config.now c.loop-number.made.items c.in_ok-new.field-0 n end c.loop-number-test.true c.in_ok-new.ensures ∙ c.loop-number.invariant

@@ -1,5 +1,5 @@
-use Rattle.std.proofs.Common.{◌≡◌, true, refl}
-use Rattle.jc_inflight.specs.Joined.{is_joined as has_joined}
+use Rattle.std.proofs.Common.{◌≡◌, refl}
+use Rattle.jc_stripe.specs.State.{IsJoined}
 use Rattle.jc_world.proofs.Numbered.{at_index}
 use Rattle.jc_world.proofs.stripes.pick_up_at.Goals as goal
 
@@ -8,7 +8,7 @@ returns c =
     let from = c.index_mut-stripe.result.now in
     let join = c.args.join in (
       from,
-      at_index c.args.stripes.now.items c.args.number from (λ s. has_joined join.session join.call join.key s.joiners ≡ true) c.requires c.index_mut-stripe.ensures.value,
+      at_index c.args.stripes.now.items c.args.number from (λ s. IsJoined s join) c.requires c.index_mut-stripe.ensures.value,
       c.pick_up.new.self,
       c.pick_up.ensures.picks_up,
       refl,

@@ -1,8 +1,9 @@
 //! The events of a text, and what each shows.
 use super::words::{Words, number_of, value_of};
-use crate::event::{Command, Gone, PickedUp, Reported, Shown, Stepped, WorldEvent};
+use crate::event::{Command, PickedUp, Reported, Shown, Stepped, WorldEvent};
 use crate::world::World;
 use jc_model::event::{Cause, Change, LoadAnswer, Op, Reply};
+use jc_stripe::Eviction;
 use jc_types::key::Key;
 use jc_types::refusal::Refusal;
 use std::alloc::Global;
@@ -18,7 +19,7 @@ fn command(rt: &impl Abort, words: &mut Words) -> Command {
         "put" => Op::Put(words.value(rt)),
         "remove" => Op::Remove,
         "clear" => Op::Clear,
-        "loadall" => Op::LoadAll(false),
+        "loadall" => Op::LoadAll { replace: false },
         "invoke" => Op::Invoke,
         _ => panic!(rt; "no operation"),
     };
@@ -143,10 +144,10 @@ fn step(rt: &impl Abort, words: &mut Words) -> Shown {
 }
 
 /// Why and where a step's own entry went, as `full at 3`.
-fn gone(rt: &impl Abort, words: &mut Words) -> Gone {
+fn gone(rt: &impl Abort, words: &mut Words) -> Eviction {
     words.skip(rt, "full");
     words.skip(rt, "at");
-    Gone {
+    Eviction {
         cause: Cause::Full,
         place: words.number(rt),
     }

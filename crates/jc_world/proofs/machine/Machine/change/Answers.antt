@@ -11,7 +11,7 @@ use Rattle.jc_world.proofs.machine.Machine.change.Goals as goal
 pub set_part-requires-clause-there : goal.set_part-requires-clause-there
 set_part-requires-clause-there c =
     let of_w : part_of c.args.self.now c.args.call c.args.key.now ≡ Some c.in-Some.part = sym c.part_of.ensures ∙ sym c.copied.ensures ∙ c.in-Some.is in
-    may_set _ c.in-Some.part c.with_change.result (in_slots c.self.inside c.args.self.now c.args.call c.args.key.now c.self.invariant c.self.view_is ∙ of_w) (ap (λ (p : Part). p.number) c.with_change.ensures) (ap (λ (p : Part). p.first) c.with_change.ensures)
+    may_set _ c.in-Some.part c.with_change.result (in_slots c.self.inside c.args.self.now c.args.call c.args.key.now c.self.invariant c.self.view_is ∙ of_w) (ap (λ (p : Part). p.reservation) c.with_change.ensures)
 
 pub unreachable-requires : goal.unreachable-requires
 unreachable-requires c =

@@ -1,19 +1,16 @@
-use Rattle.std.proofs.Common.{List, All, sym, subst}
-use Rattle.jc_stripe.specs.State.{State}
-use Rattle.jc_stripe.specs.Closed.{IsJoinedIn}
+use Rattle.std.proofs.Common.{sym, subst}
 use Rattle.jc_world.specs.Sound.{IsSoundWorld}
-use Rattle.jc_world.specs.Slots.{IsEntryOut}
+use Rattle.jc_world.specs.Ending.{HasJoins}
 use Rattle.jc_world.specs.Inside.{world_of}
-use Rattle.jc_world.proofs.Closing.{slots_out, joins_out}
+use Rattle.jc_world.proofs.Closing.{all_left, slots_out, joins_out}
 use Rattle.jc_world.proofs.machine.Machine.close.Goals as goal
 
-pub let_go_all-requires : goal.let_go_all-requires
-let_go_all-requires c =
-    let P : List State → Type 0 = λ stripes. All (IsEntryOut stripes) c.self.inside.slots.items in
-    subst P (sym c.new-closed.ensures) (slots_out c.self.inside c.self.invariant (subst IsSoundWorld (sym c.self.view_is) c.requires))
+pub end_all-requires-clause-left : goal.end_all-requires-clause-left
+end_all-requires-clause-left c = all_left (world_of c.self.inside) (subst IsSoundWorld (sym c.self.view_is) c.requires)
 
-pub let_go_joins-requires : goal.let_go_joins-requires
-let_go_joins-requires c =
-    let P : List State → Type 0 = λ stripes. All (IsJoinedIn stripes) c.self.inside.joins.items in
-    let sound = subst IsSoundWorld (sym c.self.view_is) c.requires in
-    subst P (sym c.new-closed.ensures) (joins_out (world_of c.self.inside) c.self.inside.joins.items sound.joins)
+pub end_all-requires-clause-slots : goal.end_all-requires-clause-slots
+end_all-requires-clause-slots c = slots_out c.self.inside c.self.invariant (subst IsSoundWorld (sym c.self.view_is) c.requires)
+
+pub end_all-requires-clause-joins : goal.end_all-requires-clause-joins
+end_all-requires-clause-joins c =
+    subst (HasJoins c.self.inside.config c.self.inside.stripes.items) (sym c.deref.ensures.value) (joins_out (world_of c.self.inside) (subst IsSoundWorld (sym c.self.view_is) c.requires))

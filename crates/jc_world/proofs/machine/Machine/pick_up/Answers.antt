@@ -1,5 +1,5 @@
 use Rattle.std.proofs.Common.{◌≡◌, ℕ, List, Some, insert, slice_get, slice_set, sym, subst, ap, ◌∙◌, refl}
-use Rattle.jc_stripe.specs.Claim.{JoinClaim}
+use Rattle.jc_stripe.specs.Tickets.{JoinClaim}
 use Rattle.jc_stripe.specs.State.{State}
 use Rattle.jc_stripe.specs.Phases.{PicksUp}
 use Rattle.jc_stripe.specs.declared.begun.Picked.{Picked}
@@ -17,7 +17,7 @@ use Rattle.jc_world.proofs.machine.Machine.pick_up.Goals as goal
 -- what a call of `pick_up_at` tells, once its answer is known
 changed : (v : WorldState) (number : ℕ) (join : JoinClaim) (p q : Picked) (stripes : List State) → p ≡ q
     → (from : State) × (slice_get v.stripes number ≡ Some from) × (to : State) × PicksUp from join p to × (stripes ≡ slice_set v.stripes number to) → Changed v number (PicksAs join q) stripes
-changed v number join p q stripes is t = let P : Picked → Type 0 = λ x. PicksUp t.0 join x t.2 in record { from = t.0; at = t.1; to = t.2; step = subst P is t.3; stripes_are = t.4 }
+changed v number join p q stripes is t = let P : Picked → Type 0 = λ x. PicksUp t.0 join x t.2 in record { from = t.0; at = t.1; to = t.2; made = subst P is t.3; stripes_are = t.4 }
 
 pub pick_up_at-requires : goal.pick_up_at-requires
 pick_up_at-requires c =
@@ -58,7 +58,7 @@ returns-in-NotYet c =
     let number = c.stripe_of-stripe.result in
     let p = changed v number join c.pick_up_at.result (picked.NotYet back) c.pick_up_at.new.stripes.items c.in-NotYet.is c.pick_up_at.ensures in
     let joins : c.put_back.new.joins.items ≡ c.self.inside.joins.items =
-    c.put_back.ensures ∙ ap (insert c.take_join-join.new.joins.items c.take_join-join.result.1) p.step.1 ∙ c.take_join-join.ensures.back in
+    c.put_back.ensures ∙ ap (insert c.take_join-join.new.joins.items c.take_join-join.result.1) p.made.2 ∙ c.take_join-join.ensures.back in
     let next = world_of (record c.self.inside { stripes = c.pick_up_at.new.stripes; joins = c.put_back.new.joins }) in
     let R : WorldState → Type 0 = λ x. Happens x (event.PickUp c.args.call key) shown.Waits next in
     subst R c.self.view_is (picked_nothing v next c.args.call key join back number c.pick_up_at.new.stripes.items c.take_join-join.ensures.join c.stripe_of-stripe.ensures p

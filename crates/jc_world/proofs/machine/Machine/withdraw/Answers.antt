@@ -1,9 +1,9 @@
 use Rattle.std.proofs.Common.{◌≡◌, IsSomeAnd, is_some, slice_get, sym, subst, ap, ◌∙◌, refl}
-use Rattle.jc_stripe.specs.State.{claimed}
+use Rattle.jc_stripe.specs.State.{IsOut}
 use Rattle.jc_stripe.specs.Phases.{Withdraws}
 use Rattle.jc_world.specs.declared.event.WorldEvent.TheVariants as event
 use Rattle.jc_world.specs.declared.event.Shown.TheVariants as shown
-use Rattle.jc_world.specs.World.{WorldState, claim_of}
+use Rattle.jc_world.specs.World.{WorldState}
 use Rattle.jc_world.specs.Events.{Happens}
 use Rattle.jc_world.specs.Sound.{IsSoundWorld}
 use Rattle.jc_world.specs.Inside.{world_of}
@@ -24,7 +24,7 @@ withdraw_at-requires c =
     let v : WorldState = world_of c.self.inside in
     let one = untouched_part v c.args.self.now c.args.call c.args.key.now c.self.view_is c.requires.fits in
     let is = taken_is c.self.inside c.args.call c.args.key.now c.take_slot-slot.result one.0 c.self.invariant one.1 c.take_slot-slot.ensures.slot c.take_slot-slot.ensures.key in
-    let Q : Entry → Type 0 = λ e. IsSomeAnd (slice_get c.self.inside.stripes.items c.stripe_of-number.result) (λ s. IsSomeAnd (claimed s (claim_of e.0 e.1)) (λ r. r.first ≡ e.1.first)) in
+    let Q : Entry → Type 0 = λ e. IsSomeAnd (slice_get c.self.inside.stripes.items c.stripe_of-number.result) (λ s. IsOut s e.1.reservation) in
     subst Q (sym is) (may_withdraw_at v c.args.call c.args.key.now one.0 c.stripe_of-number.result one.1 c.stripe_of-number.ensures (subst IsSoundWorld (sym c.self.view_is) c.requires.sound))
 
 pub returns : goal.returns
@@ -34,8 +34,8 @@ returns c =
     let one = untouched_part v c.args.self.now c.args.call key c.self.view_is c.requires.fits in
     let is = taken_is c.self.inside c.args.call key c.take_slot-slot.result one.0 c.self.invariant one.1 c.take_slot-slot.ensures.slot c.take_slot-slot.ensures.key in
     let t = c.withdraw_at.ensures in
-    let C : Entry → Type 0 = λ e. Withdraws t.0 (claim_of e.0 e.1) t.2 in
-    let p : Changed v c.stripe_of-number.result (λ from to. Withdraws from (claim_of key one.0) to) c.withdraw_at.new.stripes.items = record { from = t.0; at = t.1; to = t.2; step = subst C is t.3; stripes_are = t.4 } in
+    let C : Entry → Type 0 = λ e. Withdraws t.0 e.1.reservation t.2 in
+    let p : Changed v c.stripe_of-number.result (λ from to. Withdraws from one.0.reservation to) c.withdraw_at.new.stripes.items = record { from = t.0; at = t.1; to = t.2; made = subst C is t.3; stripes_are = t.4 } in
     let next = world_of (record c.self.inside { stripes = c.withdraw_at.new.stripes; slots = c.take_slot-slot.new.slots }) in
     let R : WorldState → Type 0 = λ x. Happens x (event.Withdraw c.args.call key) shown.Withdrawn next in
     subst R c.self.view_is (withdrawn_at v next c.args.call key one.0 c.stripe_of-number.result c.withdraw_at.new.stripes.items (parts_of c.take_slot-slot.new.slots.items) one.1 c.stripe_of-number.ensures p c.take_slot-slot.ensures.parts refl)

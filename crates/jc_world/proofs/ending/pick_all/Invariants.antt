@@ -1,0 +1,15 @@
+use Rattle.std.proofs.Common.{vec_len}
+use Rattle.jc_world.specs.Ending.{AreLeft, HasJoins, NoneReserved}
+use Rattle.jc_world.proofs.ending.pick_all.Given as goal
+
+-- the joins that are left are still out in the stripes
+abbrev pub invariant-picking : goal.invariant-picking
+invariant-picking l = record {
+  left : AreLeft l.config l.stripes.items;
+  none : NoneReserved l.stripes.items;
+  joins : HasJoins l.config l.stripes.items l.joins.items;
+}
+
+-- one join less each time
+abbrev pub decreases-picking : goal.decreases-picking
+decreases-picking l = vec_len l.joins

@@ -1,0 +1,55 @@
+//! The end of a world: each ticket and each join is spent.
+ghost use Rattle.std.specs.Prelude.{◌≡◌};
+ghost use Rattle.jc_world.specs.Ending.{AreLeft, HasSlots, HasJoins, NoneReserved};
+
+use crate::slot::Slot;
+use jc_stripe::phase_laws::stays_reached;
+use jc_stripe::{Join, Picked, Stripe};
+use jc_types::config::Config;
+use jc_types::key::stripe_of;
+
+/// Ends all reservations: what was answered is committed, and all else is given back.
+pub(crate) fn end_all(
+    config: &Config,
+    stripes: &mut Vec<Stripe>,
+    mut slots: Vec<Slot>,
+    joins: &[Join],
+)
+    requires left { AreLeft config.now stripes.old.items }
+    requires slots { HasSlots config.now stripes.old.items slots.items }
+    requires joins { HasJoins config.now stripes.old.items joins.now }
+    ensures left { AreLeft config.now stripes.new.items }
+    ensures none { NoneReserved stripes.new.items }
+    ensures joins { HasJoins config.now stripes.new.items joins.now }
+{
+    stays_reached();
+    'ending: while let Some(slot) = slots.pop() {
+        let number = stripe_of(&slot.key(), config.stripes);
+        let stripe = &mut stripes[number];
+        slot.close(stripe);
+    }
+    slots.destroy_empty();
+}
+
+/// Picks up the answer of every join, where no load is under way any more.
+pub(crate) fn pick_all(config: &Config, stripes: &mut Vec<Stripe>, mut joins: Vec<Join>)
+    requires left { AreLeft config.now stripes.old.items }
+    requires none { NoneReserved stripes.old.items }
+    requires joins { HasJoins config.now stripes.old.items joins.items }
+{
+    stays_reached();
+    'picking: while let Some(join) = joins.pop() {
+        let number = stripe_of(join.key(), config.stripes);
+        let stripe = &mut stripes[number];
+        match stripe.pick_up(join) {
+            Picked::Answer {
+                reply: _,
+                place: _,
+                shared_with: _,
+            }
+            | Picked::Again => {}
+            Picked::NotYet(_join) => unreachable!(),
+        }
+    }
+    joins.destroy_empty();
+}
