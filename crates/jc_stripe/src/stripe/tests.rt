@@ -214,11 +214,10 @@ fn shares_a_load_with_its_joiner(rt: HostRuntime) -> Result<(), Fail> {
     is(&rt, "early", early, Phase::NotYet);
     is(&rt, "clear", stripe.is_clear(joiner, &a), false);
     let done = commit_load(&rt, &mut stripe, ticket, LoadAnswer::Found(one));
-    let one = Some(value(&rt, 1));
-    is(&rt, "load", done.reply, Reply::Value(one));
+    is(&rt, "load", done.reply, Reply::Value(Some(one)));
     is(&rt, "a join is left", stripe.is_idle(), false);
     let picked = pick_up(&rt, &mut stripe, joiner, &a, number);
-    is(&rt, "join", picked, Phase::Answer(Reply::Value(one), 1, 0));
+    is(&rt, "join", picked, Phase::Answer(done.reply, 1, 0));
     is(&rt, "idle", stripe.is_idle(), true);
     Ok(())
 }
