@@ -15,9 +15,9 @@ fn is<T: Copy + Debug + PartialEq>(rt: &impl Abort, at: &str, found: T, want: T)
     assert_eq!(rt; found, want, "{at}");
 }
 
-/// What a phase is told, without its ticket or join.
+/// What a phase gives, without its ticket or join.
 #[derive(Clone, Copy, Debug, PartialEq, Eq)]
-enum Told {
+enum Phase {
     Done(Reply, u32),
     Loads,
     Writes,
@@ -70,28 +70,28 @@ fn begin(rt: &impl Abort, stripe: &mut Stripe, who: (u32, u64), key: &Key, op: &
     stripe.begin(caller, key, op)
 }
 
-/// What a first phase is told. Its ticket or join is spent, and what that stands for stays out.
-fn spend(begun: Begun) -> Told {
+/// What a first phase gives. Its ticket or join is spent, and what that stands for stays out.
+fn spend(begun: Begun) -> Phase {
     match begun {
-        Begun::Done(done) => Told::Done(done.reply, done.place),
+        Begun::Done(done) => Phase::Done(done.reply, done.place),
         Begun::Load(ticket) => {
             let _ = ticket.spend();
-            Told::Loads
+            Phase::Loads
         }
         Begun::Write(ticket) => {
             let _ = ticket.spend();
-            Told::Writes
+            Phase::Writes
         }
         Begun::Joined(join) => {
             let load = join.load();
             join.spend();
-            Told::Joined(load)
+            Phase::Joined(load)
         }
-        Begun::Refused(refusal) => Told::Refused(refusal),
+        Begun::Refused(refusal) => Phase::Refused(refusal),
     }
 }
 
-fn told(rt: &impl Abort, stripe: &mut Stripe, who: (u32, u64), key: &Key, op: &Op) -> Told {
+fn told(rt: &impl Abort, stripe: &mut Stripe, who: (u32, u64), key: &Key, op: &Op) -> Phase {
     spend(begin(rt, stripe, who, key, op))
 }
 
@@ -144,7 +144,7 @@ fn commit_write(
 }
 
 /// Picks up what this call has joined.
-fn pick_up(rt: &impl Abort, stripe: &mut Stripe, caller: Caller, key: &Key, load: u64) -> Told {
+fn pick_up(rt: &impl Abort, stripe: &mut Stripe, caller: Caller, key: &Key, load: u64) -> Phase {
     let join = Join::new(caller, key, load);
     assert!(rt; stripe.holds_join(&join), "a join");
     match stripe.pick_up(join) {
@@ -152,11 +152,11 @@ fn pick_up(rt: &impl Abort, stripe: &mut Stripe, caller: Caller, key: &Key, load
             reply,
             place,
             shared_with,
-        } => Told::Answer(reply, place, shared_with),
-        Picked::Again => Told::Again,
+        } => Phase::Answer(reply, place, shared_with),
+        Picked::Again => Phase::Again,
         Picked::NotYet(join) => {
             join.spend();
-            Told::NotYet
+            Phase::NotYet
         }
     }
 }
@@ -171,7 +171,7 @@ fn does_a_put_at_once(rt: HostRuntime) -> Result<(), Fail> {
         &rt,
         "put",
         told(&rt, &mut stripe, (1, 1), &a, &put),
-        Told::Done(Reply::Unit, 0),
+        Phase::Done(Reply::Unit, 0),
     );
     let caller = Caller {
         session: 1,
@@ -207,18 +207,17 @@ fn shares_a_load_with_its_joiner(rt: HostRuntime) -> Result<(), Fail> {
     let ticket = load(&rt, &mut stripe, (1, 1), &a, &Op::Get);
     let number = ticket.reservation().number;
     let joined = told(&rt, &mut stripe, (2, 1), &a, &Op::Get);
-    is(&rt, "join", joined, Told::Joined(number));
+    is(&rt, "join", joined, Phase::Joined(number));
     let busy = told(&rt, &mut stripe, (3, 1), &a, &Op::Remove);
-    is(&rt, "busy", busy, Told::Refused(Refusal::Busy));
+    is(&rt, "busy", busy, Phase::Refused(Refusal::Busy));
     let early = pick_up(&rt, &mut stripe, joiner, &a, number);
-    is(&rt, "early", early, Told::NotYet);
+    is(&rt, "early", early, Phase::NotYet);
     is(&rt, "clear", stripe.is_clear(joiner, &a), false);
     let done = commit_load(&rt, &mut stripe, ticket, LoadAnswer::Found(one));
-    let reply = Reply::Value(Some(one));
-    is(&rt, "load", (done.reply, done.place), (reply, 0));
+    is(&rt, "load", done.reply, Reply::Value(Some(one)));
     is(&rt, "a join is left", stripe.is_idle(), false);
     let picked = pick_up(&rt, &mut stripe, joiner, &a, number);
-    is(&rt, "join", picked, Told::Answer(reply, 1, 0));
+    is(&rt, "join", picked, Phase::Answer(done.reply, 1, 0));
     is(&rt, "idle", stripe.is_idle(), true);
     Ok(())
 }
@@ -233,7 +232,7 @@ fn tells_a_joiner_of_a_withdrawn_load_to_retry(rt: HostRuntime) -> Result<(), Fa
         &rt,
         "join",
         told(&rt, &mut stripe, (2, 1), &a, &Op::Get),
-        Told::Joined(number),
+        Phase::Joined(number),
     );
     assert!(rt; stripe.holds(ticket.reservation()), "out");
     stripe.withdraw_load(ticket);
@@ -245,7 +244,7 @@ fn tells_a_joiner_of_a_withdrawn_load_to_retry(rt: HostRuntime) -> Result<(), Fa
         &rt,
         "join",
         pick_up(&rt, &mut stripe, joiner, &a, number),
-        Told::Again,
+        Phase::Again,
     );
     is(&rt, "idle", stripe.is_idle(), true);
     is(&rt, "nothing is appended", stripe.events_len(), 0);
@@ -281,7 +280,7 @@ fn writes_before_it_answers(rt: HostRuntime) -> Result<(), Fail> {
         &rt,
         "hit",
         told(&rt, &mut stripe, (1, 3), &a, &Op::Get),
-        Told::Done(Reply::Value(Some(one)), 2),
+        Phase::Done(Reply::Value(Some(one)), 2),
     );
     Ok(())
 }
@@ -303,7 +302,7 @@ fn evicts_no_reserved_key(rt: HostRuntime) -> Result<(), Fail> {
         &rt,
         "the least recently used is reserved",
         removed,
-        Told::Writes,
+        Phase::Writes,
     );
     is(
         &rt,
@@ -328,9 +327,9 @@ fn has_room_for_64_reservations(rt: HostRuntime) -> Result<(), Fail> {
     begin_many(&rt, &mut stripe, false);
     let load = Op::LoadAll { replace: true };
     let full = told(&rt, &mut stripe, (70, 1), &key(&rt, 70), &load);
-    is(&rt, "65", full, Told::Refused(Refusal::TooManyInFlight));
+    is(&rt, "65", full, Phase::Refused(Refusal::TooManyInFlight));
     let busy = told(&rt, &mut stripe, (70, 1), &key(&rt, 64), &load);
-    is(&rt, "reserved", busy, Told::Refused(Refusal::Busy));
+    is(&rt, "reserved", busy, Phase::Refused(Refusal::Busy));
     Ok(())
 }
 
@@ -342,11 +341,11 @@ fn has_room_for_64_joiners(rt: HostRuntime) -> Result<(), Fail> {
         &rt,
         "load",
         told(&rt, &mut stripe, (70, 1), &a, &Op::Get),
-        Told::Loads,
+        Phase::Loads,
     );
     begin_many(&rt, &mut stripe, true);
     let full = told(&rt, &mut stripe, (71, 1), &a, &Op::Get);
-    is(&rt, "65", full, Told::Refused(Refusal::TooManyJoiners));
+    is(&rt, "65", full, Phase::Refused(Refusal::TooManyJoiners));
     Ok(())
 }
 
@@ -360,17 +359,22 @@ fn keeps_three_places_for_a_step(rt: HostRuntime) -> Result<(), Fail> {
             &rt,
             "room",
             done,
-            Told::Done(Reply::Flag(false), call as u32),
+            Phase::Done(Reply::Flag(false), call as u32),
         );
     }
     let full = told(&rt, &mut stripe, (1, 14), &a, &Op::Remove);
-    is(&rt, "two places", full, Told::Refused(Refusal::HistoryFull));
+    is(
+        &rt,
+        "two places",
+        full,
+        Phase::Refused(Refusal::HistoryFull),
+    );
     let hit = told(&rt, &mut stripe, (1, 14), &a, &Op::Get);
     is(
         &rt,
         "one is enough",
         hit,
-        Told::Done(Reply::Value(None), 14),
+        Phase::Done(Reply::Value(None), 14),
     );
     Ok(())
 }
