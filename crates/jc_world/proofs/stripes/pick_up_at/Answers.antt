@@ -1,4 +1,4 @@
-use Rattle.std.proofs.Common.{◌≡◌, refl}
+use Rattle.std.proofs.Common.{refl}
 use Rattle.jc_stripe.specs.State.{IsJoined}
 use Rattle.jc_world.proofs.Numbered.{at_index}
 use Rattle.jc_world.proofs.stripes.pick_up_at.Goals as goal

@@ -1,4 +1,4 @@
-use Rattle.std.proofs.Common.{◌≡◌, IsSomeAnd, is_some, slice_get, sym, subst, ap, ◌∙◌, refl}
+use Rattle.std.proofs.Common.{IsSomeAnd, is_some, slice_get, sym, subst, ap, ◌∙◌, refl}
 use Rattle.jc_stripe.specs.State.{IsOut}
 use Rattle.jc_stripe.specs.Phases.{Withdraws}
 use Rattle.jc_world.specs.declared.event.WorldEvent.TheVariants as event
