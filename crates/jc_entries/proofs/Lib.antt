@@ -1,1 +1,3 @@
-pub mod UseLemmas
+pub mod CallerLemmas
+pub mod IsValidByUse
+pub mod Lru

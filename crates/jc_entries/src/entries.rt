@@ -1,143 +1,129 @@
-//! The entries of one stripe, in order of use. Their room is made with them.
+//! The entries of one stripe, in order of use (LRU), on the kit's `lru`.
 //!
-//! JSR 107 leaves eviction to the provider. Here the least recently used entry goes, unless its key
-//! is pinned, as that of a call which is at work outside.
-ghost use Rattle.std.specs.Prelude.{◌≡◌, ◌+◌, ◌<◌, ◌≤◌, ◌↔◌, [], ◌∷◌, ◌++◌, length, IsTrue, IfOk, vec_len, vec_capacity};
-ghost use Rattle.std.specs.FinMap as map;
+//! JSR 107 leaves eviction to the provider. Here the least recently used entry is evicted, unless its
+//! key is pinned, as is the key of a call that is asking the loader or the writer.
+ghost use Rattle.std.specs.Prelude.{◌≡◌, ◌+◌, ◌<◌, ◌≤◌, ◌↔◌, [], ◌∷◌, ◌++◌, length, true, is_some, IsOk, IsTrue, IfOk, OnOk, OnErr, vec_len, vec_capacity};
+ghost use Rattle.std.specs.Map.{keys_of};
+ghost use Rattle.std.specs.FinMap as finite;
 ghost use Rattle.jc_model.specs.Cache.{key_cmp};
 ghost use Rattle.jc_model.specs.Listed.{others};
-ghost use Rattle.jc_entries.specs.ByUse.{IsSound, keys_of, touched, evicted_of};
+ghost use Rattle.jc_entries.specs.ByUse.{IsValidByUse, after_touch, lru_victim};
 
 use jc_model::event::Cause;
-use jc_model::listed::{take_out, value_in};
-use jc_types::key::Key;
-use jc_types::limits::CAPACITY_MAX;
-use jc_types::value::Value;
+use jc_types::{CAPACITY_MAX, Key, Value};
+use lru::LruCache;
 use std::alloc::{AllocError, Global};
 use std::marker::Model;
+use std::num::NonZeroUsize;
 
 /// What became of an insertion.
 #[derive(Clone, Copy, Debug, PartialEq, Eq)]
 pub enum Inserted {
-    /// The entry is kept, as the most recently used, and nobody had to go.
+    /// The entry is kept, as the most recently used, and nobody was evicted.
     Kept,
     /// The entry is kept, as the most recently used, and the entry of this key was evicted for it.
     KeptAfter(Key),
     /// The entry isn't kept.
     ///
-    /// With [`Cause::Full`] there was no place, and each entry is pinned: none was evicted, and the
-    /// entries are as they were. With [`Cause::Memory`] there was no memory for the new entry; the
-    /// entry of the key beside it, if there is one, was evicted before that was known, and the others
-    /// are as they were. When memory is short isn't promised.
+    /// - [`Cause::Full`]: there was no room, and each entry is pinned. Nobody was evicted, and the
+    ///   entries are as they were.
+    /// - [`Cause::Memory`]: the new entry has a new key, and an allocation for it failed. If there was
+    ///   no room, the entry of the key beside the cause was evicted before that was known; otherwise
+    ///   there is no key beside it. The other entries are as they were, in their order. It isn't
+    ///   promised when memory is short, and not that it never is.
     NotKept(Cause, Option<Key>),
 }
 
 /// What one stripe caches: each key once, in order of use.
 ///
-/// How many entries may be kept is chosen when this is made, from 1 to [`CAPACITY_MAX`]. No method but
-/// [`new`](Entries::new) takes memory.
+/// How many entries may be kept is chosen when this is made, from 1 to [`CAPACITY_MAX`]. A look-up, a
+/// use, an insertion and a removal take as many steps with all of these entries as with one. If an
+/// insertion evicts, it also passes the pinned entries at the least recently used end.
 #[derive(Drop)]
 pub struct Entries {
-    // The most recently used first.
-    list: Vec<(Key, Value)>,
-    capacity: usize,
+    cache: LruCache<Key, Value>,
 }
 
 impl Model for Entries {
-    ghost use Rattle.jc_entries.specs.ByUse.{ByUse};
+    ghost use Rattle.jc_entries.specs.ByUse.{ByUse, IsValidByUse};
 
     ghost Value = { ByUse };
 
-    ghost use Rattle.jc_entries.specs.EntriesInside.{by_use_of, IsStored};
+    ghost use Rattle.jc_entries.specs.EntriesInside.{by_use_of};
 
     ghost view = { by_use_of };
 
-    ghost invariant = { IsStored };
+    ghost invariant = { λ e. IsValidByUse (by_use_of e) };
 }
 
 impl Entries {
-    ghost use Rattle.jc_entries.specs.Inserting.{Inserts, has_place};
+    ghost use Rattle.jc_entries.specs.Inserting.{Inserts, has_room_for};
 
     /// No entry, with room for `capacity` of them, from 1 to [`CAPACITY_MAX`].
     ///
-    /// An `Err` says that there was no memory for the room. The room is all taken here, so that no
-    /// later call is refused for memory.
+    /// The table in which keys are looked up is allocated here for `capacity` entries; an `Err` says
+    /// that this failed. Each entry has a block of its own, which is allocated when its key is inserted
+    /// and freed when it is removed or evicted.
     pub fn new(alloc: Global, capacity: usize) -> Result<Self, AllocError>
         requires least { 0 < capacity }
         requires most { capacity ≤ CAPACITY_MAX }
         ensures { IfOk result (λ e. e ≡ record { capacity = capacity; list = [] }) }
     {
-        let list = Vec::with_capacity(alloc, capacity)?;
-        Ok(Entries { list, capacity })
+        let capacity = NonZeroUsize::new(capacity).unwrap();
+        let cache = LruCache::new(alloc, capacity)?;
+        Ok(Entries { cache })
     }
 
     /// The key's value, or none. The order of use stays as it is.
     pub fn peek(&self, key: &Key) -> Option<Value>
-        ensures { result ≡ map.find key_cmp key.now self.now.list }
+        ensures { result ≡ finite.find key_cmp key.now self.now.list }
     {
-        value_in(&self.list, key)
+        self.cache.peek(key).copied()
     }
 
-    /// Makes the key's entry the most recently used. A key with no entry changes nothing.
+    /// Makes the key's entry the most recently used. If the key has no entry, nothing changes.
     pub fn touch(&mut self, key: &Key)
-        ensures after { self.new ≡ record self.old { list = touched key.now self.old.list } }
-        ensures sound { IsSound self.new }
+        ensures after { self.new ≡ record self.old { list = after_touch key.now self.old.list } }
+        ensures valid { IsValidByUse self.new }
     {
-        if let Some(value) = self.peek(key) {
-            put_first(&mut self.list, key, &value);
-        }
+        self.cache.promote(key);
     }
 
     /// Gives the key this value, and makes its entry the most recently used.
     ///
-    /// Where the key is there already, its value is replaced and nobody goes, however full the stripe
-    /// is. A new key into a full stripe first evicts the least recently used entry whose key isn't in
-    /// `pinned`, of which the order doesn't matter; where all are in it, the new entry isn't kept.
-    /// Whether and why is what this answers: see [`Inserted`].
+    /// If the key has an entry already, its value is replaced and nobody is evicted, however full the
+    /// stripe is. A new key into a full stripe first evicts the least recently used entry whose key
+    /// isn't in `pinned`, whose order doesn't matter; if all are in it, the new entry isn't kept.
+    /// The answer says whether the entry is kept, who was evicted and what a failed allocation leaves:
+    /// see [`Inserted`].
     pub fn insert(&mut self, key: &Key, value: &Value, pinned: &[Key]) -> Inserted
         ensures inserts { Inserts self.old self.new key.now value.now pinned.now result }
-        ensures sound { IsSound self.new }
+        ensures valid { IsValidByUse self.new }
     {
-        if self.has_place(key) {
-            put_first(&mut self.list, key, value);
-            return Inserted::Kept;
+        if self.has_room_for(key) {
+            return match self.put_first(key, value) {
+                Ok(()) => Inserted::Kept,
+                Err(_) => Inserted::NotKept(Cause::Memory, None),
+            };
         }
-        match victim(&self.list, pinned) {
-            Some(gone) => {
-                take_out(&mut self.list, &gone);
-                insert_first(&mut self.list, (*key, *value));
-                Inserted::KeptAfter(gone)
-            }
-            None => Inserted::NotKept(Cause::Full, None),
+        let Some(victim) = self.lru_victim(pinned) else {
+            return Inserted::NotKept(Cause::Full, None);
+        };
+        self.remove(&victim);
+        match self.put_first(key, value) {
+            Ok(()) => Inserted::KeptAfter(victim),
+            Err(_) => Inserted::NotKept(Cause::Memory, Some(victim)),
         }
     }
 
-    /// Whether the key is there already, or there is room for one more entry.
-    fn has_place(&self, key: &Key) -> bool
-        ensures { result ≡ has_place key.now self.now }
-    {
-        let has_room = self.list.len() < self.capacity;
-        has_room || self.peek(key).is_some()
-    }
-
-    /// Takes the key's entry out, and answers its value, or none where there was no entry. The others
+    /// Takes the key's entry out, and answers its value, or none if there was no entry. The others
     /// stay in their order.
     pub fn remove(&mut self, key: &Key) -> Option<Value>
-        ensures value { result ≡ map.find key_cmp key.now self.old.list }
+        ensures value { result ≡ finite.find key_cmp key.now self.old.list }
         ensures after { self.new ≡ record self.old { list = others key.now self.old.list } }
-        ensures sound { IsSound self.new }
+        ensures valid { IsValidByUse self.new }
     {
-        let value = self.peek(key);
-        take_out(&mut self.list, key);
-        value
-    }
-
-    /// The entries, the most recently used first, each key once.
-    pub fn list(&self) -> &[(Key, Value)]
-        ensures list { result.now ≡ self.now.list }
-        ensures sound { IsSound self.now }
-    {
-        &self.list
+        self.cache.pop(key)
     }
 
     /// Appends the keys to a vector that has room for them, the most recently used first.
@@ -146,65 +132,85 @@ impl Entries {
         ensures items { out.new.items ≡ out.old.items ++ keys_of self.now.list }
         ensures capacity { vec_capacity out.new ≡ vec_capacity out.old }
     {
-        for (key, _) in &self.list {
+        for (key, _) in &self.cache {
             out.push_reserved(*key);
         }
+    }
+
+    /// Appends the entries, the most recently used first.
+    ///
+    /// An `Err` says that there was no memory for them, and `out` is as it was. It doesn't come if `out`
+    /// has room for them all.
+    pub fn append_to(&self, out: &mut Vec<(Key, Value)>) -> Result<(), AllocError>
+        ensures ok { OnOk result (out.new.items ≡ out.old.items ++ self.now.list) }
+        ensures err { OnErr result (out.new.items ≡ out.old.items) }
+        ensures capacity { OnErr result (vec_capacity out.new ≡ vec_capacity out.old) }
+        ensures succeeds { vec_len out.old + length self.now.list ≤ vec_capacity out.old → IsOk result }
+        ensures valid { IsValidByUse self.now }
+    {
+        out.try_reserve(self.len())?;
+        for (key, value) in &self.cache {
+            out.push_reserved((*key, *value));
+        }
+        Ok(())
     }
 
     /// How many entries there are, at most [`capacity`](Entries::capacity).
     pub fn len(&self) -> usize
         ensures len { result ≡ length self.now.list }
-        ensures sound { IsSound self.now }
+        ensures valid { IsValidByUse self.now }
     {
-        self.list.len()
+        self.cache.len()
     }
 
     /// Whether there is no entry.
     pub fn is_empty(&self) -> bool
         ensures { IsTrue result ↔ (self.now.list ≡ []) }
     {
-        self.list.is_empty()
+        self.len() == 0
     }
 
     /// How many entries may be kept, from 1 to [`CAPACITY_MAX`].
     pub fn capacity(&self) -> usize
         ensures capacity { result ≡ self.now.capacity }
-        ensures sound { IsSound self.now }
+        ensures valid { IsValidByUse self.now }
     {
-        self.capacity
+        self.cache.cap().get()
     }
-}
 
-/// The key that has to go where there is no room: the last one that isn't pinned.
-fn victim(entries: &[(Key, Value)], pinned: &[Key]) -> Option<Key>
-    ensures { result ≡ evicted_of entries.now pinned.now }
-{
-    entries
-        .iter()
-        .rev()
-        .map(|entry| entry.0)
-        .find(|key| !pinned.contains(key))
-}
+    /// Whether the key has an entry already, or there is room for one more.
+    fn has_room_for(&self, key: &Key) -> bool
+        ensures room { result ≡ has_room_for key.now self.now }
+        ensures valid { IsValidByUse self.now }
+    {
+        let has_room = self.len() < self.capacity();
+        has_room || self.peek(key).is_some()
+    }
 
-/// Puts an entry in front and takes the key's earlier one out.
-fn put_first(entries: &mut Vec<(Key, Value)>, key: &Key, value: &Value)
-    requires { length (others key.now entries.old.items) < vec_capacity entries.old }
-    ensures items { entries.new.items ≡ (key.now, value.now) ∷ others key.now entries.old.items }
-    ensures capacity { vec_capacity entries.old ≤ vec_capacity entries.new }
-{
-    take_out(entries, key);
-    insert_first(entries, (*key, *value));
-}
+    /// Gives the key this value, and makes its entry the most recently used. If it had no entry, there
+    /// may be no memory for one, and nothing changes.
+    fn put_first(&mut self, key: &Key, value: &Value) -> Result<(), AllocError>
+        requires room { has_room_for key.now self.old ≡ true }
+        ensures ok { OnOk result (self.new ≡ record self.old { list = (key.now, value.now) ∷ others key.now self.old.list }) }
+        ensures err { OnErr result (self.new ≡ self.old) }
+        ensures is_new { OnErr result (finite.find key_cmp key.now self.old.list ≡ None) }
+        ensures valid { IsValidByUse self.new }
+    {
+        self.cache.put(*key, *value)?;
+        Ok(())
+    }
 
-/// Puts an entry in front, where there is room.
-fn insert_first(entries: &mut Vec<(Key, Value)>, entry: (Key, Value))
-    requires { vec_len entries.old < vec_capacity entries.old }
-    ensures items { entries.new.items ≡ entry ∷ entries.old.items }
-    ensures capacity { vec_capacity entries.old ≤ vec_capacity entries.new }
-{
-    match entries.insert(0, entry) {
-        Ok(()) => {}
-        Err(_) => unreachable!(),
+    /// The key that is evicted if there is no room: the least recently used one that isn't pinned.
+    fn lru_victim(&self, pinned: &[Key]) -> Option<Key>
+        ensures { result ≡ lru_victim self.now.list pinned.now }
+    {
+        let mut rest = self.cache.iter();
+        while let Some((key, _)) = rest.next_back() {
+            if !pinned.contains(key) {
+                return Some(*key);
+            }
+        }
+        None
     }
 }
 

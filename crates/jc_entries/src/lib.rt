@@ -1,4 +1,6 @@
-//! What one stripe caches, in order of use.
+//! What one stripe caches, in order of use (LRU).
 #![tactic(auto)]
 
 pub mod entries;
+
+pub use entries::{Entries, Inserted};

@@ -1,2 +1,7 @@
 pub mod Past
+pub mod Encoding
+pub mod Encodable
+pub mod Appending
+pub mod Decoding
+pub mod Stored
 pub mod HistoryInside

@@ -1,12 +1,16 @@
-//! The history of one stripe. Its room is made with it, and a place in it can be promised.
+//! The history of one stripe. Its room is made with it, and places in it can be promised.
 //!
-//! A call promises the places that its events need before it goes outside, and pushes its events when
-//! it is back: a promised push is never refused. What a call doesn't use it gives back.
-ghost use Rattle.std.specs.Prelude.{◌≡◌, ◌+◌, ◌<◌, ◌≤◌, ◌↔◌, [], length, vec_len, vec_capacity, ◌∷◌, ◌++◌, IsTrue, IfOk, if◌then◌else◌};
-ghost use Rattle.jc_history.specs.Past.{used, IsWithinLimit, promising, unpromising, happened};
+//! A promised place is room that is reserved for an event that is still to be pushed. A call has the
+//! places promised that its events need before it asks the loader or the writer, and pushes its events
+//! when it has the answer: such a push is never refused. The places that it doesn't use it gives back.
+ghost use Rattle.std.specs.Prelude.{◌≡◌, ◌+◌, ◌<◌, ◌≤◌, ◌^◌, ◌↔◌, [], length, vec_len, vec_capacity, ◌∷◌, ◌++◌, Some, IsTrue, IfOk, OnOk, OnErr, All, if◌then◌else◌, slice_get, slice_range};
+ghost use Rattle.jc_history.specs.Past.{places_used, IsWithinLimit, promise, unpromise, push, reply_in};
+ghost use Rattle.jc_history.specs.Stored.{events_at, IsComplete};
 
-use jc_model::event::Event;
-use jc_types::limits::HISTORY_MAX;
+use crate::decoding::{decode_event, decode_reply_of_step};
+use crate::encoding::{EVENT_ROOM, encode_event};
+use jc_model::event::{Event, Reply};
+use jc_types::HISTORY_MAX;
 use std::alloc::{AllocError, Global};
 use std::marker::Model;
 
@@ -14,11 +18,16 @@ use std::marker::Model;
 ///
 /// JSR 107 says nothing of a history: it is what a call's answer is checked against. The events and
 /// the promised places together are at most the limit, which is chosen when the history is made and
-/// stays. No method but [`new`](History::new) takes memory.
+/// stays. No method but [`new`](History::new) and [`append_to`](History::append_to) takes memory.
+///
+/// An event is stored as bytes. Beside its key and its values a hit takes 27 of them, and the largest
+/// step 47.
 #[derive(Drop)]
 pub struct History {
-    // The earliest event first.
-    events: Vec<Event>,
+    // The events one after another, the earliest first.
+    bytes: Vec<u8>,
+    // The index in `bytes` at which each event starts.
+    starts: Vec<u32>,
     limit: usize,
     promised: usize,
 }
@@ -36,17 +45,21 @@ impl Model for History {
 }
 
 impl History {
-    /// A history with no event, with room for `limit` events, at most [`HISTORY_MAX`].
+    /// A history with no event and with room for `limit` events, at most [`HISTORY_MAX`].
     ///
-    /// An `Err` says that there was no memory for the room. The room is all taken here, so that no
-    /// later call is refused for memory.
+    /// The room is all taken here, as much as the largest events need: for each place 47 bytes, a key
+    /// and six values of the greatest length, which makes 463 bytes, and 30 MB for [`HISTORY_MAX`]
+    /// places. Pages of it that no event has reached cost nothing if the system gives out a page when
+    /// it is first written. An `Err` says that an allocation failed.
     pub fn new(alloc: Global, limit: usize) -> Result<Self, AllocError>
         requires { limit ≤ HISTORY_MAX }
         ensures { IfOk result (λ h. h ≡ record { limit = limit; events = []; promised = 0 }) }
     {
-        let events = Vec::with_capacity(alloc, limit)?;
+        let bytes = Vec::with_capacity(alloc, limit * EVENT_ROOM)?;
+        let starts = Vec::with_capacity(alloc, limit)?;
         Ok(History {
-            events,
+            bytes,
+            starts,
             limit,
             promised: 0,
         })
@@ -54,17 +67,17 @@ impl History {
 
     /// Whether `n` more places could be promised now. It promises none.
     pub fn has_room(&self, n: usize) -> bool
-        ensures { IsTrue result ↔ (used self.now + n ≤ self.now.limit) }
+        ensures { IsTrue result ↔ (places_used self.now + n ≤ self.now.limit) }
     {
-        n <= self.limit - self.events.len() - self.promised
+        n <= self.limit - self.starts.len() - self.promised
     }
 
     /// Promises `n` places to later pushes, and says whether it did.
     ///
     /// A `false` says that fewer than `n` places are free, and leaves the history as it was.
     pub fn promise(&mut self, n: usize) -> bool
-        ensures fits { IsTrue result ↔ (used self.old + n ≤ self.old.limit) }
-        ensures after { self.new ≡ (if result then promising n self.old else self.old) }
+        ensures fits { IsTrue result ↔ (places_used self.old + n ≤ self.old.limit) }
+        ensures after { self.new ≡ (if result then promise n self.old else self.old) }
         ensures within { IsWithinLimit self.new }
     {
         let fits = self.has_room(n);
@@ -77,19 +90,19 @@ impl History {
     /// Gives `n` promised places back, which are then free.
     pub fn unpromise(&mut self, n: usize)
         requires { n ≤ self.old.promised }
-        ensures after { self.new ≡ unpromising n self.old }
+        ensures after { self.new ≡ unpromise n self.old }
         ensures within { IsWithinLimit self.new }
     {
         self.promised -= n;
     }
 
-    /// Adds an event behind the others, in a place that was promised. It is never refused.
+    /// Appends an event, in a place that was promised. It is never refused, and takes no memory.
     pub fn push(&mut self, event: &Event)
         requires { 0 < self.old.promised }
-        ensures after { self.new ≡ happened event.now self.old }
+        ensures after { self.new ≡ push event.now self.old }
         ensures within { IsWithinLimit self.new }
     {
-        push_copy(&mut self.events, event);
+        append_event(&mut self.bytes, &mut self.starts, event);
         self.promised -= 1;
     }
 
@@ -98,14 +111,14 @@ impl History {
         ensures len { result ≡ length self.now.events }
         ensures within { IsWithinLimit self.now }
     {
-        self.events.len()
+        self.starts.len()
     }
 
     /// Whether there is no event yet.
     pub fn is_empty(&self) -> bool
         ensures { IsTrue result ↔ (self.now.events ≡ []) }
     {
-        self.events.is_empty()
+        self.starts.is_empty()
     }
 
     /// How many places are promised and not used or given back.
@@ -124,124 +137,92 @@ impl History {
         self.limit
     }
 
-    /// The events, the earliest first.
-    pub fn events(&self) -> &[Event]
-        ensures events { result.now ≡ self.now.events }
-        ensures within { IsWithinLimit self.now }
+    /// The event at a place, as it was pushed. The earliest is at 0.
+    pub fn event(&self, place: usize) -> Event
+        requires { place < length self.now.events }
+        ensures { slice_get self.now.events place ≡ Some result }
     {
-        &self.events
+        event_of(&self.bytes, &self.starts, place)
+    }
+
+    /// The reply of the step at a place, or `None` if no event or an eviction is there.
+    ///
+    /// It reads the reply alone, and so is quicker than [`event`](History::event).
+    pub fn reply(&self, place: usize) -> Option<Reply>
+        ensures { result ≡ reply_in (slice_get self.now.events place) }
+    {
+        reply_of(&self.bytes, &self.starts, place)
+    }
+
+    /// Appends to `out` the events from the place `from` up to the place `to`, which is left out.
+    ///
+    /// An `Err` says that an allocation failed, and leaves `out` as it was.
+    pub fn append_to(&self, from: usize, to: usize, out: &mut Vec<Event>) -> Result<(), AllocError>
+        requires order { from ≤ to }
+        requires within { to ≤ length self.now.events }
+        ensures ok { OnOk result (out.new.items ≡ out.old.items ++ slice_range self.now.events from to) }
+        ensures err { OnErr result (out.new.items ≡ out.old.items) }
+    {
+        out.reserve(to - from)?;
+        for place in from..to {
+            push_copy(out, &self.event(place));
+        }
+        Ok(())
     }
 }
 
-/// Appends a copy, where there is room.
+/// Appends the bytes of an event, and the index at which they start.
+fn append_event(bytes: &mut Vec<u8>, starts: &mut Vec<u32>, event: &Event)
+    requires complete { All (IsComplete bytes.old.items) starts.old.items }
+    requires bytes_room { vec_len bytes.old + EVENT_ROOM ≤ vec_capacity bytes.old }
+    requires starts_room { vec_len starts.old < vec_capacity starts.old }
+    requires small { vec_len bytes.old < 2 ^ 32 }
+    ensures events { events_at bytes.new.items starts.new.items
+        ≡ events_at bytes.old.items starts.old.items ++ event.now ∷ [] }
+    ensures complete { All (IsComplete bytes.new.items) starts.new.items }
+    ensures few { vec_len bytes.new ≤ vec_len bytes.old + EVENT_ROOM }
+    ensures bytes_room { vec_capacity bytes.old ≤ vec_capacity bytes.new }
+    ensures len { vec_len starts.new ≡ vec_len starts.old + 1 }
+    ensures starts_room { vec_capacity starts.new ≡ vec_capacity starts.old }
+{
+    starts.push_reserved(bytes.len() as u32);
+    encode_event(bytes, event);
+}
+
+/// The event that starts at the index that is at a place.
+#[tactic(auto, unfolding(crate::specs::Stored::event_at))]
+fn event_of(bytes: &[u8], starts: &[u32], place: usize) -> Event
+    requires place { place < length starts.now }
+    requires complete { All (IsComplete bytes.now) starts.now }
+    ensures { slice_get (events_at bytes.now starts.now) place ≡ Some result }
+{
+    let start = starts[place] as usize;
+    decode_event(&bytes[start..])
+}
+
+/// The reply of the step that starts at the index that is at a place.
+#[tactic(auto, unfolding(crate::specs::Stored::event_at))]
+fn reply_of(bytes: &[u8], starts: &[u32], place: usize) -> Option<Reply>
+    requires { All (IsComplete bytes.now) starts.now }
+    ensures { result ≡ reply_in (slice_get (events_at bytes.now starts.now) place) }
+{
+    if place < starts.len() {
+        let start = starts[place] as usize;
+        decode_reply_of_step(&bytes[start..])
+    } else {
+        None
+    }
+}
+
+/// Appends a copy, for which there is room.
 fn push_copy<T: Copy>(items: &mut Vec<T>, item: &T)
     requires { vec_len items.old < vec_capacity items.old }
     ensures items { items.new.items ≡ items.old.items ++ item.now ∷ [] }
+    ensures len { vec_len items.new ≡ vec_len items.old + 1 }
     ensures capacity { vec_capacity items.new ≡ vec_capacity items.old }
 {
     items.push_reserved(*item);
 }
 
 #[cfg(test)]
-mod tests {
-    use super::*;
-    use jc_model::event::Cause;
-    use jc_types::key::Key;
-    use std::fmt::Debug;
-    use std::process::Abort;
-    use std::test::Fail;
-
-    fn is<T: Copy + Debug + PartialEq>(rt: &impl Abort, at: &str, found: T, want: T) {
-        assert_eq!(rt; found, want, "{at}");
-    }
-
-    /// Asserts what becomes of a promise beside an earlier one: whether it fits, and how many places are promised then.
-    fn promises(
-        rt: &impl Abort,
-        alloc: Global,
-        (limit, promised): (usize, usize),
-        asked: usize,
-        (fits, left): (bool, usize),
-    ) -> Result<(), Fail> {
-        assert!(rt; limit <= HISTORY_MAX);
-        let mut history = History::new(alloc, limit)?;
-        let at = format!(in alloc; "{asked} more beside {promised} of {limit}")?;
-        is(rt, &at, history.promise(promised), true);
-        is(rt, &at, history.has_room(asked), fits);
-        is(rt, &at, history.promised(), promised);
-        is(rt, &at, history.promise(asked), fits);
-        is(rt, &at, history.promised(), left);
-        is(rt, &at, history.limit(), limit);
-        Ok(())
-    }
-
-    #[test]
-    fn promises_up_to_the_limit(rt: HostRuntime) -> Result<(), Fail> {
-        for (limit, promised, asked, fits, left) in [
-            (16, 0, 16, true, 16),
-            (16, 0, 17, false, 0),
-            (16, 13, 3, true, 16),
-            (16, 13, 4, false, 13),
-            (16, 16, 0, true, 16),
-            (16, 1, usize::MAX, false, 1),
-            (0, 0, 0, true, 0),
-            (0, 0, 1, false, 0),
-            (HISTORY_MAX, HISTORY_MAX - 1, 1, true, HISTORY_MAX),
-            (HISTORY_MAX, HISTORY_MAX - 1, 2, false, HISTORY_MAX - 1),
-        ] {
-            promises(&rt, rt.alloc(), (limit, promised), asked, (fits, left))?;
-        }
-        Ok(())
-    }
-
-    fn gone(key: &[u8], cause: Cause) -> Result<Event, Fail> {
-        let key = Key::new(key)?;
-        Ok(Event::Evict { key, cause })
-    }
-
-    /// Pushes into a place that is promised.
-    fn pushes(rt: &impl Abort, history: &mut History, event: &Event) {
-        assert!(rt; 0 < history.promised());
-        history.push(event);
-    }
-
-    /// How many events there are, and how many places are promised.
-    fn counts(history: &History) -> (usize, usize) {
-        (history.len(), history.promised())
-    }
-
-    #[test]
-    fn pushes_into_promised_places(rt: HostRuntime) -> Result<(), Fail> {
-        let first = gone(b"a", Cause::Full)?;
-        let second = gone(b"b", Cause::Memory)?;
-        let mut history = History::new(rt.alloc(), 4)?;
-        is(&rt, "new", history.is_empty(), true);
-        is(&rt, "new", history.promise(3), true);
-        pushes(&rt, &mut history, &first);
-        pushes(&rt, &mut history, &second);
-        is(&rt, "two of three", history.events(), &[first, second]);
-        is(&rt, "two of three", counts(&history), (2, 1));
-        is(&rt, "two of three", history.is_empty(), false);
-        is(&rt, "2 events, 1 promised, of 4", history.promise(2), false);
-        assert!(rt; 0 < history.promised());
-        history.unpromise(1);
-        is(&rt, "one given back", counts(&history), (2, 0));
-        is(
-            &rt,
-            "2 events, none promised, of 4",
-            history.promise(2),
-            true,
-        );
-        pushes(&rt, &mut history, &first);
-        pushes(&rt, &mut history, &first);
-        is(
-            &rt,
-            "full",
-            history.events(),
-            &[first, second, first, first],
-        );
-        is(&rt, "full", history.has_room(1), false);
-        is(&rt, "full", history.has_room(0), true);
-        Ok(())
-    }
-}
+mod tests;

@@ -1,2 +1,3 @@
-pub mod Parking
-pub mod Keeping
+pub mod CallerLemmas
+pub mod Ending
+pub mod JoinerList

@@ -1,14 +1,13 @@
 -- What the withdrawal of a load leaves of its joiners.
---     sent_away     a joiner that is to begin anew, if it waits for the load
---     dissolved     the joiners once the load is withdrawn
+--     told_to_retry      a joiner that is told to retry, if it waits for the load
+--     after_dissolve     the joiners after the load is withdrawn
 use Rattle.std.specs.Prelude.{ℕ, List, map, if◌then◌else◌}
 use Rattle.jc_inflight.specs.declared.joiner.Joiner.{Joiner}
-use Rattle.jc_inflight.specs.declared.joiner.Parked.TheVariants.{Again}
-use Rattle.jc_inflight.specs.declared.joiner.JoinState.TheVariants.{Parked}
-use Rattle.jc_inflight.specs.Joined.{waits_for}
+use Rattle.jc_inflight.specs.declared.joiner.JoinState.TheVariants.{Again}
+use Rattle.jc_inflight.specs.Joining.{waits_for}
 
-abbrev pub sent_away : ℕ → Joiner → Joiner
-sent_away load j = if waits_for load j then record j { state = Parked Again } else j
+abbrev pub told_to_retry : ℕ → Joiner → Joiner
+told_to_retry load j = if waits_for load j then record j { state = Again } else j
 
-abbrev pub dissolved : ℕ → List Joiner → List Joiner
-dissolved load joiners = map (sent_away load) joiners
+abbrev pub after_dissolve : ℕ → List Joiner → List Joiner
+after_dissolve load joiners = map (told_to_retry load) joiners

@@ -1,6 +1,6 @@
-pub mod Joined
+pub mod Joining
 pub mod Resolving
 pub mod Dissolving
 pub mod Taking
-pub mod Sound
+pub mod IsJoinerList
 pub mod Inside

@@ -1,101 +1,74 @@
-//! One joiner, and what it is told.
-use jc_types::key::Key;
+//! One joiner, and how far its load is.
+ghost use Rattle.std.specs.Prelude.{◌≡◌};
+ghost use Rattle.jc_inflight.specs.Joining.{belongs_to, is_waiting, waits_for};
 
-/// What is parked for a joiner once its load is over.
+use jc_types::{Caller, Key};
+
+/// How far the load of a joiner is.
 #[derive(Clone, Copy, Debug, PartialEq, Eq)]
-pub enum Parked {
+pub enum JoinState {
+    /// The load isn't over.
+    Waiting,
     /// The load was committed.
-    Answer {
+    Answered {
         /// The place of the joiner's own shared step in the history of the stripe.
         place: u32,
         /// The place of the step that loaded.
         shared_with: u32,
     },
-    /// The load was withdrawn: the joiner begins anew.
+    /// The load was withdrawn: the call is told to retry.
     Again,
 }
 
-/// How far a joiner is.
-#[derive(Clone, Copy, Debug, PartialEq, Eq)]
-pub enum JoinState {
-    /// Its load isn't over.
-    Waiting,
-    /// Its load is over, and this was not taken yet.
-    Parked(Parked),
+impl JoinState {
+    /// Whether the load isn't over.
+    pub fn is_waiting(&self) -> bool
+        ensures { result ≡ is_waiting self.now }
+    {
+        matches!(self, JoinState::Waiting)
+    }
 }
 
 /// A call that has joined the load of its key.
 #[derive(Clone, Copy, Debug, PartialEq, Eq)]
 pub struct Joiner {
-    /// The session that calls.
-    pub session: u32,
-    /// The call's number, which rises in the session.
-    pub number: u64,
+    /// Who calls.
+    pub caller: Caller,
     /// The key.
     pub key: Key,
     /// The load that it joined: the number of the reservation that loads.
     pub load: u64,
-    /// How far it is.
+    /// How far that load is.
     pub state: JoinState,
 }
 
-/// What a joiner is told that asks for its answer.
-#[derive(Clone, Copy, Debug, PartialEq, Eq)]
-pub enum Taken {
-    /// The load was committed.
-    Answer {
-        /// The place of the joiner's own shared step in the history of the stripe.
-        place: u32,
-        /// The place of the step that loaded.
-        shared_with: u32,
-    },
-    /// The load was withdrawn: begin anew.
-    Again,
-    /// The load isn't over: ask later.
-    NotYet,
-}
-
-impl JoinState {
-    ghost use Rattle.std.specs.Prelude.{◌≡◌};
-    ghost use Rattle.jc_inflight.specs.Taking.{told, is_over};
-
-    /// What a joiner in this state is told.
-    pub(crate) fn told(self) -> Taken
-        ensures { result ≡ told self }
-    {
-        match self {
-            JoinState::Waiting => Taken::NotYet,
-            JoinState::Parked(Parked::Answer { place, shared_with }) => Taken::Answer {
-                place,
-                shared_with,
+/// A joiner that no call made, with which a table fills its free places.
+impl Default for Joiner {
+    fn default() -> Joiner {
+        Joiner {
+            caller: Caller {
+                session: 0,
+                call: 0,
             },
-            JoinState::Parked(Parked::Again) => Taken::Again,
+            key: Key::default(),
+            load: 0,
+            state: JoinState::Waiting,
         }
-    }
-
-    /// Whether something is parked.
-    pub(crate) fn is_over(self) -> bool
-        ensures { result ≡ is_over self }
-    {
-        matches!(self, JoinState::Parked(_))
     }
 }
 
 impl Joiner {
-    ghost use Rattle.std.specs.Prelude.{◌≡◌};
-    ghost use Rattle.jc_inflight.specs.Joined.{is_of, waits_for};
-
-    /// Whether it is this call's, at this key.
-    pub(crate) fn is_of(&self, session: u32, number: u64, key: &Key) -> bool
-        ensures { result ≡ is_of session number key.now self.now }
+    /// Whether it is this caller's, at this key.
+    pub fn belongs_to(&self, caller: Caller, key: &Key) -> bool
+        ensures { result ≡ belongs_to caller key.now self.now }
     {
-        self.session == session && self.number == number && *key == self.key
+        self.caller == caller && *key == self.key
     }
 
     /// Whether it waits for this load.
-    pub(crate) fn waits_for(&self, load: u64) -> bool
+    pub fn waits_for(&self, load: u64) -> bool
         ensures { result ≡ waits_for load self.now }
     {
-        self.load == load && !self.state.is_over()
+        self.load == load && self.state.is_waiting()
     }
 }

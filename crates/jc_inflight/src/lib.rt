@@ -1,10 +1,12 @@
-//! Which calls have joined the load of another call, and the answers that are parked for them.
+//! Which calls have joined the load of another call, and how far that load is.
 //!
-//! A `get` whose key is missing and is being loaded by another call asks no loader of its own: it joins that load and waits. When
-//! the load commits, its answer is parked for each joiner; where the load is withdrawn, each is told to begin anew (JSR 107,
-//! "Integration": read-through; that loads are shared is this provider's own).
+//! A `get` whose key is missing and is being loaded by another call asks no loader of its own: it joins that load and waits
+//! (request coalescing). When the load commits, each joiner has its answer; when it is withdrawn, each is told to retry
+//! (JSR 107, "Integration": read-through; that loads are shared is this provider's own).
 #![tactic(auto)]
 
-pub mod joiner;
-pub mod joiners;
-mod room;
+mod joiner;
+mod joiners;
+
+pub use joiner::{JoinState, Joiner};
+pub use joiners::Joiners;

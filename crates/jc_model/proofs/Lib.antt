@@ -5,5 +5,6 @@ pub mod Readings
 pub mod Accepting
 pub mod Order
 mod Rows
-pub mod OneStripe
+pub mod Openings
 pub mod Whole
+pub mod TableLaws

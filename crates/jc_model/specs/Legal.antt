@@ -4,16 +4,18 @@
 --     in_order           callers' order: the numbers of a session's steps never fall, and no two steps have session, number and key
 --                        in common
 --     event_key          the key of an event
---     of_one_stripe      all these keys are of one stripe
---     IsHistory          the events are lawful groups from a cache, in the callers' order, and leave another cache
---     Legal              a legal history of one stripe from an opening, as `legal` checks it
 --     is_of_stripe       whether an event's key is of a stripe
 --     of_stripe          the events whose key is of a stripe
---     IsWholeHistory     a legal history over all stripes: the part of each stripe is one, places counted in that part
-use Rattle.std.specs.Prelude.{◌≡◌, ◌==◌, ◌≤◌, ◌<◌, ℕ, List, [], ◌∷◌, ◌++◌, length, map, filter, Bool, true, not, ◌&&◌, ◌||◌, IsTrue, nat_lt, Ok}
+--     IsOpening          what a stripe's history may begin with: at most `capacity` entries, and only keys of the stripe
+--     IsHistory          the events are lawful groups from a cache, in the callers' order, and leave another cache
+--     Legal              a legal history of one stripe: of a lawful configuration, from an opening of the stripe, as `legal`
+--                        checks it
+--     IsWholeHistory     a legal history over all stripes: of a lawful configuration, from an opening of each stripe, and the part
+--                        of each stripe is a history, places counted in that part
+use Rattle.std.specs.Prelude.{◌≡◌, ◌==◌, ◌≤◌, ◌<◌, ℕ, List, [], ◌∷◌, filter, Bool, true, not, ◌&&◌, ◌||◌, IsTrue, nat_lt, Ok}
 use Rattle.std.specs.List.{list_all}
 use Rattle.std.specs.Cmp.Lexicographic.{pointwise}
-use Rattle.std.specs.FinMap.{from_entries}
+use Rattle.std.specs.FinMap.{contains_key, from_entries, len}
 use Rattle.jc_types.specs.declared.caller.Caller.{Caller}
 use Rattle.jc_types.specs.declared.config.Config.{Config}
 use Rattle.jc_types.specs.Limits.{checked}
@@ -41,15 +43,24 @@ abbrev pub in_order : List Event → Bool
 in_order [] = true
 in_order (event ∷ events) = list_all (may_follow event) events && in_order events
 
--- 2. One stripe.
+-- 2. Keys of a stripe.
 
 abbrev pub event_key : Event → Bytes
 event_key (Step who op key out shared reply) = key
 event_key (Evict key cause) = key
 
-abbrev pub of_one_stripe : ℕ → List Bytes → Bool
-of_one_stripe stripes [] = true
-of_one_stripe stripes (key ∷ keys) = list_all (λ other. stripe_of other stripes == stripe_of key stripes) keys
+abbrev pub is_of_stripe : ℕ → ℕ → Event → Bool
+is_of_stripe stripes stripe event = stripe_of (event_key event) stripes == stripe
+
+abbrev pub of_stripe : ℕ → ℕ → List Event → List Event
+of_stripe stripes stripe events = filter (is_of_stripe stripes stripe) events
+
+-- what a stripe's history may begin with
+pub record IsOpening (config : Config) (stripe : ℕ) (cache : Cache) : Type 0 where
+  pub few : len cache ≤ config.capacity
+  pub own : (key : Bytes) → IsTrue (contains_key cache key) → stripe_of key config.stripes ≡ stripe
+
+-- 3. Histories.
 
 pub record IsHistory (config : Config) (cache : Cache) (events : List Event) (next : Cache) : Type 0 where
   pub groups : List Group
@@ -61,20 +72,15 @@ pub record IsHistory (config : Config) (cache : Cache) (events : List Event) (ne
 pub record Legal (config : Config) (opening : List (Bytes × Bytes)) (events : List Event) : Type 0 where
   pub config_fits : checked config ≡ Ok tt
   pub once : IsTrue (apart opening)
-  pub few : length opening ≤ config.capacity
-  pub stripe : IsTrue (of_one_stripe config.stripes (map (λ e. e.0) opening ++ map event_key events))
+  pub stripe : ℕ
+  pub opens : IsOpening config stripe (from_entries opening)
+  pub own : IsTrue (list_all (is_of_stripe config.stripes stripe) events)
   pub next : Cache
   pub history : IsHistory config (from_entries opening) events next
 
--- 3. All stripes.
-
-abbrev pub is_of_stripe : ℕ → ℕ → Event → Bool
-is_of_stripe stripes stripe event = stripe_of (event_key event) stripes == stripe
-
-abbrev pub of_stripe : ℕ → ℕ → List Event → List Event
-of_stripe stripes stripe events = filter (is_of_stripe stripes stripe) events
-
 -- `opening` and `next` give each stripe's cache
 pub record IsWholeHistory (config : Config) (opening : ℕ → Cache) (events : List Event) (next : ℕ → Cache) : Type 0 where
+  pub config_fits : checked config ≡ Ok tt
+  pub openings : (stripe : ℕ) → stripe < config.stripes → IsOpening config stripe (opening stripe)
   pub parts : (stripe : ℕ) → stripe < config.stripes → IsHistory config (opening stripe) (of_stripe config.stripes stripe events) (next stripe)
   pub order : IsTrue (in_order events)

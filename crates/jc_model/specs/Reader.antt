@@ -1,6 +1,9 @@
 -- How the checker `legal` goes over a history, event by event: what it keeps, and what it tests of the next event. Nobody above
 -- needs to believe it, since `legal` is proved to answer `Legal`. Where the reader stands is a `Stage`: outside a group, behind a
 -- group's victim, or behind a group's step.
+--     first_stripe                 the stripe of the first key, of the opening or else of the events, and 0 if there is no key
+--     are_of_stripe                the keys of the opening and of the events are all of this stripe
+--     are_of_one_stripe            they are all of one stripe
 --     new_group                    a group of which the step was read
 --     opened                       what is kept of a group whose step stands at a place
 --     cause_fits                   the step's own key may go for this cause
@@ -18,10 +21,12 @@
 --     Accepts                      each of the events fits behind those before it
 --     comes_before                 an event is a step of the same session with a lower number than another
 use Rattle.std.specs.Prelude.{◌≡◌, ◌==◌, ◌&&◌, ◌||◌, ℕ, ◌+◌, List, [], ◌∷◌, Bool, true, false, IsTrue, Option, None, Some, is_none, nat_le, nat_lt, if◌then◌else◌}
+use Rattle.std.specs.List.{list_all}
 use Rattle.std.specs.Cmp.Lexicographic.{pointwise}
 use Rattle.std.specs.FinMap.{len, remove}
 use Rattle.jc_types.specs.declared.caller.Caller.{Caller}
 use Rattle.jc_types.specs.declared.config.Config.{Config}
+use Rattle.jc_types.specs.Stripes.{stripe_of}
 use Rattle.jc_model.specs.declared.event.Op.{Op}
 use Rattle.jc_model.specs.declared.event.Out.{Out}
 use Rattle.jc_model.specs.declared.event.Reply.{Reply}
@@ -34,7 +39,22 @@ use Rattle.jc_model.specs.declared.reader.Stage.{Stage}
 use Rattle.jc_model.specs.declared.reader.Stage.TheVariants.{Outside, Picked, Inside}
 use Rattle.jc_model.specs.Cache.{Bytes, Cache}
 use Rattle.jc_model.specs.Group.{Group, shared_event, cache_after_step}
+use Rattle.jc_model.specs.Legal.{event_key, is_of_stripe}
 use Rattle.jc_model.specs.Lawful.{is_joinable, inserts, IsLawfulStep}
+
+-- the stripe of the first key, of the opening or else of the events, and 0 if there is no key
+abbrev pub first_stripe : ℕ → List (Bytes × Bytes) → List Event → ℕ
+first_stripe stripes (entry ∷ opening) events = stripe_of entry.0 stripes
+first_stripe stripes [] (event ∷ events) = stripe_of (event_key event) stripes
+first_stripe stripes [] [] = 0
+
+-- the keys of the opening and of the events are all of this stripe
+abbrev pub are_of_stripe : ℕ → ℕ → List (Bytes × Bytes) → List Event → Bool
+are_of_stripe stripes stripe opening events =
+    list_all (λ entry. stripe_of entry.0 stripes == stripe) opening && list_all (is_of_stripe stripes stripe) events
+
+abbrev pub are_of_one_stripe : ℕ → List (Bytes × Bytes) → List Event → Bool
+are_of_one_stripe stripes opening events = are_of_stripe stripes (first_stripe stripes opening events) opening events
 
 -- a group of which the step was read
 abbrev pub new_group : Option Bytes → Caller → Op → Bytes → Out → Reply → Group

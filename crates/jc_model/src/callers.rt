@@ -13,27 +13,29 @@ fn does_follow(event: &Event, later: &Event) -> bool
     ensures { result ≡ may_follow event.now later.now }
 {
     match later {
-        Event::Step { caller, key, .. } => may_come(event, caller, key),
+        Event::Step { caller, key, .. } => event.may_come(caller, key),
         Event::Evict { .. } => true,
     }
 }
 
-/// Whether a step of this caller at this key may come after an event: the call's number is above the event's, or they
-/// are one call at two keys. Another session's event is no matter.
-fn may_come(event: &Event, caller: &Caller, key: &Key) -> bool
-    ensures { result ≡ may_come event.now caller.now key.now }
-{
-    match event {
-        Event::Step {
-            caller: who,
-            key: k,
-            ..
-        } => {
-            who.session != caller.session
-                || who.call < caller.call
-                || (who.call == caller.call && *k != *key)
+impl Event {
+    /// Whether a step of this caller at this key may come after the event, in the callers' order: the call's number is
+    /// above the event's, or they are one call at two keys. Another session's event is no matter.
+    pub fn may_come(&self, caller: &Caller, key: &Key) -> bool
+        ensures { result ≡ may_come self.now caller.now key.now }
+    {
+        match self {
+            Event::Step {
+                caller: who,
+                key: k,
+                ..
+            } => {
+                who.session != caller.session
+                    || who.call < caller.call
+                    || (who.call == caller.call && *k != *key)
+            }
+            Event::Evict { .. } => true,
         }
-        Event::Evict { .. } => true,
     }
 }
 

@@ -1,5 +1,5 @@
 //! A cache's contents: a map from keys to values (JSR 107, "Fundamentals").
-ghost use Rattle.std.specs.Prelude.{◌≡◌, ◌↔◌, ◌++◌, IsTrue, IfOk, OnOk, OnErr, is_ok, None};
+ghost use Rattle.std.specs.Prelude.{◌≡◌, ◌↔◌, ◌++◌, IsTrue, IfOk, OnOk, OnErr, is_ok, None, Some};
 ghost use Rattle.std.specs.FinMap as map;
 ghost use Rattle.jc_model.specs.Cache.{entry_at, with_entry};
 
@@ -47,7 +47,7 @@ impl Contents {
     {
         let mut contents = Contents::new(alloc);
         for (key, value) in entries.iter().rev() {
-            contents.set(key, Some(*value))?;
+            contents.insert(key, *value)?;
         }
         Ok(contents)
     }
@@ -73,22 +73,37 @@ impl Contents {
         self.map.is_empty()
     }
 
-    /// Gives the key this value, or none, and leaves the other keys as they are. Where memory is refused the map is
-    /// as it was. To take out never fails.
+    /// Gives the key this value. The other keys keep theirs. The only error is that an allocation failed: the map is
+    /// then as it was.
+    pub fn insert(&mut self, key: &Key, value: Value) -> Result<(), AllocError>
+        ensures ok { OnOk result (self.new ≡ with_entry self.old key.now (Some value)) }
+        ensures err { OnErr result (self.new ≡ self.old) }
+    {
+        self.map.insert(*key, value)?;
+        Ok(())
+    }
+
+    /// Takes the key's entry out, if there is one. The other keys keep theirs. It takes no memory.
+    pub fn remove(&mut self, key: &Key)
+        ensures { self.new ≡ with_entry self.old key.now None }
+    {
+        self.map.remove(key);
+    }
+
+    /// Inserts a value at the key, or removes the key's entry. An error is that of [`insert`](Self::insert); to remove
+    /// never fails.
     pub fn set(&mut self, key: &Key, entry: Option<Value>) -> Result<(), AllocError>
         ensures ok { OnOk result (self.new ≡ with_entry self.old key.now entry) }
         ensures err { OnErr result (self.new ≡ self.old) }
         ensures frees { entry ≡ None → IsTrue (is_ok result) }
     {
         match entry {
-            Some(value) => {
-                self.map.insert(*key, value)?;
-            }
+            Some(value) => self.insert(key, value),
             None => {
-                self.map.remove(key);
+                self.remove(key);
+                Ok(())
             }
         }
-        Ok(())
     }
 
     /// Appends the entries to a list, in the byte order of the keys. Where memory is refused the list is as it was.
@@ -119,57 +134,28 @@ impl Contents {
 #[cfg(test)]
 mod tests {
     use super::*;
-    use crate::tests::script::{are, entries, key, value};
-    use std::process::Abort;
+    use crate::tests::{key, value};
     use std::test::Fail;
-
-    /// Sets the entries that pairs say, in turn.
-    fn set_all(
-        rt: &impl Abort,
-        alloc: Global,
-        contents: &mut Contents,
-        text: &str,
-    ) -> Result<(), AllocError> {
-        for entry in &entries(rt, alloc, text)? {
-            contents.set(&entry.0, Some(entry.1))?;
-        }
-        Ok(())
-    }
-
-    /// Takes the key a out, twice, where there are two others.
-    fn forget(rt: &impl Abort, contents: &mut Contents) -> Result<(), AllocError> {
-        let short = key("a").expect(rt, "a key");
-        contents.set(&short, None)?;
-        contents.set(&short, None)?;
-        assert_eq!(rt; contents.len(), 2);
-        assert_eq!(rt; contents.get(&short), None);
-        Ok(())
-    }
-
-    /// Asserts that the entries are those that pairs say, in this order.
-    fn hold(rt: &impl Abort, alloc: Global, contents: &Contents, text: &str) -> Result<(), Fail> {
-        are(rt, alloc, &contents.entries(alloc)?, text)
-    }
 
     #[test]
     fn keeps_byte_order(rt: HostRuntime) -> Result<(), Fail> {
-        let alloc = rt.alloc();
-        let mut contents = Contents::new(alloc);
-        assert!(rt; contents.is_empty());
-        set_all(&rt, alloc, &mut contents, "ab=1 B=1 a=2 ab=2")?;
-        hold(&rt, alloc, &contents, "B=1 a=2 ab=2")?;
-        forget(&rt, &mut contents)?;
-        let long = key("ab").expect(&rt, "a key");
-        assert_eq!(rt; contents.get(&long), value("2"));
-        let mut listed = entries(&rt, alloc, "a=1")?;
-        contents.append_to(&mut listed)?;
-        are(&rt, alloc, &listed, "a=1 B=1 ab=2")
-    }
-
-    #[test]
-    fn first_of_a_repeated_key_counts(rt: HostRuntime) -> Result<(), Fail> {
-        let alloc = rt.alloc();
-        let contents = Contents::of(alloc, &entries(&rt, alloc, "b=1 a=2 b=2")?)?;
-        hold(&rt, alloc, &contents, "a=2 b=1")
+        let (a, b, ab) = (key(&rt, b"a"), key(&rt, b"B"), key(&rt, b"ab"));
+        let (one, two) = (value(&rt, b"1"), value(&rt, b"2"));
+        let mut contents = Contents::of(rt.alloc(), &[(ab, one), (b, one), (a, one), (a, two)])?;
+        let listed = contents.entries(rt.alloc())?;
+        assert_eq!(rt;
+            listed.as_slice(),
+            [(b, one), (a, one), (ab, one)].as_slice()
+        );
+        contents.remove(&a);
+        contents.set(&a, None)?;
+        contents.insert(&b, two)?;
+        assert_eq!(rt; contents.get(&a), None);
+        let mut more = vec![in rt.alloc(); (a, two)]?;
+        contents.append_to(&mut more)?;
+        assert_eq!(rt; more.as_slice(), [(a, two), (b, two), (ab, one)].as_slice());
+        assert_eq!(rt; contents.len(), 2);
+        assert!(rt; Contents::new(rt.alloc()).is_empty() && !contents.is_empty());
+        Ok(())
     }
 }

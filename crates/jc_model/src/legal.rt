@@ -1,14 +1,15 @@
 //! The slow checker of one stripe's history: it makes every step again, on a map.
-ghost use Rattle.std.specs.Prelude.{◌≡◌, ◌↔◌, ◌++◌, ◌≤◌, IsTrue, IfOk, Ok, map, length};
+ghost use Rattle.std.specs.Prelude.{◌≡◌, ◌↔◌, ◌≤◌, IsTrue, IfOk, Ok, length};
 ghost use Rattle.jc_types.specs.Limits.{checked};
 ghost use Rattle.jc_model.specs.Listed.{apart};
-ghost use Rattle.jc_model.specs.Legal.{Legal, in_order, event_key, of_one_stripe};
+ghost use Rattle.jc_model.specs.Legal.{Legal, in_order};
+ghost use Rattle.jc_model.specs.Reader.{are_of_one_stripe};
 
 use crate::callers::is_in_order;
 use crate::event::Event;
 use crate::listed::value_in;
 use crate::reader::are_accepted;
-use crate::stripes::is_of_one_stripe;
+use crate::stripes::are_of_one_stripe;
 use jc_types::config::Config;
 use jc_types::key::Key;
 use jc_types::value::Value;
@@ -36,7 +37,7 @@ fn is_spelled(
     requires config { checked config.now ≡ Ok tt }
     requires once { IsTrue (apart opening.now) }
     requires few { length opening.now ≤ config.now.capacity }
-    requires stripe { IsTrue (of_one_stripe config.now.stripes (map (λ e. e.0) opening.now ++ map event_key events.now)) }
+    requires stripe { IsTrue (are_of_one_stripe config.now.stripes opening.now events.now) }
     requires order { IsTrue (in_order events.now) }
     ensures { IfOk result (λ b. IsTrue b ↔ Legal config.now opening.now events.now) }
 {
@@ -65,7 +66,7 @@ pub fn legal(
     if config.check().is_err() || !is_apart(opening) || opening.len() > config.capacity {
         return Ok(false);
     }
-    if !is_of_one_stripe(config.stripes, opening, events) || !is_in_order(events) {
+    if !are_of_one_stripe(config.stripes, opening, events) || !is_in_order(events) {
         return Ok(false);
     }
     is_spelled(alloc, config, opening, events)

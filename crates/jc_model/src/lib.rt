@@ -17,5 +17,6 @@ mod reader;
 mod same;
 mod stripes;
 pub mod table;
+pub mod table_laws;
 #[cfg(test)]
 mod tests;

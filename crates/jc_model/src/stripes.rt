@@ -1,40 +1,53 @@
 //! The keys of one stripe's history, as the checker tests them: those of the opening and of the events are of one stripe.
-ghost use Rattle.std.specs.Prelude.{◌≡◌, ◌++◌, ◌==◌, ◌<◌, ◌%◌, IsTrue, map, sum};
+ghost use Rattle.std.specs.Prelude.{◌≡◌, ◌==◌, ◌<◌};
 ghost use Rattle.std.specs.List.{list_all};
-ghost use Rattle.jc_model.specs.Legal.{event_key, of_one_stripe};
+ghost use Rattle.jc_types.specs.Stripes.{stripe_of};
+ghost use Rattle.jc_model.specs.Legal.{is_of_stripe};
+ghost use Rattle.jc_model.specs.Reader.{first_stripe, are_of_one_stripe};
 
 use crate::event::Event;
 use jc_types::key::{Key, stripe_of};
 use jc_types::value::Value;
 
+/// The stripe of the first key, of the opening or else of the events. Without a key it is 0.
+fn first_stripe(stripes: usize, opening: &[(Key, Value)], events: &[Event]) -> usize
+    requires { 0 < stripes }
+    ensures { result ≡ first_stripe stripes opening.now events.now }
+{
+    match opening.first() {
+        Some(entry) => stripe_of(&entry.0, stripes),
+        None => match events.first() {
+            Some(event) => stripe_of(event.key(), stripes),
+            None => 0,
+        },
+    }
+}
+
 /// Whether the keys of an opening are all of this stripe.
 fn is_opening_of(stripes: usize, stripe: usize, opening: &[(Key, Value)]) -> bool
     requires { 0 < stripes }
-    ensures { result ≡ list_all (λ e. sum e.0 % stripes == stripe) opening.now }
+    ensures { result ≡ list_all (λ entry. stripe_of entry.0 stripes == stripe) opening.now }
 {
-    opening.iter().all(|e| stripe_of(&e.0, stripes) == stripe)
+    opening
+        .iter()
+        .all(|entry| stripe_of(&entry.0, stripes) == stripe)
 }
 
 /// Whether the keys of the events are all of this stripe.
 fn are_events_of(stripes: usize, stripe: usize, events: &[Event]) -> bool
     requires { 0 < stripes }
-    ensures { result ≡ list_all (λ e. sum (event_key e) % stripes == stripe) events.now }
+    ensures { result ≡ list_all (is_of_stripe stripes stripe) events.now }
 {
-    events.iter().all(|e| stripe_of(e.key(), stripes) == stripe)
+    events
+        .iter()
+        .all(|event| stripe_of(event.key(), stripes) == stripe)
 }
 
 /// Whether all keys, of the opening and of the events, are of one stripe.
-pub(crate) fn is_of_one_stripe(stripes: usize, opening: &[(Key, Value)], events: &[Event]) -> bool
+pub(crate) fn are_of_one_stripe(stripes: usize, opening: &[(Key, Value)], events: &[Event]) -> bool
     requires { 0 < stripes }
-    ensures { result ≡ of_one_stripe stripes (map (λ e. e.0) opening.now ++ map event_key events.now) }
+    ensures { result ≡ are_of_one_stripe stripes opening.now events.now }
 {
-    if let Some(first) = opening.first() {
-        let stripe = stripe_of(&first.0, stripes);
-        return is_opening_of(stripes, stripe, opening) && are_events_of(stripes, stripe, events);
-    }
-    if let Some(first) = events.first() {
-        let stripe = stripe_of(first.key(), stripes);
-        return are_events_of(stripes, stripe, events);
-    }
-    true
+    let stripe = first_stripe(stripes, opening, events);
+    is_opening_of(stripes, stripe, opening) && are_events_of(stripes, stripe, events)
 }

@@ -1,3 +1,1 @@
-pub mod Beside
-pub mod Sounds
-pub mod Keeping
+pub mod ReservationTable

@@ -1,4 +1,4 @@
 pub mod Table
 pub mod Reserving
-pub mod Sound
+pub mod IsReservationTable
 pub mod Inside

@@ -4,5 +4,8 @@
 //! entry meanwhile (JSR 107, "Default Consistency").
 #![tactic(auto)]
 
-pub mod reservations;
-mod room;
+mod held;
+mod reservations;
+
+pub use held::Held;
+pub use reservations::Reservations;

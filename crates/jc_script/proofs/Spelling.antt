@@ -8,7 +8,7 @@ use Rattle.std.proofs.lemmas.Grind.{common_steps}
 use Rattle.std.proofs.lemmas.Fmt.{decimal_by_steps, decimal_digit, decimal_nonempty, first_decimal}
 use Rattle.jc_script.specs.declared.fault.Fault.{Fault}
 use Rattle.jc_script.specs.declared.fault.Fault.TheVariants.{BadNumber}
-use Rattle.jc_types.specs.declared.limits.TheConstants.{VALUE_MAX}
+use Rattle.jc_types.specs.declared.limits.TheConstants.{SESSIONS_MAX, VALUE_MAX}
 use Rattle.jc_script.specs.Words.{◌>>=◌, digits_from, number_of, caller_of, caller_if, is_digit, is_letter, value_of, is_text}
 use Rattle.jc_script.specs.Printing.{value_text}
 
@@ -66,10 +66,10 @@ number_back n fits =
 
 -- ---- callers
 
-is_session : (n : ℕ) → 1 ≤ n → n ≤ 32 → caller_if (Ok n) ≡ Ok n
+is_session : (n : ℕ) → 1 ≤ n → n ≤ SESSIONS_MAX → caller_if (Ok n) ≡ Ok n
 is_session n least most = grind (arith, common_steps)
 
-pub caller_back : (n : ℕ) → 1 ≤ n → n ≤ 32 → caller_of (115 ∷ decimal n) ≡ Ok n
+pub caller_back : (n : ℕ) → 1 ≤ n → n ≤ SESSIONS_MAX → caller_of (115 ∷ decimal n) ≡ Ok n
 caller_back n least most = rw (number_back n (omega arith)) (is_session n least most)
 
 -- ---- values

@@ -46,7 +46,7 @@ use Rattle.jc_world.specs.declared.event.WorldEvent.{WorldEvent}
 use Rattle.jc_world.specs.declared.event.WorldEvent.TheVariants as event
 use Rattle.jc_world.specs.declared.event.Shown.{Shown}
 use Rattle.jc_world.specs.declared.event.Shown.TheVariants as shown
-use Rattle.jc_world.specs.declared.event.Gone.{Gone}
+use Rattle.jc_stripe.specs.declared.begun.Eviction.{Eviction}
 use Rattle.jc_world.specs.declared.event.Stepped.{Stepped}
 use Rattle.jc_world.specs.declared.event.PickedUp.{PickedUp}
 use Rattle.jc_world.specs.declared.event.Reported.{Reported}
@@ -115,7 +115,7 @@ victim_text None stripe place = []
 victim_text (Some victim) stripe place = evict_line victim Full stripe (place - 1)
 
 -- the eviction of a step's own key behind it, at its own place
-abbrev pub evicted_text : Bytes → Option Gone → ℕ → List ℕ
+abbrev pub evicted_text : Bytes → Option Eviction → ℕ → List ℕ
 evicted_text key None stripe = []
 evicted_text key (Some gone) stripe = evict_line key gone.cause stripe gone.place
 

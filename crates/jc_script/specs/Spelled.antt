@@ -4,8 +4,8 @@
 --     KeysReadBack       a key of letters
 --     ValuesReadBack     a value of letters, and the empty one, as both are printed
 use Rattle.std.specs.Prelude.{◌≡◌, ◌⊎◌, ◌≤◌, ℕ, [], ◌∷◌, true, Ok, decimal}
-use Rattle.jc_types.specs.declared.limits.TheConstants.{KEY_MAX}
-use Rattle.jc_types.specs.declared.limits.TheConstants.{VALUE_MAX}
+use Rattle.jc_types.specs.declared.limits.TheConstants.{SESSIONS_MAX, KEY_MAX}
+use Rattle.jc_types.specs.declared.limits.TheConstants.{SESSIONS_MAX, VALUE_MAX}
 use Rattle.jc_model.specs.Cache.{Bytes}
 use Rattle.jc_script.specs.Words.{number_of, caller_of, key_of, value_of, is_text}
 use Rattle.jc_script.specs.Printing.{value_text}
@@ -14,7 +14,7 @@ abbrev pub NumbersReadBack : Type 0
 NumbersReadBack = (n : ℕ) → n ≤ 999999999 → number_of (decimal n) ≡ Ok n
 
 abbrev pub CallersReadBack : Type 0
-CallersReadBack = (n : ℕ) → 1 ≤ n → n ≤ 32 → caller_of (115 ∷ decimal n) ≡ Ok n
+CallersReadBack = (n : ℕ) → 1 ≤ n → n ≤ SESSIONS_MAX → caller_of (115 ∷ decimal n) ≡ Ok n
 
 abbrev pub KeysReadBack : Type 0
 KeysReadBack = (key : Bytes) → is_text KEY_MAX key ≡ true → key_of key ≡ Ok key

@@ -23,8 +23,8 @@ use Rattle.std.specs.Str.{bytes_eq}
 use Rattle.std.specs.List.{list_all}
 use Rattle.std.specs.List.{slice_split, position}
 use Rattle.std.specs.Cmp.Lexicographic.{pointwise}
-use Rattle.jc_types.specs.declared.limits.TheConstants.{KEY_MAX}
-use Rattle.jc_types.specs.declared.limits.TheConstants.{VALUE_MAX}
+use Rattle.jc_types.specs.declared.limits.TheConstants.{SESSIONS_MAX, KEY_MAX}
+use Rattle.jc_types.specs.declared.limits.TheConstants.{SESSIONS_MAX, VALUE_MAX}
 use Rattle.jc_model.specs.Cache.{Bytes}
 use Rattle.jc_model.specs.declared.event.LoadAnswer.{LoadAnswer}
 use Rattle.jc_model.specs.declared.event.LoadAnswer.TheVariants.{Found, Nothing}
@@ -57,7 +57,7 @@ number_of [] = Err BadNumber
 number_of (b ∷ bs) = if (b == 48) && nat_lt 0 (length bs) then Err BadNumber else digits_from 0 (b ∷ bs)
 
 abbrev pub caller_if : Result ℕ Fault → Result ℕ Fault
-caller_if (Ok n) = if nat_le 1 n && nat_le n 32 then Ok n else Err BadCaller
+caller_if (Ok n) = if nat_le 1 n && nat_le n SESSIONS_MAX then Ok n else Err BadCaller
 caller_if (Err e) = Err BadCaller
 
 abbrev pub caller_of : List ℕ → Result ℕ Fault

@@ -34,7 +34,7 @@ fn waits_load(part: Option<&Part>) -> bool
 {
     match part {
         Some(part) => {
-            matches!(&part.first, First::Loader) && matches!(&part.load, LoadAnswer::NotAsked)
+            matches!(&part.reservation.first, First::Loader) && matches!(&part.load, LoadAnswer::NotAsked)
         }
         None => false,
     }
@@ -45,7 +45,7 @@ fn waits_report(part: Option<&Part>) -> bool
 {
     match part {
         Some(part) => {
-            matches!(&part.first, First::Writer(_)) && matches!(&part.report, WriteAnswer::NotAsked)
+            matches!(&part.reservation.first, First::Writer(_)) && matches!(&part.report, WriteAnswer::NotAsked)
         }
         None => false,
     }
@@ -55,7 +55,7 @@ fn has_answers(part: Option<&Part>) -> bool
     ensures { result ≡ is_answered (option_copied part.entry) }
 {
     match part {
-        Some(part) => match &part.first {
+        Some(part) => match &part.reservation.first {
             First::Nobody => false,
             First::Loader => !matches!(&part.load, LoadAnswer::NotAsked),
             First::Writer(_) => !matches!(&part.report, WriteAnswer::NotAsked),

@@ -11,7 +11,8 @@ use jc_types::key::Key;
 use jc_types::refusal::Refusal;
 use jc_types::value::Value;
 use jc_world::audit::Audit;
-use jc_world::event::{Gone, PickedUp, Reported, Shown, Stepped, WorldEvent};
+use jc_stripe::begun::Eviction;
+use jc_world::event::{PickedUp, Reported, Shown, Stepped, WorldEvent};
 use std::alloc::AllocError;
 
 /// A literal text.
@@ -161,7 +162,7 @@ fn put_victim(
 fn put_evicted(
     out: &mut Vec<u8>,
     key: &Key,
-    evicted: &Option<Gone>,
+    evicted: &Option<Eviction>,
     stripe: usize,
 ) -> Result<(), AllocError>
     ensures { OnOk result (out.new.items ≡ out.old.items ++ evicted_text key.now evicted.now stripe) }

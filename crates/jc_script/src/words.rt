@@ -9,7 +9,7 @@ ghost use Rattle.jc_script.specs.Lines.{Gives, with_value};
 use crate::fault::{Fault, ReadError};
 use crate::pairs::Pairs;
 use jc_types::key::Key;
-use jc_types::limits::{KEY_MAX, VALUE_MAX};
+use jc_types::limits::{KEY_MAX, SESSIONS_MAX, VALUE_MAX};
 use jc_types::value::Value;
 use std::alloc::{AllocError, Global};
 
@@ -73,7 +73,7 @@ pub fn number(word: &[u8]) -> Result<u32, Fault>
     }
 }
 
-/// The session that a word says: an s, and its number, from 1 to 32.
+/// The session that a word says: an s, and its number, from 1 to [`SESSIONS_MAX`].
 pub fn caller(word: &[u8]) -> Result<u32, Fault>
     ensures { result ≡ caller_of word.now }
 {
@@ -84,7 +84,7 @@ pub fn caller(word: &[u8]) -> Result<u32, Fault>
                 return Err(Fault::BadCaller);
             }
             match number(rest) {
-                Ok(n) if 1 <= n && n <= 32 => Ok(n),
+                Ok(n) if 1 <= n && n <= SESSIONS_MAX => Ok(n),
                 _ => Err(Fault::BadCaller),
             }
         }

@@ -9,11 +9,13 @@ use Rattle.jc_types.specs.declared.config.Config.{Config}
 use Rattle.jc_model.specs.Cache.{Bytes, Cache, entry_at}
 use Rattle.jc_model.proofs.Lookups.{both}
 use Rattle.jc_inflight.specs.declared.joiner.Joiner.{Joiner}
-use Rattle.jc_inflight.proofs.Keeping.{call_of}
-use Rattle.jc_stripe.specs.State.{Reserved, is_key, unreserved}
+use Rattle.jc_inflight.proofs.CallerLemmas.{call_of}
+use Rattle.jc_stripe.specs.State.{is_key, without_key}
 use Rattle.jc_stripe.specs.Refusals.{first_asked}
-use Rattle.jc_stripe.specs.Phases.{is_beside, is_apart}
+use Rattle.jc_stripe.specs.Phases.{is_other_call, is_other_join}
 use Rattle.jc_stripe.specs.Reached.{AllAsk, are_beside, are_apart, all_apart}
+use Rattle.jc_types.specs.declared.caller.Caller.{Caller}
+use Rattle.jc_stripe.specs.declared.ticket.Reservation.{Reservation}
 
 -- 1. What holds of each.
 
@@ -38,7 +40,7 @@ all_kept p q (x ∷ xs) h =
     let parts = both (p x) (list_all p xs) h in
     elim (q x) as (λ b. list_all p (cond b (x ∷ filter q xs) (filter q xs)) ≡ true) [ true ↦ join_and _ _ parts.0 (all_kept p q xs parts.1) | false ↦ all_kept p q xs parts.1 ]
 
--- what follows from a test that each passes
+-- what follows from a test that each answers_at_once
 pub all_then : {A : Type 0} (p q : A → Bool) (xs : List A) → ((x : A) → p x ≡ true → q x ≡ true) → list_all p xs ≡ true → list_all q xs ≡ true
 all_then p q [] f h = refl
 all_then p q (x ∷ xs) f h =
@@ -52,7 +54,7 @@ all_both p q (x ∷ xs) g h =
     let qs = both (q x) (list_all q xs) h in
     join_and _ _ (join_and _ _ ps.0 qs.0) (all_both p q xs ps.1 qs.1)
 
--- what each passes, one that is found passes
+-- what each answers_at_once, one that is found answers_at_once
 pub all_found : {A : Type 0} (p q : A → Bool) (xs : List A) (r : A) → find p xs ≡ Some r → list_all q xs ≡ true → q r ≡ true
 all_found p q [] r h all = cc
 all_found p q (x ∷ xs) r h all =
@@ -68,43 +70,43 @@ all_found p q (x ∷ xs) r h all =
 turned : (s t c d : ℕ) (k l : Bytes) → (not (s == t) || ((c == d) && not (pointwise ◌==◌ k l))) ≡ (not (t == s) || ((d == c) && not (pointwise ◌==◌ l k)))
 turned s t c d k l = λ i. not (nat_eq_equiv.symm s t i) || (nat_eq_equiv.symm c d i && not (nat_list_eq_equiv.symm k l i))
 
-pub beside_turned : (r x : Reserved) → is_beside r.session r.call r.key x ≡ is_beside x.session x.call x.key r
-beside_turned r x = turned x.session r.session x.call r.call x.key r.key
+pub beside_turned : (r x : Reservation) → is_other_call r.caller r.key x ≡ is_other_call x.caller x.key r
+beside_turned r x = turned x.caller.session r.caller.session x.caller.call r.caller.call x.key r.key
 
-pub beside-push : (rs : List Reserved) (r : Reserved) → are_beside rs ≡ true → list_all (is_beside r.session r.call r.key) rs ≡ true → are_beside (rs ++ r ∷ []) ≡ true
+pub beside-push : (rs : List Reservation) (r : Reservation) → are_beside rs ≡ true → list_all (is_other_call r.caller r.key) rs ≡ true → are_beside (rs ++ r ∷ []) ≡ true
 beside-push [] r all one = refl
 beside-push (x ∷ xs) r all one =
-    let parts = both (list_all (is_beside x.session x.call x.key) xs) (are_beside xs) all in
-    let ones = both (is_beside r.session r.call r.key x) (list_all (is_beside r.session r.call r.key) xs) one in
-    join_and _ _ (all-push (is_beside x.session x.call x.key) xs r parts.0 (beside_turned x r ∙ ones.0)) (beside-push xs r parts.1 ones.1)
+    let parts = both (list_all (is_other_call x.caller x.key) xs) (are_beside xs) all in
+    let ones = both (is_other_call r.caller r.key x) (list_all (is_other_call r.caller r.key) xs) one in
+    join_and _ _ (all-push (is_other_call x.caller x.key) xs r parts.0 (beside_turned x r ∙ ones.0)) (beside-push xs r parts.1 ones.1)
 
-pub all_left : (p : Reserved → Bool) (key : Bytes) (rs : List Reserved) → list_all p rs ≡ true → list_all p (unreserved key rs) ≡ true
+pub all_left : (p : Reservation → Bool) (key : Bytes) (rs : List Reservation) → list_all p rs ≡ true → list_all p (without_key key rs) ≡ true
 all_left p key rs h = all_kept p (λ r. not (is_key key r)) rs h
 
-pub beside_left : (key : Bytes) (rs : List Reserved) → are_beside rs ≡ true → are_beside (unreserved key rs) ≡ true
+pub beside_left : (key : Bytes) (rs : List Reservation) → are_beside rs ≡ true → are_beside (without_key key rs) ≡ true
 beside_left key [] h = refl
 beside_left key (x ∷ xs) h =
-    let parts = both (list_all (is_beside x.session x.call x.key) xs) (are_beside xs) h in
-    elim (not (is_key key x)) as (λ b. are_beside (cond b (x ∷ unreserved key xs) (unreserved key xs)) ≡ true) [
-      | true ↦ join_and _ _ (all_left (is_beside x.session x.call x.key) key xs parts.0) (beside_left key xs parts.1)
+    let parts = both (list_all (is_other_call x.caller x.key) xs) (are_beside xs) h in
+    elim (not (is_key key x)) as (λ b. are_beside (cond b (x ∷ without_key key xs) (without_key key xs)) ≡ true) [
+      | true ↦ join_and _ _ (all_left (is_other_call x.caller x.key) key xs parts.0) (beside_left key xs parts.1)
       | false ↦ beside_left key xs parts.1
     ]
 
-pub ask-push : (config : Config) (cache : Cache) (rs : List Reserved) (r : Reserved) → AllAsk config cache rs → first_asked config r.op (entry_at cache r.key) ≡ r.first → AllAsk config cache (rs ++ r ∷ [])
+pub ask-push : (config : Config) (cache : Cache) (rs : List Reservation) (r : Reservation) → AllAsk config cache rs → first_asked config r.op (entry_at cache r.key) ≡ r.first → AllAsk config cache (rs ++ r ∷ [])
 ask-push config cache [] r all asks = (asks, tt)
 ask-push config cache (x ∷ xs) r all asks = (all.0, ask-push config cache xs r all.1 asks)
 
-pub ask_left : (config : Config) (cache : Cache) (key : Bytes) (rs : List Reserved) → AllAsk config cache rs → AllAsk config cache (unreserved key rs)
+pub ask_left : (config : Config) (cache : Cache) (key : Bytes) (rs : List Reservation) → AllAsk config cache rs → AllAsk config cache (without_key key rs)
 ask_left config cache key [] all = tt
 ask_left config cache key (x ∷ xs) all =
-    elim (not (is_key key x)) as (λ b. AllAsk config cache (cond b (x ∷ unreserved key xs) (unreserved key xs))) [ true ↦ (all.0, ask_left config cache key xs all.1) | false ↦ ask_left config cache key xs all.1 ]
+    elim (not (is_key key x)) as (λ b. AllAsk config cache (cond b (x ∷ without_key key xs) (without_key key xs))) [ true ↦ (all.0, ask_left config cache key xs all.1) | false ↦ ask_left config cache key xs all.1 ]
 
 -- one that is found asks what it asked
-pub ask_found : (config : Config) (cache : Cache) (p : Reserved → Bool) (rs : List Reserved) (r : Reserved) → find p rs ≡ Some r → AllAsk config cache rs → first_asked config r.op (entry_at cache r.key) ≡ r.first
+pub ask_found : (config : Config) (cache : Cache) (p : Reservation → Bool) (rs : List Reservation) (r : Reservation) → find p rs ≡ Some r → AllAsk config cache rs → first_asked config r.op (entry_at cache r.key) ≡ r.first
 ask_found config cache p [] r h all = cc
 ask_found config cache p (x ∷ xs) r h all =
     elim (p x) as (λ b. cond b (Some x) (find p xs) ≡ Some r → first_asked config r.op (entry_at cache r.key) ≡ r.first) [
-      | true ↦ λ h. let is : x ≡ r = cc in let P : Reserved → Type 0 = λ y. first_asked config y.op (entry_at cache y.key) ≡ y.first in subst P is all.0
+      | true ↦ λ h. let is : x ≡ r = cc in let P : Reservation → Type 0 = λ y. first_asked config y.op (entry_at cache y.key) ≡ y.first in subst P is all.0
       | false ↦ λ h. ask_found config cache p xs r h all.1
     ] h
 
@@ -112,113 +114,113 @@ key_itself : (key : Bytes) → pointwise ◌==◌ key key ≡ true
 key_itself key = nat_list_eq_equiv.refl key
 
 -- where the entries at the reserved keys are the same, the reservations ask the same
-pub ask_same : (config : Config) (cache next : Cache) (rs : List Reserved) → ((q : Bytes) → list_any (is_key q) rs ≡ true → entry_at next q ≡ entry_at cache q) → AllAsk config cache rs → AllAsk config next rs
+pub ask_same : (config : Config) (cache next : Cache) (rs : List Reservation) → ((q : Bytes) → list_any (is_key q) rs ≡ true → entry_at next q ≡ entry_at cache q) → AllAsk config cache rs → AllAsk config next rs
 ask_same config cache next [] same all = tt
 ask_same config cache next (r ∷ rs) same all = (
   ap (first_asked config r.op) (same r.key (or_left _ _ (key_itself r.key))) ∙ all.0,
   ask_same config cache next rs (λ q e. same q (or_right (is_key q r) (list_any (is_key q) rs) e)) all.1,
 )
 
-pub fewer_left : (key : Bytes) (rs : List Reserved) → length (unreserved key rs) ≤ length rs
+pub fewer_left : (key : Bytes) (rs : List Reservation) → length (without_key key rs) ≤ length rs
 fewer_left key [] = omega arith
-fewer_left key (y ∷ ys) = elim (is_key key y) as (λ b. length (cond (not b) (y ∷ unreserved key ys) (unreserved key ys)) ≤ suc (length ys)) [ true ↦ omega (arith, fewer_left key ys) | false ↦ omega (arith, fewer_left key ys) ]
+fewer_left key (y ∷ ys) = elim (is_key key y) as (λ b. length (cond (not b) (y ∷ without_key key ys) (without_key key ys)) ≤ suc (length ys)) [ true ↦ omega (arith, fewer_left key ys) | false ↦ omega (arith, fewer_left key ys) ]
 
 -- where one is found, there is one less without it
-pub one_less : (key : Bytes) (p : Reserved → Bool) (rs : List Reserved) (r : Reserved) → ((x : Reserved) → p x ≡ true → is_key key x ≡ true) → find p rs ≡ Some r → length (unreserved key rs) + 1 ≤ length rs
+pub one_less : (key : Bytes) (p : Reservation → Bool) (rs : List Reservation) (r : Reservation) → ((x : Reservation) → p x ≡ true → is_key key x ≡ true) → find p rs ≡ Some r → length (without_key key rs) + 1 ≤ length rs
 one_less key p [] r tells h = cc
 one_less key p (x ∷ xs) r tells h =
-    elim (p x) as (λ b. p x ≡ b → cond b (Some x) (find p xs) ≡ Some r → length (cond (not (is_key key x)) (x ∷ unreserved key xs) (unreserved key xs)) + 1 ≤ suc (length xs)) [
+    elim (p x) as (λ b. p x ≡ b → cond b (Some x) (find p xs) ≡ Some r → length (cond (not (is_key key x)) (x ∷ without_key key xs) (without_key key xs)) + 1 ≤ suc (length xs)) [
       | true ↦ λ e h. rw (tells x e) (omega (arith, fewer_left key xs))
-      | false ↦ λ e h. elim (is_key key x) as (λ b. length (cond (not b) (x ∷ unreserved key xs) (unreserved key xs)) + 1 ≤ suc (length xs)) [
+      | false ↦ λ e h. elim (is_key key x) as (λ b. length (cond (not b) (x ∷ without_key key xs) (without_key key xs)) + 1 ≤ suc (length xs)) [
         | true ↦ omega (arith, one_less key p xs r tells h)
         | false ↦ omega (arith, one_less key p xs r tells h)
       ]
     ] refl h
 
-pub none_left : (key : Bytes) (rs : List Reserved) → list_any (is_key key) (unreserved key rs) ≡ false
+pub none_left : (key : Bytes) (rs : List Reservation) → list_any (is_key key) (without_key key rs) ≡ false
 none_left key [] = refl
 none_left key (x ∷ xs) =
-    elim (is_key key x) as (λ b. is_key key x ≡ b → list_any (is_key key) (cond (not b) (x ∷ unreserved key xs) (unreserved key xs)) ≡ false) [
+    elim (is_key key x) as (λ b. is_key key x ≡ b → list_any (is_key key) (cond (not b) (x ∷ without_key key xs) (without_key key xs)) ≡ false) [
       | true ↦ λ e. none_left key xs
-      | false ↦ λ e. ap (λ t. t || list_any (is_key key) (unreserved key xs)) e ∙ none_left key xs
+      | false ↦ λ e. ap (λ t. t || list_any (is_key key) (without_key key xs)) e ∙ none_left key xs
     ] refl
 
 -- 3. Joiners.
 
-pub apart_turned : (i j : Joiner) → is_apart i.session i.number i.key j ≡ is_apart j.session j.number j.key i
-apart_turned i j = turned j.session i.session j.number i.number j.key i.key
+pub apart_turned : (i j : Joiner) → is_other_join i.caller i.key j ≡ is_other_join j.caller j.key i
+apart_turned i j = turned j.caller.session i.caller.session j.caller.call i.caller.call j.key i.key
 
-pub between_turned : (r : Reserved) (j : Joiner) → is_apart r.session r.call r.key j ≡ is_beside j.session j.number j.key r
-between_turned r j = turned j.session r.session j.number r.call j.key r.key
+pub between_turned : (r : Reservation) (j : Joiner) → is_other_join r.caller r.key j ≡ is_other_call j.caller j.key r
+between_turned r j = turned j.caller.session r.caller.session j.caller.call r.caller.call j.key r.key
 
-pub apart-push : (js : List Joiner) (j : Joiner) → are_apart js ≡ true → list_all (is_apart j.session j.number j.key) js ≡ true → are_apart (js ++ j ∷ []) ≡ true
+pub apart-push : (js : List Joiner) (j : Joiner) → are_apart js ≡ true → list_all (is_other_join j.caller j.key) js ≡ true → are_apart (js ++ j ∷ []) ≡ true
 apart-push [] j all one = refl
 apart-push (x ∷ xs) j all one =
-    let parts = both (list_all (is_apart x.session x.number x.key) xs) (are_apart xs) all in
-    let ones = both (is_apart j.session j.number j.key x) (list_all (is_apart j.session j.number j.key) xs) one in
-    join_and _ _ (all-push (is_apart x.session x.number x.key) xs j parts.0 (apart_turned x j ∙ ones.0)) (apart-push xs j parts.1 ones.1)
+    let parts = both (list_all (is_other_join x.caller x.key) xs) (are_apart xs) all in
+    let ones = both (is_other_join j.caller j.key x) (list_all (is_other_join j.caller j.key) xs) one in
+    join_and _ _ (all-push (is_other_join x.caller x.key) xs j parts.0 (apart_turned x j ∙ ones.0)) (apart-push xs j parts.1 ones.1)
 
 pub apart_kept : (q : Joiner → Bool) (js : List Joiner) → are_apart js ≡ true → are_apart (filter q js) ≡ true
 apart_kept q [] h = refl
 apart_kept q (x ∷ xs) h =
-    let parts = both (list_all (is_apart x.session x.number x.key) xs) (are_apart xs) h in
+    let parts = both (list_all (is_other_join x.caller x.key) xs) (are_apart xs) h in
     elim (q x) as (λ b. are_apart (cond b (x ∷ filter q xs) (filter q xs)) ≡ true) [
-      | true ↦ join_and _ _ (all_kept (is_apart x.session x.number x.key) q xs parts.0) (apart_kept q xs parts.1)
+      | true ↦ join_and _ _ (all_kept (is_other_join x.caller x.key) q xs parts.0) (apart_kept q xs parts.1)
       | false ↦ apart_kept q xs parts.1
     ]
 
 -- a joiner more beside each reservation
-pub between-push : (rs : List Reserved) (js : List Joiner) (j : Joiner) → all_apart rs js ≡ true → list_all (is_beside j.session j.number j.key) rs ≡ true → all_apart rs (js ++ j ∷ []) ≡ true
+pub between-push : (rs : List Reservation) (js : List Joiner) (j : Joiner) → all_apart rs js ≡ true → list_all (is_other_call j.caller j.key) rs ≡ true → all_apart rs (js ++ j ∷ []) ≡ true
 between-push [] js j all one = refl
 between-push (r ∷ rs) js j all one =
-    let parts = both (list_all (is_apart r.session r.call r.key) js) (all_apart rs js) all in
-    let ones = both (is_beside j.session j.number j.key r) (list_all (is_beside j.session j.number j.key) rs) one in
-    join_and _ _ (all-push (is_apart r.session r.call r.key) js j parts.0 (between_turned r j ∙ ones.0)) (between-push rs js j parts.1 ones.1)
+    let parts = both (list_all (is_other_join r.caller r.key) js) (all_apart rs js) all in
+    let ones = both (is_other_call j.caller j.key r) (list_all (is_other_call j.caller j.key) rs) one in
+    join_and _ _ (all-push (is_other_join r.caller r.key) js j parts.0 (between_turned r j ∙ ones.0)) (between-push rs js j parts.1 ones.1)
 
-pub between_kept : (rs : List Reserved) (q : Joiner → Bool) (js : List Joiner) → all_apart rs js ≡ true → all_apart rs (filter q js) ≡ true
-between_kept rs q js h = all_then (λ r. list_all (is_apart r.session r.call r.key) js) (λ r. list_all (is_apart r.session r.call r.key) (filter q js)) rs (λ r e. all_kept (is_apart r.session r.call r.key) q js e) h
+pub between_kept : (rs : List Reservation) (q : Joiner → Bool) (js : List Joiner) → all_apart rs js ≡ true → all_apart rs (filter q js) ≡ true
+between_kept rs q js h = all_then (λ r. list_all (is_other_join r.caller r.key) js) (λ r. list_all (is_other_join r.caller r.key) (filter q js)) rs (λ r e. all_kept (is_other_join r.caller r.key) q js e) h
 
-pub between_left : (key : Bytes) (rs : List Reserved) (js : List Joiner) → all_apart rs js ≡ true → all_apart (unreserved key rs) js ≡ true
-between_left key rs js h = all_left (λ r. list_all (is_apart r.session r.call r.key) js) key rs h
+pub between_left : (key : Bytes) (rs : List Reservation) (js : List Joiner) → all_apart rs js ≡ true → all_apart (without_key key rs) js ≡ true
+between_left key rs js h = all_left (λ r. list_all (is_other_join r.caller r.key) js) key rs h
 
 -- what stands beside all reservations of the joiners, the first and the others
-pub between_first : (rs : List Reserved) (j : Joiner) (js : List Joiner) → all_apart rs (j ∷ js) ≡ true → list_all (is_beside j.session j.number j.key) rs ≡ true
+pub between_first : (rs : List Reservation) (j : Joiner) (js : List Joiner) → all_apart rs (j ∷ js) ≡ true → list_all (is_other_call j.caller j.key) rs ≡ true
 between_first rs j js h =
-    all_then (λ r. list_all (is_apart r.session r.call r.key) (j ∷ js)) (is_beside j.session j.number j.key) rs
-    (λ r e. sym (between_turned r j) ∙ (both (is_apart r.session r.call r.key j) (list_all (is_apart r.session r.call r.key) js) e).0) h
+    all_then (λ r. list_all (is_other_join r.caller r.key) (j ∷ js)) (is_other_call j.caller j.key) rs
+    (λ r e. sym (between_turned r j) ∙ (both (is_other_join r.caller r.key j) (list_all (is_other_join r.caller r.key) js) e).0) h
 
-pub between_others : (rs : List Reserved) (j : Joiner) (js : List Joiner) → all_apart rs (j ∷ js) ≡ true → all_apart rs js ≡ true
+pub between_others : (rs : List Reservation) (j : Joiner) (js : List Joiner) → all_apart rs (j ∷ js) ≡ true → all_apart rs js ≡ true
 between_others rs j js h =
-    all_then (λ r. list_all (is_apart r.session r.call r.key) (j ∷ js)) (λ r. list_all (is_apart r.session r.call r.key) js) rs
-    (λ r e. (both (is_apart r.session r.call r.key j) (list_all (is_apart r.session r.call r.key) js) e).1) h
+    all_then (λ r. list_all (is_other_join r.caller r.key) (j ∷ js)) (λ r. list_all (is_other_join r.caller r.key) js) rs
+    (λ r e. (both (is_other_join r.caller r.key j) (list_all (is_other_join r.caller r.key) js) e).1) h
 
 -- 4. Joiners of the same calls.
 
-abbrev call_apart : ℕ → ℕ → Bytes → ℕ × ℕ × Bytes → Bool
-call_apart session call key c = not (c.0 == session) || ((c.1 == call) && not (pointwise ◌==◌ c.2 key))
+abbrev call_apart : Caller → Bytes → Caller × Bytes → Bool
+call_apart caller key c = not (c.0.session == caller.session) || ((c.0.call == caller.call) && not (pointwise ◌==◌ c.1 key))
 
-abbrev calls_apart : List (ℕ × ℕ × Bytes) → Bool
+abbrev calls_apart : List (Caller × Bytes) → Bool
 calls_apart [] = true
-calls_apart (c ∷ cs) = list_all (call_apart c.0 c.1 c.2) cs && calls_apart cs
+calls_apart (c ∷ cs) = list_all (call_apart c.0 c.1) cs && calls_apart cs
 
-pub one_apart-alike : (session call : ℕ) (key : Bytes) (js others : List Joiner) → map call_of js ≡ map call_of others → list_all (is_apart session call key) js ≡ list_all (is_apart session call key) others
-one_apart-alike session call key js others same =
-    let P : ℕ × ℕ × Bytes → Bool = call_apart session call key in
+pub one_apart-alike : (caller : Caller) (key : Bytes) (js others : List Joiner) → map call_of js ≡ map call_of others → list_all (is_other_join caller key) js ≡ list_all (is_other_join caller key) others
+one_apart-alike caller key js others same =
+    let P : Caller × Bytes → Bool = call_apart caller key in
     sym (list_all-map P call_of js) ∙ ap (list_all P) same ∙ list_all-map P call_of others
 
 apart-calls : (js : List Joiner) → are_apart js ≡ calls_apart (map call_of js)
 apart-calls [] = refl
 apart-calls (j ∷ js) =
-    let P : ℕ × ℕ × Bytes → Bool = call_apart j.session j.number j.key in
+    let P : Caller × Bytes → Bool = call_apart j.caller j.key in
     ap (λ b. b && are_apart js) (sym (list_all-map P call_of js)) ∙ ap (λ b. list_all P (map call_of js) && b) (apart-calls js)
 
 pub apart-alike : (js others : List Joiner) → map call_of js ≡ map call_of others → are_apart js ≡ are_apart others
 apart-alike js others same = apart-calls js ∙ ap calls_apart same ∙ sym (apart-calls others)
 
-pub between-alike : (rs : List Reserved) (js others : List Joiner) → map call_of js ≡ map call_of others → all_apart rs js ≡ true → all_apart rs others ≡ true
+pub between-alike : (rs : List Reservation) (js others : List Joiner) → map call_of js ≡ map call_of others → all_apart rs js ≡ true → all_apart rs others ≡ true
 between-alike rs js others same h =
-    all_then (λ r. list_all (is_apart r.session r.call r.key) js) (λ r. list_all (is_apart r.session r.call r.key) others) rs
-    (λ r e. sym (one_apart-alike r.session r.call r.key js others same) ∙ e) h
+    all_then (λ r. list_all (is_other_join r.caller r.key) js) (λ r. list_all (is_other_join r.caller r.key) others) rs
+    (λ r e. sym (one_apart-alike r.caller r.key js others same) ∙ e) h
 
 pub length-alike : (js others : List Joiner) → map call_of js ≡ map call_of others → length js ≡ length others
 length-alike js others same = sym (length-map js call_of) ∙ ap length same ∙ length-map others call_of

@@ -4,55 +4,57 @@ use Rattle.std.proofs.lemmas.List.{length-map}
 use Rattle.std.specs.List.{list_any}
 use Rattle.std.specs.Option.{option_map}
 use Rattle.jc_model.specs.Cache.{Bytes}
-use Rattle.jc_reserve.specs.Table.{Held, Table, keys_of}
-use Rattle.jc_reserve.specs.Reserving.{is_of, is_held, found_at}
+use Rattle.jc_reserve.specs.Table.{Table, keys_of}
+use Rattle.jc_reserve.specs.Reserving.{has_key, is_held, reservation_at}
 use Rattle.jc_stripe.specs.declared.ticket.Note.{Note}
-use Rattle.jc_stripe.specs.State.{Reserved, is_key, unreserved}
+use Rattle.jc_stripe.specs.State.{is_key, without_key}
 use Rattle.jc_stripe.specs.OrderOfUse.{pinned}
-use Rattle.jc_stripe.specs.Inside.{reserved_of}
+use Rattle.jc_stripe.specs.Inside.{note_reservation}
+use Rattle.jc_stripe.specs.declared.ticket.Reservation.{Reservation}
+use Rattle.jc_reserve.specs.declared.held.Held.{Held}
 
 -- what a reservation notes beside its key and number
-abbrev pub note_of : Reserved → Note
-note_of r = record { session = r.session; call = r.call; op = r.op; first = r.first }
+abbrev pub note_of : Reservation → Note
+note_of r = record { caller = r.caller; op = r.op; first = r.first }
 
-pub any-reserved_of : (key : Bytes) (held : List (Held Note)) → list_any (is_of key) held ≡ list_any (is_key key) (map reserved_of held)
+pub any-reserved_of : (key : Bytes) (held : List (Held Note)) → list_any (has_key key) held ≡ list_any (is_key key) (map note_reservation held)
 any-reserved_of key [] = refl
-any-reserved_of key (h ∷ hs) = ap (λ b. is_of key h || b) (any-reserved_of key hs)
+any-reserved_of key (h ∷ hs) = ap (λ b. has_key key h || b) (any-reserved_of key hs)
 
-pub held-reserved_of : (table : Table Note) (key : Bytes) → is_held table key ≡ list_any (is_key key) (map reserved_of table.held)
+pub held-reserved_of : (table : Table Note) (key : Bytes) → is_held table key ≡ list_any (is_key key) (map note_reservation table.held)
 held-reserved_of table key = any-reserved_of key table.held
 
-pub find-reserved_of : (key : Bytes) (held : List (Held Note)) → find (is_key key) (map reserved_of held) ≡ option_map reserved_of (find (is_of key) held)
+pub find-reserved_of : (key : Bytes) (held : List (Held Note)) → find (is_key key) (map note_reservation held) ≡ option_map note_reservation (find (has_key key) held)
 find-reserved_of key [] = refl
 find-reserved_of key (h ∷ hs) =
-    elim (is_of key h) as (λ b. cond b (Some (reserved_of h)) (find (is_key key) (map reserved_of hs)) ≡ option_map reserved_of (cond b (Some h) (find (is_of key) hs))) [
+    elim (has_key key h) as (λ b. cond b (Some (note_reservation h)) (find (is_key key) (map note_reservation hs)) ≡ option_map note_reservation (cond b (Some h) (find (has_key key) hs))) [
       | true ↦ refl
       | false ↦ find-reserved_of key hs
     ]
 
-noted : (o : Option (Held Note)) → option_map {U = ℕ × Note} (λ h. (h.number, h.note)) o ≡ option_map {U = ℕ × Note} (λ r. (r.number, note_of r)) (option_map reserved_of o)
+noted : (o : Option (Held Note)) → option_map {U = ℕ × Note} (λ h. (h.reservation, h.note)) o ≡ option_map {U = ℕ × Note} (λ r. (r.number, note_of r)) (option_map note_reservation o)
 noted None = refl
 noted (Some h) = refl
 
 -- the number and the note at a key are those of the reservation that its readers find there
-pub found-reserved_of : (table : Table Note) (key : Bytes) → found_at table key ≡ option_map {U = ℕ × Note} (λ r. (r.number, note_of r)) (find (is_key key) (map reserved_of table.held))
-found-reserved_of table key = noted (find (is_of key) table.held) ∙ ap (option_map {U = ℕ × Note} (λ (r : Reserved). (r.number, note_of r))) (sym (find-reserved_of key table.held))
+pub found-reserved_of : (table : Table Note) (key : Bytes) → reservation_at table key ≡ option_map {U = ℕ × Note} (λ r. (r.number, note_of r)) (find (is_key key) (map note_reservation table.held))
+found-reserved_of table key = noted (find (has_key key) table.held) ∙ ap (option_map {U = ℕ × Note} (λ (r : Reservation). (r.number, note_of r))) (sym (find-reserved_of key table.held))
 
-pub left-reserved_of : (key : Bytes) (held : List (Held Note)) → map reserved_of (filter (λ h. not (is_of key h)) held) ≡ unreserved key (map reserved_of held)
+pub left-reserved_of : (key : Bytes) (held : List (Held Note)) → map note_reservation (filter (λ h. not (has_key key h)) held) ≡ without_key key (map note_reservation held)
 left-reserved_of key [] = refl
 left-reserved_of key (h ∷ hs) =
-    elim (not (is_of key h)) as (λ b. map reserved_of (cond b (h ∷ filter (λ x. not (is_of key x)) hs) (filter (λ x. not (is_of key x)) hs)) ≡ cond b (reserved_of h ∷ unreserved key (map reserved_of hs)) (unreserved key (map reserved_of hs))) [
-      | true ↦ ap (λ rs. reserved_of h ∷ rs) (left-reserved_of key hs)
+    elim (not (has_key key h)) as (λ b. map note_reservation (cond b (h ∷ filter (λ x. not (has_key key x)) hs) (filter (λ x. not (has_key key x)) hs)) ≡ cond b (note_reservation h ∷ without_key key (map note_reservation hs)) (without_key key (map note_reservation hs))) [
+      | true ↦ ap (λ rs. note_reservation h ∷ rs) (left-reserved_of key hs)
       | false ↦ left-reserved_of key hs
     ]
 
-pub push-reserved_of : (held : List (Held Note)) (h : Held Note) → map reserved_of (held ++ h ∷ []) ≡ map reserved_of held ++ reserved_of h ∷ []
+pub push-reserved_of : (held : List (Held Note)) (h : Held Note) → map note_reservation (held ++ h ∷ []) ≡ map note_reservation held ++ note_reservation h ∷ []
 push-reserved_of [] h = refl
-push-reserved_of (x ∷ xs) h = ap (λ rs. reserved_of x ∷ rs) (push-reserved_of xs h)
+push-reserved_of (x ∷ xs) h = ap (λ rs. note_reservation x ∷ rs) (push-reserved_of xs h)
 
-pub length-reserved_of : (held : List (Held Note)) → length (map reserved_of held) ≡ length held
-length-reserved_of held = length-map held reserved_of
+pub length-reserved_of : (held : List (Held Note)) → length (map note_reservation held) ≡ length held
+length-reserved_of held = length-map held note_reservation
 
-pub pinned-reserved_of : (held : List (Held Note)) → pinned (map reserved_of held) ≡ keys_of held
+pub pinned-reserved_of : (held : List (Held Note)) → pinned (map note_reservation held) ≡ keys_of held
 pinned-reserved_of [] = refl
 pinned-reserved_of (h ∷ hs) = ap (λ keys. h.key ∷ keys) (pinned-reserved_of hs)

@@ -1,5 +1,5 @@
 -- Answers of whom was asked first fit the tables.
-use Rattle.std.proofs.Common.{◌≡◌, ◌&&◌, Bool, true, false, not, IsTrue, Option, None, Some, is_some, refl, ap, ◌∙◌}
+use Rattle.std.proofs.Common.{◌≡◌, ◌&&◌, ◌||◌, cond, is_none, Bool, true, false, not, IsTrue, Option, None, Some, is_some, refl, ap, ◌∙◌}
 use Rattle.jc_types.specs.declared.config.Config.{Config}
 use Rattle.jc_model.specs.declared.event.Op.{Op}
 use Rattle.jc_model.specs.declared.event.Op.TheVariants.{Get, LoadAll, Invoke}
@@ -9,47 +9,45 @@ use Rattle.jc_model.specs.declared.event.LoadAnswer.{LoadAnswer}
 use Rattle.jc_model.specs.declared.event.WriteAnswer.{WriteAnswer}
 use Rattle.jc_model.specs.declared.event.ProcessAnswer.TheVariants as process
 use Rattle.jc_model.specs.Cache.{Bytes}
-use Rattle.jc_model.specs.Table.{answers_fit, alike, is_load_given, is_write_given, write_ask}
+use Rattle.jc_model.specs.Table.{answers_fit, alike, always_if, load_fits, early_fault, is_load_given, is_write_given, write_ask}
 use Rattle.jc_model.specs.Group.{load_only, write_only, nothing_said}
 use Rattle.jc_stripe.specs.declared.ticket.First.{First}
-use Rattle.jc_stripe.specs.declared.ticket.First.TheVariants.{Nobody, Loader, Writer}
-use Rattle.jc_stripe.specs.Refusals.{first_asked, has_phases, loader_if, writer_if}
-use Rattle.jc_stripe.specs.Putting.{SaidFor}
+use Rattle.jc_stripe.specs.declared.ticket.First.TheVariants.{Nobody, Loader, Writer, Processor}
+use Rattle.jc_stripe.specs.Refusals.{first_asked, first_by, has_phases, writer_for}
+use Rattle.jc_stripe.specs.Appending.{AnswersFirst}
 
 -- a writer's request is none of the loader's
-not_loader : (b : Bool) (change : Option Change) → writer_if b change ≡ Loader → (A : Type 0) → A
+not_loader : (b : Bool) (change : Option Change) → writer_for (cond b change None) ≡ Loader → (A : Type 0) → A
 not_loader true None h A = cc
 not_loader true (Some change) h A = cc
 not_loader false change h A = cc
 
-loader_due : (b : Bool) → loader_if b ≡ Loader → b ≡ true
-loader_due true h = refl
-loader_due false h = cc
+loader_due : (b w : Bool) → first_by (always_if b) (cond w None None) ≡ Loader → b ≡ true
+loader_due true w h = refl
+loader_due false true h = cc
+loader_due false false h = cc
 
-shape : (g b w : Bool) → g ≡ true → b ≡ true → (alike g b && true && not (w && false)) ≡ true
+shape : (g b v : Bool) → g ≡ true → b ≡ true → (load_fits (always_if b) g && true && not (v && false)) ≡ true
 shape true true true g b = refl
 shape true true false g b = refl
-shape true false w g b = cc
-shape false b' w g b = cc
-
-shape_failed : (g b w e : Bool) → g ≡ true → b ≡ true → (alike g b && true && not (w && e && false)) ≡ true
-shape_failed true true true true g b = refl
-shape_failed true true true false g b = refl
-shape_failed true true false e g b = refl
-shape_failed true false w e g b = cc
-shape_failed false b' w e g b = cc
+shape true false v g b = cc
+shape false b' v g b = cc
 
 -- where the loader was asked first, its answer is what the tables ask for
 pub loader_fits : (config : Config) (op : Op) (entry : Option Bytes) (answer : LoadAnswer) → first_asked config op entry ≡ Loader → is_load_given answer ≡ true → IsTrue (answers_fit config op entry (load_only answer))
-loader_fits config Get entry answer h given = shape _ _ _ given (loader_due _ h)
-loader_fits config (LoadAll replace) entry answer h given = shape _ _ _ given (loader_due _ h)
-loader_fits config op entry answer h given = not_loader _ _ h _
+loader_fits config Get entry answer h given =
+    shape (is_load_given answer) (config.read_through && is_none entry) (config.write_through && is_none (early_fault (load_only answer))) given (loader_due (config.read_through && is_none entry) config.write_through h)
+loader_fits config (LoadAll replace) entry answer h given =
+    shape (is_load_given answer) (replace || is_none entry) (config.write_through && is_none (early_fault (load_only answer))) given (loader_due (replace || is_none entry) config.write_through h)
+loader_fits config Invoke entry answer h given = cc
+loader_fits config op entry answer h given = not_loader config.write_through (write_ask op entry process.NotAsked) h _
 
-no_writer : (b : Bool) (change : Change) → loader_if b ≡ Writer change → (A : Type 0) → A
-no_writer true change h A = cc
-no_writer false change h A = cc
+no_writer : (b w : Bool) (change : Change) → first_by (always_if b) (cond w None None) ≡ Writer change → (A : Type 0) → A
+no_writer true w change h A = cc
+no_writer false true change h A = cc
+no_writer false false change h A = cc
 
-written_shape : (w given : Bool) (asked : Option Change) (change : Change) → writer_if w asked ≡ Writer change → given ≡ true → (true && true && alike given (w && true && is_some asked)) ≡ true
+written_shape : (w given : Bool) (asked : Option Change) (change : Change) → writer_for (cond w asked None) ≡ Writer change → given ≡ true → (true && true && alike given (w && true && is_some asked)) ≡ true
 written_shape true true (Some asked) change h g = refl
 written_shape true given None change h g = cc
 written_shape false given asked change h g = cc
@@ -57,44 +55,42 @@ written_shape w false asked change h g = cc
 
 -- where the writer was asked first, its answer is what the tables ask for
 pub writer_fits : (config : Config) (op : Op) (entry : Option Bytes) (answer : WriteAnswer) (change : Change) → first_asked config op entry ≡ Writer change → is_write_given answer ≡ true → IsTrue (answers_fit config op entry (write_only answer))
-writer_fits config Get entry answer change h given = no_writer _ change h _
-writer_fits config (LoadAll replace) entry answer change h given = no_writer _ change h _
-writer_fits config Invoke entry answer change h given = no_writer_asked config.write_through change h _
-  where
-    no_writer_asked : (b : Bool) (change : Change) → writer_if b None ≡ Writer change → (A : Type 0) → A
-    no_writer_asked true change h A = cc
-    no_writer_asked false change h A = cc
+writer_fits config Get entry answer change h given = no_writer (config.read_through && is_none entry) config.write_through change h _
+writer_fits config (LoadAll replace) entry answer change h given = no_writer (replace || is_none entry) config.write_through change h _
+writer_fits config Invoke entry answer change h given = cc
 writer_fits config op entry answer change h given = written_shape config.write_through (is_write_given answer) (write_ask op entry process.NotAsked) change h given
 
 -- what answers whom the call asked first fits
-pub said_fits : (config : Config) (op : Op) (entry : Option Bytes) (first : First) (out : Out) → first_asked config op entry ≡ first → SaidFor first out → IsTrue (answers_fit config op entry out)
+pub said_fits : (config : Config) (op : Op) (entry : Option Bytes) (first : First) (out : Out) → first_asked config op entry ≡ first → AnswersFirst first out → IsTrue (answers_fit config op entry out)
 said_fits config op entry Nobody out asks said = absurd said
 said_fits config op entry Loader out asks said = ap (answers_fit config op entry) said.1 ∙ loader_fits config op entry said.0 asks said.2
 said_fits config op entry (Writer change) out asks said = ap (answers_fit config op entry) said.1 ∙ writer_fits config op entry said.0 change asks said.2
+said_fits config op entry Processor out asks said = absurd said
 
 -- a loader that was asked has answered
-pub said_given : (first : First) (out : Out) → first ≡ Loader → SaidFor first out → is_load_given out.load ≡ true
+pub said_given : (first : First) (out : Out) → first ≡ Loader → AnswersFirst first out → is_load_given out.load ≡ true
 said_given Nobody out h said = absurd said
 said_given Loader out h said = ap (λ (o : Out). is_load_given o.load) said.1 ∙ said.2
 said_given (Writer change) out h said = cc
+said_given Processor out h said = absurd said
 
-loads_nobody : (b : Bool) → loader_if b ≡ Nobody → b ≡ false
-loads_nobody true h = cc
-loads_nobody false h = refl
+loads_nobody : (b w : Bool) → first_by (always_if b) (cond w None None) ≡ Nobody → b ≡ false
+loads_nobody true w h = cc
+loads_nobody false w h = refl
 
-shape_unread : (b w : Bool) → b ≡ false → (alike false b && true && not (w && true && false)) ≡ true
-shape_unread true w h = cc
+shape_unread : (b v : Bool) → b ≡ false → (load_fits (always_if b) false && true && not (v && false)) ≡ true
+shape_unread true v h = cc
 shape_unread false true h = refl
 shape_unread false false h = refl
 
-shape_unwritten : (w : Bool) (asked : Option Change) → writer_if w asked ≡ Nobody → (true && true && not (w && true && is_some asked)) ≡ true
+shape_unwritten : (w : Bool) (asked : Option Change) → writer_for (cond w asked None) ≡ Nobody → (true && true && not (w && true && is_some asked)) ≡ true
 shape_unwritten true None h = refl
 shape_unwritten true (Some change) h = cc
 shape_unwritten false asked h = refl
 
 -- where nobody was asked, nothing said fits
 pub nobody_fits : (config : Config) (op : Op) (entry : Option Bytes) → first_asked config op entry ≡ Nobody → has_phases op ≡ true → IsTrue (answers_fit config op entry nothing_said)
-nobody_fits config Get entry h phases = shape_unread _ config.write_through (loads_nobody _ h)
-nobody_fits config (LoadAll replace) entry h phases = shape_unread _ config.write_through (loads_nobody _ h)
+nobody_fits config Get entry h phases = shape_unread (config.read_through && is_none entry) (config.write_through && true) (loads_nobody (config.read_through && is_none entry) config.write_through h)
+nobody_fits config (LoadAll replace) entry h phases = shape_unread (replace || is_none entry) (config.write_through && true) (loads_nobody (replace || is_none entry) config.write_through h)
 nobody_fits config Invoke entry h phases = cc
 nobody_fits config op entry h phases = shape_unwritten config.write_through (write_ask op entry process.NotAsked) h

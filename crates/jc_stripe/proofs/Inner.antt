@@ -1,21 +1,23 @@
 -- What a stripe's fields say of its state.
-use Rattle.std.proofs.Common.{◌≡◌, ◌≤◌, ◌<◌, ◌+◌, ◌&&◌, ℕ, length, Bool, true, false, not, IsTrue, ◌↔◌, Option, Some, None, option_map, find, nat_le, nat_lt, refl, sym, ap, ◌∙◌, arith}
+use Rattle.std.proofs.Common.{List, [], ◌∷◌, ◌||◌, cond, is_some, ◌≡◌, ◌≤◌, ◌<◌, ◌+◌, ◌&&◌, ℕ, length, Bool, true, false, not, IsTrue, ◌↔◌, Option, Some, None, option_map, find, nat_le, nat_lt, refl, sym, ap, ◌∙◌, arith}
 use Rattle.std.proofs.lemmas.Bool.Decides.{nat_tests}
+use Rattle.std.specs.List.{list_any}
 use Rattle.std.specs.FinMap.{len, from_entries}
 use Rattle.jc_model.specs.Cache.{Bytes, key_cmp}
 use Rattle.jc_model.specs.Listed.{apart}
 use Rattle.jc_model.proofs.Lookups.{len-apart}
-use Rattle.jc_history.specs.Past.{used}
-use Rattle.jc_reserve.specs.Reserving.{found_at}
+use Rattle.jc_history.specs.Past.{places_used}
+use Rattle.jc_reserve.specs.Reserving.{reservation_at}
 use Rattle.jc_stripe.specs.declared.ticket.Note.{Note}
 use Rattle.jc_stripe.specs.declared.stripe.Stripe.TheInside.{Inside}
-use Rattle.jc_stripe.specs.State.{Reserved, is_key, promised}
+use Rattle.jc_stripe.specs.State.{is_key, is_reserved, promised, reservation_of}
 use Rattle.jc_stripe.specs.Refusals.{has_room, last_number, load_at, load_of}
-use Rattle.jc_stripe.specs.Inside.{IsSound, state_of}
+use Rattle.jc_stripe.specs.Inside.{IsStripe, state_of}
 use Rattle.jc_stripe.proofs.Fields.{note_of, found-reserved_of}
+use Rattle.jc_stripe.specs.declared.ticket.Reservation.{Reservation}
 
 -- the places that are gone are those of the events and the promised ones
-pub used_of : (i : Inside) → IsSound i → used i.history ≡ length (state_of i).history + promised (state_of i)
+pub used_of : (i : Inside) → IsStripe i → places_used i.history ≡ length (state_of i).history + promised (state_of i)
 used_of i sound = ap (λ n. length i.history.events + n) sound.promised
 
 test_true : (m n : ℕ) → m ≤ n → nat_le m n ≡ true
@@ -47,14 +49,14 @@ below_last false next h = go (nat_lt next last_number) refl
         not_less m n e = grind (arith, nat_tests)
 
 -- places are free and the call's number is below the last: the next reservation's number decides
-pub room_last : (i : Inside) (call needed : ℕ) (up : Bool) → IsSound i → used i.history + needed ≤ i.history.limit → call < last_number → (IsTrue up ↔ (last_number ≤ i.reservations.next)) → not up ≡ has_room (state_of i) call needed
+pub room_last : (i : Inside) (call needed : ℕ) (up : Bool) → IsStripe i → places_used i.history + needed ≤ i.history.limit → call < last_number → (IsTrue up ↔ (last_number ≤ i.reservations.next)) → not up ≡ has_room (state_of i) call needed
 room_last i call needed up sound fits below end =
     let u = used_of i sound in
     let l = sound.limit in
     sym (three _ _ _ _ (test_true (length (state_of i).history + promised (state_of i) + needed) i.config.history (omega arith)) (test_less call last_number below) (below_last up i.reservations.next end))
 
 -- no places are free
-pub room_none : (i : Inside) (call needed : ℕ) → IsSound i → i.history.limit < used i.history + needed → has_room (state_of i) call needed ≡ false
+pub room_none : (i : Inside) (call needed : ℕ) → IsStripe i → i.history.limit < places_used i.history + needed → has_room (state_of i) call needed ≡ false
 room_none i call needed sound over =
     let u = used_of i sound in
     let l = sound.limit in
@@ -64,26 +66,40 @@ same_some : {X : Type 0} (x y : X) → Some x ≡ Some y → x ≡ y
 same_some x y h = cc
 
 -- the load of a key's reservation
-load_found : (o : Option Reserved) (number : ℕ) (note : Note) → option_map {U = ℕ × Note} (λ r. (r.number, note_of r)) o ≡ Some (number, note) → load_at o ≡ load_of note.first number
+load_found : (o : Option Reservation) (number : ℕ) (note : Note) → option_map {U = ℕ × Note} (λ r. (r.number, note_of r)) o ≡ Some (number, note) → load_at o ≡ load_of note.first number
 load_found None number note h = cc
 load_found (Some r) number note h =
     let p = same_some (r.number, note_of r) (number, note) h in
     λ k. load_of (p k).1.first (p k).0
 
-load_missing : (o : Option Reserved) → option_map {U = ℕ × Note} (λ r. (r.number, note_of r)) o ≡ None → load_at o ≡ None
+load_missing : (o : Option Reservation) → option_map {U = ℕ × Note} (λ r. (r.number, note_of r)) o ≡ None → load_at o ≡ None
 load_missing None h = refl
 load_missing (Some r) h = cc
 
-pub load_some : (i : Inside) (key : Bytes) (number : ℕ) (note : Note) → found_at i.reservations key ≡ Some (number, note) → load_at (find (is_key key) (state_of i).reservations) ≡ load_of note.first number
+pub load_some : (i : Inside) (key : Bytes) (number : ℕ) (note : Note) → reservation_at i.reservations key ≡ Some (number, note) → load_at (reservation_of (state_of i) key) ≡ load_of note.first number
 load_some i key number note h = load_found _ number note (sym (found-reserved_of i.reservations key) ∙ h)
 
-pub load_none : (i : Inside) (key : Bytes) → found_at i.reservations key ≡ None → load_at (find (is_key key) (state_of i).reservations) ≡ None
+pub load_none : (i : Inside) (key : Bytes) → reservation_at i.reservations key ≡ None → load_at (reservation_of (state_of i) key) ≡ None
 load_none i key h = load_missing _ (sym (found-reserved_of i.reservations key) ∙ h)
 
 -- how many entries there are
-pub entries_len : (i : Inside) → IsSound i → length i.entries.list ≤ i.entries.capacity
+pub entries_len : (i : Inside) → IsStripe i → length i.entries.list ≤ i.entries.capacity
 entries_len i sound =
     let n : len (from_entries {R = key_cmp} i.entries.list) ≡ length i.entries.list = len-apart i.entries.list (ap apart sound.by_use ∙ sound.state.used.once) in
     let few = sound.state.few_entries in
     let c = sound.capacity in
     omega arith
+
+some_map : {X Y : Type 0} (f : X → Y) (o : Option X) → is_some (option_map f o) ≡ is_some o
+some_map f None = refl
+some_map f (Some x) = refl
+
+some_found : {X : Type 0} (p : X → Bool) (xs : List X) → is_some (find p xs) ≡ list_any p xs
+some_found p [] = refl
+some_found p (x ∷ xs) = elim (p x) as (λ b. is_some (cond b (Some x) (find p xs)) ≡ (b || list_any p xs)) [ true ↦ refl | false ↦ some_found p xs ]
+
+-- a key is reserved if the table finds it
+pub reserved_found : (i : Inside) (key : Bytes) → is_some (reservation_at i.reservations key) ≡ is_reserved (state_of i) key
+reserved_found i key =
+    ap is_some (found-reserved_of i.reservations key) ∙ some_map {Y = ℕ × Note} (λ (r : Reservation). (r.number, note_of r)) (find (is_key key) (state_of i).reservations)
+    ∙ some_found (is_key key) (state_of i).reservations

@@ -18,12 +18,14 @@ use Rattle.jc_model.specs.Group.{Group, events_of, history_of, cache_after_group
 use Rattle.jc_model.specs.Group as group
 use Rattle.jc_model.specs.Lawful.{IsLawful, AreLawful, evicted_fits, victim_fits, inserts, joined_fits, loads_whole}
 use Rattle.jc_model.proofs.Lookups.{same_cache, both, none_is, same_key, get-with_entry, insert-remove}
-use Rattle.jc_entries.proofs.UseLemmas.{evicted_of-found}
+use Rattle.jc_entries.proofs.CallerLemmas.{lru_victim-found}
 use Rattle.jc_stripe.specs.State.{State}
 use Rattle.jc_stripe.specs.OrderOfUse.{by_use, least_used, pinned}
-use Rattle.jc_stripe.specs.Phases.{group_made, inserts_here, overflows, victim_of, own_cause}
+use Rattle.jc_stripe.specs.Phases.{new_group, inserts_here, overflows, own_cause}
 use Rattle.jc_stripe.specs.Reached.{IsUsed}
 use Rattle.jc_stripe.proofs.Used.{find-entry, same-entry}
+use Rattle.jc_stripe.specs.Phases as phases
+use Rattle.jc_types.specs.declared.caller.Caller.{Caller}
 
 -- 1. A history of groups, and one more.
 
@@ -95,7 +97,7 @@ pub least_used-there : (m : State) (v : Bytes) → IsUsed m → least_used m ≡
 least_used-there m v used h =
     ap (λ c. is_some (entry_at c v)) used.cache
     ∙ ap is_some (sym (find-entry (by_use m.opening m.history) v))
-    ∙ evicted_of-found (by_use m.opening m.history) (pinned m.reservations) v h
+    ∙ lru_victim-found (by_use m.opening m.history) (pinned m.reservations) v h
 
 -- what is known of a step's victim
 pub record IsVictim (m : State) (key : Bytes) (op : Op) (out : Out) (v : Bytes) : Type 0 where
@@ -109,7 +111,7 @@ victim_if : (b : Bool) (o : Option Bytes) (v : Bytes) → cond b o None ≡ Some
 victim_if true o v h = (refl, h)
 victim_if false o v h = cc
 
-pub victim_known : (m : State) (key : Bytes) (op : Op) (out : Out) (v : Bytes) → IsUsed m → victim_of m key op out ≡ Some v → IsVictim m key op out v
+pub victim_known : (m : State) (key : Bytes) (op : Op) (out : Out) (v : Bytes) → IsUsed m → phases.victim m key op out ≡ Some v → IsVictim m key op out v
 victim_known m key op out v used h =
     let known = victim_if (overflows m key op out) (least_used m) v h in
     let parts = both (inserts_here m key op out) (len m.cache == m.config.capacity) known.0 in
@@ -126,7 +128,7 @@ none_both true = refl
 none_both false = refl
 
 -- the step's own entry is the same without its victim
-pub own_entry : (m : State) (key : Bytes) (op : Op) (out : Out) (victim : Option Bytes) → IsUsed m → victim_of m key op out ≡ victim → entry_at (group.without m.cache victim) key ≡ entry_at m.cache key
+pub own_entry : (m : State) (key : Bytes) (op : Op) (out : Out) (victim : Option Bytes) → IsUsed m → phases.victim m key op out ≡ victim → entry_at (group.without_victim m.cache victim) key ≡ entry_at m.cache key
 own_entry m key op out None used h = refl
 own_entry m key op out (Some v) used h =
     let known = victim_known m key op out v used h in
@@ -153,34 +155,34 @@ all_four true b c d e f g h = all_three b c d f g h
 all_four false b c d e f g h = cc
 
 -- whether the step inserts, as the group has it
-inserts_so : (m : State) (session call : ℕ) (key : Bytes) (op : Op) (out : Out) (callers : List (ℕ × ℕ)) (short : Bool) → IsUsed m
-    → inserts m.cache (group_made m session call key op out callers short) ≡ inserts_here m key op out
-inserts_so m session call key op out callers short used = ap (λ o. is_none o && is_some (entry_after op o out)) (own_entry m key op out _ used refl)
+inserts_so : (m : State) (caller : Caller) (key : Bytes) (op : Op) (out : Out) (callers : List Caller) (short : Bool) → IsUsed m
+    → inserts m.cache (new_group m caller key op out callers short) ≡ inserts_here m key op out
+inserts_so m caller key op out callers short used = ap (λ o. is_none o && is_some (entry_after op o out)) (own_entry m key op out _ used refl)
 
-victim_fits_so : (m : State) (session call : ℕ) (key : Bytes) (op : Op) (out : Out) (callers : List (ℕ × ℕ)) (short : Bool) (victim : Option Bytes) → IsUsed m → victim_of m key op out ≡ victim
-    → victim_fits m.config m.cache (group_made m session call key op out callers short) victim ≡ true
-victim_fits_so m session call key op out callers short None used h = refl
-victim_fits_so m session call key op out callers short (Some v) used h =
+victim_fits_so : (m : State) (caller : Caller) (key : Bytes) (op : Op) (out : Out) (callers : List Caller) (short : Bool) (victim : Option Bytes) → IsUsed m → phases.victim m key op out ≡ victim
+    → victim_fits m.config m.cache (new_group m caller key op out callers short) victim ≡ true
+victim_fits_so m caller key op out callers short None used h = refl
+victim_fits_so m caller key op out callers short (Some v) used h =
     let known = victim_known m key op out v used h in
-    all_four _ _ _ _ known.full known.there (victim_apart m key op out v known) (inserts_so m session call key op out callers short used ∙ known.inserts)
+    all_four _ _ _ _ known.full known.there (victim_apart m key op out v known) (inserts_so m caller key op out callers short used ∙ known.inserts)
 
 -- what a step must be for others to share its load, unless nobody does
-abbrev pub MayShare : State → Bytes → Op → Out → List (ℕ × ℕ) → Type 0
+abbrev pub MayShare : State → Bytes → Op → Out → List Caller → Type 0
 MayShare m key op out [] = Unit {0}
 MayShare m key op out (c ∷ cs) = (m.config.read_through ≡ true) × (loads_whole op ≡ true) × (entry_at m.cache key ≡ None) × (is_load_given out.load ≡ true)
 
-joined_so : (m : State) (session call : ℕ) (key : Bytes) (op : Op) (out : Out) (all : List (ℕ × ℕ)) (short : Bool) (callers : List (ℕ × ℕ)) → IsUsed m → MayShare m key op out callers
-    → joined_fits m.config m.cache (group_made m session call key op out all short) callers ≡ true
-joined_so m session call key op out all short [] used may = refl
-joined_so m session call key op out all short (c ∷ cs) used may = all_four _ _ _ _ may.0 may.1 (ap is_none (own_entry m key op out _ used refl ∙ may.2)) may.3
+joined_so : (m : State) (caller : Caller) (key : Bytes) (op : Op) (out : Out) (all : List Caller) (short : Bool) (callers : List Caller) → IsUsed m → MayShare m key op out callers
+    → joined_fits m.config m.cache (new_group m caller key op out all short) callers ≡ true
+joined_so m caller key op out all short [] used may = refl
+joined_so m caller key op out all short (c ∷ cs) used may = all_four _ _ _ _ may.0 may.1 (ap is_none (own_entry m key op out _ used refl ∙ may.2)) may.3
 
 -- its own key may go again
-evicted_so : (m : State) (session call : ℕ) (key : Bytes) (op : Op) (out : Out) (callers : List (ℕ × ℕ)) (short : Bool) (i f v : Bool) → IsUsed m
-    → inserts_here m key op out ≡ i → overflows m key op out ≡ f → is_some (victim_of m key op out) ≡ v → evicted_fits m.config m.cache (group_made m session call key op out callers short) (own_cause i f v short) ≡ true
-evicted_so m session call key op out callers short false f v used hi hf hv = refl
-evicted_so m session call key op out callers short true true false used hi hf hv =
+evicted_so : (m : State) (caller : Caller) (key : Bytes) (op : Op) (out : Out) (callers : List Caller) (short : Bool) (i f v : Bool) → IsUsed m
+    → inserts_here m key op out ≡ i → overflows m key op out ≡ f → is_some (phases.victim m key op out) ≡ v → evicted_fits m.config m.cache (new_group m caller key op out callers short) (own_cause i f v short) ≡ true
+evicted_so m caller key op out callers short false f v used hi hf hv = refl
+evicted_so m caller key op out callers short true true false used hi hf hv =
     let full = (both (inserts_here m key op out) (len m.cache == m.config.capacity) hf).1 in
-    all_three _ _ _ (inserts_so m session call key op out callers short used ∙ hi) full (nobody (victim_of m key op out) hv)
+    all_three _ _ _ (inserts_so m caller key op out callers short used ∙ hi) full (nobody (phases.victim m key op out) hv)
   where
     all_three : (a b c : Bool) → a ≡ true → b ≡ true → c ≡ true → (a && b && c) ≡ true
     all_three true true c d e h = h
@@ -190,10 +192,10 @@ evicted_so m session call key op out callers short true true false used hi hf hv
     nobody : (o : Option Bytes) → is_some o ≡ false → is_none o ≡ true
     nobody None h = refl
     nobody (Some x) h = cc
-evicted_so m session call key op out callers true true true true used hi hf hv = inserts_so m session call key op out callers true used ∙ hi
-evicted_so m session call key op out callers false true true true used hi hf hv = refl
-evicted_so m session call key op out callers true true false v used hi hf hv = inserts_so m session call key op out callers true used ∙ hi
-evicted_so m session call key op out callers false true false v used hi hf hv = refl
+evicted_so m caller key op out callers true true true true used hi hf hv = inserts_so m caller key op out callers true used ∙ hi
+evicted_so m caller key op out callers false true true true used hi hf hv = refl
+evicted_so m caller key op out callers true true false v used hi hf hv = inserts_so m caller key op out callers true used ∙ hi
+evicted_so m caller key op out callers false true false v used hi hf hv = refl
 
 -- what came and goes leaves as many as there were
 len-went : (base : Cache) (capacity : ℕ) (key : Bytes) (entry : Option Bytes) (cause : Cause) → len base ≤ capacity → entry_at base key ≡ None → len (without_own (with_entry base key entry) key (Some cause)) ≤ capacity
@@ -206,8 +208,8 @@ not_full n capacity true true h = grind (arith, nat_tests)
 
 -- how many entries there are behind the group
 within_so : (m : State) (key : Bytes) (op : Op) (out : Out) (short : Bool) (victim : Option Bytes) (i f v : Bool) → IsUsed m → len m.cache ≤ m.config.capacity
-    → victim_of m key op out ≡ victim → inserts_here m key op out ≡ i → overflows m key op out ≡ f → is_some victim ≡ v
-    → len (without_own (with_entry (group.without m.cache victim) key (entry_after op (entry_at m.cache key) out)) key (own_cause i f v short)) ≤ m.config.capacity
+    → phases.victim m key op out ≡ victim → inserts_here m key op out ≡ i → overflows m key op out ≡ f → is_some victim ≡ v
+    → len (without_own (with_entry (group.without_victim m.cache victim) key (entry_after op (entry_at m.cache key) out)) key (own_cause i f v short)) ≤ m.config.capacity
 within_so m key op out short None false f v used few hv hi hf hs = len-with_entry m.cache m.config.capacity key _ few (ap (λ b. b && (len m.cache == m.config.capacity)) hi)
 within_so m key op out true None true false v used few hv hi hf hs = len-went m.cache m.config.capacity key _ Memory few (none_is _ ((both (is_none (entry_at m.cache key)) _ hi).0))
 within_so m key op out false None true false v used few hv hi hf hs = len-with_entry m.cache m.config.capacity key _ few hf
@@ -229,11 +231,11 @@ within_so m key op out false (Some x) true true true used few hv hi hf hs =
     len-with_entry (remove m.cache x) m.config.capacity key _ (omega arith) (not_full (len (remove m.cache x)) m.config.capacity (is_none (entry_at (remove m.cache x) key)) (is_some (entry_after op (entry_at m.cache key) out)) (omega arith))
 
 -- the group of a step whose answers fit is lawful
-pub made_lawful : (m : State) (session call : ℕ) (key : Bytes) (op : Op) (out : Out) (callers : List (ℕ × ℕ)) (short : Bool) → IsUsed m → len m.cache ≤ m.config.capacity
-    → IsTrue (answers_fit m.config op (entry_at m.cache key) out) → MayShare m key op out callers → IsLawful m.config m.cache (group_made m session call key op out callers short)
-made_lawful m session call key op out callers short used few answers may =
-    let g = group_made m session call key op out callers short in
-    let own = own_entry m key op out (victim_of m key op out) used refl in
+pub made_lawful : (m : State) (caller : Caller) (key : Bytes) (op : Op) (out : Out) (callers : List Caller) (short : Bool) → IsUsed m → len m.cache ≤ m.config.capacity
+    → IsTrue (answers_fit m.config op (entry_at m.cache key) out) → MayShare m key op out callers → IsLawful m.config m.cache (new_group m caller key op out callers short)
+made_lawful m caller key op out callers short used few answers may =
+    let g = new_group m caller key op out callers short in
+    let own = own_entry m key op out (phases.victim m key op out) used refl in
     record {
       step = record {
         seq = record {
@@ -241,9 +243,9 @@ made_lawful m session call key op out callers short used few answers may =
           reply = ap (λ o. reply_after op o out) (sym own);
           left = refl;
         };
-        victim = victim_fits_so m session call key op out callers short (victim_of m key op out) used refl;
+        victim = victim_fits_so m caller key op out callers short (phases.victim m key op out) used refl;
       };
-      joined = joined_so m session call key op out callers short callers used may;
-      evicted = evicted_so m session call key op out callers short _ _ _ used refl refl refl;
-      within = rw own (within_so m key op out short (victim_of m key op out) _ _ _ used few refl refl refl refl);
+      joined = joined_so m caller key op out callers short callers used may;
+      evicted = evicted_so m caller key op out callers short _ _ _ used refl refl refl;
+      within = rw own (within_so m key op out short (phases.victim m key op out) _ _ _ used few refl refl refl refl);
     }

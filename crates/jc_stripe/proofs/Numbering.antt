@@ -1,7 +1,6 @@
 -- What keeps the keys and the numbers of reservations apart, and what a claim tells of its reservation.
-use Rattle.std.proofs.Common.{◌≡◌, ◌==◌, ◌<◌, ◌+◌, ◌&&◌, ◌||◌, ℕ, suc, List, [], ◌∷◌, ◌++◌, length, get_or, Bool, true, false, cond, not, Some, find, refl, sym, ap, ◌∙◌, subst, arith}
+use Rattle.std.proofs.Common.{◌≡◌, ◌==◌, ◌<◌, ◌+◌, ◌||◌, ℕ, suc, List, [], ◌∷◌, ◌++◌, length, get_or, Bool, true, false, cond, not, Some, find, refl, sym, ap, ◌∙◌, subst, arith}
 use Rattle.std.proofs.lemmas.Bool.Decides.{nat_tests}
-use Rattle.std.proofs.lemmas.Bool.{eqb-true}
 use Rattle.std.proofs.lemmas.Cmp.{nat_list_eq_equiv}
 use Rattle.std.proofs.lemmas.List.Elements.{All-head, All-tail, All-push, All-filter}
 use Rattle.std.proofs.lemmas.List.Folds.{list_any_at}
@@ -10,14 +9,13 @@ use Rattle.std.proofs.lemmas.List.Quantifiers.{all_pairs_push}
 use Rattle.std.specs.List.{AllPairs, All, list_any}
 use Rattle.std.specs.Cmp.Lexicographic.{same_text}
 use Rattle.jc_model.specs.Cache.{Bytes}
-use Rattle.jc_model.proofs.Lookups.{both}
-use Rattle.jc_stripe.specs.Claim.{Claim}
-use Rattle.jc_stripe.specs.State.{Reserved, is_key, is_claim, unreserved}
+use Rattle.jc_stripe.specs.State.{is_key, without_key}
 use Rattle.jc_stripe.specs.Reached.{AreNumbered}
+use Rattle.jc_stripe.specs.declared.ticket.Reservation.{Reservation}
 
 -- 1. What is found.
 
--- what is found passes the test
+-- what is found answers_at_once the test
 pub found_test : {X : Type 0} (p : X → Bool) (xs : List X) (r : X) → find p xs ≡ Some r → p r ≡ true
 found_test p [] r h = cc
 found_test p (x ∷ xs) r h =
@@ -58,50 +56,18 @@ found_once {X} e p q (x ∷ xs) r s once h g t u =
       ] g
     ] h
 
--- 2. What a claim tells.
+-- 2. What is found at a key.
 
--- what is claimed has the claim's key and number
-pub claim_test : (claim : Claim) (r : Reserved) → is_claim claim r ≡ true → (claim.key ≡ r.key) × (r.number ≡ claim.number)
-claim_test claim r h =
-    let parts = both (is_key claim.key r) (r.number == claim.number) h in
-    (same_text claim.key r.key (sym parts.0), eqb-true r.number claim.number parts.1)
-
-pub claim_key : (claim : Claim) (rs : List Reserved) (r : Reserved) → find (is_claim claim) rs ≡ Some r → claim.key ≡ r.key
-claim_key claim rs r h = (claim_test claim r (found_test (is_claim claim) rs r h)).0
-
-pub claim_number : (claim : Claim) (rs : List Reserved) (r : Reserved) → find (is_claim claim) rs ≡ Some r → r.number ≡ claim.number
-claim_number claim rs r h = (claim_test claim r (found_test (is_claim claim) rs r h)).1
+pub key_found : (key : Bytes) (rs : List Reservation) (r : Reservation) → find (is_key key) rs ≡ Some r → key ≡ r.key
+key_found key rs r h = same_text key r.key (sym (found_test (is_key key) rs r h))
 
 same_number : (m n : ℕ) → m ≡ n → (m == n) ≡ true
 same_number m n e = grind (arith, nat_tests)
 
--- a number is claimed once
-pub claimed_once : (next : ℕ) (rs : List Reserved) (one other : Claim) (r s : Reserved) → AreNumbered next rs → find (is_claim one) rs ≡ Some r → find (is_claim other) rs ≡ Some s → one.number ≡ other.number → r ≡ s
-claimed_once next rs one other r s numbered h g e =
-    let m = claim_number one rs r h in
-    let n = claim_number other rs s g in
-    found_once (λ (x : Reserved) (y : Reserved). x.number == y.number) (is_claim one) (is_claim other) rs r s numbered.numbers h g (same_number _ _ (m ∙ e ∙ sym n)) (same_number _ _ (n ∙ sym e ∙ sym m))
-
--- what is claimed is what is found at its key
-pub claimed_at_key : (next : ℕ) (rs : List Reserved) (claim : Claim) (r : Reserved) → AreNumbered next rs → find (is_claim claim) rs ≡ Some r → find (is_key claim.key) rs ≡ Some r
-claimed_at_key next rs claim r numbered h = go rs r numbered.once h
-  where
-    go : (rs : List Reserved) (r : Reserved) → AllPairs (λ r later. is_key r.key later ≡ false) rs → find (is_claim claim) rs ≡ Some r → find (is_key claim.key) rs ≡ Some r
-    go [] r once h = cc
-    go (x ∷ xs) r once h =
-        let later = later_pairs (λ (r : Reserved) (later : Reserved). is_key r.key later ≡ false) x xs once in
-        let first = first_pairs (λ (r : Reserved) (later : Reserved). is_key r.key later ≡ false) x xs once in
-        elim (is_key claim.key x) as (λ b. is_key claim.key x ≡ b → cond (b && (x.number == claim.number)) (Some x) (find (is_claim claim) xs) ≡ Some r → cond b (Some x) (find (is_key claim.key) xs) ≡ Some r) [
-          | true ↦ λ k. elim (x.number == claim.number) as (λ b. cond b (Some x) (find (is_claim claim) xs) ≡ Some r → Some x ≡ Some r) [
-            | true ↦ λ h. h
-            | false ↦ λ h.
-                let no : is_key x.key r ≡ false = found_holds (is_claim claim) (λ y. is_key x.key y ≡ false) xs r h first in
-                let yes : is_key claim.key r ≡ true = (both _ _ (found_test (is_claim claim) xs r h)).0 in
-                let same : claim.key ≡ x.key = same_text claim.key x.key (sym k) in
-                let bad : true ≡ false = sym yes ∙ ap (λ q. is_key q r) same ∙ no in cc
-          ]
-          | false ↦ λ k h. go xs r later h
-        ] refl h
+-- no two have one number
+pub one_number : (next : ℕ) (rs : List Reservation) (k l : Bytes) (r s : Reservation) → AreNumbered next rs → find (is_key k) rs ≡ Some r → find (is_key l) rs ≡ Some s → r.number ≡ s.number → r ≡ s
+one_number next rs k l r s numbered h g e =
+    found_once (λ (x : Reservation) (y : Reservation). x.number == y.number) (is_key k) (is_key l) rs r s numbered.numbers h g (same_number _ _ e) (same_number _ _ (sym e))
 
 -- a key that is found is reserved
 pub found_any : {X : Type 0} (p : X → Bool) (xs : List X) (r : X) → find p xs ≡ Some r → list_any p xs ≡ true
@@ -112,7 +78,7 @@ found_any p (x ∷ xs) r h =
 -- 3. A reservation more, and less.
 
 -- a key that is free is no reservation's
-other_key : (rs : List Reserved) (r : Reserved) (k : ℕ) (d : Reserved) → k < length rs → list_any (is_key r.key) rs ≡ false → is_key (get_or rs k d).key r ≡ false
+other_key : (rs : List Reservation) (r : Reservation) (k : ℕ) (d : Reservation) → k < length rs → list_any (is_key r.key) rs ≡ false → is_key (get_or rs k d).key r ≡ false
 other_key rs r k d within free =
     let x = get_or rs k d in
     elim (is_key r.key x) as (λ b. is_key r.key x ≡ b → is_key x.key r ≡ false) [
@@ -123,14 +89,14 @@ other_key rs r k d within free =
 below_other : (m n : ℕ) → m < n → (m == n) ≡ false
 below_other m n h = grind (arith, nat_tests)
 
-pub numbered-push : (next : ℕ) (rs : List Reserved) (r : Reserved) → AreNumbered next rs → r.number ≡ next → list_any (is_key r.key) rs ≡ false → AreNumbered (next + 1) (rs ++ r ∷ [])
+pub numbered-push : (next : ℕ) (rs : List Reservation) (r : Reservation) → AreNumbered next rs → r.number ≡ next → list_any (is_key r.key) rs ≡ false → AreNumbered (next + 1) (rs ++ r ∷ [])
 numbered-push next rs r old number free = record {
   once = all_pairs_push (λ r later. is_key r.key later ≡ false) rs r old.once (λ k d l. other_key rs r k d l free);
   numbers = all_pairs_push (λ r later. (r.number == later.number) ≡ false) rs r old.numbers (λ k d l. let b = old.below k d l in below_other _ _ (omega arith));
   below = All-push (λ r. r.number < next + 1) rs r (λ k d l. let b = old.below k d l in omega arith) (omega arith);
 }
 
-pub numbered-left : (next : ℕ) (rs : List Reserved) (key : Bytes) → AreNumbered next rs → AreNumbered next (unreserved key rs)
+pub numbered-left : (next : ℕ) (rs : List Reservation) (key : Bytes) → AreNumbered next rs → AreNumbered next (without_key key rs)
 numbered-left next rs key old = record {
   once = AllPairs-filter (λ r later. is_key r.key later ≡ false) (λ r. not (is_key key r)) rs old.once;
   numbers = AllPairs-filter (λ r later. (r.number == later.number) ≡ false) (λ r. not (is_key key r)) rs old.numbers;

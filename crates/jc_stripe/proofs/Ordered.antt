@@ -22,12 +22,13 @@ use Rattle.jc_model.specs.Group.{Group, victim_events, step_event, step_place, s
 use Rattle.jc_model.specs.Legal.{may_come, may_follow, in_order}
 use Rattle.jc_model.proofs.Lookups.{both, same_key}
 use Rattle.jc_model.proofs.Order.{order-last}
-use Rattle.jc_entries.specs.ByUse.{without}
-use Rattle.jc_entries.proofs.UseLemmas.{evicted_of-found}
+use Rattle.jc_entries.specs.ByUse.{after_eviction}
+use Rattle.jc_entries.proofs.CallerLemmas.{lru_victim-found}
 use Rattle.jc_stripe.specs.State.{State, is_of}
 use Rattle.jc_stripe.specs.OrderOfUse.{is_use, used_at, by_use, least_used, pinned}
 use Rattle.jc_stripe.specs.Reached.{is_own}
-use Rattle.jc_stripe.specs.Putting.{own_gone, entries_left}
+use Rattle.jc_stripe.specs.Appending.{without_own_entry, entries_after}
+use Rattle.jc_types.specs.declared.caller.Caller.{Caller}
 
 pub join_and : (a b : Bool) → a ≡ true → b ≡ true → (a && b) ≡ true
 join_and true b g h = h
@@ -39,11 +40,11 @@ turned_eq a b = grind (arith, nat_tests)
 -- 1. What may come behind what.
 
 -- a step of this session, number and key may come behind all of these
-abbrev pub comes_behind : List Event → ℕ → ℕ → Bytes → Bool
-comes_behind events session number key = list_all (λ e. may_come e session number key) events
+abbrev pub comes_behind : List Event → Caller → Bytes → Bool
+comes_behind events caller key = list_all (λ e. may_come e caller key) events
 
-pub behind-append : (xs ys : List Event) (session number : ℕ) (key : Bytes) → comes_behind xs session number key ≡ true → comes_behind ys session number key ≡ true → comes_behind (xs ++ ys) session number key ≡ true
-behind-append xs ys session number key g h = list_all-append (λ e. may_come e session number key) xs ys ∙ join_and _ _ g h
+pub behind-append : (xs ys : List Event) (caller : Caller) (key : Bytes) → comes_behind xs caller key ≡ true → comes_behind ys caller key ≡ true → comes_behind (xs ++ ys) caller key ≡ true
+behind-append xs ys caller key g h = list_all-append (λ e. may_come e caller key) xs ys ∙ join_and _ _ g h
 
 comes : (a b l k : Bool) → (not a || (b && not k)) ≡ true → (not a || l || (b && not k)) ≡ true
 comes true true true k h = refl
@@ -52,13 +53,13 @@ comes true false l k h = cc
 comes false b l k h = refl
 
 -- of another session, or of the same call for another key
-pub comes_beside : (s n : ℕ) (k : Bytes) (op : Op) (out : Out) (shared : Option ℕ) (reply : Reply) (session number : ℕ) (key : Bytes) → (not (session == s) || ((number == n) && not (pointwise ◌==◌ key k))) ≡ true
-    → may_come (Step s n op k out shared reply) session number key ≡ true
-comes_beside s n k op out shared reply session number key h =
-    comes (s == session) (n == number) (nat_lt n number) (pointwise ◌==◌ k key)
-    (ap (λ b. not b || ((n == number) && not (pointwise ◌==◌ k key))) (turned_eq s session)
-    ∙ ap (λ b. not (session == s) || (b && not (pointwise ◌==◌ k key))) (turned_eq n number)
-    ∙ ap (λ b. not (session == s) || ((number == n) && not b)) (nat_list_eq_equiv.symm k key)
+pub comes_beside : (who : Caller) (k : Bytes) (op : Op) (out : Out) (shared : Option ℕ) (reply : Reply) (caller : Caller) (key : Bytes) → (not (caller.session == who.session) || ((caller.call == who.call) && not (pointwise ◌==◌ key k))) ≡ true
+    → may_come (Step who op k out shared reply) caller key ≡ true
+comes_beside who k op out shared reply caller key h =
+    comes (who.session == caller.session) (who.call == caller.call) (nat_lt who.call caller.call) (pointwise ◌==◌ k key)
+    (ap (λ b. not b || ((who.call == caller.call) && not (pointwise ◌==◌ k key))) (turned_eq who.session caller.session)
+    ∙ ap (λ b. not (caller.session == who.session) || (b && not (pointwise ◌==◌ k key))) (turned_eq who.call caller.call)
+    ∙ ap (λ b. not (caller.session == who.session) || ((caller.call == who.call) && not b)) (nat_list_eq_equiv.symm k key)
     ∙ h)
 
 away : (a l c : Bool) → not a ≡ true → (not a || l || c) ≡ true
@@ -66,52 +67,52 @@ away true l c h = cc
 away false l c h = refl
 
 -- of another session
-pub comes_away : (s n : ℕ) (k : Bytes) (op : Op) (out : Out) (shared : Option ℕ) (reply : Reply) (session number : ℕ) (key : Bytes) → not (session == s) ≡ true → may_come (Step s n op k out shared reply) session number key ≡ true
-comes_away s n k op out shared reply session number key h = away (s == session) (nat_lt n number) _ (ap not (turned_eq s session) ∙ h)
+pub comes_away : (who : Caller) (k : Bytes) (op : Op) (out : Out) (shared : Option ℕ) (reply : Reply) (caller : Caller) (key : Bytes) → not (caller.session == who.session) ≡ true → may_come (Step who op k out shared reply) caller key ≡ true
+comes_away who k op out shared reply caller key h = away (who.session == caller.session) (nat_lt who.call caller.call) _ (ap not (turned_eq who.session caller.session) ∙ h)
 
-behind-victim : (victim : Option Bytes) (session number : ℕ) (key : Bytes) → comes_behind (victim_events victim) session number key ≡ true
-behind-victim None session number key = refl
-behind-victim (Some v) session number key = refl
+behind-victim : (victim : Option Bytes) (caller : Caller) (key : Bytes) → comes_behind (victim_events victim) caller key ≡ true
+behind-victim None caller key = refl
+behind-victim (Some v) caller key = refl
 
-behind-evicted : (k : Bytes) (cause : Option Cause) (session number : ℕ) (key : Bytes) → comes_behind (evicted_events k cause) session number key ≡ true
-behind-evicted k None session number key = refl
-behind-evicted k (Some cause) session number key = refl
+behind-evicted : (k : Bytes) (cause : Option Cause) (caller : Caller) (key : Bytes) → comes_behind (evicted_events k cause) caller key ≡ true
+behind-evicted k None caller key = refl
+behind-evicted k (Some cause) caller key = refl
 
 -- a step is beside those that share a load at a key
-abbrev pub beside_callers : ℕ → ℕ → Bytes → Bytes → List (ℕ × ℕ) → Bool
-beside_callers session number key k callers = list_all (λ c. not (session == c.0) || ((number == c.1) && not (pointwise ◌==◌ key k))) callers
+abbrev pub beside_callers : Caller → Bytes → Bytes → List Caller → Bool
+beside_callers caller key k callers = list_all (λ c. not (caller.session == c.session) || ((caller.call == c.call) && not (pointwise ◌==◌ key k))) callers
 
-behind-shared : (place : ℕ) (k : Bytes) (answer : LoadAnswer) (callers : List (ℕ × ℕ)) (session number : ℕ) (key : Bytes) → beside_callers session number key k callers ≡ true
-    → comes_behind (map (shared_event place k answer) callers) session number key ≡ true
-behind-shared place k answer [] session number key h = refl
-behind-shared place k answer (c ∷ cs) session number key h =
-    let parts = both (not (session == c.0) || ((number == c.1) && not (pointwise ◌==◌ key k))) (beside_callers session number key k cs) h in
-    join_and _ _ (comes_beside c.0 c.1 k Get (load_only answer) (Some place) (reply_after Get None (load_only answer)) session number key parts.0) (behind-shared place k answer cs session number key parts.1)
+behind-shared : (place : ℕ) (k : Bytes) (answer : LoadAnswer) (callers : List Caller) (caller : Caller) (key : Bytes) → beside_callers caller key k callers ≡ true
+    → comes_behind (map (shared_event place k answer) callers) caller key ≡ true
+behind-shared place k answer [] caller key h = refl
+behind-shared place k answer (c ∷ cs) caller key h =
+    let parts = both (not (caller.session == c.session) || ((caller.call == c.call) && not (pointwise ◌==◌ key k))) (beside_callers caller key k cs) h in
+    join_and _ _ (comes_beside c k Get (load_only answer) (Some place) (reply_after Get None (load_only answer)) caller key parts.0) (behind-shared place k answer cs caller key parts.1)
 
 -- a step that is beside those of a group may come behind it
-pub behind-group : (place : ℕ) (g : Group) (session number : ℕ) (key : Bytes) → (not (session == g.session) || ((number == g.number) && not (pointwise ◌==◌ key g.step.key))) ≡ true
-    → beside_callers session number key g.step.key g.joined ≡ true → comes_behind (events_of place g) session number key ≡ true
-behind-group place g session number key beside callers =
+pub behind-group : (place : ℕ) (g : Group) (caller : Caller) (key : Bytes) → (not (caller.session == g.caller.session) || ((caller.call == g.caller.call) && not (pointwise ◌==◌ key g.step.key))) ≡ true
+    → beside_callers caller key g.step.key g.joined ≡ true → comes_behind (events_of place g) caller key ≡ true
+behind-group place g caller key beside callers =
     let shared : List Event = map (shared_event (step_place place g) g.step.key g.step.out.load) g.joined in
-    behind-append (victim_events g.victim ++ step_event g ∷ shared) (evicted_events g.step.key g.evicted) session number key
-    (behind-append (victim_events g.victim) (step_event g ∷ shared) session number key (behind-victim g.victim session number key)
-    (join_and _ _ (comes_beside g.session g.number g.step.key g.step.op g.step.out None g.step.reply session number key beside) (behind-shared (step_place place g) g.step.key g.step.out.load g.joined session number key callers)))
-    (behind-evicted g.step.key g.evicted session number key)
+    behind-append (victim_events g.victim ++ step_event g ∷ shared) (evicted_events g.step.key g.evicted) caller key
+    (behind-append (victim_events g.victim) (step_event g ∷ shared) caller key (behind-victim g.victim caller key)
+    (join_and _ _ (comes_beside g.caller g.step.key g.step.op g.step.out None g.step.reply caller key beside) (behind-shared (step_place place g) g.step.key g.step.out.load g.joined caller key callers)))
+    (behind-evicted g.step.key g.evicted caller key)
 
 -- 2. The order of the events.
 
-follows_come : (xs : List Event) (s n : ℕ) (op : Op) (k : Bytes) (out : Out) (shared : Option ℕ) (reply : Reply) → list_all (λ e. may_follow e (Step s n op k out shared reply)) xs ≡ comes_behind xs s n k
-follows_come [] s n op k out shared reply = refl
-follows_come (Step s' n' op' k' out' shared' reply' ∷ xs) s n op k out shared reply = ap (λ b. may_come (Step s' n' op' k' out' shared' reply') s n k && b) (follows_come xs s n op k out shared reply)
-follows_come (Evict k' cause ∷ xs) s n op k out shared reply = follows_come xs s n op k out shared reply
+follows_come : (xs : List Event) (who : Caller) (op : Op) (k : Bytes) (out : Out) (shared : Option ℕ) (reply : Reply) → list_all (λ e. may_follow e (Step who op k out shared reply)) xs ≡ comes_behind xs who k
+follows_come [] who op k out shared reply = refl
+follows_come (Step who' op' k' out' shared' reply' ∷ xs) who op k out shared reply = ap (λ b. may_come (Step who' op' k' out' shared' reply') who k && b) (follows_come xs who op k out shared reply)
+follows_come (Evict k' cause ∷ xs) who op k out shared reply = follows_come xs who op k out shared reply
 
 -- a step more, behind which it may come
-pub order-pushed : (xs : List Event) (s n : ℕ) (op : Op) (k : Bytes) (out : Out) (shared : Option ℕ) (reply : Reply) → in_order xs ≡ true → comes_behind xs s n k ≡ true → in_order (xs ++ Step s n op k out shared reply ∷ []) ≡ true
-order-pushed xs s n op k out shared reply g h = order-last xs (Step s n op k out shared reply) ∙ join_and _ _ g (follows_come xs s n op k out shared reply ∙ h)
+pub order-pushed : (xs : List Event) (who : Caller) (op : Op) (k : Bytes) (out : Out) (shared : Option ℕ) (reply : Reply) → in_order xs ≡ true → comes_behind xs who k ≡ true → in_order (xs ++ Step who op k out shared reply ∷ []) ≡ true
+order-pushed xs who op k out shared reply g h = order-last xs (Step who op k out shared reply) ∙ join_and _ _ g (follows_come xs who op k out shared reply ∙ h)
 
 follows_evict : (xs : List Event) (k : Bytes) (cause : Cause) → list_all (λ e. may_follow e (Evict k cause)) xs ≡ true
 follows_evict [] k cause = refl
-follows_evict (Step s n op key out shared reply ∷ xs) k cause = follows_evict xs k cause
+follows_evict (Step who op key out shared reply ∷ xs) k cause = follows_evict xs k cause
 follows_evict (Evict key c ∷ xs) k cause = follows_evict xs k cause
 
 order-evicted : (xs : List Event) (k : Bytes) (cause : Cause) → in_order xs ≡ true → in_order (xs ++ Evict k cause ∷ []) ≡ true
@@ -126,55 +127,55 @@ order-own xs k None g = ap in_order (append-nil xs) ∙ g
 order-own xs k (Some cause) g = order-evicted xs k cause g
 
 -- the callers are of different sessions
-abbrev pub apart_callers : List (ℕ × ℕ) → Bool
+abbrev pub apart_callers : List Caller → Bool
 apart_callers [] = true
-apart_callers (c ∷ cs) = list_all (λ d. not (d.0 == c.0)) cs && apart_callers cs
+apart_callers (c ∷ cs) = list_all (λ d. not (d.session == c.session)) cs && apart_callers cs
 
 -- each of the callers may come behind these at a key
-abbrev pub callers_behind : List Event → Bytes → List (ℕ × ℕ) → Bool
-callers_behind events key callers = list_all (λ c. comes_behind events c.0 c.1 key) callers
+abbrev pub callers_behind : List Event → Bytes → List Caller → Bool
+callers_behind events key callers = list_all (λ c. comes_behind events c key) callers
 
 -- also behind one step more, of another session
-callers_pushed : (xs : List Event) (s n : ℕ) (k : Bytes) (op : Op) (out : Out) (shared : Option ℕ) (reply : Reply) (key : Bytes) (callers : List (ℕ × ℕ)) → list_all (λ d. not (d.0 == s)) callers ≡ true
-    → callers_behind xs key callers ≡ true → callers_behind (xs ++ Step s n op k out shared reply ∷ []) key callers ≡ true
-callers_pushed xs s n k op out shared reply key [] apart h = refl
-callers_pushed xs s n k op out shared reply key (c ∷ cs) apart h =
-    let away = both (not (c.0 == s)) (list_all (λ d. not (d.0 == s)) cs) apart in
-    let parts = both (comes_behind xs c.0 c.1 key) (callers_behind xs key cs) h in
-    join_and _ _ (behind-append xs (Step s n op k out shared reply ∷ []) c.0 c.1 key parts.0 (join_and _ _ (comes_away s n k op out shared reply c.0 c.1 key away.0) refl))
-    (callers_pushed xs s n k op out shared reply key cs away.1 parts.1)
+callers_pushed : (xs : List Event) (who : Caller) (k : Bytes) (op : Op) (out : Out) (shared : Option ℕ) (reply : Reply) (key : Bytes) (callers : List Caller) → list_all (λ d. not (d.session == who.session)) callers ≡ true
+    → callers_behind xs key callers ≡ true → callers_behind (xs ++ Step who op k out shared reply ∷ []) key callers ≡ true
+callers_pushed xs who k op out shared reply key [] apart h = refl
+callers_pushed xs who k op out shared reply key (c ∷ cs) apart h =
+    let away = both (not (c.session == who.session)) (list_all (λ d. not (d.session == who.session)) cs) apart in
+    let parts = both (comes_behind xs c key) (callers_behind xs key cs) h in
+    join_and _ _ (behind-append xs (Step who op k out shared reply ∷ []) c key parts.0 (join_and _ _ (comes_away who k op out shared reply c key away.0) refl))
+    (callers_pushed xs who k op out shared reply key cs away.1 parts.1)
 
-order-shared : (xs : List Event) (place : ℕ) (key : Bytes) (answer : LoadAnswer) (callers : List (ℕ × ℕ)) → in_order xs ≡ true → callers_behind xs key callers ≡ true → apart_callers callers ≡ true
+order-shared : (xs : List Event) (place : ℕ) (key : Bytes) (answer : LoadAnswer) (callers : List Caller) → in_order xs ≡ true → callers_behind xs key callers ≡ true → apart_callers callers ≡ true
     → in_order (xs ++ map (shared_event place key answer) callers) ≡ true
 order-shared xs place key answer [] g h apart = ap in_order (append-nil xs) ∙ g
 order-shared xs place key answer (c ∷ cs) g h apart =
-    let parts = both (comes_behind xs c.0 c.1 key) (callers_behind xs key cs) h in
-    let aside = both (list_all (λ d. not (d.0 == c.0)) cs) (apart_callers cs) apart in
+    let parts = both (comes_behind xs c key) (callers_behind xs key cs) h in
+    let aside = both (list_all (λ d. not (d.session == c.session)) cs) (apart_callers cs) apart in
     ap in_order (sym (append_assoc xs (shared_event place key answer c ∷ []) (map (shared_event place key answer) cs)))
-    ∙ order-shared (xs ++ shared_event place key answer c ∷ []) place key answer cs (order-pushed xs c.0 c.1 Get key (load_only answer) (Some place) (reply_after Get None (load_only answer)) g parts.0) (callers_pushed xs c.0 c.1 key Get (load_only answer) (Some place) (reply_after Get None (load_only answer)) key cs aside.0 parts.1) aside.1
+    ∙ order-shared (xs ++ shared_event place key answer c ∷ []) place key answer cs (order-pushed xs c Get key (load_only answer) (Some place) (reply_after Get None (load_only answer)) g parts.0) (callers_pushed xs c key Get (load_only answer) (Some place) (reply_after Get None (load_only answer)) key cs aside.0 parts.1) aside.1
 
 -- what is known of who puts a group down
-pub record MayPut (events : List Event) (session call : ℕ) (key : Bytes) (callers : List (ℕ × ℕ)) : Type 0 where
-  pub behind : comes_behind events session call key ≡ true
+pub record MayPut (events : List Event) (caller : Caller) (key : Bytes) (callers : List Caller) : Type 0 where
+  pub behind : comes_behind events caller key ≡ true
   pub callers_behind : callers_behind events key callers ≡ true
-  pub callers_away : list_all (λ d. not (d.0 == session)) callers ≡ true
+  pub callers_away : list_all (λ d. not (d.session == caller.session)) callers ≡ true
   pub callers_apart : apart_callers callers ≡ true
 
-callers_victim : (xs : List Event) (victim : Option Bytes) (key : Bytes) (callers : List (ℕ × ℕ)) → callers_behind xs key callers ≡ true → callers_behind (xs ++ victim_events victim) key callers ≡ true
+callers_victim : (xs : List Event) (victim : Option Bytes) (key : Bytes) (callers : List Caller) → callers_behind xs key callers ≡ true → callers_behind (xs ++ victim_events victim) key callers ≡ true
 callers_victim xs victim key [] h = refl
 callers_victim xs victim key (c ∷ cs) h =
-    let parts = both (comes_behind xs c.0 c.1 key) (callers_behind xs key cs) h in
-    join_and _ _ (behind-append xs (victim_events victim) c.0 c.1 key parts.0 (behind-victim victim c.0 c.1 key)) (callers_victim xs victim key cs parts.1)
+    let parts = both (comes_behind xs c key) (callers_behind xs key cs) h in
+    join_and _ _ (behind-append xs (victim_events victim) c key parts.0 (behind-victim victim c key)) (callers_victim xs victim key cs parts.1)
 
 -- a group more
-pub order-group : (xs : List Event) (place : ℕ) (g : Group) → in_order xs ≡ true → MayPut xs g.session g.number g.step.key g.joined → in_order (xs ++ events_of place g) ≡ true
+pub order-group : (xs : List Event) (place : ℕ) (g : Group) → in_order xs ≡ true → MayPut xs g.caller g.step.key g.joined → in_order (xs ++ events_of place g) ≡ true
 order-group xs place g order may =
     let shared : List Event = map (shared_event (step_place place g) g.step.key g.step.out.load) g.joined in
     let one : List Event = xs ++ victim_events g.victim in
     let two : List Event = one ++ step_event g ∷ [] in
-    let order_two : in_order two ≡ true = order-pushed one g.session g.number g.step.op g.step.key g.step.out None g.step.reply (order-victim xs g.victim order)
-    (behind-append xs (victim_events g.victim) g.session g.number g.step.key may.behind (behind-victim g.victim g.session g.number g.step.key)) in
-    let behind_two : callers_behind two g.step.key g.joined ≡ true = callers_pushed one g.session g.number g.step.key g.step.op g.step.out None g.step.reply g.step.key g.joined may.callers_away
+    let order_two : in_order two ≡ true = order-pushed one g.caller g.step.op g.step.key g.step.out None g.step.reply (order-victim xs g.victim order)
+    (behind-append xs (victim_events g.victim) g.caller g.step.key may.behind (behind-victim g.victim g.caller g.step.key)) in
+    let behind_two : callers_behind two g.step.key g.joined ≡ true = callers_pushed one g.caller g.step.key g.step.op g.step.out None g.step.reply g.step.key g.joined may.callers_away
     (callers_victim xs g.victim g.step.key g.joined may.callers_behind) in
     let spelled : xs ++ events_of place g ≡ (two ++ shared) ++ evicted_events g.step.key g.evicted =
     sym (append_assoc xs (victim_events g.victim ++ step_event g ∷ shared) (evicted_events g.step.key g.evicted))
@@ -184,7 +185,7 @@ order-group xs place g order may =
 
 -- 3. The stripe's keys.
 
-own-shared : (m : State) (place : ℕ) (key : Bytes) (answer : LoadAnswer) (callers : List (ℕ × ℕ)) → is_of m key ≡ true → list_all (is_own m) (map (shared_event place key answer) callers) ≡ true
+own-shared : (m : State) (place : ℕ) (key : Bytes) (answer : LoadAnswer) (callers : List Caller) → is_of m key ≡ true → list_all (is_own m) (map (shared_event place key answer) callers) ≡ true
 own-shared m place key answer [] h = refl
 own-shared m place key answer (c ∷ cs) h = join_and _ _ h (own-shared m place key answer cs h)
 
@@ -217,7 +218,7 @@ own_found m v (e ∷ es) h all =
 
 -- so is the key that has to go
 pub own_least : (m : State) (v : Bytes) → list_all (λ entry. is_of m entry.0) (by_use m.opening m.history) ≡ true → least_used m ≡ Some v → is_of m v ≡ true
-own_least m v all h = own_found m v (by_use m.opening m.history) (evicted_of-found (by_use m.opening m.history) (pinned m.reservations) v h) all
+own_least m v all h = own_found m v (by_use m.opening m.history) (lru_victim-found (by_use m.opening m.history) (pinned m.reservations) v h) all
 
 own_others : (m : State) (key : Bytes) (entries : List (Bytes × Bytes)) → list_all (λ entry. is_of m entry.0) entries ≡ true → list_all (λ entry. is_of m entry.0) (others key entries) ≡ true
 own_others m key [] h = refl
@@ -229,7 +230,7 @@ own_listed : (m : State) (key : Bytes) (entry : Option Bytes) (entries : List (B
 own_listed m key None entries k h = own_others m key entries h
 own_listed m key (Some value) entries k h = join_and _ _ k (own_others m key entries h)
 
-own_without : (m : State) (victim : Option Bytes) (entries : List (Bytes × Bytes)) → list_all (λ e. is_of m e.0) entries ≡ true → list_all (λ e. is_of m e.0) (without victim entries) ≡ true
+own_without : (m : State) (victim : Option Bytes) (entries : List (Bytes × Bytes)) → list_all (λ e. is_of m e.0) entries ≡ true → list_all (λ e. is_of m e.0) (after_eviction victim entries) ≡ true
 own_without m None entries h = h
 own_without m (Some v) entries h = own_others m v entries h
 
@@ -239,11 +240,11 @@ own_used m key op out entries k h = elim (is_use op out) as (λ b. list_all (λ 
   | false ↦ h
 ]
 
-own_goes : (m : State) (key : Bytes) (cause : Option Cause) (entries : List (Bytes × Bytes)) → list_all (λ e. is_of m e.0) entries ≡ true → list_all (λ e. is_of m e.0) (own_gone key cause entries) ≡ true
+own_goes : (m : State) (key : Bytes) (cause : Option Cause) (entries : List (Bytes × Bytes)) → list_all (λ e. is_of m e.0) entries ≡ true → list_all (λ e. is_of m e.0) (without_own_entry key cause entries) ≡ true
 own_goes m key None entries h = h
 own_goes m key (Some cause) entries h = own_others m key entries h
 
 -- the entries that a group leaves are of the stripe's keys
 pub own_left : (m : State) (entries : List (Bytes × Bytes)) (key : Bytes) (op : Op) (out : Out) (victim : Option Bytes) (evicted : Option Cause) → is_of m key ≡ true → list_all (λ e. is_of m e.0) entries ≡ true
-    → list_all (λ e. is_of m e.0) (entries_left entries key op out victim evicted) ≡ true
-own_left m entries key op out victim evicted k h = own_goes m key evicted _ (own_used m key op out (without victim entries) k (own_without m victim entries h))
+    → list_all (λ e. is_of m e.0) (entries_after entries key op out victim evicted) ≡ true
+own_left m entries key op out victim evicted k h = own_goes m key evicted _ (own_used m key op out (after_eviction victim entries) k (own_without m victim entries h))

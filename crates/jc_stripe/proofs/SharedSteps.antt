@@ -10,13 +10,14 @@ use Rattle.jc_model.specs.Cache.{Bytes}
 use Rattle.jc_model.specs.Table.{reply_after}
 use Rattle.jc_model.specs.Group.{Group, events_of, evicted_events, load_only, shared_event, step_event, step_place, victim_events}
 use Rattle.jc_stripe.proofs.Settled.{SharedAt}
+use Rattle.jc_types.specs.declared.caller.Caller.{Caller}
 
 -- an event stands where those before it end
 stands_at : (before : List Event) (event : Event) (after : List Event) → slice_get (before ++ event ∷ after) (length before) ≡ Some event
 stands_at before event after =
     slice_get-get_or (before ++ event ∷ after) (length before) event (omega (arith, length-append before (event ∷ after))) ∙ ap Some (get_or-append_seam before event after event)
 
-pub shared-at : (before after : List Event) (shared : ℕ) (key : Bytes) (answer : LoadAnswer) (callers : List (ℕ × ℕ)) (history : List Event) (place : ℕ)
+pub shared-at : (before after : List Event) (shared : ℕ) (key : Bytes) (answer : LoadAnswer) (callers : List Caller) (history : List Event) (place : ℕ)
     → history ≡ before ++ (map (shared_event shared key answer) callers ++ after) → place ≡ length before → SharedAt history shared key place callers
 shared-at before after shared key answer [] history place is at = tt
 shared-at before after shared key answer (c ∷ cs) history place is at =

@@ -22,21 +22,24 @@ use Rattle.jc_model.specs.Lawful.{IsLawful}
 use Rattle.jc_model.specs.Legal.{IsHistory, in_order}
 use Rattle.jc_model.proofs.Lookups.{both, same_key, get-with_entry}
 use Rattle.jc_entries.specs.ByUse.{is_pinned}
-use Rattle.jc_entries.proofs.UseLemmas.{evicted_of-free}
+use Rattle.jc_entries.proofs.CallerLemmas.{lru_victim-unpinned}
 use Rattle.jc_inflight.specs.declared.joiner.Joiner.{Joiner}
-use Rattle.jc_stripe.specs.State.{State, Reserved, is_key, is_of, waits}
+use Rattle.jc_stripe.specs.State.{State, is_key, is_of, waits}
 use Rattle.jc_stripe.specs.OrderOfUse.{by_use, pinned, least_used}
-use Rattle.jc_stripe.specs.Phases.{is_beside, is_apart, group_made, inserts_here, overflows, victim_of, own_cause, gone_on}
+use Rattle.jc_stripe.specs.Phases.{is_other_call, is_other_join, new_group, inserts_here, overflows, own_cause, after_group}
 use Rattle.jc_stripe.specs.Reached.{IsUsed, may_end, may_share, is_own}
-use Rattle.jc_stripe.specs.Putting.{entries_left}
+use Rattle.jc_stripe.specs.Appending.{entries_after}
 use Rattle.jc_stripe.proofs.Used.{by_use-append, by_use-group, apart-left, from-left}
 use Rattle.jc_stripe.proofs.Lawfully.{history-push, lawful-push, cache_after-push, victim_known, own_entry}
 use Rattle.jc_stripe.proofs.Ordered.{join_and, comes_behind, behind-append, behind-group, own_least, own_left, own-group}
+use Rattle.jc_stripe.specs.Phases as phases
+use Rattle.jc_types.specs.declared.caller.Caller.{Caller}
+use Rattle.jc_stripe.specs.declared.ticket.Reservation.{Reservation}
 
 -- 1. The history, and what it leaves.
 
 pub legal_on : (m : State) (start : Cache) (g : Group) → IsHistory m.config start m.history m.cache → IsLawful m.config m.cache g → in_order (m.history ++ events_of (length m.history) g) ≡ true
-    → IsHistory m.config start (gone_on m g).history (gone_on m g).cache
+    → IsHistory m.config start (after_group m g).history (after_group m g).cache
 legal_on m start g legal lawful order = record {
   groups = legal.groups ++ g ∷ [];
   spelled = ap (λ h. h ++ events_of (length h) g) legal.spelled ∙ sym (history-push 0 legal.groups g ∙ ap (λ n. history_of 0 legal.groups ++ events_of n g) (zero-add (length (history_of 0 legal.groups))));
@@ -47,10 +50,10 @@ legal_on m start g legal lawful order = record {
 
 -- the entries by use behind a group
 pub by_use_on : (m : State) (g : Group)
-    → by_use (gone_on m g).opening (gone_on m g).history ≡ entries_left (by_use m.opening m.history) g.step.key g.step.op g.step.out g.victim g.evicted
+    → by_use (after_group m g).opening (after_group m g).history ≡ entries_after (by_use m.opening m.history) g.step.key g.step.op g.step.out g.victim g.evicted
 by_use_on m g = by_use-append m.opening m.history (events_of (length m.history) g) ∙ by_use-group (by_use m.opening m.history) (length m.history) g
 
-pub used_on : (m : State) (g : Group) → IsUsed m → is_of m g.step.key ≡ true → IsUsed (gone_on m g)
+pub used_on : (m : State) (g : Group) → IsUsed m → is_of m g.step.key ≡ true → IsUsed (after_group m g)
 used_on m g used key = record {
   once = rw (by_use_on m g) (apart-left (by_use m.opening m.history) g.step.key g.step.op g.step.out g.victim g.evicted used.once);
   own = rw (by_use_on m g) (own_left m (by_use m.opening m.history) g.step.key g.step.op g.step.out g.victim g.evicted key used.own);
@@ -58,17 +61,17 @@ used_on m g used key = record {
 }
 
 -- the events are of the stripe's keys
-pub own_on : (m : State) (session call : ℕ) (key : Bytes) (op : Op) (out : Out) (callers : List (ℕ × ℕ)) (short : Bool) → IsUsed m → list_all (is_own m) m.history ≡ true → is_of m key ≡ true
-    → list_all (is_own m) (m.history ++ events_of (length m.history) (group_made m session call key op out callers short)) ≡ true
-own_on m session call key op out callers short used own k =
-    let g = group_made m session call key op out callers short in
+pub own_on : (m : State) (caller : Caller) (key : Bytes) (op : Op) (out : Out) (callers : List Caller) (short : Bool) → IsUsed m → list_all (is_own m) m.history ≡ true → is_of m key ≡ true
+    → list_all (is_own m) (m.history ++ events_of (length m.history) (new_group m caller key op out callers short)) ≡ true
+own_on m caller key op out callers short used own k =
+    let g = new_group m caller key op out callers short in
     list_all-append (is_own m) m.history (events_of (length m.history) g)
     ∙ join_and _ _ own (own-group m (length m.history) g k (λ v h. own_least m v used.own (victim_known m key op out v used h).least))
 
 -- 2. The entries of other keys, and of reserved ones.
 
 -- a reserved key isn't the victim
-pinned_key : (q : Bytes) (rs : List Reserved) → list_any (is_key q) rs ≡ true → is_pinned (pinned rs) q ≡ true
+pinned_key : (q : Bytes) (rs : List Reservation) → list_any (is_key q) rs ≡ true → is_pinned (pinned rs) q ≡ true
 pinned_key q [] h = cc
 pinned_key q (r ∷ rs) h =
     elim (is_key q r) as (λ b. is_key q r ≡ b → (b || list_any (is_key q) rs) ≡ true → (pointwise ◌==◌ r.key q || is_pinned (pinned rs) q) ≡ true) [
@@ -85,15 +88,15 @@ clash true g h = cc
 clash false g h = cc
 
 -- what is reserved stays without the victim
-kept_without : (m : State) (key : Bytes) (op : Op) (out : Out) (q : Bytes) (victim : Option Bytes) → IsUsed m → victim_of m key op out ≡ victim → list_any (is_key q) m.reservations ≡ true
-    → entry_at (group.without m.cache victim) q ≡ entry_at m.cache q
+kept_without : (m : State) (key : Bytes) (op : Op) (out : Out) (q : Bytes) (victim : Option Bytes) → IsUsed m → phases.victim m key op out ≡ victim → list_any (is_key q) m.reservations ≡ true
+    → entry_at (group.without_victim m.cache victim) q ≡ entry_at m.cache q
 kept_without m key op out q None used h there = refl
 kept_without m key op out q (Some v) used h there =
     get-remove nat_list_cmp_total m.cache v q ∙ go (eq_by_cmp key_cmp q v) (λ e. same_key q v e)
   where
     go : (b : Bool) → (b ≡ true → q ≡ v) → cond b None (entry_at m.cache q) ≡ entry_at m.cache q
     go true same = absurd (clash (is_pinned (pinned m.reservations) v) (ap (is_pinned (pinned m.reservations)) (sym (same refl)) ∙ pinned_key q m.reservations there)
-        (evicted_of-free (by_use m.opening m.history) (pinned m.reservations) v (victim_known m key op out v used h).least))
+        (lru_victim-unpinned (by_use m.opening m.history) (pinned m.reservations) v (victim_known m key op out v used h).least))
     go false same = refl
 
 -- a step that leaves its entry inserts nothing
@@ -116,26 +119,26 @@ own_out cache key q entry (Some cause) apart =
     ∙ get-with_entry cache key entry q ∙ ap (λ b. cond b entry (entry_at cache q)) apart
 
 -- the entry of a reserved key stays, and that of the step's key where the step leaves it
-pub kept_on : (m : State) (session call : ℕ) (key : Bytes) (op : Op) (out : Out) (callers : List (ℕ × ℕ)) (short : Bool) (q : Bytes) → IsUsed m → list_any (is_key q) m.reservations ≡ true
-    → (q ≡ key → entry_after op (entry_at m.cache key) out ≡ entry_at m.cache key) → entry_at (cache_after_group m.cache (group_made m session call key op out callers short)) q ≡ entry_at m.cache q
-kept_on m session call key op out callers short q used there keeps = go (eq_by_cmp key_cmp q key) refl
+pub kept_on : (m : State) (caller : Caller) (key : Bytes) (op : Op) (out : Out) (callers : List Caller) (short : Bool) (q : Bytes) → IsUsed m → list_any (is_key q) m.reservations ≡ true
+    → (q ≡ key → entry_after op (entry_at m.cache key) out ≡ entry_at m.cache key) → entry_at (cache_after_group m.cache (new_group m caller key op out callers short)) q ≡ entry_at m.cache q
+kept_on m caller key op out callers short q used there keeps = go (eq_by_cmp key_cmp q key) refl
   where
     base : Cache
-    base = group.without m.cache (victim_of m key op out)
+    base = group.without_victim m.cache (phases.victim m key op out)
 
     left : Option Bytes
     left = entry_after op (entry_at base key) out
 
     here : (i : Bool) → inserts_here m key op out ≡ i → i ≡ false → entry_after op (entry_at m.cache key) out ≡ entry_at m.cache key → q ≡ key
-        → entry_at (without_own (with_entry base key left) key (own_cause i (overflows m key op out) (is_some (victim_of m key op out)) short)) q ≡ entry_at m.cache q
+        → entry_at (without_own (with_entry base key left) key (own_cause i (overflows m key op out) (is_some (phases.victim m key op out)) short)) q ≡ entry_at m.cache q
     here true e f same is = cc
     here false e f same is =
         get-with_entry base key left q ∙ ap (λ b. cond b left (entry_at base q)) (ap (λ k. eq_by_cmp key_cmp k key) is ∙ (eq_by_cmp_equiv nat_list_cmp_total).refl key)
         ∙ ap (λ o. entry_after op o out) (own_entry m key op out _ used refl) ∙ same ∙ ap (entry_at m.cache) (sym is)
 
-    go : (b : Bool) → eq_by_cmp key_cmp q key ≡ b → entry_at (cache_after_group m.cache (group_made m session call key op out callers short)) q ≡ entry_at m.cache q
+    go : (b : Bool) → eq_by_cmp key_cmp q key ≡ b → entry_at (cache_after_group m.cache (new_group m caller key op out callers short)) q ≡ entry_at m.cache q
     go true e = let is = same_key q key e in here (inserts_here m key op out) refl (not_inserted m key op out (keeps is)) (keeps is) is
-    go false e = own_out base key q left _ e ∙ kept_without m key op out q (victim_of m key op out) used refl there
+    go false e = own_out base key q left _ e ∙ kept_without m key op out q (phases.victim m key op out) used refl there
 
 -- 3. What may still come.
 
@@ -153,33 +156,33 @@ all_swap {A} {B} p xs (y ∷ ys) h = join_and _ _ (firsts xs h) (all_swap p xs y
     rests (x ∷ xs) h = let parts = both (p x y && list_all (p x) ys) (list_all (λ x. list_all (p x) (y ∷ ys)) xs) h in join_and _ _ (both (p x y) (list_all (p x) ys) parts.0).1 (rests xs parts.1)
 
 -- the steps of reservations that are beside those of the group may still come
-pub ends_on : (history : List Event) (place : ℕ) (g : Group) (rs : List Reserved) → list_all (may_end history) rs ≡ true → list_all (is_beside g.session g.number g.step.key) rs ≡ true
-    → list_all (λ r. list_all (λ c. is_beside c.0 c.1 g.step.key r) g.joined) rs ≡ true → list_all (may_end (history ++ events_of place g)) rs ≡ true
+pub ends_on : (history : List Event) (place : ℕ) (g : Group) (rs : List Reservation) → list_all (may_end history) rs ≡ true → list_all (is_other_call g.caller g.step.key) rs ≡ true
+    → list_all (λ r. list_all (λ c. is_other_call c g.step.key r) g.joined) rs ≡ true → list_all (may_end (history ++ events_of place g)) rs ≡ true
 ends_on history place g [] ends beside callers = refl
 ends_on history place g (r ∷ rs) ends beside callers =
     let e = both (may_end history r) (list_all (may_end history) rs) ends in
-    let b = both (is_beside g.session g.number g.step.key r) (list_all (is_beside g.session g.number g.step.key) rs) beside in
-    let c = both (list_all (λ c. is_beside c.0 c.1 g.step.key r) g.joined) (list_all (λ r. list_all (λ c. is_beside c.0 c.1 g.step.key r) g.joined) rs) callers in
-    join_and _ _ (behind-append history (events_of place g) r.session r.call r.key e.0 (behind-group place g r.session r.call r.key b.0 c.0)) (ends_on history place g rs e.1 b.1 c.1)
+    let b = both (is_other_call g.caller g.step.key r) (list_all (is_other_call g.caller g.step.key) rs) beside in
+    let c = both (list_all (λ c. is_other_call c g.step.key r) g.joined) (list_all (λ r. list_all (λ c. is_other_call c g.step.key r) g.joined) rs) callers in
+    join_and _ _ (behind-append history (events_of place g) r.caller r.key e.0 (behind-group place g r.caller r.key b.0 c.0)) (ends_on history place g rs e.1 b.1 c.1)
 
 -- so may those of joiners that wait
-pub shares_on : (history : List Event) (place : ℕ) (g : Group) (js : List Joiner) → list_all (may_share history) js ≡ true → list_all (λ j. not (waits j) || is_apart g.session g.number g.step.key j) js ≡ true
-    → list_all (λ j. list_all (λ c. not (waits j) || is_apart c.0 c.1 g.step.key j) g.joined) js ≡ true → list_all (may_share (history ++ events_of place g)) js ≡ true
+pub shares_on : (history : List Event) (place : ℕ) (g : Group) (js : List Joiner) → list_all (may_share history) js ≡ true → list_all (λ j. not (waits j) || is_other_join g.caller g.step.key j) js ≡ true
+    → list_all (λ j. list_all (λ c. not (waits j) || is_other_join c g.step.key j) g.joined) js ≡ true → list_all (may_share (history ++ events_of place g)) js ≡ true
 shares_on history place g [] shares apart callers = refl
 shares_on history place g (j ∷ js) shares apart callers =
     let s = both (may_share history j) (list_all (may_share history) js) shares in
-    let a = both (not (waits j) || is_apart g.session g.number g.step.key j) (list_all (λ j. not (waits j) || is_apart g.session g.number g.step.key j) js) apart in
-    let c = both (list_all (λ c. not (waits j) || is_apart c.0 c.1 g.step.key j) g.joined) (list_all (λ j. list_all (λ c. not (waits j) || is_apart c.0 c.1 g.step.key j) g.joined) js) callers in
+    let a = both (not (waits j) || is_other_join g.caller g.step.key j) (list_all (λ j. not (waits j) || is_other_join g.caller g.step.key j) js) apart in
+    let c = both (list_all (λ c. not (waits j) || is_other_join c g.step.key j) g.joined) (list_all (λ j. list_all (λ c. not (waits j) || is_other_join c g.step.key j) g.joined) js) callers in
     join_and _ _ (one (waits j) g.joined s.0 a.0 c.0) (shares_on history place g js s.1 a.1 c.1)
   where
-    each : (callers : List (ℕ × ℕ)) → list_all (λ c. false || is_apart c.0 c.1 g.step.key j) callers ≡ true → list_all (λ c. is_apart c.0 c.1 g.step.key j) callers ≡ true
+    each : (callers : List Caller) → list_all (λ c. false || is_other_join c g.step.key j) callers ≡ true → list_all (λ c. is_other_join c g.step.key j) callers ≡ true
     each [] h = refl
     each (c ∷ cs) h = h
 
-    one : (w : Bool) (callers : List (ℕ × ℕ)) → (not w || comes_behind history j.session j.number j.key) ≡ true → (not w || is_apart g.session g.number g.step.key j) ≡ true
-        → list_all (λ c. not w || is_apart c.0 c.1 g.step.key j) g.joined ≡ true → (not w || comes_behind (history ++ events_of place g) j.session j.number j.key) ≡ true
+    one : (w : Bool) (callers : List Caller) → (not w || comes_behind history j.caller j.key) ≡ true → (not w || is_other_join g.caller g.step.key j) ≡ true
+        → list_all (λ c. not w || is_other_join c g.step.key j) g.joined ≡ true → (not w || comes_behind (history ++ events_of place g) j.caller j.key) ≡ true
     one false callers s a c = refl
-    one true callers s a c = behind-append history (events_of place g) j.session j.number j.key s (behind-group place g j.session j.number j.key a c)
+    one true callers s a c = behind-append history (events_of place g) j.caller j.key s (behind-group place g j.caller j.key a c)
 
 -- 4. How many events a group has.
 
@@ -192,7 +195,7 @@ length-victim victim key cause = at_most victim cause
     at_most (Some v) None = omega arith
     at_most (Some v) (Some c) = omega arith
 
-length-shared : (place : ℕ) (key : Bytes) (answer : LoadAnswer) (callers : List (ℕ × ℕ)) → length (map (shared_event place key answer) callers) ≡ length callers
+length-shared : (place : ℕ) (key : Bytes) (answer : LoadAnswer) (callers : List Caller) → length (map (shared_event place key answer) callers) ≡ length callers
 length-shared place key answer [] = refl
 length-shared place key answer (c ∷ cs) = ap suc (length-shared place key answer cs)
 
@@ -208,12 +211,12 @@ few_events place g =
     omega arith
 
 -- one, where the step leaves its entry and nobody shares its load
-pub one_event : (m : State) (session call : ℕ) (key : Bytes) (op : Op) (out : Out) (short : Bool) (place : ℕ) → entry_after op (entry_at m.cache key) out ≡ entry_at m.cache key
-    → length (events_of place (group_made m session call key op out [] short)) ≤ 1
-one_event m session call key op out short place same = go (inserts_here m key op out) (not_inserted m key op out same)
+pub one_event : (m : State) (caller : Caller) (key : Bytes) (op : Op) (out : Out) (short : Bool) (place : ℕ) → entry_after op (entry_at m.cache key) out ≡ entry_at m.cache key
+    → length (events_of place (new_group m caller key op out [] short)) ≤ 1
+one_event m caller key op out short place same = go (inserts_here m key op out) (not_inserted m key op out same)
   where
     go : (i : Bool) → i ≡ false
-        → length (victim_events (cond (i && (len m.cache == m.config.capacity)) (least_used m) None) ++ (Step session call op key out None (reply_after op (entry_at m.cache key) out) ∷ [])
+        → length (victim_events (cond (i && (len m.cache == m.config.capacity)) (least_used m) None) ++ (Step caller op key out None (reply_after op (entry_at m.cache key) out) ∷ [])
         ++ evicted_events key (own_cause i (i && (len m.cache == m.config.capacity)) (is_some (cond (i && (len m.cache == m.config.capacity)) (least_used m) None)) short)) ≤ 1
     go true h = cc
     go false h = omega arith

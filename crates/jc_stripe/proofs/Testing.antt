@@ -1,70 +1,74 @@
--- What a test of a stripe reads from its table of reservations.
-use Rattle.std.proofs.Common.{◌≡◌, ◌&&◌, ℕ, zero, suc, List, [], ◌∷◌, get_or, Bool, false, cond, map, unwrap_or, option_map, Option, None, Some, find, refl, sym, ap, ◌∙◌, arith}
-use Rattle.std.proofs.lemmas.Cmp.{nat_list_eq_equiv}
-use Rattle.std.proofs.lemmas.List.Elements.{All-head, All-tail}
-use Rattle.std.specs.List.{AllPairs, All, list_all}
+-- What a test of all reservations, and of all events of a history, says.
+--     all-map        a test of all that a list is mapped to
+--     all_not        one that fails a test at a place
+--     all_more       a test of the first ones, and of one more
+use Rattle.std.proofs.Common.{◌≡◌, ◌&&◌, ◌+◌, ℕ, zero, suc, List, [], ◌∷◌, map, take, Bool, true, false, cond, Option, None, Some, IsSomeAnd, find, option_map, ◌==◌, refl, sym, ap, ◌∙◌, slice_get, add-one}
+use Rattle.std.proofs.lemmas.Bool.{eqb-true}
+use Rattle.std.specs.List.{list_all}
+use Rattle.std.specs.Cmp.Lexicographic.{same_text}
 use Rattle.jc_model.specs.Cache.{Bytes}
-use Rattle.jc_reserve.specs.Table.{Held, Table, keys_of}
-use Rattle.jc_reserve.specs.Reserving.{is_of, found_at}
-use Rattle.jc_reserve.specs.Sound.{IsSound}
-use Rattle.jc_stripe.specs.declared.ticket.First.{First}
+use Rattle.jc_inflight.specs.declared.joiner.Joiner.{Joiner}
+use Rattle.jc_reserve.specs.declared.held.Held.{Held}
+use Rattle.jc_reserve.specs.Reserving.{has_key}
 use Rattle.jc_stripe.specs.declared.ticket.Note.{Note}
-use Rattle.jc_stripe.specs.declared.stripe.Stripe.TheInside.{Inside}
-use Rattle.jc_stripe.specs.Claim.{Claim}
-use Rattle.jc_stripe.specs.State.{Reserved, is_key, is_claim, IsOut}
-use Rattle.jc_stripe.specs.Phases.{is_beside}
-use Rattle.jc_stripe.specs.Inside.{reserved_of, state_of}
-use Rattle.jc_stripe.proofs.Fields.{note_of, found-reserved_of}
-use Rattle.jc_stripe.proofs.Joining.{found_out}
-use Rattle.jc_stripe.proofs.Numbering.{first_pairs, later_pairs}
-use Rattle.jc_stripe.proofs.Tables.{claimed_there, same_number}
+use Rattle.jc_stripe.specs.State.{is_key}
+use Rattle.jc_stripe.specs.Inside.{note_reservation}
+use Rattle.jc_stripe.proofs.Beside.{join_and}
+use Rattle.jc_model.proofs.Lookups.{both}
 
--- 1. A reservation that is out.
+pub all-map : {A B : Type 0} (p : B → Bool) (f : A → B) (xs : List A) → list_all p (map f xs) ≡ list_all (λ x. p (f x)) xs
+all-map p f [] = refl
+all-map p f (x ∷ xs) = ap (λ b. p (f x) && b) (all-map p f xs)
 
-same_some : {X : Type 0} (x y : X) → Some x ≡ Some y → x ≡ y
-same_some x y h = cc
+and_false : (b : Bool) → (b && false) ≡ false
+and_false true = refl
+and_false false = refl
 
-noted_there : (o : Option Reserved) (number : ℕ) (note : Note) → option_map {U = ℕ × Note} (λ r. (r.number, note_of r)) o ≡ Some (number, note)
-    → (r : Reserved) × (o ≡ Some r) × (r.number ≡ number) × (r.first ≡ note.first)
-noted_there None number note h = cc
-noted_there (Some r) number note h =
-    let p = same_some (r.number, note_of r) (number, note) h in
-    (r, refl, (λ k. (p k).0), (λ k. (p k).1.first))
+pub all_not : {A : Type 0} (p : A → Bool) (xs : List A) (i : ℕ) (x : A) → slice_get xs i ≡ Some x → p x ≡ false → list_all p xs ≡ false
+all_not p [] i x h n = cc
+all_not p (y ∷ ys) zero x h n = let is : y ≡ x = cc in ap (λ b. b && list_all p ys) (ap p is ∙ n)
+all_not p (y ∷ ys) (suc i) x h n = ap (λ b. p y && b) (all_not p ys i x h n) ∙ and_false (p y)
 
--- the number and the note that are found at a key are those of a reservation that is out
-pub noted_out : (i : Inside) (key : Bytes) (number : ℕ) (note : Note) (first : First) → found_at i.reservations key ≡ Some (number, note) → note.first ≡ first
-    → IsOut (state_of i) (record { key = key; number = number }) first
-noted_out i key number note first found asked =
-    let claim : Claim = record { key = key; number = number } in
-    let there = noted_there (find (is_key key) (state_of i).reservations) number note (sym (found-reserved_of i.reservations key) ∙ found) in
-    let r : Reserved = there.0 in
-    found_out (find (is_claim claim) (state_of i).reservations) (λ (x : Reserved). x.first ≡ first) r
-    (claimed_there claim (state_of i).reservations r there.1 (same_number r.number number there.2)) (there.3 ∙ asked)
+pub all_more : {A : Type 0} (p : A → Bool) (xs : List A) (i : ℕ) (x : A) → slice_get xs i ≡ Some x → p x ≡ true → list_all p (take i xs) ≡ true → list_all p (take (suc i) xs) ≡ true
+all_more p [] i x h t before = cc
+all_more p (y ∷ ys) zero x h t before = let is : y ≡ x = cc in join_and _ _ (ap p is ∙ t) refl
+all_more p (y ∷ ys) (suc i) x h t before =
+    let parts = both (p y) (list_all p (take i ys)) before in join_and _ _ parts.0 (all_more p ys i x h t parts.1)
 
--- 2. Reservations beside a call.
+-- what is found at a key is its reservation
+pub held_found : (key : Bytes) (hs : List (Held Note)) (number : ℕ) (note : Note) → option_map {U = ℕ × Note} (λ h. (h.reservation, h.note)) (find (has_key key) hs) ≡ Some (number, note)
+    → find (is_key key) (map note_reservation hs) ≡ Some (note_reservation (record { key = key; reservation = number; note = note }))
+held_found key [] number note h = cc
+held_found key (x ∷ xs) number note h =
+    elim (has_key key x) as (λ b. has_key key x ≡ b → option_map {U = ℕ × Note} (λ h. (h.reservation, h.note)) (cond b (Some x) (find (has_key key) xs)) ≡ Some (number, note)
+    → cond b (Some (note_reservation x)) (find (is_key key) (map note_reservation xs)) ≡ Some (note_reservation (record { key = key; reservation = number; note = note }))) [
+      | true ↦ λ e h.
+          let pair : ◌≡◌ {A = ℕ × Note} (x.reservation, x.note) (number, note) = cc in
+          let k : key ≡ x.key = same_text key x.key (sym e) in
+          λ i. Some (note_reservation (record { key = sym k i; reservation = (pair i).0; note = (pair i).1 }))
+      | false ↦ λ e h. held_found key xs number note h
+    ] refl h
 
-finds_each : (held : List (Held Note)) → AllPairs (λ h later. is_of h.key later ≡ false) held → All (λ h. find (is_of h.key) held ≡ Some h) held
-finds_each [] once k d within = absurd (omega arith)
-finds_each (h ∷ hs) once zero d within = ap (λ b. cond b (Some h) (find (is_of h.key) hs)) (nat_list_eq_equiv.refl h.key)
-finds_each (h ∷ hs) once (suc k) d within =
-    let x = get_or hs k d in
-    let other : is_of h.key x ≡ false = first_pairs (λ (y z : Held Note). is_of y.key z ≡ false) h hs once k d (omega arith) in
-    ap (λ b. cond b (Some h) (find (is_of x.key) hs)) (nat_list_eq_equiv.symm x.key h.key ∙ other)
-    ∙ finds_each hs (later_pairs (λ (y z : Held Note). is_of y.key z ≡ false) h hs once) k d (omega arith)
+pub held_missing : (key : Bytes) (hs : List (Held Note)) → option_map {U = ℕ × Note} (λ h. (h.reservation, h.note)) (find (has_key key) hs) ≡ None → find (is_key key) (map note_reservation hs) ≡ None
+held_missing key [] h = refl
+held_missing key (x ∷ xs) h =
+    elim (has_key key x) as (λ b. option_map {U = ℕ × Note} (λ h. (h.reservation, h.note)) (cond b (Some x) (find (has_key key) xs)) ≡ None → cond b (Some (note_reservation x)) (find (is_key key) (map note_reservation xs)) ≡ None) [
+      | true ↦ λ h. cc
+      | false ↦ λ h. held_missing key xs h
+    ] h
 
--- what is found at a key is beside the call
-abbrev pub beside_at : ℕ → ℕ → Bytes → Bytes → Option (ℕ × Note) → Bool
-beside_at session call key there o = unwrap_or (option_map (λ f. is_beside session call key (reserved_of (record { key = there; number = f.0; note = f.1 }))) o) false
+-- the load that a joiner has joined
+pub load_then : (o : Option Joiner) (load other : ℕ) → option_map (λ j. j.load) o ≡ Some load → (load == other) ≡ true → IsSomeAnd o (λ j. j.load ≡ other)
+load_then None load other h t = cc
+load_then (Some j) load other h t = let is : j.load ≡ load = cc in is ∙ eqb-true load other t
 
-stand_each : (session call : ℕ) (key : Bytes) (all held : List (Held Note)) → All (λ h. find (is_of h.key) all ≡ Some h) held
-    → list_all (λ there. beside_at session call key there (option_map (λ h. (h.number, h.note)) (find (is_of there) all))) (keys_of held) ≡ list_all (is_beside session call key) (map reserved_of held)
-stand_each session call key all [] finds = refl
-stand_each session call key all (h ∷ hs) finds =
-    let first = All-head (λ (x : Held Note). find (is_of x.key) all ≡ Some x) h hs finds in
-    let rest = stand_each session call key all hs (All-tail (λ (x : Held Note). find (is_of x.key) all ≡ Some x) h hs finds) in
-    λ i. beside_at session call key h.key (option_map (λ (x : Held Note). (x.number, x.note)) (first i)) && rest i
+pub load_back : (o : Option Joiner) (load other : ℕ) → option_map (λ j. j.load) o ≡ Some load → IsSomeAnd o (λ j. j.load ≡ other) → load ≡ other
+load_back None load other h t = cc
+load_back (Some j) load other h t = let is : j.load ≡ load = cc in sym is ∙ t
 
--- where what is found at each key is beside the call, each reservation is
-pub stand_beside : (session call : ℕ) (key : Bytes) (table : Table Note) → IsSound table
-    → list_all (λ there. beside_at session call key there (found_at table there)) (keys_of table.held) ≡ list_all (is_beside session call key) (map reserved_of table.held)
-stand_beside session call key table sound = stand_each session call key table.held table.held (finds_each table.held sound.once)
+pub no_load : (o : Option Joiner) (other : ℕ) → option_map (λ j. j.load) o ≡ None → IsSomeAnd o (λ j. j.load ≡ other) → ⊥
+no_load None other h t = t
+no_load (Some j) other h t = some_not j.load h
+  where
+    some_not : (load : ℕ) → Some load ≡ None → ⊥
+    some_not load h = cc

@@ -19,9 +19,10 @@ use Rattle.jc_model.specs.Processor.{found_in}
 use Rattle.jc_model.specs.Group.{Group, victim_events, shared_event, evicted_events, events_of, step_event, step_place, cache_after_group, without_own}
 use Rattle.jc_model.specs.Group as group
 use Rattle.jc_model.proofs.Lookups.{from_entries-others, from_entries-listed, apart-others, apart-listed, same_cache, get-with_entry, same_key}
-use Rattle.jc_entries.specs.ByUse.{without}
+use Rattle.jc_entries.specs.ByUse.{after_eviction}
 use Rattle.jc_stripe.specs.OrderOfUse.{uses, is_use, used_at, used, by_use}
-use Rattle.jc_stripe.specs.Putting.{own_gone, entries_left}
+use Rattle.jc_stripe.specs.Appending.{without_own_entry, entries_after}
+use Rattle.jc_types.specs.declared.caller.Caller.{Caller}
 
 -- 1. The events of a group, one after another.
 
@@ -30,24 +31,24 @@ by_use-append entries [] ys = refl
 by_use-append entries (x ∷ xs) ys = by_use-append (used entries x) xs ys
 
 -- shared steps leave the entries
-pub by_use-shared : (entries : List (Bytes × Bytes)) (place : ℕ) (key : Bytes) (answer : LoadAnswer) (callers : List (ℕ × ℕ)) → by_use entries (map (shared_event place key answer) callers) ≡ entries
+pub by_use-shared : (entries : List (Bytes × Bytes)) (place : ℕ) (key : Bytes) (answer : LoadAnswer) (callers : List Caller) → by_use entries (map (shared_event place key answer) callers) ≡ entries
 by_use-shared entries place key answer [] = refl
 by_use-shared entries place key answer (c ∷ cs) = by_use-shared entries place key answer cs
 
-by_use-victim : (entries : List (Bytes × Bytes)) (victim : Option Bytes) → by_use entries (victim_events victim) ≡ without victim entries
+by_use-victim : (entries : List (Bytes × Bytes)) (victim : Option Bytes) → by_use entries (victim_events victim) ≡ after_eviction victim entries
 by_use-victim entries None = refl
 by_use-victim entries (Some key) = refl
 
-by_use-evicted : (entries : List (Bytes × Bytes)) (key : Bytes) (cause : Option Cause) → by_use entries (evicted_events key cause) ≡ own_gone key cause entries
+by_use-evicted : (entries : List (Bytes × Bytes)) (key : Bytes) (cause : Option Cause) → by_use entries (evicted_events key cause) ≡ without_own_entry key cause entries
 by_use-evicted entries key None = refl
 by_use-evicted entries key (Some cause) = refl
 
--- a group leaves the entries without its victim, with the step's, and without what goes again
-pub by_use-group : (entries : List (Bytes × Bytes)) (place : ℕ) (g : Group) → by_use entries (events_of place g) ≡ entries_left entries g.step.key g.step.op g.step.out g.victim g.evicted
+-- a group leaves the entries after_eviction its victim, with the step's, and after_eviction what goes again
+pub by_use-group : (entries : List (Bytes × Bytes)) (place : ℕ) (g : Group) → by_use entries (events_of place g) ≡ entries_after entries g.step.key g.step.op g.step.out g.victim g.evicted
 by_use-group entries place g =
     let shared : List Event = map (shared_event (step_place place g) g.step.key g.step.out.load) g.joined in
     let own : List Event = evicted_events g.step.key g.evicted in
-    let at : List (Bytes × Bytes) = used_at (without g.victim entries) g.step.key g.step.op g.step.out in
+    let at : List (Bytes × Bytes) = used_at (after_eviction g.victim entries) g.step.key g.step.op g.step.out in
     by_use-append entries (victim_events g.victim ++ step_event g ∷ shared) own
     ∙ ap (λ es. by_use es own)
     (by_use-append entries (victim_events g.victim) (step_event g ∷ shared)
@@ -57,7 +58,7 @@ by_use-group entries place g =
 
 -- 2. The entries, each key once.
 
-apart-without : (victim : Option Bytes) (entries : List (Bytes × Bytes)) → apart entries ≡ true → apart (without victim entries) ≡ true
+apart-without : (victim : Option Bytes) (entries : List (Bytes × Bytes)) → apart entries ≡ true → apart (after_eviction victim entries) ≡ true
 apart-without None entries h = h
 apart-without (Some key) entries h = apart-others key entries h
 
@@ -67,19 +68,19 @@ apart-used_at entries key op out h = elim (is_use op out) as (λ b. apart (cond 
   | false ↦ h
 ]
 
-apart-own_gone : (key : Bytes) (cause : Option Cause) (entries : List (Bytes × Bytes)) → apart entries ≡ true → apart (own_gone key cause entries) ≡ true
+apart-own_gone : (key : Bytes) (cause : Option Cause) (entries : List (Bytes × Bytes)) → apart entries ≡ true → apart (without_own_entry key cause entries) ≡ true
 apart-own_gone key None entries h = h
 apart-own_gone key (Some cause) entries h = apart-others key entries h
 
-pub apart-left : (entries : List (Bytes × Bytes)) (key : Bytes) (op : Op) (out : Out) (victim : Option Bytes) (evicted : Option Cause) → apart entries ≡ true → apart (entries_left entries key op out victim evicted) ≡ true
-apart-left entries key op out victim evicted h = apart-own_gone key evicted _ (apart-used_at (without victim entries) key op out (apart-without victim entries h))
+pub apart-left : (entries : List (Bytes × Bytes)) (key : Bytes) (op : Op) (out : Out) (victim : Option Bytes) (evicted : Option Cause) → apart entries ≡ true → apart (entries_after entries key op out victim evicted) ≡ true
+apart-left entries key op out victim evicted h = apart-own_gone key evicted _ (apart-used_at (after_eviction victim entries) key op out (apart-without victim entries h))
 
 -- 3. The cache that they make.
 
 pub find-entry : (entries : List (Bytes × Bytes)) (key : Bytes) → finite.find key_cmp key entries ≡ entry_at (from_entries {R = key_cmp} entries) key
 find-entry entries key = sym (get-from_entries nat_list_cmp_total entries key)
 
-from-without : (victim : Option Bytes) (entries : List (Bytes × Bytes)) → from_entries {R = key_cmp} (without victim entries) ≡ group.without (from_entries entries) victim
+from-without : (victim : Option Bytes) (entries : List (Bytes × Bytes)) → from_entries {R = key_cmp} (after_eviction victim entries) ≡ group.without_victim (from_entries entries) victim
 from-without None entries = refl
 from-without (Some key) entries = from_entries-others key entries
 
@@ -121,12 +122,12 @@ from-used_at entries key op out = go (is_use op out) refl
     go true e = from_entries-listed key (entry_after op (finite.find key_cmp key entries) out) entries ∙ ap (λ o. with_entry (from_entries entries) key (entry_after op o out)) (find-entry entries key)
     go false e = sym (same-entry (from_entries entries) key _ (unused_keeps op (entry_at (from_entries entries) key) out e))
 
-from-own_gone : (key : Bytes) (cause : Option Cause) (entries : List (Bytes × Bytes)) → from_entries {R = key_cmp} (own_gone key cause entries) ≡ without_own (from_entries entries) key cause
+from-own_gone : (key : Bytes) (cause : Option Cause) (entries : List (Bytes × Bytes)) → from_entries {R = key_cmp} (without_own_entry key cause entries) ≡ without_own (from_entries entries) key cause
 from-own_gone key None entries = refl
 from-own_gone key (Some cause) entries = from_entries-others key entries
 
 -- the entries that a group leaves make the cache that it leaves
-pub from-left : (entries : List (Bytes × Bytes)) (g : Group) → from_entries {R = key_cmp} (entries_left entries g.step.key g.step.op g.step.out g.victim g.evicted) ≡ cache_after_group (from_entries entries) g
+pub from-left : (entries : List (Bytes × Bytes)) (g : Group) → from_entries {R = key_cmp} (entries_after entries g.step.key g.step.op g.step.out g.victim g.evicted) ≡ cache_after_group (from_entries entries) g
 from-left entries g =
-    from-own_gone g.step.key g.evicted (used_at (without g.victim entries) g.step.key g.step.op g.step.out)
-    ∙ ap (λ c. without_own c g.step.key g.evicted) (from-used_at (without g.victim entries) g.step.key g.step.op g.step.out ∙ ap (λ c. seq_cache c g.step) (from-without g.victim entries))
+    from-own_gone g.step.key g.evicted (used_at (after_eviction g.victim entries) g.step.key g.step.op g.step.out)
+    ∙ ap (λ c. without_own c g.step.key g.evicted) (from-used_at (after_eviction g.victim entries) g.step.key g.step.op g.step.out ∙ ap (λ c. seq_cache c g.step) (from-without g.victim entries))

@@ -1,12 +1,13 @@
 -- What a first phase finds at its key, and keeps while it decides. No contract of a public call cites this.
---     found_at         the key's entry, the load that the call joins, whom it asks first, and whether it goes on at a reserved key
---     needs_in         whether the call reserves its key, by what it has found
+--     found_at         the key's entry, the load that the call joins, whom it asks first, whether it needs its key free, and whether the
+--                      key is reserved though the call needs it free
+--     is_to_reserve    whether the call reserves its key, by what it has found
 use Rattle.std.specs.Prelude.{Bool, ◌&&◌, is_none}
 use Rattle.jc_model.specs.declared.event.Op.{Op}
 use Rattle.jc_model.specs.Cache.{Bytes, entry_at}
 use Rattle.jc_stripe.specs.declared.needs.Found.{Found}
-use Rattle.jc_stripe.specs.State.{State}
-use Rattle.jc_stripe.specs.Refusals.{first_asked, reserves, load_joined, goes_on}
+use Rattle.jc_stripe.specs.State.{State, is_reserved}
+use Rattle.jc_stripe.specs.Refusals.{first_asked, reserves, load_joined, needs_free_key}
 
 abbrev pub found_at : State → Bytes → Op → Found
 found_at state key op =
@@ -14,8 +15,9 @@ found_at state key op =
       entry = entry_at state.cache key;
       load = load_joined state key op;
       first = first_asked state.config op (entry_at state.cache key);
-      goes_on = goes_on state key op;
+      needs_free_key = needs_free_key state key op;
+      is_busy = is_reserved state key && needs_free_key state key op;
     }
 
-abbrev pub needs_in : Found → Bool
-needs_in found = reserves found.first && is_none found.load
+abbrev pub is_to_reserve : Found → Bool
+is_to_reserve found = reserves found.first && is_none found.load

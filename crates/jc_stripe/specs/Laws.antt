@@ -8,7 +8,7 @@
 --     Keeps             a call that a reservation of its key does not stop leaves the entry
 --     KeepsReserved     the entry of a reserved key stays in every first phase and every commit but its own; a withdrawal and a
 --                       pick-up leave the whole cache
-use Rattle.std.specs.Prelude.{◌≡◌, ℕ, List, ◌++◌, true, false, Option, None}
+use Rattle.std.specs.Prelude.{◌≡◌, List, ◌++◌, true, false, Option, None}
 use Rattle.jc_types.specs.declared.caller.Caller.{Caller}
 use Rattle.jc_types.specs.declared.config.Config.{Config}
 use Rattle.jc_model.specs.declared.event.Event.{Event}

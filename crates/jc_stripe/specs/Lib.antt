@@ -5,8 +5,9 @@ pub mod Refusals
 pub mod Finding
 pub mod Phases
 pub mod Reached
-pub mod Putting
+pub mod Appending
 pub mod Inside
 pub mod Laws
 pub mod OnePhase
 pub mod OwnSteps
+pub mod Tests

@@ -26,7 +26,7 @@ use Rattle.jc_model.specs.Cache.{Bytes, entry_at}
 use Rattle.jc_inflight.specs.declared.joiner.Joiner.{Joiner}
 use Rattle.jc_inflight.specs.declared.joiner.JoinState.{JoinState}
 use Rattle.jc_inflight.specs.declared.joiner.JoinState.TheVariants.{Waiting, Answered, Again}
-use Rattle.jc_inflight.specs.Joined.{is_of}
+use Rattle.jc_inflight.specs.Joining.{belongs_to}
 use Rattle.jc_stripe.specs.declared.ticket.Reservation.{Reservation}
 use Rattle.jc_stripe.specs.declared.begun.Begun.{Begun}
 use Rattle.jc_stripe.specs.declared.begun.StepDone.{StepDone}
@@ -80,7 +80,7 @@ is_answered (Answered place shared_with) = true
 is_answered Again = false
 
 abbrev pub is_parked : List Joiner → Caller → Bytes → Bool
-is_parked joiners caller key = list_any (λ j. is_of caller key j && is_answered j.state) joiners
+is_parked joiners caller key = list_any (λ j. belongs_to caller key j && is_answered j.state) joiners
 
 abbrev pub is_own_step : ℕ → List Joiner → Event → Bool
 is_own_step session joiners (Step caller op key out shared_with reply) = (caller.session == session) && not (is_parked joiners caller key)

@@ -10,7 +10,7 @@
 use Rattle.std.specs.Prelude.{List, [], ◌∷◌, map, Bool, true, false, ◌&&◌, Option, None, Some, is_none, is_some, if◌then◌else◌}
 use Rattle.std.specs.FinMap as finite
 use Rattle.jc_model.specs.declared.event.Op.{Op}
-use Rattle.jc_model.specs.declared.event.Op.TheVariants.{ContainsKey, LoadAll}
+use Rattle.jc_model.specs.declared.event.Op.TheVariants.{Get, ContainsKey, Put, GetAndPut, PutIfAbsent, Remove, RemoveIf, GetAndRemove, Replace, ReplaceIf, GetAndReplace, Clear, LoadAll, Invoke}
 use Rattle.jc_model.specs.declared.event.Out.{Out}
 use Rattle.jc_model.specs.declared.event.LoadAnswer.{LoadAnswer}
 use Rattle.jc_model.specs.declared.event.Event.{Event}
@@ -19,7 +19,7 @@ use Rattle.jc_model.specs.Cache.{Bytes, key_cmp}
 use Rattle.jc_model.specs.Listed.{others, listed}
 use Rattle.jc_model.specs.Table.{first_fault, entry_after}
 use Rattle.jc_model.specs.Processor.{found_in}
-use Rattle.jc_entries.specs.ByUse.{evicted_of}
+use Rattle.jc_entries.specs.ByUse.{lru_victim}
 use Rattle.jc_stripe.specs.declared.ticket.Reservation.{Reservation}
 use Rattle.jc_stripe.specs.State.{State}
 
@@ -29,7 +29,18 @@ use Rattle.jc_stripe.specs.State.{State}
 abbrev pub uses : Op → LoadAnswer → Bool
 uses ContainsKey load = false
 uses (LoadAll replace) load = is_some (found_in load)
-uses op load = true
+uses Get load = true
+uses (Put value) load = true
+uses (GetAndPut value) load = true
+uses (PutIfAbsent value) load = true
+uses Remove load = true
+uses (RemoveIf old) load = true
+uses GetAndRemove load = true
+uses (Replace value) load = true
+uses (ReplaceIf old new) load = true
+uses (GetAndReplace value) load = true
+uses Clear load = true
+uses Invoke load = true
 
 abbrev pub is_use : Op → Out → Bool
 is_use op out = is_none (first_fault out) && uses op out.load
@@ -56,4 +67,4 @@ abbrev pub pinned : List Reservation → List Bytes
 pinned reservations = map (λ r. r.key) reservations
 
 abbrev pub least_used : State → Option Bytes
-least_used state = evicted_of (by_use state.opening state.history) (pinned state.reservations)
+least_used state = lru_victim (by_use state.opening state.history) (pinned state.reservations)

@@ -89,10 +89,10 @@ StepsBehind = (history more : List Event) (caller : Caller) (op : Op) (key : Byt
 -- 3. Whole calls.
 
 pub record WholeCall : Type 0 where
-  pub loads : (old mid new : State) (caller : Caller) (key : Bytes) (op : Op) (ticket : Ticket) (out : Out) (done : StepDone) → IsReached old → MayBegin old caller key
+  pub loads : (old mid new : State) (caller : Caller) (key : Bytes) (op : Op) (ticket : Ticket) (out : Out) (done : StepDone) → IsReached old
       → Begins old caller key op (Load ticket) mid → Commits mid ticket.reservation out done new → Steps (record old { next = old.next + 1 }) caller key op out [] done new
-  pub writes : (old mid new : State) (caller : Caller) (key : Bytes) (op : Op) (ticket : Ticket) (out : Out) (done : StepDone) → IsReached old → MayBegin old caller key
+  pub writes : (old mid new : State) (caller : Caller) (key : Bytes) (op : Op) (ticket : Ticket) (out : Out) (done : StepDone) → IsReached old
       → Begins old caller key op (Write ticket) mid → Commits mid ticket.reservation out done new → Steps (record old { next = old.next + 1 }) caller key op out [] done new
 
 abbrev pub JoinsOnlyLoads : Type 0
-JoinsOnlyLoads = (old new : State) (caller : Caller) (key : Bytes) (op : Op) (join : JoinClaim) → load_joined old key op ≡ None → Begins old caller key op (Joined join) new → true ≡ false
+JoinsOnlyLoads = (old new : State) (caller : Caller) (key : Bytes) (op : Op) (join : JoinClaim) → load_joined old key op ≡ None → Begins old caller key op (Joined join) new → ⊥

@@ -40,12 +40,12 @@ use Rattle.jc_model.specs.Legal.{may_come}
 use Rattle.jc_inflight.specs.declared.joiner.Joiner.{Joiner}
 use Rattle.jc_inflight.specs.declared.joiner.JoinState.{JoinState}
 use Rattle.jc_inflight.specs.declared.joiner.JoinState.TheVariants as state
-use Rattle.jc_inflight.specs.Joined.{callers_of, joined, joiner_of}
-use Rattle.jc_inflight.specs.Resolving.{resolved}
-use Rattle.jc_inflight.specs.Dissolving.{dissolved}
-use Rattle.jc_inflight.specs.Taking.{without}
-use Rattle.jc_stripe.specs.declared.ticket.First.{First}
-use Rattle.jc_stripe.specs.declared.ticket.First.TheVariants.{Nobody, Loader, Writer}
+use Rattle.jc_inflight.specs.Joining.{callers_of}
+use Rattle.jc_inflight.specs.Joining as joining
+use Rattle.jc_inflight.specs.Resolving.{after_resolve}
+use Rattle.jc_inflight.specs.Dissolving.{after_dissolve}
+use Rattle.jc_inflight.specs.Taking as taking
+use Rattle.jc_stripe.specs.declared.ticket.First.TheVariants.{Nobody, Loader}
 use Rattle.jc_stripe.specs.declared.ticket.Reservation.{Reservation}
 use Rattle.jc_stripe.specs.declared.begun.Eviction.{Eviction}
 use Rattle.jc_stripe.specs.declared.begun.StepDone.{StepDone}
@@ -127,7 +127,7 @@ pub record Steps (old : State) (caller : Caller) (key : Bytes) (op : Op) (out : 
 -- 4. The first phase.
 
 abbrev pub with_joiner : State → JoinClaim → State
-with_joiner old join = record old { joiners = joined join.caller join.key join.load old.joiners }
+with_joiner old join = record old { joiners = joining.with_joiner join.caller join.key join.load old.joiners }
 
 abbrev pub Begins : State → Caller → Bytes → Op → Begun → State → Type 0
 Begins old caller key op (begun.Refused refusal) new = (first_refusal old caller key op ≡ Some refusal) × (new ≡ old)
@@ -149,7 +149,7 @@ Begins old caller key op (begun.Joined join) new =
 
 -- the reservation is over, and for each that waits for its load the answer is parked, of the step at this place
 abbrev pub after_commit : State → Reservation → ℕ → State
-after_commit old r place = record (without_reservation old r.key) { joiners = resolved r.number place old.joiners }
+after_commit old r place = record (without_reservation old r.key) { joiners = after_resolve r.number place old.joiners }
 
 abbrev pub Commits : State → Reservation → Out → StepDone → State → Type 0
 Commits old r out done new = IsOut old r × Steps (after_commit old r done.place) r.caller r.key r.op out (callers_of r.number old.joiners) done new
@@ -157,7 +157,7 @@ Commits old r out done new = IsOut old r × Steps (after_commit old r done.place
 -- 6. A reservation is given back: cache and history stay.
 
 abbrev pub after_withdrawal : State → Reservation → State
-after_withdrawal old r = record (without_reservation old r.key) { joiners = dissolved r.number old.joiners }
+after_withdrawal old r = record (without_reservation old r.key) { joiners = after_dissolve r.number old.joiners }
 
 abbrev pub Withdraws : State → Reservation → State → Type 0
 Withdraws old r new = IsOut old r × (new ≡ after_withdrawal old r)
@@ -166,7 +166,7 @@ Withdraws old r new = IsOut old r × (new ≡ after_withdrawal old r)
 
 -- the join is over
 abbrev pub without_joiner : State → JoinClaim → State
-without_joiner old join = record old { joiners = without join.caller join.key old.joiners }
+without_joiner old join = record old { joiners = taking.without_joiner join.caller join.key old.joiners }
 
 -- the event at a place is the join's own step, which names the step that loaded
 abbrev pub IsSharedStep : State → JoinClaim → Reply → ℕ → ℕ → Type 0
@@ -174,7 +174,7 @@ IsSharedStep state join reply place shared_with =
     (out : Out) × (slice_get state.history place ≡ Some (Step join.caller Get join.key out (Some shared_with) reply))
 
 abbrev pub told_to : State → JoinClaim → Option JoinState
-told_to state join = option_map (λ j. j.state) (joiner_of join.caller join.key state.joiners)
+told_to state join = taking.state_of join.caller join.key state.joiners
 
 abbrev pub PicksUp : State → JoinClaim → Picked → State → Type 0
 PicksUp old join (picked.Answer reply place shared_with) new =

@@ -12,6 +12,7 @@
 --     without_reservation the state without a key's reservation
 --     IsOut               a reservation is out here: it is the one that the stripe has of its key
 --     IsJoined            a join is out here: its call is among the joiners of its key, and joined this load
+--     IsIdle              no reservation and no join is out
 use Rattle.std.specs.Prelude.{◌≡◌, ◌==◌, ℕ, ◌+◌, ◌*◌, find, filter, count_by, List, [], ◌∷◌, ◌++◌, length, Bool, not, Option, Some, IsSomeAnd}
 use Rattle.std.specs.List.{list_any}
 use Rattle.std.specs.Cmp.Lexicographic.{pointwise}
@@ -23,7 +24,7 @@ use Rattle.jc_model.specs.declared.event.Op.{Op}
 use Rattle.jc_model.specs.declared.event.Event.{Event}
 use Rattle.jc_model.specs.Cache.{Bytes, Cache}
 use Rattle.jc_inflight.specs.declared.joiner.Joiner.{Joiner}
-use Rattle.jc_inflight.specs.Joined.{is_waiting, joiner_of}
+use Rattle.jc_inflight.specs.Joining.{is_waiting, belongs_to}
 use Rattle.jc_stripe.specs.declared.ticket.Origin.{Origin}
 use Rattle.jc_stripe.specs.declared.ticket.First.{First}
 use Rattle.jc_stripe.specs.declared.ticket.Reservation.{Reservation}
@@ -82,4 +83,10 @@ IsOut state r = reservation_of state r.key ≡ Some r
 -- 3. Joins.
 
 abbrev pub IsJoined : State → JoinClaim → Type 0
-IsJoined state join = IsSomeAnd (joiner_of join.caller join.key state.joiners) (λ j. j.load ≡ join.load)
+IsJoined state join = IsSomeAnd (find (belongs_to join.caller join.key) state.joiners) (λ j. j.load ≡ join.load)
+
+-- 4. Nothing is out.
+
+pub record IsIdle (state : State) : Type 0 where
+  pub reservations : state.reservations ≡ []
+  pub joiners : state.joiners ≡ []

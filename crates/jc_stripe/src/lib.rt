@@ -1,12 +1,18 @@
 //! One stripe of a cache: a pure machine of phases. A first phase decides and perhaps reserves its key; then the loader or
-//! the writer is asked, while the stripe is free for others; a last phase puts the step down. A `get` of a key that is being
-//! loaded joins that load, and later picks its answer up.
+//! the writer is asked, while the stripe is free for others; a last phase appends the step. A `get` of a key that is being
+//! loaded joins that load, and later picks up its answer.
 #![tactic(auto)]
 
-pub mod begun;
-pub mod closed;
+mod appending;
+mod begun;
 mod needs;
 pub mod phase_laws;
-mod putting;
-pub mod stripe;
-pub mod ticket;
+mod stripe;
+mod ticket;
+
+pub use begun::{Begun, Eviction, Picked, StepDone};
+pub use stripe::Stripe;
+pub use ticket::{
+    First, Join, LoadAsk, LoadDone, LoadTicket, Origin, Reservation, WriteAsk, WriteDone,
+    WriteTicket, played_load, played_write,
+};

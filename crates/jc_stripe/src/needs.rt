@@ -1,12 +1,14 @@
 //! What a call needs of a stripe.
-ghost use Rattle.std.specs.Prelude.{◌≡◌, ◌&&◌, Option};
-ghost use Rattle.jc_stripe.specs.Refusals.{passes, places, first_asked, loader_if, writer_if, writer_for, load_of};
-ghost use Rattle.jc_stripe.specs.Finding.{needs_in};
+ghost use Rattle.std.specs.Prelude.{◌≡◌, ◌&&◌, Option, if◌then◌else◌};
+ghost use Rattle.jc_model.specs.declared.event.ProcessAnswer.TheVariants.{NotAsked};
+ghost use Rattle.jc_model.specs.Table.{write_ask};
+ghost use Rattle.jc_stripe.specs.Refusals.{answers_at_once, may_join, places_needed, first_asked, writer_for, load_of};
+ghost use Rattle.jc_stripe.specs.Finding.{is_to_reserve};
 
 use crate::ticket::First;
 use jc_model::event::{Change, Op, ProcessAnswer};
-use jc_types::config::Config;
-use jc_types::value::Value;
+use jc_model::table::LoaderAsk;
+use jc_types::{Config, HIT_PLACES, STEP_PLACES, Value};
 
 /// What a call finds at its key, before anything is done.
 #[derive(Clone, Copy)]
@@ -16,73 +18,100 @@ pub(crate) struct Found {
     pub(crate) load: Option<u64>,
     /// Whom the call asks first, unless it joins a load.
     pub(crate) first: First,
-    /// Whether the call goes on though its key is reserved.
-    pub(crate) goes_on: bool,
+    /// Whether the call neither answers from the entry nor joins a load.
+    pub(crate) needs_free_key: bool,
+    /// Whether the key is reserved, though the call needs it free.
+    pub(crate) is_busy: bool,
 }
 
-/// Whether the cached entry alone lets a call go on though its key is reserved.
-pub(crate) fn does_pass(config: &Config, op: &Op, entry: &Option<Value>) -> bool
-    ensures { result ≡ passes config.now op.now entry.now }
+/// Whether a call answers from the cached entry, even while its key is reserved.
+pub(crate) fn answers_at_once(config: &Config, op: &Op, entry: &Option<Value>) -> bool
+    ensures { result ≡ answers_at_once config.now op.now entry.now }
 {
     match op {
-        Op::ContainsKey => true,
         Op::Get => entry.is_some() || !config.read_through,
-        _ => false,
+        Op::ContainsKey => true,
+        Op::Put(_)
+        | Op::GetAndPut(_)
+        | Op::PutIfAbsent(_)
+        | Op::Remove
+        | Op::RemoveIf(_)
+        | Op::GetAndRemove
+        | Op::Replace(_)
+        | Op::ReplaceIf { .. }
+        | Op::GetAndReplace(_)
+        | Op::Clear
+        | Op::LoadAll { .. }
+        | Op::Invoke => false,
     }
 }
 
-/// The free places that a call needs in the history.
-pub(crate) fn places_for(light: bool) -> usize
-    ensures { result ≡ places light }
+/// Whether an operation may join a load.
+pub(crate) fn may_join(op: &Op) -> bool
+    ensures { result ≡ may_join op.now }
 {
-    if light { 1 } else { 3 }
+    matches!(op, Op::Get)
+}
+
+/// The free places that a call needs in the history.
+pub(crate) fn places_needed(needs_free_key: bool) -> usize
+    ensures { result ≡ places_needed needs_free_key }
+{
+    if needs_free_key {
+        STEP_PLACES
+    } else {
+        HIT_PLACES
+    }
 }
 
 /// The load of a reservation, if it asked the loader.
-pub(crate) fn load_in(first: &First, number: u64) -> Option<u64>
+pub(crate) fn load_of(first: &First, number: u64) -> Option<u64>
     ensures { result ≡ load_of first.now number }
 {
     match first {
         First::Loader => Some(number),
-        _ => None,
+        First::Nobody | First::Writer(_) | First::Processor => None,
     }
 }
 
-fn loader_where(asked: bool) -> First
-    ensures { result ≡ loader_if asked }
+/// The writer, for a change that is asked for.
+fn writer_for(change: Option<Change>) -> First
+    ensures { result ≡ writer_for change }
 {
-    if asked { First::Loader } else { First::Nobody }
-}
-
-fn writer_where(asked: bool, change: Option<Change>) -> First
-    ensures { result ≡ writer_if asked change }
-{
-    if !asked {
-        return First::Nobody;
-    }
     match change {
         Some(change) => First::Writer(change),
         None => First::Nobody,
     }
 }
 
+/// The change that the writer is asked for, if write-through is on.
+fn change_for(config: &Config, op: &Op, entry: &Option<Value>) -> Option<Change>
+    ensures { result ≡ (if config.now.write_through then write_ask op.now entry.now NotAsked else None) }
+{
+    if config.write_through {
+        op.write_ask(entry, &ProcessAnswer::NotAsked)
+    } else {
+        None
+    }
+}
+
 /// Whom a call asks first.
-pub(crate) fn first_for(config: &Config, op: &Op, entry: &Option<Value>) -> First
+pub(crate) fn first_asked(config: &Config, op: &Op, entry: &Option<Value>) -> First
     ensures { result ≡ first_asked config.now op.now entry.now }
 {
-    match op {
-        Op::Get => loader_where(config.read_through && entry.is_none()),
-        Op::LoadAll(replace) => loader_where(*replace || entry.is_none()),
-        _ => writer_where(
-            config.write_through,
-            op.change(entry, &ProcessAnswer::NotAsked),
-        ),
+    if op.is_invoke() {
+        return First::Processor;
+    }
+    match op.loader_ask(config.read_through, entry) {
+        LoaderAsk::Never => writer_for(change_for(config, op, entry)),
+        LoaderAsk::Always => First::Loader,
+        LoaderAsk::IfWanted => First::Processor,
     }
 }
 
 /// Whether a call reserves its key.
-pub(crate) fn needs_reservation(found: &Found) -> bool
-    ensures { result ≡ needs_in found.now }
+pub(crate) fn is_to_reserve(found: &Found) -> bool
+    ensures { result ≡ is_to_reserve found.now }
 {
     found.load.is_none() && !matches!(found.first, First::Nobody)
 }

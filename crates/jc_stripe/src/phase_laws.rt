@@ -1,10 +1,11 @@
 //! The laws of the phases, over every stripe. Each function does nothing: what it says is its contract.
 ghost use Rattle.jc_stripe.specs.Laws.{StaysReached, IsLegal, Grows, WasFree, Keeps, KeepsReserved};
 ghost use Rattle.jc_stripe.specs.OnePhase.{OnePhase};
+ghost use Rattle.jc_stripe.specs.OwnSteps.{OwnSteps, CallerNumbers, StepsBehind, WholeCall, JoinsOnlyLoads};
 
 /// Whatever phase a stripe makes, it stays as every stripe is (`IsReached`): among other things its history is legal from its
-/// opening and leaves its entries, its tables are within their limits, each reservation still asks what it asked and may still put
-/// its step down, and each joiner that waits still finds its load.
+/// opening and leaves its entries, its tables are within their limits, each reservation still asks what it asked and its step
+/// may still come, and each joiner that waits still finds its load.
 pub fn stays_reached()
     ensures { StaysReached }
 {}
@@ -14,7 +15,7 @@ pub fn is_legal()
     ensures { IsLegal }
 {}
 
-/// Whatever phase a stripe makes, what stands in its history stays there, more may stand behind it, and its opening is the same.
+/// Whatever phase a stripe makes, what is in its history stays there, more may follow it, and its opening is the same.
 pub fn grows()
     ensures { Grows }
 {}
@@ -35,8 +36,38 @@ pub fn keeps_reserved()
 {}
 
 /// Whatever phase of one session a stripe makes, or none, it stays as every stripe is and the same stripe, of the same shape,
-/// number, origin and opening; its history grows, the numbers of its reservations don't fall, and the own steps of every other
-/// session are the same: those of its steps whose answer isn't parked.
+/// number, origin and opening; its history grows, and the numbers of its reservations don't fall. The session's own steps, those
+/// whose answer isn't parked, are the same or one more, and those of every other session are the same. Other sessions'
+/// reservations and joins stay, and so does the entry of a key that stays reserved.
 pub fn is_uniform()
     ensures { OnePhase }
+{}
+
+/// What each kind of phase does to its session's own steps: a call that is done at once, and a commit, add their step at the end;
+/// a pick-up that is answered makes the joiner's step an own one, at its place; every other phase leaves them.
+pub fn own_steps()
+    ensures { OwnSteps }
+{}
+
+/// What a session's rising numbers tell: if no step, reservation or join of a session has a call number or a later one, the
+/// call may begin at any key of the stripe, and once it is done the same holds of the next number. And if the session's own
+/// steps and its joiners let a call begin, its whole history here does, so nobody needs to scan the history.
+pub fn caller_numbers()
+    ensures { CallerNumbers }
+{}
+
+/// A step that may still come after a history is not in it: whoever finds it later finds it behind.
+pub fn steps_behind()
+    ensures { StepsBehind }
+{}
+
+/// A first phase that reserves its key, and its commit, with nothing between, are one step of that caller, operation and key, as
+/// a call that is done at once.
+pub fn whole_call()
+    ensures { WholeCall }
+{}
+
+/// A first phase that finds no load of its key does not join.
+pub fn joins_only_loads()
+    ensures { JoinsOnlyLoads }
 {}

@@ -1,47 +1,49 @@
 //! A stripe and its phases.
-ghost use Rattle.std.specs.Prelude.{ℕ, ◌≡◌, ◌≤◌, ◌<◌, ◌+◌, ◌^◌, ◌-◌, [], true, IsTrue, IfOk, IsSome, IsSomeAnd, Ok, None, Some, Option, is_some, length, find, nat_le, slice_get};
+ghost use Rattle.std.specs.Prelude.{◌≡◌, ◌≤◌, ◌<◌, ◌+◌, ◌++◌, ◌↔◌, [], true, false, IsTrue, IfOk, IsOk, OnOk, OnErr, Ok, None, Some, length, nat_le, slice_get, slice_range, vec_len, vec_capacity};
 ghost use Rattle.std.specs.FinMap as map;
 ghost use Rattle.jc_types.specs.Limits.{checked};
-ghost use Rattle.jc_model.specs.declared.event.Op.TheVariants.{Get};
-ghost use Rattle.jc_model.specs.Cache.{entry_at};
+ghost use Rattle.jc_model.specs.declared.event.Op.{Op};
+ghost use Rattle.jc_model.specs.Cache.{Bytes, entry_at};
 ghost use Rattle.jc_model.specs.Listed.{apart};
-ghost use Rattle.jc_model.specs.Table.{is_load_given, is_write_given};
 ghost use Rattle.jc_model.specs.Group.{load_only, write_only, nothing_said};
 ghost use Rattle.jc_model.specs.Legal.{Legal};
-ghost use Rattle.jc_inflight.specs.Joined.{is_joined};
-ghost use Rattle.jc_inflight.specs.Taking.{told_to, after_take};
-ghost use Rattle.jc_stripe.specs.Claim.{JoinClaim};
-ghost use Rattle.jc_stripe.specs.State.{is_key, is_reserved, reserved, claimed, promised, IsOut};
+ghost use Rattle.jc_stripe.specs.Tickets.{JoinClaim};
+ghost use Rattle.jc_types.specs.declared.limits.TheConstants.{RESERVATIONS_MAX, JOINERS_MAX};
+ghost use Rattle.jc_stripe.specs.State.{IsOut, IsJoined, IsIdle, is_reserved, reservation_of, new_reservation, with_reservation};
 ghost use Rattle.jc_stripe.specs.OrderOfUse.{by_use};
-ghost use Rattle.jc_stripe.specs.Refusals.{has_phases, has_room, goes_on, first_refusal, first_asked, load_at, load_joined, needs_reservation};
+ghost use Rattle.jc_stripe.specs.Refusals.{has_phases, has_room, first_refusal, first_asked, load_at, load_joined, needs_reservation};
 ghost use Rattle.jc_stripe.specs.Finding.{found_at};
-ghost use Rattle.jc_stripe.specs.Putting.{reply_in, SaidFor, ToldStep};
-ghost use Rattle.jc_stripe.specs.Phases.{MayBegin, Steps, Begins, Commits, Withdraws, PicksUp, joined_by};
+ghost use Rattle.jc_stripe.specs.Appending.{AnswersFirst, HasToldStep, after_pick_up};
+ghost use Rattle.jc_stripe.specs.Phases.{MayBegin, Steps, Begins, Commits, Withdraws, PicksUp, with_joiner, told_to};
 ghost use Rattle.jc_stripe.specs.OnePhase.{IsPhaseOf};
-ghost use Rattle.jc_stripe.specs.declared.ticket.First.TheVariants.{Nobody, Loader, Writer};
+ghost use Rattle.jc_stripe.specs.declared.ticket.First.TheVariants.{Nobody};
 
-use crate::begun::{Begun, Picked};
-use crate::needs::{Found, does_pass, first_for, load_in, needs_reservation, places_for};
-use crate::putting::{Putting, keep, put_down};
-use crate::ticket::{
-    Caller, First, Join, LoadDone, LoadTicket, Note, Origin, WriteDone, WriteTicket,
+mod testing;
+#[cfg(test)]
+mod tests;
+
+use crate::appending::{append_group, make_step};
+use crate::begun::{Begun, Picked, StepDone};
+use crate::needs::{
+    Found, answers_at_once, first_asked, is_to_reserve, load_of, may_join, places_needed,
 };
-use jc_entries::entries::Entries;
-use jc_history::history::History;
-use jc_inflight::joiner::Taken;
-use jc_inflight::joiners::{JOINERS_MAX, Joiners};
-use jc_model::event::{Change, Event, LoadAnswer, Op, Out, ProcessAnswer, Reply, WriteAnswer};
-use jc_reserve::reservations::{RESERVATIONS_MAX, Reservations};
-use jc_types::config::Config;
-use jc_types::key::Key;
-use jc_types::refusal::Refusal;
-use jc_types::value::Value;
+use crate::ticket::{
+    First, Join, LoadDone, LoadTicket, Note, Origin, Reservation, WriteDone, WriteTicket,
+};
+use jc_entries::Entries;
+use jc_history::History;
+use jc_inflight::{JoinState, Joiners};
+use jc_model::event::{Change, Event, Op, Out};
+use jc_reserve::Reservations;
+use jc_types::{
+    Caller, Config, HIT_PLACES, JOINERS_MAX, Key, RESERVATIONS_MAX, Refusal, STEP_PLACES, Value,
+};
 use std::alloc::{AllocError, Global};
 use std::marker::Model;
 
 /// One stripe of a cache: what is cached, the keys that calls have reserved, who has joined a load, and the history.
 ///
-/// Each of its calls is one phase, and none of them takes memory: all room is made by `new`.
+/// Each of its calls is one phase, and none of them allocates, except for an entry: all other room is made by `new`.
 #[derive(Drop)]
 pub struct Stripe {
     config: Config,
@@ -62,57 +64,18 @@ impl Model for Stripe {
 
     ghost coded = { Prim.hlevel (codes, cache_code) };
 
-    ghost use Rattle.jc_stripe.specs.Inside.{state_of, IsSound};
+    ghost use Rattle.jc_stripe.specs.Inside.{state_of, IsStripe};
 
     ghost view = { state_of };
 
-    ghost invariant = { IsSound };
-}
-
-const NOTHING_SAID: Out = Out {
-    load: LoadAnswer::NotAsked,
-    write: WriteAnswer::NotAsked,
-    process: ProcessAnswer::NotAsked,
-};
-
-/// What the loader alone said.
-fn load_alone(answer: LoadAnswer) -> Out
-    ensures { result ≡ load_only answer }
-{
-    Out {
-        load: answer,
-        write: WriteAnswer::NotAsked,
-        process: ProcessAnswer::NotAsked,
-    }
-}
-
-/// What the writer alone said.
-fn write_alone(answer: WriteAnswer) -> Out
-    ensures { result ≡ write_only answer }
-{
-    Out {
-        load: LoadAnswer::NotAsked,
-        write: answer,
-        process: ProcessAnswer::NotAsked,
-    }
-}
-
-/// The reply of the step at a place.
-fn reply_at(events: &[Event], place: u32) -> Reply
-    requires { IsSome (reply_in (slice_get events.now place)) }
-    ensures { reply_in (slice_get events.now place) ≡ Some result }
-{
-    match events.get(place as usize) {
-        Some(Event::Step { reply, .. }) => *reply,
-        _ => unreachable!(),
-    }
+    ghost invariant = { IsStripe };
 }
 
 impl Stripe {
     ghost use Rattle.jc_stripe.specs.Reached.{IsReached};
 
-    /// An empty stripe, the one with this number of `config.stripes`. Its history, its entries and its tables have all the room
-    /// that they may need; without memory for it there is no stripe.
+    /// An empty stripe, the one with this number of `config.stripes`. Its history and its tables have all the room that they may
+    /// need; an `Err` says that an allocation for it failed.
     ///
     /// Stripes are numbered from 0. A number at or above `config.stripes` gives a stripe that has no keys.
     ///
@@ -124,11 +87,11 @@ impl Stripe {
         origin: Origin,
     ) -> Result<Self, AllocError>
         requires { checked config.now ≡ Ok tt }
-        ensures { IfOk result (λ s. s ≡ record { config = config.now; number = number; origin = origin; opening = []; cache = map.empty; reservations = []; joiners = []; history = []; next = 0 }) }
+        ensures { IfOk result (λ s. s ≡ record { config = config.now; stripe = number; origin = origin; opening = []; cache = map.empty; reservations = []; joiners = []; history = []; next = 0 }) }
     {
         let entries = Entries::new(alloc, config.capacity)?;
-        let reservations = Reservations::new(alloc)?;
-        let joiners = Joiners::new(alloc)?;
+        let reservations = Reservations::new();
+        let joiners = Joiners::new();
         let history = History::new(alloc, config.history)?;
         Ok(Stripe {
             config: *config,
@@ -141,39 +104,171 @@ impl Stripe {
         })
     }
 
-    /// The key's value, or none.
-    fn entry(&self, key: &Key) -> Option<Value>
-        ensures { result ≡ entry_at self.now.cache key.now }
+    /// The first phase of a call, on one key.
+    ///
+    /// It answers `Done` if nobody is asked, `Joined` if it is a `get` whose key is missing and is being loaded by another call,
+    /// with read-through on, and else reserves the key. It is refused, and nothing is done, if the history lacks the places or a
+    /// number is at its end (`HistoryFull`), if the key is reserved and the call needs it free (`Busy`), if `RESERVATIONS_MAX`
+    /// reservations are out and it needs one (`TooManyInFlight`), and if `JOINERS_MAX` joiners are there, those included that
+    /// have not picked up their answer, and it would join (`TooManyJoiners`), tested in this order. A `containsKey`, and a `get`
+    /// that finds the entry or doesn't read through, answer from the entry even while another call has the key reserved (JSR
+    /// 107, "Default Consistency").
+    ///
+    /// Conditions: the operation isn't `Invoke`, which has no phases here. The key is of this stripe, by `stripe_of`. The call's
+    /// number is at least that of every step of its session in this history. The session has no reservation and no join out here
+    /// under another number; a join counts until it is picked up. And there is no step, no reservation and no join here of this
+    /// call at this key.
+    pub fn begin(&mut self, caller: Caller, key: &Key, op: &Op) -> Begun
+        requires op { IsTrue (has_phases op.now) }
+        requires begins { MayBegin self.old caller key.now }
+        ensures begins { Begins self.old caller key.now op.now result self.new }
+        ensures phase { IsPhaseOf caller.session self.old self.new }
     {
-        self.entries.peek(key)
+        self.first_phase(caller, key, op)
     }
 
-    /// The load of the key's reservation, if the key is reserved and the loader was asked.
-    fn load_of(&self, key: &Key) -> Option<u64>
-        ensures { result ≡ load_at (find (is_key key.now) self.now.reservations) }
+    /// The last phase of a call whose loader was asked: its reservation ends, and its step is appended with the loader's answer.
+    /// A failed load leaves the entry as it was, and is the step's reply (`LoaderFailed`). Each call that has joined the load and
+    /// waits shares it: its step is appended directly behind, in the order of joining, and its answer stays until it is picked
+    /// up.
+    ///
+    /// Conditions: the ticket's reservation is out here: it is this stripe's of its key. `done` was made of this ticket's ask,
+    /// and has this stripe's origin.
+    pub fn commit_load(&mut self, ticket: LoadTicket, done: LoadDone) -> StepDone
+        requires out { IsOut self.old ticket.reservation }
+        requires claim { done.reservation ≡ ticket.reservation }
+        requires origin { done.origin ≡ self.old.origin }
+        ensures commits { Commits self.old ticket.reservation (load_only done.answer) result self.new }
+        ensures phase { IsPhaseOf ticket.reservation.caller.session self.old self.new }
     {
-        // Names the types of the values that a generic call moves here: the prover looks for their models in the types that a
-        // function names. So do the others of this name below.
-        let _types: Option<Change> = None;
-        let (number, note) = self.reservations.find(key)?;
-        load_in(&note.first, number)
+        self.commit(&ticket.spend(), &Out::load_only(done.into_answer()))
     }
 
-    /// The load that a call joins here, if there is one, by the key's entry.
-    fn load_joined(&self, key: &Key, op: &Op, entry: &Option<Value>) -> Option<u64>
-        requires { entry.now ≡ entry_at self.now.cache key.now }
-        ensures { result ≡ load_joined self.now key.now op.now }
+    /// The last phase of a call whose writer was asked: its reservation ends, and its step is appended with the writer's report.
+    /// A failed write leaves the entry as it was, and is the step's reply (`WriterFailed`).
+    ///
+    /// Conditions: the ticket's reservation is out here: it is this stripe's of its key. `done` was made of this ticket's ask,
+    /// and has this stripe's origin.
+    pub fn commit_write(&mut self, ticket: WriteTicket, done: WriteDone) -> StepDone
+        requires out { IsOut self.old ticket.reservation }
+        requires claim { done.reservation ≡ ticket.reservation }
+        requires origin { done.origin ≡ self.old.origin }
+        ensures commits { Commits self.old ticket.reservation (write_only done.answer) result self.new }
+        ensures phase { IsPhaseOf ticket.reservation.caller.session self.old self.new }
     {
-        match op {
-            Op::Get => {
-                if self.config.read_through && entry.is_none() {
-                    self.load_of(key)
-                } else {
-                    None
-                }
-            }
-            _ => None,
-        }
+        self.commit(&ticket.spend(), &Out::write_only(done.into_answer()))
+    }
+
+    /// Gives a loader's ticket back that was not asked: nothing is appended, and the entry stays. Each call that has joined the
+    /// load and waits is told to retry.
+    ///
+    /// Conditions: the ticket's reservation is out here: it is this stripe's of its key. The ticket has not asked the loader.
+    pub fn withdraw_load(&mut self, ticket: LoadTicket)
+        requires out { IsOut self.old ticket.reservation }
+        requires unasked { ticket.asked ≡ false }
+        ensures withdraws { Withdraws self.old ticket.reservation self.new }
+        ensures phase { IsPhaseOf ticket.reservation.caller.session self.old self.new }
+    {
+        self.give_back(&ticket.spend());
+    }
+
+    /// Gives a writer's ticket back that was not asked: nothing is appended, and the entry stays.
+    ///
+    /// Conditions: the ticket's reservation is out here: it is this stripe's of its key. The ticket has not asked the writer, so
+    /// the store is as it was.
+    pub fn withdraw_write(&mut self, ticket: WriteTicket)
+        requires out { IsOut self.old ticket.reservation }
+        requires unasked { ticket.asked ≡ false }
+        ensures withdraws { Withdraws self.old ticket.reservation self.new }
+        ensures phase { IsPhaseOf ticket.reservation.caller.session self.old self.new }
+    {
+        self.give_back(&ticket.spend());
+    }
+
+    /// Picks up the answer of the load that a call has joined. If the load isn't over, the join comes back and nothing changes;
+    /// if it was withdrawn, the call is told to retry.
+    ///
+    /// Conditions: the join is out here: its call is among this stripe's joiners of its key, and joined this load.
+    pub fn pick_up(&mut self, join: Join) -> Picked
+        requires { IsJoined self.old join }
+        ensures picks_up { PicksUp self.old join result self.new }
+        ensures phase { IsPhaseOf join.caller.session self.old self.new }
+    {
+        self.answer(join)
+    }
+
+    /// The shape of the cache that the stripe is of.
+    pub fn config(&self) -> &Config
+        ensures { result.now ≡ self.now.config }
+    {
+        &self.config
+    }
+
+    /// The stripe's number among those of the cache, from 0.
+    pub fn number(&self) -> usize
+        ensures { result ≡ self.now.stripe }
+    {
+        self.number
+    }
+
+    /// Whether the outside answers are live or played.
+    pub fn origin(&self) -> Origin
+        ensures { result ≡ self.now.origin }
+    {
+        self.origin
+    }
+
+    /// Whether no reservation and no join is out. A join is out until it is picked up.
+    pub fn is_idle(&self) -> bool
+        ensures { IsTrue result ↔ IsIdle self.now }
+    {
+        self.reservations.is_empty() && self.joiners.is_empty()
+    }
+
+    /// Appends what is cached, each key once, the most recently used first.
+    ///
+    /// An `Err` says that an allocation failed, and leaves `out` as it was.
+    pub fn entries(&self, out: &mut Vec<(Key, Value)>) -> Result<(), AllocError>
+        ensures by_use { OnOk result (out.new.items ≡ out.old.items ++ by_use self.now.opening self.now.history) }
+        ensures cache { map.from_entries (by_use self.now.opening self.now.history) ≡ self.now.cache }
+        ensures once { IsTrue (apart (by_use self.now.opening self.now.history)) }
+        ensures err { OnErr result (out.new.items ≡ out.old.items) }
+    {
+        self.entries.append_to(out)
+    }
+
+    /// How many events the history has. It is legal from the stripe's opening, and what it leaves is what is cached.
+    pub fn events_len(&self) -> usize
+        ensures len { result ≡ length self.now.history }
+        ensures legal { Legal self.now.config self.now.opening self.now.history }
+        ensures reached { IsReached self.now }
+    {
+        self.history.len()
+    }
+
+    /// The event at a place of the history, from 0.
+    pub fn event(&self, place: usize) -> Event
+        requires { place < length self.now.history }
+        ensures { slice_get self.now.history place ≡ Some result }
+    {
+        self.history.event(place)
+    }
+
+    /// Appends the events from the place `from` up to the place `to`, which is left out.
+    ///
+    /// An `Err` says that an allocation failed, and leaves `out` as it was.
+    pub fn append_events(
+        &self,
+        from: usize,
+        to: usize,
+        out: &mut Vec<Event>,
+    ) -> Result<(), AllocError>
+        requires order { from ≤ to }
+        requires within { to ≤ length self.now.history }
+        ensures ok { OnOk result (out.new.items ≡ out.old.items ++ slice_range self.now.history from to) }
+        ensures err { OnErr result (out.new.items ≡ out.old.items) }
+    {
+        self.history.append_to(from, to, out)
     }
 
     /// What a call finds at its key.
@@ -181,15 +276,47 @@ impl Stripe {
         ensures { result ≡ found_at self.now key.now op.now }
     {
         let entry = self.entry(key);
-        let load = self.load_joined(key, op, &entry);
-        let first = first_for(&self.config, op, &entry);
-        let passing = does_pass(&self.config, op, &entry);
-        let joining = load.is_some();
+        let first = first_asked(&self.config, op, &entry);
+        if answers_at_once(&self.config, op, &entry) {
+            return Found {
+                entry,
+                load: None,
+                first,
+                needs_free_key: false,
+                is_busy: false,
+            };
+        }
+        let (is_reserved, loading) = self.load_at(key);
+        let joins = may_join(op) && self.config.read_through && entry.is_none();
+        let load = if joins { loading } else { None };
+        let needs_free_key = load.is_none();
         Found {
             entry,
             load,
             first,
-            goes_on: passing || joining,
+            needs_free_key,
+            is_busy: is_reserved && needs_free_key,
+        }
+    }
+
+    /// The key's value, or none.
+    fn entry(&self, key: &Key) -> Option<Value>
+        ensures { result ≡ entry_at self.now.cache key.now }
+    {
+        self.entries.peek(key)
+    }
+
+    /// Whether the key is reserved, and the load of its reservation, if that asked the loader.
+    fn load_at(&self, key: &Key) -> (bool, Option<u64>)
+        ensures reserved { result.0 ≡ is_reserved self.now key.now }
+        ensures load { result.1 ≡ load_at (reservation_of self.now key.now) }
+    {
+        // Names the types of the values that a generic call moves here: the prover looks for their models in the types that a
+        // function names. So do the others of this name below.
+        let _types: Option<Change> = None;
+        match self.reservations.find(key) {
+            Some((number, note)) => (true, load_of(&note.first, number)),
+            None => (false, None),
         }
     }
 
@@ -203,38 +330,31 @@ impl Stripe {
         call < u64::MAX && !self.reservations.is_used_up()
     }
 
-    /// Whether the key is reserved.
-    fn is_reserved(&self, key: &Key) -> bool
-        ensures { result ≡ is_reserved self.now key.now }
-    {
-        self.reservations.is_reserved(key)
-    }
-
     /// Whether no further reservation can be made.
     fn is_reserving_full(&self) -> bool
-        ensures { result ≡ nat_le 64 (length self.now.reservations) }
+        ensures { result ≡ nat_le RESERVATIONS_MAX (length self.now.reservations) }
     {
         RESERVATIONS_MAX <= self.reservations.len()
     }
 
     /// Whether no further call can join a load.
     fn is_joining_full(&self) -> bool
-        ensures { result ≡ nat_le 64 (length self.now.joiners) }
+        ensures { result ≡ nat_le JOINERS_MAX (length self.now.joiners) }
     {
         JOINERS_MAX <= self.joiners.len()
     }
 
     /// The first refusal that a call meets here, if any, by what it finds at its key.
-    fn refusal(&self, who: Caller, key: &Key, found: &Found) -> Option<Refusal>
-        ensures { (op : Op) → found.now ≡ found_at self.now key.now op → result ≡ first_refusal self.now who.number key.now op }
+    fn refusal(&self, caller: Caller, found: &Found) -> Option<Refusal>
+        ensures { (key : Bytes) (op : Op) → found.now ≡ found_at self.now key op → result ≡ first_refusal self.now caller key op }
     {
-        if !self.has_room(who.number, places_for(found.goes_on)) {
+        if !self.has_room(caller.call, places_needed(found.needs_free_key)) {
             return Some(Refusal::HistoryFull);
         }
-        if !found.goes_on && self.is_reserved(key) {
+        if found.is_busy {
             return Some(Refusal::Busy);
         }
-        if needs_reservation(found) && self.is_reserving_full() {
+        if is_to_reserve(found) && self.is_reserving_full() {
             return Some(Refusal::TooManyInFlight);
         }
         if found.load.is_some() && self.is_joining_full() {
@@ -243,312 +363,174 @@ impl Stripe {
         None
     }
 
-    /// Reserves a key, and keeps three places of the history free for its commit.
-    fn reserve(&mut self, who: Caller, key: &Key, op: &Op, first: First) -> u64
-        requires free { first_refusal self.old who.number key.now op.now ≡ None }
-        requires alone { load_joined self.old key.now op.now ≡ None }
-        requires needs { needs_reservation self.old key.now op.now ≡ true }
-        requires asks { first_asked self.old.config op.now (entry_at self.old.cache key.now) ≡ first }
-        requires begins { MayBegin self.old who.session who.number key.now }
-        ensures number { result ≡ self.old.next }
-        ensures reserved { self.new ≡ reserved self.old who.session who.number key.now op.now first }
-    {
-        let _types: Option<Change> = None;
-        let note = Note {
-            session: who.session,
-            call: who.number,
-            op: *op,
-            first,
-        };
-        let _ = self.history.promise(3);
-        match self.reservations.reserve(key, note) {
-            Some(number) => number,
-            None => unreachable!(),
-        }
-    }
-
-    /// Joins a load, and keeps a place of the history free for the shared step.
-    fn join(&mut self, who: Caller, key: &Key, op: &Op, load: u64) -> Join
-        requires free { first_refusal self.old who.number key.now op.now ≡ None }
-        requires load { load_joined self.old key.now op.now ≡ Some load }
-        requires begins { MayBegin self.old who.session who.number key.now }
-        ensures join { result ≡ record { session = who.session; call = who.number; key = key.now } }
-        ensures joined { self.new ≡ joined_by self.old (record { session = who.session; call = who.number; key = key.now }) load }
-    {
-        let _ = self.history.promise(1);
-        let _ = self.joiners.join(who.session, who.number, key, load);
-        Join::new(who, key)
-    }
-
-    /// Does a call at once that asks nobody.
-    fn finish(&mut self, who: Caller, key: &Key, op: &Op, found: &Found) -> (Reply, u32)
-        requires found { found.now ≡ found_at self.old key.now op.now }
-        requires free { first_refusal self.old who.number key.now op.now ≡ None }
-        requires asks { first_asked self.old.config op.now (entry_at self.old.cache key.now) ≡ Nobody }
-        requires op { IsTrue (has_phases op.now) }
-        requires begins { MayBegin self.old who.session who.number key.now }
-        ensures { Steps self.old who.session who.number key.now op.now nothing_said [] result.0 result.1 self.new }
-    {
-        let kept = places_for(found.goes_on);
-        let reply = op.reply(found.entry, &NOTHING_SAID);
-        // Copied first: a value counts as moved by the call that takes it.
-        let told = reply;
-        let _ = self.history.promise(kept);
-        let pinned = self.reservations.keys();
-        let (victim, evicted) = keep(
-            &mut self.entries,
-            pinned,
-            key,
-            found.entry,
-            op,
-            &NOTHING_SAID,
-        );
-        let made = Putting {
-            who,
-            key: *key,
-            op: *op,
-            out: NOTHING_SAID,
-            reply,
-            victim,
-            evicted,
-        };
-        let place = put_down(&mut self.history, &self.joiners, None, &made, kept);
-        (told, place)
-    }
-
-    /// Ends a reservation, and puts its step down and those of its joiners.
-    fn commit(&mut self, key: &Key, number: u64, out: &Out) -> (Reply, u32)
-        requires out { IsSomeAnd (claimed self.old (record { key = key.now; number = number })) (λ r. SaidFor r.first out.now) }
-        ensures { Commits self.old (record { key = key.now; number = number }) out.now result.0 result.1 self.new }
-    {
-        let _types: Option<Change> = None;
-        match self.reservations.release(key) {
-            Some((_, note)) => {
-                let kept = 3 + self.joiners.waiting(number) as usize;
-                let entry = self.entries.peek(key);
-                // Copied first, as `told` below: a value counts as moved by the call that takes it.
-                let asked = entry;
-                let reply = note.op.reply(entry, out);
-                let told = reply;
-                let pinned = self.reservations.keys();
-                let (victim, evicted) = keep(&mut self.entries, pinned, key, asked, &note.op, out);
-                let made = Putting {
-                    who: Caller {
-                        session: note.session,
-                        number: note.call,
-                    },
-                    key: *key,
-                    op: note.op,
-                    out: *out,
-                    reply,
-                    victim,
-                    evicted,
-                };
-                let place = put_down(&mut self.history, &self.joiners, Some(number), &made, kept);
-                let _ = self.joiners.resolve(number, place);
-                (told, place)
-            }
-            None => unreachable!(),
-        }
-    }
-
-    /// Gives a reservation back.
-    fn give_back(&mut self, key: &Key, number: u64)
-        requires { IsTrue (is_some (claimed self.old (record { key = key.now; number = number }))) }
-        ensures { Withdraws self.old (record { key = key.now; number = number }) self.new }
-    {
-        let _types: Option<Change> = None;
-        let _ = self.reservations.release(key);
-        let waiting = self.joiners.dissolve(number);
-        self.history.unpromise(3 + waiting as usize);
-    }
-
-    /// The first phase of a call, on one key.
-    ///
-    /// It answers `Done` where nobody is asked, `Joined` where it is a `get` whose key is missing and is being loaded by another
-    /// call, with read-through on, and else reserves the key. It is refused, and nothing is done, where the history lacks the
-    /// places or a number stands at its end (`HistoryFull`), where the key is reserved and the call needs it free (`Busy`), where
-    /// 64 reservations are out and it needs one (`TooManyInFlight`), and where 64 joiners and parked answers are there and it
-    /// would join (`TooManyJoiners`), tested in this order. A `containsKey`, and a `get` that finds the entry or doesn't read
-    /// through, answer from the entry even while another call has the key reserved (JSR 107, "Default Consistency").
-    ///
-    /// Conditions: the operation isn't `Invoke`, which has no phases here. The key is of this stripe, by `stripe_of`. The caller's
-    /// number is at least that of every step of its session in this history. The session has no reservation and no join out here
-    /// under another number; an answer that is parked, or leave to begin again, counts as a join until it is picked up. And there
-    /// is no step, no reservation and no join here of this session, number and key.
-    pub fn begin(&mut self, who: Caller, key: &Key, op: &Op) -> Begun
-        requires op { IsTrue (has_phases op.now) }
-        requires begins { MayBegin self.old who.session who.number key.now }
-        ensures begins { Begins self.old who.session who.number key.now op.now result self.new }
-        ensures phase { IsPhaseOf who.session self.old self.new }
-    {
-        self.first_phase(who, key, op)
-    }
-
     /// What a first phase gives, and what it leaves.
-    fn first_phase(&mut self, who: Caller, key: &Key, op: &Op) -> Begun
+    fn first_phase(&mut self, caller: Caller, key: &Key, op: &Op) -> Begun
         requires op { IsTrue (has_phases op.now) }
-        requires begins { MayBegin self.old who.session who.number key.now }
-        ensures { Begins self.old who.session who.number key.now op.now result self.new }
+        requires begins { MayBegin self.old caller key.now }
+        ensures { Begins self.old caller key.now op.now result self.new }
     {
         let found = self.find(key, op);
-        if let Some(refusal) = self.refusal(who, key, &found) {
+        if let Some(refusal) = self.refusal(caller, &found) {
             return Begun::Refused(refusal);
         }
         if let Some(load) = found.load {
-            return Begun::Joined(self.join(who, key, op, load));
+            return Begun::Joined(self.join(caller, key, op, load));
         }
         match found.first {
-            First::Nobody => {
-                let (reply, place) = self.finish(who, key, op, &found);
-                Begun::Done(reply, place)
-            }
+            First::Nobody => Begun::Done(self.finish(caller, key, op, &found)),
             First::Loader => {
-                let number = self.reserve(who, key, op, First::Loader);
-                Begun::Load(LoadTicket::new(key, number))
+                let reservation = self.reserve(caller, key, op, First::Loader);
+                Begun::Load(LoadTicket::new(reservation))
             }
             First::Writer(change) => {
-                // Copied first: a value counts as moved by the call that takes it.
-                let asked = change;
-                let told = change;
-                let number = self.reserve(who, key, op, First::Writer(asked));
-                Begun::Write(WriteTicket::new(key, number, change), told)
+                let reservation = self.reserve(caller, key, op, First::Writer(change));
+                Begun::Write(WriteTicket::new(reservation))
             }
+            First::Processor => unreachable!(),
         }
     }
 
-    /// The last phase of a call whose loader was asked: its reservation ends, and its step is put down with the loader's answer.
-    /// A failed load leaves the entry as it was, and is the step's reply. Each that has joined the load and waits shares it: its
-    /// step is put down directly behind, in the order of joining, and its answer is parked until it is picked up.
-    ///
-    /// Conditions: the ticket is out here, so its key is reserved by its number and the loader was asked. `done` was made for the
-    /// ticket's key and number, and has this stripe's origin. The loader was asked and answered: the answer isn't `NotAsked`.
-    pub fn commit_load(&mut self, ticket: LoadTicket, done: LoadDone) -> (Reply, u32)
-        requires out { IsOut self.old ticket Loader }
-        requires claim { done.claim ≡ ticket }
-        requires origin { done.origin ≡ self.old.origin }
-        requires given { is_load_given done.answer ≡ true }
-        ensures commits { Commits self.old ticket (load_only done.answer) result.0 result.1 self.new }
-        ensures phase { (session : ℕ) → IsSomeAnd (claimed self.old ticket) (λ r. r.session ≡ session) → IsPhaseOf session self.old self.new }
+    /// Reserves a key, and keeps room in the history for its commit.
+    fn reserve(&mut self, caller: Caller, key: &Key, op: &Op, first: First) -> Reservation
+        requires free { first_refusal self.old caller key.now op.now ≡ None }
+        requires alone { load_joined self.old key.now op.now ≡ None }
+        requires needs { needs_reservation self.old key.now op.now ≡ true }
+        requires asks { first_asked self.old.config op.now (entry_at self.old.cache key.now) ≡ first }
+        requires begins { MayBegin self.old caller key.now }
+        ensures reservation { result ≡ new_reservation self.old caller key.now op.now first }
+        ensures reserved { self.new ≡ with_reservation self.old (new_reservation self.old caller key.now op.now first) }
     {
-        let ask = ticket.ask();
-        ticket.spend();
-        self.commit(&ask.key, ask.number, &load_alone(done.into_answer()))
-    }
-
-    /// The last phase of a call whose writer was asked: its reservation ends, and its step is put down with the writer's report.
-    /// A failed write leaves the entry as it was, and is the step's reply (`CacheWriter`).
-    ///
-    /// Conditions: the ticket is out here, so its key is reserved by its number and the writer was asked for its change. `done` was
-    /// made for the ticket's key and number and for exactly that change, and has this stripe's origin. The writer was asked and
-    /// returned: the report isn't `NotAsked`.
-    pub fn commit_write(&mut self, ticket: WriteTicket, done: WriteDone) -> (Reply, u32)
-        requires out { IsOut self.old ticket.claim (Writer ticket.change) }
-        requires claim { done.claim ≡ ticket.claim }
-        requires change { done.change ≡ ticket.change }
-        requires origin { done.origin ≡ self.old.origin }
-        requires given { is_write_given done.answer ≡ true }
-        ensures commits { Commits self.old ticket.claim (write_only done.answer) result.0 result.1 self.new }
-        ensures phase { (session : ℕ) → IsSomeAnd (claimed self.old ticket.claim) (λ r. r.session ≡ session) → IsPhaseOf session self.old self.new }
-    {
-        let ask = ticket.ask();
-        ticket.spend();
-        self.commit(&ask.key, ask.number, &write_alone(done.into_answer()))
-    }
-
-    /// Gives a loader's ticket back that was never used: nothing is put down, and the entry stays. Each that has joined the load
-    /// and waits is to begin again.
-    ///
-    /// Conditions: the ticket is out here, so its key is reserved by its number and the loader was to be asked. Whether it was
-    /// asked, the stripe doesn't know.
-    pub fn withdraw_load(&mut self, ticket: LoadTicket)
-        requires { IsOut self.old ticket Loader }
-        ensures withdraws { Withdraws self.old ticket self.new }
-        ensures phase { (session : ℕ) → IsSomeAnd (claimed self.old ticket) (λ r. r.session ≡ session) → IsPhaseOf session self.old self.new }
-    {
-        let ask = ticket.ask();
-        ticket.spend();
-        self.give_back(&ask.key, ask.number);
-    }
-
-    /// Gives a writer's ticket back that was never used: nothing is put down, and the entry stays.
-    ///
-    /// Conditions: the ticket is out here, so its key is reserved by its number and the writer was to be asked for its change.
-    /// Whether it was asked, the stripe doesn't know. A driver that gives a ticket back after the writer has changed the store
-    /// loses coherence; the history stays legal.
-    pub fn withdraw_write(&mut self, ticket: WriteTicket)
-        requires { IsOut self.old ticket.claim (Writer ticket.change) }
-        ensures withdraws { Withdraws self.old ticket.claim self.new }
-        ensures phase { (session : ℕ) → IsSomeAnd (claimed self.old ticket.claim) (λ r. r.session ≡ session) → IsPhaseOf session self.old self.new }
-    {
-        let ask = ticket.ask();
-        ticket.spend();
-        self.give_back(&ask.key, ask.number);
-    }
-
-    /// What a call that has joined a load is told. It is a joiner no more where its load is over.
-    fn take(&mut self, join: &Join) -> Taken
-        requires { is_joined join.now.session join.now.call join.now.key self.old.joiners ≡ true }
-        ensures told { told_to join.now.session join.now.call join.now.key self.old.joiners ≡ Some result }
-        ensures step { ToldStep self.old join.now result }
-        ensures left { self.new ≡ record self.old { joiners = after_take join.now.session join.now.call join.now.key self.old.joiners } }
-    {
-        let who = join.caller();
-        match self.joiners.take(who.session, who.number, &join.key()) {
-            Some(told) => told,
+        let _types: Option<Change> = None;
+        // Copied first: a value counts as moved by the call that takes it.
+        let asked = first;
+        let note = Note {
+            caller,
+            op: *op,
+            first: asked,
+        };
+        let _ = self.history.promise(STEP_PLACES);
+        match self.reservations.reserve(key, note) {
+            Some(number) => Reservation {
+                caller,
+                key: *key,
+                op: *op,
+                number,
+                first,
+            },
             None => unreachable!(),
         }
     }
 
-    /// Takes the answer of the load that a call has joined. Where the load isn't over the join comes back, and nothing changes;
-    /// where it was withdrawn the call is told to begin again.
-    ///
-    /// Conditions: the join is out here, so its call is among this stripe's joiners of its key.
-    pub fn pick_up(&mut self, join: Join) -> Picked
-        requires { is_joined join.session join.call join.key self.old.joiners ≡ true }
-        ensures picks_up { PicksUp self.old join result self.new }
-        ensures phase { IsPhaseOf join.session self.old self.new }
+    /// Joins a load, and keeps room in the history for the shared step.
+    fn join(&mut self, caller: Caller, key: &Key, op: &Op, load: u64) -> Join
+        requires free { first_refusal self.old caller key.now op.now ≡ None }
+        requires load { load_joined self.old key.now op.now ≡ Some load }
+        requires begins { MayBegin self.old caller key.now }
+        ensures join { result ≡ record { caller = caller; key = key.now; load = load } }
+        ensures joined { self.new ≡ with_joiner self.old (record { caller = caller; key = key.now; load = load }) }
     {
-        self.answer(join)
+        let _ = self.history.promise(HIT_PLACES);
+        let _ = self.joiners.join(caller, key, load);
+        Join::new(caller, key, load)
+    }
+
+    /// Does a call at once that asks nobody.
+    fn finish(&mut self, caller: Caller, key: &Key, op: &Op, found: &Found) -> StepDone
+        requires found { found.now ≡ found_at self.old key.now op.now }
+        requires free { first_refusal self.old caller key.now op.now ≡ None }
+        requires asks { first_asked self.old.config op.now (entry_at self.old.cache key.now) ≡ Nobody }
+        requires op { IsTrue (has_phases op.now) }
+        requires begins { MayBegin self.old caller key.now }
+        ensures { Steps self.old caller key.now op.now nothing_said [] result self.new }
+    {
+        let kept = places_needed(found.needs_free_key);
+        let _ = self.history.promise(kept);
+        let pinned = self.reservations.keys();
+        let group = make_step(
+            &mut self.entries,
+            pinned,
+            caller,
+            key,
+            found.entry,
+            op,
+            &Out::nothing_said(),
+        );
+        append_group(&mut self.history, &self.joiners, None, &group, kept)
+    }
+
+    /// Ends a reservation, and appends its step and those of its joiners.
+    fn commit(&mut self, reservation: &Reservation, out: &Out) -> StepDone
+        requires out { IsOut self.old reservation.now }
+        requires answers { AnswersFirst reservation.now.first out.now }
+        ensures { Commits self.old reservation.now out.now result self.new }
+    {
+        let _types: Option<Change> = None;
+        let key = reservation.key;
+        let load = reservation.number;
+        let _ = self.reservations.release(&key);
+        let kept = STEP_PLACES + self.joiners.waiting(load) as usize;
+        let entry = self.entries.peek(&key);
+        let pinned = self.reservations.keys();
+        let group = make_step(
+            &mut self.entries,
+            pinned,
+            reservation.caller,
+            &key,
+            entry,
+            &reservation.op,
+            out,
+        );
+        let done = append_group(&mut self.history, &self.joiners, Some(load), &group, kept);
+        let _ = self.joiners.resolve(load, done.place);
+        done
+    }
+
+    /// Gives a reservation back.
+    fn give_back(&mut self, reservation: &Reservation)
+        requires { IsOut self.old reservation.now }
+        ensures { Withdraws self.old reservation.now self.new }
+    {
+        let _types: Option<Change> = None;
+        let _ = self.reservations.release(&reservation.key);
+        let waiting = self.joiners.dissolve(reservation.number);
+        self.history.unpromise(STEP_PLACES + waiting as usize);
+    }
+
+    /// How far a joiner is. It is a joiner no more if its load is over.
+    fn take(&mut self, join: &Join) -> JoinState
+        requires { IsJoined self.old join.now }
+        ensures told { told_to self.old join.now ≡ Some result }
+        ensures step { HasToldStep self.old join.now result }
+        ensures left { self.new ≡ after_pick_up self.old join.now result }
+    {
+        match self.joiners.take(join.caller(), join.key()) {
+            Some(state) => state,
+            None => unreachable!(),
+        }
     }
 
     /// The answer of a joiner, and what is left once it was told.
     fn answer(&mut self, join: Join) -> Picked
-        requires { is_joined join.session join.call join.key self.old.joiners ≡ true }
+        requires { IsJoined self.old join }
         ensures { PicksUp self.old join result self.new }
     {
         match self.take(&join) {
-            Taken::Answer { place, shared_with } => {
+            JoinState::Answered { place, shared_with } => {
                 join.spend();
-                let reply = reply_at(self.events(), place);
-                Picked::Answer(reply, place, shared_with)
+                match self.history.reply(place as usize) {
+                    Some(reply) => Picked::Answer {
+                        reply,
+                        place,
+                        shared_with,
+                    },
+                    None => unreachable!(),
+                }
             }
-            Taken::Again => {
+            JoinState::Again => {
                 join.spend();
                 Picked::Again
             }
-            Taken::NotYet => Picked::NotYet(join),
+            JoinState::Waiting => Picked::NotYet(join),
         }
     }
-
-    /// What is cached: each key once.
-    pub fn entries(&self) -> &[(Key, Value)]
-        ensures by_use { result.now ≡ by_use self.now.opening self.now.history }
-        ensures cache { map.from_entries result.now ≡ self.now.cache }
-        ensures once { IsTrue (apart result.now) }
-    {
-        self.entries.list()
-    }
-
-    /// The history: legal from the stripe's opening, and what it leaves is what is cached.
-    pub fn events(&self) -> &[Event]
-        ensures events { result.now ≡ self.now.history }
-        ensures legal { Legal self.now.config self.now.opening self.now.history }
-        ensures reached { IsReached self.now }
-    {
-        self.history.events()
-    }
 }
-
-#[cfg(test)]
-mod tests;

@@ -7,6 +7,7 @@
 ghost use Rattle.std.specs.Prelude.{◌≡◌, true, false, Option, Some};
 ghost use Rattle.jc_model.specs.Table.{is_load_given, is_write_given};
 ghost use Rattle.jc_stripe.specs.declared.ticket.Origin.TheVariants.{Played};
+ghost use Rattle.jc_stripe.specs.declared.ticket.First.TheVariants.{Nobody};
 ghost use Rattle.jc_stripe.specs.Tickets.{asks_loader, asks_writer, change_asked};
 
 use jc_model::event::{Change, LoadAnswer, Op, WriteAnswer};
@@ -42,6 +43,22 @@ pub(crate) struct Note {
     pub(crate) caller: Caller,
     pub(crate) op: Op,
     pub(crate) first: First,
+}
+
+/// A note that nobody reads, with which a table of a fixed size fills its free places.
+impl Default for Note {
+    ghost is_default = { λ note. note.first ≡ Nobody };
+
+    fn default() -> Note {
+        Note {
+            caller: Caller {
+                session: 0,
+                call: 0,
+            },
+            op: Op::Get,
+            first: First::Nobody,
+        }
+    }
 }
 
 /// A key that a call has reserved.

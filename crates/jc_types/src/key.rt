@@ -89,6 +89,18 @@ impl Key {
     }
 }
 
+/// The key of one zero byte, with which a table of a fixed size fills its free places.
+impl Default for Key {
+    ghost is_default = { λ key. key ≡ 0 ∷ [] };
+
+    fn default() -> Key {
+        Key {
+            buf: [0; KEY_MAX],
+            len: 1,
+        }
+    }
+}
+
 /// Prints the bytes as a quoted text if they are UTF-8, and else as a list of numbers.
 impl Debug for Key {
     fn fmt<W: Write>(&self, f: &mut Formatter<W>) -> fmt::Result {

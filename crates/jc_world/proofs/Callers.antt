@@ -22,6 +22,7 @@ use Rattle.jc_model.specs.declared.event.Event.{Event}
 use Rattle.jc_model.specs.Cache.{Bytes, Cache, key_cmp}
 use Rattle.jc_model.specs.Group.{nothing_said, events_of}
 use Rattle.jc_model.specs.Legal.{IsHistory, is_of_stripe, of_stripe, may_come}
+use Rattle.jc_model.proofs.Openings.{empty_opens}
 use Rattle.jc_model.proofs.Lookups.{both, same_key}
 use Rattle.jc_stripe.specs.declared.ticket.Reservation.{Reservation}
 use Rattle.jc_stripe.specs.declared.begun.StepDone.{StepDone}
@@ -928,6 +929,8 @@ history_of_stripe w n s there at =
 -- and so is the whole order
 pub order_is : (w : WorldState) → IsSoundWorld w → IsOrder w
 order_is w old = record {
+  config_fits = old.shape.config_fits;
+  openings = λ n h. empty_opens w.config n;
   parts = λ n h.
       let s = there_is w.stripes n (let e = old.shape.count in omega arith) in
       history_of_stripe w n s.0 s.1 (old.shape.each n s.0 s.1);

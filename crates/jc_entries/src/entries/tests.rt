@@ -1,359 +1,206 @@
-//! Entries with room for two, played from texts, and entries of other capacities.
-//!
-//! Scripts stand in texts, since a check proves a table of rows at a price that grows faster than its length. The functions
-//! are small for the same reason.
+//! Entries beside a plain list with the same random calls, evictions past pinned keys, and the limits
+//! of the capacity. A text stands for keys of one byte each.
+ghost use Rattle.std.specs.Prelude.{◌<◌};
+
 use super::*;
-use std::fmt::Debug;
 use std::process::Abort;
 use std::test::Fail;
 
-// 1. The words of a script.
+// 1. Words of the tests.
 
-fn key(rt: &impl Abort, word: &str) -> Key {
-    Key::new(word.as_bytes()).ok().expect(rt, "a key")
+fn key(rt: &impl Abort, byte: u8) -> Key {
+    Key::new(&[byte]).ok().expect(rt, "a key")
 }
 
-fn value(rt: &impl Abort, word: &str) -> Value {
-    Value::new(word.as_bytes()).ok().expect(rt, "a value")
+fn value(rt: &impl Abort, byte: u8) -> Value {
+    Value::new(&[byte]).ok().expect(rt, "a value")
 }
 
-/// A value, or a dash for none.
-fn value_or_none(rt: &impl Abort, word: &str) -> Option<Value> {
-    match word {
-        "-" => None,
-        _ => Some(value(rt, word)),
-    }
-}
-
-/// An entry, as `a=x`.
-fn entry(rt: &impl Abort, word: &str) -> (Key, Value) {
-    let (left, right) = word.split_once('=').expect(rt, "a key and a value");
-    (key(rt, left), value(rt, right))
-}
-
-/// Keys that spaces part.
-fn keys(rt: &impl Abort, alloc: Global, words: &str) -> Result<Vec<Key>, Fail> {
+fn keys_in(rt: &impl Abort, alloc: Global, text: &str) -> Result<Vec<Key>, Fail> {
     let mut keys = Vec::new(alloc);
-    for word in words.split_whitespace() {
-        keys.push(key(rt, word))?;
+    for byte in text.as_bytes() {
+        keys.push(key(rt, *byte))?;
     }
     Ok(keys)
 }
 
-/// Entries that spaces part.
-fn list(rt: &impl Abort, alloc: Global, words: &str) -> Result<Vec<(Key, Value)>, Fail> {
-    let mut list = Vec::new(alloc);
-    for word in words.split_whitespace() {
-        list.push(entry(rt, word))?;
+/// The keys of the entries as a text, the most recently used first.
+fn shown(alloc: Global, entries: &Entries) -> Result<Vec<u8>, Fail> {
+    let mut keys = Vec::with_capacity(alloc, entries.len())?;
+    entries.keys(&mut keys);
+    let mut text = Vec::new(alloc);
+    for key in &keys {
+        text.extend_from_slice(key.bytes())?;
     }
-    Ok(list)
+    Ok(text)
 }
 
-/// What became of an insertion: `kept`, `evicts a`, or `full` where the entry isn't kept.
-fn inserted(rt: &impl Abort, text: &str) -> Inserted {
-    match text {
-        "kept" => Inserted::Kept,
-        "full" => Inserted::NotKept(Cause::Full, None),
-        _ => {
-            let gone = text.strip_prefix("evicts ").expect(rt, "an insertion");
-            Inserted::KeptAfter(key(rt, gone))
+// 2. A plain list, the most recently used first.
+
+fn plain_peek(list: &[(Key, Value)], key: &Key) -> Option<Value> {
+    list.iter()
+        .find(|entry| entry.0 == *key)
+        .map(|entry| entry.1)
+}
+
+fn plain_remove(list: &mut Vec<(Key, Value)>, key: &Key) -> Option<Value> {
+    let place = list.iter().position(|entry| entry.0 == *key)?;
+    Some(list.remove(place).1)
+}
+
+fn plain_touch(list: &mut Vec<(Key, Value)>, key: &Key) -> Result<(), AllocError> {
+    if let Some(value) = plain_remove(list, key) {
+        list.insert(0, (*key, value))?;
+    }
+    Ok(())
+}
+
+fn plain_insert(
+    list: &mut Vec<(Key, Value)>,
+    capacity: usize,
+    entry: (Key, Value),
+    pinned: &[Key],
+) -> Result<Inserted, AllocError> {
+    if plain_remove(list, &entry.0).is_some() || list.len() < capacity {
+        list.insert(0, entry)?;
+        return Ok(Inserted::Kept);
+    }
+    let Some(place) = list.iter().rposition(|entry| !pinned.contains(&entry.0)) else {
+        return Ok(Inserted::NotKept(Cause::Full, None));
+    };
+    let gone = list.remove(place).0;
+    list.insert(0, entry)?;
+    Ok(Inserted::KeptAfter(gone))
+}
+
+// 3. Random calls.
+
+/// A random number below `n`, by a linear congruence.
+fn random(state: &mut u64, n: u64) -> u64
+    requires { 0 < n }
+    ensures { result < n }
+{
+    *state = state
+        .wrapping_mul(6364136223846793005)
+        .wrapping_add(1442695040888963407);
+    (*state >> 33) % n
+}
+
+/// The letters that a random number picks, each with a chance of one half.
+fn random_keys(rt: &impl Abort, alloc: Global, state: &mut u64) -> Result<Vec<Key>, Fail> {
+    let mut keys = Vec::new(alloc);
+    for byte in b'a'..=b'h' {
+        if random(state, 2) == 0 {
+            keys.push(key(rt, byte))?;
         }
     }
+    Ok(keys)
 }
 
-fn yes_or_no(rt: &impl Abort, word: &str) -> bool {
-    match word {
-        "yes" => true,
-        "no" => false,
-        _ => panic!(rt; "neither yes nor no: {word}"),
-    }
-}
-
-// 2. How scripts are played.
-
-fn is<T: Copy + Debug + PartialEq>(rt: &impl Abort, name: &str, found: T, want: T) {
-    assert_eq!(rt; found, want, "{name}");
-}
-
-/// Asserts what the entries are, the most recently used first.
-fn lists(
+/// Makes one random call of both, and compares what they answer.
+fn same_call(
     rt: &impl Abort,
     alloc: Global,
-    name: &str,
-    entries: &Entries,
-    want: &str,
-) -> Result<(), Fail> {
-    let want = list(rt, alloc, want)?;
-    is(rt, name, entries.list(), want.as_slice());
-    is(rt, name, entries.len(), want.len());
-    Ok(())
-}
-
-/// Asserts what the keys are, the most recently used first.
-fn shows(
-    rt: &impl Abort,
-    alloc: Global,
-    name: &str,
-    entries: &Entries,
-    want: &str,
-) -> Result<(), Fail> {
-    let mut found = Vec::with_capacity(alloc, entries.len())?;
-    entries.keys(&mut found);
-    let want = keys(rt, alloc, want)?;
-    is(rt, name, found.as_slice(), want.as_slice());
-    Ok(())
-}
-
-/// Inserts an entry, as `a=x`, or `a=x pinned b c` where these keys are pinned.
-fn inserts(
-    rt: &impl Abort,
-    alloc: Global,
-    name: &str,
     entries: &mut Entries,
-    what: &str,
-    want: &str,
+    list: &mut Vec<(Key, Value)>,
+    state: &mut u64,
 ) -> Result<(), Fail> {
-    let (word, pinned) = what.split_once(" pinned ").unwrap_or((what, ""));
-    let (key, value) = entry(rt, word);
-    let found = entries.insert(&key, &value, &keys(rt, alloc, pinned)?);
-    is(rt, name, found, inserted(rt, want));
-    Ok(())
-}
-
-/// Touches a key, and asserts what the entries are then.
-fn touches(
-    rt: &impl Abort,
-    alloc: Global,
-    name: &str,
-    entries: &mut Entries,
-    what: &str,
-    want: &str,
-) -> Result<(), Fail> {
-    entries.touch(&key(rt, what));
-    lists(rt, alloc, name, entries, want)
-}
-
-/// Plays a step at a key, or one that inserts an entry.
-fn acts(
-    rt: &impl Abort,
-    alloc: Global,
-    name: &str,
-    entries: &mut Entries,
-    (verb, what): (&str, &str),
-    want: &str,
-) -> Result<(), Fail> {
-    match verb {
-        "insert" => inserts(rt, alloc, name, entries, what, want)?,
-        "touch" => touches(rt, alloc, name, entries, what, want)?,
-        "peek" => is(
-            rt,
-            name,
-            entries.peek(&key(rt, what)),
-            value_or_none(rt, want),
-        ),
-        "remove" => is(
-            rt,
-            name,
-            entries.remove(&key(rt, what)),
-            value_or_none(rt, want),
-        ),
-        _ => panic!(rt; "{name}: {verb} {what}"),
+    let key = key(rt, b'a' + random(state, 8) as u8);
+    match random(state, 5) {
+        0 => assert_eq!(rt; entries.peek(&key), plain_peek(list, &key)),
+        1 => assert_eq!(rt; entries.remove(&key), plain_remove(list, &key)),
+        2 => {
+            entries.touch(&key);
+            plain_touch(list, &key)?;
+        }
+        _ => {
+            let value = value(rt, random(state, 256) as u8);
+            let pinned = random_keys(rt, alloc, state)?;
+            let want = plain_insert(list, entries.capacity(), (key, value), &pinned)?;
+            assert_eq!(rt; entries.insert(&key, &value, &pinned), want);
+        }
     }
     Ok(())
 }
 
-/// Plays a step that asks for what is there.
-fn looks(
-    rt: &impl Abort,
-    alloc: Global,
-    name: &str,
-    entries: &Entries,
-    what: &str,
-    want: &str,
-) -> Result<(), Fail> {
-    match what {
-        "list" => lists(rt, alloc, name, entries, want)?,
-        "keys" => shows(rt, alloc, name, entries, want)?,
-        "empty" => is(rt, name, entries.is_empty(), yes_or_no(rt, want)),
-        _ => panic!(rt; "{name}: {what}"),
+fn same_calls(rt: &impl Abort, alloc: Global, capacity: usize) -> Result<(), Fail> {
+    assert!(rt; 0 < capacity && capacity <= CAPACITY_MAX);
+    let mut entries = Entries::new(alloc, capacity)?;
+    let mut list = Vec::new(alloc);
+    let mut state = capacity as u64;
+    for _ in 0..2000 {
+        same_call(rt, alloc, &mut entries, &mut list, &mut state)?;
+        let mut found = Vec::new(alloc);
+        entries.append_to(&mut found)?;
+        assert_eq!(rt; found.as_slice(), list.as_slice(), "of {capacity}");
+        assert_eq!(rt; entries.len(), list.len(), "of {capacity}");
+        assert_eq!(rt; entries.is_empty(), list.is_empty(), "of {capacity}");
     }
     Ok(())
 }
 
-/// Plays a line: a step, and behind a colon its answer.
-fn plays_line(
-    rt: &impl Abort,
-    alloc: Global,
-    name: &str,
-    entries: &mut Entries,
-    line: &str,
-) -> Result<(), Fail> {
-    let (step, want) = line.split_once(" : ").expect(rt, "an answer");
-    match step.split_once(' ') {
-        Some(step) => acts(rt, alloc, name, entries, step, want),
-        None => looks(rt, alloc, name, entries, step, want),
+#[test]
+fn acts_as_a_plain_list(rt: HostRuntime) -> Result<(), Fail> {
+    for capacity in 1..=9 {
+        same_calls(&rt, rt.alloc(), capacity)?;
     }
+    Ok(())
 }
 
-/// Plays the lines of a script on entries with room for two.
-fn plays(rt: &impl Abort, alloc: Global, name: &str, script: &str) -> Result<(), Fail> {
-    assert!(rt; !script.is_empty(), "{name}");
+// 4. Evictions.
+
+/// Inserts c into entries with room for two, b and then a, where these keys are pinned.
+fn evicts(
+    rt: &impl Abort,
+    alloc: Global,
+    pinned: &str,
+    want: Inserted,
+    left: &[u8],
+) -> Result<(), Fail> {
     let mut entries = Entries::new(alloc, 2)?;
-    for line in script.lines() {
-        plays_line(rt, alloc, name, &mut entries, line)?;
+    for byte in b"ab" {
+        entries.insert(&key(rt, *byte), &value(rt, b'x'), &[]);
     }
-    is(rt, name, entries.capacity(), 2);
+    let pinned_keys = keys_in(rt, alloc, pinned)?;
+    let found = entries.insert(&key(rt, b'c'), &value(rt, b'y'), &pinned_keys);
+    assert_eq!(rt; found, want, "pinned {pinned}");
+    assert_eq!(rt; shown(alloc, &entries)?.as_slice(), left, "pinned {pinned}");
     Ok(())
 }
-
-/// Plays scripts that `==` parts, each behind a line with its name.
-fn all_play(rt: &impl Abort, alloc: Global, scripts: &str) -> Result<(), Fail> {
-    for script in scripts.split("==\n") {
-        let (name, script) = script.split_once('\n').expect(rt, "a name");
-        plays(rt, alloc, name, script)?;
-    }
-    Ok(())
-}
-
-// 3. Scripts.
-
-const EVICTIONS: &str = "\
-room
-insert a=x : kept
-insert b= : kept
-list : b= a=x
-==
-full
-insert a=x : kept
-insert b=x : kept
-insert c= : evicts a
-list : c= b=x
-==
-used again
-insert a=x : kept
-insert b=x : kept
-insert a=x : kept
-insert c= : evicts b
-list : c= a=x
-==
-the oldest pinned
-insert a=x : kept
-insert b=x : kept
-insert c= pinned a : evicts b
-list : c= a=x
-==
-the newest pinned
-insert a=x : kept
-insert b=x : kept
-insert c= pinned b : evicts a
-list : c= b=x
-==
-the new key pinned
-insert a=x : kept
-insert b=x : kept
-insert c= pinned c : evicts a
-list : c= b=x
-==
-all pinned
-insert a=x : kept
-insert b=x : kept
-insert c= pinned a c b : full
-list : b=x a=x
-==
-there
-insert a=x : kept
-insert b=x : kept
-insert a= : kept
-list : a= b=x
-==
-there and all pinned
-insert a=x : kept
-insert b=x : kept
-insert a= pinned a b : kept
-list : a= b=x
-==
-in front
-insert a=x : kept
-insert b=x : kept
-insert b= : kept
-list : b= a=x
-";
 
 #[test]
 fn evicts_the_least_recently_used_that_is_not_pinned(rt: HostRuntime) -> Result<(), Fail> {
-    all_play(&rt, rt.alloc(), EVICTIONS)
-}
-
-/// A peek leaves the order, and so does a touch of a key that isn't there.
-const TOUCHES: &str = "\
-touches and peeks
-insert a=x : kept
-insert b=x : kept
-peek a : x
-peek c : -
-list : b=x a=x
-touch c : b=x a=x
-touch a : a=x b=x
-touch a : a=x b=x
-insert c=x : evicts b
-";
-
-#[test]
-fn touches_and_peeks(rt: HostRuntime) -> Result<(), Fail> {
-    all_play(&rt, rt.alloc(), TOUCHES)
-}
-
-/// A key that is removed leaves room for another.
-const REMOVALS: &str = "\
-removals
-insert c=x : kept
-insert a=x : kept
-remove a : x
-remove a : -
-list : c=x
-empty : no
-insert b=x : kept
-list : b=x c=x
-keys : b c
-remove b : x
-remove c : x
-empty : yes
-";
-
-#[test]
-fn removes_and_shows_keys(rt: HostRuntime) -> Result<(), Fail> {
-    all_play(&rt, rt.alloc(), REMOVALS)
-}
-
-// 4. Other capacities.
-
-/// A key that is this number.
-fn numbered(i: usize) -> Result<Key, Fail> {
-    Ok(Key::new(&(i as u64).to_be_bytes())?)
+    let (a, b) = (key(&rt, b'a'), key(&rt, b'b'));
+    for (pinned, want, left) in [
+        ("", Inserted::KeptAfter(a), b"cb"),
+        ("b", Inserted::KeptAfter(a), b"cb"),
+        ("c", Inserted::KeptAfter(a), b"cb"),
+        ("a", Inserted::KeptAfter(b), b"ca"),
+        ("ab", Inserted::NotKept(Cause::Full, None), b"ba"),
+    ] {
+        evicts(&rt, rt.alloc(), pinned, want, left)?;
+    }
+    Ok(())
 }
 
 /// Asserts that as many entries fit as there may be, and that one more evicts the first.
-fn fills(rt: &impl Abort, alloc: Global, name: &str, capacity: usize) -> Result<(), Fail> {
+fn fills(rt: &impl Abort, alloc: Global, capacity: usize) -> Result<(), Fail> {
     assert!(rt; 0 < capacity && capacity <= CAPACITY_MAX);
     let mut entries = Entries::new(alloc, capacity)?;
-    let x = value(rt, "x");
+    let x = value(rt, b'x');
     for i in 0..capacity {
-        is(
-            rt,
-            name,
-            entries.insert(&numbered(i)?, &x, &[]),
-            Inserted::Kept,
-        );
+        let found = entries.insert(&Key::new(&i.to_be_bytes())?, &x, &[]);
+        assert_eq!(rt; found, Inserted::Kept, "{i} of {capacity}");
     }
-    let found = entries.insert(&key(rt, "more"), &x, &[]);
-    is(rt, name, found, Inserted::KeptAfter(numbered(0)?));
-    is(rt, name, entries.len(), capacity);
+    let found = entries.insert(&key(rt, b'm'), &x, &[]);
+    let first = Key::new(&0usize.to_be_bytes())?;
+    assert_eq!(rt; found, Inserted::KeptAfter(first), "of {capacity}");
+    assert_eq!(rt; entries.len(), capacity);
     Ok(())
 }
 
 #[test]
 fn keeps_as_many_as_it_may(rt: HostRuntime) -> Result<(), Fail> {
-    fills(&rt, rt.alloc(), "one", 1)?;
-    fills(&rt, rt.alloc(), "three", 3)?;
-    fills(&rt, rt.alloc(), "the most", CAPACITY_MAX)
+    fills(&rt, rt.alloc(), 1)?;
+    fills(&rt, rt.alloc(), CAPACITY_MAX)
 }

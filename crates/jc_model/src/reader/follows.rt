@@ -48,7 +48,7 @@ fn make_step(
     ensures { (reply : _) → OnOk result (contents.new ≡ cache_after_step contents.old (new_group victim.now (record { session = 0; call = 0 }) op.now key.now out.now reply)) }
 {
     if let Some(victim) = victim {
-        contents.set(victim, None)?;
+        contents.remove(victim);
     }
     let left = op.entry_after(contents.get(key), out);
     contents.set(key, left)?;
@@ -86,7 +86,7 @@ pub(super) fn go_over(
             if let Stage::Inside(kept) = stage
                 && kept.does_own_go(key, *cause)
             {
-                contents.set(key, None)?;
+                contents.remove(key);
                 return Ok(Stage::Outside);
             }
             Ok(Stage::Picked(*key))

@@ -1,4 +1,4 @@
-//! What a table of reservations answers, from an empty one to a full one.
+//! What a table of reservations answers, from an empty one to a full one. No test is given an allocator.
 //!
 //! Each assertion is a call of `is`, which is proved once: an assertion in its own place costs the check far more.
 use super::*;
@@ -14,35 +14,38 @@ fn key(rt: &impl Abort, name: &str) -> Key {
     Key::new(name.as_bytes()).ok().expect(rt, "a key")
 }
 
-/// Reserves a key with this note, or with none releases it, and tells the number of its reservation.
-fn changes(table: &mut Reservations<char>, key: &Key, note: Option<char>) -> Option<u64> {
+/// Reserves a key with this note, or with none releases it, and gives the number of its reservation.
+fn change(table: &mut Reservations<char>, key: &Key, note: Option<char>) -> Option<u64> {
     match note {
         Some(note) => table.reserve(key, note),
         None => Some(table.release(key)?.0),
     }
 }
 
-/// Releases a key.
-fn releases(
-    rt: &impl Abort,
-    table: &mut Reservations<char>,
-    name: &str,
-    want: Option<(u64, char)>,
-) {
-    let key = key(rt, name);
-    is(rt, name, table.release(&key), want);
-}
-
-/// Finds a key that is reserved, or doesn't where it is free.
-fn finds(rt: &impl Abort, table: &Reservations<char>, name: &str, want: Option<(u64, char)>) {
+/// Looks a key up, which is reserved or free.
+fn look_up(rt: &impl Abort, table: &Reservations<char>, name: &str, want: Option<(u64, char)>) {
     let key = key(rt, name);
     is(rt, name, table.find(&key), want);
     is(rt, name, table.is_reserved(&key), want.is_some());
 }
 
+/// Asks for the reservations as a list: the keys `b` and `c`, by the numbers 2 and 4.
+fn look_at_list(rt: &impl Abort, table: &Reservations<char>) {
+    let left = [key(rt, "b"), key(rt, "c")];
+    is(rt, "keys", table.keys(), left.as_slice());
+    is(rt, "length", table.len(), 2);
+    for (held, want) in table
+        .list()
+        .iter()
+        .zip([(left[0], 2, 'u'), (left[1], 4, 'w')])
+    {
+        is(rt, "held", (held.key, held.reservation, held.note), want);
+    }
+}
+
 #[test]
-fn numbers_rise_and_come_never_twice(rt: HostRuntime) -> Result<(), Fail> {
-    let mut table = Reservations::new(rt.alloc())?;
+fn numbers_rise_and_never_come_twice(rt: HostRuntime) -> Result<(), Fail> {
+    let mut table = Reservations::new();
     is(&rt, "new", table.is_empty(), true);
     // A key that is reserved with a note, or with none is released, and the number that this gives.
     for (name, note, want) in [
@@ -56,7 +59,7 @@ fn numbers_rise_and_come_never_twice(rt: HostRuntime) -> Result<(), Fail> {
         ("a", Some('v'), Some(3)),
         ("c", Some('w'), Some(4)),
     ] {
-        is(&rt, name, changes(&mut table, &key(&rt, name), note), want);
+        is(&rt, name, change(&mut table, &key(&rt, name), note), want);
     }
     for (name, want) in [
         ("a", Some((3, 'v'))),
@@ -64,17 +67,15 @@ fn numbers_rise_and_come_never_twice(rt: HostRuntime) -> Result<(), Fail> {
         ("c", Some((4, 'w'))),
         ("d", None),
     ] {
-        finds(&rt, &table, name, want);
+        look_up(&rt, &table, name, want);
     }
-    releases(&rt, &mut table, "a", Some((3, 'v')));
-    let left = [key(&rt, "b"), key(&rt, "c")];
-    is(&rt, "left", table.keys(), left.as_slice());
-    is(&rt, "left", table.len(), 2);
+    is(&rt, "a", table.release(&key(&rt, "a")), Some((3, 'v')));
+    look_at_list(&rt, &table);
     Ok(())
 }
 
 /// Reserves the keys with the bytes `k0` to `k63`, each with its number as its note.
-fn reserves_64(rt: &impl Abort, table: &mut Reservations<u8>) -> Result<(), Fail> {
+fn reserve_64(rt: &impl Abort, table: &mut Reservations<u8>) -> Result<(), Fail> {
     for i in 0..64u8 {
         is(rt, "full too early", table.is_full(), false);
         let key = Key::new(&[b'k', i])?;
@@ -84,9 +85,9 @@ fn reserves_64(rt: &impl Abort, table: &mut Reservations<u8>) -> Result<(), Fail
 }
 
 #[test]
-fn holds_64_keys(rt: HostRuntime) -> Result<(), Fail> {
-    let mut table = Reservations::new(rt.alloc())?;
-    reserves_64(&rt, &mut table)?;
+fn holds_64_keys_and_no_65th(rt: HostRuntime) -> Result<(), Fail> {
+    let mut table = Reservations::new();
+    reserve_64(&rt, &mut table)?;
     is(&rt, "full", table.is_full(), true);
     let other = key(&rt, "other");
     is(&rt, "full", table.reserve(&other, 64), None);
@@ -102,7 +103,7 @@ fn holds_64_keys(rt: HostRuntime) -> Result<(), Fail> {
 #[test]
 fn stops_at_the_end_of_the_numbers(rt: HostRuntime) -> Result<(), Fail> {
     let last = u64::MAX - 1;
-    let mut table = Reservations::new_from(rt.alloc(), last)?;
+    let mut table = Reservations::new_from(last);
     let (a, b) = (key(&rt, "a"), key(&rt, "b"));
     is(&rt, "one number is left", table.is_used_up(), false);
     is(&rt, "the last number", table.reserve(&a, ()), Some(last));

@@ -1,47 +1,28 @@
-use Rattle.std.proofs.Common.{◌∷◌, ap, sym, ◌∙◌, length, arith, rules}
-use Rattle.jc_entries.specs.ByUse.{evicted_of}
-use Rattle.jc_entries.specs.Inserting.{has_place}
-use Rattle.jc_entries.specs.EntriesInside.{by_use_of}
-use Rattle.jc_entries.proofs.UseLemmas.{is_new, evicted_of-found, length-others_place, length-others_found, IsSound-kept, IsSound-kept_after, IsSound-same}
+use Rattle.std.proofs.Common.{◌∷◌, List, ap, sym, ◌∙◌}
+use Rattle.jc_model.specs.Cache.{Bytes}
+use Rattle.jc_model.specs.Listed.{others}
+use Rattle.jc_entries.specs.ByUse.{ByUse}
+use Rattle.jc_entries.specs.Inserting.{has_room_for}
+use Rattle.jc_entries.proofs.CallerLemmas.{lru_victim-found}
+use Rattle.jc_entries.proofs.IsValidByUse.{no_room-new, has_room_for-eviction, others-new}
 use Rattle.jc_entries.proofs.entries.Entries.insert.Goals as goal
 
--- 1. There is a place.
+pub put_first-requires-2 : goal.put_first-requires-2
+put_first-requires-2 c =
+    let old = c.args.self.now in
+    let found = lru_victim-found old.list c.args.pinned.now c.in-Some.victim (sym c.lru_victim.ensures ∙ c.in-Some.is) in
+    record { room = ap (has_room_for c.args.key.now) c.remove.ensures.after ∙ has_room_for-eviction old c.args.key.now c.in-Some.victim c.has_room_for.ensures.valid found }
 
-pub put_first-requires : goal.put_first-requires
-put_first-requires c =
-    let few = length-others_place (by_use_of c.self.inside) c.args.key.now c.self.invariant.sound (ap (has_place c.args.key.now) c.self.view_is ∙ sym c.has_place.ensures ∙ c.if-has_place.true) in
-    omega arith
-
-pub invariant_of-self : goal.invariant_of-self
-invariant_of-self c = record {
-  sound = IsSound-same _ _ _ c.put_first.ensures.items
-      (IsSound-kept (by_use_of c.self.inside) c.args.key.now c.args.value.now c.self.invariant.sound (ap (has_place c.args.key.now) c.self.view_is ∙ sym c.has_place.ensures ∙ c.if-has_place.true));
-  room = search rules;
-}
-
-pub returns-then-has_place-clause-sound : goal.returns-then-has_place-clause-sound
-returns-then-has_place-clause-sound c = (invariant_of-self c).sound
-
--- 2. An entry goes.
-
-pub insert_first-requires : goal.insert_first-requires
-insert_first-requires c =
-    let found = evicted_of-found c.self.inside.list.items c.args.pinned.now c.in-Some.gone
-    (ap (λ xs. evicted_of xs c.args.pinned.now) (sym c.deref.ensures.value) ∙ sym c.victim.ensures ∙ c.in-Some.is) in
-    let few = length-others_found c.in-Some.gone c.self.inside.list.items found in
-    let len = ap length c.take_out.ensures.items in
-    search rules
-
-pub invariant_of-self-in-Some : goal.invariant_of-self-in-Some
-invariant_of-self-in-Some c =
-    let missing = is_new (by_use_of c.self.inside) c.args.key.now (ap (has_place c.args.key.now) c.self.view_is ∙ sym c.has_place.ensures ∙ c.if-has_place.false) in
-    let found = evicted_of-found c.self.inside.list.items c.args.pinned.now c.in-Some.gone
-    (ap (λ xs. evicted_of xs c.args.pinned.now) (sym c.deref.ensures.value) ∙ sym c.victim.ensures ∙ c.in-Some.is) in
+pub returns-in-Ok-put_first-clause-inserts : goal.returns-in-Ok-put_first-clause-inserts
+returns-in-Ok-put_first-clause-inserts c =
+    let old = c.args.self.now in
+    let key = c.args.key.now in
+    let full = sym c.has_room_for.ensures.room ∙ c.if-has_room_for.false in
     record {
-      sound = IsSound-same _ _ _ (c.insert_first.ensures.items ∙ ap (λ xs. (c.args.key.now, c.args.value.now) ∷ xs) c.take_out.ensures.items)
-          (IsSound-kept_after (by_use_of c.self.inside) c.args.key.now c.args.value.now c.in-Some.gone c.self.invariant.sound missing found);
-      room = search rules;
+      no_room = full;
+      victim_is = sym c.lru_victim.ensures ∙ c.in-Some.is;
+      after =
+          c.in-Ok-put_first.ensures.ok
+          ∙ ap (λ (s : ByUse). record s { list = (key, c.args.value.now) ∷ others key s.list }) c.remove.ensures.after
+          ∙ ap (λ (es : List (Bytes × Bytes)). record old { list = (key, c.args.value.now) ∷ es }) (others-new key c.in-Some.victim old.list (no_room-new old key full));
     }
-
-pub returns-in-Some-clause-sound : goal.returns-in-Some-clause-sound
-returns-in-Some-clause-sound c = (invariant_of-self-in-Some c).sound

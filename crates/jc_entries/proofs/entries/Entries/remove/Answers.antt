@@ -1,13 +1,27 @@
-use Rattle.std.proofs.Common.{rules}
+use Rattle.std.proofs.Common.{ap, sym, ◌∙◌, subst}
+use Rattle.std.specs.FinMap as finite
+use Rattle.jc_model.specs.Cache.{key_cmp}
+use Rattle.jc_model.specs.Listed.{others}
+use Rattle.jc_entries.specs.ByUse.{ByUse, IsValidByUse}
 use Rattle.jc_entries.specs.EntriesInside.{by_use_of}
-use Rattle.jc_entries.proofs.UseLemmas.{IsSound-others, IsSound-same}
+use Rattle.jc_entries.proofs.IsValidByUse.{IsValidByUse-others}
+use Rattle.jc_entries.proofs.Lru.{lookup-find, by_use-removed}
 use Rattle.jc_entries.proofs.entries.Entries.remove.Goals as goal
 
 pub invariant_of-self : goal.invariant_of-self
-invariant_of-self c = record {
-  sound = IsSound-same _ _ _ c.take_out.ensures.items (IsSound-others (by_use_of c.self.inside) c.args.key.now c.self.invariant.sound);
-  room = search rules;
-}
+invariant_of-self c =
+    let after = by_use-removed _ _ c.args.key.now c.self.invariant c.pop.ensures.entries in
+    subst IsValidByUse (sym after) (IsValidByUse-others (by_use_of c.self.inside) c.args.key.now c.self.invariant)
 
-pub returns-clause-sound : goal.returns-clause-sound
-returns-clause-sound c = (invariant_of-self c).sound
+pub returns-clause-value : goal.returns-clause-value
+returns-clause-value c =
+    c.pop.ensures.value ∙ lookup-find c.args.key.now c.self.inside.cache.entries
+    ∙ ap (λ (s : ByUse). finite.find key_cmp c.args.key.now s.list) c.self.view_is
+
+pub returns-clause-after : goal.returns-clause-after
+returns-clause-after c =
+    by_use-removed _ _ c.args.key.now c.self.invariant c.pop.ensures.entries
+    ∙ ap (λ (s : ByUse). record s { list = others c.args.key.now s.list }) c.self.view_is
+
+pub returns-clause-valid : goal.returns-clause-valid
+returns-clause-valid c = invariant_of-self c

@@ -1,45 +1,61 @@
-use Rattle.std.proofs.Common.{Bool, Some, position, cond, option_map, subst, sym, ap, ◌∙◌, arith}
-use Rattle.jc_inflight.specs.Joined.{is_of}
-use Rattle.jc_inflight.specs.Taking.{told, joiner_of, without, is_ready}
-use Rattle.jc_inflight.specs.Sound.{IsSound}
-use Rattle.jc_inflight.proofs.Keeping.{no_joiner, joiner_at, without_at, sound-without}
+use Rattle.std.proofs.Common.{Some, position, subst, sym, ap, ◌∙◌, get_or}
+use Rattle.jc_inflight.specs.declared.joiner.Joiner.{Joiner}
+use Rattle.jc_inflight.specs.Joining.{belongs_to, is_waiting}
+use Rattle.jc_inflight.specs.Taking.{state_of, after_take}
+use Rattle.jc_inflight.specs.IsJoinerList.{IsJoinerList}
+use Rattle.jc_inflight.proofs.CallerLemmas.{after_take_over, after_take_waiting, after_take_nobody}
+use Rattle.jc_inflight.proofs.JoinerList.{IsJoinerList-without, state_at_place, remove_joiner, state_nowhere}
 use Rattle.jc_inflight.proofs.joiners.Joiners.take.Goals as goal
-use Rattle.jc_inflight.proofs.joiners.Joiners.take.Goals.{then-is_over, else-is_over}
 
-pub returns-in_err-place-clause-told : goal.returns-in_err-place-clause-told
-returns-in_err-place-clause-told c =
-    let none = no_joiner c.args.session c.args.number c.args.key.now c.self.inside.joiners.items (ap (position (is_of c.args.session c.args.number c.args.key.now)) (sym c.deref.ensures.value) ∙ sym c.place_of.ensures ∙ c.in_err-place.was) in
-    c.from_residual.ensures ∙ sym (ap (option_map (λ j. told j.state)) (ap (joiner_of c.args.session c.args.number c.args.key.now) (sym c.self.view_is) ∙ none))
+pub returns-in_err-place-clause-state : goal.returns-in_err-place-clause-state
+returns-in_err-place-clause-state c =
+    let none = ap (position (belongs_to c.args.caller c.args.key.now)) (sym c.deref.ensures.0) ∙ sym c.place_of.ensures ∙ c.in_err-place.was in
+    c.from_residual.ensures ∙ sym (state_nowhere c.args.caller c.args.key.now c.self.inside.joiners.items none) ∙ ap (state_of c.args.caller c.args.key.now) c.self.view_is
 
 pub returns-in_err-place-clause-left : goal.returns-in_err-place-clause-left
 returns-in_err-place-clause-left c =
-    let none = no_joiner c.args.session c.args.number c.args.key.now c.self.inside.joiners.items (ap (position (is_of c.args.session c.args.number c.args.key.now)) (sym c.deref.ensures.value) ∙ sym c.place_of.ensures ∙ c.in_err-place.was) in
-    sym (ap (λ o. cond (is_ready o) (without c.args.session c.args.number c.args.key.now c.args.self.now) c.args.self.now) (ap (joiner_of c.args.session c.args.number c.args.key.now) (sym c.self.view_is) ∙ none))
+    let none = ap (position (belongs_to c.args.caller c.args.key.now)) (sym c.deref.ensures.0) ∙ sym c.place_of.ensures ∙ c.in_err-place.was in
+    let nobody = state_nowhere c.args.caller c.args.key.now c.self.inside.joiners.items none in
+    sym c.self.view_is ∙ sym (after_take_nobody c.args.caller c.args.key.now c.self.inside.joiners.items nobody) ∙ ap (after_take c.args.caller c.args.key.now) c.self.view_is
 
-pub returns-clause-told : goal.returns-clause-told
-returns-clause-told c =
-    let at = ap (position (is_of c.args.session c.args.number c.args.key.now)) (sym c.deref.ensures.value) ∙ sym c.place_of.ensures ∙ c.in_ok-place.was in
-    let found = joiner_at c.args.session c.args.number c.args.key.now c.self.inside.joiners.items c.in_ok-place.place c.index.result.now at c.index.ensures in
-    ap Some c.told.ensures ∙ sym (ap (option_map (λ j. told j.state)) (ap (joiner_of c.args.session c.args.number c.args.key.now) (sym c.self.view_is) ∙ found))
+pub returns-then-not-is_waiting-clause-state : goal.returns-then-not-is_waiting-clause-state
+returns-then-not-is_waiting-clause-state c =
+    let at = ap (position (belongs_to c.args.caller c.args.key.now)) (sym c.deref.ensures.0) ∙ sym c.place_of.ensures ∙ c.in_ok-place.was in
+    let j = c.index-deref-place.result in
+    let is = c.index-deref-place.is ∙ ap (λ js. get_or js c.in_ok-place.place j) c.deref-2.ensures.0 in
+    ap (λ (x : Joiner). Some x.state) (sym c.index-deref-place.is) ∙ sym (state_at_place c.args.caller c.args.key.now c.self.inside.joiners.items c.in_ok-place.place j at is)
+    ∙ ap (state_of c.args.caller c.args.key.now) c.self.view_is
 
-pub returns-clause-left : goal.returns-clause-left
-returns-clause-left c =
-    let at = ap (position (is_of c.args.session c.args.number c.args.key.now)) (sym c.deref.ensures.value) ∙ sym c.place_of.ensures ∙ c.in_ok-place.was in
-    let found = joiner_at c.args.session c.args.number c.args.key.now c.self.inside.joiners.items c.in_ok-place.place c.index.result.now at c.index.ensures in
-    let ready = ap is_ready (ap (joiner_of c.args.session c.args.number c.args.key.now) (sym c.self.view_is) ∙ found) ∙ sym c.is_over.ensures in
-    let left = λ (b : Bool). cond b (without c.args.session c.args.number c.args.key.now c.args.self.now) c.args.self.now in
-    elim c.if-is_over.branch [
-      | then-is_over w ↦
-          w.self-is ∙ w.remove.ensures.items ∙ without_at c.args.session c.args.number c.args.key.now c.self.inside.joiners.items c.in_ok-place.place c.self.invariant.sound at
-          ∙ ap (without c.args.session c.args.number c.args.key.now) c.self.view_is ∙ sym (ap left (ready ∙ w.if-is_over.true))
-      | else-is_over w ↦ w.self-is ∙ sym (ap left (ready ∙ w.if-is_over.false))
-    ]
+pub returns-else-not-is_waiting-clause-state : goal.returns-else-not-is_waiting-clause-state
+returns-else-not-is_waiting-clause-state c =
+    let at = ap (position (belongs_to c.args.caller c.args.key.now)) (sym c.deref.ensures.0) ∙ sym c.place_of.ensures ∙ c.in_ok-place.was in
+    let j = c.index-deref-place.result in
+    let is = c.index-deref-place.is ∙ ap (λ js. get_or js c.in_ok-place.place j) c.deref-2.ensures.0 in
+    ap (λ (x : Joiner). Some x.state) (sym c.index-deref-place.is) ∙ sym (state_at_place c.args.caller c.args.key.now c.self.inside.joiners.items c.in_ok-place.place j at is)
+    ∙ ap (state_of c.args.caller c.args.key.now) c.self.view_is
+
+pub returns-then-not-is_waiting-clause-left : goal.returns-then-not-is_waiting-clause-left
+returns-then-not-is_waiting-clause-left c =
+    let at = ap (position (belongs_to c.args.caller c.args.key.now)) (sym c.deref.ensures.0) ∙ sym c.place_of.ensures ∙ c.in_ok-place.was in
+    let j = c.index-deref-place.result in
+    let is = c.index-deref-place.is ∙ ap (λ js. get_or js c.in_ok-place.place j) c.deref-2.ensures.0 in
+    let state = state_at_place c.args.caller c.args.key.now c.self.inside.joiners.items c.in_ok-place.place j at is in
+    let over = ap (λ (x : Joiner). is_waiting x.state) c.index-deref-place.is ∙ sym c.is_waiting.ensures ∙ c.if-not-is_waiting.true in
+    c.remove.ensures.items ∙ remove_joiner c.args.caller c.args.key.now c.self.inside.joiners.items c.in_ok-place.place c.self.invariant.list at
+    ∙ sym (after_take_over c.args.caller c.args.key.now c.self.inside.joiners.items j.state state over) ∙ ap (after_take c.args.caller c.args.key.now) c.self.view_is
+
+pub returns-else-not-is_waiting-clause-left : goal.returns-else-not-is_waiting-clause-left
+returns-else-not-is_waiting-clause-left c =
+    let at = ap (position (belongs_to c.args.caller c.args.key.now)) (sym c.deref.ensures.0) ∙ sym c.place_of.ensures ∙ c.in_ok-place.was in
+    let j = c.index-deref-place.result in
+    let is = c.index-deref-place.is ∙ ap (λ js. get_or js c.in_ok-place.place j) c.deref-2.ensures.0 in
+    let state = state_at_place c.args.caller c.args.key.now c.self.inside.joiners.items c.in_ok-place.place j at is in
+    let waiting = ap (λ (x : Joiner). is_waiting x.state) c.index-deref-place.is ∙ sym c.is_waiting.ensures ∙ c.if-not-is_waiting.false in
+    sym c.self.view_is ∙ sym (after_take_waiting c.args.caller c.args.key.now c.self.inside.joiners.items j.state state waiting)
+    ∙ ap (after_take c.args.caller c.args.key.now) c.self.view_is
 
 pub invariant_of-self : goal.invariant_of-self
 invariant_of-self c =
-    let at = ap (position (is_of c.args.session c.args.number c.args.key.now)) (sym c.deref.ensures.value) ∙ sym c.place_of.ensures ∙ c.in_ok-place.was in
-    let same = without_at c.args.session c.args.number c.args.key.now c.self.inside.joiners.items c.in_ok-place.place c.self.invariant.sound at in
-    record {
-      room = let h = c.remove.ensures.capacity in let k = c.self.invariant.room in omega arith;
-      sound = subst IsSound (sym (c.remove.ensures.items ∙ same)) (sound-without c.args.session c.args.number c.args.key.now c.self.inside.joiners.items c.self.invariant.sound);
-    }
+    let at = ap (position (belongs_to c.args.caller c.args.key.now)) (sym c.deref.ensures.0) ∙ sym c.place_of.ensures ∙ c.in_ok-place.was in
+    let same = remove_joiner c.args.caller c.args.key.now c.self.inside.joiners.items c.in_ok-place.place c.self.invariant.list at in
+    record { list = subst IsJoinerList (sym (c.remove.ensures.items ∙ same)) (IsJoinerList-without c.args.caller c.args.key.now c.self.inside.joiners.items c.self.invariant.list) }

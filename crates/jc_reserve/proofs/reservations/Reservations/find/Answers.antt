@@ -1,14 +1,18 @@
-use Rattle.std.proofs.Common.{sym, ◌∙◌, ap, ◌==◌, position}
-use Rattle.std.specs.Cmp.Lexicographic.{pointwise}
-use Rattle.jc_reserve.proofs.Keeping.{free_key, found-free, found-placed}
+use Rattle.std.proofs.Common.{sym, ◌∙◌, ap, get_or, position}
+use Rattle.jc_reserve.specs.Table.{Table}
+use Rattle.jc_reserve.specs.Reserving.{has_key, reservation_at}
+use Rattle.jc_reserve.specs.Inside.{table_of}
+use Rattle.jc_reserve.proofs.ReservationTable.{reservation_at_place, reservation_nowhere}
 use Rattle.jc_reserve.proofs.reservations.Reservations.find.Goals as goal
 
 pub returns-in_err-place-clause-found : goal.returns-in_err-place-clause-found
 returns-in_err-place-clause-found g c =
-    let none = sym (c.place_of.ensures ∙ ap (position (pointwise ◌==◌ c.args.key.now)) c.deref.ensures.value) ∙ c.in_err-place.was in
-    c.from_residual.ensures ∙ sym (found-free c.args.self.now c.args.key.now (free_key c.self.inside c.args.self.now c.args.key.now c.self.invariant c.self.view_is none))
+    c.from_residual.ensures ∙ reservation_nowhere c.args.self.now c.args.key.now (sym c.place_of.ensures.place ∙ c.in_err-place.was)
 
 pub returns-clause-found : goal.returns-clause-found
 returns-clause-found g c =
-    let at = sym (c.place_of.ensures ∙ ap (position (pointwise ◌==◌ c.args.key.now)) c.deref.ensures.value) ∙ c.in_ok-place.was in
-    sym (found-placed c.self.inside c.args.self.now c.args.key.now c.in_ok-place.place c.index.result.now c.self.invariant c.self.view_is at c.index.ensures)
+    let fields = c.self.view_is in
+    let at = ap (λ (t : Table g.row.T.Denot). position (has_key c.args.key.now) t.held) fields ∙ sym c.place_of.ensures.place ∙ c.in_ok-place.was in
+    let is = c.index-deref-place.is ∙ ap (λ xs. get_or xs c.in_ok-place.place c.index-deref-place.result) c.deref.ensures.0 in
+    reservation_at_place (table_of c.self.inside) c.args.key.now c.in_ok-place.place c.index-deref-place.result at is
+    ∙ ap (λ (t : Table g.row.T.Denot). reservation_at t c.args.key.now) fields

@@ -1,3 +1,4 @@
+use Rattle.jc_types.specs.declared.limits.TheConstants.{STEP_PLACES, HIT_PLACES}
 use Rattle.std.proofs.Common.{[], refl, ap, ◌∙◌, sym, map, length, count_by, ◌*◌, ◌+◌}
 use Rattle.std.specs.FinMap.{from_entries}
 use Rattle.jc_model.specs.Cache.{key_cmp}
@@ -7,20 +8,20 @@ use Rattle.jc_reserve.specs.Table.{Table}
 use Rattle.jc_stripe.specs.declared.ticket.Note.{Note}
 use Rattle.jc_stripe.specs.OrderOfUse.{by_use}
 use Rattle.jc_stripe.specs.State.{waits}
-use Rattle.jc_stripe.specs.Inside.{reserved_of}
+use Rattle.jc_stripe.specs.Inside.{note_reservation}
 use Rattle.jc_stripe.proofs.Tables.{reached_start}
 use Rattle.jc_stripe.proofs.stripe.Stripe.new.Goals as goal
 
 pub invariant_of-result : goal.invariant_of-result
 invariant_of-result c =
     let entries = c.in_ok-entries.ensures in
-    let table = c.in_ok-reservations.ensures in
-    let joiners = c.in_ok-joiners.ensures in
+    let table = c.new-reservations.ensures in
+    let joiners = c.new-joiners.ensures in
     let history = c.in_ok-history.ensures in
     record {
       capacity = ap (λ (e : ByUse). e.capacity) entries;
       limit = ap (λ (h : Past). h.limit) history;
       by_use = ap (λ (e : ByUse). e.list) entries ∙ ap (λ (h : Past). by_use [] h.events) (sym history);
-      promised = ap (λ (h : Past). h.promised) history ∙ sym (λ i. 3 * length (map reserved_of (table i).held) + count_by waits (joiners i));
-      state = reached_start c.args.config.now _ c.requires refl refl (ap (λ (e : ByUse). from_entries {R = key_cmp} e.list) entries) (ap (λ (t : Table Note). map reserved_of t.held) table) joiners (ap (λ (h : Past). h.events) history);
+      promised = ap (λ (h : Past). h.promised) history ∙ sym (λ i. STEP_PLACES * length (map note_reservation (table i).held) + HIT_PLACES * count_by waits (joiners i));
+      state = reached_start c.args.config.now _ c.requires refl refl (ap (λ (e : ByUse). from_entries {R = key_cmp} e.list) entries) (ap (λ (t : Table Note). map note_reservation t.held) table) joiners (ap (λ (h : Past). h.events) history);
     }

@@ -1,0 +1,10 @@
+-- What a function that encodes does to the bytes.
+--     Appends    these bytes are appended, at most so many, and no room is given up
+use Rattle.std.specs.Prelude.{◌≡◌, ℕ, ◌+◌, ◌≤◌, List, ◌++◌, vec_len, vec_capacity}
+use Rattle.std.specs.Global.{Vec}
+
+-- these bytes are appended, at most so many, and no room is given up
+pub record Appends (old new : Vec ℕ) (bytes : List ℕ) (most : ℕ) : Type 0 where
+  pub items : new.items ≡ old.items ++ bytes
+  pub few : vec_len new ≤ vec_len old + most
+  pub capacity : vec_capacity old ≤ vec_capacity new

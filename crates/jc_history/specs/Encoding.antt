@@ -1,0 +1,121 @@
+-- The bytes that an event is stored as: for each variant a byte, its tag, and then what the variant holds.
+--     text_bytes        the length of a text in two bytes, and then the text
+--     optional_bytes    0 if there is nothing, else 1 and the bytes of what there is
+--     caller_bytes      the bytes of a caller
+--     op_bytes          the bytes of an operation
+--     load_bytes        the bytes of what the loader answered
+--     write_bytes       the bytes of what the writer answered
+--     effect_bytes      the bytes of what a processor does to its entry
+--     process_bytes     the bytes of what a processor answered
+--     out_bytes         the bytes of all answers from outside
+--     refusal_bytes     the bytes of a refusal
+--     reply_bytes       the bytes of a reply
+--     event_bytes       the bytes of an event, a step's reply first
+use Rattle.std.specs.Prelude.{ℕ, true, false, List, [], ◌∷◌, ◌++◌, length, Option, None, Some}
+use Rattle.std.specs.Int.{w16, w32, w64, to_le_bytes}
+use Rattle.jc_types.specs.declared.caller.Caller.{Caller}
+use Rattle.jc_types.specs.declared.refusal.Refusal.{Refusal}
+use Rattle.jc_types.specs.declared.refusal.Refusal.TheVariants.{HistoryFull, Busy, TooManyInFlight, TooManyJoiners, LoaderFailed, WriterFailed, ProcessorFailed, OutOfMemory, TooManyKeys, BadConfig, NoLoader, NoWriter, TooManySessions, StillReserved}
+use Rattle.jc_types.specs.declared.config.Field.TheVariants.{Stripes, Capacity, History}
+use Rattle.jc_model.specs.declared.event.Op.{Op}
+use Rattle.jc_model.specs.declared.event.Op.TheVariants.{Get, ContainsKey, Put, GetAndPut, PutIfAbsent, Remove, RemoveIf, GetAndRemove, Replace, ReplaceIf, GetAndReplace, Clear, LoadAll, Invoke}
+use Rattle.jc_model.specs.declared.event.LoadAnswer.{LoadAnswer}
+use Rattle.jc_model.specs.declared.event.LoadAnswer.TheVariants as load
+use Rattle.jc_model.specs.declared.event.WriteAnswer.{WriteAnswer}
+use Rattle.jc_model.specs.declared.event.WriteAnswer.TheVariants as write
+use Rattle.jc_model.specs.declared.event.ProcessAnswer.{ProcessAnswer}
+use Rattle.jc_model.specs.declared.event.ProcessAnswer.TheVariants as process
+use Rattle.jc_model.specs.declared.event.Effect.{Effect}
+use Rattle.jc_model.specs.declared.event.Effect.TheVariants as effect
+use Rattle.jc_model.specs.declared.event.Out.{Out}
+use Rattle.jc_model.specs.declared.event.Reply.{Reply}
+use Rattle.jc_model.specs.declared.event.Reply.TheVariants as reply
+use Rattle.jc_model.specs.declared.event.Cause.TheVariants.{Full, Memory}
+use Rattle.jc_model.specs.declared.event.Event.{Event}
+use Rattle.jc_model.specs.declared.event.Event.TheVariants.{Step, Evict}
+
+-- the length of a text in two bytes, and then the text
+abbrev pub text_bytes : List ℕ → List ℕ
+text_bytes text = to_le_bytes w16 (length text) ++ text
+
+-- 0 if there is nothing, else 1 and the bytes of what there is
+abbrev pub optional_bytes : {X : Type 0} → (X → List ℕ) → Option X → List ℕ
+optional_bytes bytes None = 0 ∷ []
+optional_bytes bytes (Some x) = 1 ∷ bytes x
+
+abbrev pub caller_bytes : Caller → List ℕ
+caller_bytes caller = to_le_bytes w32 caller.session ++ to_le_bytes w64 caller.call
+
+abbrev pub op_bytes : Op → List ℕ
+op_bytes Get = 0 ∷ []
+op_bytes ContainsKey = 1 ∷ []
+op_bytes (Put value) = 2 ∷ text_bytes value
+op_bytes (GetAndPut value) = 3 ∷ text_bytes value
+op_bytes (PutIfAbsent value) = 4 ∷ text_bytes value
+op_bytes Remove = 5 ∷ []
+op_bytes (RemoveIf value) = 6 ∷ text_bytes value
+op_bytes GetAndRemove = 7 ∷ []
+op_bytes (Replace value) = 8 ∷ text_bytes value
+op_bytes (ReplaceIf old new) = 9 ∷ (text_bytes old ++ text_bytes new)
+op_bytes (GetAndReplace value) = 10 ∷ text_bytes value
+op_bytes Clear = 11 ∷ []
+op_bytes (LoadAll false) = 12 ∷ []
+op_bytes (LoadAll true) = 13 ∷ []
+op_bytes Invoke = 14 ∷ []
+
+abbrev pub load_bytes : LoadAnswer → List ℕ
+load_bytes load.NotAsked = 0 ∷ []
+load_bytes (load.Found value) = 1 ∷ text_bytes value
+load_bytes load.Nothing = 2 ∷ []
+load_bytes (load.Failed code) = 3 ∷ to_le_bytes w32 code
+
+abbrev pub write_bytes : WriteAnswer → List ℕ
+write_bytes write.NotAsked = 0 ∷ []
+write_bytes write.Done = 1 ∷ []
+write_bytes (write.Failed code) = 2 ∷ to_le_bytes w32 code
+
+abbrev pub effect_bytes : Effect → List ℕ
+effect_bytes effect.Keep = 0 ∷ []
+effect_bytes (effect.Set value) = 1 ∷ text_bytes value
+effect_bytes effect.Remove = 2 ∷ []
+
+abbrev pub process_bytes : ProcessAnswer → List ℕ
+process_bytes process.NotAsked = 0 ∷ []
+process_bytes (process.Ended effect outcome) = 1 ∷ (effect_bytes effect ++ optional_bytes text_bytes outcome)
+process_bytes (process.Failed code) = 2 ∷ to_le_bytes w32 code
+
+abbrev pub out_bytes : Out → List ℕ
+out_bytes out = load_bytes out.load ++ (write_bytes out.write ++ process_bytes out.process)
+
+abbrev pub refusal_bytes : Refusal → List ℕ
+refusal_bytes HistoryFull = 0 ∷ []
+refusal_bytes Busy = 1 ∷ []
+refusal_bytes TooManyInFlight = 2 ∷ []
+refusal_bytes TooManyJoiners = 3 ∷ []
+refusal_bytes (LoaderFailed code) = 4 ∷ to_le_bytes w32 code
+refusal_bytes (WriterFailed code) = 5 ∷ to_le_bytes w32 code
+refusal_bytes (ProcessorFailed code) = 6 ∷ to_le_bytes w32 code
+refusal_bytes OutOfMemory = 7 ∷ []
+refusal_bytes TooManyKeys = 8 ∷ []
+refusal_bytes (BadConfig Stripes) = 9 ∷ []
+refusal_bytes (BadConfig Capacity) = 10 ∷ []
+refusal_bytes (BadConfig History) = 11 ∷ []
+refusal_bytes NoLoader = 12 ∷ []
+refusal_bytes NoWriter = 13 ∷ []
+refusal_bytes TooManySessions = 14 ∷ []
+refusal_bytes StillReserved = 15 ∷ []
+
+abbrev pub reply_bytes : Reply → List ℕ
+reply_bytes reply.Unit = 0 ∷ []
+reply_bytes (reply.Flag false) = 1 ∷ []
+reply_bytes (reply.Flag true) = 2 ∷ []
+reply_bytes (reply.Value None) = 3 ∷ []
+reply_bytes (reply.Value (Some value)) = 4 ∷ text_bytes value
+reply_bytes (reply.Fault refusal) = 5 ∷ refusal_bytes refusal
+
+abbrev pub event_bytes : Event → List ℕ
+event_bytes (Step caller op key out shared_with reply) =
+    0 ∷ (reply_bytes reply ++ (caller_bytes caller ++ (text_bytes key ++ (op_bytes op
+    ++ (out_bytes out ++ optional_bytes (to_le_bytes w32) shared_with)))))
+event_bytes (Evict key Full) = 1 ∷ text_bytes key
+event_bytes (Evict key Memory) = 2 ∷ text_bytes key

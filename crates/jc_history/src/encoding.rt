@@ -1,0 +1,304 @@
+//! Encodes events as bytes.
+//!
+//! Each function appends to a vector that has room for the longest thing of its kind, so it takes no
+//! memory. Beside the bytes it ensures that they can be decoded again.
+ghost use Rattle.std.specs.Prelude.{◌≡◌, ◌+◌, ◌<◌, ◌≤◌, ◌^◌, ◌∷◌, ◌++◌, length, vec_len, vec_capacity};
+ghost use Rattle.std.specs.Int.{w32, to_le_bytes};
+ghost use Rattle.jc_history.specs.Appending.{Appends};
+ghost use Rattle.jc_history.specs.Encoding.{text_bytes, optional_bytes, caller_bytes, op_bytes, load_bytes, write_bytes, effect_bytes, process_bytes, out_bytes, refusal_bytes, reply_bytes, event_bytes};
+ghost use Rattle.jc_history.specs.Encodable.{IsCode, IsKeyText, IsValueText, IsEncodableOptional, IsEncodableCaller, IsEncodableOp, IsEncodableLoad, IsEncodableWrite, IsEncodableEffect, IsEncodableProcess, IsEncodableOut, IsEncodableRefusal, IsEncodableReply, IsEncodable};
+
+use jc_model::event::{
+    Cause, Effect, Event, LoadAnswer, Op, Out, ProcessAnswer, Reply, WriteAnswer,
+};
+use jc_types::{Caller, Field, KEY_MAX, Key, Refusal, VALUE_MAX, Value};
+
+// The most bytes of each part.
+
+const TAG_ROOM: usize = 1;
+
+const CODE_ROOM: usize = 4;
+
+const CALLER_ROOM: usize = 4 + 8;
+
+// The length of a text stands before it.
+const LENGTH_ROOM: usize = 2;
+
+const KEY_ROOM: usize = LENGTH_ROOM + KEY_MAX;
+
+const VALUE_ROOM: usize = LENGTH_ROOM + VALUE_MAX;
+
+const TAGGED_CODE_ROOM: usize = TAG_ROOM + CODE_ROOM;
+
+const TAGGED_VALUE_ROOM: usize = TAG_ROOM + VALUE_ROOM;
+
+// `ReplaceIf` has two values.
+const OP_ROOM: usize = TAG_ROOM + 2 * VALUE_ROOM;
+
+const PROCESS_ROOM: usize = TAG_ROOM + 2 * TAGGED_VALUE_ROOM;
+
+const OUT_ROOM: usize = TAGGED_VALUE_ROOM + TAGGED_CODE_ROOM + PROCESS_ROOM;
+
+const STEP_ROOM: usize = TAGGED_VALUE_ROOM
+    + CALLER_ROOM
+    + KEY_ROOM
+    + OP_ROOM
+    + OUT_ROOM
+    + TAGGED_CODE_ROOM;
+
+/// The most bytes of an event: those of a step with a key and six values of the greatest length. With the four of
+/// its index in `History::starts` it has at most 47 bytes beside its key and its values.
+pub(crate) const EVENT_ROOM: usize = TAG_ROOM + STEP_ROOM;
+
+const _: () = prove!(EVENT_ROOM == 43 + KEY_MAX + 6 * VALUE_MAX);
+
+/// Appends bytes.
+fn append(out: &mut Vec<u8>, bytes: &[u8])
+    requires { vec_len out.old + length bytes.now ≤ vec_capacity out.old }
+    ensures items { out.new.items ≡ out.old.items ++ bytes.now }
+    ensures len { vec_len out.new ≡ vec_len out.old + length bytes.now }
+    ensures capacity { vec_capacity out.old ≤ vec_capacity out.new }
+{
+    let _ = out.extend_from_slice(bytes);
+}
+
+fn encode_text(out: &mut Vec<u8>, text: &[u8])
+    requires short { length text.now < 2 ^ 16 }
+    requires room { vec_len out.old + LENGTH_ROOM + length text.now ≤ vec_capacity out.old }
+    ensures { Appends out.old out.new (text_bytes text.now) (LENGTH_ROOM + length text.now) }
+{
+    append(out, &(text.len() as u16).to_le_bytes());
+    append(out, text);
+}
+
+fn encode_key(out: &mut Vec<u8>, key: &Key)
+    requires { vec_len out.old + KEY_ROOM ≤ vec_capacity out.old }
+    ensures appends { Appends out.old out.new (text_bytes key.now) KEY_ROOM }
+    ensures encodable { IsKeyText key.now }
+{
+    encode_text(out, key.bytes());
+}
+
+fn encode_value(out: &mut Vec<u8>, value: &Value)
+    requires { vec_len out.old + VALUE_ROOM ≤ vec_capacity out.old }
+    ensures appends { Appends out.old out.new (text_bytes value.now) VALUE_ROOM }
+    ensures encodable { IsValueText value.now }
+{
+    encode_text(out, value.bytes());
+}
+
+/// Appends a tag, and the value after it.
+fn encode_tagged_value(out: &mut Vec<u8>, tag: u8, value: &Value)
+    requires { vec_len out.old + TAGGED_VALUE_ROOM ≤ vec_capacity out.old }
+    ensures appends { Appends out.old out.new (tag ∷ text_bytes value.now) TAGGED_VALUE_ROOM }
+    ensures encodable { IsValueText value.now }
+{
+    out.push_reserved(tag);
+    encode_value(out, value);
+}
+
+/// Appends a tag, and the number after it.
+fn encode_tagged_code(out: &mut Vec<u8>, tag: u8, code: u32)
+    requires { vec_len out.old + TAGGED_CODE_ROOM ≤ vec_capacity out.old }
+    ensures appends { Appends out.old out.new (tag ∷ to_le_bytes w32 code) TAGGED_CODE_ROOM }
+{
+    let [a, b, c, d] = code.to_le_bytes();
+    append(out, &[tag, a, b, c, d]);
+}
+
+fn encode_caller(out: &mut Vec<u8>, caller: &Caller)
+    requires { vec_len out.old + CALLER_ROOM ≤ vec_capacity out.old }
+    ensures appends { Appends out.old out.new (caller_bytes caller.now) CALLER_ROOM }
+    ensures encodable { IsEncodableCaller caller.now }
+{
+    append(out, &caller.session.to_le_bytes());
+    append(out, &caller.call.to_le_bytes());
+}
+
+fn encode_op(out: &mut Vec<u8>, op: &Op)
+    requires { vec_len out.old + OP_ROOM ≤ vec_capacity out.old }
+    ensures appends { Appends out.old out.new (op_bytes op.now) OP_ROOM }
+    ensures encodable { IsEncodableOp op.now }
+{
+    match op {
+        Op::Get => out.push_reserved(0),
+        Op::ContainsKey => out.push_reserved(1),
+        Op::Put(value) => encode_tagged_value(out, 2, value),
+        Op::GetAndPut(value) => encode_tagged_value(out, 3, value),
+        Op::PutIfAbsent(value) => encode_tagged_value(out, 4, value),
+        Op::Remove => out.push_reserved(5),
+        Op::RemoveIf(value) => encode_tagged_value(out, 6, value),
+        Op::GetAndRemove => out.push_reserved(7),
+        Op::Replace(value) => encode_tagged_value(out, 8, value),
+        Op::ReplaceIf { old, new } => {
+            encode_tagged_value(out, 9, old);
+            encode_value(out, new);
+        }
+        Op::GetAndReplace(value) => encode_tagged_value(out, 10, value),
+        Op::Clear => out.push_reserved(11),
+        Op::LoadAll { replace: false } => out.push_reserved(12),
+        Op::LoadAll { replace: true } => out.push_reserved(13),
+        Op::Invoke => out.push_reserved(14),
+    }
+}
+
+fn encode_load(out: &mut Vec<u8>, answer: &LoadAnswer)
+    requires { vec_len out.old + TAGGED_VALUE_ROOM ≤ vec_capacity out.old }
+    ensures appends { Appends out.old out.new (load_bytes answer.now) TAGGED_VALUE_ROOM }
+    ensures encodable { IsEncodableLoad answer.now }
+{
+    match answer {
+        LoadAnswer::NotAsked => out.push_reserved(0),
+        LoadAnswer::Found(value) => encode_tagged_value(out, 1, value),
+        LoadAnswer::Nothing => out.push_reserved(2),
+        LoadAnswer::Failed(code) => encode_tagged_code(out, 3, *code),
+    }
+}
+
+fn encode_write(out: &mut Vec<u8>, answer: &WriteAnswer)
+    requires { vec_len out.old + TAGGED_CODE_ROOM ≤ vec_capacity out.old }
+    ensures appends { Appends out.old out.new (write_bytes answer.now) TAGGED_CODE_ROOM }
+    ensures encodable { IsEncodableWrite answer.now }
+{
+    match answer {
+        WriteAnswer::NotAsked => out.push_reserved(0),
+        WriteAnswer::Done => out.push_reserved(1),
+        WriteAnswer::Failed(code) => encode_tagged_code(out, 2, *code),
+    }
+}
+
+fn encode_effect(out: &mut Vec<u8>, effect: &Effect)
+    requires { vec_len out.old + TAGGED_VALUE_ROOM ≤ vec_capacity out.old }
+    ensures appends { Appends out.old out.new (effect_bytes effect.now) TAGGED_VALUE_ROOM }
+    ensures encodable { IsEncodableEffect effect.now }
+{
+    match effect {
+        Effect::Keep => out.push_reserved(0),
+        Effect::Set(value) => encode_tagged_value(out, 1, value),
+        Effect::Remove => out.push_reserved(2),
+    }
+}
+
+fn encode_outcome(out: &mut Vec<u8>, outcome: &Option<Value>)
+    requires { vec_len out.old + TAGGED_VALUE_ROOM ≤ vec_capacity out.old }
+    ensures appends { Appends out.old out.new (optional_bytes text_bytes outcome.now) TAGGED_VALUE_ROOM }
+    ensures encodable { IsEncodableOptional IsValueText outcome.now }
+{
+    match outcome {
+        None => out.push_reserved(0),
+        Some(value) => encode_tagged_value(out, 1, value),
+    }
+}
+
+fn encode_process(out: &mut Vec<u8>, answer: &ProcessAnswer)
+    requires { vec_len out.old + PROCESS_ROOM ≤ vec_capacity out.old }
+    ensures appends { Appends out.old out.new (process_bytes answer.now) PROCESS_ROOM }
+    ensures encodable { IsEncodableProcess answer.now }
+{
+    match answer {
+        ProcessAnswer::NotAsked => out.push_reserved(0),
+        ProcessAnswer::Ended { effect, outcome } => {
+            out.push_reserved(1);
+            encode_effect(out, effect);
+            encode_outcome(out, outcome);
+        }
+        ProcessAnswer::Failed(code) => encode_tagged_code(out, 2, *code),
+    }
+}
+
+fn encode_out(out: &mut Vec<u8>, answers: &Out)
+    requires { vec_len out.old + OUT_ROOM ≤ vec_capacity out.old }
+    ensures appends { Appends out.old out.new (out_bytes answers.now) OUT_ROOM }
+    ensures encodable { IsEncodableOut answers.now }
+{
+    encode_load(out, &answers.load);
+    encode_write(out, &answers.write);
+    encode_process(out, &answers.process);
+}
+
+fn encode_refusal(out: &mut Vec<u8>, refusal: &Refusal)
+    requires { vec_len out.old + TAGGED_CODE_ROOM ≤ vec_capacity out.old }
+    ensures appends { Appends out.old out.new (refusal_bytes refusal.now) TAGGED_CODE_ROOM }
+    ensures encodable { IsEncodableRefusal refusal.now }
+{
+    match refusal {
+        Refusal::HistoryFull => out.push_reserved(0),
+        Refusal::Busy => out.push_reserved(1),
+        Refusal::TooManyInFlight => out.push_reserved(2),
+        Refusal::TooManyJoiners => out.push_reserved(3),
+        Refusal::LoaderFailed(code) => encode_tagged_code(out, 4, *code),
+        Refusal::WriterFailed(code) => encode_tagged_code(out, 5, *code),
+        Refusal::ProcessorFailed(code) => encode_tagged_code(out, 6, *code),
+        Refusal::OutOfMemory => out.push_reserved(7),
+        Refusal::TooManyKeys => out.push_reserved(8),
+        Refusal::BadConfig(Field::Stripes) => out.push_reserved(9),
+        Refusal::BadConfig(Field::Capacity) => out.push_reserved(10),
+        Refusal::BadConfig(Field::History) => out.push_reserved(11),
+        Refusal::NoLoader => out.push_reserved(12),
+        Refusal::NoWriter => out.push_reserved(13),
+        Refusal::TooManySessions => out.push_reserved(14),
+        Refusal::StillReserved => out.push_reserved(15),
+    }
+}
+
+fn encode_reply(out: &mut Vec<u8>, reply: &Reply)
+    requires { vec_len out.old + TAGGED_VALUE_ROOM ≤ vec_capacity out.old }
+    ensures appends { Appends out.old out.new (reply_bytes reply.now) TAGGED_VALUE_ROOM }
+    ensures encodable { IsEncodableReply reply.now }
+{
+    match reply {
+        Reply::Unit => out.push_reserved(0),
+        Reply::Flag(false) => out.push_reserved(1),
+        Reply::Flag(true) => out.push_reserved(2),
+        Reply::Value(None) => out.push_reserved(3),
+        Reply::Value(Some(value)) => encode_tagged_value(out, 4, value),
+        Reply::Fault(refusal) => {
+            out.push_reserved(5);
+            encode_refusal(out, refusal);
+        }
+    }
+}
+
+fn encode_shared_with(out: &mut Vec<u8>, place: &Option<u32>)
+    requires { vec_len out.old + TAGGED_CODE_ROOM ≤ vec_capacity out.old }
+    ensures appends { Appends out.old out.new (optional_bytes (to_le_bytes w32) place.now) TAGGED_CODE_ROOM }
+    ensures encodable { IsEncodableOptional IsCode place.now }
+{
+    match place {
+        None => out.push_reserved(0),
+        Some(place) => encode_tagged_code(out, 1, *place),
+    }
+}
+
+/// Appends the bytes of an event, at most [`EVENT_ROOM`] of them.
+pub(crate) fn encode_event(out: &mut Vec<u8>, event: &Event)
+    requires { vec_len out.old + EVENT_ROOM ≤ vec_capacity out.old }
+    ensures appends { Appends out.old out.new (event_bytes event.now) EVENT_ROOM }
+    ensures encodable { IsEncodable event.now }
+{
+    match event {
+        Event::Step {
+            caller,
+            op,
+            key,
+            out: answers,
+            shared_with,
+            reply,
+        } => {
+            out.push_reserved(0);
+            encode_reply(out, reply);
+            encode_caller(out, caller);
+            encode_key(out, key);
+            encode_op(out, op);
+            encode_out(out, answers);
+            encode_shared_with(out, shared_with);
+        }
+        Event::Evict { key, cause } => {
+            out.push_reserved(match cause {
+                Cause::Full => 1,
+                Cause::Memory => 2,
+            });
+            encode_key(out, key);
+        }
+    }
+}

@@ -1,0 +1,12 @@
+//! Laws above the operation table, over every cache and every step. Each function does nothing: what it says is its contract.
+ghost use Rattle.jc_model.specs.TableLaws.{FaultLeavesCache, OtherKeysStay};
+
+/// A step whose loader, processor or writer failed leaves the whole cache as it was (JSR 107, "Integration").
+pub fn fault_leaves_cache()
+    ensures { FaultLeavesCache }
+{}
+
+/// A step leaves the entry of every other key as it was.
+pub fn other_keys_stay()
+    ensures { OtherKeysStay }
+{}

@@ -1,0 +1,230 @@
+-- A first phase that reserves its key, and its commit, with nothing between, are one step. And what a session's numbers tell.
+--     whole_call         the law of a whole call
+--     caller_numbers     the law of a session's numbers
+use Rattle.std.proofs.Common.{◌≡◌, ◌<◌, ◌==◌, ◌&&◌, ◌||◌, ◌+◌, ℕ, List, [], ◌∷◌, ◌++◌, map, filter, Bool, true, false, cond, not, Option, None, Some, is_none, is_some, nat_lt, refl, sym, ap, ◌∙◌, subst, arith}
+use Rattle.std.proofs.lemmas.Bool.Decides.{nat_tests}
+use Rattle.std.proofs.lemmas.Cmp.{nat_list_eq_equiv}
+use Rattle.std.proofs.lemmas.List.Folds.{list_all-append}
+use Rattle.std.specs.List.{list_all, list_any}
+use Rattle.std.specs.Cmp.Lexicographic.{pointwise}
+use Rattle.jc_types.specs.declared.caller.Caller.{Caller}
+use Rattle.jc_model.specs.declared.event.Event.{Event}
+use Rattle.jc_model.specs.declared.event.Event.TheVariants.{Step, Evict}
+use Rattle.jc_types.specs.declared.config.Config.{Config}
+use Rattle.jc_model.specs.declared.event.Op.{Op}
+use Rattle.jc_model.specs.declared.event.Op.TheVariants.{Get, ContainsKey, Put, GetAndPut, PutIfAbsent, Remove, RemoveIf, GetAndRemove, Replace, ReplaceIf, GetAndReplace, Clear, LoadAll, Invoke}
+use Rattle.jc_model.specs.Table.{always_if}
+use Rattle.jc_model.specs.declared.event.Out.{Out}
+use Rattle.jc_model.specs.declared.event.Cause.{Cause}
+use Rattle.jc_model.specs.Cache.{Bytes, entry_at}
+use Rattle.jc_model.specs.Group.{Group, victim_events, step_event, evicted_events, events_of, nothing_said}
+use Rattle.jc_model.specs.Legal.{may_come}
+use Rattle.jc_model.proofs.Lookups.{both}
+use Rattle.jc_inflight.specs.declared.joiner.Joiner.{Joiner}
+use Rattle.jc_inflight.specs.Joining.{is_waiting, waits_for, callers_of}
+use Rattle.jc_inflight.specs.Resolving.{with_answer, answered_from, after_resolve}
+use Rattle.jc_stripe.specs.declared.ticket.First.{First}
+use Rattle.jc_stripe.specs.declared.ticket.First.TheVariants.{Nobody, Loader, Writer, Processor}
+use Rattle.jc_stripe.specs.declared.ticket.Reservation.{Reservation}
+use Rattle.jc_stripe.specs.declared.begun.StepDone.{StepDone}
+use Rattle.jc_stripe.specs.declared.begun.Begun.TheVariants as begun
+use Rattle.jc_stripe.specs.Tickets.{Ticket, JoinClaim, asks_writer}
+use Rattle.jc_stripe.specs.State.{State, is_of, is_key, is_reserved, reservation_of, new_reservation, with_reservation, without_key}
+use Rattle.jc_stripe.specs.Refusals.{first_by, first_asked, reserves, load_at, may_join, load_joined, needs_reservation}
+use Rattle.jc_stripe.specs.Phases.{is_other_call, is_other_join, new_group, after_group, after_commit, MayBegin, Steps, Begins, Commits}
+use Rattle.jc_stripe.specs.Reached.{IsReached, JoinFits, AllJoin}
+use Rattle.jc_stripe.specs.OwnSteps.{may_come_all, is_before_call, HasNoCallFrom, CallerNumbers, WholeCall, JoinsOnlyLoads}
+use Rattle.jc_stripe.proofs.Numbering.{found_holds}
+use Rattle.jc_stripe.proofs.Joining.{loaded_at}
+use Rattle.jc_stripe.proofs.Refusing.{was_free}
+use Rattle.jc_stripe.proofs.Settled.{waiting_finds}
+use Rattle.jc_stripe.proofs.OwnPick.{all_behind}
+use Rattle.jc_stripe.proofs.Beside.{join_and, or_left, all_then}
+use Rattle.jc_stripe.proofs.ParkedSteps.{filter-append}
+
+-- 1. A reservation that comes and goes leaves the others.
+
+none_kept : (key : Bytes) (rs : List Reservation) → list_any (is_key key) rs ≡ false → without_key key rs ≡ rs
+none_kept key [] h = refl
+none_kept key (r ∷ rs) h =
+    elim (is_key key r) as (λ b. (b || list_any (is_key key) rs) ≡ false → cond (not b) (r ∷ without_key key rs) (without_key key rs) ≡ r ∷ rs) [
+      | true ↦ λ h. cc
+      | false ↦ λ h. ap (λ x. r ∷ x) (none_kept key rs h)
+    ] h
+
+pub without_new : (key : Bytes) (rs : List Reservation) (r : Reservation) → list_any (is_key key) rs ≡ false → is_key key r ≡ true → without_key key (rs ++ r ∷ []) ≡ rs
+without_new key rs r free is =
+    filter-append (λ x. not (is_key key x)) rs (r ∷ [])
+    ∙ (λ i. none_kept key rs free i ++ cond (not (is i)) (r ∷ []) [])
+    ∙ nil_after rs
+  where
+    nil_after : (xs : List Reservation) → xs ++ [] ≡ xs
+    nil_after [] = refl
+    nil_after (x ∷ xs) = ap (λ ys. x ∷ ys) (nil_after xs)
+
+-- 2. Nobody waits for a load that isn't there yet.
+
+above : (m n : ℕ) → m < n → (m == n) ≡ false
+above m n h = grind (arith, nat_tests)
+
+nobody_waits : (old : State) (j : Joiner) → IsReached old → JoinFits old j j.state → waits_for old.next j ≡ false
+nobody_waits old j reached fits =
+    elim (is_waiting j.state) as (λ b. is_waiting j.state ≡ b → ((j.load == old.next) && b) ≡ false) [
+      | true ↦ λ w.
+          let finds = waiting_finds old j j.state w fits in
+          let found = loaded_at (reservation_of old j.key) j.load finds.load in
+          let below : found.0.number < old.next = found_holds (is_key j.key) (λ (r : Reservation). r.number < old.next) old.reservations found.0 found.1 reached.numbered.below in
+          let load : j.load < old.next = subst (λ (n : ℕ). n < old.next) found.3 below in
+          ap (λ b. b && true) (above j.load old.next load)
+      | false ↦ λ w. none (j.load == old.next)
+    ] refl
+  where
+    none : (b : Bool) → (b && false) ≡ false
+    none true = refl
+    none false = refl
+
+none_resolved : (old : State) (step place : ℕ) (js : List Joiner) → IsReached old → AllJoin old js → answered_from old.next step place js ≡ js
+none_resolved old step place [] reached all = refl
+none_resolved old step place (j ∷ js) reached all =
+    ap (λ b. cond b (with_answer place step j ∷ answered_from old.next step (place + 1) js) (j ∷ answered_from old.next step place js)) (nobody_waits old j reached all.0)
+    ∙ ap (λ x. j ∷ x) (none_resolved old step place js reached all.1)
+
+none_called : (old : State) (js : List Joiner) → IsReached old → AllJoin old js → callers_of old.next js ≡ []
+none_called old [] reached all = refl
+none_called old (j ∷ js) reached all =
+    ap (λ b. map (λ (x : Joiner). x.caller) (cond b (j ∷ filter (waits_for old.next) js) (filter (waits_for old.next) js))) (nobody_waits old j reached all.0)
+    ∙ none_called old js reached all.1
+
+-- 3. The whole call.
+
+texts_same : (x : Bytes) → pointwise ◌==◌ x x ≡ true
+texts_same x = nat_list_eq_equiv.refl x
+
+one_step : (old mid new : State) (caller : Caller) (key : Bytes) (op : Op) (first : First) (r : Reservation) (out : Out) (done : StepDone) → IsReached old → is_reserved old key ≡ false
+    → r ≡ new_reservation old caller key op first → mid ≡ with_reservation old r → Commits mid r out done new → Steps (record old { next = old.next + 1 }) caller key op out [] done new
+one_step old mid new caller key op first r out done reached free is goes commits =
+    let r0 : Reservation = new_reservation old caller key op first in
+    let m : mid ≡ with_reservation old r0 = goes ∙ ap (with_reservation old) is in
+    let P : State × Reservation → Type 0 = λ x. Steps (after_commit x.0 x.1 done.place) x.1.caller x.1.key x.1.op out (callers_of x.1.number x.0.joiners) done new in
+    let steps : Steps (after_commit (with_reservation old r0) r0 done.place) caller key op out (callers_of old.next old.joiners) done new = subst P (λ i. (m i, is i)) commits.1 in
+    let rest = without_new key old.reservations r0 free (texts_same key) in
+    let joins = none_resolved old done.place (done.place + 1) old.joiners reached reached.joins in
+    let state : after_commit (with_reservation old r0) r0 done.place ≡ record old { next = old.next + 1 } = λ i. record old { reservations = rest i; joiners = joins i; next = old.next + 1 } in
+    let Q : State × List Caller → Type 0 = λ x. Steps x.0 caller key op out x.1 done new in
+    subst Q (λ i. (state i, none_called old old.joiners reached reached.joins i)) steps
+
+-- a call that asks the writer joins nothing
+no_writer : (asked through : Bool) → asks_writer (first_by (always_if asked) (cond through None None)) ≡ true → (A : Type 0) → A
+no_writer true true h A = cc
+no_writer true false h A = cc
+no_writer false true h A = cc
+no_writer false false h A = cc
+
+writers_join_not : (config : Config) (op : Op) (entry : Option Bytes) → asks_writer (first_asked config op entry) ≡ true → may_join op ≡ false
+writers_join_not config Get entry h = no_writer _ _ h _
+writers_join_not config ContainsKey entry h = refl
+writers_join_not config (Put value) entry h = refl
+writers_join_not config (GetAndPut value) entry h = refl
+writers_join_not config (PutIfAbsent value) entry h = refl
+writers_join_not config Remove entry h = refl
+writers_join_not config (RemoveIf other) entry h = refl
+writers_join_not config GetAndRemove entry h = refl
+writers_join_not config (Replace value) entry h = refl
+writers_join_not config (ReplaceIf other value) entry h = refl
+writers_join_not config (GetAndReplace value) entry h = refl
+writers_join_not config Clear entry h = refl
+writers_join_not config (LoadAll replace) entry h = refl
+writers_join_not config Invoke entry h = refl
+
+writer_reserves : (first : First) → asks_writer first ≡ true → reserves first ≡ true
+writer_reserves Nobody h = cc
+writer_reserves Loader h = refl
+writer_reserves (Writer change) h = refl
+writer_reserves Processor h = refl
+
+pub whole_call : WholeCall
+whole_call = record {
+  loads = λ old mid new caller key op ticket out done reached begins commits.
+      let asks : needs_reservation old key op ≡ true = λ i. reserves (begins.2 i) && is_none (begins.1 i) in
+      one_step old mid new caller key op Loader ticket.reservation out done reached (was_free old caller key op begins.0 asks) (ap (λ (t : Ticket). t.reservation) begins.3) begins.4 commits;
+  writes = λ old mid new caller key op ticket out done reached begins commits.
+      let writer : asks_writer (first_asked old.config op (entry_at old.cache key)) ≡ true = ap asks_writer begins.1 ∙ begins.2 in
+      let alone : load_joined old key op ≡ None =
+      ap (λ b. cond (b && old.config.read_through && is_none (entry_at old.cache key)) (load_at (reservation_of old key)) None) (writers_join_not old.config op (entry_at old.cache key) writer) in
+      let asks : needs_reservation old key op ≡ true = λ i. writer_reserves (first_asked old.config op (entry_at old.cache key)) writer i && is_none (alone i) in
+      one_step old mid new caller key op ticket.reservation.first ticket.reservation out done reached (was_free old caller key op begins.0 asks) (ap (λ (t : Ticket). t.reservation) begins.3) begins.4 commits;
+}
+
+pub joins_loads : JoinsOnlyLoads
+joins_loads old new caller key op join none begins = some_not join.load (sym none ∙ begins.1)
+  where
+    some_not : (load : ℕ) → None ≡ Some load → ⊥
+    some_not load h = cc
+
+-- 4. A session's numbers.
+
+lower_call : (mine : Bool) (number call : ℕ) → (mine || nat_lt number call) ≡ true → (mine || nat_lt number (call + 1)) ≡ true
+lower_call mine number call h = grind (arith, nat_tests)
+
+before_next : (session call : ℕ) (e : Event) → is_before_call session call e ≡ true → is_before_call session (call + 1) e ≡ true
+before_next session call (Step who op key out shared reply) h = lower_call (not (who.session == session)) who.call call h
+before_next session call (Evict key cause) h = refl
+
+next_is_above : (session call : ℕ) → (not (session == session) || nat_lt call (call + 1)) ≡ true
+next_is_above session call = grind (arith, nat_tests)
+
+victim_before : (session call : ℕ) (victim : Option Bytes) → list_all (is_before_call session call) (victim_events victim) ≡ true
+victim_before session call None = refl
+victim_before session call (Some key) = refl
+
+evicted_before : (session call : ℕ) (key : Bytes) (cause : Option Cause) → list_all (is_before_call session call) (evicted_events key cause) ≡ true
+evicted_before session call key None = refl
+evicted_before session call key (Some cause) = refl
+
+numbers_step : (m new : State) (caller : Caller) (key : Bytes) (op : Op) (out : Out) (done : StepDone) → Steps m caller key op out [] done new → HasNoCallFrom m caller.session caller.call → HasNoCallFrom new caller.session (caller.call + 1)
+numbers_step m new caller key op out done steps h =
+    let session : ℕ = caller.session in
+    let next : ℕ = caller.call + 1 in
+    let p : Event → Bool = is_before_call session next in
+    let g : Group = new_group m caller key op out [] steps.short in
+    let old : list_all p m.history ≡ true = all_then (is_before_call session caller.call) p m.history (λ e k. before_next session caller.call e k) h.steps in
+    let step : list_all p (victim_events g.victim ++ step_event g ∷ []) ≡ true = list_all-append p (victim_events g.victim) (step_event g ∷ []) ∙ join_and _ _ (victim_before session next g.victim) (join_and _ _ (next_is_above session caller.call) refl) in
+    let group : list_all p ((victim_events g.victim ++ step_event g ∷ []) ++ evicted_events g.step.key g.evicted) ≡ true =
+    list_all-append p (victim_events g.victim ++ step_event g ∷ []) (evicted_events g.step.key g.evicted) ∙ join_and _ _ step (evicted_before session next g.step.key g.evicted) in
+    record {
+      steps = ap (λ (s : State). list_all p s.history) steps.after ∙ list_all-append p m.history ((victim_events g.victim ++ step_event g ∷ []) ++ evicted_events g.step.key g.evicted) ∙ join_and _ _ old group;
+      reservations = ap (λ (s : State). list_all (λ (r : Reservation). not (r.caller.session == session)) s.reservations) steps.after ∙ h.reservations;
+      joins = ap (λ (s : State). list_all (λ (j : Joiner). not (j.caller.session == session)) s.joiners) steps.after ∙ h.joins;
+    }
+
+same_numbers : (old new : State) (session call : ℕ) → new ≡ old → HasNoCallFrom old session call → HasNoCallFrom new session (call + 1)
+same_numbers old new session call is h =
+    subst (λ (s : State). HasNoCallFrom s session (call + 1)) (sym is) (record {
+      steps = all_then (is_before_call session call) (is_before_call session (call + 1)) old.history (λ e k. before_next session call e k) h.steps;
+      reservations = h.reservations;
+      joins = h.joins;
+    })
+
+may_from : (caller : Caller) (key : Bytes) (e : Event) → is_before_call caller.session caller.call e ≡ true → may_come e caller key ≡ true
+may_from caller key (Step who op k out shared reply) h = or_left (not (who.session == caller.session) || nat_lt who.call caller.call) ((who.call == caller.call) && not (pointwise ◌==◌ k key)) h
+may_from caller key (Evict k cause) h = refl
+
+pub caller_numbers : CallerNumbers
+caller_numbers =
+    let whole : WholeCall = whole_call in record {
+      may_begin = λ state caller key h of. record {
+        of_stripe = of;
+        behind = all_then (is_before_call caller.session caller.call) (λ e. may_come e caller key) state.history (λ e k. may_from caller key e k) h.steps;
+        beside = all_then (λ (r : Reservation). not (r.caller.session == caller.session)) (is_other_call caller key) state.reservations
+            (λ r k. or_left (not (r.caller.session == caller.session)) ((r.caller.call == caller.call) && not (pointwise ◌==◌ r.key key)) k) h.reservations;
+        apart = all_then (λ (j : Joiner). not (j.caller.session == caller.session)) (is_other_join caller key) state.joiners
+            (λ j k. or_left (not (j.caller.session == caller.session)) ((j.caller.call == caller.call) && not (pointwise ◌==◌ j.key key)) k) h.joins;
+      };
+      clear = λ state caller key apart own. all_behind caller key state.joiners state.history apart own;
+      done = λ old new caller key op done h begins. numbers_step old new caller key op nothing_said done begins.2 h;
+      refused = λ old new caller key op refusal h begins. same_numbers old new caller.session caller.call begins.1 h;
+      loaded = λ old mid new caller key op ticket out done reached h begins commits.
+          numbers_step (record old { next = old.next + 1 }) new caller key op out done (whole.loads old mid new caller key op ticket out done reached begins commits) (record { steps = h.steps; reservations = h.reservations; joins = h.joins });
+      written = λ old mid new caller key op ticket out done reached h begins commits.
+          numbers_step (record old { next = old.next + 1 }) new caller key op out done (whole.writes old mid new caller key op ticket out done reached begins commits) (record { steps = h.steps; reservations = h.reservations; joins = h.joins });
+    }

@@ -1,0 +1,110 @@
+-- How a step is made in the entries and appended. No contract of a public call cites this.
+--     inserts_into        the step inserts: its key is missing in the entries, and it leaves an entry there
+--     overflows_in        it inserts into entries that are as many as may be
+--     victim_in           who goes before it, if one has to and can
+--     callers_in          the callers that share a load, if there is one
+--     group_events        the events of a step with all that belongs to it
+--     append_all          the past with more events, in reserved room
+--     append_group        the same, and what of the reserved room isn't used is given back
+--     eviction_of         the eviction of the step's own key, at the last place of its group, if it was evicted
+--     AnswersFirst        the outside answers are the answer of the one whom a reservation asked first
+--     HasToldStep         the step of a joiner that was answered is at the place that it is told
+--     after_pick_up       the state once a joiner was told how far it is: without it if its load is over
+--     without_own_entry   the entries without the step's own key, if that is evicted
+--     entries_after       the entries behind the step, with who went before and after it
+--     AppliesStep         what the step leaves of the entries, who went before it, and why its own key went after it
+use Rattle.std.specs.Prelude.{◌≡◌, ◌==◌, ℕ, ◌+◌, ◌-◌, List, [], ◌∷◌, ◌++◌, length, map, Bool, true, ◌&&◌, Option, None, Some, is_some, is_none, option_map, if◌then◌else◌}
+use Rattle.std.specs.FinMap as finite
+use Rattle.jc_types.specs.declared.caller.Caller.{Caller}
+use Rattle.jc_model.specs.declared.event.Op.{Op}
+use Rattle.jc_model.specs.declared.event.Out.{Out}
+use Rattle.jc_model.specs.declared.event.Cause.{Cause}
+use Rattle.jc_model.specs.declared.event.Event.{Event}
+use Rattle.jc_model.specs.declared.event.Event.TheVariants.{Step}
+use Rattle.jc_model.specs.declared.event.Reply.{Reply}
+use Rattle.jc_model.specs.Cache.{Bytes, key_cmp}
+use Rattle.jc_model.specs.declared.event.LoadAnswer.{LoadAnswer}
+use Rattle.jc_model.specs.declared.event.WriteAnswer.{WriteAnswer}
+use Rattle.jc_model.specs.Table.{entry_after, is_load_given, is_write_given}
+use Rattle.jc_model.specs.Group.{victim_events, shared_event, evicted_events, load_only, write_only}
+use Rattle.jc_model.specs.Listed.{others}
+use Rattle.jc_entries.specs.ByUse.{ByUse, lru_victim, after_eviction}
+use Rattle.jc_history.specs.Past.{Past}
+use Rattle.jc_inflight.specs.declared.joiner.Joiner.{Joiner}
+use Rattle.jc_inflight.specs.declared.joiner.JoinState.{JoinState}
+use Rattle.jc_inflight.specs.declared.joiner.JoinState.TheVariants.{Waiting, Answered, Again}
+use Rattle.jc_inflight.specs.Joining.{callers_of}
+use Rattle.jc_stripe.specs.declared.appending.NewGroup.{NewGroup}
+use Rattle.jc_stripe.specs.declared.begun.Eviction.{Eviction}
+use Rattle.jc_stripe.specs.declared.ticket.First.{First}
+use Rattle.jc_stripe.specs.declared.ticket.First.TheVariants.{Nobody, Loader, Writer, Processor}
+use Rattle.jc_stripe.specs.OrderOfUse.{used_at}
+use Rattle.jc_stripe.specs.Tickets.{JoinClaim}
+use Rattle.jc_stripe.specs.State.{State}
+use Rattle.jc_stripe.specs.Phases.{own_cause, IsSharedStep, without_joiner}
+
+-- 1. The entries.
+
+abbrev pub inserts_into : List (Bytes × Bytes) → Bytes → Op → Out → Bool
+inserts_into entries key op out = is_none (finite.find key_cmp key entries) && is_some (entry_after op (finite.find key_cmp key entries) out)
+
+abbrev pub overflows_in : ByUse → Bytes → Op → Out → Bool
+overflows_in entries key op out = inserts_into entries.list key op out && (length entries.list == entries.capacity)
+
+abbrev pub victim_in : ByUse → List Bytes → Bytes → Op → Out → Option Bytes
+victim_in entries pinned key op out = if overflows_in entries key op out then lru_victim entries.list pinned else None
+
+-- 2. The events.
+
+abbrev pub callers_in : Option ℕ → List Joiner → List Caller
+callers_in None joiners = []
+callers_in (Some load) joiners = callers_of load joiners
+
+abbrev pub group_events : ℕ → NewGroup → List Caller → List Event
+group_events place new callers =
+    victim_events new.victim ++ Step new.caller new.op new.key new.out None new.reply
+    ∷ map (shared_event (place + length (victim_events new.victim)) new.key new.out.load) callers ++ evicted_events new.key new.evicted
+
+abbrev pub append_all : List Event → Past → Past
+append_all events past = record past { events = past.events ++ events; promised = past.promised - length events }
+
+abbrev pub append_group : List Event → ℕ → Past → Past
+append_group events kept past = record past { events = past.events ++ events; promised = past.promised - kept }
+
+-- `place` is that of the first event of the group
+abbrev pub eviction_of : ℕ → NewGroup → List Caller → Option Eviction
+eviction_of place new callers = option_map (λ cause. record { cause = cause; place = place + (length (group_events place new callers) - 1) }) new.evicted
+
+-- the outside answers are those of the one whom a reservation asked first
+abbrev pub AnswersFirst : First → Out → Type 0
+AnswersFirst Nobody out = ⊥
+AnswersFirst Loader out = (answer : LoadAnswer) × (out ≡ load_only answer) × (is_load_given answer ≡ true)
+AnswersFirst (Writer change) out = (answer : WriteAnswer) × (out ≡ write_only answer) × (is_write_given answer ≡ true)
+AnswersFirst Processor out = ⊥
+
+-- the step of a joiner that was answered is at the place that it is told
+abbrev pub HasToldStep : State → JoinClaim → JoinState → Type 0
+HasToldStep state join (Answered place shared_with) = (reply : Reply) × IsSharedStep state join reply place shared_with
+HasToldStep state join Again = Unit {0}
+HasToldStep state join Waiting = Unit {0}
+
+-- a joiner whose load isn't over stays
+abbrev pub after_pick_up : State → JoinClaim → JoinState → State
+after_pick_up state join (Answered place shared_with) = without_joiner state join
+after_pick_up state join Again = without_joiner state join
+after_pick_up state join Waiting = state
+
+-- 3. A step in the entries: who went before it, and why its own key went after it.
+
+abbrev pub without_own_entry : Bytes → Option Cause → List (Bytes × Bytes) → List (Bytes × Bytes)
+without_own_entry key None entries = entries
+without_own_entry key (Some cause) entries = others key entries
+
+abbrev pub entries_after : List (Bytes × Bytes) → Bytes → Op → Out → Option Bytes → Option Cause → List (Bytes × Bytes)
+entries_after entries key op out victim evicted = without_own_entry key evicted (used_at (after_eviction victim entries) key op out)
+
+pub record AppliesStep (old : ByUse) (pinned : List Bytes) (key : Bytes) (op : Op) (out : Out) (victim : Option Bytes) (evicted : Option Cause) (new : ByUse) : Type 0 where
+  pub short : Bool
+  pub victim_is : victim ≡ victim_in old pinned key op out
+  pub evicted_is : evicted ≡ own_cause (inserts_into old.list key op out) (overflows_in old key op out) (is_some (victim_in old pinned key op out)) short
+  pub left : new ≡ record old { list = entries_after old.list key op out victim evicted }

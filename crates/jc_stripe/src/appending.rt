@@ -1,0 +1,241 @@
+//! What a step leaves of the entries, and what is appended of it.
+ghost use Rattle.std.specs.Prelude.{◌≡◌, ◌+◌, ◌≤◌, ◌<◌, ◌^◌, [], ◌∷◌, ◌++◌, map, length, Option, IsTrue, option_map};
+ghost use Rattle.std.specs.FinMap as finite;
+ghost use Rattle.jc_model.specs.Cache.{key_cmp};
+ghost use Rattle.jc_model.specs.Table.{reply_after, holds};
+ghost use Rattle.jc_model.specs.Group.{victim_events, shared_event, evicted_events};
+ghost use Rattle.jc_model.specs.declared.event.Event.TheVariants.{Step};
+ghost use Rattle.jc_stripe.specs.OrderOfUse.{uses};
+ghost use Rattle.jc_stripe.specs.Appending.{AppliesStep, group_events, callers_in, append_all, append_group, eviction_of};
+
+use crate::begun::{Eviction, StepDone};
+use jc_entries::{Entries, Inserted};
+use jc_history::History;
+use jc_inflight::Joiners;
+use jc_model::event::{Cause, Event, LoadAnswer, Op, Out, Reply};
+use jc_types::{Caller, Key, Value};
+
+/// A step, and who goes before and after it: a group without those that share its load.
+#[derive(Clone, Copy)]
+pub(crate) struct NewGroup {
+    pub(crate) caller: Caller,
+    pub(crate) key: Key,
+    pub(crate) op: Op,
+    pub(crate) out: Out,
+    pub(crate) reply: Reply,
+    /// Who was evicted before the step, since the stripe was full.
+    pub(crate) victim: Option<Key>,
+    /// Why the step's own key was evicted after it, if it was.
+    pub(crate) evicted: Option<Cause>,
+}
+
+/// Whether a step without a fault makes the entry that it leaves the most recently used.
+fn uses(op: &Op, load: &LoadAnswer) -> bool
+    ensures { result ≡ uses op.now load.now }
+{
+    match op {
+        Op::ContainsKey => false,
+        Op::LoadAll { .. } => matches!(load, LoadAnswer::Found(_)),
+        Op::Get
+        | Op::Put(_)
+        | Op::GetAndPut(_)
+        | Op::PutIfAbsent(_)
+        | Op::Remove
+        | Op::RemoveIf(_)
+        | Op::GetAndRemove
+        | Op::Replace(_)
+        | Op::ReplaceIf { .. }
+        | Op::GetAndReplace(_)
+        | Op::Clear
+        | Op::Invoke => true,
+    }
+}
+
+/// Whether an entry has this value already.
+fn holds(entry: &Option<Value>, value: &Value) -> bool
+    ensures { result ≡ holds entry.now value.now }
+{
+    match entry {
+        Some(held) => *held == *value,
+        None => false,
+    }
+}
+
+/// Makes a step in the entries if the key has this entry, and says who went before it and why its own key went after it.
+fn apply_to_entries(
+    entries: &mut Entries,
+    pinned: &[Key],
+    key: &Key,
+    entry: Option<Value>,
+    op: &Op,
+    out: &Out,
+) -> (Option<Key>, Option<Cause>)
+    requires room { length entries.old.list ≤ entries.old.capacity }
+    requires entry { entry ≡ finite.find key_cmp key.now entries.old.list }
+    ensures { AppliesStep entries.old pinned.now key.now op.now out.now result.0 result.1 entries.new }
+{
+    if out.first_fault().is_some() || !uses(op, &out.load) {
+        return (None, None);
+    }
+    match op.entry_after(entry, out) {
+        Some(value) => {
+            if holds(&entry, &value) {
+                entries.touch(key);
+                return (None, None);
+            }
+            match entries.insert(key, &value, pinned) {
+                Inserted::Kept => (None, None),
+                Inserted::KeptAfter(victim) => (Some(victim), None),
+                Inserted::NotKept(cause, victim) => (victim, Some(cause)),
+            }
+        }
+        None => {
+            if entry.is_none() {
+                return (None, None);
+            }
+            entries.remove(key);
+            (None, None)
+        }
+    }
+}
+
+/// Makes a step in the entries if the key has this entry, and says what is to be appended of it.
+pub(crate) fn make_step(
+    entries: &mut Entries,
+    pinned: &[Key],
+    caller: Caller,
+    key: &Key,
+    entry: Option<Value>,
+    op: &Op,
+    out: &Out,
+) -> NewGroup
+    requires room { length entries.old.list ≤ entries.old.capacity }
+    requires entry { entry ≡ finite.find key_cmp key.now entries.old.list }
+    ensures group { result ≡ record { caller = caller; key = key.now; op = op.now; out = out.now; reply = reply_after op.now entry out.now; victim = result.victim; evicted = result.evicted } }
+    ensures applies { AppliesStep entries.old pinned.now key.now op.now out.now result.victim result.evicted entries.new }
+{
+    // Copied first: a value counts as moved by the call that takes it.
+    let found = entry;
+    let reply = op.reply_after(entry, out);
+    let (victim, evicted) = apply_to_entries(entries, pinned, key, found, op, out);
+    NewGroup {
+        caller,
+        key: *key,
+        op: *op,
+        out: *out,
+        reply,
+        victim,
+        evicted,
+    }
+}
+
+/// Appends who goes before a step, and the step. It answers the place of the step.
+fn append_step(history: &mut History, group: &NewGroup) -> u32
+    requires few { length history.old.events + 1 < 2 ^ 32 }
+    requires places { length (victim_events group.now.victim) + 1 ≤ history.old.promised }
+    ensures place { result ≡ length history.old.events + length (victim_events group.now.victim) }
+    ensures history { history.new ≡ append_all (victim_events group.now.victim ++ Step group.now.caller group.now.op group.now.key group.now.out None group.now.reply ∷ []) history.old }
+{
+    if let Some(victim) = group.victim {
+        let cause = Cause::Full;
+        history.push(&Event::Evict { key: victim, cause });
+    }
+    let place = history.len() as u32;
+    history.push(&Event::Step {
+        caller: group.caller,
+        op: group.op,
+        key: group.key,
+        out: group.out,
+        shared_with: None,
+        reply: group.reply,
+    });
+    place
+}
+
+/// The shared step of a joiner.
+fn shared_event(place: u32, key: &Key, answer: LoadAnswer, caller: Caller) -> Event
+    ensures { result ≡ shared_event place key.now answer caller }
+{
+    let op = Op::Get;
+    let out = Out::load_only(answer);
+    let reply = op.reply_after(None, &out);
+    Event::Step {
+        caller,
+        op,
+        key: *key,
+        out,
+        shared_with: Some(place),
+        reply,
+    }
+}
+
+/// Appends the shared step of each joiner that waits for a load, in the order of joining.
+fn append_shared(
+    history: &mut History,
+    joiners: &Joiners,
+    load: Option<u64>,
+    place: u32,
+    group: &NewGroup,
+)
+    requires places { length (callers_in load joiners.now) ≤ history.old.promised }
+    ensures history { history.new ≡ append_all (map (shared_event place group.now.key group.now.out.load) (callers_in load joiners.now)) history.old }
+{
+    let Some(load) = load else {
+        return;
+    };
+    for joiner in joiners.list() {
+        if joiner.waits_for(load) {
+            history.push(&shared_event(place, &group.key, group.out.load, joiner.caller));
+        }
+    }
+}
+
+/// Appends that the step's own key was evicted after it, if it was, and says at which place.
+fn append_evicted(history: &mut History, group: &NewGroup) -> Option<Eviction>
+    requires few { length history.old.events < 2 ^ 32 }
+    requires places { length (evicted_events group.now.key group.now.evicted) ≤ history.old.promised }
+    ensures evicted { result ≡ option_map (λ cause. record { cause = cause; place = length history.old.events }) group.now.evicted }
+    ensures history { history.new ≡ append_all (evicted_events group.now.key group.now.evicted) history.old }
+{
+    match group.evicted {
+        Some(cause) => {
+            let place = history.len() as u32;
+            history.push(&Event::Evict {
+                key: group.key,
+                cause,
+            });
+            Some(Eviction { cause, place })
+        }
+        None => None,
+    }
+}
+
+/// Appends a step with all that belongs to it, in room that was reserved for it, and gives back the room that it does not use.
+pub(crate) fn append_group(
+    history: &mut History,
+    joiners: &Joiners,
+    load: Option<u64>,
+    group: &NewGroup,
+    kept: usize,
+) -> StepDone
+    requires kept { kept ≤ history.old.promised }
+    requires few { length history.old.events + kept < 2 ^ 32 }
+    requires places { length (group_events (length history.old.events) group.now (callers_in load joiners.now)) ≤ kept }
+    ensures reply { result.reply ≡ group.now.reply }
+    ensures place { result.place ≡ length history.old.events + length (victim_events group.now.victim) }
+    ensures victim { result.victim ≡ group.now.victim }
+    ensures evicted { result.evicted ≡ eviction_of (length history.old.events) group.now (callers_in load joiners.now) }
+    ensures history { history.new ≡ append_group (group_events (length history.old.events) group.now (callers_in load joiners.now)) kept history.old }
+{
+    let before = history.len();
+    let place = append_step(history, group);
+    append_shared(history, joiners, load, place, group);
+    let evicted = append_evicted(history, group);
+    history.unpromise(kept - (history.len() - before));
+    StepDone {
+        reply: group.reply,
+        place,
+        victim: group.victim,
+        evicted,
+    }
+}

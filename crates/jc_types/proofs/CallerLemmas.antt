@@ -1,0 +1,63 @@
+-- Lemmas for the crates above: the first place at which a test passes, and what is found, left out or mapped there.
+use Rattle.std.proofs.Common.{◌≡◌, ℕ, ◌-◌, suc, ◌<◌, is_some, List, [], ◌∷◌, ◌++◌, take, drop, Bool, true, false, cond, not, length, Some, None, ap, refl, sym, ◌∙◌, arith, find, filter, map, get_or}
+use Rattle.std.proofs.lemmas.Grind.{common_steps}
+use Rattle.std.proofs.lemmas.List.{map-append, take-map, drop-map}
+use Rattle.std.proofs.lemmas.List.Elements.{All-head, All-tail}
+use Rattle.std.proofs.lemmas.List.Folds.{find_at}
+use Rattle.std.proofs.lemmas.Option.{slice_get_read}
+use Rattle.std.specs.List.{list_any, slice_get, position, position_or_len, remove, AllPairs, All}
+
+module _ {X : Type 0} (p : X → Bool) where
+  -- whether there is such a place
+  pub is_some_position : (xs : List X) → is_some (position p xs) ≡ list_any p xs
+  is_some_position [] = refl
+  is_some_position (x ∷ xs) = let ih = is_some_position xs in grind (arith, common_steps)
+
+  -- the element at such a place
+  pub find_at_place : (xs : List X) (i : ℕ) (x : X) → position p xs ≡ Some i → x ≡ get_or xs i x → find p xs ≡ Some x
+  find_at_place xs i x at is =
+      let there : (position_or_len p xs ≡ i) × (i < length xs) = (grind (arith, common_steps), grind (arith, common_steps)) in
+      find_at p xs ∙ ap (λ n. slice_get xs n) there.0 ∙ slice_get_read xs (length xs) i x refl there.1 is
+
+  -- with no such place, none is found, and none is left out
+  pub find_nowhere : (xs : List X) → position p xs ≡ None → find p xs ≡ None
+  find_nowhere [] none = refl
+  find_nowhere (x ∷ xs) none =
+      let rest : position p xs ≡ None = grind (arith, common_steps) in
+      let here : p x ≡ false = grind (arith, common_steps) in
+      rw here (find_nowhere xs rest)
+
+  pub filter_all : (xs : List X) → All (λ x. p x ≡ true) xs → filter p xs ≡ xs
+  filter_all [] all = refl
+  filter_all (x ∷ xs) all =
+      rw (All-head (λ x. p x ≡ true) x xs all) (ap (λ ys. x ∷ ys) (filter_all xs (All-tail (λ x. p x ≡ true) x xs all)))
+
+  pub filter_nowhere : (xs : List X) → position p xs ≡ None → filter (λ x. not (p x)) xs ≡ xs
+  filter_nowhere [] none = refl
+  filter_nowhere (x ∷ xs) none =
+      let rest : position p xs ≡ None = grind (arith, common_steps) in
+      let here : p x ≡ false = grind (arith, common_steps) in
+      rw here (ap (λ ys. x ∷ ys) (filter_nowhere xs rest))
+
+-- the places of mapped elements are those of the elements
+pub position_map : {X Y : Type 0} (p : Y → Bool) (f : X → Y) (xs : List X) → position p (map f xs) ≡ position (λ x. p (f x)) xs
+position_map p f [] = refl
+position_map p f (x ∷ xs) = let ih = position_map p f xs in grind (arith, common_steps)
+
+pub map-remove : {X Y : Type 0} (f : X → Y) (xs : List X) (i : ℕ) → map f (remove xs i) ≡ remove (map f xs) i
+map-remove f xs i = map-append f (take i xs) (drop (suc i) xs) ∙ (λ k. sym (take-map f i xs) k ++ sym (drop-map f (suc i) xs) k)
+
+-- if nothing after an element that passes also passes, the removal at the first place leaves all that don't pass
+pub remove_at_place : {X : Type 0} (p : X → Bool) (xs : List X) (i : ℕ) → position p xs ≡ Some i
+    → AllPairs (λ x later. p x ≡ true → p later ≡ false) xs → remove xs i ≡ filter (λ x. not (p x)) xs
+remove_at_place p [] i at once = cc
+remove_at_place p (x ∷ xs) i at once =
+    elim (p x) as (λ b. p x ≡ b → remove (x ∷ xs) i ≡ cond (not b) (x ∷ filter (λ x. not (p x)) xs) (filter (λ x. not (p x)) xs)) [
+      | true ↦ λ is.
+          let first : i ≡ 0 = grind (arith, common_steps) in
+          rw first (sym (filter_all (λ x. not (p x)) xs (λ k d within. ap not (once 0 (suc k) d (omega arith) (omega arith) is))))
+      | false ↦ λ is.
+          let later : position p xs ≡ Some (i - 1) = grind (arith, common_steps) in
+          let more : i ≡ suc (i - 1) = grind (arith, common_steps) in
+          rw more (ap (λ ys. x ∷ ys) (remove_at_place p xs (i - 1) later (λ j k d lt within. once (suc j) (suc k) d (omega arith) (omega arith))))
+    ] refl
