@@ -273,7 +273,10 @@ fn replace_if_command(words: &[&[u8]]) -> Result<Command, Fault>
             let key = key(k)?;
             let held = value(v)?;
             let next = value_alone(rest)?;
-            let op = Op::ReplaceIf { old: held, new: next };
+            let op = Op::ReplaceIf {
+                old: held,
+                new: next,
+            };
             Ok(Command { op, key })
         }
         _ => Err(Fault::BadLine),

@@ -34,7 +34,8 @@ fn waits_load(part: Option<&Part>) -> bool
 {
     match part {
         Some(part) => {
-            matches!(&part.reservation.first, First::Loader) && matches!(&part.load, LoadAnswer::NotAsked)
+            matches!(&part.reservation.first, First::Loader)
+                && matches!(&part.load, LoadAnswer::NotAsked)
         }
         None => false,
     }
@@ -45,7 +46,8 @@ fn waits_report(part: Option<&Part>) -> bool
 {
     match part {
         Some(part) => {
-            matches!(&part.reservation.first, First::Writer(_)) && matches!(&part.report, WriteAnswer::NotAsked)
+            matches!(&part.reservation.first, First::Writer(_))
+                && matches!(&part.report, WriteAnswer::NotAsked)
         }
         None => false,
     }
