@@ -14,8 +14,8 @@ use Rattle.std.proofs.lemmas.List.{reverse-append}
 use Rattle.std.proofs.lemmas.List.Sorted.{list_any-IsPermutation, IsPermutation-map, IsPermutation-reverse}
 use Rattle.jc_model.specs.declared.event.Cause.TheVariants.{Full, Memory}
 use Rattle.jc_model.specs.Cache.{Bytes, key_cmp}
-use Rattle.jc_model.specs.Listed.{others, listed}
-use Rattle.jc_model.proofs.Lookups.{same_key}
+use Rattle.jc_model.specs.Listed.{others, with_entry_first}
+use Rattle.jc_model.proofs.CallerLemmas.{same_key}
 use Rattle.jc_entries.specs.ByUse.{ByUse, after_touch, is_pinned, lru_victim}
 use Rattle.jc_entries.specs.Inserting.{has_room_for, Inserts}
 use Rattle.jc_entries.specs.declared.entries.Inserted.{Inserted}
@@ -115,7 +115,7 @@ lru_victim-last entries entry pinned =
 -- 3. A touch.
 
 -- the entry of a key that has one is the first then
-pub after_touch-listed : (key value : Bytes) (entries : List (Bytes × Bytes)) → finite.find key_cmp key entries ≡ Some value → after_touch key entries ≡ listed key (Some value) entries
+pub after_touch-listed : (key value : Bytes) (entries : List (Bytes × Bytes)) → finite.find key_cmp key entries ≡ Some value → after_touch key entries ≡ with_entry_first key (Some value) entries
 after_touch-listed key value entries h = ap (λ o. option_map_or (λ v. (key, v) ∷ others key entries) o entries) h
 
 -- 4. What an insertion answers.

@@ -6,7 +6,7 @@ use Rattle.std.specs.FinMap as finite
 use Rattle.std.proofs.lemmas.Bool.{ltb-true, lt-ltb, or_parts, or_right}
 use Rattle.jc_model.specs.Cache.{Bytes, key_cmp}
 use Rattle.jc_model.specs.Listed.{others}
-use Rattle.jc_model.proofs.Lookups.{find-others, apart-others, apart-listed}
+use Rattle.jc_model.proofs.CallerLemmas.{find-others, distinct-others, distinct-first}
 use Rattle.jc_entries.specs.ByUse.{ByUse, IsValidByUse, after_touch}
 use Rattle.jc_entries.specs.Inserting.{has_room_for}
 use Rattle.jc_entries.proofs.CallerLemmas.{length-others, length-others_found, others-missing}
@@ -40,7 +40,7 @@ others-new key victim entries missing =
 -- without a key
 pub IsValidByUse-others : (entries : ByUse) (key : Bytes) → IsValidByUse entries → IsValidByUse (record entries { list = others key entries.list })
 IsValidByUse-others entries key h = record {
-  distinct = apart-others key entries.list h.distinct;
+  distinct = distinct-others key entries.list h.distinct;
   bounded = let few = length-others key entries.list in omega arith;
   least = h.least;
   most = h.most;
@@ -53,7 +53,7 @@ fits false free rest all capacity room found few h some = let more : all < capac
 -- with a first entry that there is room for
 pub IsValidByUse-first : (entries : ByUse) (key value : Bytes) → IsValidByUse entries → has_room_for key entries ≡ true → IsValidByUse (record entries { list = (key, value) ∷ others key entries.list })
 IsValidByUse-first entries key value h room = record {
-  distinct = apart-listed key (Some value) entries.list h.distinct;
+  distinct = distinct-first key (Some value) entries.list h.distinct;
   bounded =
       let few = fits (is_some (finite.find key_cmp key entries.list)) (nat_lt (length entries.list) entries.capacity) (length (others key entries.list)) (length entries.list) entries.capacity room
       (length-others_found key entries.list) (length-others key entries.list) h.bounded (ltb-true _ _) in

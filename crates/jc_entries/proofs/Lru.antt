@@ -4,12 +4,12 @@ use Rattle.std.specs.Option.{option_map, option_map_or}
 use Rattle.std.specs.Map.{lookup, lookup_entry, remove_entry}
 use Rattle.std.specs.Cmp.Lexicographic.{texts_ties, pointwise}
 use Rattle.std.specs.FinMap as finite
-use Rattle.std.proofs.lemmas.Bool.{ltb-true}
+use Rattle.std.proofs.lemmas.Bool.{ltb-true, and_parts}
 use Rattle.std.proofs.lemmas.List.{take_all}
 use Rattle.lru.specs.LruCache.{LruCache, lru_cache, promoted, put_entries}
 use Rattle.jc_model.specs.Cache.{Bytes, key_cmp}
-use Rattle.jc_model.specs.Listed.{apart, others}
-use Rattle.jc_model.proofs.Lookups.{same_key, both, none_is}
+use Rattle.jc_model.specs.Listed.{has_distinct_keys, others}
+use Rattle.jc_model.proofs.CallerLemmas.{same_key, none_is}
 use Rattle.jc_entries.specs.ByUse.{ByUse, IsValidByUse, after_touch}
 use Rattle.jc_entries.specs.Inserting.{has_room_for}
 use Rattle.jc_entries.proofs.CallerLemmas.{others-missing}
@@ -49,10 +49,10 @@ first_gone true e es rest kept same h = same refl
 first_gone false e es rest kept same h = ap (λ xs. e ∷ xs) h
 
 -- to take the first of a key is to take all of it, as keys are distinct
-pub remove_entry-others : (key : Bytes) (entries : List (Bytes × Bytes)) → apart entries ≡ true → remove_entry (equal_to key) entries ≡ others key entries
+pub remove_entry-others : (key : Bytes) (entries : List (Bytes × Bytes)) → has_distinct_keys entries ≡ true → remove_entry (equal_to key) entries ≡ others key entries
 remove_entry-others key [] h = refl
 remove_entry-others key (e ∷ es) h =
-    let parts = both (is_none (finite.find key_cmp e.0 es)) (apart es) h in
+    let parts = and_parts (is_none (finite.find key_cmp e.0 es)) (has_distinct_keys es) h in
     first_gone (equal_to key e.0) e es _ (others key es)
     (λ t. sym (others-missing key es (ap (λ k. finite.find key_cmp k es) (equal_same key e.0 t) ∙ none_is _ parts.0)))
     (remove_entry-others key es parts.1)

@@ -13,7 +13,7 @@ use Rattle.std.specs.Cmp.Lexicographic.{pointwise}
 use Rattle.std.specs.FinMap as finite
 use Rattle.jc_types.specs.declared.limits.TheConstants.{CAPACITY_MAX}
 use Rattle.jc_model.specs.Cache.{Bytes, key_cmp}
-use Rattle.jc_model.specs.Listed.{apart, others}
+use Rattle.jc_model.specs.Listed.{has_distinct_keys, others}
 
 -- how many entries may be kept, and the entries, the most recently used first
 pub record ByUse : Type 0 where
@@ -22,7 +22,7 @@ pub record ByUse : Type 0 where
 
 -- the keys are distinct, no more entries are kept than may be, and the bound is one that a stripe may have
 pub record IsValidByUse (entries : ByUse) : Type 0 where
-  pub distinct : IsTrue (apart entries.list)
+  pub distinct : IsTrue (has_distinct_keys entries.list)
   pub bounded : length entries.list ≤ entries.capacity
   pub least : 0 < entries.capacity
   pub most : entries.capacity ≤ CAPACITY_MAX

@@ -9,7 +9,7 @@ ghost use Rattle.jc_model.specs.Cache.{key_cmp};
 ghost use Rattle.jc_model.specs.Listed.{others};
 ghost use Rattle.jc_entries.specs.ByUse.{IsValidByUse, after_touch, lru_victim};
 
-use jc_model::event::Cause;
+use jc_model::Cause;
 use jc_types::{CAPACITY_MAX, Key, Value};
 use lru::LruCache;
 use std::alloc::{AllocError, Global};

@@ -6,9 +6,7 @@ ghost use Rattle.std.specs.Prelude.{◌≡◌, ◌≤◌, length, Some};
 ghost use Rattle.jc_history.specs.Past.{reply_in};
 ghost use Rattle.jc_history.specs.Decoding.{byte, number_2, number_4, number_8, decode_text, decode_value, decode_key, decode_optional, decode_caller, decode_op, decode_load, decode_write, decode_effect, decode_process, decode_out, decode_refusal, decode_reply, decode_step, decode_event};
 
-use jc_model::event::{
-    Cause, Effect, Event, LoadAnswer, Op, Out, ProcessAnswer, Reply, WriteAnswer,
-};
+use jc_model::{Cause, Effect, Event, LoadAnswer, Op, Out, ProcessAnswer, Reply, WriteAnswer};
 use jc_types::{Caller, Field, KEY_MAX, Key, Refusal, VALUE_MAX, Value};
 
 /// The bytes that are left to read.

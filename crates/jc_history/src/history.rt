@@ -9,7 +9,7 @@ ghost use Rattle.jc_history.specs.Stored.{events_at, IsComplete};
 
 use crate::decoding::{decode_event, decode_reply_of_step};
 use crate::encoding::{EVENT_ROOM, encode_event};
-use jc_model::event::{Event, Reply};
+use jc_model::{Event, Reply};
 use jc_types::HISTORY_MAX;
 use std::alloc::{AllocError, Global};
 use std::marker::Model;

@@ -1,7 +1,7 @@
 -- What a reader accepts is what can be read.
 use Rattle.std.proofs.Common.{◌≡◌, ◌==◌, ◌&&◌, ◌||◌, inl, inr, ℕ, ◌+◌, ◌-◌, ◌≤◌, List, [], ◌∷◌, ◌++◌, length, Bool, true, false, cond, if◌then◌else◌, is_none, is_some, Option, None, Some, refl, sym, ap, ◌∙◌, subst, arith, nat_le, add-zero}
 use Rattle.std.proofs.lemmas.List.{length-append}
-use Rattle.std.proofs.lemmas.Bool.{leb-true, le-leb, eqb-true}
+use Rattle.std.proofs.lemmas.Bool.{leb-true, le-leb, eqb-true, and_parts}
 use Rattle.std.proofs.lemmas.Cmp.{nat_list_cmp_total, nat_list_eq_equiv}
 use Rattle.std.specs.Cmp.Lexicographic.{pointwise, texts_ties}
 use Rattle.std.specs.Ordering.{eq_by_cmp}
@@ -21,7 +21,7 @@ use Rattle.jc_model.specs.Group.{Group, events_of, step_place, shared_event, cac
 use Rattle.jc_model.specs.Lawful.{inserts, is_joinable, joined_fits, evicted_fits, IsLawfulStep, IsLawful}
 use Rattle.jc_model.proofs.Reading.{Phase, Between, Chosen, Open, with_joined, with_evicted, behind, Reads}
 use Rattle.jc_model.specs.Reader.{new_group, opened, own_goes, is_full, Accepts}
-use Rattle.jc_model.proofs.Lookups.{both, none_is, same_cache, same_key}
+use Rattle.jc_model.proofs.CallerLemmas.{none_is, same_cache, same_key}
 use Rattle.jc_model.proofs.Readings.{joined_so_far, evicted_so_far}
 
 -- 1. Sizes.
@@ -56,7 +56,7 @@ len_with m key (Some value) missing h =
 
 len_made : (c : Cache) (made : NewStep) → (is_none (entry_at c made.key) && is_some (seq_entry c made)) ≡ true → len (seq_cache c made) ≡ len c + 1
 len_made c made h =
-    let parts = both (is_none (entry_at c made.key)) (is_some (seq_entry c made)) h in
+    let parts = and_parts (is_none (entry_at c made.key)) (is_some (seq_entry c made)) h in
     len_with c made.key (seq_entry c made) (none_is _ parts.0) parts.1
 
 -- a step that inserts with no victim makes the cache longer
@@ -166,27 +166,27 @@ join_and false b g h = cc
 own_fits : (config : Config) (place : ℕ) (c : Cache) (g : Group) (cause : Cause) → evicted_fits config c g (Some cause) ≡ true → own_goes (opened config c place g) g.step.key cause ≡ true
 own_fits config place c g Memory h = join_and _ _ (join_and _ _ (nat_list_eq_equiv.refl g.step.key) h) refl
 own_fits config place c g Full h =
-    let a = both (inserts c g && (len c == config.capacity)) (is_none g.victim) h in
-    let b = both (inserts c g) (len c == config.capacity) a.0 in
+    let a = and_parts (inserts c g && (len c == config.capacity)) (is_none g.victim) h in
+    let b = and_parts (inserts c g) (len c == config.capacity) a.0 in
     join_and _ _ (join_and _ _ (nat_list_eq_equiv.refl g.step.key) b.0) (join_and _ _ b.1 a.1)
 
 fits_own : (config : Config) (place : ℕ) (c : Cache) (g : Group) (key : Bytes) (cause : Cause) → own_goes (opened config c place g) key cause ≡ true → (key ≡ g.step.key) × (evicted_fits config c g (Some cause) ≡ true)
 fits_own config place c g key Memory h =
-    let a = both (pointwise ◌==◌ key g.step.key && inserts c g) true h in
-    let b = both (pointwise ◌==◌ key g.step.key) (inserts c g) a.0 in
+    let a = and_parts (pointwise ◌==◌ key g.step.key && inserts c g) true h in
+    let b = and_parts (pointwise ◌==◌ key g.step.key) (inserts c g) a.0 in
     (same_key key g.step.key (sym (texts_ties key g.step.key) ∙ b.0), b.1)
 fits_own config place c g key Full h =
-    let a = both (pointwise ◌==◌ key g.step.key && inserts c g) ((len c == config.capacity) && is_none g.victim) h in
-    let b = both (pointwise ◌==◌ key g.step.key) (inserts c g) a.0 in
-    let d = both (len c == config.capacity) (is_none g.victim) a.1 in
+    let a = and_parts (pointwise ◌==◌ key g.step.key && inserts c g) ((len c == config.capacity) && is_none g.victim) h in
+    let b = and_parts (pointwise ◌==◌ key g.step.key) (inserts c g) a.0 in
+    let d = and_parts (len c == config.capacity) (is_none g.victim) a.1 in
     (same_key key g.step.key (sym (texts_ties key g.step.key) ∙ b.0), join_and _ _ (join_and _ _ b.1 d.0) d.1)
 
 -- where the step's key must go, the group cannot end without it
 no_end : (config : Config) (place : ℕ) (c : Cache) (g : Group) (key : Bytes) → len (cache_after_step c g) ≤ config.capacity → own_goes (opened config c place g) key Full ≡ true → ⊥
 no_end config place c g key w h =
     let f = fits_own config place c g key Full h in
-    let a = both (inserts c g && (len c == config.capacity)) (is_none g.victim) f.1 in
-    let b = both (inserts c g) (len c == config.capacity) a.0 in
+    let a = and_parts (inserts c g && (len c == config.capacity)) (is_none g.victim) f.1 in
+    let b = and_parts (inserts c g) (len c == config.capacity) a.0 in
     let longer = len_stepped c g b.0 (none_is _ a.1) in
     let full = eqb-true (len c) config.capacity b.1 in
     omega arith

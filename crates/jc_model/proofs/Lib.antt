@@ -1,4 +1,4 @@
-pub mod Lookups
+pub mod CallerLemmas
 pub mod Ordered
 pub mod Reading
 pub mod Readings

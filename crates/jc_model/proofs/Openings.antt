@@ -1,34 +1,21 @@
 -- What the checker tests of an opening and of the stripe, and what a legal history says of them.
-use Rattle.std.proofs.Common.{◌≡◌, ◌==◌, ◌≤◌, ℕ, List, [], ◌∷◌, length, Bool, true, false, cond, Option, None, Some, is_some, refl, sym, ap, ◌∙◌, arith}
+use Rattle.std.proofs.Common.{◌≡◌, ◌==◌, ◌≤◌, ℕ, List, [], ◌∷◌, length, Bool, true, false, cond, Option, Some, is_some, refl, ap, ◌∙◌, arith}
 use Rattle.std.specs.List.{list_all}
 use Rattle.std.specs.Ordering.{eq_by_cmp}
 use Rattle.std.specs.Cmp.{eq_by_cmp_equiv}
 use Rattle.std.proofs.lemmas.Bool.{and_parts, and_from, eqb-true}
 use Rattle.std.proofs.lemmas.Cmp.{nat_list_cmp_total, nat_eq_equiv}
-use Rattle.std.specs.FinMap.{find, empty, from_entries, get-empty, get-from_entries, len-empty}
+use Rattle.std.specs.FinMap.{find, from_entries, get-from_entries}
 use Rattle.jc_types.specs.declared.config.Config.{Config}
 use Rattle.jc_types.specs.Stripes.{stripe_of}
 use Rattle.jc_model.specs.declared.event.Event.{Event}
 use Rattle.jc_model.specs.Cache.{Bytes, key_cmp}
-use Rattle.jc_model.specs.Listed.{apart}
+use Rattle.jc_model.specs.Listed.{has_distinct_keys}
 use Rattle.jc_model.specs.Legal.{IsOpening, event_key, is_of_stripe}
 use Rattle.jc_model.specs.Reader.{are_of_stripe, are_of_one_stripe}
-use Rattle.jc_model.proofs.Lookups.{len-apart, same_key}
+use Rattle.jc_model.proofs.CallerLemmas.{len-distinct}
 
 -- 1. The keys of an opening.
-
-none_some : is_some {T = Bytes} None ≡ true → ⊥
-none_some h = cc
-
--- a test that holds of each entry's key holds of each key that is found
-found_holds : (p : Bytes → Bool) (entries : List (Bytes × Bytes)) (q : Bytes) → list_all (λ e. p e.0) entries ≡ true → is_some (find key_cmp q entries) ≡ true → p q ≡ true
-found_holds p [] q all found = absurd (none_some found)
-found_holds p (e ∷ es) q all found =
-    let parts = and_parts (p e.0) (list_all (λ e. p e.0) es) all in
-    elim (eq_by_cmp key_cmp q e.0) as (λ b. eq_by_cmp key_cmp q e.0 ≡ b → is_some (cond b (Some e.1) (find key_cmp q es)) ≡ true → p q ≡ true) [
-      | true ↦ λ same f. ap p (same_key q e.0 same) ∙ parts.0
-      | false ↦ λ other f. found_holds p es q parts.1 f
-    ] refl found
 
 -- and a test that holds of each key that is found holds of each entry's key
 holds_found : (p : Bytes → Bool) (entries : List (Bytes × Bytes)) → ((q : Bytes) → is_some (find key_cmp q entries) ≡ true → p q ≡ true) → list_all (λ e. p e.0) entries ≡ true
@@ -44,16 +31,8 @@ holds_found p (e ∷ es) h =
 
 -- 2. Openings.
 
-pub opening_of : (config : Config) (stripe : ℕ) (opening : List (Bytes × Bytes)) → apart opening ≡ true → length opening ≤ config.capacity
-    → list_all (λ e. stripe_of e.0 config.stripes == stripe) opening ≡ true → IsOpening config stripe (from_entries opening)
-opening_of config stripe opening once few own = record {
-  few = let e = len-apart opening once in omega arith;
-  own = λ key found. eqb-true (stripe_of key config.stripes) stripe
-      (found_holds (λ k. stripe_of k config.stripes == stripe) opening key own (ap is_some (sym (get-from_entries nat_list_cmp_total opening key)) ∙ found));
-}
-
-pub opening_few : (config : Config) (stripe : ℕ) (opening : List (Bytes × Bytes)) → apart opening ≡ true → IsOpening config stripe (from_entries opening) → length opening ≤ config.capacity
-opening_few config stripe opening once opens = let e = len-apart opening once in let few = opens.few in omega arith
+pub opening_few : (config : Config) (stripe : ℕ) (opening : List (Bytes × Bytes)) → has_distinct_keys opening ≡ true → IsOpening config stripe (from_entries opening) → length opening ≤ config.capacity
+opening_few config stripe opening once opens = let e = len-distinct opening once in let few = opens.few in omega arith
 
 eqb_same : (a b : ℕ) → a ≡ b → (a == b) ≡ true
 eqb_same a b e = ap (λ x. x == b) e ∙ nat_eq_equiv.refl b
@@ -63,13 +42,6 @@ pub opening_own : (config : Config) (stripe : ℕ) (opening : List (Bytes × Byt
 opening_own config stripe opening opens =
     holds_found (λ k. stripe_of k config.stripes == stripe) opening
     (λ key found. eqb_same _ _ (opens.own key (ap is_some (get-from_entries nat_list_cmp_total opening key) ∙ found)))
-
--- a stripe may begin with nothing
-pub empty_opens : (config : Config) (stripe : ℕ) → IsOpening config stripe empty
-empty_opens config stripe = record {
-  few = let e = len-empty key_cmp Bytes in omega arith;
-  own = λ key found. absurd (none_some (ap is_some (sym (get-empty key_cmp key)) ∙ found));
-}
 
 -- 3. One stripe.
 

@@ -5,6 +5,7 @@ use Rattle.std.specs.Cmp.Lexicographic.{pointwise}
 use Rattle.std.proofs.lemmas.List.{take_more, take-append-drop}
 use Rattle.std.proofs.lemmas.List.Folds.{list_all-append}
 use Rattle.std.proofs.lemmas.Bool.Decides.{nat_tests}
+use Rattle.std.proofs.lemmas.Bool.{and_parts}
 use Rattle.jc_types.specs.declared.caller.Caller.{Caller}
 use Rattle.jc_model.specs.declared.event.Event.{Event}
 use Rattle.jc_model.specs.declared.event.Event.TheVariants.{Step, Evict}
@@ -16,17 +17,7 @@ use Rattle.jc_model.specs.Cache.{Bytes}
 use Rattle.jc_model.specs.Group.{evicted_events}
 use Rattle.jc_model.specs.Legal.{may_come, may_follow, in_order}
 use Rattle.jc_model.specs.Reader.{comes_before}
-use Rattle.jc_model.proofs.Lookups.{both}
-
--- an event follows all of these
-abbrev pub follows_all : List Event → Event → Bool
-follows_all events event = list_all (λ earlier. may_follow earlier event) events
-
-swapped : (a o m l : Bool) → ((a && (m && true)) && (o && l)) ≡ ((a && o) && (m && l))
-swapped false o m l = refl
-swapped true o true l = refl
-swapped true false false l = refl
-swapped true true false l = refl
+use Rattle.jc_model.proofs.CallerLemmas.{follows_all, order-last}
 
 joined : (a b : Bool) → a ≡ true → b ≡ true → (a && b) ≡ true
 joined true b g h = h
@@ -36,18 +27,11 @@ and_true : (b : Bool) → (b && true) ≡ b
 and_true true = refl
 and_true false = refl
 
-pub order-last : (events : List Event) (event : Event) → in_order (events ++ event ∷ []) ≡ (in_order events && follows_all events event)
-order-last [] event = refl
-order-last (x ∷ xs) event =
-    ap (λ b. b && in_order (xs ++ event ∷ [])) (list_all-append (may_follow x) xs (event ∷ []))
-    ∙ ap (λ b. (list_all (may_follow x) xs && (may_follow x event && true)) && b) (order-last xs event)
-    ∙ swapped (list_all (may_follow x) xs) (in_order xs) (may_follow x event) (follows_all xs event)
-
 pub order-front : (xs ys : List Event) → in_order (xs ++ ys) ≡ true → in_order xs ≡ true
 order-front [] ys h = refl
 order-front (x ∷ xs) ys h =
-    let parts = both (list_all (may_follow x) (xs ++ ys)) (in_order (xs ++ ys)) h in
-    let here = both (list_all (may_follow x) xs) (list_all (may_follow x) ys) (sym (list_all-append (may_follow x) xs ys) ∙ parts.0) in
+    let parts = and_parts (list_all (may_follow x) (xs ++ ys)) (in_order (xs ++ ys)) h in
+    let here = and_parts (list_all (may_follow x) xs) (list_all (may_follow x) ys) (sym (list_all-append (may_follow x) xs ys) ∙ parts.0) in
     joined _ _ here.0 (order-front xs ys parts.1)
 
 through : (s s' s'' n n' n'' : ℕ) (k k' : Bool) → (not (s == s') || nat_lt n n' || ((n == n') && k)) ≡ true → ((s' == s'') && nat_lt n' n'') ≡ true → (not (s == s'') || nat_lt n n'' || ((n == n'') && k')) ≡ true
@@ -73,13 +57,13 @@ follow_lower (Step who op key out shared reply) (Step who' op' key' out' shared'
 pub all_through : (xs : List Event) (last event : Event) → follows_all xs last ≡ true → comes_before last event ≡ true → follows_all xs event ≡ true
 all_through [] last event g h = refl
 all_through (x ∷ xs) last event g h =
-    let parts = both (may_follow x last) (follows_all xs last) g in
+    let parts = and_parts (may_follow x last) (follows_all xs last) g in
     joined _ _ (follow_through x last event parts.0 h) (all_through xs last event parts.1 h)
 
 -- of events in order, the last: a lower number of the same session ends the search, and else it goes on before it
 last_lower : (before : List Event) (last event : Event) → in_order (before ++ last ∷ []) ≡ true → comes_before last event ≡ true → follows_all (before ++ last ∷ []) event ≡ true
 last_lower before last event h lower =
-    let parts = both (in_order before) (follows_all before last) (sym (order-last before last) ∙ h) in
+    let parts = and_parts (in_order before) (follows_all before last) (sym (order-last before last) ∙ h) in
     list_all-append (λ earlier. may_follow earlier event) before (last ∷ [])
     ∙ joined _ _ (all_through before last event parts.1 lower) (joined _ _ (follow_lower last event lower) refl)
 

@@ -16,7 +16,7 @@ use Rattle.std.proofs.lemmas.Cmp.{nat_list_cmp_total}
 use Rattle.std.proofs.lemmas.List.{take-append-le}
 use Rattle.std.proofs.Math.Seq.{take-append_seam}
 use Rattle.jc_model.specs.Cache.{Bytes, key_cmp, entry_at, with_entry}
-use Rattle.jc_model.proofs.Lookups.{same_cache, get-with_entry}
+use Rattle.jc_model.proofs.CallerLemmas.{same_cache, get-with_entry}
 
 -- a look-up in a list of entries is a search from its front
 pub lookup-find : (key : Bytes) (entries : List (Bytes × Bytes)) → lookup (tree.is_at (key_cmp key)) entries ≡ find key_cmp key entries

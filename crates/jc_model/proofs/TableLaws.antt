@@ -3,7 +3,7 @@ use Rattle.std.proofs.Common.{◌≡◌, ◌≢◌, true, false, cond, Option, N
 use Rattle.std.specs.Ordering.{eq_by_cmp}
 use Rattle.jc_model.specs.Cache.{Bytes, Cache, key_cmp, entry_at, with_entry}
 use Rattle.jc_model.specs.Table.{NewStep, first_fault, seq_entry, seq_cache, entry_by_fault, entry_without_fault}
-use Rattle.jc_model.proofs.Lookups.{same_cache, same_key, get-with_entry}
+use Rattle.jc_model.proofs.CallerLemmas.{same_cache, same_key, get-with_entry}
 use Rattle.jc_types.specs.declared.refusal.Refusal.{Refusal}
 
 -- the entry that a cache has at a key, given to it again, leaves it

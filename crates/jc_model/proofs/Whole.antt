@@ -4,21 +4,22 @@ use Rattle.std.specs.List.{list_all}
 use Rattle.std.proofs.lemmas.Bool.{and_parts, and_from}
 use Rattle.std.specs.FinMap.{from_entries}
 use Rattle.jc_types.specs.declared.config.Config.{Config}
-use Rattle.jc_types.specs.Limits.{checked}
+use Rattle.jc_types.specs.Limits.{check}
 use Rattle.jc_types.specs.Stripes.{stripe_of}
 use Rattle.jc_model.specs.declared.event.Event.{Event}
 use Rattle.jc_model.specs.declared.reader.Stage.{Stage}
 use Rattle.jc_model.specs.declared.reader.Stage.TheVariants.{Outside}
 use Rattle.jc_model.specs.Cache.{Bytes, Cache}
-use Rattle.jc_model.specs.Listed.{apart}
+use Rattle.jc_model.specs.Listed.{has_distinct_keys}
 use Rattle.jc_model.specs.Group.{cache_after_groups}
 use Rattle.jc_model.specs.Legal.{Legal, is_of_stripe, in_order}
 use Rattle.jc_model.specs.Reader.{first_stripe, are_of_one_stripe, Accepts, Fits, then_cache, then_stage}
-use Rattle.jc_model.proofs.Openings.{opening_of, opening_few, opening_own, of_first}
+use Rattle.jc_model.proofs.CallerLemmas.{opening_of}
+use Rattle.jc_model.proofs.Openings.{opening_few, opening_own, of_first}
 use Rattle.jc_model.proofs.Readings.{reads_iff}
 use Rattle.jc_model.proofs.Accepting.{accepts_iff}
 
-pub to_legal : (config : Config) (opening : List (Bytes × Bytes)) (events : List Event) → checked config ≡ Ok tt → apart opening ≡ true → length opening ≤ config.capacity
+pub to_legal : (config : Config) (opening : List (Bytes × Bytes)) (events : List Event) → check config ≡ Ok tt → has_distinct_keys opening ≡ true → length opening ≤ config.capacity
     → are_of_one_stripe config.stripes opening events ≡ true → in_order events ≡ true → Accepts config 0 (from_entries opening) Outside events → Legal config opening events
 to_legal config opening events fits once few stripe order accepted =
     let cache = from_entries opening in

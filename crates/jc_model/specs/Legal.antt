@@ -18,12 +18,12 @@ use Rattle.std.specs.Cmp.Lexicographic.{pointwise}
 use Rattle.std.specs.FinMap.{contains_key, from_entries, len}
 use Rattle.jc_types.specs.declared.caller.Caller.{Caller}
 use Rattle.jc_types.specs.declared.config.Config.{Config}
-use Rattle.jc_types.specs.Limits.{checked}
+use Rattle.jc_types.specs.Limits.{check}
 use Rattle.jc_types.specs.Stripes.{stripe_of}
 use Rattle.jc_model.specs.declared.event.Event.{Event}
 use Rattle.jc_model.specs.declared.event.Event.TheVariants.{Step, Evict}
 use Rattle.jc_model.specs.Cache.{Bytes, Cache}
-use Rattle.jc_model.specs.Listed.{apart}
+use Rattle.jc_model.specs.Listed.{has_distinct_keys}
 use Rattle.jc_model.specs.Group.{Group, history_of, cache_after_groups}
 use Rattle.jc_model.specs.Lawful.{AreLawful}
 
@@ -70,8 +70,8 @@ pub record IsHistory (config : Config) (cache : Cache) (events : List Event) (ne
   pub order : IsTrue (in_order events)
 
 pub record Legal (config : Config) (opening : List (Bytes × Bytes)) (events : List Event) : Type 0 where
-  pub config_fits : checked config ≡ Ok tt
-  pub once : IsTrue (apart opening)
+  pub config_fits : check config ≡ Ok tt
+  pub once : IsTrue (has_distinct_keys opening)
   pub stripe : ℕ
   pub opens : IsOpening config stripe (from_entries opening)
   pub own : IsTrue (list_all (is_of_stripe config.stripes stripe) events)
@@ -80,7 +80,7 @@ pub record Legal (config : Config) (opening : List (Bytes × Bytes)) (events : L
 
 -- `opening` and `next` give each stripe's cache
 pub record IsWholeHistory (config : Config) (opening : ℕ → Cache) (events : List Event) (next : ℕ → Cache) : Type 0 where
-  pub config_fits : checked config ≡ Ok tt
+  pub config_fits : check config ≡ Ok tt
   pub openings : (stripe : ℕ) → stripe < config.stripes → IsOpening config stripe (opening stripe)
   pub parts : (stripe : ℕ) → stripe < config.stripes → IsHistory config (opening stripe) (of_stripe config.stripes stripe events) (next stripe)
   pub order : IsTrue (in_order events)

@@ -1,34 +1,34 @@
 -- The operation table: which operation asks the loader, which asks the writer and for what, the entry afterwards, the reply.
 -- The two integration tables of JSR 107 are its first two columns; what is said of `Invoke`, and of `LoadAll` of an entry
 -- that is there, is this provider's own.
---     holds                          whether an entry has this value
---     alike                          whether two tests answer alike
---     is_load_given                     whether the loader answered
---     always_if, wanted_if           the loader is asked, and is asked if the processor wants it, if a condition holds
---     loader_ask                     the loader table: whether an operation asks the loader, never, always or if the processor wants it
---     load_fits                      whether the loader answered as the table has it asked
---     value_after_load                         the entry with a loaded value, if one was found
---     ask_if                         a change, where it is asked for
---     effect_ask, process_ask        what the writer is asked for after a processor, by its net effect and by its answer
---     write_ask                      the writer table: what the writer is asked for, or nothing
---     is_write_given, is_process_given     whether the writer answered, and whether the processor did
---     is_invoke                      an operation runs a processor
---     load_fault, process_fault, write_fault      the fault of the loader, of the processor, of the writer, if it failed
---     first_of_two                   the first of two faults that is there
---     early_fault                    the fault of the loader or the processor, before the writer is asked
---     first_fault                       the first fault: the loader's before the processor's before the writer's
---     answers_fit                    exactly those answered that the tables ask for
---     after_effect                   the entry with a processor's net effect
---     outcome_of                     what a processor answers the caller
---     replaced                       a value in the place of an entry, if there is one
---     entry_without_fault, reply_without_fault          the last two columns, where there is no fault
---     entry_by_fault, reply_by_fault            the entry and the reply, by whether there is a fault: a fault leaves the entry and is the
---                                    reply
---     entry_after, reply_after           the last two columns, where a fault leaves the entry and is the reply
---     NewStep                           one operation on one key with what was said outside and its reply
---     seq_entry, seq_cache         the entry that it leaves at its key, and the whole cache
---     Seq                            the sequential step: one operation made on a whole cache
+--     holds                                            whether an entry has this value
+--     is_load_given                                    whether the loader answered
+--     always_if, wanted_if                             the loader is asked, and is asked if the processor wants it, if a condition holds
+--     loader_ask                                       the loader table: whether an operation asks the loader, never, always or if the processor wants it
+--     load_fits                                        whether the loader answered as the table has it asked
+--     value_after_load                                 the entry with a loaded value, if one was found
+--     ask_if                                           a change, where it is asked for
+--     effect_ask, process_ask                          what the writer is asked for after a processor, by its net effect and by its answer
+--     write_ask                                        the writer table: what the writer is asked for, or nothing
+--     is_write_given, is_process_given                 whether the writer answered, and whether the processor did
+--     is_invoke                                        an operation runs a processor
+--     load_fault, process_fault, write_fault           the fault of the loader, of the processor, of the writer, if it failed
+--     first_of_two                                     the first of two faults that is there
+--     early_fault                                      the fault of the loader or the processor, before the writer is asked
+--     first_fault                                      the first fault: the loader's before the processor's before the writer's
+--     answers_fit                                      exactly those answered that the tables ask for
+--     after_effect                                     the entry with a processor's net effect
+--     outcome_of                                       what a processor answers the caller
+--     replaced                                         a value in the place of an entry, if there is one
+--     entry_without_fault, reply_without_fault         the last two columns, where there is no fault
+--     entry_by_fault, reply_by_fault                   the entry and the reply, by whether there is a fault: a fault leaves the entry and is the
+--                                                      reply
+--     entry_after, reply_after                         the last two columns, where a fault leaves the entry and is the reply
+--     NewStep                                          one operation on one key with what was said outside and its reply
+--     seq_entry, seq_cache                             the entry that it leaves at its key, and the whole cache
+--     Seq                                              the sequential step: one operation made on a whole cache
 use Rattle.std.specs.Prelude.{◌≡◌, ◌==◌, Bool, true, false, not, ◌&&◌, ◌||◌, IsTrue, Option, None, Some, is_some, is_none, if◌then◌else◌, unwrap_or}
+use Rattle.std.specs.Bool.{beq}
 use Rattle.std.specs.Cmp.Lexicographic.{pointwise}
 use Rattle.jc_types.specs.declared.config.Config.{Config}
 use Rattle.jc_types.specs.declared.refusal.Refusal.{Refusal}
@@ -56,11 +56,6 @@ use Rattle.jc_model.specs.Cache.{Bytes, Cache, entry_at, with_entry}
 abbrev pub holds : Option Bytes → Bytes → Bool
 holds None value = false
 holds (Some held) value = pointwise ◌==◌ held value
-
--- whether two tests answer alike
-abbrev pub alike : Bool → Bool → Bool
-alike true answer = answer
-alike false answer = not answer
 
 -- 1. The loader.
 
@@ -204,8 +199,8 @@ first_fault out = first_of_two (early_fault out) (write_fault out.write)
 abbrev pub answers_fit : Config → Op → Option Bytes → Out → Bool
 answers_fit config op entry out =
     load_fits (loader_ask config.read_through op entry) (is_load_given out.load)
-    && alike (is_process_given out.process) (is_invoke op)
-    && alike (is_write_given out.write) (config.write_through && is_none (early_fault out) && is_some (write_ask op entry out.process))
+    && beq (is_process_given out.process) (is_invoke op)
+    && beq (is_write_given out.write) (config.write_through && is_none (early_fault out) && is_some (write_ask op entry out.process))
 
 -- 5. The entry afterwards, and the reply, where there is no fault.
 

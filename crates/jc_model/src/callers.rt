@@ -5,8 +5,7 @@ ghost use Rattle.jc_model.specs.Legal.{may_come, may_follow, in_order};
 ghost use Rattle.jc_model.specs.Reader.{comes_before};
 
 use crate::event::Event;
-use jc_types::caller::Caller;
-use jc_types::key::Key;
+use jc_types::{Caller, Key};
 
 /// Whether an event may come after another.
 fn does_follow(event: &Event, later: &Event) -> bool

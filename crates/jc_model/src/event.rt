@@ -1,8 +1,5 @@
 //! The words that every crate speaks: operations, what was said outside, replies, and the events of a history.
-use jc_types::caller::Caller;
-use jc_types::key::Key;
-use jc_types::refusal::Refusal;
-use jc_types::value::Value;
+use jc_types::{Caller, Key, Refusal, Value};
 
 /// What a call asks of the cache, at one key: the operations of `javax.cache.Cache`.
 ///

@@ -4,14 +4,14 @@
 //! - [`event`] has the words that every crate speaks.
 //! - [`table`] says what each operation asks for, leaves and replies, as methods of [`event::Op`].
 //! - [`contents`] has a cache's contents as a map, and [`listed`] as a plain list.
-//! - [`legal`] has the slow checker of one stripe's history. It rests on [`callers`] (the callers'
+//! - [`legal`] is the slow checker of one stripe's history. It rests on [`callers`] (the callers'
 //!   order), [`stripes`] (the keys of one stripe) and [`reader`] (reading event by event).
 #![tactic(auto)]
 
 mod callers;
+mod checker;
 pub mod contents;
 pub mod event;
-pub mod legal;
 pub mod listed;
 mod reader;
 mod same;
@@ -20,3 +20,10 @@ pub mod table;
 pub mod table_laws;
 #[cfg(test)]
 mod tests;
+
+pub use checker::legal;
+pub use contents::Contents;
+pub use event::{
+    Cause, Change, Effect, Event, LoadAnswer, Op, Out, ProcessAnswer, Reply, WriteAnswer,
+};
+pub use table::LoaderAsk;

@@ -4,8 +4,7 @@ ghost use Rattle.std.specs.FinMap as map;
 ghost use Rattle.jc_model.specs.Cache.{key_cmp};
 ghost use Rattle.jc_model.specs.Listed.{others};
 
-use jc_types::key::Key;
-use jc_types::value::Value;
+use jc_types::{Key, Value};
 
 /// The value of the first entry with this key, or none. It looks at the entries one after another.
 pub fn value_in(entries: &[(Key, Value)], key: &Key) -> Option<Value>

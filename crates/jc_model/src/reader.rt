@@ -1,7 +1,7 @@
 //! How the checker reads a history, event by event: where it stands, and what it keeps of a group.
 ghost use Rattle.std.specs.Prelude.{◌≡◌, ◌↔◌, IsTrue, IfOk};
 ghost use Rattle.std.specs.FinMap.{from_entries};
-ghost use Rattle.jc_model.specs.Listed.{apart};
+ghost use Rattle.jc_model.specs.Listed.{has_distinct_keys};
 ghost use Rattle.jc_model.specs.Reader.{own_goes, picked_victim, is_within, fits_evict, may_end, Accepts};
 
 mod fits;
@@ -11,9 +11,7 @@ use crate::contents::Contents;
 use crate::event::{Cause, Event, LoadAnswer};
 use crate::reader::fits::does_fit;
 use crate::reader::follows::go_over;
-use jc_types::config::Config;
-use jc_types::key::Key;
-use jc_types::value::Value;
+use jc_types::{Config, Key, Value};
 use std::alloc::{AllocError, Global};
 
 /// What is kept of a group whose step was read.
@@ -110,7 +108,7 @@ pub(crate) fn are_accepted(
     opening: &[(Key, Value)],
     events: &[Event],
 ) -> Result<bool, AllocError>
-    requires { IsTrue (apart opening.now) }
+    requires { IsTrue (has_distinct_keys opening.now) }
     ensures { IfOk result (λ b. IsTrue b ↔ Accepts config.now 0 (from_entries opening.now) Stage.Outside events.now) }
 {
     // Names the type that a `Stage` has inside, which the proof of this function doesn't find else.

@@ -6,8 +6,7 @@ ghost use Rattle.jc_model.specs.Legal.{is_of_stripe};
 ghost use Rattle.jc_model.specs.Reader.{first_stripe, are_of_one_stripe};
 
 use crate::event::Event;
-use jc_types::key::{Key, stripe_of};
-use jc_types::value::Value;
+use jc_types::{Key, Value, stripe_of};
 
 /// The stripe of the first key, of the opening or else of the events. Without a key it is 0.
 fn first_stripe(stripes: usize, opening: &[(Key, Value)], events: &[Event]) -> usize

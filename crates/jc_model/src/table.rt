@@ -6,9 +6,7 @@ ghost use Rattle.jc_model.specs.Table.{ask_if, process_ask};
 ghost use Rattle.jc_model.specs.Lawful.{loads_whole};
 
 use crate::event::{Change, Effect, LoadAnswer, Op, Out, ProcessAnswer, Reply, WriteAnswer};
-use jc_types::config::Config;
-use jc_types::refusal::Refusal;
-use jc_types::value::Value;
+use jc_types::{Config, Refusal, Value};
 
 /// Whether the entry has this value.
 fn holds(entry: &Option<Value>, value: &Value) -> bool

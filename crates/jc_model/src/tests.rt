@@ -7,11 +7,8 @@ mod shared;
 mod table;
 
 use crate::event::{Event, LoadAnswer, Op, Out, Reply, WriteAnswer};
-use crate::legal::legal;
-use jc_types::caller::Caller;
-use jc_types::config::Config;
-use jc_types::key::Key;
-use jc_types::value::Value;
+use crate::legal;
+use jc_types::{Caller, Config, Key, Value};
 use std::alloc::Global;
 use std::process::Abort;
 use std::test::Fail;

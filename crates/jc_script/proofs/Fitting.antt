@@ -1,13 +1,12 @@
 -- The events of a line for a call under way, where it has no fault, fit.
 use Rattle.std.proofs.Common.{◌≡◌, ◌==◌, ℕ, [], ◌∷◌, Bool, true, false, cond, not, Option, None, Some, refl, ap, ◌∙◌, is_none}
 use Rattle.std.specs.Cmp.Lexicographic.{pointwise}
-use Rattle.std.proofs.lemmas.Bool.{and_from}
+use Rattle.std.proofs.lemmas.Bool.{and_from, and_parts}
 use Rattle.std.proofs.lemmas.Cmp.{nat_list_eq_equiv}
 use Rattle.jc_model.specs.declared.event.LoadAnswer.{LoadAnswer}
 use Rattle.jc_model.specs.declared.event.LoadAnswer.TheVariants.{Found, Nothing, Failed}
 use Rattle.jc_model.specs.Cache.{Bytes}
 use Rattle.jc_model.specs.Table.{is_load_given}
-use Rattle.jc_model.proofs.Lookups.{both}
 use Rattle.jc_world.specs.declared.event.Part.{Part}
 use Rattle.jc_world.specs.declared.event.Under.{Under}
 use Rattle.jc_world.specs.declared.event.WorldEvent.TheVariants as event
@@ -38,9 +37,9 @@ now false h = cc
 -- a call that is dropped leaves, and gives back first what it has reserved
 drop_fits : (w : WorldState) (number : ℕ) (u : Under) (o : Option Part) → under w number ≡ Some u → part_of w number u.command.key ≡ o → may_drop o (is_joined w number u.command.key) ≡ true
     → AllFit w (drop_events number u.command.key o)
-drop_fits w number u None here is may = one_fits w (event.Leave number) (ap (may_leave w number) here ∙ and_from _ _ (ap is_none is) (both _ _ may).0)
+drop_fits w number u None here is may = one_fits w (event.Leave number) (ap (may_leave w number) here ∙ and_from _ _ (ap is_none is) (and_parts _ _ may).0)
 drop_fits w number u (Some part) here is may =
-    let parts = both (not (is_joined w number u.command.key)) (is_untouched (Some part)) may in
+    let parts = and_parts (not (is_joined w number u.command.key)) (is_untouched (Some part)) may in
     leave_fits w number u here (opposite _ parts.0) (ap is_untouched is ∙ parts.1)
   where
     opposite : (b : Bool) → not b ≡ true → b ≡ false
@@ -64,6 +63,6 @@ act_fits w number act u here none = go act (now (fits_now act (part_of w number 
     go End h = one_fits w (event.Commit number key) h
     go Drop h = drop_fits w number u (part_of w number key) here refl h
     go More h =
-        let free = both (not (is_joined w number key)) (is_none (part_of w number key)) h in
+        let free = and_parts (not (is_joined w number key)) (is_none (part_of w number key)) h in
         one_fits w (event.Start number key) (ap (may_start w number key) here ∙ and_from _ _ (nat_list_eq_equiv.refl key) (and_from _ _ free.1 free.0))
     go Take h = one_fits w (event.PickUp number key) h

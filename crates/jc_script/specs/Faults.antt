@@ -13,7 +13,7 @@ use Rattle.std.specs.Prelude.{ℕ, List, codes, Bool, true, not, ◌&&◌, ◌||
 use Rattle.jc_types.specs.declared.refusal.Refusal.{Refusal}
 use Rattle.jc_types.specs.declared.refusal.Refusal.TheVariants as refusal
 use Rattle.jc_types.specs.declared.config.Field.TheVariants.{Stripes, Capacity, History}
-use Rattle.jc_types.specs.Limits.{checked}
+use Rattle.jc_types.specs.Limits.{check}
 use Rattle.jc_world.specs.declared.event.Part.{Part}
 use Rattle.jc_world.specs.declared.event.Under.{Under}
 use Rattle.jc_world.specs.World.{WorldState, under, part_of, is_joined, is_busy, waits_for_load, waits_for_report, is_answered, is_untouched}
@@ -87,7 +87,7 @@ act_fault w number act (Some u) =
     if fits_now act (part_of w number u.command.key) (is_joined w number u.command.key) then None else Some NotNow
 
 abbrev pub state_fault : Option WorldState → Line → Option Fault
-state_fault None (Open config) = config_fault (checked config)
+state_fault None (Open config) = config_fault (check config)
 state_fault None (Set key value) = Some NotOpen
 state_fault None (Begin number session command) = Some NotOpen
 state_fault None (OfCall number act) = Some NotOpen

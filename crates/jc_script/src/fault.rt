@@ -3,7 +3,7 @@ ghost use Rattle.std.specs.Prelude.{◌≡◌};
 ghost use Rattle.jc_script.specs.Faults.{text_of};
 ghost use Rattle.jc_script.specs.declared.fault.ReadError.TheVariants as errors;
 
-use jc_types::config::Field;
+use jc_types::Field;
 use std::alloc::AllocError;
 
 /// Why a script ends at a line.

@@ -6,9 +6,8 @@ ghost use Rattle.jc_script.specs.Lines.{Gives, form_named, act_named, line_named
 use crate::fault::{Fault, ReadError};
 use crate::line::{Act, Line};
 use crate::words::{caller, is, key, number, pairs, value, value_or_none, words};
-use jc_model::event::Op;
-use jc_types::config::Config;
-use jc_types::value::Value;
+use jc_model::Op;
+use jc_types::{Config, Value};
 use jc_world::event::Command;
 use std::alloc::Global;
 

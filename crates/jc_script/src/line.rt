@@ -1,8 +1,6 @@
 //! What the lines of a script ask for.
 use crate::pairs::Pairs;
-use jc_types::config::Config;
-use jc_types::key::Key;
-use jc_types::value::Value;
+use jc_types::{Config, Key, Value};
 use jc_world::event::Command;
 
 /// What happens next to a call.

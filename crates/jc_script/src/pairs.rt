@@ -1,9 +1,8 @@
 //! The pairs of a line.
 ghost use Rattle.std.specs.Prelude.{◌≡◌, ◌++◌, ◌∷◌, [], OnOk};
 
-use jc_model::event::LoadAnswer;
-use jc_types::key::Key;
-use jc_types::value::Value;
+use jc_model::LoadAnswer;
+use jc_types::{Key, Value};
 use std::alloc::{AllocError, Global};
 use std::marker::Model;
 

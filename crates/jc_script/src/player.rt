@@ -1,6 +1,6 @@
 //! Lines, played on a world.
 ghost use Rattle.std.specs.Prelude.{◌≡◌, ◌++◌, ◌∷◌, List, ℕ, [], Some, None, true, Option, option_copied, OnOk, IfOk, MatchOption};
-ghost use Rattle.jc_types.specs.Limits.{checked};
+ghost use Rattle.jc_types.specs.Limits.{check};
 ghost use Rattle.jc_world.specs.declared.event.WorldEvent.TheVariants as event;
 ghost use Rattle.jc_world.specs.World.{waits_for_load, waits_for_report, is_answered, is_untouched, under, part_of, start};
 ghost use Rattle.jc_world.specs.Events.{fits, AllFit};
@@ -12,12 +12,9 @@ use crate::fault::{Fault, ReadError};
 use crate::grammar::read;
 use crate::line::{Act, Line};
 use crate::printing::{put, put_audit, put_texts};
-use jc_model::event::{LoadAnswer, WriteAnswer};
+use jc_model::{LoadAnswer, WriteAnswer};
 use jc_stripe::First;
-use jc_types::config::Config;
-use jc_types::key::Key;
-use jc_types::refusal::Refusal;
-use jc_types::value::Value;
+use jc_types::{Config, Key, Refusal, Value};
 use jc_world::event::{Command, Part, WorldEvent};
 use jc_world::world::World;
 use std::alloc::{AllocError, Global};
@@ -145,7 +142,7 @@ fn fault_of_begin(world: &World, number: u32, session: u32) -> Option<Fault>
 }
 
 fn fault_of_config(config: &Config) -> Option<Fault>
-    ensures { result ≡ config_fault (checked config.now) }
+    ensures { result ≡ config_fault (check config.now) }
 {
     match config.check() {
         Ok(()) => None,

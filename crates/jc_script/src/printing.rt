@@ -6,11 +6,9 @@ ghost use Rattle.jc_script.specs.Printing.{value_text, value_or_none_text, coded
 
 use crate::fault::{Fault, text};
 use itoa::Buffer;
-use jc_model::event::{Cause, Change, LoadAnswer, Reply};
+use jc_model::{Cause, Change, LoadAnswer, Reply};
 use jc_stripe::Eviction;
-use jc_types::key::Key;
-use jc_types::refusal::Refusal;
-use jc_types::value::Value;
+use jc_types::{Key, Refusal, Value};
 use jc_world::audit::Audit;
 use jc_world::event::{PickedUp, Reported, Shown, Stepped, WorldEvent};
 use std::alloc::AllocError;

@@ -8,9 +8,7 @@ ghost use Rattle.jc_script.specs.Lines.{Gives, with_value};
 
 use crate::fault::{Fault, ReadError};
 use crate::pairs::Pairs;
-use jc_types::key::Key;
-use jc_types::limits::{KEY_MAX, SESSIONS_MAX, VALUE_MAX};
-use jc_types::value::Value;
+use jc_types::{KEY_MAX, Key, SESSIONS_MAX, VALUE_MAX, Value};
 use std::alloc::{AllocError, Global};
 
 /// Whether a word is this text.

@@ -5,9 +5,9 @@ use Rattle.std.proofs.lemmas.List.{length-map}
 use Rattle.std.proofs.lemmas.List.Folds.{list_all-append, list_all-map}
 use Rattle.std.specs.List.{list_any, list_all}
 use Rattle.std.specs.Cmp.Lexicographic.{pointwise}
+use Rattle.std.proofs.lemmas.Bool.{and_parts}
 use Rattle.jc_types.specs.declared.config.Config.{Config}
 use Rattle.jc_model.specs.Cache.{Bytes, Cache, entry_at}
-use Rattle.jc_model.proofs.Lookups.{both}
 use Rattle.jc_inflight.specs.declared.joiner.Joiner.{Joiner}
 use Rattle.jc_inflight.proofs.CallerLemmas.{call_of}
 use Rattle.jc_stripe.specs.State.{is_key, without_key}
@@ -37,28 +37,28 @@ all-push p xs x all one = list_all-append p xs (x ∷ []) ∙ join_and _ _ all (
 pub all_kept : {A : Type 0} (p q : A → Bool) (xs : List A) → list_all p xs ≡ true → list_all p (filter q xs) ≡ true
 all_kept p q [] h = refl
 all_kept p q (x ∷ xs) h =
-    let parts = both (p x) (list_all p xs) h in
+    let parts = and_parts (p x) (list_all p xs) h in
     elim (q x) as (λ b. list_all p (cond b (x ∷ filter q xs) (filter q xs)) ≡ true) [ true ↦ join_and _ _ parts.0 (all_kept p q xs parts.1) | false ↦ all_kept p q xs parts.1 ]
 
 -- what follows from a test that each answers_at_once
 pub all_then : {A : Type 0} (p q : A → Bool) (xs : List A) → ((x : A) → p x ≡ true → q x ≡ true) → list_all p xs ≡ true → list_all q xs ≡ true
 all_then p q [] f h = refl
 all_then p q (x ∷ xs) f h =
-    let parts = both (p x) (list_all p xs) h in
+    let parts = and_parts (p x) (list_all p xs) h in
     join_and _ _ (f x parts.0) (all_then p q xs f parts.1)
 
 pub all_both : {A : Type 0} (p q : A → Bool) (xs : List A) → list_all p xs ≡ true → list_all q xs ≡ true → list_all (λ x. p x && q x) xs ≡ true
 all_both p q [] g h = refl
 all_both p q (x ∷ xs) g h =
-    let ps = both (p x) (list_all p xs) g in
-    let qs = both (q x) (list_all q xs) h in
+    let ps = and_parts (p x) (list_all p xs) g in
+    let qs = and_parts (q x) (list_all q xs) h in
     join_and _ _ (join_and _ _ ps.0 qs.0) (all_both p q xs ps.1 qs.1)
 
 -- what each answers_at_once, one that is found answers_at_once
 pub all_found : {A : Type 0} (p q : A → Bool) (xs : List A) (r : A) → find p xs ≡ Some r → list_all q xs ≡ true → q r ≡ true
 all_found p q [] r h all = cc
 all_found p q (x ∷ xs) r h all =
-    let parts = both (q x) (list_all q xs) all in
+    let parts = and_parts (q x) (list_all q xs) all in
     elim (p x) as (λ b. cond b (Some x) (find p xs) ≡ Some r → q r ≡ true) [
       | true ↦ λ h. let is : x ≡ r = cc in ap q (sym is) ∙ parts.0
       | false ↦ λ h. all_found p q xs r h parts.1
@@ -76,8 +76,8 @@ beside_turned r x = turned x.caller.session r.caller.session x.caller.call r.cal
 pub beside-push : (rs : List Reservation) (r : Reservation) → are_beside rs ≡ true → list_all (is_other_call r.caller r.key) rs ≡ true → are_beside (rs ++ r ∷ []) ≡ true
 beside-push [] r all one = refl
 beside-push (x ∷ xs) r all one =
-    let parts = both (list_all (is_other_call x.caller x.key) xs) (are_beside xs) all in
-    let ones = both (is_other_call r.caller r.key x) (list_all (is_other_call r.caller r.key) xs) one in
+    let parts = and_parts (list_all (is_other_call x.caller x.key) xs) (are_beside xs) all in
+    let ones = and_parts (is_other_call r.caller r.key x) (list_all (is_other_call r.caller r.key) xs) one in
     join_and _ _ (all-push (is_other_call x.caller x.key) xs r parts.0 (beside_turned x r ∙ ones.0)) (beside-push xs r parts.1 ones.1)
 
 pub all_left : (p : Reservation → Bool) (key : Bytes) (rs : List Reservation) → list_all p rs ≡ true → list_all p (without_key key rs) ≡ true
@@ -86,7 +86,7 @@ all_left p key rs h = all_kept p (λ r. not (is_key key r)) rs h
 pub beside_left : (key : Bytes) (rs : List Reservation) → are_beside rs ≡ true → are_beside (without_key key rs) ≡ true
 beside_left key [] h = refl
 beside_left key (x ∷ xs) h =
-    let parts = both (list_all (is_other_call x.caller x.key) xs) (are_beside xs) h in
+    let parts = and_parts (list_all (is_other_call x.caller x.key) xs) (are_beside xs) h in
     elim (not (is_key key x)) as (λ b. are_beside (cond b (x ∷ without_key key xs) (without_key key xs)) ≡ true) [
       | true ↦ join_and _ _ (all_left (is_other_call x.caller x.key) key xs parts.0) (beside_left key xs parts.1)
       | false ↦ beside_left key xs parts.1
@@ -156,14 +156,14 @@ between_turned r j = turned j.caller.session r.caller.session j.caller.call r.ca
 pub apart-push : (js : List Joiner) (j : Joiner) → are_apart js ≡ true → list_all (is_other_join j.caller j.key) js ≡ true → are_apart (js ++ j ∷ []) ≡ true
 apart-push [] j all one = refl
 apart-push (x ∷ xs) j all one =
-    let parts = both (list_all (is_other_join x.caller x.key) xs) (are_apart xs) all in
-    let ones = both (is_other_join j.caller j.key x) (list_all (is_other_join j.caller j.key) xs) one in
+    let parts = and_parts (list_all (is_other_join x.caller x.key) xs) (are_apart xs) all in
+    let ones = and_parts (is_other_join j.caller j.key x) (list_all (is_other_join j.caller j.key) xs) one in
     join_and _ _ (all-push (is_other_join x.caller x.key) xs j parts.0 (apart_turned x j ∙ ones.0)) (apart-push xs j parts.1 ones.1)
 
 pub apart_kept : (q : Joiner → Bool) (js : List Joiner) → are_apart js ≡ true → are_apart (filter q js) ≡ true
 apart_kept q [] h = refl
 apart_kept q (x ∷ xs) h =
-    let parts = both (list_all (is_other_join x.caller x.key) xs) (are_apart xs) h in
+    let parts = and_parts (list_all (is_other_join x.caller x.key) xs) (are_apart xs) h in
     elim (q x) as (λ b. are_apart (cond b (x ∷ filter q xs) (filter q xs)) ≡ true) [
       | true ↦ join_and _ _ (all_kept (is_other_join x.caller x.key) q xs parts.0) (apart_kept q xs parts.1)
       | false ↦ apart_kept q xs parts.1
@@ -173,8 +173,8 @@ apart_kept q (x ∷ xs) h =
 pub between-push : (rs : List Reservation) (js : List Joiner) (j : Joiner) → all_apart rs js ≡ true → list_all (is_other_call j.caller j.key) rs ≡ true → all_apart rs (js ++ j ∷ []) ≡ true
 between-push [] js j all one = refl
 between-push (r ∷ rs) js j all one =
-    let parts = both (list_all (is_other_join r.caller r.key) js) (all_apart rs js) all in
-    let ones = both (is_other_call j.caller j.key r) (list_all (is_other_call j.caller j.key) rs) one in
+    let parts = and_parts (list_all (is_other_join r.caller r.key) js) (all_apart rs js) all in
+    let ones = and_parts (is_other_call j.caller j.key r) (list_all (is_other_call j.caller j.key) rs) one in
     join_and _ _ (all-push (is_other_join r.caller r.key) js j parts.0 (between_turned r j ∙ ones.0)) (between-push rs js j parts.1 ones.1)
 
 pub between_kept : (rs : List Reservation) (q : Joiner → Bool) (js : List Joiner) → all_apart rs js ≡ true → all_apart rs (filter q js) ≡ true
@@ -187,12 +187,12 @@ between_left key rs js h = all_left (λ r. list_all (is_other_join r.caller r.ke
 pub between_first : (rs : List Reservation) (j : Joiner) (js : List Joiner) → all_apart rs (j ∷ js) ≡ true → list_all (is_other_call j.caller j.key) rs ≡ true
 between_first rs j js h =
     all_then (λ r. list_all (is_other_join r.caller r.key) (j ∷ js)) (is_other_call j.caller j.key) rs
-    (λ r e. sym (between_turned r j) ∙ (both (is_other_join r.caller r.key j) (list_all (is_other_join r.caller r.key) js) e).0) h
+    (λ r e. sym (between_turned r j) ∙ (and_parts (is_other_join r.caller r.key j) (list_all (is_other_join r.caller r.key) js) e).0) h
 
 pub between_others : (rs : List Reservation) (j : Joiner) (js : List Joiner) → all_apart rs (j ∷ js) ≡ true → all_apart rs js ≡ true
 between_others rs j js h =
     all_then (λ r. list_all (is_other_join r.caller r.key) (j ∷ js)) (λ r. list_all (is_other_join r.caller r.key) js) rs
-    (λ r e. (both (is_other_join r.caller r.key j) (list_all (is_other_join r.caller r.key) js) e).1) h
+    (λ r e. (and_parts (is_other_join r.caller r.key j) (list_all (is_other_join r.caller r.key) js) e).1) h
 
 -- 4. Joiners of the same calls.
 

@@ -1,5 +1,6 @@
 -- Answers of whom was asked first fit the tables.
 use Rattle.std.proofs.Common.{◌≡◌, ◌&&◌, ◌||◌, cond, is_none, Bool, true, false, not, IsTrue, Option, None, Some, is_some, refl, ap, ◌∙◌}
+use Rattle.std.specs.Bool.{beq}
 use Rattle.jc_types.specs.declared.config.Config.{Config}
 use Rattle.jc_model.specs.declared.event.Op.{Op}
 use Rattle.jc_model.specs.declared.event.Op.TheVariants.{Get, LoadAll, Invoke}
@@ -9,7 +10,7 @@ use Rattle.jc_model.specs.declared.event.LoadAnswer.{LoadAnswer}
 use Rattle.jc_model.specs.declared.event.WriteAnswer.{WriteAnswer}
 use Rattle.jc_model.specs.declared.event.ProcessAnswer.TheVariants as process
 use Rattle.jc_model.specs.Cache.{Bytes}
-use Rattle.jc_model.specs.Table.{answers_fit, alike, always_if, load_fits, early_fault, is_load_given, is_write_given, write_ask}
+use Rattle.jc_model.specs.Table.{answers_fit, always_if, load_fits, early_fault, is_load_given, is_write_given, write_ask}
 use Rattle.jc_model.specs.Group.{load_only, write_only, nothing_said}
 use Rattle.jc_stripe.specs.declared.ticket.First.{First}
 use Rattle.jc_stripe.specs.declared.ticket.First.TheVariants.{Nobody, Loader, Writer, Processor}
@@ -47,7 +48,7 @@ no_writer true w change h A = cc
 no_writer false true change h A = cc
 no_writer false false change h A = cc
 
-written_shape : (w given : Bool) (asked : Option Change) (change : Change) → writer_for (cond w asked None) ≡ Writer change → given ≡ true → (true && true && alike given (w && true && is_some asked)) ≡ true
+written_shape : (w given : Bool) (asked : Option Change) (change : Change) → writer_for (cond w asked None) ≡ Writer change → given ≡ true → (true && true && beq given (w && true && is_some asked)) ≡ true
 written_shape true true (Some asked) change h g = refl
 written_shape true given None change h g = cc
 written_shape false given asked change h g = cc

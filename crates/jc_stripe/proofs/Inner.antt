@@ -4,8 +4,8 @@ use Rattle.std.proofs.lemmas.Bool.Decides.{nat_tests}
 use Rattle.std.specs.List.{list_any}
 use Rattle.std.specs.FinMap.{len, from_entries}
 use Rattle.jc_model.specs.Cache.{Bytes, key_cmp}
-use Rattle.jc_model.specs.Listed.{apart}
-use Rattle.jc_model.proofs.Lookups.{len-apart}
+use Rattle.jc_model.specs.Listed.{has_distinct_keys}
+use Rattle.jc_model.proofs.CallerLemmas.{len-distinct}
 use Rattle.jc_history.specs.Past.{places_used}
 use Rattle.jc_reserve.specs.Reserving.{reservation_at}
 use Rattle.jc_stripe.specs.declared.ticket.Note.{Note}
@@ -85,7 +85,7 @@ load_none i key h = load_missing _ (sym (found-reserved_of i.reservations key) �
 -- how many entries there are
 pub entries_len : (i : Inside) → IsStripe i → length i.entries.list ≤ i.entries.capacity
 entries_len i sound =
-    let n : len (from_entries {R = key_cmp} i.entries.list) ≡ length i.entries.list = len-apart i.entries.list (ap apart sound.by_use ∙ sound.state.used.once) in
+    let n : len (from_entries {R = key_cmp} i.entries.list) ≡ length i.entries.list = len-distinct i.entries.list (ap has_distinct_keys sound.by_use ∙ sound.state.used.once) in
     let few = sound.state.few_entries in
     let c = sound.capacity in
     omega arith

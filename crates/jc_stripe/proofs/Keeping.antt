@@ -9,9 +9,9 @@ use Rattle.jc_model.specs.declared.event.Out.{Out}
 use Rattle.jc_model.specs.declared.event.Cause.{Cause}
 use Rattle.jc_model.specs.declared.event.Cause.TheVariants.{Full, Memory}
 use Rattle.jc_model.specs.Cache.{Bytes, key_cmp}
-use Rattle.jc_model.specs.Listed.{others, listed}
+use Rattle.jc_model.specs.Listed.{others, with_entry_first}
 use Rattle.jc_model.specs.Table.{entry_after}
-use Rattle.jc_model.proofs.Lookups.{find-others}
+use Rattle.jc_model.proofs.CallerLemmas.{find-others}
 use Rattle.jc_entries.specs.ByUse.{ByUse, lru_victim, after_eviction}
 use Rattle.jc_entries.specs.Inserting.{has_room_for, InsertsAfterEviction, FindsAllPinned, FindsNoMemory, Inserts}
 use Rattle.jc_entries.specs.declared.entries.Inserted.TheVariants.{NotKept}
@@ -38,9 +38,9 @@ missing_without (Some v) key entries h = find-others v entries key ∙ ap (cond 
 -- the step's entry stands in front of the others, of which none has its key
 used_new : (entries : List (Bytes × Bytes)) (key value : Bytes) (op : Op) (out : Out) → is_use op out ≡ true → finite.find key_cmp key entries ≡ None → entry_after op None out ≡ Some value → used_at entries key op out ≡ (key, value) ∷ entries
 used_new entries key value op out is_used missing entry =
-    ap (λ b. cond b (listed key (entry_after op (finite.find key_cmp key entries) out) entries) entries) is_used
-    ∙ ap (λ o. listed key (entry_after op o out) entries) missing
-    ∙ ap (λ o. listed key o entries) entry
+    ap (λ b. cond b (with_entry_first key (entry_after op (finite.find key_cmp key entries) out) entries) entries) is_used
+    ∙ ap (λ o. with_entry_first key (entry_after op o out) entries) missing
+    ∙ ap (λ o. with_entry_first key o entries) entry
     ∙ ap (λ es. (key, value) ∷ es) (others-missing key entries missing)
 
 others_front : (key value : Bytes) (entries : List (Bytes × Bytes)) → finite.find key_cmp key entries ≡ None → others key ((key, value) ∷ entries) ≡ entries
@@ -174,5 +174,5 @@ kept_none old key pinned op out is_used missing entry =
       victim_is = sym (ap (λ b. cond (b && (length old.list == old.capacity)) (lru_victim old.list pinned) None) none_in);
       evicted_is = sym (ap (λ b. own_cause b (overflows_in old key op out) (is_some (victim_in old pinned key op out)) false) none_in);
       left = ap (λ es. record old { list = es })
-          (sym (ap (λ b. cond b (listed key (entry_after op (finite.find key_cmp key old.list) out) old.list) old.list) is_used ∙ ap (λ o. listed key o old.list) entry ∙ others-missing key old.list missing));
+          (sym (ap (λ b. cond b (with_entry_first key (entry_after op (finite.find key_cmp key old.list) out) old.list) old.list) is_used ∙ ap (λ o. with_entry_first key o old.list) entry ∙ others-missing key old.list missing));
     }

@@ -7,6 +7,7 @@ use Rattle.std.proofs.lemmas.Bool.Decides.{nat_tests}
 use Rattle.std.proofs.lemmas.List.{length-append}
 use Rattle.std.proofs.lemmas.Cmp.{nat_list_cmp_total}
 use Rattle.std.specs.FinMap.{insert, remove, len, len-insert, len-remove, contains_key, get-remove}
+use Rattle.std.proofs.lemmas.Bool.{and_parts}
 use Rattle.jc_types.specs.declared.config.Config.{Config}
 use Rattle.jc_model.specs.declared.event.Cause.{Cause}
 use Rattle.jc_model.specs.declared.event.Cause.TheVariants.{Full, Memory}
@@ -17,7 +18,7 @@ use Rattle.jc_model.specs.Table.{entry_after, reply_after, answers_fit, is_load_
 use Rattle.jc_model.specs.Group.{Group, events_of, history_of, cache_after_group, cache_after_groups, without_own}
 use Rattle.jc_model.specs.Group as group
 use Rattle.jc_model.specs.Lawful.{IsLawful, AreLawful, evicted_fits, victim_fits, inserts, joined_fits, loads_whole}
-use Rattle.jc_model.proofs.Lookups.{same_cache, both, none_is, same_key, get-with_entry, insert-remove}
+use Rattle.jc_model.proofs.CallerLemmas.{same_cache, none_is, same_key, get-with_entry, insert-remove}
 use Rattle.jc_entries.proofs.CallerLemmas.{lru_victim-found}
 use Rattle.jc_stripe.specs.State.{State}
 use Rattle.jc_stripe.specs.OrderOfUse.{by_use, least_used, pinned}
@@ -114,13 +115,13 @@ victim_if false o v h = cc
 pub victim_known : (m : State) (key : Bytes) (op : Op) (out : Out) (v : Bytes) → IsUsed m → phases.victim m key op out ≡ Some v → IsVictim m key op out v
 victim_known m key op out v used h =
     let known = victim_if (overflows m key op out) (least_used m) v h in
-    let parts = both (inserts_here m key op out) (len m.cache == m.config.capacity) known.0 in
+    let parts = and_parts (inserts_here m key op out) (len m.cache == m.config.capacity) known.0 in
     record {
       inserts = parts.0;
       full = parts.1;
       least = known.1;
       there = least_used-there m v used known.1;
-      missing = none_is _ ((both (is_none (entry_at m.cache key)) (is_some (entry_after op (entry_at m.cache key) out)) parts.0).0);
+      missing = none_is _ ((and_parts (is_none (entry_at m.cache key)) (is_some (entry_after op (entry_at m.cache key) out)) parts.0).0);
     }
 
 none_both : (b : Bool) → cond {A = Option Bytes} b None None ≡ None
@@ -181,7 +182,7 @@ evicted_so : (m : State) (caller : Caller) (key : Bytes) (op : Op) (out : Out) (
     → inserts_here m key op out ≡ i → overflows m key op out ≡ f → is_some (phases.victim m key op out) ≡ v → evicted_fits m.config m.cache (new_group m caller key op out callers short) (own_cause i f v short) ≡ true
 evicted_so m caller key op out callers short false f v used hi hf hv = refl
 evicted_so m caller key op out callers short true true false used hi hf hv =
-    let full = (both (inserts_here m key op out) (len m.cache == m.config.capacity) hf).1 in
+    let full = (and_parts (inserts_here m key op out) (len m.cache == m.config.capacity) hf).1 in
     all_three _ _ _ (inserts_so m caller key op out callers short used ∙ hi) full (nobody (phases.victim m key op out) hv)
   where
     all_three : (a b c : Bool) → a ≡ true → b ≡ true → c ≡ true → (a && b && c) ≡ true
@@ -211,9 +212,9 @@ within_so : (m : State) (key : Bytes) (op : Op) (out : Out) (short : Bool) (vict
     → phases.victim m key op out ≡ victim → inserts_here m key op out ≡ i → overflows m key op out ≡ f → is_some victim ≡ v
     → len (without_own (with_entry (group.without_victim m.cache victim) key (entry_after op (entry_at m.cache key) out)) key (own_cause i f v short)) ≤ m.config.capacity
 within_so m key op out short None false f v used few hv hi hf hs = len-with_entry m.cache m.config.capacity key _ few (ap (λ b. b && (len m.cache == m.config.capacity)) hi)
-within_so m key op out true None true false v used few hv hi hf hs = len-went m.cache m.config.capacity key _ Memory few (none_is _ ((both (is_none (entry_at m.cache key)) _ hi).0))
+within_so m key op out true None true false v used few hv hi hf hs = len-went m.cache m.config.capacity key _ Memory few (none_is _ ((and_parts (is_none (entry_at m.cache key)) _ hi).0))
 within_so m key op out false None true false v used few hv hi hf hs = len-with_entry m.cache m.config.capacity key _ few hf
-within_so m key op out short None true true false used few hv hi hf hs = len-went m.cache m.config.capacity key _ Full few (none_is _ ((both (is_none (entry_at m.cache key)) _ hi).0))
+within_so m key op out short None true true false used few hv hi hf hs = len-went m.cache m.config.capacity key _ Full few (none_is _ ((and_parts (is_none (entry_at m.cache key)) _ hi).0))
 within_so m key op out short None true true true used few hv hi hf hs = cc
 within_so m key op out short (Some x) i f false used few hv hi hf hs = cc
 within_so m key op out short (Some x) false f true used few hv hi hf hs = let known = victim_known m key op out x used hv in let t : false ≡ true = sym hi ∙ known.inserts in cc

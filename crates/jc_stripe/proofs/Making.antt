@@ -5,9 +5,10 @@ use Rattle.std.specs.Bool.{OnTrue}
 use Rattle.std.specs.Cmp.Lexicographic.{pointwise, texts_ties}
 use Rattle.std.proofs.lemmas.Cmp.{nat_list_eq_equiv}
 use Rattle.std.proofs.lemmas.List.{length-append}
+use Rattle.std.proofs.lemmas.Bool.{and_parts}
 use Rattle.jc_model.specs.declared.event.Op.{Op}
 use Rattle.jc_model.specs.Cache.{Bytes, entry_at}
-use Rattle.jc_model.proofs.Lookups.{both, same_key}
+use Rattle.jc_model.proofs.CallerLemmas.{same_key}
 use Rattle.jc_history.specs.Past.{Past, places_used, promise, unpromise}
 use Rattle.jc_reserve.specs.Table.{Table}
 use Rattle.jc_reserve.specs.Reserving.{CanReserve, is_held}
@@ -90,7 +91,7 @@ not_of false b c h = refl
 pub not_joined : (caller : Caller) (key : Bytes) (js : List Joiner) → list_all (is_other_join caller key) js ≡ true → has_joined caller key js ≡ false
 not_joined caller key [] h = refl
 not_joined caller key (j ∷ js) h =
-    let parts = both (is_other_join caller key j) (list_all (is_other_join caller key) js) h in
+    let parts = and_parts (is_other_join caller key j) (list_all (is_other_join caller key) js) h in
     let one : belongs_to caller key j ≡ false = ap (λ b. (j.caller.session == caller.session) && (j.caller.call == caller.call) && b) (nat_list_eq_equiv.symm key j.key) ∙ not_of (j.caller.session == caller.session) (j.caller.call == caller.call) (pointwise ◌==◌ j.key key) parts.0 in
     ap (λ b. b || has_joined caller key js) one ∙ not_joined caller key js parts.1
 

@@ -7,6 +7,7 @@ use Rattle.std.specs.FinMap as finite
 use Rattle.std.proofs.lemmas.List.Folds.{list_all-append}
 use Rattle.std.proofs.lemmas.Bool.Decides.{nat_tests}
 use Rattle.std.proofs.lemmas.Cmp.{nat_list_eq_equiv}
+use Rattle.std.proofs.lemmas.Bool.{and_parts}
 use Rattle.jc_model.specs.declared.event.Event.{Event}
 use Rattle.jc_model.specs.declared.event.Event.TheVariants.{Step, Evict}
 use Rattle.jc_model.specs.declared.event.Op.{Op}
@@ -16,12 +17,11 @@ use Rattle.jc_model.specs.declared.event.Reply.{Reply}
 use Rattle.jc_model.specs.declared.event.Cause.{Cause}
 use Rattle.jc_model.specs.declared.event.LoadAnswer.{LoadAnswer}
 use Rattle.jc_model.specs.Cache.{Bytes, key_cmp}
-use Rattle.jc_model.specs.Listed.{others, listed}
+use Rattle.jc_model.specs.Listed.{others, with_entry_first}
 use Rattle.jc_model.specs.Table.{entry_after, reply_after}
 use Rattle.jc_model.specs.Group.{Group, victim_events, step_event, step_place, shared_event, evicted_events, events_of, load_only}
 use Rattle.jc_model.specs.Legal.{may_come, may_follow, in_order}
-use Rattle.jc_model.proofs.Lookups.{both, same_key}
-use Rattle.jc_model.proofs.Order.{order-last}
+use Rattle.jc_model.proofs.CallerLemmas.{same_key, order-last}
 use Rattle.jc_entries.specs.ByUse.{after_eviction}
 use Rattle.jc_entries.proofs.CallerLemmas.{lru_victim-found}
 use Rattle.jc_stripe.specs.State.{State, is_of}
@@ -86,7 +86,7 @@ behind-shared : (place : ℕ) (k : Bytes) (answer : LoadAnswer) (callers : List 
     → comes_behind (map (shared_event place k answer) callers) caller key ≡ true
 behind-shared place k answer [] caller key h = refl
 behind-shared place k answer (c ∷ cs) caller key h =
-    let parts = both (not (caller.session == c.session) || ((caller.call == c.call) && not (pointwise ◌==◌ key k))) (beside_callers caller key k cs) h in
+    let parts = and_parts (not (caller.session == c.session) || ((caller.call == c.call) && not (pointwise ◌==◌ key k))) (beside_callers caller key k cs) h in
     join_and _ _ (comes_beside c k Get (load_only answer) (Some place) (reply_after Get None (load_only answer)) caller key parts.0) (behind-shared place k answer cs caller key parts.1)
 
 -- a step that is beside those of a group may come behind it
@@ -140,8 +140,8 @@ callers_pushed : (xs : List Event) (who : Caller) (k : Bytes) (op : Op) (out : O
     → callers_behind xs key callers ≡ true → callers_behind (xs ++ Step who op k out shared reply ∷ []) key callers ≡ true
 callers_pushed xs who k op out shared reply key [] apart h = refl
 callers_pushed xs who k op out shared reply key (c ∷ cs) apart h =
-    let away = both (not (c.session == who.session)) (list_all (λ d. not (d.session == who.session)) cs) apart in
-    let parts = both (comes_behind xs c key) (callers_behind xs key cs) h in
+    let away = and_parts (not (c.session == who.session)) (list_all (λ d. not (d.session == who.session)) cs) apart in
+    let parts = and_parts (comes_behind xs c key) (callers_behind xs key cs) h in
     join_and _ _ (behind-append xs (Step who op k out shared reply ∷ []) c key parts.0 (join_and _ _ (comes_away who k op out shared reply c key away.0) refl))
     (callers_pushed xs who k op out shared reply key cs away.1 parts.1)
 
@@ -149,8 +149,8 @@ order-shared : (xs : List Event) (place : ℕ) (key : Bytes) (answer : LoadAnswe
     → in_order (xs ++ map (shared_event place key answer) callers) ≡ true
 order-shared xs place key answer [] g h apart = ap in_order (append-nil xs) ∙ g
 order-shared xs place key answer (c ∷ cs) g h apart =
-    let parts = both (comes_behind xs c key) (callers_behind xs key cs) h in
-    let aside = both (list_all (λ d. not (d.session == c.session)) cs) (apart_callers cs) apart in
+    let parts = and_parts (comes_behind xs c key) (callers_behind xs key cs) h in
+    let aside = and_parts (list_all (λ d. not (d.session == c.session)) cs) (apart_callers cs) apart in
     ap in_order (sym (append_assoc xs (shared_event place key answer c ∷ []) (map (shared_event place key answer) cs)))
     ∙ order-shared (xs ++ shared_event place key answer c ∷ []) place key answer cs (order-pushed xs c Get key (load_only answer) (Some place) (reply_after Get None (load_only answer)) g parts.0) (callers_pushed xs c key Get (load_only answer) (Some place) (reply_after Get None (load_only answer)) key cs aside.0 parts.1) aside.1
 
@@ -164,7 +164,7 @@ pub record MayPut (events : List Event) (caller : Caller) (key : Bytes) (callers
 callers_victim : (xs : List Event) (victim : Option Bytes) (key : Bytes) (callers : List Caller) → callers_behind xs key callers ≡ true → callers_behind (xs ++ victim_events victim) key callers ≡ true
 callers_victim xs victim key [] h = refl
 callers_victim xs victim key (c ∷ cs) h =
-    let parts = both (comes_behind xs c key) (callers_behind xs key cs) h in
+    let parts = and_parts (comes_behind xs c key) (callers_behind xs key cs) h in
     join_and _ _ (behind-append xs (victim_events victim) c key parts.0 (behind-victim victim c key)) (callers_victim xs victim key cs parts.1)
 
 -- a group more
@@ -210,7 +210,7 @@ own-group m place g key victim =
 own_found : (m : State) (v : Bytes) (entries : List (Bytes × Bytes)) → is_some (finite.find key_cmp v entries) ≡ true → list_all (λ entry. is_of m entry.0) entries ≡ true → is_of m v ≡ true
 own_found m v [] h all = cc
 own_found m v (e ∷ es) h all =
-    let parts = both (is_of m e.0) (list_all (λ entry. is_of m entry.0) es) all in
+    let parts = and_parts (is_of m e.0) (list_all (λ entry. is_of m entry.0) es) all in
     elim (eq_by_cmp key_cmp v e.0) as (λ b. eq_by_cmp key_cmp v e.0 ≡ b → is_some (cond b (Some e.1) (finite.find key_cmp v es)) ≡ true → is_of m v ≡ true) [
       | true ↦ λ t h. ap (is_of m) (same_key v e.0 t) ∙ parts.0
       | false ↦ λ t h. own_found m v es h parts.1
@@ -223,10 +223,10 @@ own_least m v all h = own_found m v (by_use m.opening m.history) (lru_victim-fou
 own_others : (m : State) (key : Bytes) (entries : List (Bytes × Bytes)) → list_all (λ entry. is_of m entry.0) entries ≡ true → list_all (λ entry. is_of m entry.0) (others key entries) ≡ true
 own_others m key [] h = refl
 own_others m key (e ∷ es) h =
-    let parts = both (is_of m e.0) (list_all (λ entry. is_of m entry.0) es) h in
+    let parts = and_parts (is_of m e.0) (list_all (λ entry. is_of m entry.0) es) h in
     elim (not (pointwise ◌==◌ key e.0)) as (λ b. list_all (λ entry. is_of m entry.0) (cond b (e ∷ others key es) (others key es)) ≡ true) [ true ↦ join_and _ _ parts.0 (own_others m key es parts.1) | false ↦ own_others m key es parts.1 ]
 
-own_listed : (m : State) (key : Bytes) (entry : Option Bytes) (entries : List (Bytes × Bytes)) → is_of m key ≡ true → list_all (λ e. is_of m e.0) entries ≡ true → list_all (λ e. is_of m e.0) (listed key entry entries) ≡ true
+own_listed : (m : State) (key : Bytes) (entry : Option Bytes) (entries : List (Bytes × Bytes)) → is_of m key ≡ true → list_all (λ e. is_of m e.0) entries ≡ true → list_all (λ e. is_of m e.0) (with_entry_first key entry entries) ≡ true
 own_listed m key None entries k h = own_others m key entries h
 own_listed m key (Some value) entries k h = join_and _ _ k (own_others m key entries h)
 
@@ -235,7 +235,7 @@ own_without m None entries h = h
 own_without m (Some v) entries h = own_others m v entries h
 
 own_used : (m : State) (key : Bytes) (op : Op) (out : Out) (entries : List (Bytes × Bytes)) → is_of m key ≡ true → list_all (λ e. is_of m e.0) entries ≡ true → list_all (λ e. is_of m e.0) (used_at entries key op out) ≡ true
-own_used m key op out entries k h = elim (is_use op out) as (λ b. list_all (λ e. is_of m e.0) (cond b (listed key (entry_after op (finite.find key_cmp key entries) out) entries) entries) ≡ true) [
+own_used m key op out entries k h = elim (is_use op out) as (λ b. list_all (λ e. is_of m e.0) (cond b (with_entry_first key (entry_after op (finite.find key_cmp key entries) out) entries) entries) ≡ true) [
   | true ↦ own_listed m key (entry_after op (finite.find key_cmp key entries) out) entries k h
   | false ↦ h
 ]

@@ -1,7 +1,7 @@
 -- What each kind of phase leaves of its own session's own steps.
 --     own_left     the law
-use Rattle.std.proofs.Common.{◌≡◌, ◌≤◌, ◌==◌, ◌&&◌, ◌||◌, ◌+◌, ℕ, List, [], ◌∷◌, ◌++◌, map, length, filter, Bool, true, false, cond, not, Option, None, Some, refl, sym, ap, ◌∙◌, arith, append_assoc, slice_get, find, option_map}
-use Rattle.std.proofs.lemmas.Bool.{eqb-true}
+use Rattle.std.proofs.Common.{◌≡◌, ◌==◌, ◌&&◌, ◌||◌, ◌+◌, ℕ, List, [], ◌∷◌, ◌++◌, map, length, filter, Bool, true, false, cond, not, None, Some, refl, sym, ap, ◌∙◌, arith, append_assoc, slice_get, find, option_map}
+use Rattle.std.proofs.lemmas.Bool.{eqb-true, and_parts}
 use Rattle.std.proofs.lemmas.Cmp.{nat_list_eq_equiv}
 use Rattle.std.proofs.lemmas.List.{length-append}
 use Rattle.std.proofs.lemmas.Option.{slice_get-get_or}
@@ -13,13 +13,10 @@ use Rattle.jc_model.specs.declared.event.Event.{Event}
 use Rattle.jc_model.specs.declared.event.Event.TheVariants.{Step, Evict}
 use Rattle.jc_model.specs.declared.event.Op.{Op}
 use Rattle.jc_model.specs.declared.event.Out.{Out}
-use Rattle.jc_model.specs.declared.event.Reply.{Reply}
 use Rattle.jc_model.specs.Cache.{Bytes}
 use Rattle.jc_model.specs.Group.{Group, victim_events, step_event, step_place, shared_event, evicted_events, events_of, nothing_said}
-use Rattle.jc_model.proofs.Lookups.{both}
 use Rattle.jc_inflight.specs.declared.joiner.Joiner.{Joiner}
-use Rattle.jc_inflight.specs.declared.joiner.JoinState.{JoinState}
-use Rattle.jc_inflight.specs.declared.joiner.JoinState.TheVariants.{Waiting, Answered, Again}
+use Rattle.jc_inflight.specs.declared.joiner.JoinState.TheVariants.{Again}
 use Rattle.jc_inflight.specs.Joining.{belongs_to, waits_for, callers_of}
 use Rattle.jc_inflight.specs.Joining as joining
 use Rattle.jc_inflight.specs.Resolving.{with_answer, answered_from, after_resolve}
@@ -27,9 +24,8 @@ use Rattle.jc_inflight.specs.Dissolving.{after_dissolve}
 use Rattle.jc_inflight.specs.Taking as taking
 use Rattle.jc_stripe.specs.declared.ticket.Reservation.{Reservation}
 use Rattle.jc_stripe.specs.declared.begun.StepDone.{StepDone}
-use Rattle.jc_stripe.specs.Tickets.{JoinClaim}
-use Rattle.jc_stripe.specs.State.{State, is_key, IsOut}
-use Rattle.jc_stripe.specs.Phases.{new_group, after_commit, is_other_join, MayBegin, Steps, Commits}
+use Rattle.jc_stripe.specs.State.{State, is_key}
+use Rattle.jc_stripe.specs.Phases.{new_group, after_commit, is_other_join, Steps, Commits}
 use Rattle.jc_stripe.specs.Reached.{IsReached, are_apart}
 use Rattle.jc_stripe.specs.OnePhase.{is_answered, is_parked, is_own_step, own_steps}
 use Rattle.jc_stripe.specs.OwnSteps.{AddsOwn, OwnSteps}
@@ -49,7 +45,7 @@ apart_one false b p h = refl
 pub unparked : (c : Caller) (k : Bytes) (js : List Joiner) → list_all (is_other_join c k) js ≡ true → is_parked js c k ≡ false
 unparked c k [] h = refl
 unparked c k (j ∷ js) h =
-    let parts = both (is_other_join c k j) (list_all (is_other_join c k) js) h in
+    let parts = and_parts (is_other_join c k j) (list_all (is_other_join c k) js) h in
     let here : belongs_to c k j ≡ false = ap (λ b. ((j.caller.session == c.session) && (j.caller.call == c.call)) && b) (nat_list_eq_equiv.symm k j.key) ∙ apart_one (j.caller.session == c.session) (j.caller.call == c.call) (pointwise ◌==◌ j.key k) parts.0 in
     ap (λ b. (b && is_answered j.state) || is_parked js c k) here ∙ unparked c k js parts.1
 
@@ -121,7 +117,7 @@ commits_own old new r out done reached commits =
 again_parks : (c : Caller) (k : Bytes) (js : List Joiner) → are_apart js ≡ true → option_map (λ x. x.state) (find (belongs_to c k) js) ≡ Some Again → is_parked js c k ≡ false
 again_parks c k [] apart h = refl
 again_parks c k (j ∷ js) apart h =
-    let parts = both (list_all (is_other_join j.caller j.key) js) (are_apart js) apart in
+    let parts = and_parts (list_all (is_other_join j.caller j.key) js) (are_apart js) apart in
     elim (belongs_to c k j) as (λ b. belongs_to c k j ≡ b → option_map (λ x. x.state) (cond b (Some j) (find (belongs_to c k) js)) ≡ Some Again → ((b && is_answered j.state) || is_parked js c k) ≡ false) [
       | true ↦ λ e h.
           let one = joiners_call c k j e in
@@ -139,8 +135,8 @@ own_again c k js (Step c' op k' out shared reply ∷ events) free =
     let same : is_parked (taking.without_joiner c k js) c' k' ≡ is_parked js c' k' =
     elim ((c'.session == c.session) && (c'.call == c.call) && pointwise ◌==◌ k' k) as (λ b. ((c'.session == c.session) && (c'.call == c.call) && pointwise ◌==◌ k' k) ≡ b → is_parked (taking.without_joiner c k js) c' k' ≡ is_parked js c' k') [
       | true ↦ λ e.
-          let outer = both ((c'.session == c.session) && (c'.call == c.call)) (pointwise ◌==◌ k' k) e in
-          let inner = both (c'.session == c.session) (c'.call == c.call) outer.0 in
+          let outer = and_parts ((c'.session == c.session) && (c'.call == c.call)) (pointwise ◌==◌ k' k) e in
+          let inner = and_parts (c'.session == c.session) (c'.call == c.call) outer.0 in
           let who : c' ≡ c = λ i. record { session = eqb-true c'.session c.session inner.0 i; call = eqb-true c'.call c.call inner.1 i } in
           let key : k' ≡ k = same_text k' k (sym outer.1) in
           (λ i. is_parked (taking.without_joiner c k js) (who i) (key i)) ∙ none_parked c k js ∙ sym free ∙ (λ i. is_parked js (sym who i) (sym key i))

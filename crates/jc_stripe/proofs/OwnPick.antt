@@ -3,8 +3,8 @@
 --     picks_own                     the parked step becomes an own one, at its place
 --     steps_behind                  a step whose call may still come behind a history isn't in it
 --     all_behind                    where the session's own steps and its joiners let a call begin, its whole history does
-use Rattle.std.proofs.Common.{◌≡◌, ◌≤◌, ◌==◌, ◌&&◌, ◌||◌, ◌+◌, length, ℕ, zero, suc, List, [], ◌∷◌, ◌++◌, filter, find, option_map, Bool, true, false, cond, not, Option, None, Some, nat_lt, refl, sym, ap, ◌∙◌, arith, slice_get}
-use Rattle.std.proofs.lemmas.Bool.{eqb-true, true≢false}
+use Rattle.std.proofs.Common.{◌≡◌, ◌≤◌, ◌==◌, ◌&&◌, ◌||◌, length, ℕ, zero, suc, List, [], ◌∷◌, ◌++◌, filter, find, option_map, Bool, true, false, cond, not, Option, Some, nat_lt, refl, sym, ap, ◌∙◌, arith, slice_get}
+use Rattle.std.proofs.lemmas.Bool.{eqb-true, true≢false, and_parts}
 use Rattle.std.proofs.lemmas.Cmp.{nat_list_eq_equiv}
 use Rattle.std.proofs.lemmas.List.Folds.{list_all-append}
 use Rattle.std.specs.List.{list_all}
@@ -18,16 +18,14 @@ use Rattle.jc_model.specs.declared.event.Out.{Out}
 use Rattle.jc_model.specs.declared.event.Reply.{Reply}
 use Rattle.jc_model.specs.Cache.{Bytes}
 use Rattle.jc_model.specs.Legal.{in_order, may_come, may_follow}
-use Rattle.jc_model.proofs.Lookups.{both}
 use Rattle.jc_inflight.specs.declared.joiner.Joiner.{Joiner}
-use Rattle.jc_inflight.specs.declared.joiner.JoinState.{JoinState}
-use Rattle.jc_inflight.specs.declared.joiner.JoinState.TheVariants.{Waiting, Answered, Again}
+use Rattle.jc_inflight.specs.declared.joiner.JoinState.TheVariants.{Answered}
 use Rattle.jc_inflight.specs.Joining.{belongs_to}
 use Rattle.jc_inflight.specs.Taking as taking
 use Rattle.jc_stripe.specs.declared.begun.Picked.TheVariants as picked
 use Rattle.jc_stripe.specs.Tickets.{JoinClaim}
 use Rattle.jc_stripe.specs.State.{State}
-use Rattle.jc_stripe.specs.Phases.{is_other_join, told_to, PicksUp}
+use Rattle.jc_stripe.specs.Phases.{is_other_join, PicksUp}
 use Rattle.jc_stripe.specs.Reached.{IsReached}
 use Rattle.jc_stripe.specs.OnePhase.{is_answered, is_parked, is_own_step, own_steps, GainsOwn}
 use Rattle.jc_stripe.specs.OwnSteps.{may_come_all}
@@ -66,13 +64,13 @@ others_differ : (c : Caller) (op : Op) (k : Bytes) (out : Out) (shared : Option 
     → (list_all (differs c k) pre ≡ true) × (list_all (differs c k) post ≡ true)
 others_differ c op k out shared reply [] post h =
     let e : Event = Step c op k out shared reply in
-    (refl, all_then (may_follow e) (differs c k) post (λ y f. after_differs c op k out shared reply y f) (both (list_all (may_follow e) post) (in_order post) h).0)
+    (refl, all_then (may_follow e) (differs c k) post (λ y f. after_differs c op k out shared reply y f) (and_parts (list_all (may_follow e) post) (in_order post) h).0)
 others_differ c op k out shared reply (x ∷ pre) post h =
     let e : Event = Step c op k out shared reply in
-    let parts = both (list_all (may_follow x) (pre ++ e ∷ post)) (in_order (pre ++ e ∷ post)) h in
+    let parts = and_parts (list_all (may_follow x) (pre ++ e ∷ post)) (in_order (pre ++ e ∷ post)) h in
     let rest = others_differ c op k out shared reply pre post parts.1 in
-    let here = both (list_all (may_follow x) pre) (list_all (may_follow x) (e ∷ post)) (sym (list_all-append (may_follow x) pre (e ∷ post)) ∙ parts.0) in
-    let first = (both (may_follow x e) (list_all (may_follow x) post) here.1).0 in
+    let here = and_parts (list_all (may_follow x) pre) (list_all (may_follow x) (e ∷ post)) (sym (list_all-append (may_follow x) pre (e ∷ post)) ∙ parts.0) in
+    let first = (and_parts (may_follow x e) (list_all (may_follow x) post) here.1).0 in
     (join_and (differs c k x) (list_all (differs c k) pre) (before_differs c op k out shared reply x first) rest.0, rest.1)
 
 -- 2. What is parked without the joiner.
@@ -117,7 +115,7 @@ parked_told c k (j ∷ js) place shared h =
 own_kept : (c : Caller) (k : Bytes) (js : List Joiner) (events : List Event) → list_all (differs c k) events ≡ true → filter (is_own_step c.session (taking.without_joiner c k js)) events ≡ filter (is_own_step c.session js) events
 own_kept c k js [] h = refl
 own_kept c k js (Step c' op k' out shared reply ∷ events) h =
-    let parts = both (not (is_call c k c' k')) (list_all (differs c k) events) h in
+    let parts = and_parts (not (is_call c k c' k')) (list_all (differs c k) events) h in
     let same = parked_other c k js c' k' parts.0 in
     let rest = own_kept c k js events parts.1 in
     λ i. cond ((c'.session == c.session) && not (same i)) (Step c' op k' out shared reply ∷ rest i) (rest i)
@@ -168,10 +166,10 @@ steps_behind [] more c op k out shared reply place h there = omega arith
 steps_behind (x ∷ xs) more c op k out shared reply zero h there =
     let e : Event = Step c op k out shared reply in
     let is : x ≡ e = cc in
-    let here : may_come x c k ≡ true = (both (may_come x c k) (may_come_all xs c k) h).0 in
+    let here : may_come x c k ≡ true = (and_parts (may_come x c k) (may_come_all xs c k) h).0 in
     absurd (true≢false (sym here ∙ ap (λ y. may_come y c k) is ∙ never c op k out shared reply))
 steps_behind (x ∷ xs) more c op k out shared reply (suc place) h there =
-    let rest = steps_behind xs more c op k out shared reply place (both (may_come x c k) (may_come_all xs c k) h).1 there in omega arith
+    let rest = steps_behind xs more c op k out shared reply place (and_parts (may_come x c k) (may_come_all xs c k) h).1 there in omega arith
 
 -- 5. Where the session's own steps and its joiners let a call begin, its whole history does.
 
@@ -182,7 +180,7 @@ second false b g h = cc
 parked_apart : (c : Caller) (k : Bytes) (c' : Caller) (k' : Bytes) (js : List Joiner) → c'.session ≡ c.session → list_all (is_other_join c k) js ≡ true → is_parked js c' k' ≡ true → ((c'.call == c.call) && not (pointwise ◌==◌ k' k)) ≡ true
 parked_apart c k c' k' [] same all h = cc
 parked_apart c k c' k' (j ∷ js) same all h =
-    let parts = both (is_other_join c k j) (list_all (is_other_join c k) js) all in
+    let parts = and_parts (is_other_join c k j) (list_all (is_other_join c k) js) all in
     elim (belongs_to c' k' j) as (λ b. belongs_to c' k' j ≡ b → ((b && is_answered j.state) || is_parked js c' k') ≡ true → ((c'.call == c.call) && not (pointwise ◌==◌ k' k)) ≡ true) [
       | true ↦ λ e h.
           let one = joiners_call c' k' j e in
@@ -204,7 +202,7 @@ all_behind c k js (Step c' op k' out shared reply ∷ events) all h =
       | true ↦ λ here. elim (is_parked js c' k') as (λ p. is_parked js c' k' ≡ p → list_all m (cond (true && not p) (e ∷ rest) rest) ≡ true → ((not true || nat_lt c'.call c.call || late) && list_all m events) ≡ true) [
         | true ↦ λ there h. join_and _ _ (or_right (not true || nat_lt c'.call c.call) late (parked_apart c k c' k' js (eqb-true c'.session c.session here) all there)) (all_behind c k js events all h)
         | false ↦ λ there h.
-            let parts = both (m e) (list_all m rest) h in
+            let parts = and_parts (m e) (list_all m rest) h in
             join_and _ _ ((λ i. not (sym here i) || nat_lt c'.call c.call || late) ∙ parts.0) (all_behind c k js events all parts.1)
       ] refl
       | false ↦ λ here h. all_behind c k js events all h

@@ -5,9 +5,9 @@
 --     own-answered                    the own steps behind the answers of a load
 --     own-victim, own-evicted, own-shared, own-group, own-grown     the own steps of a group
 --     parked-callers                  those that share a load are parked behind it
-use Rattle.std.proofs.Common.{◌≡◌, ◌≤◌, ◌==◌, ◌&&◌, ◌||◌, ◌+◌, ⊎_elim, ℕ, List, [], ◌∷◌, ◌++◌, map, length, filter, Bool, true, false, cond, not, Option, None, Some, IsSomeAnd, refl, sym, ap, ◌∙◌, subst, arith, append-nil, nat_lt}
+use Rattle.std.proofs.Common.{◌≡◌, ◌==◌, ◌&&◌, ◌||◌, ◌+◌, ℕ, List, [], ◌∷◌, ◌++◌, map, filter, Bool, true, false, cond, not, Option, None, Some, refl, sym, ap, ◌∙◌, arith, append-nil, nat_lt}
 use Rattle.std.proofs.lemmas.Bool.Decides.{nat_tests}
-use Rattle.std.proofs.lemmas.Bool.{eqb-true}
+use Rattle.std.proofs.lemmas.Bool.{eqb-true, and_parts}
 use Rattle.std.proofs.lemmas.Cmp.{nat_list_eq_equiv}
 use Rattle.std.specs.List.{list_all}
 use Rattle.std.specs.Cmp.Lexicographic.{pointwise, same_text}
@@ -19,32 +19,23 @@ use Rattle.jc_model.specs.declared.event.Reply.{Reply}
 use Rattle.jc_model.specs.declared.event.Cause.{Cause}
 use Rattle.jc_model.specs.declared.event.LoadAnswer.{LoadAnswer}
 use Rattle.jc_model.specs.Cache.{Bytes}
-use Rattle.jc_model.specs.Group.{Group, victim_events, step_event, step_place, shared_event, evicted_events, events_of, nothing_said}
+use Rattle.jc_model.specs.Group.{Group, victim_events, step_event, step_place, shared_event, evicted_events, events_of}
 use Rattle.jc_model.specs.Legal.{may_come}
-use Rattle.jc_model.proofs.Lookups.{both}
 use Rattle.jc_inflight.specs.declared.joiner.Joiner.{Joiner}
 use Rattle.jc_inflight.specs.declared.joiner.JoinState.{JoinState}
 use Rattle.jc_inflight.specs.declared.joiner.JoinState.TheVariants.{Waiting, Answered, Again}
 use Rattle.jc_inflight.specs.Joining.{belongs_to, is_waiting, waits_for, callers_of}
 use Rattle.jc_inflight.specs.Joining as joining
-use Rattle.jc_inflight.specs.Resolving.{with_answer, answered_from, after_resolve}
+use Rattle.jc_inflight.specs.Resolving.{with_answer, answered_from}
 use Rattle.jc_inflight.specs.Dissolving.{after_dissolve}
 use Rattle.jc_inflight.specs.Taking as taking
-use Rattle.jc_stripe.specs.declared.begun.Begun.{Begun}
-use Rattle.jc_stripe.specs.declared.begun.StepDone.{StepDone}
-use Rattle.jc_stripe.specs.declared.begun.Begun.TheVariants as first
-use Rattle.jc_stripe.specs.declared.begun.Picked.{Picked}
-use Rattle.jc_stripe.specs.declared.begun.Picked.TheVariants as last
-use Rattle.jc_stripe.specs.Tickets.{JoinClaim}
-use Rattle.jc_stripe.specs.State.{State, waits}
-use Rattle.jc_stripe.specs.Phases.{new_group, after_commit, Begins, PicksUp, Steps, without_joiner}
-use Rattle.jc_stripe.specs.Reached.{IsReached, may_share}
-use Rattle.jc_stripe.specs.OnePhase.{FirstPhase, LastPhase, Withdrawal, PickUp, OnePhase, is_answered, is_parked, is_own_step, own_steps, IsUniform}
+use Rattle.jc_stripe.specs.State.{waits}
+use Rattle.jc_stripe.specs.Reached.{may_share}
+use Rattle.jc_stripe.specs.OnePhase.{is_answered, is_parked, is_own_step}
 use Rattle.jc_stripe.proofs.Beside.{join_and, or_right, all_then}
 use Rattle.jc_stripe.proofs.Ordered.{turned_eq}
-use Rattle.jc_stripe.proofs.Settled.{keyed, keyed_callers}
+use Rattle.jc_stripe.proofs.Settled.{keyed}
 use Rattle.jc_types.specs.declared.caller.Caller.{Caller}
-use Rattle.jc_stripe.specs.declared.ticket.Reservation.{Reservation}
 
 -- 1. The own steps behind other joiners.
 
@@ -56,8 +47,8 @@ pub record IsCall (c : Caller) (k : Bytes) (j : Joiner) : Type 0 where
 
 pub joiners_call : (c : Caller) (k : Bytes) (j : Joiner) → belongs_to c k j ≡ true → IsCall c k j
 joiners_call c k j is =
-    let outer = both ((j.caller.session == c.session) && (j.caller.call == c.call)) (pointwise ◌==◌ k j.key) is in
-    let inner = both (j.caller.session == c.session) (j.caller.call == c.call) outer.0 in
+    let outer = and_parts ((j.caller.session == c.session) && (j.caller.call == c.call)) (pointwise ◌==◌ k j.key) is in
+    let inner = and_parts (j.caller.session == c.session) (j.caller.call == c.call) outer.0 in
     record { session = inner.0; call = inner.1; key = same_text k j.key (sym outer.1) }
 
 pub number_itself : (n : ℕ) → (n == n) ≡ true
@@ -99,7 +90,7 @@ parked-dissolved load (j ∷ js) c k =
     let rest = parked-dissolved load js c k in
     elim (waits_for load j) as (λ b. waits_for load j ≡ b → is_parked (cond b (record j { state = Again }) j ∷ after_dissolve load js) c k ≡ is_parked (j ∷ js) c k) [
       | true ↦ λ w.
-          let nothing : is_answered j.state ≡ false = waiting_parks j.state (both (j.load == load) (is_waiting j.state) w).1 in
+          let nothing : is_answered j.state ≡ false = waiting_parks j.state (and_parts (j.load == load) (is_waiting j.state) w).1 in
           λ i. (belongs_to c k j && sym nothing i) || rest i
       | false ↦ λ w. ap (λ b. (belongs_to c k j && is_answered j.state) || b) rest
     ] refl
@@ -107,8 +98,8 @@ parked-dissolved load (j ∷ js) c k =
 -- a call's joiner parks nothing of another session
 pub other_parks : (caller : Caller) (key : Bytes) (j : Joiner) (c : Caller) (k : Bytes) → (c.session == caller.session) ≡ false → belongs_to caller key j ≡ true → belongs_to c k j ≡ false
 other_parks caller key j c k differs is =
-    let outer = both ((j.caller.session == caller.session) && (j.caller.call == caller.call)) (pointwise ◌==◌ key j.key) is in
-    let here : j.caller.session ≡ caller.session = eqb-true j.caller.session caller.session (both (j.caller.session == caller.session) (j.caller.call == caller.call) outer.0).0 in
+    let outer = and_parts ((j.caller.session == caller.session) && (j.caller.call == caller.call)) (pointwise ◌==◌ key j.key) is in
+    let here : j.caller.session ≡ caller.session = eqb-true j.caller.session caller.session (and_parts (j.caller.session == caller.session) (j.caller.call == caller.call) outer.0).0 in
     ap (λ b. b && (j.caller.call == c.call) && pointwise ◌==◌ k j.key) (turned_eq j.caller.session c.session ∙ ap (λ t. c.session == t) here ∙ differs)
 
 pub parked-without : (caller : Caller) (key : Bytes) (js : List Joiner) (c : Caller) (k : Bytes) → (c.session == caller.session) ≡ false → is_parked (taking.without_joiner caller key js) c k ≡ is_parked js c k
@@ -130,8 +121,8 @@ pub not_yet : (c : Caller) (k : Bytes) (j : Joiner) → (not (c.session == j.cal
 not_yet c k j h =
     elim (belongs_to c k j) as (λ b. belongs_to c k j ≡ b → b ≡ false) [
       | true ↦ λ is.
-          let outer = both ((j.caller.session == c.session) && (j.caller.call == c.call)) (pointwise ◌==◌ k j.key) is in
-          let inner = both (j.caller.session == c.session) (j.caller.call == c.call) outer.0 in
+          let outer = and_parts ((j.caller.session == c.session) && (j.caller.call == c.call)) (pointwise ◌==◌ k j.key) is in
+          let inner = and_parts (j.caller.session == c.session) (j.caller.call == c.call) outer.0 in
           let session : (c.session == j.caller.session) ≡ true = turned_eq c.session j.caller.session ∙ inner.0 in
           let number : nat_lt c.call j.caller.call ≡ false = number_below j.caller.call c.call (eqb-true j.caller.call c.call inner.1) in
           let bad : (not true || false || ((c.call == j.caller.call) && not true)) ≡ true = (λ i. not (sym session i) || sym number i || ((c.call == j.caller.call) && not (sym outer.1 i))) ∙ h in
@@ -148,10 +139,10 @@ pub parked-answered : (load step place : ℕ) (js : List Joiner) (c : Caller) (o
     → list_all (λ j. not (waits j) || may_come (Step c op k out shared reply) j.caller j.key) js ≡ true → is_parked (answered_from load step place js) c k ≡ is_parked js c k
 parked-answered load step place [] c op k out shared reply h = refl
 parked-answered load step place (j ∷ js) c op k out shared reply h =
-    let parts = both (not (waits j) || may_come (Step c op k out shared reply) j.caller j.key) (list_all (λ j. not (waits j) || may_come (Step c op k out shared reply) j.caller j.key) js) h in
+    let parts = and_parts (not (waits j) || may_come (Step c op k out shared reply) j.caller j.key) (list_all (λ j. not (waits j) || may_come (Step c op k out shared reply) j.caller j.key) js) h in
     elim (waits_for load j) as (λ b. waits_for load j ≡ b → is_parked (cond b (with_answer place step j ∷ answered_from load step (place + 1) js) (j ∷ answered_from load step place js)) c k ≡ is_parked (j ∷ js) c k) [
       | true ↦ λ w.
-          let none : belongs_to c k j ≡ false = not_yet c k j (if_waits (waits j) _ (both (j.load == load) (is_waiting j.state) w).1 parts.0) in
+          let none : belongs_to c k j ≡ false = not_yet c k j (if_waits (waits j) _ (and_parts (j.load == load) (is_waiting j.state) w).1 parts.0) in
           ap (λ b. (b && true) || is_parked (answered_from load step (place + 1) js) c k) none
           ∙ parked-answered load step (place + 1) js c op k out shared reply parts.1
           ∙ ap (λ b. (b && is_answered j.state) || is_parked js c k) (sym none)
@@ -159,11 +150,11 @@ parked-answered load step place (j ∷ js) c op k out shared reply h =
     ] refl
 
 pub first_of : (w a b : Bool) → (not w || (a && b)) ≡ true → (not w || a) ≡ true
-first_of true a b h = (both a b h).0
+first_of true a b h = (and_parts a b h).0
 first_of false a b h = refl
 
 pub others_of : (w a b : Bool) → (not w || (a && b)) ≡ true → (not w || b) ≡ true
-others_of true a b h = (both a b h).1
+others_of true a b h = (and_parts a b h).1
 others_of false a b h = refl
 
 pub own-answered : (other load step place : ℕ) (js : List Joiner) (events : List Event) → list_all (may_share events) js ≡ true
@@ -200,7 +191,7 @@ all_parked js key callers = list_all (λ c. is_parked js c key) callers
 pub own-shared : (other : ℕ) (js : List Joiner) (place : ℕ) (key : Bytes) (answer : LoadAnswer) (callers : List Caller) → all_parked js key callers ≡ true → filter (is_own_step other js) (map (shared_event place key answer) callers) ≡ []
 own-shared other js place key answer [] h = refl
 own-shared other js place key answer (c ∷ cs) h =
-    let parts = both (is_parked js c key) (all_parked js key cs) h in
+    let parts = and_parts (is_parked js c key) (all_parked js key cs) h in
     let rest = own-shared other js place key answer cs parts.1 in
     let test : ((c.session == other) && not (is_parked js c key)) ≡ false = ap (λ b. (c.session == other) && not b) parts.0 ∙ and_false (c.session == other) in
     λ i. cond (test i) (shared_event place key answer c ∷ rest i) (rest i)
@@ -229,7 +220,7 @@ own-grown other js history place g differs parked =
 pub parked-callers : (load step place : ℕ) (key : Bytes) (js : List Joiner) → keyed load key js ≡ true → all_parked (answered_from load step place js) key (callers_of load js) ≡ true
 parked-callers load step place key [] h = refl
 parked-callers load step place key (j ∷ js) h =
-    let parts = both (not (waits_for load j) || pointwise ◌==◌ j.key key) (keyed load key js) h in
+    let parts = and_parts (not (waits_for load j) || pointwise ◌==◌ j.key key) (keyed load key js) h in
     elim (waits_for load j) as (λ b. (not b || pointwise ◌==◌ j.key key) ≡ true
     → all_parked (cond b (with_answer place step j ∷ answered_from load step (place + 1) js) (j ∷ answered_from load step place js)) key (map (λ x. x.caller) (cond b (j ∷ filter (waits_for load) js) (filter (waits_for load) js))) ≡ true) [
       | true ↦ λ e.

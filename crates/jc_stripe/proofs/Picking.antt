@@ -1,6 +1,7 @@
 -- What a joiner is told, and what that leaves.
 use Rattle.std.proofs.Common.{◌≡◌, ◌||◌, ◌+◌, ◌*◌, zero-add, ℕ, List, [], ◌∷◌, length, count_by, Bool, true, false, cond, not, Option, None, Some, find, option_map, slice_get, refl, sym, ap, ◌∙◌, subst, IsSomeAnd}
 use Rattle.std.specs.List.{list_any, list_all}
+use Rattle.std.proofs.lemmas.Bool.{and_parts}
 use Rattle.jc_types.specs.declared.caller.Caller.{Caller}
 use Rattle.jc_types.specs.declared.limits.TheConstants.{STEP_PLACES, HIT_PLACES}
 use Rattle.jc_model.specs.declared.event.Op.TheVariants.{Get}
@@ -9,7 +10,6 @@ use Rattle.jc_model.specs.declared.event.Reply.{Reply}
 use Rattle.jc_model.specs.declared.event.Event.{Event}
 use Rattle.jc_model.specs.declared.event.Event.TheVariants.{Step}
 use Rattle.jc_model.specs.Cache.{Bytes}
-use Rattle.jc_model.proofs.Lookups.{both}
 use Rattle.jc_history.specs.Past.{reply_in}
 use Rattle.jc_inflight.specs.declared.joiner.Joiner.{Joiner}
 use Rattle.jc_inflight.specs.declared.joiner.JoinState.{JoinState}
@@ -87,7 +87,7 @@ not_one caller key (j ∷ js) h =
 pub count-without : (caller : Caller) (key : Bytes) (js : List Joiner) (j : Joiner) → are_apart js ≡ true → find (belongs_to caller key) js ≡ Some j → waits j ≡ false → count_by waits (taking.without_joiner caller key js) ≡ count_by waits js
 count-without caller key [] j apart h w = cc
 count-without caller key (x ∷ xs) j apart h w =
-    let parts = both (list_all (is_other_join x.caller x.key) xs) (are_apart xs) apart in
+    let parts = and_parts (list_all (is_other_join x.caller x.key) xs) (are_apart xs) apart in
     elim (belongs_to caller key x) as (λ b. belongs_to caller key x ≡ b → cond b (Some x) (find (belongs_to caller key) xs) ≡ Some j → count_by waits (cond (not b) (x ∷ taking.without_joiner caller key xs) (taking.without_joiner caller key xs)) ≡ count_by waits (x ∷ xs)) [
       | true ↦ λ e h.
           let is : x ≡ j = cc in

@@ -2,6 +2,7 @@
 use Rattle.std.proofs.Common.{◌≡◌, ◌≤◌, ◌<◌, ◌+◌, ◌||◌, ◌&&◌, ℕ, List, length, Bool, true, false, cond, not, Option, Some, None, is_some, is_none, nat_le, nat_lt, find, refl, sym, ap, ◌∙◌, arith, if◌then◌else◌}
 use Rattle.std.specs.List.{list_any}
 use Rattle.std.proofs.lemmas.Bool.Decides.{nat_tests}
+use Rattle.std.proofs.lemmas.Bool.{and_parts}
 use Rattle.jc_types.specs.declared.caller.Caller.{Caller}
 use Rattle.jc_types.specs.declared.config.Config.{Config}
 use Rattle.jc_types.specs.declared.limits.TheConstants.{STEP_PLACES, HIT_PLACES, RESERVATIONS_MAX, JOINERS_MAX}
@@ -11,7 +12,6 @@ use Rattle.jc_model.specs.declared.event.Op.TheVariants.{Get, ContainsKey}
 use Rattle.jc_model.specs.Cache.{Bytes, entry_at}
 use Rattle.jc_model.specs.Table.{entry_after, always_if}
 use Rattle.jc_model.specs.Group.{nothing_said}
-use Rattle.jc_model.proofs.Lookups.{both}
 use Rattle.jc_stripe.specs.declared.ticket.First.{First}
 use Rattle.jc_stripe.specs.declared.ticket.First.TheVariants.{Nobody, Loader, Writer, Processor}
 use Rattle.jc_stripe.specs.Tickets.{asks_writer}
@@ -57,8 +57,8 @@ not_refused state caller key op h =
 -- the places are free
 pub roomy : (state : State) (call needed : ℕ) → has_room state call needed ≡ true → length state.history + promised state + needed ≤ state.config.history
 roomy state call needed h =
-    let first = both (nat_le (length state.history + promised state + needed) state.config.history && nat_lt call last_number) (nat_lt state.next last_number) h in
-    let fits = both (nat_le (length state.history + promised state + needed) state.config.history) (nat_lt call last_number) first.0 in
+    let first = and_parts (nat_le (length state.history + promised state + needed) state.config.history && nat_lt call last_number) (nat_lt state.next last_number) h in
+    let fits = and_parts (nat_le (length state.history + promised state + needed) state.config.history) (nat_lt call last_number) first.0 in
     le_of _ _ fits.0
   where
     le_of : (m n : ℕ) → nat_le m n ≡ true → m ≤ n
@@ -66,7 +66,7 @@ roomy state call needed h =
 
 pub next_below : (state : State) (call needed : ℕ) → has_room state call needed ≡ true → state.next < last_number
 next_below state call needed h =
-    lt_of _ _ (both (nat_le (length state.history + promised state + needed) state.config.history && nat_lt call last_number) (nat_lt state.next last_number) h).1
+    lt_of _ _ (and_parts (nat_le (length state.history + promised state + needed) state.config.history && nat_lt call last_number) (nat_lt state.next last_number) h).1
   where
     lt_of : (m n : ℕ) → nat_lt m n ≡ true → m < n
     lt_of m n h = grind (arith, nat_tests)
@@ -167,7 +167,7 @@ alone_passes state key op nobody free =
 -- a call that needs a reservation needs its key free
 pub needing_stops : (state : State) (key : Bytes) (op : Op) → needs_reservation state key op ≡ true → needs_free_key state key op ≡ true
 needing_stops state key op needs =
-    let parts = both (reserves (first_asked state.config op (entry_at state.cache key))) (is_none (load_joined state key op)) needs in
+    let parts = and_parts (reserves (first_asked state.config op (entry_at state.cache key))) (is_none (load_joined state key op)) needs in
     both_not (answers_at_once state.config op (entry_at state.cache key)) (load_joined state key op)
     (λ e. let asks = passing_asks state.config op (entry_at state.cache key) e in let f : reserves Nobody ≡ true = ap reserves (sym asks) ∙ parts.0 in cc) parts.1
   where

@@ -6,7 +6,7 @@
 --     SharedAt                     each caller's step stands at its place
 --     joins_settled, joins_same    the joiners behind a commit, and behind a step that is done at once
 use Rattle.std.proofs.Common.{◌≡◌, ◌==◌, ◌≤◌, ◌+◌, ◌&&◌, ◌||◌, ℕ, List, [], ◌∷◌, ◌++◌, length, map, Bool, true, false, cond, not, Option, None, Some, find, filter, refl, sym, ap, ◌∙◌, subst, arith, slice_get}
-use Rattle.std.proofs.lemmas.Bool.{eqb-true}
+use Rattle.std.proofs.lemmas.Bool.{eqb-true, and_parts}
 use Rattle.std.proofs.lemmas.Cmp.{nat_list_eq_equiv}
 use Rattle.std.specs.List.{list_any, list_all, count_by}
 use Rattle.std.specs.Cmp.Lexicographic.{pointwise, same_text}
@@ -23,7 +23,6 @@ use Rattle.jc_model.specs.Lawful.{loads_whole}
 use Rattle.jc_model.specs.Table.{write_ask}
 use Rattle.jc_model.specs.declared.event.ProcessAnswer.TheVariants as process
 use Rattle.jc_model.specs.Legal.{may_come}
-use Rattle.jc_model.proofs.Lookups.{both}
 use Rattle.jc_inflight.specs.declared.joiner.Joiner.{Joiner}
 use Rattle.jc_inflight.specs.declared.joiner.JoinState.{JoinState}
 use Rattle.jc_inflight.specs.declared.joiner.JoinState.TheVariants.{Waiting, Answered, Again}
@@ -75,7 +74,7 @@ waiting_finds state j Again w fits = cc
 -- a joiner that waits for a claim's number waits at its key
 one_shares : (old : State) (r : Reservation) (j : Joiner) → IsReached old → IsOut old r → waits_for r.number j ≡ true → JoinFits old j j.state → (j.key ≡ r.key) × Shares old r
 one_shares old r j reached found w fits =
-    let parts = both (j.load == r.number) (is_waiting j.state) w in
+    let parts = and_parts (j.load == r.number) (is_waiting j.state) w in
     let finds = waiting_finds old j j.state parts.1 fits in
     let out = loaded_at (find (is_key j.key) old.reservations) j.load finds.load in
     let s : Reservation = out.0 in
@@ -130,8 +129,8 @@ pub callers_then : (load : ℕ) (key : Bytes) (p : Joiner → Bool) (q : Caller 
     → keyed load key js ≡ true → list_all p js ≡ true → list_all q (callers_of load js) ≡ true
 callers_then load key p q [] f k h = refl
 callers_then load key p q (j ∷ js) f k h =
-    let keys = both (not (waits_for load j) || pointwise ◌==◌ j.key key) (keyed load key js) k in
-    let parts = both (p j) (list_all p js) h in
+    let keys = and_parts (not (waits_for load j) || pointwise ◌==◌ j.key key) (keyed load key js) k in
+    let parts = and_parts (p j) (list_all p js) h in
     let rest : list_all q (callers_of load js) ≡ true = callers_then load key p q js f keys.1 parts.1 in
     elim (waits_for load j) as (λ b. waits_for load j ≡ b → (not b || pointwise ◌==◌ j.key key) ≡ true → list_all q (map (λ x. x.caller) (cond b (j ∷ filter (waits_for load) js) (filter (waits_for load) js))) ≡ true) [
       | true ↦ λ w e. join_and _ _ (f j w (same_text j.key key (sym e)) parts.0) rest
@@ -146,7 +145,7 @@ if_waits false c w h = cc
 pub callers_behind : (old : State) (r : Reservation) → IsReached old → IsOut old r → list_all (λ (c : Caller). list_all (λ e. may_come e c r.key) old.history) (callers_of r.number old.joiners) ≡ true
 callers_behind old r reached found =
     callers_then r.number r.key (may_share old.history) (λ c. list_all (λ e. may_come e c r.key) old.history) old.joiners
-    (λ j w k h. ap (λ q. list_all (λ e. may_come e j.caller q) old.history) (sym k) ∙ if_waits (waits j) _ (both (j.load == r.number) (is_waiting j.state) w).1 h)
+    (λ j w k h. ap (λ q. list_all (λ e. may_come e j.caller q) old.history) (sym k) ∙ if_waits (waits j) _ (and_parts (j.load == r.number) (is_waiting j.state) w).1 h)
     (keyed_callers old r reached found) reached.shares
 
 other_session : (a b k : Bool) → k ≡ true → (a || (b && not k)) ≡ true → a ≡ true
@@ -172,8 +171,8 @@ callers_apart old r reached found = go old.joiners (keyed_callers old r reached 
     go : (js : List Joiner) → keyed r.number r.key js ≡ true → are_apart js ≡ true → apart_callers (callers_of r.number js) ≡ true
     go [] k h = refl
     go (j ∷ js) k h =
-        let keys = both (not (waits_for r.number j) || pointwise ◌==◌ j.key r.key) (keyed r.number r.key js) k in
-        let parts = both (list_all (is_other_join j.caller j.key) js) (are_apart js) h in
+        let keys = and_parts (not (waits_for r.number j) || pointwise ◌==◌ j.key r.key) (keyed r.number r.key js) k in
+        let parts = and_parts (list_all (is_other_join j.caller j.key) js) (are_apart js) h in
         let rest : apart_callers (callers_of r.number js) ≡ true = go js keys.1 parts.1 in
         elim (waits_for r.number j) as (λ b. (not b || pointwise ◌==◌ j.key r.key) ≡ true → apart_callers (map (λ x. x.caller) (cond b (j ∷ filter (waits_for r.number) js) (filter (waits_for r.number) js))) ≡ true) [
           | true ↦ λ e.
@@ -209,7 +208,7 @@ callers_beside old r reached found =
 pub beside_found : (rs : List Reservation) (key : Bytes) (r : Reservation) → find (is_key key) rs ≡ Some r → are_beside rs ≡ true → list_all (is_other_call r.caller r.key) (without_key key rs) ≡ true
 beside_found [] key r h all = cc
 beside_found (x ∷ xs) key r h all =
-    let parts = both (list_all (is_other_call x.caller x.key) xs) (are_beside xs) all in
+    let parts = and_parts (list_all (is_other_call x.caller x.key) xs) (are_beside xs) all in
     elim (is_key key x) as (λ b. cond b (Some x) (find (is_key key) xs) ≡ Some r → list_all (is_other_call r.caller r.key) (cond (not b) (x ∷ without_key key xs) (without_key key xs)) ≡ true) [
       | true ↦ λ h.
           let is : x ≡ r = cc in
@@ -241,8 +240,8 @@ waiting_left : (load step place : ℕ) (key : Bytes) (js : List Joiner) → keye
     → list_all (λ (c : Caller). list_all (if_left c key) (answered_from load step place js)) (callers_of load js) ≡ true
 waiting_left load step place key [] k h = refl
 waiting_left load step place key (j ∷ js) k h =
-    let keys = both (not (waits_for load j) || pointwise ◌==◌ j.key key) (keyed load key js) k in
-    let parts = both (list_all (is_other_join j.caller j.key) js) (are_apart js) h in
+    let keys = and_parts (not (waits_for load j) || pointwise ◌==◌ j.key key) (keyed load key js) k in
+    let parts = and_parts (list_all (is_other_join j.caller j.key) js) (are_apart js) h in
     elim (waits_for load j) as (λ b. (not b || pointwise ◌==◌ j.key key) ≡ true
     → list_all (λ (c : Caller). list_all (if_left c key) (cond b (with_answer place step j ∷ answered_from load step (place + 1) js) (j ∷ answered_from load step place js))) (map (λ x. x.caller) (cond b (j ∷ filter (waits_for load) js) (filter (waits_for load) js))) ≡ true) [
       | true ↦ λ e.
@@ -268,7 +267,7 @@ callers_left old r place reached found = waiting_left r.number place (place + 1)
 pub share-answered : (history : List Event) (load step place : ℕ) (js : List Joiner) → list_all (may_share history) js ≡ true → list_all (may_share history) (answered_from load step place js) ≡ true
 share-answered history load step place [] h = refl
 share-answered history load step place (j ∷ js) h =
-    let parts = both (may_share history j) (list_all (may_share history) js) h in
+    let parts = and_parts (may_share history j) (list_all (may_share history) js) h in
     elim (waits_for load j) as (λ b. list_all (may_share history) (cond b (with_answer place step j ∷ answered_from load step (place + 1) js) (j ∷ answered_from load step place js)) ≡ true) [
       | true ↦ share-answered history load step (place + 1) js parts.1
       | false ↦ join_and _ _ parts.0 (share-answered history load step place js parts.1)
@@ -285,7 +284,7 @@ count-answered load step place (j ∷ js) =
     elim (waits_for load j) as (λ b. waits_for load j ≡ b
     → count_by waits (cond b (with_answer place step j ∷ answered_from load step (place + 1) js) (j ∷ answered_from load step place js)) + length (map call (cond b (j ∷ filter (waits_for load) js) (filter (waits_for load) js))) ≡ count_by waits (j ∷ js)) [
       | true ↦ λ w.
-          let one : cond {A = ℕ} (waits j) 1 0 ≡ 1 = ap (λ b. cond {A = ℕ} b 1 0) (both (j.load == load) (is_waiting j.state) w).1 in
+          let one : cond {A = ℕ} (waits j) 1 0 ≡ 1 = ap (λ b. cond {A = ℕ} b 1 0) (and_parts (j.load == load) (is_waiting j.state) w).1 in
           omega (arith, count-cons waits j js, count-cons waits (with_answer place step j) (answered_from load step (place + 1) js), count-answered load step (place + 1) js)
       | false ↦ λ w. omega (arith, count-cons waits j js, count-cons waits j (answered_from load step place js), count-answered load step place js)
     ] refl
@@ -352,7 +351,7 @@ join-answered : (old new : State) (more : List Event) (load step place : ℕ) (k
     → AllJoin new (answered_from load step place js)
 join-answered old new more load step place key [] grows finds k shared all = tt
 join-answered old new more load step place key (j ∷ js) grows finds k shared all =
-    let keys = both (not (waits_for load j) || pointwise ◌==◌ j.key key) (keyed load key js) k in
+    let keys = and_parts (not (waits_for load j) || pointwise ◌==◌ j.key key) (keyed load key js) k in
     elim (waits_for load j) as (λ b. waits_for load j ≡ b → (not b || pointwise ◌==◌ j.key key) ≡ true
     → SharedAt new.history step key place (map (λ x. x.caller) (cond b (j ∷ filter (waits_for load) js) (filter (waits_for load) js)))
     → AllJoin new (cond b (with_answer place step j ∷ answered_from load step (place + 1) js) (j ∷ answered_from load step place js))) [

@@ -8,6 +8,7 @@ use Rattle.std.specs.FinMap.{from_entries, len, get-remove}
 use Rattle.std.proofs.lemmas.List.{length-append}
 use Rattle.std.proofs.lemmas.List.Folds.{list_all-append}
 use Rattle.std.proofs.lemmas.Cmp.{nat_list_cmp_total, nat_list_eq_equiv}
+use Rattle.std.proofs.lemmas.Bool.{and_parts}
 use Rattle.jc_model.specs.declared.event.Event.{Event}
 use Rattle.jc_model.specs.declared.event.Event.TheVariants.{Step}
 use Rattle.jc_model.specs.declared.event.Op.{Op}
@@ -20,7 +21,7 @@ use Rattle.jc_model.specs.Group.{Group, load_only, victim_events, step_event, st
 use Rattle.jc_model.specs.Group as group
 use Rattle.jc_model.specs.Lawful.{IsLawful}
 use Rattle.jc_model.specs.Legal.{IsHistory, in_order}
-use Rattle.jc_model.proofs.Lookups.{both, same_key, get-with_entry}
+use Rattle.jc_model.proofs.CallerLemmas.{same_key, get-with_entry}
 use Rattle.jc_entries.specs.ByUse.{is_pinned}
 use Rattle.jc_entries.proofs.CallerLemmas.{lru_victim-unpinned}
 use Rattle.jc_inflight.specs.declared.joiner.Joiner.{Joiner}
@@ -149,20 +150,20 @@ all_swap {A} {B} p xs (y ∷ ys) h = join_and _ _ (firsts xs h) (all_swap p xs y
   where
     firsts : (xs : List A) → list_all (λ x. list_all (p x) (y ∷ ys)) xs ≡ true → list_all (λ x. p x y) xs ≡ true
     firsts [] h = refl
-    firsts (x ∷ xs) h = let parts = both (p x y && list_all (p x) ys) (list_all (λ x. list_all (p x) (y ∷ ys)) xs) h in join_and _ _ (both (p x y) (list_all (p x) ys) parts.0).0 (firsts xs parts.1)
+    firsts (x ∷ xs) h = let parts = and_parts (p x y && list_all (p x) ys) (list_all (λ x. list_all (p x) (y ∷ ys)) xs) h in join_and _ _ (and_parts (p x y) (list_all (p x) ys) parts.0).0 (firsts xs parts.1)
 
     rests : (xs : List A) → list_all (λ x. list_all (p x) (y ∷ ys)) xs ≡ true → list_all (λ x. list_all (p x) ys) xs ≡ true
     rests [] h = refl
-    rests (x ∷ xs) h = let parts = both (p x y && list_all (p x) ys) (list_all (λ x. list_all (p x) (y ∷ ys)) xs) h in join_and _ _ (both (p x y) (list_all (p x) ys) parts.0).1 (rests xs parts.1)
+    rests (x ∷ xs) h = let parts = and_parts (p x y && list_all (p x) ys) (list_all (λ x. list_all (p x) (y ∷ ys)) xs) h in join_and _ _ (and_parts (p x y) (list_all (p x) ys) parts.0).1 (rests xs parts.1)
 
 -- the steps of reservations that are beside those of the group may still come
 pub ends_on : (history : List Event) (place : ℕ) (g : Group) (rs : List Reservation) → list_all (may_end history) rs ≡ true → list_all (is_other_call g.caller g.step.key) rs ≡ true
     → list_all (λ r. list_all (λ c. is_other_call c g.step.key r) g.joined) rs ≡ true → list_all (may_end (history ++ events_of place g)) rs ≡ true
 ends_on history place g [] ends beside callers = refl
 ends_on history place g (r ∷ rs) ends beside callers =
-    let e = both (may_end history r) (list_all (may_end history) rs) ends in
-    let b = both (is_other_call g.caller g.step.key r) (list_all (is_other_call g.caller g.step.key) rs) beside in
-    let c = both (list_all (λ c. is_other_call c g.step.key r) g.joined) (list_all (λ r. list_all (λ c. is_other_call c g.step.key r) g.joined) rs) callers in
+    let e = and_parts (may_end history r) (list_all (may_end history) rs) ends in
+    let b = and_parts (is_other_call g.caller g.step.key r) (list_all (is_other_call g.caller g.step.key) rs) beside in
+    let c = and_parts (list_all (λ c. is_other_call c g.step.key r) g.joined) (list_all (λ r. list_all (λ c. is_other_call c g.step.key r) g.joined) rs) callers in
     join_and _ _ (behind-append history (events_of place g) r.caller r.key e.0 (behind-group place g r.caller r.key b.0 c.0)) (ends_on history place g rs e.1 b.1 c.1)
 
 -- so may those of joiners that wait
@@ -170,9 +171,9 @@ pub shares_on : (history : List Event) (place : ℕ) (g : Group) (js : List Join
     → list_all (λ j. list_all (λ c. not (waits j) || is_other_join c g.step.key j) g.joined) js ≡ true → list_all (may_share (history ++ events_of place g)) js ≡ true
 shares_on history place g [] shares apart callers = refl
 shares_on history place g (j ∷ js) shares apart callers =
-    let s = both (may_share history j) (list_all (may_share history) js) shares in
-    let a = both (not (waits j) || is_other_join g.caller g.step.key j) (list_all (λ j. not (waits j) || is_other_join g.caller g.step.key j) js) apart in
-    let c = both (list_all (λ c. not (waits j) || is_other_join c g.step.key j) g.joined) (list_all (λ j. list_all (λ c. not (waits j) || is_other_join c g.step.key j) g.joined) js) callers in
+    let s = and_parts (may_share history j) (list_all (may_share history) js) shares in
+    let a = and_parts (not (waits j) || is_other_join g.caller g.step.key j) (list_all (λ j. not (waits j) || is_other_join g.caller g.step.key j) js) apart in
+    let c = and_parts (list_all (λ c. not (waits j) || is_other_join c g.step.key j) g.joined) (list_all (λ j. list_all (λ c. not (waits j) || is_other_join c g.step.key j) g.joined) js) callers in
     join_and _ _ (one (waits j) g.joined s.0 a.0 c.0) (shares_on history place g js s.1 a.1 c.1)
   where
     each : (callers : List Caller) → list_all (λ c. false || is_other_join c g.step.key j) callers ≡ true → list_all (λ c. is_other_join c g.step.key j) callers ≡ true

@@ -5,10 +5,10 @@ use Rattle.jc_model.specs.declared.event.Op.{Op}
 use Rattle.jc_model.specs.declared.event.Out.{Out}
 use Rattle.jc_stripe.specs.declared.begun.StepDone.{StepDone}
 use Rattle.jc_model.specs.Cache.{Bytes, key_cmp, entry_at}
-use Rattle.jc_model.specs.Listed.{apart}
+use Rattle.jc_model.specs.Listed.{has_distinct_keys}
 use Rattle.jc_model.specs.Table.{answers_fit, entry_after, reply_after}
 use Rattle.jc_model.specs.Group.{Group, victim_events, events_of, step_place, cache_after_group}
-use Rattle.jc_model.proofs.Lookups.{len-apart}
+use Rattle.jc_model.proofs.CallerLemmas.{len-distinct}
 use Rattle.jc_entries.specs.ByUse.{ByUse, lru_victim}
 use Rattle.jc_stripe.specs.declared.appending.NewGroup.{NewGroup}
 use Rattle.jc_stripe.specs.State.{State}
@@ -37,7 +37,7 @@ inserts_is m entries keys key op out are =
     ap (λ o. is_none o && is_some (entry_after op o out)) (find-entry entries.list key ∙ ap (λ c. entry_at c key) (sym are.cache))
 
 length_is : (m : State) (entries : ByUse) (keys : List Bytes) → AreEntries m entries keys → length entries.list ≡ len m.cache
-length_is m entries keys are = sym (ap len are.cache ∙ len-apart entries.list (ap apart are.list ∙ are.used.once))
+length_is m entries keys are = sym (ap len are.cache ∙ len-distinct entries.list (ap has_distinct_keys are.list ∙ are.used.once))
 
 overflows_is : (m : State) (entries : ByUse) (keys : List Bytes) (key : Bytes) (op : Op) (out : Out) → AreEntries m entries keys → overflows_in entries key op out ≡ overflows m key op out
 overflows_is m entries keys key op out are = λ i. inserts_is m entries keys key op out are i && (length_is m entries keys are i == are.capacity i)

@@ -9,14 +9,14 @@ use Rattle.std.proofs.lemmas.List.{length-append}
 use Rattle.std.proofs.lemmas.List.Sums.{length-filter, count_by-le-length}
 use Rattle.std.specs.List.{list_all, count_by}
 use Rattle.std.specs.FinMap.{len, empty, len-empty, from_entries}
+use Rattle.std.proofs.lemmas.Bool.{and_parts}
 use Rattle.jc_types.specs.declared.config.Config.{Config}
-use Rattle.jc_types.specs.Limits.{checked}
+use Rattle.jc_types.specs.Limits.{check}
 use Rattle.jc_model.specs.declared.event.Event.{Event}
 use Rattle.jc_model.specs.declared.event.Op.{Op}
 use Rattle.jc_model.specs.Cache.{Bytes, key_cmp, entry_at}
 use Rattle.jc_model.specs.Legal.{in_order}
-use Rattle.jc_model.specs.Listed.{apart}
-use Rattle.jc_model.proofs.Lookups.{both}
+use Rattle.jc_model.specs.Listed.{has_distinct_keys}
 use Rattle.jc_inflight.specs.declared.joiner.Joiner.{Joiner}
 use Rattle.jc_inflight.specs.declared.joiner.JoinState.TheVariants.{Waiting, Again}
 use Rattle.jc_inflight.specs.Joining.{belongs_to, waits_for}
@@ -41,14 +41,14 @@ use Rattle.jc_stripe.specs.declared.ticket.Reservation.{Reservation}
 
 -- 1. The first state.
 
-pub reached_start : (config : Config) (state : State) → checked config ≡ Ok tt → state.config ≡ config → state.opening ≡ [] → state.cache ≡ empty → state.reservations ≡ [] → state.joiners ≡ [] → state.history ≡ [] → IsReached state
+pub reached_start : (config : Config) (state : State) → check config ≡ Ok tt → state.config ≡ config → state.opening ≡ [] → state.cache ≡ empty → state.reservations ≡ [] → state.joiners ≡ [] → state.history ≡ [] → IsReached state
 reached_start config state fits config_is opening cache reservations joiners history =
     let entries : by_use state.opening state.history ≡ [] = λ i. by_use (opening i) (history i) in
     let none : length state.reservations ≡ 0 = ap length reservations in
     let nobody : length state.joiners ≡ 0 = ap length joiners in
     let waiting : count_by waits state.joiners ≡ 0 = ap (count_by waits) joiners in
     record {
-      config_fits = ap checked config_is ∙ fits;
+      config_fits = ap check config_is ∙ fits;
       opening = opening;
       legal = record {
         groups = [];
@@ -57,7 +57,7 @@ reached_start config state fits config_is opening cache reservations joiners his
         left = cache ∙ ap (from_entries {R = key_cmp}) (sym opening);
         order = ap in_order history;
       };
-      used = record { once = ap apart entries; cache = cache ∙ ap (from_entries {R = key_cmp}) (sym entries); own = ap (list_all (λ (entry : Bytes × Bytes). is_own_key state entry.0)) entries };
+      used = record { once = ap has_distinct_keys entries; cache = cache ∙ ap (from_entries {R = key_cmp}) (sym entries); own = ap (list_all (λ (entry : Bytes × Bytes). is_own_key state entry.0)) entries };
       own = ap (list_all (is_own state)) history;
       keys = ap (list_all (λ (r : Reservation). is_own_key state r.key)) reservations;
       few_entries = let e : len state.cache ≡ 0 = ap len cache ∙ len-empty key_cmp Bytes in omega arith;
@@ -186,8 +186,8 @@ share-dissolved history load [] h = refl
 share-dissolved history load (j ∷ js) h =
     let rest : list_all (may_share history) js ≡ true → list_all (may_share history) (after_dissolve load js) ≡ true = share-dissolved history load js in
     elim (waits_for load j) as (λ b. (may_share history j && list_all (may_share history) js) ≡ true → list_all (may_share history) (cond b (record j { state = Again }) j ∷ after_dissolve load js) ≡ true) [
-      | true ↦ λ h. rest (both _ _ h).1
-      | false ↦ λ h. join_and _ _ (both _ _ h).0 (rest (both _ _ h).1)
+      | true ↦ λ h. rest (and_parts _ _ h).1
+      | false ↦ λ h. join_and _ _ (and_parts _ _ h).0 (rest (and_parts _ _ h).1)
     ] h
 
 count-dissolved : (load : ℕ) (js : List Joiner) → count_by waits (after_dissolve load js) ≤ count_by waits js

@@ -2,8 +2,8 @@
 --     all-map        a test of all that a list is mapped to
 --     all_not        one that fails a test at a place
 --     all_more       a test of the first ones, and of one more
-use Rattle.std.proofs.Common.{◌≡◌, ◌&&◌, ◌+◌, ℕ, zero, suc, List, [], ◌∷◌, map, take, Bool, true, false, cond, Option, None, Some, IsSomeAnd, find, option_map, ◌==◌, refl, sym, ap, ◌∙◌, slice_get, add-one}
-use Rattle.std.proofs.lemmas.Bool.{eqb-true}
+use Rattle.std.proofs.Common.{◌≡◌, ◌&&◌, ℕ, zero, suc, List, [], ◌∷◌, map, take, Bool, true, false, cond, Option, None, Some, IsSomeAnd, find, option_map, ◌==◌, refl, sym, ap, ◌∙◌, slice_get}
+use Rattle.std.proofs.lemmas.Bool.{eqb-true, and_parts}
 use Rattle.std.specs.List.{list_all}
 use Rattle.std.specs.Cmp.Lexicographic.{same_text}
 use Rattle.jc_model.specs.Cache.{Bytes}
@@ -14,7 +14,6 @@ use Rattle.jc_stripe.specs.declared.ticket.Note.{Note}
 use Rattle.jc_stripe.specs.State.{is_key}
 use Rattle.jc_stripe.specs.Inside.{note_reservation}
 use Rattle.jc_stripe.proofs.Beside.{join_and}
-use Rattle.jc_model.proofs.Lookups.{both}
 
 pub all-map : {A B : Type 0} (p : B → Bool) (f : A → B) (xs : List A) → list_all p (map f xs) ≡ list_all (λ x. p (f x)) xs
 all-map p f [] = refl
@@ -33,7 +32,7 @@ pub all_more : {A : Type 0} (p : A → Bool) (xs : List A) (i : ℕ) (x : A) →
 all_more p [] i x h t before = cc
 all_more p (y ∷ ys) zero x h t before = let is : y ≡ x = cc in join_and _ _ (ap p is ∙ t) refl
 all_more p (y ∷ ys) (suc i) x h t before =
-    let parts = both (p y) (list_all p (take i ys)) before in join_and _ _ parts.0 (all_more p ys i x h t parts.1)
+    let parts = and_parts (p y) (list_all p (take i ys)) before in join_and _ _ parts.0 (all_more p ys i x h t parts.1)
 
 -- what is found at a key is its reservation
 pub held_found : (key : Bytes) (hs : List (Held Note)) (number : ℕ) (note : Note) → option_map {U = ℕ × Note} (λ h. (h.reservation, h.note)) (find (has_key key) hs) ≡ Some (number, note)

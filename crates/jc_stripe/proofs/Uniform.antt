@@ -1,28 +1,14 @@
 -- At most one phase of a session keeps the state reached, and leaves the own steps of the others.
 --     one_uniform                  the law
-use Rattle.std.proofs.Common.{◌≡◌, ◌≤◌, ◌==◌, ◌&&◌, ◌||◌, ◌+◌, ⊎_elim, ℕ, List, [], ◌∷◌, ◌++◌, map, length, filter, Bool, true, false, cond, not, Option, None, Some, refl, sym, ap, ◌∙◌, subst, arith, append-nil, nat_lt}
-use Rattle.std.proofs.lemmas.Bool.Decides.{nat_tests}
+use Rattle.std.proofs.Common.{◌≡◌, ◌≤◌, ◌==◌, ◌+◌, ⊎_elim, ℕ, List, [], length, true, false, refl, sym, ap, ◌∙◌, subst, arith}
 use Rattle.std.proofs.lemmas.Bool.{eqb-true}
-use Rattle.std.proofs.lemmas.Cmp.{nat_list_eq_equiv}
-use Rattle.std.specs.List.{list_all}
-use Rattle.std.specs.Cmp.Lexicographic.{pointwise}
-use Rattle.jc_model.specs.declared.event.Event.{Event}
-use Rattle.jc_model.specs.declared.event.Event.TheVariants.{Step, Evict}
 use Rattle.jc_model.specs.declared.event.Op.{Op}
-use Rattle.jc_model.specs.declared.event.Out.{Out}
-use Rattle.jc_model.specs.declared.event.Reply.{Reply}
-use Rattle.jc_model.specs.declared.event.Cause.{Cause}
-use Rattle.jc_model.specs.declared.event.LoadAnswer.{LoadAnswer}
 use Rattle.jc_model.specs.Cache.{Bytes}
-use Rattle.jc_model.specs.Group.{Group, victim_events, step_event, step_place, shared_event, evicted_events, events_of, nothing_said}
-use Rattle.jc_model.specs.Legal.{may_come}
-use Rattle.jc_model.proofs.Lookups.{both}
+use Rattle.jc_model.specs.Group.{Group, nothing_said}
 use Rattle.jc_inflight.specs.declared.joiner.Joiner.{Joiner}
-use Rattle.jc_inflight.specs.declared.joiner.JoinState.{JoinState}
-use Rattle.jc_inflight.specs.declared.joiner.JoinState.TheVariants.{Waiting, Answered, Again}
 use Rattle.jc_inflight.specs.Joining.{belongs_to, is_waiting, waits_for, callers_of}
 use Rattle.jc_inflight.specs.Joining as joining
-use Rattle.jc_inflight.specs.Resolving.{with_answer, answered_from, after_resolve}
+use Rattle.jc_inflight.specs.Resolving.{after_resolve}
 use Rattle.jc_inflight.specs.Dissolving.{after_dissolve}
 use Rattle.jc_inflight.specs.Taking as taking
 use Rattle.jc_stripe.specs.declared.begun.Begun.{Begun}
@@ -31,20 +17,19 @@ use Rattle.jc_stripe.specs.declared.begun.Begun.TheVariants as first
 use Rattle.jc_stripe.specs.declared.begun.Picked.{Picked}
 use Rattle.jc_stripe.specs.declared.begun.Picked.TheVariants as last
 use Rattle.jc_stripe.specs.Tickets.{JoinClaim}
-use Rattle.jc_stripe.specs.State.{State, waits}
+use Rattle.jc_stripe.specs.State.{State}
 use Rattle.jc_stripe.specs.Phases.{new_group, after_commit, Begins, PicksUp, Steps, without_joiner}
-use Rattle.jc_stripe.specs.Reached.{IsReached, may_share}
+use Rattle.jc_stripe.specs.Reached.{IsReached}
 use Rattle.jc_stripe.specs.Laws.{Extends, KeepsReserved}
-use Rattle.jc_stripe.specs.OnePhase.{FirstPhase, LastPhase, Withdrawal, PickUp, IsPhaseOf, OnePhase, is_answered, is_parked, is_own_step, own_steps}
-use Rattle.jc_stripe.proofs.Beside.{join_and, or_right, all_then}
+use Rattle.jc_stripe.specs.OnePhase.{FirstPhase, LastPhase, Withdrawal, PickUp, IsPhaseOf, OnePhase, own_steps}
 use Rattle.jc_stripe.proofs.Ordered.{turned_eq}
-use Rattle.jc_stripe.proofs.Settled.{keyed, keyed_callers}
+use Rattle.jc_stripe.proofs.Settled.{keyed_callers}
 use Rattle.jc_stripe.proofs.Reaching.{reached_begins, reached_commits}
 use Rattle.jc_stripe.proofs.Tables.{reached_withdrawn, reached_picked}
 use Rattle.jc_stripe.proofs.Laws.{same_on, begins_on, commits_on, withdraws_on, picks_up_on, begins_keeps, commits_keeps, withdraws_keeps, picks_up_keeps}
 use Rattle.jc_types.specs.declared.caller.Caller.{Caller}
 use Rattle.jc_stripe.specs.declared.ticket.Reservation.{Reservation}
-use Rattle.jc_stripe.proofs.ParkedSteps.{own-parked, parked-joined, parked-dissolved, parked-without, own-answered, filter-append, all_parked, own-grown, parked-callers}
+use Rattle.jc_stripe.proofs.ParkedSteps.{own-parked, parked-joined, parked-dissolved, parked-without, own-answered, all_parked, own-grown, parked-callers}
 use Rattle.jc_stripe.proofs.Own.{own_left}
 use Rattle.jc_stripe.proofs.UniformParts.{uniform_own, uniform_reservations, uniform_joins, uniform_entries}
 

@@ -1,40 +1,37 @@
 -- What one phase of a session leaves alone: other sessions' reservations and joins, and the entries of keys that stay reserved; and
 -- what it does to the session's own steps.
 --     uniform_own, uniform_reservations, uniform_joins, uniform_entries     these clauses of the law of one phase
-use Rattle.std.proofs.Common.{◌≡◌, ◌==◌, ◌&&◌, ◌||◌, ◌+◌, ◌⊎◌, ⊎_elim, inl, inr, ℕ, List, [], ◌∷◌, ◌++◌, map, filter, Bool, true, false, cond, not, Option, None, Some, find, refl, sym, ap, ◌∙◌, subst, append-nil}
+use Rattle.std.proofs.Common.{◌≡◌, ◌==◌, ◌&&◌, ◌||◌, ◌+◌, ◌⊎◌, ⊎_elim, inl, inr, ℕ, List, [], ◌∷◌, ◌++◌, map, filter, Bool, true, false, cond, not, Some, find, refl, sym, ap, ◌∙◌, subst, append-nil}
 use Rattle.std.proofs.lemmas.Bool.{eqb-true}
 use Rattle.std.proofs.lemmas.List.Elements.{All-head, All-tail}
-use Rattle.std.specs.List.{list_all, list_any, AllPairs, All}
-use Rattle.std.specs.Cmp.Lexicographic.{pointwise, same_text}
+use Rattle.std.specs.List.{list_all, AllPairs, All}
+use Rattle.std.specs.Cmp.Lexicographic.{same_text}
 use Rattle.jc_types.specs.declared.caller.Caller.{Caller}
 use Rattle.jc_model.specs.declared.event.Event.{Event}
 use Rattle.jc_model.specs.declared.event.Event.TheVariants.{Step}
 use Rattle.jc_model.specs.declared.event.Op.{Op}
 use Rattle.jc_model.specs.declared.event.Op.TheVariants.{Get}
-use Rattle.jc_model.specs.declared.event.Out.{Out}
 use Rattle.jc_model.specs.Cache.{Bytes, entry_at}
-use Rattle.jc_model.specs.Group.{nothing_said}
 use Rattle.jc_inflight.specs.declared.joiner.Joiner.{Joiner}
 use Rattle.jc_inflight.specs.Joining.{belongs_to, waits_for}
 use Rattle.jc_inflight.specs.Joining as joining
-use Rattle.jc_inflight.specs.Resolving.{with_answer, answered_from, after_resolve}
+use Rattle.jc_inflight.specs.Resolving.{with_answer, answered_from}
 use Rattle.jc_inflight.specs.Dissolving.{after_dissolve}
 use Rattle.jc_inflight.specs.declared.joiner.JoinState.TheVariants.{Again}
 use Rattle.jc_inflight.specs.Taking as taking
 use Rattle.jc_stripe.specs.declared.ticket.Reservation.{Reservation}
-use Rattle.jc_stripe.specs.declared.begun.StepDone.{StepDone}
 use Rattle.jc_stripe.specs.declared.begun.Begun.{Begun}
 use Rattle.jc_stripe.specs.declared.begun.Begun.TheVariants as begun
 use Rattle.jc_stripe.specs.declared.begun.Picked.{Picked}
 use Rattle.jc_stripe.specs.declared.begun.Picked.TheVariants as picked
 use Rattle.jc_stripe.specs.Tickets.{Ticket, JoinClaim}
-use Rattle.jc_stripe.specs.State.{State, is_key, is_reserved, with_reservation, without_key, without_reservation}
-use Rattle.jc_stripe.specs.Phases.{MayBegin, Begins, Commits, Withdraws, PicksUp}
-use Rattle.jc_stripe.specs.Reached.{IsReached, AreNumbered}
+use Rattle.jc_stripe.specs.State.{State, is_key, is_reserved, without_key}
+use Rattle.jc_stripe.specs.Phases.{MayBegin, Begins, PicksUp}
+use Rattle.jc_stripe.specs.Reached.{IsReached}
 use Rattle.jc_stripe.specs.Laws.{KeepsReserved}
 use Rattle.jc_stripe.specs.OnePhase.{FirstPhase, LastPhase, Withdrawal, PickUp, IsPhaseOf, own_steps, GainsOwn, is_of_others, join_claim}
 use Rattle.jc_stripe.specs.OwnSteps.{AddsOwn, OwnSteps}
-use Rattle.jc_stripe.proofs.Numbering.{found_holds, found_test, later_pairs, first_pairs}
+use Rattle.jc_stripe.proofs.Numbering.{later_pairs, first_pairs}
 use Rattle.jc_stripe.proofs.ParkedSteps.{number_itself, joiners_call, filter-append}
 
 -- 1. Own steps.

@@ -13,12 +13,12 @@ use Rattle.jc_model.specs.declared.event.Out.{Out}
 use Rattle.jc_model.specs.declared.event.LoadAnswer.{LoadAnswer}
 use Rattle.jc_model.specs.declared.event.LoadAnswer.TheVariants.{NotAsked, Found, Nothing, Failed}
 use Rattle.jc_model.specs.Cache.{Bytes, Cache, key_cmp, entry_at, with_entry}
-use Rattle.jc_model.specs.Listed.{apart, listed}
+use Rattle.jc_model.specs.Listed.{has_distinct_keys, with_entry_first}
 use Rattle.jc_model.specs.Table.{first_fault, entry_without_fault, entry_after, entry_by_fault, value_after_load, seq_cache}
 use Rattle.jc_model.specs.Processor.{found_in}
 use Rattle.jc_model.specs.Group.{Group, victim_events, shared_event, evicted_events, events_of, step_event, step_place, cache_after_group, without_own}
 use Rattle.jc_model.specs.Group as group
-use Rattle.jc_model.proofs.Lookups.{from_entries-others, from_entries-listed, apart-others, apart-listed, same_cache, get-with_entry, same_key}
+use Rattle.jc_model.proofs.CallerLemmas.{from_entries-others, from_entries-first, distinct-others, distinct-first, same_cache, get-with_entry, same_key}
 use Rattle.jc_entries.specs.ByUse.{after_eviction}
 use Rattle.jc_stripe.specs.OrderOfUse.{uses, is_use, used_at, used, by_use}
 use Rattle.jc_stripe.specs.Appending.{without_own_entry, entries_after}
@@ -58,21 +58,21 @@ by_use-group entries place g =
 
 -- 2. The entries, each key once.
 
-apart-without : (victim : Option Bytes) (entries : List (Bytes × Bytes)) → apart entries ≡ true → apart (after_eviction victim entries) ≡ true
+apart-without : (victim : Option Bytes) (entries : List (Bytes × Bytes)) → has_distinct_keys entries ≡ true → has_distinct_keys (after_eviction victim entries) ≡ true
 apart-without None entries h = h
-apart-without (Some key) entries h = apart-others key entries h
+apart-without (Some key) entries h = distinct-others key entries h
 
-apart-used_at : (entries : List (Bytes × Bytes)) (key : Bytes) (op : Op) (out : Out) → apart entries ≡ true → apart (used_at entries key op out) ≡ true
-apart-used_at entries key op out h = elim (is_use op out) as (λ b. apart (cond b (listed key (entry_after op (finite.find key_cmp key entries) out) entries) entries) ≡ true) [
-  | true ↦ apart-listed key (entry_after op (finite.find key_cmp key entries) out) entries h
+apart-used_at : (entries : List (Bytes × Bytes)) (key : Bytes) (op : Op) (out : Out) → has_distinct_keys entries ≡ true → has_distinct_keys (used_at entries key op out) ≡ true
+apart-used_at entries key op out h = elim (is_use op out) as (λ b. has_distinct_keys (cond b (with_entry_first key (entry_after op (finite.find key_cmp key entries) out) entries) entries) ≡ true) [
+  | true ↦ distinct-first key (entry_after op (finite.find key_cmp key entries) out) entries h
   | false ↦ h
 ]
 
-apart-own_gone : (key : Bytes) (cause : Option Cause) (entries : List (Bytes × Bytes)) → apart entries ≡ true → apart (without_own_entry key cause entries) ≡ true
+apart-own_gone : (key : Bytes) (cause : Option Cause) (entries : List (Bytes × Bytes)) → has_distinct_keys entries ≡ true → has_distinct_keys (without_own_entry key cause entries) ≡ true
 apart-own_gone key None entries h = h
-apart-own_gone key (Some cause) entries h = apart-others key entries h
+apart-own_gone key (Some cause) entries h = distinct-others key entries h
 
-pub apart-left : (entries : List (Bytes × Bytes)) (key : Bytes) (op : Op) (out : Out) (victim : Option Bytes) (evicted : Option Cause) → apart entries ≡ true → apart (entries_after entries key op out victim evicted) ≡ true
+pub apart-left : (entries : List (Bytes × Bytes)) (key : Bytes) (op : Op) (out : Out) (victim : Option Bytes) (evicted : Option Cause) → has_distinct_keys entries ≡ true → has_distinct_keys (entries_after entries key op out victim evicted) ≡ true
 apart-left entries key op out victim evicted h = apart-own_gone key evicted _ (apart-used_at (after_eviction victim entries) key op out (apart-without victim entries h))
 
 -- 3. The cache that they make.
@@ -118,8 +118,8 @@ from-used_at entries key op out = go (is_use op out) refl
     cache : Cache
     cache = from_entries entries
 
-    go : (b : Bool) → is_use op out ≡ b → from_entries {R = key_cmp} (cond b (listed key (entry_after op (finite.find key_cmp key entries) out) entries) entries) ≡ with_entry (from_entries entries) key (entry_after op (entry_at (from_entries entries) key) out)
-    go true e = from_entries-listed key (entry_after op (finite.find key_cmp key entries) out) entries ∙ ap (λ o. with_entry (from_entries entries) key (entry_after op o out)) (find-entry entries key)
+    go : (b : Bool) → is_use op out ≡ b → from_entries {R = key_cmp} (cond b (with_entry_first key (entry_after op (finite.find key_cmp key entries) out) entries) entries) ≡ with_entry (from_entries entries) key (entry_after op (entry_at (from_entries entries) key) out)
+    go true e = from_entries-first key (entry_after op (finite.find key_cmp key entries) out) entries ∙ ap (λ o. with_entry (from_entries entries) key (entry_after op o out)) (find-entry entries key)
     go false e = sym (same-entry (from_entries entries) key _ (unused_keeps op (entry_at (from_entries entries) key) out e))
 
 from-own_gone : (key : Bytes) (cause : Option Cause) (entries : List (Bytes × Bytes)) → from_entries {R = key_cmp} (without_own_entry key cause entries) ≡ without_own (from_entries entries) key cause

@@ -15,7 +15,7 @@
 --                     the numbers of reservations don't fall; the session's own steps are the same or one more; other sessions' own
 --                     steps, reservations and joins stay, and so does the entry of a key that stays reserved
 --     OnePhase        the law: at most one phase of a session, from a reached state, is uniform
-use Rattle.std.specs.Prelude.{◌≡◌, ◌≤◌, ◌==◌, ◌⊎◌, ℕ, List, [], ◌∷◌, ◌++◌, filter, map, Bool, true, false, not, ◌&&◌, Some, slice_get}
+use Rattle.std.specs.Prelude.{◌≡◌, ◌≤◌, ◌==◌, ◌⊎◌, ℕ, List, ◌∷◌, ◌++◌, filter, map, Bool, true, false, not, ◌&&◌, Some, slice_get}
 use Rattle.std.specs.List.{list_any}
 use Rattle.jc_types.specs.declared.caller.Caller.{Caller}
 use Rattle.jc_model.specs.declared.event.Op.{Op}

@@ -16,7 +16,7 @@ use Rattle.jc_model.specs.declared.event.LoadAnswer.{LoadAnswer}
 use Rattle.jc_model.specs.declared.event.Event.{Event}
 use Rattle.jc_model.specs.declared.event.Event.TheVariants.{Step, Evict}
 use Rattle.jc_model.specs.Cache.{Bytes, key_cmp}
-use Rattle.jc_model.specs.Listed.{others, listed}
+use Rattle.jc_model.specs.Listed.{others, with_entry_first}
 use Rattle.jc_model.specs.Table.{first_fault, entry_after}
 use Rattle.jc_model.specs.Processor.{found_in}
 use Rattle.jc_entries.specs.ByUse.{lru_victim}
@@ -47,7 +47,7 @@ is_use op out = is_none (first_fault out) && uses op out.load
 
 -- the entries behind a step at a key: its entry is moved or put to the front, or goes
 abbrev pub used_at : List (Bytes × Bytes) → Bytes → Op → Out → List (Bytes × Bytes)
-used_at entries key op out = if is_use op out then listed key (entry_after op (finite.find key_cmp key entries) out) entries else entries
+used_at entries key op out = if is_use op out then with_entry_first key (entry_after op (finite.find key_cmp key entries) out) entries else entries
 
 -- 2. What a history uses.
 

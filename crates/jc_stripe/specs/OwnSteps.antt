@@ -12,7 +12,7 @@
 --     WholeCall        the law of a whole call: a first phase that reserves its key, and its commit, are one step of that caller,
 --                      operation and key
 --     JoinsOnlyLoads   the law of joins: a first phase that finds no load of its key does not join
-use Rattle.std.specs.Prelude.{◌≡◌, ◌≤◌, ◌==◌, ◌+◌, ℕ, List, [], ◌∷◌, ◌++◌, length, Bool, true, false, not, ◌||◌, Option, None, Some, IsTrue, slice_get, nat_lt}
+use Rattle.std.specs.Prelude.{◌≡◌, ◌≤◌, ◌==◌, ◌+◌, ℕ, List, [], ◌∷◌, ◌++◌, length, Bool, true, not, ◌||◌, Option, None, Some, IsTrue, slice_get, nat_lt}
 use Rattle.std.specs.List.{list_all}
 use Rattle.jc_types.specs.declared.caller.Caller.{Caller}
 use Rattle.jc_model.specs.declared.event.Op.{Op}

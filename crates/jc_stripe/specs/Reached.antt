@@ -20,7 +20,7 @@ use Rattle.std.specs.Prelude.{◌≡◌, ◌==◌, ◌+◌, ◌≤◌, ◌<◌, 
 use Rattle.std.specs.List.{list_all}
 use Rattle.std.specs.FinMap.{len, from_entries}
 use Rattle.jc_types.specs.declared.config.Config.{Config}
-use Rattle.jc_types.specs.Limits.{checked}
+use Rattle.jc_types.specs.Limits.{check}
 use Rattle.jc_types.specs.declared.limits.TheConstants.{RESERVATIONS_MAX, JOINERS_MAX}
 use Rattle.jc_model.specs.declared.event.Op.TheVariants.{Get}
 use Rattle.jc_model.specs.declared.event.Out.{Out}
@@ -28,7 +28,7 @@ use Rattle.jc_model.specs.declared.event.Reply.{Reply}
 use Rattle.jc_model.specs.declared.event.Event.{Event}
 use Rattle.jc_model.specs.declared.event.Event.TheVariants.{Step}
 use Rattle.jc_model.specs.Cache.{Cache, entry_at}
-use Rattle.jc_model.specs.Listed.{apart}
+use Rattle.jc_model.specs.Listed.{has_distinct_keys}
 use Rattle.jc_model.specs.Legal.{IsHistory, is_of_stripe, may_come}
 use Rattle.jc_inflight.specs.declared.joiner.Joiner.{Joiner}
 use Rattle.jc_inflight.specs.declared.joiner.JoinState.{JoinState}
@@ -104,12 +104,12 @@ is_own state event = is_of_stripe state.config.stripes state.stripe event
 
 -- the entries by use are what is cached, each key once, and they are of the stripe's keys
 pub record IsUsed (state : State) : Type 0 where
-  pub once : IsTrue (apart (by_use state.opening state.history))
+  pub once : IsTrue (has_distinct_keys (by_use state.opening state.history))
   pub own : IsTrue (list_all (λ entry. is_of state entry.0) (by_use state.opening state.history))
   pub cache : state.cache ≡ from_entries (by_use state.opening state.history)
 
 pub record IsReached (state : State) : Type 0 where
-  pub config_fits : checked state.config ≡ Ok tt
+  pub config_fits : check state.config ≡ Ok tt
   pub opening : state.opening ≡ []
   pub legal : IsHistory state.config (from_entries state.opening) state.history state.cache
   pub used : IsUsed state

@@ -12,7 +12,7 @@ use crate::begun::{Eviction, StepDone};
 use jc_entries::{Entries, Inserted};
 use jc_history::History;
 use jc_inflight::Joiners;
-use jc_model::event::{Cause, Event, LoadAnswer, Op, Out, Reply};
+use jc_model::{Cause, Event, LoadAnswer, Op, Out, Reply};
 use jc_types::{Caller, Key, Value};
 
 /// A step, and who goes before and after it: a group without those that share its load.

@@ -1,8 +1,7 @@
 //! What a first phase gives, what a step was, and what a joiner is told.
 use crate::ticket::{Join, LoadTicket, WriteTicket};
-use jc_model::event::{Cause, Reply};
-use jc_types::key::Key;
-use jc_types::refusal::Refusal;
+use jc_model::{Cause, Reply};
+use jc_types::{Key, Refusal};
 
 /// The eviction of an entry that a step had inserted.
 #[derive(Clone, Copy, Debug, PartialEq, Eq)]

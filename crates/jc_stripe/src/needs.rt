@@ -6,8 +6,7 @@ ghost use Rattle.jc_stripe.specs.Refusals.{answers_at_once, may_join, places_nee
 ghost use Rattle.jc_stripe.specs.Finding.{is_to_reserve};
 
 use crate::ticket::First;
-use jc_model::event::{Change, Op, ProcessAnswer};
-use jc_model::table::LoaderAsk;
+use jc_model::{Change, LoaderAsk, Op, ProcessAnswer};
 use jc_types::{Config, HIT_PLACES, STEP_PLACES, Value};
 
 /// What a call finds at its key, before anything is done.

@@ -1,10 +1,10 @@
 //! A stripe and its phases.
 ghost use Rattle.std.specs.Prelude.{◌≡◌, ◌≤◌, ◌<◌, ◌+◌, ◌++◌, ◌↔◌, [], true, false, IsTrue, IfOk, IsOk, OnOk, OnErr, Ok, None, Some, length, nat_le, slice_get, slice_range, vec_len, vec_capacity};
 ghost use Rattle.std.specs.FinMap as map;
-ghost use Rattle.jc_types.specs.Limits.{checked};
+ghost use Rattle.jc_types.specs.Limits.{check};
 ghost use Rattle.jc_model.specs.declared.event.Op.{Op};
 ghost use Rattle.jc_model.specs.Cache.{Bytes, entry_at};
-ghost use Rattle.jc_model.specs.Listed.{apart};
+ghost use Rattle.jc_model.specs.Listed.{has_distinct_keys};
 ghost use Rattle.jc_model.specs.Group.{load_only, write_only, nothing_said};
 ghost use Rattle.jc_model.specs.Legal.{Legal};
 ghost use Rattle.jc_stripe.specs.Tickets.{JoinClaim};
@@ -33,11 +33,9 @@ use crate::ticket::{
 use jc_entries::Entries;
 use jc_history::History;
 use jc_inflight::{JoinState, Joiners};
-use jc_model::event::{Change, Event, Op, Out};
+use jc_model::{Change, Event, Op, Out};
 use jc_reserve::Reservations;
-use jc_types::{
-    Caller, Config, HIT_PLACES, JOINERS_MAX, Key, RESERVATIONS_MAX, Refusal, STEP_PLACES, Value,
-};
+use jc_types::{Caller, Config, HIT_PLACES, JOINERS_MAX, Key, RESERVATIONS_MAX, Refusal, STEP_PLACES, Value};
 use std::alloc::{AllocError, Global};
 use std::marker::Model;
 
@@ -86,7 +84,7 @@ impl Stripe {
         number: usize,
         origin: Origin,
     ) -> Result<Self, AllocError>
-        requires { checked config.now ≡ Ok tt }
+        requires { check config.now ≡ Ok tt }
         ensures { IfOk result (λ s. s ≡ record { config = config.now; stripe = number; origin = origin; opening = []; cache = map.empty; reservations = []; joiners = []; history = []; next = 0 }) }
     {
         let entries = Entries::new(alloc, config.capacity)?;
@@ -231,7 +229,7 @@ impl Stripe {
     pub fn entries(&self, out: &mut Vec<(Key, Value)>) -> Result<(), AllocError>
         ensures by_use { OnOk result (out.new.items ≡ out.old.items ++ by_use self.now.opening self.now.history) }
         ensures cache { map.from_entries (by_use self.now.opening self.now.history) ≡ self.now.cache }
-        ensures once { IsTrue (apart (by_use self.now.opening self.now.history)) }
+        ensures once { IsTrue (has_distinct_keys (by_use self.now.opening self.now.history)) }
         ensures err { OnErr result (out.new.items ≡ out.old.items) }
     {
         self.entries.append_to(out)

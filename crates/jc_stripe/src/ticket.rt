@@ -10,9 +10,8 @@ ghost use Rattle.jc_stripe.specs.declared.ticket.Origin.TheVariants.{Played};
 ghost use Rattle.jc_stripe.specs.declared.ticket.First.TheVariants.{Nobody};
 ghost use Rattle.jc_stripe.specs.Tickets.{asks_loader, asks_writer, change_asked};
 
-use jc_model::event::{Change, LoadAnswer, Op, WriteAnswer};
-use jc_types::caller::Caller;
-use jc_types::key::Key;
+use jc_model::{Change, LoadAnswer, Op, WriteAnswer};
+use jc_types::{Caller, Key};
 use std::marker::Model;
 
 /// Where a stripe, and the outside answers for it, come from.

@@ -1,6 +1,6 @@
 -- The limits of a configuration, tested in order.
---     between     whether a number is at least the low limit and at most the high one
---     checked     nothing where each field is within its limits, and else the refusal of the first one that isn't
+--     is_between   whether a number is at least the low limit and at most the high one
+--     check        nothing where each field is within its limits, and else the refusal of the first one that isn't
 use Rattle.std.specs.Prelude.{ℕ, Bool, ◌&&◌, nat_le, Result, Ok, Err, if◌then◌else◌}
 use Rattle.jc_types.specs.declared.config.Config.{Config}
 use Rattle.jc_types.specs.declared.refusal.Refusal.{Refusal}
@@ -9,14 +9,14 @@ use Rattle.jc_types.specs.declared.config.Field.TheVariants.{Stripes, Capacity, 
 use Rattle.jc_types.specs.declared.limits.TheConstants.{STRIPES_MAX, CAPACITY_MAX, HISTORY_MIN, HISTORY_MAX}
 
 -- whether a number is at least the low limit and at most the high one
-abbrev pub between : ℕ → ℕ → ℕ → Bool
-between low high n = nat_le low n && nat_le n high
+abbrev pub is_between : ℕ → ℕ → ℕ → Bool
+is_between low high n = nat_le low n && nat_le n high
 
 -- nothing where each field is within its limits, and else the first field that isn't
-abbrev pub checked : Config → Result (Unit {0}) Refusal
-checked config =
-    if between 1 STRIPES_MAX config.stripes
-    then (if between 1 CAPACITY_MAX config.capacity
-    then (if between HISTORY_MIN HISTORY_MAX config.history then Ok tt else Err (BadConfig History))
+abbrev pub check : Config → Result (Unit {0}) Refusal
+check config =
+    if is_between 1 STRIPES_MAX config.stripes
+    then (if is_between 1 CAPACITY_MAX config.capacity
+    then (if is_between HISTORY_MIN HISTORY_MAX config.history then Ok tt else Err (BadConfig History))
     else Err (BadConfig Capacity))
     else Err (BadConfig Stripes)

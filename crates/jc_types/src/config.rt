@@ -47,12 +47,12 @@ pub struct Config {
 }
 
 impl Config {
-    ghost use Rattle.jc_types.specs.Limits.{checked};
+    ghost use Rattle.jc_types.specs.Limits.{check};
 
     /// Whether a cache may have this shape. An `Err` is [`Refusal::BadConfig`] with the first field
     /// out of its limits, in the order stripes, capacity, history.
     pub fn check(&self) -> Result<(), Refusal>
-        ensures { result ≡ checked self.now }
+        ensures { result ≡ check self.now }
     {
         if self.stripes < 1 || STRIPES_MAX < self.stripes {
             return Err(Refusal::BadConfig(Field::Stripes));

@@ -8,12 +8,12 @@ use Rattle.std.specs.List.{list_all}
 use Rattle.std.specs.Ordering.{eq_by_cmp}
 use Rattle.std.specs.Cmp.{eq_by_cmp_equiv}
 use Rattle.std.specs.Cmp.Lexicographic.{pointwise, texts_ties}
-use Rattle.std.proofs.lemmas.Bool.{eq-eqb, eqb-true}
+use Rattle.std.proofs.lemmas.Bool.{eq-eqb, eqb-true, and_parts}
 use Rattle.std.proofs.lemmas.Cmp.{nat_list_cmp_total, nat_list_eq_equiv}
 use Rattle.std.specs.FinMap.{get, insert, remove, get-insert, get-remove, empty, from_entries, len-empty}
 use Rattle.jc_types.specs.declared.caller.Caller.{Caller}
 use Rattle.jc_types.specs.declared.config.Config.{Config}
-use Rattle.jc_types.specs.Limits.{checked}
+use Rattle.jc_types.specs.Limits.{check}
 use Rattle.jc_types.specs.Stripes.{stripe_of}
 use Rattle.jc_model.specs.declared.event.Op.{Op}
 use Rattle.jc_model.specs.declared.event.Op.TheVariants.{Get, ContainsKey, Put, GetAndPut, PutIfAbsent, Remove, RemoveIf, GetAndRemove, Replace, ReplaceIf, GetAndReplace, Clear, LoadAll, Invoke}
@@ -22,8 +22,7 @@ use Rattle.jc_model.specs.declared.event.Event.{Event}
 use Rattle.jc_model.specs.Cache.{Bytes, Cache, key_cmp}
 use Rattle.jc_model.specs.Group.{nothing_said, events_of}
 use Rattle.jc_model.specs.Legal.{IsHistory, is_of_stripe, of_stripe, may_come}
-use Rattle.jc_model.proofs.Openings.{empty_opens}
-use Rattle.jc_model.proofs.Lookups.{both, same_key}
+use Rattle.jc_model.proofs.CallerLemmas.{empty_opens, same_key}
 use Rattle.jc_stripe.specs.declared.ticket.Reservation.{Reservation}
 use Rattle.jc_stripe.specs.declared.begun.StepDone.{StepDone}
 use Rattle.jc_stripe.specs.declared.begun.Begun.TheVariants as begun
@@ -149,7 +148,7 @@ empty_count config base zero = refl
 empty_count config base (suc count) = ap suc (empty_count config (base + 1) count)
 
 -- an empty stripe is reached
-reached_empty : (config : Config) (n : ℕ) → checked config ≡ Ok tt → IsReached (empty_stripe config n)
+reached_empty : (config : Config) (n : ℕ) → check config ≡ Ok tt → IsReached (empty_stripe config n)
 reached_empty config n fits = record {
   config_fits = fits;
   opening = refl;
@@ -172,7 +171,7 @@ reached_empty config n fits = record {
 }
 
 -- and one of the start
-start_stripe : (config : Config) (n : ℕ) → checked config ≡ Ok tt → IsStripe (start config) n (empty_stripe config n)
+start_stripe : (config : Config) (n : ℕ) → check config ≡ Ok tt → IsStripe (start config) n (empty_stripe config n)
 start_stripe config n fits = record { config_is = refl; number_is = refl; origin_is = refl; reached = reached_empty config n fits; share = refl }
 
 -- and each stripe of the start is an empty one
@@ -180,7 +179,7 @@ pub start_is : (config : Config) (n : ℕ) (s : State) → slice_get (empty_stri
 start_is config n s h = empty_at config 0 config.stripes n s h ∙ ap (empty_stripe config) (zero-add n)
 
 -- before anything has happened
-pub order_start : (config : Config) → checked config ≡ Ok tt → HasOrder (start config)
+pub order_start : (config : Config) → check config ≡ Ok tt → HasOrder (start config)
 order_start config fits = record {
   shape = record {
     config_fits = fits;
@@ -198,9 +197,9 @@ order_start config fits = record {
 -- what a fitting call has of use
 called_parts : (a b c d : Bool) → (a && b && c && d) ≡ true → (a ≡ true) × (c ≡ true) × (d ≡ true)
 called_parts a b c d h =
-    let p = both (a && b && c) d h in
-    let q = both (a && b) c p.0 in
-    ((both a b q.0).0, q.1, p.1)
+    let p = and_parts (a && b && c) d h in
+    let q = and_parts (a && b) c p.0 in
+    ((and_parts a b q.0).0, q.1, p.1)
 
 -- a session begins a call
 pub order_called : (w : WorldState) (call session : ℕ) (command : Command) → fits w (event.Call call session command) ≡ true → IsSoundWorld w
@@ -238,7 +237,7 @@ not_true false h = refl
 may_start_with : (w : WorldState) (call : ℕ) (u : Under) → is_free w call u.command.key ≡ true → under w call ≡ Some u → IsSoundWorld w → MayStart w u
 may_start_with w call u free is old =
     let key = u.command.key in
-    let parts = both (is_none (part_of w call key)) (not (is_joined w call key)) free in
+    let parts = and_parts (is_none (part_of w call key)) (not (is_joined w call key)) free in
     let number = found_number call w.calls u is in
     record {
       here = ap (under w) number ∙ is;
@@ -250,7 +249,7 @@ may_start_with w call u free is old =
 -- so where a start fits
 pub may_start_at : (w : WorldState) (call : ℕ) (key : Bytes) (u : Under) → fits w (event.Start call key) ≡ true → under w call ≡ Some u → IsSoundWorld w → MayStart w u
 may_start_at w call key u fit is old =
-    let parts = both (pointwise ◌==◌ key u.command.key) (is_free w call key) (sym (ap (may_start w call key) is) ∙ fit) in
+    let parts = and_parts (pointwise ◌==◌ key u.command.key) (is_free w call key) (sym (ap (may_start w call key) is) ∙ fit) in
     may_start_with w call u (ap (is_free w call) (sym (same_bytes key u.command.key parts.0)) ∙ parts.1) is old
 
 -- and where a call may leave
@@ -296,8 +295,8 @@ unserved w u number is free old = go (stripe_for w u.command.key) refl
     none_found s None e called = refl
     none_found s (Some j) e called =
         let h = called_found w (home w u.command.key) (is_joiner_of u.caller u.command.key) s.joiners j e called in
-        let test = both ((j.caller.session == u.caller.session) && (j.caller.call == u.caller.call)) (pointwise ◌==◌ u.command.key j.key) (found_test (is_joiner_of u.caller u.command.key) s.joiners j e) in
-        let same : j.caller.call ≡ number = eqb-true j.caller.call u.caller.call (both (j.caller.session == u.caller.session) (j.caller.call == u.caller.call) test.0).1 ∙ is in
+        let test = and_parts ((j.caller.session == u.caller.session) && (j.caller.call == u.caller.call)) (pointwise ◌==◌ u.command.key j.key) (found_test (is_joiner_of u.caller u.command.key) s.joiners j e) in
+        let same : j.caller.call ≡ number = eqb-true j.caller.call u.caller.call (and_parts (j.caller.session == u.caller.session) (j.caller.call == u.caller.call) test.0).1 ∙ is in
         let keys : j.key ≡ u.command.key = sym (same_bytes u.command.key j.key test.1) in
         let t : true ≡ false = sym h.join ∙ (λ i. is_joined w (same i) (keys i)) ∙ free in cc
 
@@ -655,7 +654,7 @@ caller_put w key from to call load place j there joiners own h waits =
       v = v.0;
       here = v.1;
       session_is = v.2.0;
-      unserved = before ∙ refuted (is_told (Some j)) (unanswered j.state (both (j.load == load) (is_waiting j.state) waits).1);
+      unserved = before ∙ refuted (is_told (Some j)) (unanswered j.state (and_parts (j.load == load) (is_waiting j.state) waits).1);
       over = inr (after ∙ told_waiting load place (place + 1) j.caller j.key from.joiners j own waits);
     }
 
@@ -750,8 +749,8 @@ told_without : (one other : Caller) (key k : Bytes) (js : List Joiner) → (othe
 told_without one other key k js apart h =
     ap is_told (find_kept (is_joiner_of other k) (λ j. not (is_joiner_of one key j)) js (λ x t.
     ap not (refuted (is_joiner_of one key x) (λ e.
-    let mine : x.caller.call ≡ other.call = eqb-true x.caller.call other.call (both (x.caller.session == other.session) (x.caller.call == other.call) (both ((x.caller.session == other.session) && (x.caller.call == other.call)) (pointwise ◌==◌ k x.key) t).0).1 in
-    let its : x.caller.call ≡ one.call = eqb-true x.caller.call one.call (both (x.caller.session == one.session) (x.caller.call == one.call) (both ((x.caller.session == one.session) && (x.caller.call == one.call)) (pointwise ◌==◌ key x.key) e).0).1 in
+    let mine : x.caller.call ≡ other.call = eqb-true x.caller.call other.call (and_parts (x.caller.session == other.session) (x.caller.call == other.call) (and_parts ((x.caller.session == other.session) && (x.caller.call == other.call)) (pointwise ◌==◌ k x.key) t).0).1 in
+    let its : x.caller.call ≡ one.call = eqb-true x.caller.call one.call (and_parts (x.caller.session == one.session) (x.caller.call == one.call) (and_parts ((x.caller.session == one.session) && (x.caller.call == one.call)) (pointwise ◌==◌ key x.key) e).0).1 in
     let c : true ≡ false = sym (eq-eqb other.call one.call (sym mine ∙ its)) ∙ apart in cc))))
     ∙ h
 

@@ -9,7 +9,7 @@ use Rattle.std.specs.List.{list_all, list_any}
 use Rattle.std.specs.Ordering.{eq_by_cmp}
 use Rattle.std.specs.Cmp.{eq_by_cmp_equiv}
 use Rattle.std.specs.Cmp.Lexicographic.{pointwise, texts_ties}
-use Rattle.std.proofs.lemmas.Bool.{eq-eqb, eqb-true}
+use Rattle.std.proofs.lemmas.Bool.{eq-eqb, eqb-true, and_parts}
 use Rattle.std.proofs.lemmas.Cmp.{nat_list_cmp_total, nat_list_eq_equiv}
 use Rattle.std.specs.FinMap.{find, get, get-from_entries}
 use Rattle.std.proofs.Common.{find as find_in}
@@ -17,7 +17,7 @@ use Rattle.jc_types.specs.declared.config.Config.{Config}
 use Rattle.jc_types.specs.Stripes.{stripe_of}
 use Rattle.jc_model.specs.declared.event.Out.{Out}
 use Rattle.jc_model.specs.Cache.{Bytes, key_cmp}
-use Rattle.jc_model.proofs.Lookups.{both, none_is}
+use Rattle.jc_model.proofs.CallerLemmas.{none_is}
 use Rattle.jc_inflight.specs.declared.joiner.Joiner.{Joiner}
 use Rattle.jc_inflight.specs.declared.joiner.JoinState.TheVariants.{Waiting}
 use Rattle.jc_inflight.specs.Joining.{belongs_to as is_joiner_of}
@@ -61,7 +61,7 @@ unfound_last key (x ∷ xs) e h =
 once_left : (xs : List Entry) (e : Entry) → once (xs ++ e ∷ []) ≡ true → once xs ≡ true
 once_left [] e h = refl
 once_left (x ∷ xs) e h =
-    let parts = both (is_none (find key_cmp x.0 (xs ++ e ∷ []))) (once (xs ++ e ∷ [])) h in
+    let parts = and_parts (is_none (find key_cmp x.0 (xs ++ e ∷ []))) (once (xs ++ e ∷ [])) h in
     all _ _ (ap is_none (unfound_last x.0 xs e (none_is _ parts.0)).0) (once_left xs e parts.1)
 
 -- the last slot's reservation is out, and so are the others
@@ -140,7 +140,7 @@ still_out config ss n from to x e at is apart =
 all_still : (config : Config) (ss : List State) (n : ℕ) (from to : State) (xs : List Entry) (e : Entry) → slice_get ss n ≡ Some from → IsOver e.0 from to → once (xs ++ e ∷ []) ≡ true → AllOut config ss xs → AllOut config (slice_set ss n to) xs
 all_still config ss n from to [] e at is o h = tt
 all_still config ss n from to (x ∷ xs) e at is o h =
-    let parts = both (is_none (find key_cmp x.0 (xs ++ e ∷ []))) (once (xs ++ e ∷ [])) o in
+    let parts = and_parts (is_none (find key_cmp x.0 (xs ++ e ∷ []))) (once (xs ++ e ∷ [])) o in
     (still_out config ss n from to x e at is (unfound_last x.0 xs e (none_is _ parts.0)).1 h.0, all_still config ss n from to xs e at is parts.1 h.1)
 
 -- a key that is found, and isn't the last one's, is found before it
@@ -156,8 +156,8 @@ found_before key (x ∷ xs) e apart h =
 backs : (xs : List Entry) (e : Entry) (rs : List Reservation) → list_all (λ r. is_some (find key_cmp r.key (xs ++ e ∷ []))) rs ≡ true → list_all (λ r. not (is_key e.0 r)) rs ≡ true → list_all (λ r. is_some (find key_cmp r.key xs)) rs ≡ true
 backs xs e [] h k = refl
 backs xs e (r ∷ rs) h k =
-    let a = both (is_some (find key_cmp r.key (xs ++ e ∷ []))) (list_all (λ (r : Reservation). is_some (find key_cmp r.key (xs ++ e ∷ []))) rs) h in
-    let b = both (not (is_key e.0 r)) (list_all (λ (r : Reservation). not (is_key e.0 r)) rs) k in
+    let a = and_parts (is_some (find key_cmp r.key (xs ++ e ∷ []))) (list_all (λ (r : Reservation). is_some (find key_cmp r.key (xs ++ e ∷ []))) rs) h in
+    let b = and_parts (not (is_key e.0 r)) (list_all (λ (r : Reservation). not (is_key e.0 r)) rs) k in
     all _ _ (found_before r.key xs e ((eq_by_cmp_equiv nat_list_cmp_total).symm r.key e.0 ∙ sym (texts_ties e.0 r.key) ∙ not_true (is_key e.0 r) b.0) a.0) (backs xs e rs a.1 b.1)
   where
     not_true : (b : Bool) → not b ≡ true → b ≡ false
@@ -249,8 +249,8 @@ other_joined from join j apart h =
   where
     parts_of_test : (j : JoinClaim) (x : Joiner) → is_joiner_of j.caller j.key x ≡ true → (x.caller.call ≡ j.caller.call) × (x.key ≡ j.key)
     parts_of_test j x t =
-        let parts = both ((x.caller.session == j.caller.session) && (x.caller.call == j.caller.call)) (pointwise ◌==◌ j.key x.key) t in
-        (eqb-true x.caller.call j.caller.call (both (x.caller.session == j.caller.session) (x.caller.call == j.caller.call) parts.0).1, sym (same_bytes j.key x.key parts.1))
+        let parts = and_parts ((x.caller.session == j.caller.session) && (x.caller.call == j.caller.call)) (pointwise ◌==◌ j.key x.key) t in
+        (eqb-true x.caller.call j.caller.call (and_parts (x.caller.session == j.caller.session) (x.caller.call == j.caller.call) parts.0).1, sym (same_bytes j.key x.key parts.1))
 
 -- none of a list passes a test where none of it and of one more does
 none_of : (p : JoinClaim → Bool) (xs : List JoinClaim) (y : JoinClaim) → not (list_any p (xs ++ y ∷ [])) ≡ true → (not (list_any p xs) ≡ true) × (p y ≡ false)
@@ -268,13 +268,13 @@ picked_up config ss from to js join at is h = record { once_is = singles js h.on
     singles : (js : List JoinClaim) → joined_once (js ++ join ∷ []) ≡ true → joined_once js ≡ true
     singles [] o = refl
     singles (x ∷ xs) o =
-        let parts = both (not (list_any (is_join x.caller.call x.key) (xs ++ join ∷ []))) (joined_once (xs ++ join ∷ [])) o in
+        let parts = and_parts (not (list_any (is_join x.caller.call x.key) (xs ++ join ∷ []))) (joined_once (xs ++ join ∷ [])) o in
         all _ _ (none_of (is_join x.caller.call x.key) xs join parts.0).0 (singles xs parts.1)
 
     each : (js : List JoinClaim) → joined_once (js ++ join ∷ []) ≡ true → AllJoinsOut config ss (js ++ join ∷ []) → AllJoinsOut config (slice_set ss n to) js
     each [] o h = tt
     each (x ∷ xs) o h =
-        let parts = both (not (list_any (is_join x.caller.call x.key) (xs ++ join ∷ []))) (joined_once (xs ++ join ∷ [])) o in
+        let parts = and_parts (not (list_any (is_join x.caller.call x.key) (xs ++ join ∷ []))) (joined_once (xs ++ join ∷ [])) o in
         let F : State → Type 0 = λ s. IsJoined s x in (
           at_stripe ss n (stripe_of x.key config.stripes) from to (λ o y. IsSomeAnd o F → IsSomeAnd y F) at
               (λ h. subst F (sym is) (other_joined from join x (none_of (is_join x.caller.call x.key) xs join parts.0).1 h)) (λ h. h) h.0,
@@ -322,7 +322,7 @@ home_of_join config ss joins xs join from is left h = home_of config ss join.key
 each_slot : (config : Config) (ss : List State) (slots : List Entry) → once slots ≡ true → ((key : Bytes) (part : Part) → find key_cmp key slots ≡ Some part → IsEntryOut config ss (key, part)) → AllOut config ss slots
 each_slot config ss [] o each = tt
 each_slot config ss (x ∷ xs) o each =
-    let parts = both (is_none (find key_cmp x.0 xs)) (once xs) o in
+    let parts = and_parts (is_none (find key_cmp x.0 xs)) (once xs) o in
     let rest : (key : Bytes) (part : Part) → find key_cmp key xs ≡ Some part → IsEntryOut config ss (key, part) = λ key part h.
     each key part (split key x.0 (λ (b : Bool). cond b (Some x.1) (find key_cmp key xs) ≡ Some part) (λ e. let twice : Some part ≡ None = sym h ∙ ap (λ k. find key_cmp k xs) e ∙ none_is _ parts.0 in cc) (λ e. h))
     in

@@ -4,6 +4,7 @@ use Rattle.std.specs.Ordering.{eq_by_cmp}
 use Rattle.std.specs.Cmp.{eq_by_cmp_equiv}
 use Rattle.std.proofs.lemmas.Cmp.{nat_list_cmp_total}
 use Rattle.std.specs.FinMap.{remove, len, get-remove}
+use Rattle.std.proofs.lemmas.Bool.{and_parts}
 use Rattle.jc_types.specs.declared.caller.Caller.{Caller}
 use Rattle.jc_types.specs.declared.config.Config.{Config}
 use Rattle.jc_model.specs.declared.event.Op.{Op}
@@ -21,7 +22,7 @@ use Rattle.jc_model.specs.Table.{entry_after, write_ask, holds, entry_without_fa
 use Rattle.jc_model.specs.Group.{nothing_said, without_victim, without_own, write_only, load_only}
 use Rattle.jc_model.specs.Lawful.{loads_whole}
 use Rattle.jc_model.specs.Processor.{found_in}
-use Rattle.jc_model.proofs.Lookups.{both, none_is, same_key, get-with_entry}
+use Rattle.jc_model.proofs.CallerLemmas.{none_is, same_key, get-with_entry}
 use Rattle.jc_stripe.specs.declared.begun.StepDone.{StepDone}
 use Rattle.jc_stripe.specs.State.{State}
 use Rattle.jc_stripe.specs.Refusals.{first_asked, first_by, writer_for}
@@ -74,7 +75,7 @@ found_without cache key true (Some other) h = get-remove nat_list_cmp_total cach
 
 -- a step that inserts into a full stripe finds its key missing
 came : (a b c : Bool) → ((a && b) && c) ≡ true → a ≡ true
-came a b c h = (both a b ((both (a && b) c h).0)).0
+came a b c h = (and_parts a b ((and_parts (a && b) c h).0)).0
 
 -- what the step finds at its key
 found_before : (s : State) (key : Bytes) (op : Op) (out : Out) → entry_at (without_victim s.cache (victim s key op out)) key ≡ entry_at s.cache key

@@ -6,12 +6,11 @@
 use Rattle.std.proofs.Common.{◌≡◌, ℕ, List, [], ◌∷◌, ◌++◌, true, false, cond, not, Option, None, Some, IsSomeAnd, find, inl, inr, refl, sym, ap, ◌∙◌, subst, arith, is_none, nat_lt, nat_le}
 use Rattle.std.specs.Option.{option_or}
 use Rattle.std.specs.FinMap.{get, remove, get-insert, get-remove}
-use Rattle.std.proofs.lemmas.Bool.{eq-eqb}
+use Rattle.std.proofs.lemmas.Bool.{eq-eqb, and_parts}
 use Rattle.std.proofs.lemmas.Bool.Decides.{nat_tests}
 use Rattle.std.proofs.lemmas.Cmp.{nat_list_cmp_total, nat_eq_equiv, nat_list_eq_equiv}
 use Rattle.std.proofs.lemmas.List.Folds.{find-append}
 use Rattle.jc_model.specs.Cache.{Bytes}
-use Rattle.jc_model.proofs.Lookups.{both}
 use Rattle.jc_stripe.specs.State.{State}
 use Rattle.jc_world.specs.declared.event.Part.{Part}
 use Rattle.jc_world.specs.declared.event.Under.{Under}
@@ -131,7 +130,7 @@ new_free w call key new old =
 pub start_fits : (w : WorldState) → IsSoundWorld w → StartFits w
 start_fits w old call session command fit =
     let u : Under = record { caller = record { session = session; call = call }; command = command } in
-    let new : is_new w.last call ≡ true = (both _ _ (both _ _ fit).0).1 in
+    let new : is_new w.last call ≡ true = (and_parts _ _ (and_parts _ _ fit).0).1 in
     let here : find (has_number call) (w.calls ++ u ∷ []) ≡ Some u =
     find-append (has_number call) w.calls (u ∷ []) ∙ ap (λ o. option_or o (find (has_number call) (u ∷ []))) (new_under w call new old) ∙ ap (λ b. cond b (Some u) None) (nat_eq_equiv.refl call)
     in

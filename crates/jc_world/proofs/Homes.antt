@@ -14,7 +14,7 @@ use Rattle.std.specs.Cmp.{eq_by_cmp_equiv}
 use Rattle.std.specs.Cmp.Lexicographic.{texts_ties}
 use Rattle.std.specs.FinMap.{get, remove, find, is_sorted, entries, entries_sorted, from_entries, get-remove, get-empty, get-entries, get-from_entries}
 use Rattle.std.specs.FinMap.Entries.{below_all}
-use Rattle.std.proofs.lemmas.Bool.{ne_eqb}
+use Rattle.std.proofs.lemmas.Bool.{ne_eqb, and_parts}
 use Rattle.std.proofs.lemmas.Cmp.{nat_list_cmp_total}
 use Rattle.std.proofs.lemmas.List.Folds.{list_all-append}
 use Rattle.jc_types.specs.declared.config.Config.{Config}
@@ -25,7 +25,7 @@ use Rattle.jc_model.specs.Cache.{Bytes, Cache, key_cmp, entry_at}
 use Rattle.jc_model.specs.Table.{holds, seq_entry}
 use Rattle.jc_model.specs.Group.{Group, victim_events, step_event, shared_event, step_place, evicted_events, events_of, history_of, without_victim, cache_before_step, cache_after_step, without_own, cache_after_group, cache_after_groups}
 use Rattle.jc_model.specs.Legal.{event_key}
-use Rattle.jc_model.proofs.Lookups.{both, same_key, get-with_entry}
+use Rattle.jc_model.proofs.CallerLemmas.{same_key, get-with_entry}
 use Rattle.jc_stripe.specs.State.{State, is_of}
 use Rattle.jc_stripe.specs.Reached.{IsReached, is_own}
 use Rattle.jc_world.specs.World.{WorldState, home, cached, entry_in}
@@ -69,9 +69,9 @@ of_step p place group h =
     let own = evicted_events group.step.key group.evicted in
     let front = victim_events group.victim in
     let step = step_event group ∷ shared in
-    let most = both (list_all p (front ++ step)) (list_all p own) (sym (list_all-append p (front ++ step) own) ∙ h) in
-    let parts = both (list_all p front) (list_all p step) (sym (list_all-append p front step) ∙ most.0) in
-    (both (p (step_event group)) (list_all p shared) parts.1).0
+    let most = and_parts (list_all p (front ++ step)) (list_all p own) (sym (list_all-append p (front ++ step) own) ∙ h) in
+    let parts = and_parts (list_all p front) (list_all p step) (sym (list_all-append p front step) ∙ most.0) in
+    (and_parts (p (step_event group)) (list_all p shared) parts.1).0
 
 -- events of other keys leave a key out
 none_after : (p : Event → Bool) (key : Bytes) → ((e : Event) → p e ≡ true → eq_by_cmp key_cmp key (event_key e) ≡ false) → (place : ℕ) (groups : List Group) (cache : Cache)
@@ -79,7 +79,7 @@ none_after : (p : Event → Bool) (key : Bytes) → ((e : Event) → p e ≡ tru
 none_after p key f place [] cache h none = none
 none_after p key f place (group ∷ groups) cache h none =
     let next = place + length (events_of place group) in
-    let parts = both (list_all p (events_of place group)) (list_all p (history_of next groups)) (sym (list_all-append p (events_of place group) (history_of next groups)) ∙ h) in
+    let parts = and_parts (list_all p (events_of place group)) (list_all p (history_of next groups)) (sym (list_all-append p (events_of place group) (history_of next groups)) ∙ h) in
     none_after p key f next groups (cache_after_group cache group) parts.1 (none_left cache group key (f (step_event group) (of_step p place group parts.0)) none)
 
 -- 2. What a stripe caches.
@@ -155,7 +155,7 @@ less_not_equal Greater h = cc
 none_below : (key : Bytes) (es : List (Bytes × Bytes)) → below_all key_cmp key es ≡ true → find key_cmp key es ≡ None
 none_below key [] h = refl
 none_below key (e ∷ es) h =
-    let parts = both (is_lt (key_cmp key e.0)) (below_all key_cmp key es) h in
+    let parts = and_parts (is_lt (key_cmp key e.0)) (below_all key_cmp key es) h in
     ap (λ b. cond b (Some e.1) (find key_cmp key es)) (less_not_equal (key_cmp key e.0) parts.0) ∙ none_below key es parts.1
 
 -- what is found in a sorted list is found behind the first, too, if it stands there
@@ -170,7 +170,7 @@ found_behind e es key value low h =
 takes_none : (p : Bytes × Bytes → Bool) (es : List (Bytes × Bytes)) → is_sorted key_cmp es ≡ true → ((key value : Bytes) → find key_cmp key es ≡ Some value → p (key, value) ≡ false) → filter p es ≡ []
 takes_none p [] sorted h = refl
 takes_none p (e ∷ es) sorted h =
-    let parts = both (below_all key_cmp e.0 es) (is_sorted key_cmp es) sorted in
+    let parts = and_parts (below_all key_cmp e.0 es) (is_sorted key_cmp es) sorted in
     let here : find key_cmp e.0 (e ∷ es) ≡ Some e.1 = ap (λ b. cond b (Some e.1) (find key_cmp e.0 es)) ((eq_by_cmp_equiv nat_list_cmp_total).refl e.0) in
     ap (λ b. cond b (e ∷ filter p es) (filter p es)) (h e.0 e.1 here)
     ∙ takes_none p es parts.1 (λ key value found. h key value (found_behind e es key value parts.0 found))

@@ -13,11 +13,11 @@ use Rattle.std.proofs.lemmas.Iterator.Adapters.{position_from-zero}
 use Rattle.std.specs.Ordering.{eq_by_cmp}
 use Rattle.std.specs.Cmp.Lexicographic.{pointwise}
 use Rattle.std.specs.FinMap.{get, insert, remove, get-insert, get-remove}
-use Rattle.std.proofs.lemmas.Bool.{eqb-true}
+use Rattle.std.proofs.lemmas.Bool.{eqb-true, and_parts}
 use Rattle.std.proofs.lemmas.Cmp.{nat_list_cmp_total, nat_eq_equiv, nat_list_eq_equiv}
 use Rattle.jc_types.specs.declared.caller.Caller.{Caller}
 use Rattle.jc_model.specs.Cache.{Bytes, key_cmp}
-use Rattle.jc_model.proofs.Lookups.{both, same_key}
+use Rattle.jc_model.proofs.CallerLemmas.{same_key}
 use Rattle.jc_inflight.specs.declared.joiner.Joiner.{Joiner}
 use Rattle.jc_inflight.specs.declared.joiner.JoinState.{JoinState}
 use Rattle.jc_inflight.specs.declared.joiner.JoinState.TheVariants.{Waiting, Answered, Again}
@@ -85,7 +85,7 @@ told_dissolved load caller key (x ∷ xs) h =
     let p = belongs_to caller key in
     elim (waits_for load x) as (λ b. waits_for load x ≡ b → is_told (find p (cond b (record x { state = Again }) x ∷ dissolved load xs)) ≡ true) [
       | true ↦ λ e. elim (p x) as (λ b. is_told (cond b (Some x) (find p xs)) ≡ true → is_told (cond b (Some (record x { state = Again })) (find p (dissolved load xs))) ≡ true) [
-        | true ↦ λ h. absurd (unanswered x.state (both (x.load == load) (is_waiting x.state) e).1 h)
+        | true ↦ λ h. absurd (unanswered x.state (and_parts (x.load == load) (is_waiting x.state) e).1 h)
         | false ↦ λ h. told_dissolved load caller key xs h
       ] h
       | false ↦ λ e. elim (p x) as (λ b. is_told (cond b (Some x) (find p xs)) ≡ true → is_told (cond b (Some x) (find p (dissolved load xs))) ≡ true) [
@@ -147,7 +147,7 @@ not_of x j h =
 pub each_own : (js : List Joiner) → are_apart js ≡ true → Each (λ (j : Joiner). joiner_of j.caller j.key js ≡ Some j) js
 each_own [] h = tt
 each_own (x ∷ xs) h =
-    let parts = both (list_all (is_other_join x.caller x.key) xs) (are_apart xs) h in (
+    let parts = and_parts (list_all (is_other_join x.caller x.key) xs) (are_apart xs) h in (
       ap (λ b. cond b (Some x) (find (belongs_to x.caller x.key) xs)) (all _ _ (all _ _ (nat_eq_equiv.refl x.caller.session) (nat_eq_equiv.refl x.caller.call)) (nat_list_eq_equiv.refl x.key)),
       behind xs (each_own xs parts.1) parts.0,
     )
@@ -155,7 +155,7 @@ each_own (x ∷ xs) h =
     behind : (ys : List Joiner) → Each (λ (j : Joiner). joiner_of j.caller j.key xs ≡ Some j) ys → list_all (is_other_join x.caller x.key) ys ≡ true → Each (λ (j : Joiner). joiner_of j.caller j.key (x ∷ xs) ≡ Some j) ys
     behind [] h apart = tt
     behind (y ∷ ys) h apart =
-        let parts = both (is_other_join x.caller x.key y) (list_all (is_other_join x.caller x.key) ys) apart in
+        let parts = and_parts (is_other_join x.caller x.key y) (list_all (is_other_join x.caller x.key) ys) apart in
         (ap (λ b. cond b (Some x) (find (belongs_to y.caller y.key) xs)) (not_of x y parts.0) ∙ h.0, behind ys h.1 parts.1)
 
 -- the callers of a load, from the joiners that wait for it
@@ -339,7 +339,7 @@ waited_found w p (x ∷ xs) j h waited =
 
 -- a join is of its call and its key
 pub join_is : (call : ℕ) (key : Bytes) (j : JoinClaim) → is_join call key j ≡ true → (j.caller.call ≡ call) × (j.key ≡ key)
-join_is call key j h = let parts = both (j.caller.call == call) (pointwise ◌==◌ key j.key) h in (eqb-true j.caller.call call parts.0, sym (same_bytes key j.key parts.1))
+join_is call key j h = let parts = and_parts (j.caller.call == call) (pointwise ◌==◌ key j.key) h in (eqb-true j.caller.call call parts.0, sym (same_bytes key j.key parts.1))
 
 -- where a call has joined, it has no part
 pub joined_no_part : (w : WorldState) (call : ℕ) (key : Bytes) → is_joined w call key ≡ true → AllWaitedFor w w.joins → part_of w call key ≡ None
@@ -380,7 +380,7 @@ none_left p q (x ∷ xs) h =
 pub once_filter : (q : JoinClaim → Bool) (js : List JoinClaim) → joined_once js ≡ true → joined_once (filter q js) ≡ true
 once_filter q [] h = h
 once_filter q (x ∷ xs) h =
-    let parts = both (not (list_any (is_join x.caller.call x.key) xs)) (joined_once xs) h in
+    let parts = and_parts (not (list_any (is_join x.caller.call x.key) xs)) (joined_once xs) h in
     elim (q x) as (λ b. joined_once (cond b (x ∷ filter q xs) (filter q xs)) ≡ true) [
       | true ↦ all _ _ (none_left (is_join x.caller.call x.key) q xs parts.0) (once_filter q xs parts.1)
       | false ↦ once_filter q xs parts.1
@@ -397,7 +397,7 @@ not_joined j x h = (λ i. turned_eq j.caller.call x.caller.call i && turned_key 
 pub once_pushed : (js : List JoinClaim) (j : JoinClaim) → not (list_any (is_join j.caller.call j.key) js) ≡ true → joined_once js ≡ true → joined_once (js ++ j ∷ []) ≡ true
 once_pushed [] j h o = refl
 once_pushed (x ∷ xs) j h o =
-    let parts = both (not (list_any (is_join x.caller.call x.key) xs)) (joined_once xs) o in
+    let parts = and_parts (not (list_any (is_join x.caller.call x.key) xs)) (joined_once xs) o in
     elim (is_join j.caller.call j.key x) as (λ b. is_join j.caller.call j.key x ≡ b → not (b || list_any (is_join j.caller.call j.key) xs) ≡ true → (not (list_any (is_join x.caller.call x.key) (xs ++ j ∷ [])) && joined_once (xs ++ j ∷ [])) ≡ true) [
       | true ↦ λ e h. cc
       | false ↦ λ e h. all _ _ (none_more (is_join x.caller.call x.key) xs j parts.0 (not_joined j x e)) (once_pushed xs j h parts.1)
@@ -450,7 +450,7 @@ stands_from : (call : ℕ) (key : Bytes) (js : List JoinClaim) (k i : ℕ) → p
 stands_from call key [] k i h o = cc
 stands_from call key (x ∷ xs) k i h o =
     let p = is_join call key in
-    let parts = both (not (list_any (is_join x.caller.call x.key) xs)) (joined_once xs) o in
+    let parts = and_parts (not (list_any (is_join x.caller.call x.key) xs)) (joined_once xs) o in
     elim (p x) as (λ b. p x ≡ b → cond b (Some k) (position_from p (k + 1) xs) ≡ Some i → (j : ℕ) × (i ≡ k + j) × Stands call key (x ∷ xs) j) [
       | true ↦ λ e h.
           let is : k ≡ i = cc in

@@ -5,14 +5,14 @@ use Rattle.std.proofs.Common.{◌≡◌, ◌==◌, ◌&&◌, ◌+◌, ℕ, List,
 use Rattle.std.specs.List.{list_any}
 use Rattle.std.specs.Cmp.Lexicographic.{pointwise}
 use Rattle.std.specs.FinMap.{get, insert, remove}
-use Rattle.std.proofs.lemmas.Bool.{eq-eqb, eqb-true}
+use Rattle.std.proofs.lemmas.Bool.{eq-eqb, eqb-true, and_parts}
 use Rattle.std.proofs.lemmas.Cmp.{nat_eq_equiv, nat_list_eq_equiv}
 use Rattle.jc_types.specs.declared.caller.Caller.{Caller}
 use Rattle.jc_types.specs.declared.config.Config.{Config}
-use Rattle.jc_types.specs.Limits.{checked}
+use Rattle.jc_types.specs.Limits.{check}
 use Rattle.jc_model.specs.declared.event.Event.{Event}
 use Rattle.jc_model.specs.Cache.{Bytes, Cache}
-use Rattle.jc_model.proofs.Lookups.{both, none_is}
+use Rattle.jc_model.proofs.CallerLemmas.{none_is}
 use Rattle.jc_inflight.specs.declared.joiner.Joiner.{Joiner}
 use Rattle.jc_inflight.specs.declared.joiner.JoinState.TheVariants.{Waiting}
 use Rattle.jc_inflight.specs.Joining.{belongs_to as is_joiner_of}
@@ -45,8 +45,8 @@ use Rattle.jc_world.proofs.Callers.{MayStart, may_start_at, may_leave_at, start_
 -- a joiner is of its session, its call and its key
 joiner_is : (caller : Caller) (key : Bytes) (j : Joiner) → is_joiner_of caller key j ≡ true → (j.caller.session ≡ caller.session) × (j.caller.call ≡ caller.call) × (j.key ≡ key)
 joiner_is caller key j h =
-    let parts = both ((j.caller.session == caller.session) && (j.caller.call == caller.call)) (pointwise ◌==◌ key j.key) h in
-    let pair = both (j.caller.session == caller.session) (j.caller.call == caller.call) parts.0 in
+    let parts = and_parts ((j.caller.session == caller.session) && (j.caller.call == caller.call)) (pointwise ◌==◌ key j.key) h in
+    let pair = and_parts (j.caller.session == caller.session) (j.caller.call == caller.call) parts.0 in
     (eqb-true j.caller.session caller.session pair.0, eqb-true j.caller.call caller.call pair.1, sym (same_bytes key j.key parts.1))
 
 -- a call of this session on this key
@@ -375,7 +375,7 @@ joins_picks w new call key join from to seen joined there h old = absurd h
 -- 7. Before anything has happened, and any event that fits.
 
 -- before anything has happened
-pub joins_start : (config : Config) → checked config ≡ Ok tt → HasJoins (start config)
+pub joins_start : (config : Config) → check config ≡ Ok tt → HasJoins (start config)
 joins_start config fits = record {
   joins = tt;
   called = λ n s here. let P : State → Type 0 = λ s. AllCalled (start config) n s.joiners in subst P (sym (start_is config n s here)) tt;

@@ -4,11 +4,12 @@ use Rattle.std.specs.List.{list_any}
 use Rattle.std.specs.Ordering.{eq_by_cmp}
 use Rattle.std.specs.Cmp.Lexicographic.{texts_ties, pointwise}
 use Rattle.std.proofs.lemmas.Cmp.{nat_list_cmp_total}
-use Rattle.std.proofs.lemmas.Bool.{eqb-true}
+use Rattle.std.proofs.lemmas.Bool.{eqb-true, and_parts}
 use Rattle.std.specs.FinMap.{get, insert, remove, get-empty, get-insert, get-remove}
+use Rattle.std.specs.Bool.{beq}
 use Rattle.jc_types.specs.declared.caller.Caller.{Caller}
 use Rattle.jc_types.specs.declared.config.Config.{Config}
-use Rattle.jc_types.specs.Limits.{checked}
+use Rattle.jc_types.specs.Limits.{check}
 use Rattle.jc_model.specs.declared.event.Op.{Op}
 use Rattle.jc_model.specs.declared.event.Event.{Event}
 use Rattle.jc_model.specs.declared.event.Change.{Change}
@@ -18,10 +19,10 @@ use Rattle.jc_model.specs.declared.event.WriteAnswer.{WriteAnswer}
 use Rattle.jc_model.specs.declared.event.WriteAnswer.TheVariants as write
 use Rattle.jc_model.specs.declared.event.ProcessAnswer.TheVariants as process
 use Rattle.jc_model.specs.Cache.{Bytes, Cache, key_cmp, entry_at, with_entry}
-use Rattle.jc_model.specs.Table.{entry_after, write_ask, holds, is_load_given, is_write_given, alike}
+use Rattle.jc_model.specs.Table.{entry_after, write_ask, holds, is_load_given, is_write_given}
 use Rattle.jc_model.specs.Group.{nothing_said, write_only}
 use Rattle.jc_model.specs.Processor.{found_in}
-use Rattle.jc_model.proofs.Lookups.{both, same_key, get-with_entry}
+use Rattle.jc_model.proofs.CallerLemmas.{same_key, get-with_entry}
 use Rattle.jc_inflight.specs.Joining.{callers_of}
 use Rattle.jc_stripe.specs.declared.ticket.Reservation.{Reservation}
 use Rattle.jc_stripe.specs.Tickets.{Ticket, JoinClaim, asks_loader, asks_writer}
@@ -77,24 +78,24 @@ all a b h k = ap (λ x. x && b) h ∙ k
 -- a further premise held, and all the former ones
 hold_loader : (on w l h q : Bool) → (on && (w && (l && h) && q)) ≡ true → ((on && (w && l && q)) ≡ true) × (h ≡ true)
 hold_loader on w l h q e =
-    let a = both on (w && (l && h) && q) e in
-    let b = both (w && (l && h)) q a.1 in
-    let c = both w (l && h) b.0 in
-    let d = both l h c.1 in
+    let a = and_parts on (w && (l && h) && q) e in
+    let b = and_parts (w && (l && h)) q a.1 in
+    let c = and_parts w (l && h) b.0 in
+    let d = and_parts l h c.1 in
     (all on (w && l && q) a.0 (all (w && l) q (all w l c.0 d.0) b.1), d.1)
 
 -- the same, of the writers
 hold_writer : (on w h l q : Bool) → (on && ((w && h) && l && q)) ≡ true → ((on && (w && l && q)) ≡ true) × (h ≡ true)
 hold_writer on w h l q e =
-    let a = both on ((w && h) && l && q) e in
-    let b = both ((w && h) && l) q a.1 in
-    let c = both (w && h) l b.0 in
-    let d = both w h c.0 in
+    let a = and_parts on ((w && h) && l && q) e in
+    let b = and_parts ((w && h) && l) q a.1 in
+    let c = and_parts (w && h) l b.0 in
+    let d = and_parts w h c.0 in
     (all on (w && l && q) a.0 (all (w && l) q (all w l d.0 c.1) b.1), d.1)
 
 -- a store that was written by somebody else isn't quiet
 undisturbed : (on w l : Bool) → (on && (w && l && false)) ≡ true → ⊥
-undisturbed on w l h = let t = (both (w && l) false ((both on (w && l && false) h).1)).1 in cc
+undisturbed on w l h = let t = (and_parts (w && l) false ((and_parts on (w && l && false) h).1)).1 in cc
 
 -- a part of a call at a key is the key's part
 pub is_there : (o : Option Part) (call : ℕ) (part : Part) → of_call call o ≡ Some part → o ≡ Some part
@@ -160,10 +161,11 @@ true_found load.Nothing stored h = tt
 true_found (load.Failed code) stored h = tt
 
 -- tests that answer alike are the same
-alike_same : (a b : Bool) → alike a b ≡ true → b ≡ a
-alike_same true b h = h
-alike_same false true h = cc
-alike_same false false h = refl
+same_test : (a b : Bool) → beq a b ≡ true → b ≡ a
+same_test true true h = refl
+same_test true false h = cc
+same_test false true h = cc
+same_test false false h = refl
 
 -- a test does not pass where its opposite does
 not_true : (b : Bool) → not b ≡ true → b ≡ true → ⊥
@@ -287,7 +289,7 @@ parts_answered w call key part answer is waits old =
     let n = answered w key part answer in
     let new : Part = record part { load = answer } in
     let there = is_there (get w.parts key) call part is in
-    let asked = both (asks_loader part.reservation.first) (not (is_load_given part.load)) (sym (ap waits_for_load is) ∙ waits) in
+    let asked = and_parts (asks_loader part.reservation.first) (not (is_load_given part.load)) (sym (ap waits_for_load is) ∙ waits) in
     record {
       held = held_insert n w.parts key new (held_aside w w.store w.fresh n.parts n.premises old)
           (some_map (stripe_for w key) (λ s. IsHeld w s key part) (λ s. IsHeld n s key new) (λ s h. record { key_is = h.key_is; out = h.out; kind = kind_said part.reservation.first part (entry_at s.cache key) answer asked.0 h.kind; call = h.call }) (old.held key part there));
@@ -306,7 +308,7 @@ parts_changed w call key part change is asks waits old =
     let n = changed w key part change in
     let new : Part = record part { is_changed = true } in
     let there = is_there (get w.parts key) call part is in
-    let asked = both (asks_writer part.reservation.first) (not (is_write_given part.report)) (sym (ap waits_for_report is) ∙ waits) in
+    let asked = and_parts (asks_writer part.reservation.first) (not (is_write_given part.report)) (sym (ap waits_for_report is) ∙ waits) in
     let at = stripe_at w key old in
     let held = held_at w key part at.0 there at.1 old in
     record {
@@ -335,7 +337,7 @@ parts_reported w call key part report is waits old =
     let n = reported w key part report in
     let new : Part = record part { report = report } in
     let there = is_there (get w.parts key) call part is in
-    let asked = both (asks_writer part.reservation.first) (not (is_write_given part.report)) (sym (ap waits_for_report is) ∙ waits) in
+    let asked = and_parts (asks_writer part.reservation.first) (not (is_write_given part.report)) (sym (ap waits_for_report is) ∙ waits) in
     record {
       held = held_insert n w.parts key new (held_aside w w.store w.fresh n.parts n.premises old)
           (some_map (stripe_for w key) (λ s. IsHeld w s key part) (λ s. IsHeld n s key new) (λ s h. record { key_is = h.key_is; out = h.out; kind = kind_reported part.reservation.first part (entry_at s.cache key) report asked.0 h.kind; call = h.call }) (old.held key part there));
@@ -343,7 +345,7 @@ parts_reported w call key part report is waits old =
           let hold = hold_writer w.config.write_through w.premises.writers (is_true_report report part) w.premises.loaders w.premises.quiet h in
           let all = old.told hold.0 in
           let one = told_at (get w.parts key) part (entry_at w.store key) (cached w key) there (all key) in
-          told_insert n w.parts w.store key new all (record { loaded = one.loaded; written = one.written; unwritten = one.unwritten; honest = λ e. alike_same part.is_changed (is_done report) hold.1 });
+          told_insert n w.parts w.store key new all (record { loaded = one.loaded; written = one.written; unwritten = one.unwritten; honest = λ e. same_test part.is_changed (is_done report) hold.1 });
       fresh = λ f. absurd (worn w key part there old f);
       idle = λ f. (old.idle f).0;
     }
@@ -375,7 +377,7 @@ cached_none config first (suc count) zero key = get-empty key_cmp key
 cached_none config first (suc count) (suc number) key = cached_none config (first + 1) count number key
 
 -- nothing is cached, reserved or under way before anything has happened
-pub parts_start : (config : Config) → checked config ≡ Ok tt → HasParts (start config)
+pub parts_start : (config : Config) → check config ≡ Ok tt → HasParts (start config)
 parts_start config fits =
     let w = start config in
     let none : (key : Bytes) → cached w key ≡ None = λ key. cached_none config 0 config.stripes (home w key) key in
@@ -432,8 +434,8 @@ left_under w call u q p is e old own = under_left p.reservation.caller.call call
 -- the call has no part at its key before its first phase
 none_before : (w : WorldState) (call : ℕ) (key : Bytes) (u : Under) → fits w (event.Start call key) ≡ true → under w call ≡ Some u → is_none (part_of w call u.command.key) ≡ true
 none_before w call key u fit is =
-    let parts = both (pointwise ◌==◌ key u.command.key) (is_free w call key) (sym (ap (may_start w call key) is) ∙ fit) in
-    ap (λ k. is_none (part_of w call k)) (sym (same_key key u.command.key (sym (texts_ties key u.command.key) ∙ parts.0))) ∙ (both (is_none (part_of w call key)) (not (is_joined w call key)) parts.1).0
+    let parts = and_parts (pointwise ◌==◌ key u.command.key) (is_free w call key) (sym (ap (may_start w call key) is) ∙ fit) in
+    ap (λ k. is_none (part_of w call k)) (sym (same_key key u.command.key (sym (texts_ties key u.command.key) ∙ parts.0))) ∙ (and_parts (is_none (part_of w call key)) (not (is_joined w call key)) parts.1).0
 
 -- all parts stay, where a call without a part is over
 over_free : (w : WorldState) (call : ℕ) (u : Under) → under w call ≡ Some u → is_none (part_of w call u.command.key) ≡ true → IsSoundWorld w → StayUnder w.parts (over call w.calls)
@@ -508,7 +510,7 @@ parts_stepped kept w call u from next order done is stay at begins old =
           (held_still w n (stripe_for w q) q p (stay q p e))
           (old.held q p e);
       told = λ hold q.
-          let on : from.config.write_through ≡ true = ap (λ (c : Config). c.write_through) (config_at w (home w key) from at old) ∙ (both w.config.write_through (premises_hold w.premises) hold).0 in
+          let on : from.config.write_through ≡ true = ap (λ (c : Config). c.write_through) (config_at w (home w key) from at old) ∙ (and_parts w.config.write_through (premises_hold w.premises) hold).0 in
           at_stripe w.stripes (home w key) (home w q) from next (λ o x. KeyTold (get w.parts q) (entry_at w.store q) (entry_in o q) → KeyTold (get w.parts q) (entry_at w.store q) (entry_in x q)) at
           (told_on (get w.parts q) (entry_at w.store q) (entry_at from.cache q) (entry_at next.cache q) (agrees_begun u from next done q (entry_at w.store q) begins on))
           (λ h. h)
@@ -763,8 +765,8 @@ unchanged : (o : Option Part) (part : Part) → o ≡ Some part → is_untouched
 unchanged None part is h = cc
 unchanged (Some p) part is h =
     let same : p ≡ part = cc in
-    let parts = both (not (is_load_given p.load) && not p.is_changed) (not (is_write_given p.report)) h in
-    ap (λ (x : Part). x.is_changed) (sym same) ∙ go p.is_changed (both (not (is_load_given p.load)) (not p.is_changed) parts.0).1
+    let parts = and_parts (not (is_load_given p.load) && not p.is_changed) (not (is_write_given p.report)) h in
+    ap (λ (x : Part). x.is_changed) (sym same) ∙ go p.is_changed (and_parts (not (is_load_given p.load)) (not p.is_changed) parts.0).1
   where
     go : (b : Bool) → not b ≡ true → b ≡ false
     go true h = cc
@@ -821,7 +823,7 @@ parts_left w call fit old = go (under w call) refl
         let Q : ℕ → Type 0 = λ n. StayUnder w.parts (over n w.calls) in
         let number = found_number call w.calls u e in
         subst P number
-        (parts_refused w call u e (subst Q (sym number) (over_free w call u e (both (is_none (part_of w call u.command.key)) (not (is_joined w call u.command.key)) free).0 old)) old)
+        (parts_refused w call u e (subst Q (sym number) (over_free w call u e (and_parts (is_none (part_of w call u.command.key)) (not (is_joined w call u.command.key)) free).0 old)) old)
 
 -- the half of a sound world
 parts_of_sound : (w : WorldState) → IsSoundWorld w → HasParts w

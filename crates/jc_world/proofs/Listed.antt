@@ -9,8 +9,10 @@ use Rattle.std.specs.Cmp.Lexicographic.{texts_ties}
 use Rattle.std.proofs.lemmas.Cmp.{nat_list_cmp_total}
 use Rattle.std.specs.FinMap as map
 use Rattle.std.specs.FinMap.{find, insert, from_entries, same_map, get-from_entries, get-insert, get-remove}
+use Rattle.std.proofs.lemmas.Bool.{and_parts}
+use Rattle.std.proofs.lemmas.Map.Lookups.{exact_bytes}
 use Rattle.jc_model.specs.Cache.{Bytes, key_cmp}
-use Rattle.jc_model.proofs.Lookups.{both, same_key, exact, none_is}
+use Rattle.jc_model.proofs.CallerLemmas.{same_key, none_is}
 use Rattle.jc_world.specs.declared.event.Part.{Part}
 use Rattle.jc_world.specs.Slots.{once, is_under, part_under}
 
@@ -36,7 +38,7 @@ at_from call key (x ∷ xs) k i h =
     elim (is_under call key x) as (λ b. is_under call key x ≡ b → cond b (Some k) (position_from (is_under call key) (k + 1) xs) ≡ Some i → (j : ℕ) × (i ≡ k + j) × Found call key (x ∷ xs) j) [
       | true ↦ λ e h.
           let is : k ≡ i = cc in
-          let tie = sym (texts_ties key x.0) ∙ (both (x.1.reservation.caller.call == call) _ e).1 in
+          let tie = sym (texts_ties key x.0) ∙ (and_parts (x.1.reservation.caller.call == call) _ e).1 in
           let same : x ≡ (key, x.1) = λ t. (sym (same_key key x.0 tie) t, x.1) in
           (0, omega arith, record { part = x.1; here = ap Some same; first = ap (λ b. cond b (Some x.1) (part_under call key xs)) e })
       | false ↦ λ e h.
@@ -100,7 +102,7 @@ find-set (x ∷ xs) zero key part new q h o =
     shadow (eq_by_cmp key_cmp q key) (Some new) (Some part) (find key_cmp q xs)
     ∙ ap (λ (y : Entry). cond (eq_by_cmp key_cmp q key) (Some new) (cond (eq_by_cmp key_cmp q y.0) (Some y.1) (find key_cmp q xs))) (sym is)
 find-set (x ∷ xs) (suc i) key part new q h o =
-    let parts = both (is_none (find key_cmp x.0 xs)) (once xs) o in
+    let parts = and_parts (is_none (find key_cmp x.0 xs)) (once xs) o in
     ap (λ r. cond (eq_by_cmp key_cmp q x.0) (Some x.1) r) (find-set xs i key part new q h parts.1)
     ∙ crossed (eq_by_cmp key_cmp q x.0) (eq_by_cmp key_cmp q key) (Some x.1) (Some new) (find key_cmp q xs) (λ e f. apart_in x xs i key q part h parts.0 e f)
 
@@ -110,7 +112,7 @@ Alike es fs = once es ≡ true → (once fs ≡ true) × ((q : Bytes) → find k
 
 under : (x : Entry) (es fs : List Entry) → Alike es fs → Alike (x ∷ es) (x ∷ fs)
 under x es fs f o =
-    let parts = both (is_none (find key_cmp x.0 es)) (once es) o in
+    let parts = and_parts (is_none (find key_cmp x.0 es)) (once es) o in
     let rest = f parts.1 in
     ((λ i. is_none (rest.1 x.0 i) && rest.0 i) ∙ ap (λ b. b && true) parts.0, λ q. ap (cond (eq_by_cmp key_cmp q x.0) (Some x.1)) (rest.1 q))
 
@@ -122,8 +124,8 @@ unfound key x xs h = elim (eq_by_cmp key_cmp key x.0) as (λ b. cond b (Some x.1
 in_front : (x y : Entry) (es zs : List Entry) → Alike es (y ∷ zs) → Alike (x ∷ es) (y ∷ x ∷ zs)
 in_front x y es zs f o =
     let here = under x es (y ∷ zs) f o in
-    let parts = both (is_none (find key_cmp x.0 (y ∷ zs))) (once (y ∷ zs)) here.0 in
-    let later = both (is_none (find key_cmp y.0 zs)) (once zs) parts.1 in
+    let parts = and_parts (is_none (find key_cmp x.0 (y ∷ zs))) (once (y ∷ zs)) here.0 in
+    let later = and_parts (is_none (find key_cmp y.0 zs)) (once zs) parts.1 in
     let free = unfound x.0 y zs (none_is _ parts.0) in
     let turned : eq_by_cmp key_cmp y.0 x.0 ≡ false = (eq_by_cmp_equiv nat_list_cmp_total).symm y.0 x.0 ∙ free.0 in (
       (λ i. is_none (cond (turned i) (Some x.1) (none_is _ later.0 i)) && (is_none (free.1 i) && later.1 i)),
@@ -168,7 +170,7 @@ find-push (x ∷ xs) key new q h =
 -- what the map is then
 
 pub map-set : (es : List Entry) (i : ℕ) (key : Bytes) (part new : Part) → slice_get es i ≡ Some (key, part) → once es ≡ true → from_entries {R = key_cmp} (slice_set es i (key, new)) ≡ insert (from_entries es) key new
-map-set es i key part new h o = same_map nat_list_cmp_total exact _ _ (λ q.
+map-set es i key part new h o = same_map nat_list_cmp_total exact_bytes _ _ (λ q.
     get-from_entries nat_list_cmp_total (slice_set es i (key, new)) q ∙ find-set es i key part new q h o
     ∙ sym (get-insert nat_list_cmp_total (from_entries es) key new q ∙ ap (cond (eq_by_cmp key_cmp q key) (Some new)) (get-from_entries nat_list_cmp_total es q)))
 
@@ -176,8 +178,8 @@ pub map-swap_remove : (es : List Entry) (i : ℕ) (key : Bytes) (part : Part) (d
 map-swap_remove es i key part d h o =
     let left = swap_remove es i d in
     let now = taken es i (key, part) d h o in
-    let gone = none_is _ (both (is_none (find key_cmp key left)) (once left) now.0).0 in
-    same_map nat_list_cmp_total exact _ _ (λ q.
+    let gone = none_is _ (and_parts (is_none (find key_cmp key left)) (once left) now.0).0 in
+    same_map nat_list_cmp_total exact_bytes _ _ (λ q.
     get-from_entries nat_list_cmp_total left q
     ∙ split q key (λ b. find key_cmp q left ≡ cond b None (cond b (Some part) (find key_cmp q left))) (λ e. ap (λ k. find key_cmp k left) e ∙ gone) (λ e. refl)
     ∙ sym (get-remove nat_list_cmp_total (from_entries es) key q ∙ ap (cond (eq_by_cmp key_cmp q key) None) (get-from_entries nat_list_cmp_total es q ∙ sym (now.1 q))))
@@ -190,7 +192,7 @@ once-set (x ∷ xs) zero key part new h o =
     let is : x ≡ (key, part) = cc in
     ap (λ (y : Entry). is_none (find key_cmp y.0 xs) && once xs) (sym is) ∙ o
 once-set (x ∷ xs) (suc i) key part new h o =
-    let parts = both (is_none (find key_cmp x.0 xs)) (once xs) o in
+    let parts = and_parts (is_none (find key_cmp x.0 xs)) (once xs) o in
     ap (λ (r : Option Part). is_none r && once (slice_set xs i (key, new))) (find-set xs i key part new x.0 h parts.1)
     ∙ ap (λ (b : Bool). is_none (cond b (Some new) (find key_cmp x.0 xs)) && once (slice_set xs i (key, new))) (other (eq_by_cmp key_cmp x.0 key) (λ f. apart_in x xs i key x.0 part h parts.0 (tied x.0) f))
     ∙ ap (λ (b : Bool). b && once (slice_set xs i (key, new))) parts.0
@@ -201,12 +203,12 @@ once-set (x ∷ xs) (suc i) key part new h o =
     other false h = refl
 
 pub once-swap_remove : (es : List Entry) (i : ℕ) (key : Bytes) (part : Part) (d : Entry) → slice_get es i ≡ Some (key, part) → once es ≡ true → once (swap_remove es i d) ≡ true
-once-swap_remove es i key part d h o = let left = swap_remove es i d in (both (is_none (find key_cmp key left)) (once left) (taken es i (key, part) d h o).0).1
+once-swap_remove es i key part d h o = let left = swap_remove es i d in (and_parts (is_none (find key_cmp key left)) (once left) (taken es i (key, part) d h o).0).1
 
 pub once-push : (es : List Entry) (key : Bytes) (new : Part) → find key_cmp key es ≡ None → once es ≡ true → once (es ++ (key, new) ∷ []) ≡ true
 once-push [] key new h o = refl
 once-push (x ∷ xs) key new h o =
-    let parts = both (is_none (find key_cmp x.0 xs)) (once xs) o in
+    let parts = and_parts (is_none (find key_cmp x.0 xs)) (once xs) o in
     let turned : eq_by_cmp key_cmp x.0 key ≡ eq_by_cmp key_cmp key x.0 = (eq_by_cmp_equiv nat_list_cmp_total).symm x.0 key in
     elim (eq_by_cmp key_cmp key x.0) as (λ b. eq_by_cmp key_cmp x.0 key ≡ b → cond b (Some x.1) (find key_cmp key xs) ≡ None → (is_none (find key_cmp x.0 (xs ++ (key, new) ∷ [])) && once (xs ++ (key, new) ∷ [])) ≡ true) [
       | true ↦ λ t e. cc

@@ -9,6 +9,7 @@ use Rattle.std.specs.FinMap.{get, insert, remove, get-empty, get-insert, get-rem
 use Rattle.std.proofs.lemmas.Cmp.{nat_list_cmp_total}
 use Rattle.std.proofs.lemmas.List.Sums.{sum_by-cons, sum_by-append}
 use Rattle.std.proofs.Math.Seq.{drop-append_seam}
+use Rattle.std.proofs.lemmas.Bool.{and_parts}
 use Rattle.jc_types.specs.declared.caller.Caller.{Caller}
 use Rattle.jc_types.specs.declared.config.Config.{Config}
 use Rattle.jc_model.specs.declared.event.Op.{Op}
@@ -19,7 +20,6 @@ use Rattle.jc_model.specs.declared.event.LoadAnswer.{LoadAnswer}
 use Rattle.jc_model.specs.Cache.{Bytes, key_cmp, entry_at}
 use Rattle.jc_model.specs.Table.{is_load_given, is_write_given}
 use Rattle.jc_model.specs.Group.{Group, nothing_said, victim_events, step_event, step_place, shared_event, evicted_events, events_of}
-use Rattle.jc_model.proofs.Lookups.{both}
 use Rattle.jc_inflight.specs.Joining.{callers_of}
 use Rattle.jc_stripe.specs.declared.ticket.First.TheVariants.{Loader}
 use Rattle.jc_stripe.specs.Tickets.{JoinClaim, asks_loader}
@@ -133,13 +133,13 @@ not_true false h = refl
 
 -- a loader that is waited for has given no answer
 no_answer : (o : Option Part) (part : Part) → o ≡ Some part → waits_for_load o ≡ true → is_load_given part.load ≡ false
-no_answer o part is waits = not_true (is_load_given part.load) (both (asks_loader part.reservation.first) (not (is_load_given part.load)) (sym (ap waits_for_load is) ∙ waits)).1
+no_answer o part is waits = not_true (is_load_given part.load) (and_parts (asks_loader part.reservation.first) (not (is_load_given part.load)) (sym (ap waits_for_load is) ∙ waits)).1
 
 -- what is untouched has none
 no_touch : (o : Option Part) (part : Part) → o ≡ Some part → is_untouched o ≡ true → is_load_given part.load ≡ false
 no_touch o part is untouched =
-    let parts = both (not (is_load_given part.load) && not part.is_changed) (not (is_write_given part.report)) (sym (ap is_untouched is) ∙ untouched) in
-    not_true (is_load_given part.load) (both (not (is_load_given part.load)) (not part.is_changed) parts.0).0
+    let parts = and_parts (not (is_load_given part.load) && not part.is_changed) (not (is_write_given part.report)) (sym (ap is_untouched is) ∙ untouched) in
+    not_true (is_load_given part.load) (and_parts (not (is_load_given part.load)) (not part.is_changed) parts.0).0
 
 -- a loader that reads the store has answered
 read_given : (stored : Option Bytes) → is_load_given (read_answer stored) ≡ true
@@ -226,7 +226,7 @@ total_happens w new (event.Read call key) seen q fit h old =
     ap (λ (x : WorldState). total x q) h.3 ∙ total_answered w call key q h.0 (read_answer (entry_at w.store key)) h.1 fit (read_given (entry_at w.store key))
     ∙ ap (λ s. one_if (is_answer q (event.Read call key) s) + total w q) (sym h.2)
 total_happens w new (event.Say call key answer) seen q fit h old =
-    let ok = both (is_load_given answer) (waits_for_load (part_of w call key)) fit in
+    let ok = and_parts (is_load_given answer) (waits_for_load (part_of w call key)) fit in
     ap (λ (x : WorldState). total x q) h.3 ∙ total_answered w call key q h.0 answer h.1 ok.1 ok.0
     ∙ ap (λ s. one_if (is_answer q (event.Say call key answer) s) + total w q) (sym h.2)
 total_happens w new (event.Change call key) seen q fit h old =

@@ -1,14 +1,13 @@
 -- The stripes of a world, where one is set, and the calls, where one is over.
 use Rattle.std.proofs.Common.{◌≡◌, ◌==◌, ◌<◌, ◌%◌, ℕ, zero, suc, length, List, [], ◌∷◌, ◌++◌, sum, Bool, true, false, cond, not, Option, Some, IsSomeAnd, Ok, find, refl, sym, ap, ◌∙◌, subst, arith, slice_get, slice_set, nat_le, get_or, Result, Err}
 use Rattle.std.proofs.lemmas.Bool.Decides.{nat_tests}
-use Rattle.std.proofs.lemmas.Bool.{eqb-true}
+use Rattle.std.proofs.lemmas.Bool.{eqb-true, and_parts}
 use Rattle.std.proofs.lemmas.Option.{slice_get-get_or}
 use Rattle.jc_types.specs.declared.config.Config.{Config}
 use Rattle.jc_types.specs.declared.refusal.Refusal.{Refusal}
-use Rattle.jc_types.specs.Limits.{checked, between}
+use Rattle.jc_types.specs.Limits.{check, is_between}
 use Rattle.jc_types.specs.declared.limits.TheConstants.{STRIPES_MAX}
 use Rattle.jc_model.specs.Cache.{Bytes}
-use Rattle.jc_model.proofs.Lookups.{both}
 use Rattle.jc_stripe.specs.State.{State}
 use Rattle.jc_world.specs.declared.event.Under.{Under}
 use Rattle.jc_world.specs.World.{WorldState, home, stripe_for, empty_stripe, has_number, over}
@@ -41,8 +40,8 @@ positive : (n : ℕ) → nat_le 1 n ≡ true → 0 < n
 positive n h = grind (arith, nat_tests)
 
 -- there is a stripe
-some_stripe : (config : Config) → checked config ≡ Ok tt → 0 < config.stripes
-some_stripe config h = positive config.stripes ((both (nat_le 1 config.stripes) (nat_le config.stripes STRIPES_MAX) (in_limits (between 1 STRIPES_MAX config.stripes) _ _ h)).0)
+some_stripe : (config : Config) → check config ≡ Ok tt → 0 < config.stripes
+some_stripe config h = positive config.stripes ((and_parts (nat_le 1 config.stripes) (nat_le config.stripes STRIPES_MAX) (in_limits (is_between 1 STRIPES_MAX config.stripes) _ _ h)).0)
 
 -- a remainder is a place in a list of that length
 within : (n count stripes : ℕ) → 0 < stripes → count ≡ stripes → n % stripes < count

@@ -14,7 +14,7 @@ use Rattle.jc_model.specs.declared.event.Op.{Op}
 use Rattle.jc_model.specs.declared.event.Op.TheVariants.{Get, ContainsKey}
 use Rattle.jc_model.specs.Cache.{Bytes, key_cmp, entry_at}
 use Rattle.jc_model.specs.Table.{always_if}
-use Rattle.jc_model.proofs.Lookups.{same_key}
+use Rattle.jc_model.proofs.CallerLemmas.{same_key}
 use Rattle.jc_stripe.specs.declared.ticket.Reservation.{Reservation}
 use Rattle.jc_stripe.specs.Tickets.{asks_writer}
 use Rattle.jc_stripe.specs.State.{State, is_key, is_reserved, without_key}

@@ -6,14 +6,14 @@
 use Rattle.std.proofs.Common.{◌≡◌, ◌==◌, ◌&&◌, ◌||◌, ℕ, zero, suc, List, [], ◌∷◌, ◌++◌, length, drop, Bool, true, false, cond, not, Option, None, Some, IsSomeAnd, filter, find, map, nat_lt, slice_get, slice_set, refl, sym, ap, ◌∙◌, subst, arith, append-nil}
 use Rattle.std.specs.List.{list_all}
 use Rattle.std.proofs.Math.Seq.{drop-append_seam}
-use Rattle.std.proofs.lemmas.Bool.{ne_eqb, eqb-true}
+use Rattle.std.proofs.lemmas.Bool.{ne_eqb, eqb-true, and_parts}
 use Rattle.std.proofs.lemmas.Bool.Decides.{nat_tests}
 use Rattle.std.proofs.lemmas.List.Elements.{filter-append}
 use Rattle.std.proofs.lemmas.List.Folds.{list_all-append}
 use Rattle.jc_types.specs.declared.caller.Caller.{Caller}
 use Rattle.jc_types.specs.declared.config.Config.{Config}
 use Rattle.jc_types.specs.Stripes.{stripe_of}
-use Rattle.jc_types.specs.Limits.{checked}
+use Rattle.jc_types.specs.Limits.{check}
 use Rattle.jc_model.specs.declared.event.Op.{Op}
 use Rattle.jc_model.specs.declared.event.Out.{Out}
 use Rattle.jc_model.specs.declared.event.LoadAnswer.{LoadAnswer}
@@ -24,7 +24,6 @@ use Rattle.jc_model.specs.declared.event.Event.TheVariants.{Step, Evict}
 use Rattle.jc_model.specs.Cache.{Bytes}
 use Rattle.jc_model.specs.Group.{Group, victim_events, step_event, step_place, shared_event, evicted_events, events_of}
 use Rattle.jc_model.specs.Legal.{may_come, may_follow, in_order, event_key, is_of_stripe, of_stripe}
-use Rattle.jc_model.proofs.Lookups.{both}
 use Rattle.jc_stripe.specs.State.{State}
 use Rattle.jc_stripe.specs.Reached.{IsReached}
 use Rattle.jc_world.specs.World.{WorldState, home, stripe_for}
@@ -68,19 +67,19 @@ length-slice_set (z ∷ zs) (suc i) x = ap suc (length-slice_set zs i x)
 pub all_filter : {A : Type 0} (p q : A → Bool) (xs : List A) → list_all q xs ≡ true → list_all q (filter p xs) ≡ true
 all_filter p q [] h = refl
 all_filter p q (x ∷ xs) h =
-    let parts = both (q x) (list_all q xs) h in
+    let parts = and_parts (q x) (list_all q xs) h in
     elim (p x) as (λ b. list_all q (cond b (x ∷ filter p xs) (filter p xs)) ≡ true) [ true ↦ all _ _ parts.0 (all_filter p q xs parts.1) | false ↦ all_filter p q xs parts.1 ]
 
 -- a test that follows from another
 pub all_imply : {A : Type 0} (p q : A → Bool) (xs : List A) → ((x : A) → p x ≡ true → q x ≡ true) → list_all p xs ≡ true → list_all q xs ≡ true
 all_imply p q [] f h = refl
-all_imply p q (x ∷ xs) f h = let parts = both (p x) (list_all p xs) h in all _ _ (f x parts.0) (all_imply p q xs f parts.1)
+all_imply p q (x ∷ xs) f h = let parts = and_parts (p x) (list_all p xs) h in all _ _ (f x parts.0) (all_imply p q xs f parts.1)
 
 -- what holds of each holds of one that is found
 pub found_all : {A : Type 0} (p q : A → Bool) (xs : List A) (x : A) → find p xs ≡ Some x → list_all q xs ≡ true → q x ≡ true
 found_all p q [] x h each = cc
 found_all p q (y ∷ ys) x h each =
-    let parts = both (q y) (list_all q ys) each in
+    let parts = and_parts (q y) (list_all q ys) each in
     elim (p y) as (λ b. cond b (Some y) (find p ys) ≡ Some x → q x ≡ true) [
       | true ↦ λ h. let is : y ≡ x = cc in ap q (sym is) ∙ parts.0
       | false ↦ λ h. found_all p q ys x h parts.1
@@ -123,17 +122,17 @@ added_is from to g = ap (drop (length from.history)) g.history_is ∙ drop-appen
 
 -- the second of two lists
 all_back : {A : Type 0} (p : A → Bool) (xs ys : List A) → list_all p (xs ++ ys) ≡ true → list_all p ys ≡ true
-all_back p xs ys h = (both (list_all p xs) (list_all p ys) (sym (list_all-append p xs ys) ∙ h)).1
+all_back p xs ys h = (and_parts (list_all p xs) (list_all p ys) (sym (list_all-append p xs ys) ∙ h)).1
 
 -- all that pass are kept
 all_kept : {A : Type 0} (p : A → Bool) (xs : List A) → list_all p xs ≡ true → filter p xs ≡ xs
 all_kept p [] h = refl
-all_kept p (x ∷ xs) h = let parts = both (p x) (list_all p xs) h in ap (λ b. cond b (x ∷ filter p xs) (filter p xs)) parts.0 ∙ ap (λ ys. x ∷ ys) (all_kept p xs parts.1)
+all_kept p (x ∷ xs) h = let parts = and_parts (p x) (list_all p xs) h in ap (λ b. cond b (x ∷ filter p xs) (filter p xs)) parts.0 ∙ ap (λ ys. x ∷ ys) (all_kept p xs parts.1)
 
 -- and none that pass where another test fails then
 none_kept : {A : Type 0} (p q : A → Bool) (xs : List A) → ((x : A) → p x ≡ true → q x ≡ false) → list_all p xs ≡ true → filter q xs ≡ []
 none_kept p q [] f h = refl
-none_kept p q (x ∷ xs) f h = let parts = both (p x) (list_all p xs) h in ap (λ b. cond b (x ∷ filter q xs) (filter q xs)) (f x parts.0) ∙ none_kept p q xs f parts.1
+none_kept p q (x ∷ xs) f h = let parts = and_parts (p x) (list_all p xs) h in ap (λ b. cond b (x ∷ filter q xs) (filter q xs)) (f x parts.0) ∙ none_kept p q xs f parts.1
 
 -- what a stripe that is reached puts down is of its keys
 own_added : (w : WorldState) (n : ℕ) (from to : State) (g : GoesOn from to) → IsStripe w n from → IsReached to → list_all (is_of_stripe w.config.stripes n) g.more ≡ true
@@ -170,7 +169,7 @@ share_stays w n m from to g at reached apart =
 -- the same stripes and the same order
 pub shape_same : (w n : WorldState) → n.config ≡ w.config → n.stripes ≡ w.stripes → n.order ≡ w.order → IsShaped w → IsShaped n
 shape_same w n config stripes order shape = record {
-  config_fits = ap checked config ∙ shape.config_fits;
+  config_fits = ap check config ∙ shape.config_fits;
   count = ap length stripes ∙ shape.count ∙ ap (λ (c : Config). c.stripes) (sym config);
   each = λ k s here.
       let h = shape.each k s (ap (λ xs. slice_get xs k) (sym stripes) ∙ here) in
@@ -189,7 +188,7 @@ shape_set w n key from to config_is stripes_are shape there config number origin
     let mine : IsStripe n (home w key) to =
     record { config_is = config ∙ old.config_is ∙ sym config_is; number_is = number ∙ old.number_is; origin_is = origin ∙ old.origin_is; reached = reached; share = ap (λ c. of_stripe c (home w key) n.order) count_is ∙ share } in
     record {
-      config_fits = ap checked config_is ∙ shape.config_fits;
+      config_fits = ap check config_is ∙ shape.config_fits;
       count = ap length stripes_are ∙ length-slice_set w.stripes (home w key) to ∙ shape.count ∙ sym count_is;
       each = λ m s here. set_cases w.stripes (home w key) m to s
           (λ same is. let P : ℕ → Type 0 = λ m. IsStripe n m s in let Q : State → Type 0 = λ s. IsStripe n (home w key) s in subst P same (subst Q is mine))
@@ -275,21 +274,21 @@ all_follow : (xs ys : List Event) → AllBy (λ who. none_from xs who ≡ true) 
 all_follow [] ys h = refl
 all_follow (x ∷ xs) ys h = all _ _
     (all_by (λ who. none_from (x ∷ xs) who ≡ true) (may_follow x) ys
-    (λ who op key out shared reply k. before_follows x who op key out shared reply (both (is_before who x) (none_from xs who) k).0) (before_evict x) h)
-    (all_follow xs ys (by_map (λ who. none_from (x ∷ xs) who ≡ true) (λ who. none_from xs who ≡ true) ys (λ who k. (both (is_before who x) (none_from xs who) k).1) h))
+    (λ who op key out shared reply k. before_follows x who op key out shared reply (and_parts (is_before who x) (none_from xs who) k).0) (before_evict x) h)
+    (all_follow xs ys (by_map (λ who. none_from (x ∷ xs) who ≡ true) (λ who. none_from xs who ≡ true) ys (λ who k. (and_parts (is_before who x) (none_from xs who) k).1) h))
 
 -- two parts in order, of which the one may stand behind the other
 order_joined : (xs ys : List Event) → in_order xs ≡ true → in_order ys ≡ true → list_all (λ x. list_all (may_follow x) ys) xs ≡ true → in_order (xs ++ ys) ≡ true
 order_joined [] ys h k f = k
 order_joined (x ∷ xs) ys h k f =
-    let parts = both (list_all (may_follow x) xs) (in_order xs) h in
-    let fits = both (list_all (may_follow x) ys) (list_all (λ x. list_all (may_follow x) ys) xs) f in
+    let parts = and_parts (list_all (may_follow x) xs) (in_order xs) h in
+    let fits = and_parts (list_all (may_follow x) ys) (list_all (λ x. list_all (may_follow x) ys) xs) f in
     all _ _ (list_all-append (may_follow x) xs ys ∙ all _ _ parts.0 fits.0) (order_joined xs ys parts.1 k fits.1)
 
 -- the second part of what is in order is in order
 order_back : (xs ys : List Event) → in_order (xs ++ ys) ≡ true → in_order ys ≡ true
 order_back [] ys h = h
-order_back (x ∷ xs) ys h = order_back xs ys (both (list_all (may_follow x) (xs ++ ys)) (in_order (xs ++ ys)) h).1
+order_back (x ∷ xs) ys h = order_back xs ys (and_parts (list_all (may_follow x) (xs ++ ys)) (in_order (xs ++ ys)) h).1
 
 -- the order with the steps of calls whose numbers it doesn't have
 pub added_order : (order : List Event) (from to : State) (g : GoesOn from to) → IsReached to → in_order order ≡ true → AllBy (λ who. none_from order who ≡ true) g.more → in_order (order ++ added from to) ≡ true

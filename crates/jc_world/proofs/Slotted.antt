@@ -3,10 +3,12 @@ use Rattle.std.proofs.Common.{◌≡◌, ◌==◌, ◌&&◌, List, Bool, is_none
 use Rattle.std.proofs.lemmas.Cmp.{nat_list_cmp_total}
 use Rattle.std.specs.FinMap as map
 use Rattle.std.specs.FinMap.{get, insert, find, get-from_entries}
+use Rattle.std.proofs.lemmas.Bool.{and_parts}
+use Rattle.std.proofs.lemmas.Map.Lookups.{exact_bytes}
 use Rattle.jc_model.specs.Cache.{Bytes, key_cmp}
 use Rattle.jc_model.specs.declared.event.Change.{Change}
 use Rattle.jc_model.specs.Table.{is_write_given}
-use Rattle.jc_model.proofs.Lookups.{both, exact, none_is}
+use Rattle.jc_model.proofs.CallerLemmas.{none_is}
 use Rattle.jc_stripe.specs.declared.ticket.First.{First}
 use Rattle.jc_stripe.specs.declared.ticket.First.TheVariants.{Nobody, Loader, Writer, Processor}
 use Rattle.jc_stripe.specs.Tickets.{asks_writer}
@@ -29,7 +31,7 @@ is_part (Some p) call part h =
 part_under_is : (call : ℕ) (key : Bytes) (slots : List Entry) → once slots ≡ true → part_under call key slots ≡ of_call call (find key_cmp key slots)
 part_under_is call key [] once = refl
 part_under_is call key (x ∷ xs) once =
-    let parts = both (is_none (find key_cmp x.0 xs)) _ once in
+    let parts = and_parts (is_none (find key_cmp x.0 xs)) _ once in
     ap (λ b. cond ((x.1.reservation.caller.call == call) && b) (Some x.1) (part_under call key xs)) (texts_ties key x.0)
     ∙ split key x.0 (λ b. cond ((x.1.reservation.caller.call == call) && b) (Some x.1) (part_under call key xs) ≡ of_call call (cond b (Some x.1) (find key_cmp key xs)))
     (λ e. here (x.1.reservation.caller.call == call) x.1 (part_under call key xs) (part_under_is call key xs parts.1 ∙ ap (of_call call) (ap (λ k. find key_cmp k xs) e ∙ none_is _ parts.0)))
@@ -55,11 +57,11 @@ may_set o part new is same = let P : Option Part → Type 0 = λ o. IsSomeAnd o 
 pub pushed : (slots items : List Entry) (key : Bytes) (part : Part) → get (parts_of slots) key ≡ None → items ≡ slots ++ (key, part) ∷ [] → once slots ≡ true → (parts_of items ≡ map.insert (parts_of slots) key part) × (once items ≡ true)
 pushed slots items key part none is old =
     let free : map.find key_cmp key slots ≡ None = sym (get-from_entries nat_list_cmp_total slots key) ∙ none in
-    (ap parts_of is ∙ map.from_entries_push nat_list_cmp_total exact slots key part free, ap once is ∙ once-push slots key part free old)
+    (ap parts_of is ∙ map.from_entries_push nat_list_cmp_total exact_bytes slots key part free, ap once is ∙ once-push slots key part free old)
 
 -- whose writer is waited for was asked for a change
 pub waits_writer : (part : Part) → waits_for_report (Some part) ≡ true → (change : Change) × (part.reservation.first ≡ Writer change)
-waits_writer part h = go part.reservation.first refl ((both (asks_writer part.reservation.first) (not (is_write_given part.report)) h).0)
+waits_writer part h = go part.reservation.first refl ((and_parts (asks_writer part.reservation.first) (not (is_write_given part.report)) h).0)
   where
     go : (first : First) → part.reservation.first ≡ first → asks_writer first ≡ true → (change : Change) × (part.reservation.first ≡ Writer change)
     go Nobody e h = cc

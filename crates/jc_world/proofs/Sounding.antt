@@ -1,10 +1,10 @@
 -- Each event leads from a sound world to a sound one, and so does each run.
 use Rattle.std.proofs.Common.{inl, inr, ◌≡◌, ◌∙◌, ℕ, List, [], ◌∷◌, true, Some, Result, Ok, Err, OnOk, OnErr, sym, subst, ap, refl}
+use Rattle.std.proofs.lemmas.Bool.{and_parts}
 use Rattle.jc_types.specs.declared.config.Config.{Config}
-use Rattle.jc_types.specs.Limits.{checked}
+use Rattle.jc_types.specs.Limits.{check}
 use Rattle.jc_model.specs.Cache.{Bytes, entry_at, with_entry}
 use Rattle.jc_model.specs.Table.{is_load_given}
-use Rattle.jc_model.proofs.Lookups.{both}
 use Rattle.jc_world.specs.declared.event.Under.{Under}
 use Rattle.jc_world.specs.declared.event.Shown.{Shown}
 use Rattle.jc_world.specs.declared.event.WorldEvent.{WorldEvent}
@@ -29,7 +29,7 @@ parts_happens kept w new (event.Call call session command) seen fit (shows, is) 
 parts_happens kept w new (event.Start call key) seen fit (u, there, from, at, to, starts) h = parts_started kept w new call key u from to seen fit there at starts h
 parts_happens kept w new (event.Read call key) seen fit (part, there, shows, is) h = subst HasParts (sym is) (parts_answered w call key part (read_answer (entry_at w.store key)) there fit h)
 parts_happens kept w new (event.Say call key answer) seen fit (part, there, shows, is) h =
-    subst HasParts (sym is) (parts_answered w call key part answer there ((both (is_load_given answer) (waits_for_load (part_of w call key)) fit).1) h)
+    subst HasParts (sym is) (parts_answered w call key part answer there ((and_parts (is_load_given answer) (waits_for_load (part_of w call key)) fit).1) h)
 parts_happens kept w new (event.Change call key) seen fit (part, change, there, asked, shows, is) h = subst HasParts (sym is) (parts_changed w call key part change there asked fit h)
 parts_happens kept w new (event.Report call fault) seen fit (u, part, change, there, at, asked, shows, is) h =
     subst HasParts (sym is) (parts_reported w call u.command.key part (report_of fault) at (waits_at w call u there fit) h)
@@ -54,7 +54,7 @@ sound_run laws old new [] (s ∷ ss) run h = absurd run
 sound_run laws old new (e ∷ es) [] run h = absurd run
 sound_run laws old new (e ∷ es) (s ∷ ss) (mid, step, rest) h = sound_run laws mid new es ss rest (sound_step laws old e s mid step h)
 
-pub sound_start : (config : Config) → checked config ≡ Ok tt → IsSoundWorld (start config)
+pub sound_start : (config : Config) → check config ≡ Ok tt → IsSoundWorld (start config)
 sound_start config fits = sound (start config) (order_start config fits) (parts_start config fits) (joins_start config fits)
 
 pub sound_stored : (w : WorldState) (key value : Bytes) → w.fresh ≡ true → IsSoundWorld w → IsSoundWorld (with_stored w key value)
@@ -65,6 +65,6 @@ sound_set (Ok x) old new key value ok err fresh h = subst IsSoundWorld (sym ok) 
 sound_set (Err e) old new key value ok err fresh h = subst IsSoundWorld (sym err) h
 
 -- an opening is sound, and nothing has happened in it
-pub sound_opened : (config : Config) (stored : List (Bytes × Bytes)) → checked config ≡ Ok tt → IsSoundWorld (opened config stored) × ((opened config stored).fresh ≡ true)
+pub sound_opened : (config : Config) (stored : List (Bytes × Bytes)) → check config ≡ Ok tt → IsSoundWorld (opened config stored) × ((opened config stored).fresh ≡ true)
 sound_opened config [] fits = (sound_start config fits, refl)
 sound_opened config (e ∷ es) fits = let rest = sound_opened config es fits in (sound_stored (opened config es) e.0 e.1 rest.1 rest.0, rest.1)

@@ -8,14 +8,14 @@
 use Rattle.std.proofs.Common.{◌≡◌, ◌==◌, ◌||◌, ℕ, List, [], ◌∷◌, ◌++◌, Bool, true, false, cond, not, Option, None, Some, IsSomeAnd, find, filter, nat_lt, nat_le, refl, sym, ap, ◌∙◌, subst, arith, is_none}
 use Rattle.std.specs.List.{list_all, list_any}
 use Rattle.std.specs.Cmp.Lexicographic.{pointwise, texts_ties}
-use Rattle.std.proofs.lemmas.Bool.{eqb-true}
+use Rattle.std.proofs.lemmas.Bool.{eqb-true, and_parts}
 use Rattle.std.proofs.lemmas.Cmp.{nat_eq_equiv}
 use Rattle.std.proofs.lemmas.Bool.Decides.{nat_tests}
 use Rattle.jc_types.specs.declared.caller.Caller.{Caller}
 use Rattle.jc_model.specs.declared.event.Event.{Event}
 use Rattle.jc_model.specs.declared.event.Event.TheVariants.{Step, Evict}
 use Rattle.jc_model.specs.Cache.{Bytes}
-use Rattle.jc_model.proofs.Lookups.{both, same_key}
+use Rattle.jc_model.proofs.CallerLemmas.{same_key}
 use Rattle.jc_stripe.specs.declared.ticket.Reservation.{Reservation}
 use Rattle.jc_stripe.specs.State.{is_key, without_key}
 use Rattle.jc_world.specs.declared.event.Under.{Under}
@@ -69,7 +69,7 @@ calls_on w n P (x ∷ xs) f each fit = (f x each.0 fit.0, fit.1, calls_on w n P 
 
 -- a call of another number is not found
 number_apart : (x u : Under) → is_apart x u ≡ true → has_number u.caller.call x ≡ false
-number_apart x u h = go (x.caller.call == u.caller.call) (ap not (turned_eq x.caller.call u.caller.call) ∙ (both (not (u.caller.session == x.caller.session)) (not (u.caller.call == x.caller.call)) h).1)
+number_apart x u h = go (x.caller.call == u.caller.call) (ap not (turned_eq x.caller.call u.caller.call) ∙ (and_parts (not (u.caller.session == x.caller.session)) (not (u.caller.call == x.caller.call)) h).1)
   where
     go : (b : Bool) → not b ≡ true → b ≡ false
     go true h = cc
@@ -86,7 +86,7 @@ each_found w (x ∷ xs) fit = (
     behind : (ys : List Under) → Each (λ (u : Under). find (has_number u.caller.call) xs ≡ Some u) ys → list_all (is_apart x) ys ≡ true → Each (λ (u : Under). find (has_number u.caller.call) (x ∷ xs) ≡ Some u) ys
     behind [] h apart = tt
     behind (y ∷ ys) h apart =
-        let parts = both (is_apart x y) (list_all (is_apart x) ys) apart in
+        let parts = and_parts (is_apart x y) (list_all (is_apart x) ys) apart in
         (ap (λ b. cond b (Some x) (find (has_number y.caller.call) xs)) (number_apart x y parts.0) ∙ h.0, behind ys h.1 parts.1)
 
 -- of another session
@@ -95,7 +95,7 @@ is_elsewhere session u = not (u.caller.session == session)
 
 -- calls that are apart are of two sessions
 elsewhere : (x u : Under) → is_apart x u ≡ true → is_elsewhere x.caller.session u ≡ true
-elsewhere x u h = (both (not (u.caller.session == x.caller.session)) (not (u.caller.call == x.caller.call)) h).0
+elsewhere x u h = (and_parts (not (u.caller.session == x.caller.session)) (not (u.caller.call == x.caller.call)) h).0
 
 -- the calls beside one under way are of other sessions
 pub apart_over : (w : WorldState) (call : ℕ) (calls : List Under) (u : Under) → find (has_number call) calls ≡ Some u → CallsFit w calls → list_all (is_elsewhere u.caller.session) (over call calls) ≡ true
@@ -180,7 +180,7 @@ not_busy session x xs h = let parts = neither (is_of session x) (list_any (is_of
 -- a test of each, and of one more
 pushed_apart : (p : Under → Bool) (xs : List Under) (u : Under) → list_all p xs ≡ true → p u ≡ true → list_all p (xs ++ u ∷ []) ≡ true
 pushed_apart p [] u h one = all _ _ one refl
-pushed_apart p (x ∷ xs) u h one = let parts = both (p x) (list_all p xs) h in all _ _ parts.0 (pushed_apart p xs u parts.1 one)
+pushed_apart p (x ∷ xs) u h one = let parts = and_parts (p x) (list_all p xs) h in all _ _ parts.0 (pushed_apart p xs u parts.1 one)
 
 -- the calls fit with a new one
 pub calls_pushed : (w n : WorldState) (u : Under) (calls : List Under) → is_new w.last u.caller.call ≡ true → not (list_any (is_of u.caller.session) calls) ≡ true
@@ -204,7 +204,7 @@ find_pushed p (x ∷ xs) more P h =
 -- what passes a test is owned in another world
 pub all_owned : (w new : WorldState) (p : Reservation → Bool) (rs : List Reservation) → ((r : Reservation) → p r ≡ true → IsOwned w r → IsOwned new r) → list_all p rs ≡ true → AllOwned w rs → AllOwned new rs
 all_owned w new p [] f h owned = tt
-all_owned w new p (r ∷ rs) f h owned = let parts = both (p r) (list_all p rs) h in (f r parts.0 owned.0, all_owned w new p rs f parts.1 owned.1)
+all_owned w new p (r ∷ rs) f h owned = let parts = and_parts (p r) (list_all p rs) h in (f r parts.0 owned.0, all_owned w new p rs f parts.1 owned.1)
 
 -- each reservation is owned in another world
 pub each_owned : (w new : WorldState) (rs : List Reservation) → ((r : Reservation) → IsOwned w r → IsOwned new r) → AllOwned w rs → AllOwned new rs

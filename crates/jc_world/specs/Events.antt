@@ -31,7 +31,7 @@ use Rattle.std.specs.List.{list_all}
 use Rattle.std.specs.Cmp.Lexicographic.{pointwise}
 use Rattle.std.specs.FinMap.{insert, remove}
 use Rattle.jc_types.specs.declared.limits.TheConstants.{SESSIONS_MAX}
-use Rattle.jc_types.specs.Limits.{between}
+use Rattle.jc_types.specs.Limits.{is_between}
 use Rattle.jc_model.specs.declared.event.Op.{Op}
 use Rattle.jc_model.specs.declared.event.Op.TheVariants.{Get, ContainsKey, Put, GetAndPut, PutIfAbsent, Remove, RemoveIf, GetAndRemove, Replace, ReplaceIf, GetAndReplace, Clear, LoadAll, Invoke}
 use Rattle.jc_model.specs.declared.event.Change.{Change}
@@ -81,7 +81,7 @@ is_single Invoke = false
 
 -- the sessions are numbered from 1
 abbrev pub is_session : ℕ → Bool
-is_session session = between 1 SESSIONS_MAX session
+is_session session = is_between 1 SESSIONS_MAX session
 
 -- the number is above all before it
 abbrev pub is_new : Option ℕ → ℕ → Bool

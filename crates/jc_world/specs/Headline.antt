@@ -12,7 +12,7 @@ use Rattle.std.specs.Prelude.{◌≡◌, ◌==◌, ◌+◌, ◌&&◌, List, [], 
 use Rattle.std.specs.Cmp.Lexicographic.{pointwise}
 use Rattle.std.specs.FinMap.{get}
 use Rattle.jc_types.specs.declared.config.Config.{Config}
-use Rattle.jc_types.specs.Limits.{checked}
+use Rattle.jc_types.specs.Limits.{check}
 use Rattle.jc_model.specs.declared.event.Event.{Event}
 use Rattle.jc_model.specs.declared.event.Event.TheVariants as stripe
 use Rattle.jc_model.specs.Cache.{Bytes}
@@ -33,10 +33,10 @@ opened config [] = start config
 opened config (entry ∷ entries) = with_stored (opened config entries) entry.0 entry.1
 
 abbrev pub StaysLegal : Type 0
-StaysLegal = (config : Config) (stored : List (Bytes × Bytes)) (events : List WorldEvent) (seen : List Shown) (new : WorldState) → checked config ≡ Ok tt → Run (opened config stored) events seen new → IsOrder new × HasParts new
+StaysLegal = (config : Config) (stored : List (Bytes × Bytes)) (events : List WorldEvent) (seen : List Shown) (new : WorldState) → check config ≡ Ok tt → Run (opened config stored) events seen new → IsOrder new × HasParts new
 
 abbrev pub StaysCoherent : Type 0
-StaysCoherent = (config : Config) (stored : List (Bytes × Bytes)) (events : List WorldEvent) (seen : List Shown) (new : WorldState) → checked config ≡ Ok tt → Run (opened config stored) events seen new → all_hold new ≡ true → Coherent new
+StaysCoherent = (config : Config) (stored : List (Bytes × Bytes)) (events : List WorldEvent) (seen : List Shown) (new : WorldState) → check config ≡ Ok tt → Run (opened config stored) events seen new → all_hold new ≡ true → Coherent new
 
 -- an answer of the loader for a key, which was taken
 abbrev pub is_answer : Bytes → WorldEvent → Shown → Bool
@@ -56,5 +56,5 @@ is_loaded None = false
 is_loaded (Some part) = is_load_given part.load
 
 abbrev pub CountsLoads : Type 0
-CountsLoads = (config : Config) (stored : List (Bytes × Bytes)) (events : List WorldEvent) (seen : List Shown) (new : WorldState) (key : Bytes) → checked config ≡ Ok tt → Run (opened config stored) events seen new
+CountsLoads = (config : Config) (stored : List (Bytes × Bytes)) (events : List WorldEvent) (seen : List Shown) (new : WorldState) (key : Bytes) → check config ≡ Ok tt → Run (opened config stored) events seen new
     → count_by (λ e. is_answer key e.0 e.1) (zip events seen) ≡ count_by (is_load key) new.order + (if is_loaded (get new.parts key) then 1 else 0)

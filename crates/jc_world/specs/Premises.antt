@@ -10,6 +10,7 @@
 --     disturbed                    the premises once somebody else has written the store
 --     premises_hold                all of them have held so far: loaders and writers were honest, and the store was quiet
 use Rattle.std.specs.Prelude.{ℕ, Bool, true, false, ◌&&◌, Option, None, Some, is_none}
+use Rattle.std.specs.Bool.{beq}
 use Rattle.jc_model.specs.declared.event.Change.{Change}
 use Rattle.jc_model.specs.declared.event.Change.TheVariants.{Write, Delete}
 use Rattle.jc_model.specs.declared.event.LoadAnswer.{LoadAnswer}
@@ -17,7 +18,7 @@ use Rattle.jc_model.specs.declared.event.LoadAnswer.TheVariants as load
 use Rattle.jc_model.specs.declared.event.WriteAnswer.{WriteAnswer}
 use Rattle.jc_model.specs.declared.event.WriteAnswer.TheVariants as write
 use Rattle.jc_model.specs.Cache.{Bytes}
-use Rattle.jc_model.specs.Table.{holds, alike}
+use Rattle.jc_model.specs.Table.{holds}
 use Rattle.jc_world.specs.declared.event.Part.{Part}
 use Rattle.jc_world.specs.declared.event.Premises.{Premises}
 
@@ -45,7 +46,7 @@ is_done write.NotAsked = false
 is_done (write.Failed code) = false
 
 abbrev pub is_true_report : WriteAnswer → Part → Bool
-is_true_report report part = alike part.is_changed (is_done report)
+is_true_report report part = beq part.is_changed (is_done report)
 
 abbrev pub with_loader : Premises → Bool → Premises
 with_loader p honest = record p { loaders = p.loaders && honest }

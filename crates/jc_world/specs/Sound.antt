@@ -27,7 +27,7 @@ use Rattle.std.specs.Prelude.{◌≡◌, ◌==◌, ℕ, List, [], ◌∷◌, len
 use Rattle.std.specs.List.{list_all, list_any}
 use Rattle.std.specs.FinMap.{get}
 use Rattle.jc_types.specs.declared.caller.Caller.{Caller}
-use Rattle.jc_types.specs.Limits.{checked}
+use Rattle.jc_types.specs.Limits.{check}
 use Rattle.jc_model.specs.declared.event.Event.{Event}
 use Rattle.jc_model.specs.declared.event.Event.TheVariants as stripe
 use Rattle.jc_model.specs.declared.event.LoadAnswer.TheVariants as load
@@ -66,7 +66,7 @@ pub record IsStripe (w : WorldState) (number : ℕ) (s : State) : Type 0 where
   pub share : of_stripe w.config.stripes number w.order ≡ s.history
 
 pub record IsShaped (w : WorldState) : Type 0 where
-  pub config_fits : checked w.config ≡ Ok tt
+  pub config_fits : check w.config ≡ Ok tt
   pub count : length w.stripes ≡ w.config.stripes
   pub each : (number : ℕ) (s : State) → slice_get w.stripes number ≡ Some s → IsStripe w number s
 

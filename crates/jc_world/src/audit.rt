@@ -4,10 +4,9 @@ ghost use Rattle.std.specs.FinMap as map;
 ghost use Rattle.jc_model.specs.Cache.{Bytes, key_cmp, entry_at};
 ghost use Rattle.jc_world.specs.Gathered.{or_else, found_after};
 
-use jc_model::contents::Contents;
+use jc_model::Contents;
 use jc_stripe::Stripe;
-use jc_types::key::Key;
-use jc_types::value::Value;
+use jc_types::{Key, Value};
 use std::alloc::{AllocError, Global};
 
 /// What an audit shows. Entries and keys stand in the byte order of the keys.

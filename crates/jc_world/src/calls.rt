@@ -5,8 +5,8 @@ ghost use Rattle.jc_world.specs.World.{has_number, is_of, over};
 ghost use Rattle.jc_world.specs.Events.{is_single, is_session, is_new};
 
 use crate::event::Under;
-use jc_model::event::Op;
-use jc_types::limits::SESSIONS_MAX;
+use jc_model::Op;
+use jc_types::SESSIONS_MAX;
 
 /// Whether an operation is a call by itself.
 pub(crate) fn is_single_op(op: &Op) -> bool

@@ -5,8 +5,7 @@ ghost use Rattle.jc_world.specs.Ending.{AreLeft, HasSlots, HasJoins, NoneReserve
 use crate::slot::Slot;
 use jc_stripe::phase_laws::stays_reached;
 use jc_stripe::{Join, Picked, Stripe};
-use jc_types::config::Config;
-use jc_types::key::stripe_of;
+use jc_types::{Config, stripe_of};
 
 /// Ends all reservations: what was answered is committed, and all else is given back.
 pub(crate) fn end_all(

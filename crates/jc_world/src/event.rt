@@ -1,10 +1,7 @@
 //! What may happen in a world, what is shown of it, and what a world keeps of its calls.
-use jc_model::event::{Change, LoadAnswer, Op, Reply, WriteAnswer};
+use jc_model::{Change, LoadAnswer, Op, Reply, WriteAnswer};
 use jc_stripe::{Eviction, Reservation};
-use jc_types::caller::Caller;
-use jc_types::key::Key;
-use jc_types::refusal::Refusal;
-use jc_types::value::Value;
+use jc_types::{Caller, Key, Refusal, Value};
 
 /// What a call does: one operation on one key.
 #[derive(Clone, Copy, Debug, PartialEq, Eq)]
@@ -26,7 +23,7 @@ pub enum WorldEvent {
     Call {
         /// The call's number, which is to be above that of every call before it, of any session.
         call: u64,
-        /// The session, from 1 to [`SESSIONS_MAX`](jc_types::limits::SESSIONS_MAX).
+        /// The session, from 1 to [`SESSIONS_MAX`](jc_types::SESSIONS_MAX).
         session: u32,
         /// What the call does.
         command: Command,
@@ -187,7 +184,7 @@ pub enum Shown {
 /// A call under way.
 #[derive(Clone, Copy, Debug, PartialEq, Eq)]
 pub struct Under {
-    /// Who calls: a session, from 1 to [`SESSIONS_MAX`](jc_types::limits::SESSIONS_MAX), and the call's number.
+    /// Who calls: a session, from 1 to [`SESSIONS_MAX`](jc_types::SESSIONS_MAX), and the call's number.
     pub caller: Caller,
     /// What the call does.
     pub command: Command,

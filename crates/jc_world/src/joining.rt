@@ -5,7 +5,7 @@ ghost use Rattle.jc_world.specs.World.{is_join, unjoined};
 ghost use Rattle.jc_world.specs.Sound.{joined_once};
 
 use jc_stripe::Join;
-use jc_types::key::Key;
+use jc_types::Key;
 
 /// Where a call's join of a key is.
 fn place_of(joins: &[Join], call: u64, key: &Key) -> Option<usize>

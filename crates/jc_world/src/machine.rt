@@ -1,7 +1,7 @@
 //! The machine below a world: what each kind of event does.
 ghost use Rattle.std.specs.Prelude.{IsTrue, option_copied, ◌≡◌, ◌&&◌, not, ◌++◌, ◌∷◌, [], true, false, Ok, IfOk, OnErr, OnOk, Option, None, Some};
 ghost use Rattle.std.specs.FinMap as map;
-ghost use Rattle.jc_types.specs.Limits.{checked};
+ghost use Rattle.jc_types.specs.Limits.{check};
 ghost use Rattle.jc_model.specs.Cache.{entry_at, with_entry};
 ghost use Rattle.jc_model.specs.Table.{holds};
 ghost use Rattle.jc_stripe.specs.declared.ticket.First.TheVariants.{Writer};
@@ -30,13 +30,9 @@ use crate::slot::{Slot, part_at, part_under, set_part, take_slot};
 use crate::stripes::{
     EVENTS_MAX, begin_at, commit_at, make_stripes, pick_up_at, shown_of, withdraw_at,
 };
-use jc_model::contents::Contents;
-use jc_model::event::{Change, Event, LoadAnswer, Op, WriteAnswer};
+use jc_model::{Change, Contents, Event, LoadAnswer, Op, WriteAnswer};
 use jc_stripe::{Begun, First, Join, Picked, Stripe};
-use jc_types::caller::Caller;
-use jc_types::config::Config;
-use jc_types::key::{Key, stripe_of};
-use jc_types::value::Value;
+use jc_types::{Caller, Config, Key, Value, stripe_of};
 use std::alloc::{AllocError, Global};
 use std::marker::Model;
 
@@ -107,7 +103,7 @@ fn change_in(part: &Part) -> Option<Change>
 impl Machine {
     /// Empty stripes beside an empty store, and no call.
     pub(crate) fn new(alloc: Global, config: &Config) -> Result<Self, AllocError>
-        requires { checked config.now ≡ Ok tt }
+        requires { check config.now ≡ Ok tt }
         ensures { IfOk result (λ m. m ≡ start config.now) }
     {
         let stripes = make_stripes(alloc, config)?;

@@ -1,14 +1,14 @@
 //! What loaders and writers say, and whether they are honest.
 ghost use Rattle.std.specs.Prelude.{◌≡◌, ◌&&◌, option_copied};
-ghost use Rattle.jc_model.specs.Table.{alike};
+ghost use Rattle.std.specs.Bool.{beq};
 ghost use Rattle.jc_stripe.specs.Tickets.{asks_loader, asks_writer};
 ghost use Rattle.jc_world.specs.World.{waits_for_load, waits_for_report, is_answered, is_untouched};
 ghost use Rattle.jc_world.specs.Premises.{read_answer, changed_to, report_of, is_true_load, is_done, is_true_report};
 
 use crate::event::Part;
-use jc_model::event::{Change, LoadAnswer, WriteAnswer};
+use jc_model::{Change, LoadAnswer, WriteAnswer};
 use jc_stripe::First;
-use jc_types::value::Value;
+use jc_types::Value;
 
 /// Whether the loader's answer is a failure, or what the store holds.
 pub(crate) fn is_honest_load(answer: LoadAnswer, stored: Option<Value>) -> bool
@@ -106,7 +106,7 @@ fn is_written(report: WriteAnswer) -> bool
 }
 
 fn are_alike(was: bool, said: bool) -> bool
-    ensures { result ≡ alike was said }
+    ensures { result ≡ beq was said }
 {
     if was { said } else { !said }
 }

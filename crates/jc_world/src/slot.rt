@@ -14,11 +14,11 @@ ghost use Rattle.jc_world.specs.Sound.{KindFits};
 ghost use Rattle.jc_world.specs.Slots.{is_under, once, parts_of, part_under};
 
 use crate::event::Part;
-use jc_model::event::{Change, LoadAnswer, WriteAnswer};
+use jc_model::{Change, LoadAnswer, WriteAnswer};
 use jc_stripe::{
     First, LoadTicket, Reservation, StepDone, Stripe, WriteTicket, played_load, played_write,
 };
-use jc_types::key::Key;
+use jc_types::Key;
 use std::marker::Model;
 
 /// The ticket of a reservation.

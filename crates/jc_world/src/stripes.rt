@@ -1,7 +1,7 @@
 //! The stripes of a world, and the one order of all that they append to their histories.
 ghost use Rattle.std.specs.Prelude.{◌≡◌, ◌+◌, ◌-◌, ◌≤◌, ◌<◌, ◌++◌, Ok, true, Option, Some, None, IsSomeAnd, IfOk, length, drop, vec_len, vec_capacity, slice_get, slice_set};
 ghost use Rattle.jc_types.specs.declared.limits.TheConstants.{STEP_PLACES, JOINERS_MAX};
-ghost use Rattle.jc_types.specs.Limits.{checked};
+ghost use Rattle.jc_types.specs.Limits.{check};
 ghost use Rattle.jc_model.specs.Cache.{entry_at};
 ghost use Rattle.jc_stripe.specs.State.{State, IsOut, IsJoined};
 ghost use Rattle.jc_stripe.specs.Refusals.{has_phases};
@@ -15,11 +15,9 @@ ghost use Rattle.jc_world.specs.Sound.{KindFits};
 use crate::event::{Stepped, Under};
 use crate::room::push_in_room;
 use crate::slot::Slot;
-use jc_model::event::{Effect, Event, LoadAnswer, Op, Out, ProcessAnswer, Reply, WriteAnswer};
+use jc_model::{Effect, Event, LoadAnswer, Op, Out, ProcessAnswer, Reply, WriteAnswer};
 use jc_stripe::{Begun, Join, Origin, Picked, StepDone, Stripe};
-use jc_types::config::Config;
-use jc_types::limits::{JOINERS_MAX, STEP_PLACES};
-use jc_types::value::Value;
+use jc_types::{Config, JOINERS_MAX, STEP_PLACES, Value};
 use std::alloc::{AllocError, Global};
 
 /// The most events that one phase appends: a victim, a step, the steps that share its load, and the eviction of its own key.
@@ -27,7 +25,7 @@ pub(crate) const EVENTS_MAX: usize = STEP_PLACES + JOINERS_MAX;
 
 /// An empty stripe for each number.
 pub(crate) fn make_stripes(alloc: Global, config: &Config) -> Result<Vec<Stripe>, AllocError>
-    requires { checked config.now ≡ Ok tt }
+    requires { check config.now ≡ Ok tt }
     ensures { IfOk result (λ made. made.items ≡ empty_stripes config.now 0 config.now.stripes) }
 {
     let mut made = Vec::with_capacity(alloc, config.stripes)?;

@@ -3,13 +3,9 @@
 //! They stand in texts, since a check proves a table of rows at a price that grows faster than its length.
 use crate::event::{Command, Part, Under};
 use crate::world::World;
-use jc_model::event::{Change, Event, LoadAnswer, Op, Reply, WriteAnswer};
-use jc_model::legal::legal;
+use jc_model::{Change, Event, LoadAnswer, Op, Reply, WriteAnswer, legal};
 use jc_stripe::{First, Reservation};
-use jc_types::caller::Caller;
-use jc_types::config::Field;
-use jc_types::limits::SESSIONS_MAX;
-use jc_types::refusal::Refusal;
+use jc_types::{Caller, Field, Refusal, SESSIONS_MAX};
 use script::words::{key_of, value_of};
 use script::{config, goes_on, played, runs};
 use std::alloc::Global;

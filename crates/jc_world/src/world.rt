@@ -1,6 +1,6 @@
 //! A world: stripes beside a store, driven by a list of events, with what there is to see of it.
 ghost use Rattle.std.specs.Prelude.{[], ◌≡◌, ◌≤◌, ◌⊎◌, ◌<◌, true, IsTrue, IfOk, IfErr, IsOk, option_copied, OnErr, OnOk, Ok, Err, List, take, length};
-ghost use Rattle.jc_types.specs.Limits.{checked};
+ghost use Rattle.jc_types.specs.Limits.{check};
 ghost use Rattle.jc_world.specs.declared.event.Shown.{Shown};
 ghost use Rattle.jc_world.specs.World.{start, is_busy, under, part_of, is_joined, with_stored};
 ghost use Rattle.jc_world.specs.Events.{Run, StartFits};
@@ -11,13 +11,10 @@ use crate::audit::Audit;
 use crate::event::{Part, PickedUp, Reported, Shown, Stepped, Under, WorldEvent};
 use crate::machine::Machine;
 use crate::room::push_in_room;
-use jc_model::event::{Change, Event, LoadAnswer, Reply};
+use jc_model::{Change, Event, LoadAnswer, Reply};
 use jc_stripe::Eviction;
 use jc_stripe::phase_laws::{keeps_reserved, stays_reached};
-use jc_types::config::Config;
-use jc_types::key::Key;
-use jc_types::refusal::Refusal;
-use jc_types::value::Value;
+use jc_types::{Config, Key, Refusal, Value};
 use std::alloc::{AllocError, Global};
 use std::marker::Model;
 
@@ -50,8 +47,8 @@ impl World {
     /// A shape that `Config::check` refuses is refused with its `BadConfig`, and lack of memory with `OutOfMemory`.
     pub fn new(alloc: Global, config: &Config) -> Result<World, Refusal>
         ensures made { IfOk result (λ w. w ≡ record { world = start config.now; taken = 0 }) }
-        ensures ok { IsOk result → checked config.now ≡ Ok tt }
-        ensures refused { IfErr result (λ r. (checked config.now ≡ Err r) ⊎ ((r ≡ Refusal.OutOfMemory) × (checked config.now ≡ Ok tt))) }
+        ensures ok { IsOk result → check config.now ≡ Ok tt }
+        ensures refused { IfErr result (λ r. (check config.now ≡ Err r) ⊎ ((r ≡ Refusal.OutOfMemory) × (check config.now ≡ Ok tt))) }
     {
         config.check()?;
         match Machine::new(alloc, config) {

@@ -1,5 +1,5 @@
 use super::*;
-use jc_model::event::{Cause, Effect, LoadAnswer, Op, Out, ProcessAnswer, WriteAnswer};
+use jc_model::{Cause, Effect, LoadAnswer, Op, Out, ProcessAnswer, WriteAnswer};
 use jc_types::{Caller, Field, KEY_MAX, Key, Refusal, VALUE_MAX, Value};
 use std::fmt::Debug;
 use std::process::Abort;

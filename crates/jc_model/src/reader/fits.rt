@@ -10,9 +10,7 @@ use crate::contents::Contents;
 use crate::event::{Event, Op, Out, Reply};
 use crate::reader::Stage;
 use crate::same::{is_load_only, is_same_reply};
-use jc_types::config::Config;
-use jc_types::key::Key;
-use jc_types::value::Value;
+use jc_types::{Config, Key, Value};
 
 /// The entry at a key once the victim, if any, has gone.
 pub(super) fn entry_before(contents: &Contents, victim: &Option<Key>, key: &Key) -> Option<Value>

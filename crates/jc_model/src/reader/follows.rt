@@ -7,8 +7,7 @@ use crate::contents::Contents;
 use crate::event::{Event, Op, Out};
 use crate::reader::fits::{does_insert, entry_before};
 use crate::reader::{Opened, Stage};
-use jc_types::config::Config;
-use jc_types::key::Key;
+use jc_types::{Config, Key};
 use std::alloc::AllocError;
 
 /// What is kept of a group at its step.

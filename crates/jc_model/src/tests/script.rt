@@ -12,7 +12,7 @@ use super::{
     WriteAnswer, legal,
 };
 use crate::event::Cause;
-use jc_types::refusal::Refusal;
+use jc_types::Refusal;
 use std::alloc::AllocError;
 
 // 1. Words.

@@ -3,7 +3,7 @@ use super::*;
 use crate::event::{Change, Effect, ProcessAnswer};
 use crate::listed::{take_out, value_in};
 use crate::table::LoaderAsk;
-use jc_types::refusal::Refusal;
+use jc_types::Refusal;
 
 #[test]
 fn makes_a_step(rt: HostRuntime) {

@@ -14,7 +14,7 @@ use crate::needs::first_asked;
 use crate::ticket::{First, Join, Note, Reservation};
 use jc_history::History;
 use jc_inflight::Joiner;
-use jc_model::event::{Change, Op};
+use jc_model::{Change, Op};
 use jc_reserve::Held;
 use jc_types::{Caller, Key, stripe_of};
 

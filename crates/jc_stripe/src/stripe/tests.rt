@@ -6,7 +6,7 @@ ghost use Rattle.jc_stripe.specs.Tickets.{Ticket};
 
 use super::*;
 use crate::ticket::{played_load, played_write};
-use jc_model::event::{LoadAnswer, Reply, WriteAnswer};
+use jc_model::{LoadAnswer, Reply, WriteAnswer};
 use std::fmt::Debug;
 use std::process::Abort;
 use std::test::Fail;

@@ -4,11 +4,8 @@ use super::script::facts::key_at;
 use super::script::words::{key_of, value_of};
 use crate::event::{Command, Shown, WorldEvent};
 use crate::world::World;
-use jc_model::event::{Event, LoadAnswer, Op, Reply};
-use jc_model::legal::legal;
-use jc_types::config::Config;
-use jc_types::key::Key;
-use jc_types::value::Value;
+use jc_model::{Event, LoadAnswer, Op, Reply, legal};
+use jc_types::{Config, Key, Value};
 use std::alloc::Global;
 use std::process::Abort;
 

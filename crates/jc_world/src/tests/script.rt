@@ -7,7 +7,7 @@
 //! Words are those of a script and of its transcript where there is one: the last phase is `end 1 a`, and to ask for the answer of
 //! a joined load is `take 1 a`. Other events have their own names.
 use crate::world::World;
-use jc_types::config::Config;
+use jc_types::Config;
 use std::alloc::Global;
 use std::process::Abort;
 use words::Words;

@@ -1,6 +1,6 @@
 use Rattle.std.proofs.Common.{◌≡◌, length, true}
 use Rattle.jc_model.specs.Legal.{in_order}
-use Rattle.jc_model.proofs.Order.{follows_all}
+use Rattle.jc_model.proofs.CallerLemmas.{follows_all}
 use Rattle.jc_model.proofs.callers.does_follow_all.Given as goal
 
 abbrev pub invariant-loop-last : goal.invariant-loop-last

@@ -1,5 +1,5 @@
 use Rattle.std.proofs.Common.{sym, ◌∙◌, true, false}
-use Rattle.jc_model.proofs.Lookups.{find_at}
+use Rattle.jc_model.proofs.CallerLemmas.{find_at}
 use Rattle.jc_model.proofs.listed.value_in.Goals as goal
 
 pub returns-then-eq : goal.returns-then-eq

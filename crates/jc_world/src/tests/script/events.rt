@@ -2,10 +2,9 @@
 use super::words::{Words, number_of, value_of};
 use crate::event::{Command, PickedUp, Reported, Shown, Stepped, WorldEvent};
 use crate::world::World;
-use jc_model::event::{Cause, Change, LoadAnswer, Op, Reply};
+use jc_model::{Cause, Change, LoadAnswer, Op, Reply};
 use jc_stripe::Eviction;
-use jc_types::key::Key;
-use jc_types::refusal::Refusal;
+use jc_types::{Key, Refusal};
 use std::alloc::Global;
 use std::process::Abort;
 

@@ -2,9 +2,8 @@
 use super::words::{Words, key_of, number_of, value_of};
 use crate::audit::Audit;
 use crate::world::World;
-use jc_model::event::Event;
-use jc_types::key::Key;
-use jc_types::value::Value;
+use jc_model::Event;
+use jc_types::{Key, Value};
 use std::alloc::Global;
 use std::process::Abort;
 

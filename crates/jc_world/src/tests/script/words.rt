@@ -1,6 +1,5 @@
 //! The words of a line.
-use jc_types::key::Key;
-use jc_types::value::Value;
+use jc_types::{Key, Value};
 use std::process::Abort;
 
 /// What is still to be read of a line, word by word: none behind the last one.

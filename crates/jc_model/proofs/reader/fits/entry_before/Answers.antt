@@ -1,7 +1,7 @@
 use Rattle.std.proofs.Common.{sym, ap, ◌∙◌, true, false}
 use Rattle.jc_model.specs.Cache.{entry_at}
 use Rattle.jc_model.specs.Group.{without_victim}
-use Rattle.jc_model.proofs.Lookups.{get-without}
+use Rattle.jc_model.proofs.CallerLemmas.{get-without}
 use Rattle.jc_model.proofs.reader.fits.entry_before.Goals as goal
 
 pub returns-then-eq : goal.returns-then-eq

@@ -1,4 +1,4 @@
-use Rattle.std.proofs.Common.{◌≡◌, ◌∙◌, sym, ap, Some, None, Option, ℕ, List, find, option_map, eq-eqb, nat_eq, Bool, true, false, IsTrue}
+use Rattle.std.proofs.Common.{◌≡◌, ◌∙◌, sym, ap, ℕ, List, find, option_map, eq-eqb, nat_eq, true, false}
 use Rattle.jc_types.specs.declared.caller.Caller.{Caller}
 use Rattle.jc_model.specs.Cache.{Bytes}
 use Rattle.jc_inflight.specs.declared.joiner.Joiner.{Joiner}

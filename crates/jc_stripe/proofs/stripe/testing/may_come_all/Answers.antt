@@ -1,4 +1,4 @@
-use Rattle.std.proofs.Common.{◌∙◌, ◌≡◌, ◌+◌, ℕ, suc, sym, ap, subst, take, true, add-one}
+use Rattle.std.proofs.Common.{◌∙◌, ℕ, sym, ap, take, add-one}
 use Rattle.jc_model.specs.declared.event.Event.{Event}
 use Rattle.jc_model.specs.Legal.{may_come}
 use Rattle.jc_stripe.specs.OwnSteps.{may_come_all}

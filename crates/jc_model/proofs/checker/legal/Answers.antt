@@ -1,9 +1,9 @@
 use Rattle.std.proofs.Common.{arith}
 use Rattle.std.proofs.lemmas.Grind.{common_steps}
 use Rattle.jc_model.proofs.Whole.{legal_few, legal_of_one}
-use Rattle.jc_model.proofs.legal.legal.Goals as goal
-use Rattle.jc_model.proofs.legal.legal.Goals.{then-is_err-via-then-is_err, then-is_err-via-else-is_err+then-not-is_apart, then-is_err-via-else-is_err+else-not-is_apart+then-opening-config}
-use Rattle.jc_model.proofs.legal.legal.Goals.{then-not-are_of_one_stripe-via-then-not-are_of_one_stripe, then-not-are_of_one_stripe-via-else-not-are_of_one_stripe+then-not-is_in_order}
+use Rattle.jc_model.proofs.checker.legal.Goals as goal
+use Rattle.jc_model.proofs.checker.legal.Goals.{then-is_err-via-then-is_err, then-is_err-via-else-is_err+then-not-is_apart, then-is_err-via-else-is_err+else-not-is_apart+then-opening-config}
+use Rattle.jc_model.proofs.checker.legal.Goals.{then-not-are_of_one_stripe-via-then-not-are_of_one_stripe, then-not-are_of_one_stripe-via-else-not-are_of_one_stripe+then-not-is_in_order}
 
 pub returns-then-is_err : goal.returns-then-is_err
 returns-then-is_err c =

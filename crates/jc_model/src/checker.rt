@@ -1,7 +1,7 @@
 //! The slow checker of one stripe's history: it makes every step again, on a map.
 ghost use Rattle.std.specs.Prelude.{◌≡◌, ◌↔◌, ◌≤◌, IsTrue, IfOk, Ok, length};
-ghost use Rattle.jc_types.specs.Limits.{checked};
-ghost use Rattle.jc_model.specs.Listed.{apart};
+ghost use Rattle.jc_types.specs.Limits.{check};
+ghost use Rattle.jc_model.specs.Listed.{has_distinct_keys};
 ghost use Rattle.jc_model.specs.Legal.{Legal, in_order};
 ghost use Rattle.jc_model.specs.Reader.{are_of_one_stripe};
 
@@ -10,14 +10,12 @@ use crate::event::Event;
 use crate::listed::value_in;
 use crate::reader::are_accepted;
 use crate::stripes::are_of_one_stripe;
-use jc_types::config::Config;
-use jc_types::key::Key;
-use jc_types::value::Value;
+use jc_types::{Config, Key, Value};
 use std::alloc::{AllocError, Global};
 
 /// Whether no key stands twice.
 fn is_apart(entries: &[(Key, Value)]) -> bool
-    ensures { result ≡ apart entries.now }
+    ensures { result ≡ has_distinct_keys entries.now }
 {
     for (i, entry) in entries.iter().enumerate() {
         if value_in(&entries[i + 1..], &entry.0).is_some() {
@@ -34,8 +32,8 @@ fn is_spelled(
     opening: &[(Key, Value)],
     events: &[Event],
 ) -> Result<bool, AllocError>
-    requires config { checked config.now ≡ Ok tt }
-    requires once { IsTrue (apart opening.now) }
+    requires config { check config.now ≡ Ok tt }
+    requires once { IsTrue (has_distinct_keys opening.now) }
     requires few { length opening.now ≤ config.now.capacity }
     requires stripe { IsTrue (are_of_one_stripe config.now.stripes opening.now events.now) }
     requires order { IsTrue (in_order events.now) }
