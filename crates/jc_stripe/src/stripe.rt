@@ -18,15 +18,14 @@ ghost use Rattle.jc_stripe.specs.Phases.{MayBegin, Steps, Begins, Commits, Withd
 ghost use Rattle.jc_stripe.specs.OnePhase.{IsPhaseOf};
 ghost use Rattle.jc_stripe.specs.declared.ticket.First.TheVariants.{Nobody};
 
+mod finding;
 mod testing;
 #[cfg(test)]
 mod tests;
 
 use crate::appending::{append_group, make_step};
 use crate::begun::{Begun, Picked, StepDone};
-use crate::needs::{
-    Found, answers_at_once, first_asked, is_to_reserve, load_of, may_join, places_needed,
-};
+use crate::needs::{Found, places_needed};
 use crate::ticket::{
     First, Join, LoadDone, LoadTicket, Note, Origin, Reservation, WriteDone, WriteTicket,
 };
@@ -35,7 +34,7 @@ use jc_history::History;
 use jc_inflight::{JoinState, Joiners};
 use jc_model::{Change, Event, Op, Out};
 use jc_reserve::Reservations;
-use jc_types::{Caller, Config, HIT_PLACES, JOINERS_MAX, Key, RESERVATIONS_MAX, Refusal, STEP_PLACES, Value};
+use jc_types::{Caller, Config, HIT_PLACES, Key, STEP_PLACES, Value};
 use std::alloc::{AllocError, Global};
 use std::marker::Model;
 
@@ -269,98 +268,6 @@ impl Stripe {
         self.history.append_to(from, to, out)
     }
 
-    /// What a call finds at its key.
-    fn find(&self, key: &Key, op: &Op) -> Found
-        ensures { result ≡ found_at self.now key.now op.now }
-    {
-        let entry = self.entry(key);
-        let first = first_asked(&self.config, op, &entry);
-        if answers_at_once(&self.config, op, &entry) {
-            return Found {
-                entry,
-                load: None,
-                first,
-                needs_free_key: false,
-                is_busy: false,
-            };
-        }
-        let (is_reserved, loading) = self.load_at(key);
-        let joins = may_join(op) && self.config.read_through && entry.is_none();
-        let load = if joins { loading } else { None };
-        let needs_free_key = load.is_none();
-        Found {
-            entry,
-            load,
-            first,
-            needs_free_key,
-            is_busy: is_reserved && needs_free_key,
-        }
-    }
-
-    /// The key's value, or none.
-    fn entry(&self, key: &Key) -> Option<Value>
-        ensures { result ≡ entry_at self.now.cache key.now }
-    {
-        self.entries.peek(key)
-    }
-
-    /// Whether the key is reserved, and the load of its reservation, if that asked the loader.
-    fn load_at(&self, key: &Key) -> (bool, Option<u64>)
-        ensures reserved { result.0 ≡ is_reserved self.now key.now }
-        ensures load { result.1 ≡ load_at (reservation_of self.now key.now) }
-    {
-        // Names the types of the values that a generic call moves here: the prover looks for their models in the types that a
-        // function names. So do the others of this name below.
-        let _types: Option<Change> = None;
-        match self.reservations.find(key) {
-            Some((number, note)) => (true, load_of(&note.first, number)),
-            None => (false, None),
-        }
-    }
-
-    /// Whether so many places of the history are free, and the numbers aren't at their end.
-    fn has_room(&self, call: u64, needed: usize) -> bool
-        ensures { result ≡ has_room self.now call needed }
-    {
-        if !self.history.has_room(needed) {
-            return false;
-        }
-        call < u64::MAX && !self.reservations.is_used_up()
-    }
-
-    /// Whether no further reservation can be made.
-    fn is_reserving_full(&self) -> bool
-        ensures { result ≡ nat_le RESERVATIONS_MAX (length self.now.reservations) }
-    {
-        RESERVATIONS_MAX <= self.reservations.len()
-    }
-
-    /// Whether no further call can join a load.
-    fn is_joining_full(&self) -> bool
-        ensures { result ≡ nat_le JOINERS_MAX (length self.now.joiners) }
-    {
-        JOINERS_MAX <= self.joiners.len()
-    }
-
-    /// The first refusal that a call meets here, if any, by what it finds at its key.
-    fn refusal(&self, caller: Caller, found: &Found) -> Option<Refusal>
-        ensures { (key : Bytes) (op : Op) → found.now ≡ found_at self.now key op → result ≡ first_refusal self.now caller key op }
-    {
-        if !self.has_room(caller.call, places_needed(found.needs_free_key)) {
-            return Some(Refusal::HistoryFull);
-        }
-        if found.is_busy {
-            return Some(Refusal::Busy);
-        }
-        if is_to_reserve(found) && self.is_reserving_full() {
-            return Some(Refusal::TooManyInFlight);
-        }
-        if found.load.is_some() && self.is_joining_full() {
-            return Some(Refusal::TooManyJoiners);
-        }
-        None
-    }
-
     /// What a first phase gives, and what it leaves.
     fn first_phase(&mut self, caller: Caller, key: &Key, op: &Op) -> Begun
         requires op { IsTrue (has_phases op.now) }
@@ -398,6 +305,8 @@ impl Stripe {
         ensures reservation { result ≡ new_reservation self.old caller key.now op.now first }
         ensures reserved { self.new ≡ with_reservation self.old (new_reservation self.old caller key.now op.now first) }
     {
+        // Names the types of the values that a generic call moves here: the prover looks for their models in the types that a
+        // function names. So do the others of this name below.
         let _types: Option<Change> = None;
         // Copied first: a value counts as moved by the call that takes it.
         let asked = first;

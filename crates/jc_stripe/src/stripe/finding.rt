@@ -1,0 +1,109 @@
+//! What a first phase finds at its key, and whether it is refused: the conditions in the order in which they count.
+ghost use Rattle.std.specs.Prelude.{◌≡◌, length, nat_le};
+ghost use Rattle.jc_types.specs.declared.limits.TheConstants.{RESERVATIONS_MAX, JOINERS_MAX};
+ghost use Rattle.jc_model.specs.declared.event.Op.{Op};
+ghost use Rattle.jc_model.specs.Cache.{Bytes, entry_at};
+ghost use Rattle.jc_stripe.specs.State.{is_reserved, reservation_of};
+ghost use Rattle.jc_stripe.specs.Refusals.{has_room, first_refusal, load_at};
+ghost use Rattle.jc_stripe.specs.Finding.{found_at};
+
+use super::Stripe;
+use crate::needs::{
+    Found, answers_at_once, first_asked, is_to_reserve, load_of, may_join, places_needed,
+};
+use jc_model::{Change, Op};
+use jc_types::{Caller, JOINERS_MAX, Key, RESERVATIONS_MAX, Refusal, Value};
+
+impl Stripe {
+    /// What a call finds at its key.
+    pub(super) fn find(&self, key: &Key, op: &Op) -> Found
+        ensures { result ≡ found_at self.now key.now op.now }
+    {
+        let entry = self.entry(key);
+        let first = first_asked(&self.config, op, &entry);
+        if answers_at_once(&self.config, op, &entry) {
+            return Found {
+                entry,
+                load: None,
+                first,
+                needs_free_key: false,
+                is_busy: false,
+            };
+        }
+        let (is_reserved, loading) = self.load_at(key);
+        let joins = may_join(op) && self.config.read_through && entry.is_none();
+        let load = if joins { loading } else { None };
+        let needs_free_key = load.is_none();
+        Found {
+            entry,
+            load,
+            first,
+            needs_free_key,
+            is_busy: is_reserved && needs_free_key,
+        }
+    }
+
+    /// The key's value, or none.
+    pub(super) fn entry(&self, key: &Key) -> Option<Value>
+        ensures { result ≡ entry_at self.now.cache key.now }
+    {
+        self.entries.peek(key)
+    }
+
+    /// Whether the key is reserved, and the load of its reservation, if that asked the loader.
+    fn load_at(&self, key: &Key) -> (bool, Option<u64>)
+        ensures reserved { result.0 ≡ is_reserved self.now key.now }
+        ensures load { result.1 ≡ load_at (reservation_of self.now key.now) }
+    {
+        // Names the types of the values that a generic call moves here: the prover looks for their models in the types that a
+        // function names.
+        let _types: Option<Change> = None;
+        match self.reservations.find(key) {
+            Some((number, note)) => (true, load_of(&note.first, number)),
+            None => (false, None),
+        }
+    }
+
+    /// Whether so many places of the history are free, and the numbers aren't at their end.
+    fn has_room(&self, call: u64, needed: usize) -> bool
+        ensures { result ≡ has_room self.now call needed }
+    {
+        if !self.history.has_room(needed) {
+            return false;
+        }
+        call < u64::MAX && !self.reservations.is_used_up()
+    }
+
+    /// Whether no further reservation can be made.
+    fn is_reserving_full(&self) -> bool
+        ensures { result ≡ nat_le RESERVATIONS_MAX (length self.now.reservations) }
+    {
+        RESERVATIONS_MAX <= self.reservations.len()
+    }
+
+    /// Whether no further call can join a load.
+    fn is_joining_full(&self) -> bool
+        ensures { result ≡ nat_le JOINERS_MAX (length self.now.joiners) }
+    {
+        JOINERS_MAX <= self.joiners.len()
+    }
+
+    /// The first refusal that a call meets here, if any, by what it finds at its key.
+    pub(super) fn refusal(&self, caller: Caller, found: &Found) -> Option<Refusal>
+        ensures { (key : Bytes) (op : Op) → found.now ≡ found_at self.now key op → result ≡ first_refusal self.now caller key op }
+    {
+        if !self.has_room(caller.call, places_needed(found.needs_free_key)) {
+            return Some(Refusal::HistoryFull);
+        }
+        if found.is_busy {
+            return Some(Refusal::Busy);
+        }
+        if is_to_reserve(found) && self.is_reserving_full() {
+            return Some(Refusal::TooManyInFlight);
+        }
+        if found.load.is_some() && self.is_joining_full() {
+            return Some(Refusal::TooManyJoiners);
+        }
+        None
+    }
+}
