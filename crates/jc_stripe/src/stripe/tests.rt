@@ -7,6 +7,7 @@ ghost use Rattle.jc_stripe.specs.Tickets.{Ticket};
 use super::*;
 use crate::ticket::{played_load, played_write};
 use jc_model::{LoadAnswer, Reply, WriteAnswer};
+use jc_types::Refusal;
 use std::fmt::Debug;
 use std::process::Abort;
 use std::test::Fail;
