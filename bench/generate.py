@@ -6,7 +6,13 @@ usage: generate.py KIND SIZE
 KIND  plain     one stripe, nobody asked outside: get and put on few keys. The history fills up: then calls are refused
       phases    get, put and remove in phases, with read-through and write-through: begin, read or apply, end
       stripes   all eleven operations over 64 stripes, with read-through and write-through
-SIZE  1 for about 2 MiB, 2 for about 4 MiB, which is the most that `jcache run` reads
+      joins     64 stripes with read-through: one get of a key loads, and 15 others join it and take its answer
+      hits16, hits4096
+                one stripe, nobody asked outside: gets of random keys among so many entries, which are all there
+      evictions16, evictions4096
+                one stripe that is full of so many entries, nobody asked outside: puts of new keys, each of which evicts
+SIZE  2 for about 4 MiB, which is the most that `jcache run` reads, or as many calls as the history of one stripe
+      takes: 50,000 gets, 28,000 puts; 1 for half of it
 
 No line of a script has a fault. It ends with an audit."""
 import sys
@@ -15,7 +21,8 @@ LIMIT = 4194304  # bytes of input
 ROOM = 65536  # bytes kept for what ends a script
 WINDOW = 16  # calls that are under way at once
 LETTERS = 'abcdefghijklmnopqrstuvwxyz'
-KINDS = ('plain', 'phases', 'stripes')
+GETS, PUTS = 50000, 28000  # of the kinds `hits` and `evictions`
+MOST = 4096  # entries of a stripe: both numbers of entries take as many puts before the calls that are measured
 
 
 class Numbers:
@@ -203,10 +210,71 @@ def stripes(size):
     return script.text()
 
 
+def joins(size):
+    script = Script(size)
+    script.open(64, 64, 16384, ' read')
+    steps = [0] * 64
+    serial = 0
+    while not script.is_full():
+        key = f'key{serial:07d}'
+        serial += 1
+        home = sum(key.encode()) % 64
+        steps[home] += WINDOW + 1  # and an eviction
+        assert steps[home] <= script.history - 3 * WINDOW, 'a history could be full'
+        calls = range(script.call + 1, script.call + WINDOW + 1)
+        for i, call in enumerate(calls):
+            script.put(f'begin {call} s{i + 1} get {key}')
+        script.call += WINDOW
+        script.put(f'say {calls[0]} {key}={script.value(32)}')
+        script.put(f'end {calls[0]}')
+        for call in calls[1:]:
+            script.put(f'take {call}')
+    return script.text()
+
+
+def filled(entries):
+    """One stripe that is full of so many entries."""
+    script = Script(2)
+    script.open(1, entries, 65536, '')
+    keys = [f'key{number:06d}' for number in range(entries)]
+    for number in range(MOST):
+        script.call += 1
+        script.put(f'begin {script.call} s{number % 32 + 1} put {keys[number % entries]} {script.value(9)}')
+    return script, keys
+
+
+def hits(entries, size):
+    script, keys = filled(entries)
+    for _ in range(GETS // 2 * size):
+        script.call += 1
+        script.put(f'begin {script.call} s{script.call % 32 + 1} get {keys[script.numbers.below(entries)]}')
+    return script.text()
+
+
+def evictions(entries, size):
+    script, _ = filled(entries)
+    for number in range(PUTS // 2 * size):
+        script.call += 1
+        script.put(f'begin {script.call} s{script.call % 32 + 1} put new{number:06d} {script.value(9)}')
+    return script.text()
+
+
+KINDS = {
+    'plain': plain,
+    'phases': phases,
+    'stripes': stripes,
+    'joins': joins,
+    'hits16': lambda size: hits(16, size),
+    'hits4096': lambda size: hits(4096, size),
+    'evictions16': lambda size: evictions(16, size),
+    'evictions4096': lambda size: evictions(4096, size),
+}
+
+
 def main(words):
     if len(words) != 2 or words[0] not in KINDS or words[1] not in ('1', '2'):
         sys.exit(__doc__)
-    sys.stdout.write({'plain': plain, 'phases': phases, 'stripes': stripes}[words[0]](int(words[1])))
+    sys.stdout.write(KINDS[words[0]](int(words[1])))
 
 
 if __name__ == '__main__':
