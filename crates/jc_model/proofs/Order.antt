@@ -5,7 +5,7 @@ use Rattle.std.specs.Cmp.Lexicographic.{pointwise}
 use Rattle.std.proofs.lemmas.List.{take_more, take-append-drop}
 use Rattle.std.proofs.lemmas.List.Folds.{list_all-append}
 use Rattle.std.proofs.lemmas.Bool.Decides.{nat_tests}
-use Rattle.std.proofs.lemmas.Bool.{and_parts}
+use Rattle.std.proofs.lemmas.Bool.{and_parts, and_from}
 use Rattle.jc_types.specs.declared.caller.Caller.{Caller}
 use Rattle.jc_model.specs.declared.event.Event.{Event}
 use Rattle.jc_model.specs.declared.event.Event.TheVariants.{Step, Evict}
@@ -19,10 +19,6 @@ use Rattle.jc_model.specs.Legal.{may_come, may_follow, in_order}
 use Rattle.jc_model.specs.Reader.{comes_before}
 use Rattle.jc_model.proofs.CallerLemmas.{follows_all, order-last}
 
-joined : (a b : Bool) → a ≡ true → b ≡ true → (a && b) ≡ true
-joined true b g h = h
-joined false b g h = cc
-
 and_true : (b : Bool) → (b && true) ≡ b
 and_true true = refl
 and_true false = refl
@@ -32,7 +28,7 @@ order-front [] ys h = refl
 order-front (x ∷ xs) ys h =
     let parts = and_parts (list_all (may_follow x) (xs ++ ys)) (in_order (xs ++ ys)) h in
     let here = and_parts (list_all (may_follow x) xs) (list_all (may_follow x) ys) (sym (list_all-append (may_follow x) xs ys) ∙ parts.0) in
-    joined _ _ here.0 (order-front xs ys parts.1)
+    and_from _ _ here.0 (order-front xs ys parts.1)
 
 through : (s s' s'' n n' n'' : ℕ) (k k' : Bool) → (not (s == s') || nat_lt n n' || ((n == n') && k)) ≡ true → ((s' == s'') && nat_lt n' n'') ≡ true → (not (s == s'') || nat_lt n n'' || ((n == n'') && k')) ≡ true
 through s s' s'' n n' n'' k k' g h = grind (arith, nat_tests)
@@ -58,14 +54,14 @@ pub all_through : (xs : List Event) (last event : Event) → follows_all xs last
 all_through [] last event g h = refl
 all_through (x ∷ xs) last event g h =
     let parts = and_parts (may_follow x last) (follows_all xs last) g in
-    joined _ _ (follow_through x last event parts.0 h) (all_through xs last event parts.1 h)
+    and_from _ _ (follow_through x last event parts.0 h) (all_through xs last event parts.1 h)
 
 -- of events in order, the last: a lower number of the same session ends the search, and else it goes on before it
 last_lower : (before : List Event) (last event : Event) → in_order (before ++ last ∷ []) ≡ true → comes_before last event ≡ true → follows_all (before ++ last ∷ []) event ≡ true
 last_lower before last event h lower =
     let parts = and_parts (in_order before) (follows_all before last) (sym (order-last before last) ∙ h) in
     list_all-append (λ earlier. may_follow earlier event) before (last ∷ [])
-    ∙ joined _ _ (all_through before last event parts.1 lower) (joined _ _ (follow_lower last event lower) refl)
+    ∙ and_from _ _ (all_through before last event parts.1 lower) (and_from _ _ (follow_lower last event lower) refl)
 
 pub ends_lower : (rest before : List Event) (last event : Event) → rest ≡ before ++ last ∷ [] → in_order rest ≡ true → comes_before last event ≡ true → follows_all rest event ≡ true
 ends_lower rest before last event is h lower =
@@ -106,16 +102,16 @@ evict_follow event key cause = refl
 
 evict_follows : (events : List Event) (key : Bytes) (cause : Cause) → follows_all events (Evict key cause) ≡ true
 evict_follows [] key cause = refl
-evict_follows (x ∷ xs) key cause = joined _ _ (evict_follow x key cause) (evict_follows xs key cause)
+evict_follows (x ∷ xs) key cause = and_from _ _ (evict_follow x key cause) (evict_follows xs key cause)
 
 -- a step that may come behind all events, and an eviction of its key, leave the callers' order
 pub order-step : (events : List Event) (caller : Caller) (op : Op) (key : Bytes) (out : Out) (reply : Reply) (evicted : Option Cause)
     → in_order events ≡ true → list_all (λ e. may_come e caller key) events ≡ true
     → in_order (events ++ (Step caller op key out None reply ∷ evicted_events key evicted)) ≡ true
 order-step events caller op key out reply None order comes =
-    order-last events (Step caller op key out None reply) ∙ joined _ _ order (comes_follows events caller op key out reply ∙ comes)
+    order-last events (Step caller op key out None reply) ∙ and_from _ _ order (comes_follows events caller op key out reply ∙ comes)
 order-step events caller op key out reply (Some cause) order comes =
     let step = Step caller op key out None reply in
-    let here : in_order (events ++ step ∷ []) ≡ true = order-last events step ∙ joined _ _ order (comes_follows events caller op key out reply ∙ comes) in
+    let here : in_order (events ++ step ∷ []) ≡ true = order-last events step ∙ and_from _ _ order (comes_follows events caller op key out reply ∙ comes) in
     ap in_order (sym (append_assoc events (step ∷ []) (Evict key cause ∷ [])))
-    ∙ order-last (events ++ step ∷ []) (Evict key cause) ∙ joined _ _ here (evict_follows (events ++ step ∷ []) key cause)
+    ∙ order-last (events ++ step ∷ []) (Evict key cause) ∙ and_from _ _ here (evict_follows (events ++ step ∷ []) key cause)

@@ -5,7 +5,8 @@ use Rattle.std.proofs.lemmas.List.{length-map}
 use Rattle.std.proofs.lemmas.List.Folds.{list_all-append, list_all-map}
 use Rattle.std.specs.List.{list_any, list_all}
 use Rattle.std.specs.Cmp.Lexicographic.{pointwise}
-use Rattle.std.proofs.lemmas.Bool.{and_parts}
+use Rattle.std.proofs.lemmas.Bool.{and_parts, and_from}
+use Rattle.jc_types.proofs.CallerLemmas.{all_imply, all_filter}
 use Rattle.jc_types.specs.declared.config.Config.{Config}
 use Rattle.jc_model.specs.Cache.{Bytes, Cache, entry_at}
 use Rattle.jc_inflight.specs.declared.joiner.Joiner.{Joiner}
@@ -19,10 +20,6 @@ use Rattle.jc_stripe.specs.declared.ticket.Reservation.{Reservation}
 
 -- 1. What holds of each.
 
-pub join_and : (a b : Bool) → a ≡ true → b ≡ true → (a && b) ≡ true
-join_and true b g h = h
-join_and false b g h = cc
-
 pub or_left : (a b : Bool) → a ≡ true → (a || b) ≡ true
 or_left true b h = refl
 or_left false b h = cc
@@ -32,38 +29,16 @@ or_right true b h = refl
 or_right false b h = h
 
 pub all-push : {A : Type 0} (p : A → Bool) (xs : List A) (x : A) → list_all p xs ≡ true → p x ≡ true → list_all p (xs ++ x ∷ []) ≡ true
-all-push p xs x all one = list_all-append p xs (x ∷ []) ∙ join_and _ _ all (join_and _ _ one refl)
-
-pub all_kept : {A : Type 0} (p q : A → Bool) (xs : List A) → list_all p xs ≡ true → list_all p (filter q xs) ≡ true
-all_kept p q [] h = refl
-all_kept p q (x ∷ xs) h =
-    let parts = and_parts (p x) (list_all p xs) h in
-    elim (q x) as (λ b. list_all p (cond b (x ∷ filter q xs) (filter q xs)) ≡ true) [ true ↦ join_and _ _ parts.0 (all_kept p q xs parts.1) | false ↦ all_kept p q xs parts.1 ]
-
--- what follows from a test that each answers_at_once
-pub all_then : {A : Type 0} (p q : A → Bool) (xs : List A) → ((x : A) → p x ≡ true → q x ≡ true) → list_all p xs ≡ true → list_all q xs ≡ true
-all_then p q [] f h = refl
-all_then p q (x ∷ xs) f h =
-    let parts = and_parts (p x) (list_all p xs) h in
-    join_and _ _ (f x parts.0) (all_then p q xs f parts.1)
+all-push p xs x all one = list_all-append p xs (x ∷ []) ∙ and_from _ _ all (and_from _ _ one refl)
 
 pub all_both : {A : Type 0} (p q : A → Bool) (xs : List A) → list_all p xs ≡ true → list_all q xs ≡ true → list_all (λ x. p x && q x) xs ≡ true
 all_both p q [] g h = refl
 all_both p q (x ∷ xs) g h =
     let ps = and_parts (p x) (list_all p xs) g in
     let qs = and_parts (q x) (list_all q xs) h in
-    join_and _ _ (join_and _ _ ps.0 qs.0) (all_both p q xs ps.1 qs.1)
+    and_from _ _ (and_from _ _ ps.0 qs.0) (all_both p q xs ps.1 qs.1)
 
 -- what each answers_at_once, one that is found answers_at_once
-pub all_found : {A : Type 0} (p q : A → Bool) (xs : List A) (r : A) → find p xs ≡ Some r → list_all q xs ≡ true → q r ≡ true
-all_found p q [] r h all = cc
-all_found p q (x ∷ xs) r h all =
-    let parts = and_parts (q x) (list_all q xs) all in
-    elim (p x) as (λ b. cond b (Some x) (find p xs) ≡ Some r → q r ≡ true) [
-      | true ↦ λ h. let is : x ≡ r = cc in ap q (sym is) ∙ parts.0
-      | false ↦ λ h. all_found p q xs r h parts.1
-    ] h
-
 -- 2. Reservations.
 
 -- the test of two calls goes both ways
@@ -78,17 +53,17 @@ beside-push [] r all one = refl
 beside-push (x ∷ xs) r all one =
     let parts = and_parts (list_all (is_other_call x.caller x.key) xs) (are_beside xs) all in
     let ones = and_parts (is_other_call r.caller r.key x) (list_all (is_other_call r.caller r.key) xs) one in
-    join_and _ _ (all-push (is_other_call x.caller x.key) xs r parts.0 (beside_turned x r ∙ ones.0)) (beside-push xs r parts.1 ones.1)
+    and_from _ _ (all-push (is_other_call x.caller x.key) xs r parts.0 (beside_turned x r ∙ ones.0)) (beside-push xs r parts.1 ones.1)
 
 pub all_left : (p : Reservation → Bool) (key : Bytes) (rs : List Reservation) → list_all p rs ≡ true → list_all p (without_key key rs) ≡ true
-all_left p key rs h = all_kept p (λ r. not (is_key key r)) rs h
+all_left p key rs h = all_filter p (λ r. not (is_key key r)) rs h
 
 pub beside_left : (key : Bytes) (rs : List Reservation) → are_beside rs ≡ true → are_beside (without_key key rs) ≡ true
 beside_left key [] h = refl
 beside_left key (x ∷ xs) h =
     let parts = and_parts (list_all (is_other_call x.caller x.key) xs) (are_beside xs) h in
     elim (not (is_key key x)) as (λ b. are_beside (cond b (x ∷ without_key key xs) (without_key key xs)) ≡ true) [
-      | true ↦ join_and _ _ (all_left (is_other_call x.caller x.key) key xs parts.0) (beside_left key xs parts.1)
+      | true ↦ and_from _ _ (all_left (is_other_call x.caller x.key) key xs parts.0) (beside_left key xs parts.1)
       | false ↦ beside_left key xs parts.1
     ]
 
@@ -158,14 +133,14 @@ apart-push [] j all one = refl
 apart-push (x ∷ xs) j all one =
     let parts = and_parts (list_all (is_other_join x.caller x.key) xs) (are_apart xs) all in
     let ones = and_parts (is_other_join j.caller j.key x) (list_all (is_other_join j.caller j.key) xs) one in
-    join_and _ _ (all-push (is_other_join x.caller x.key) xs j parts.0 (apart_turned x j ∙ ones.0)) (apart-push xs j parts.1 ones.1)
+    and_from _ _ (all-push (is_other_join x.caller x.key) xs j parts.0 (apart_turned x j ∙ ones.0)) (apart-push xs j parts.1 ones.1)
 
 pub apart_kept : (q : Joiner → Bool) (js : List Joiner) → are_apart js ≡ true → are_apart (filter q js) ≡ true
 apart_kept q [] h = refl
 apart_kept q (x ∷ xs) h =
     let parts = and_parts (list_all (is_other_join x.caller x.key) xs) (are_apart xs) h in
     elim (q x) as (λ b. are_apart (cond b (x ∷ filter q xs) (filter q xs)) ≡ true) [
-      | true ↦ join_and _ _ (all_kept (is_other_join x.caller x.key) q xs parts.0) (apart_kept q xs parts.1)
+      | true ↦ and_from _ _ (all_filter (is_other_join x.caller x.key) q xs parts.0) (apart_kept q xs parts.1)
       | false ↦ apart_kept q xs parts.1
     ]
 
@@ -175,10 +150,10 @@ between-push [] js j all one = refl
 between-push (r ∷ rs) js j all one =
     let parts = and_parts (list_all (is_other_join r.caller r.key) js) (all_apart rs js) all in
     let ones = and_parts (is_other_call j.caller j.key r) (list_all (is_other_call j.caller j.key) rs) one in
-    join_and _ _ (all-push (is_other_join r.caller r.key) js j parts.0 (between_turned r j ∙ ones.0)) (between-push rs js j parts.1 ones.1)
+    and_from _ _ (all-push (is_other_join r.caller r.key) js j parts.0 (between_turned r j ∙ ones.0)) (between-push rs js j parts.1 ones.1)
 
 pub between_kept : (rs : List Reservation) (q : Joiner → Bool) (js : List Joiner) → all_apart rs js ≡ true → all_apart rs (filter q js) ≡ true
-between_kept rs q js h = all_then (λ r. list_all (is_other_join r.caller r.key) js) (λ r. list_all (is_other_join r.caller r.key) (filter q js)) rs (λ r e. all_kept (is_other_join r.caller r.key) q js e) h
+between_kept rs q js h = all_imply (λ r. list_all (is_other_join r.caller r.key) js) (λ r. list_all (is_other_join r.caller r.key) (filter q js)) rs (λ r e. all_filter (is_other_join r.caller r.key) q js e) h
 
 pub between_left : (key : Bytes) (rs : List Reservation) (js : List Joiner) → all_apart rs js ≡ true → all_apart (without_key key rs) js ≡ true
 between_left key rs js h = all_left (λ r. list_all (is_other_join r.caller r.key) js) key rs h
@@ -186,12 +161,12 @@ between_left key rs js h = all_left (λ r. list_all (is_other_join r.caller r.ke
 -- what stands beside all reservations of the joiners, the first and the others
 pub between_first : (rs : List Reservation) (j : Joiner) (js : List Joiner) → all_apart rs (j ∷ js) ≡ true → list_all (is_other_call j.caller j.key) rs ≡ true
 between_first rs j js h =
-    all_then (λ r. list_all (is_other_join r.caller r.key) (j ∷ js)) (is_other_call j.caller j.key) rs
+    all_imply (λ r. list_all (is_other_join r.caller r.key) (j ∷ js)) (is_other_call j.caller j.key) rs
     (λ r e. sym (between_turned r j) ∙ (and_parts (is_other_join r.caller r.key j) (list_all (is_other_join r.caller r.key) js) e).0) h
 
 pub between_others : (rs : List Reservation) (j : Joiner) (js : List Joiner) → all_apart rs (j ∷ js) ≡ true → all_apart rs js ≡ true
 between_others rs j js h =
-    all_then (λ r. list_all (is_other_join r.caller r.key) (j ∷ js)) (λ r. list_all (is_other_join r.caller r.key) js) rs
+    all_imply (λ r. list_all (is_other_join r.caller r.key) (j ∷ js)) (λ r. list_all (is_other_join r.caller r.key) js) rs
     (λ r e. (and_parts (is_other_join r.caller r.key j) (list_all (is_other_join r.caller r.key) js) e).1) h
 
 -- 4. Joiners of the same calls.
@@ -219,7 +194,7 @@ apart-alike js others same = apart-calls js ∙ ap calls_apart same ∙ sym (apa
 
 pub between-alike : (rs : List Reservation) (js others : List Joiner) → map call_of js ≡ map call_of others → all_apart rs js ≡ true → all_apart rs others ≡ true
 between-alike rs js others same h =
-    all_then (λ r. list_all (is_other_join r.caller r.key) js) (λ r. list_all (is_other_join r.caller r.key) others) rs
+    all_imply (λ r. list_all (is_other_join r.caller r.key) js) (λ r. list_all (is_other_join r.caller r.key) others) rs
     (λ r e. sym (one_apart-alike r.caller r.key js others same) ∙ e) h
 
 pub length-alike : (js others : List Joiner) → map call_of js ≡ map call_of others → length js ≡ length others

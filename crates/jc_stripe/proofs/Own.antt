@@ -8,6 +8,7 @@ use Rattle.std.proofs.lemmas.Option.{slice_get-get_or}
 use Rattle.std.proofs.Math.Seq.{get_or-append_seam}
 use Rattle.std.specs.List.{list_all}
 use Rattle.std.specs.Cmp.Lexicographic.{pointwise, same_text}
+use Rattle.jc_types.proofs.CallerLemmas.{all_found}
 use Rattle.jc_types.specs.declared.caller.Caller.{Caller}
 use Rattle.jc_model.specs.declared.event.Event.{Event}
 use Rattle.jc_model.specs.declared.event.Event.TheVariants.{Step, Evict}
@@ -30,7 +31,6 @@ use Rattle.jc_stripe.specs.Reached.{IsReached, are_apart}
 use Rattle.jc_stripe.specs.OnePhase.{is_answered, is_parked, is_own_step, own_steps}
 use Rattle.jc_stripe.specs.OwnSteps.{AddsOwn, OwnSteps}
 use Rattle.jc_stripe.proofs.OwnPick.{none_parked, parked_other, picks_own}
-use Rattle.jc_stripe.proofs.Beside.{all_found}
 use Rattle.jc_stripe.proofs.Settled.{keyed_callers}
 use Rattle.jc_stripe.proofs.ParkedSteps.{number_itself, joiners_call, own-parked, own-answered, own-victim, own-evicted, own-shared, filter-append, all_parked, parked-callers, parked-joined, parked-dissolved}
 

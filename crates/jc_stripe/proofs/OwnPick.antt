@@ -4,11 +4,12 @@
 --     steps_behind                  a step whose call may still come behind a history isn't in it
 --     all_behind                    where the session's own steps and its joiners let a call begin, its whole history does
 use Rattle.std.proofs.Common.{◌≡◌, ◌≤◌, ◌==◌, ◌&&◌, ◌||◌, length, ℕ, zero, suc, List, [], ◌∷◌, ◌++◌, filter, find, option_map, Bool, true, false, cond, not, Option, Some, nat_lt, refl, sym, ap, ◌∙◌, arith, slice_get}
-use Rattle.std.proofs.lemmas.Bool.{eqb-true, true≢false, and_parts}
+use Rattle.std.proofs.lemmas.Bool.{eqb-true, true≢false, and_parts, and_from}
 use Rattle.std.proofs.lemmas.Cmp.{nat_list_eq_equiv}
 use Rattle.std.proofs.lemmas.List.Folds.{list_all-append}
 use Rattle.std.specs.List.{list_all}
 use Rattle.std.specs.Cmp.Lexicographic.{pointwise}
+use Rattle.jc_types.proofs.CallerLemmas.{all_imply}
 use Rattle.jc_types.specs.declared.caller.Caller.{Caller}
 use Rattle.jc_model.specs.declared.event.Event.{Event}
 use Rattle.jc_model.specs.declared.event.Event.TheVariants.{Step, Evict}
@@ -29,7 +30,7 @@ use Rattle.jc_stripe.specs.Phases.{is_other_join, PicksUp}
 use Rattle.jc_stripe.specs.Reached.{IsReached}
 use Rattle.jc_stripe.specs.OnePhase.{is_answered, is_parked, is_own_step, own_steps, GainsOwn}
 use Rattle.jc_stripe.specs.OwnSteps.{may_come_all}
-use Rattle.jc_stripe.proofs.Beside.{join_and, or_left, or_right, all_then}
+use Rattle.jc_stripe.proofs.Beside.{or_left, or_right}
 use Rattle.jc_stripe.proofs.Ordered.{turned_eq}
 use Rattle.jc_stripe.proofs.ParkedSteps.{number_itself, number_below, and_false, joiners_call, filter-append}
 
@@ -64,14 +65,14 @@ others_differ : (c : Caller) (op : Op) (k : Bytes) (out : Out) (shared : Option 
     → (list_all (differs c k) pre ≡ true) × (list_all (differs c k) post ≡ true)
 others_differ c op k out shared reply [] post h =
     let e : Event = Step c op k out shared reply in
-    (refl, all_then (may_follow e) (differs c k) post (λ y f. after_differs c op k out shared reply y f) (and_parts (list_all (may_follow e) post) (in_order post) h).0)
+    (refl, all_imply (may_follow e) (differs c k) post (λ y f. after_differs c op k out shared reply y f) (and_parts (list_all (may_follow e) post) (in_order post) h).0)
 others_differ c op k out shared reply (x ∷ pre) post h =
     let e : Event = Step c op k out shared reply in
     let parts = and_parts (list_all (may_follow x) (pre ++ e ∷ post)) (in_order (pre ++ e ∷ post)) h in
     let rest = others_differ c op k out shared reply pre post parts.1 in
     let here = and_parts (list_all (may_follow x) pre) (list_all (may_follow x) (e ∷ post)) (sym (list_all-append (may_follow x) pre (e ∷ post)) ∙ parts.0) in
     let first = (and_parts (may_follow x e) (list_all (may_follow x) post) here.1).0 in
-    (join_and (differs c k x) (list_all (differs c k) pre) (before_differs c op k out shared reply x first) rest.0, rest.1)
+    (and_from (differs c k x) (list_all (differs c k) pre) (before_differs c op k out shared reply x first) rest.0, rest.1)
 
 -- 2. What is parked without the joiner.
 
@@ -200,10 +201,10 @@ all_behind c k js (Step c' op k' out shared reply ∷ events) all h =
     let late : Bool = (c'.call == c.call) && not (pointwise ◌==◌ k' k) in
     elim (c'.session == c.session) as (λ b. (c'.session == c.session) ≡ b → list_all m (cond (b && not (is_parked js c' k')) (e ∷ rest) rest) ≡ true → ((not b || nat_lt c'.call c.call || late) && list_all m events) ≡ true) [
       | true ↦ λ here. elim (is_parked js c' k') as (λ p. is_parked js c' k' ≡ p → list_all m (cond (true && not p) (e ∷ rest) rest) ≡ true → ((not true || nat_lt c'.call c.call || late) && list_all m events) ≡ true) [
-        | true ↦ λ there h. join_and _ _ (or_right (not true || nat_lt c'.call c.call) late (parked_apart c k c' k' js (eqb-true c'.session c.session here) all there)) (all_behind c k js events all h)
+        | true ↦ λ there h. and_from _ _ (or_right (not true || nat_lt c'.call c.call) late (parked_apart c k c' k' js (eqb-true c'.session c.session here) all there)) (all_behind c k js events all h)
         | false ↦ λ there h.
             let parts = and_parts (m e) (list_all m rest) h in
-            join_and _ _ ((λ i. not (sym here i) || nat_lt c'.call c.call || late) ∙ parts.0) (all_behind c k js events all parts.1)
+            and_from _ _ ((λ i. not (sym here i) || nat_lt c'.call c.call || late) ∙ parts.0) (all_behind c k js events all parts.1)
       ] refl
       | false ↦ λ here h. all_behind c k js events all h
     ] refl h

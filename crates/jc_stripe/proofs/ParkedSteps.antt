@@ -7,10 +7,11 @@
 --     parked-callers                  those that share a load are parked behind it
 use Rattle.std.proofs.Common.{◌≡◌, ◌==◌, ◌&&◌, ◌||◌, ◌+◌, ℕ, List, [], ◌∷◌, ◌++◌, map, filter, Bool, true, false, cond, not, Option, None, Some, refl, sym, ap, ◌∙◌, arith, append-nil, nat_lt}
 use Rattle.std.proofs.lemmas.Bool.Decides.{nat_tests}
-use Rattle.std.proofs.lemmas.Bool.{eqb-true, and_parts}
+use Rattle.std.proofs.lemmas.Bool.{eqb-true, and_parts, and_from}
 use Rattle.std.proofs.lemmas.Cmp.{nat_list_eq_equiv}
 use Rattle.std.specs.List.{list_all}
 use Rattle.std.specs.Cmp.Lexicographic.{pointwise, same_text}
+use Rattle.jc_types.proofs.CallerLemmas.{all_imply}
 use Rattle.jc_model.specs.declared.event.Event.{Event}
 use Rattle.jc_model.specs.declared.event.Event.TheVariants.{Step, Evict}
 use Rattle.jc_model.specs.declared.event.Op.{Op}
@@ -32,7 +33,7 @@ use Rattle.jc_inflight.specs.Taking as taking
 use Rattle.jc_stripe.specs.State.{waits}
 use Rattle.jc_stripe.specs.Reached.{may_share}
 use Rattle.jc_stripe.specs.OnePhase.{is_answered, is_parked, is_own_step}
-use Rattle.jc_stripe.proofs.Beside.{join_and, or_right, all_then}
+use Rattle.jc_stripe.proofs.Beside.{or_right}
 use Rattle.jc_stripe.proofs.Ordered.{turned_eq}
 use Rattle.jc_stripe.proofs.Settled.{keyed}
 use Rattle.jc_types.specs.declared.caller.Caller.{Caller}
@@ -162,8 +163,8 @@ pub own-answered : (other load step place : ℕ) (js : List Joiner) (events : Li
 own-answered other load step place js [] h = refl
 own-answered other load step place js (Step c op k out shared reply ∷ events) h =
     let event : Event = Step c op k out shared reply in
-    let here = all_then (may_share (event ∷ events)) (λ j. not (waits j) || may_come event j.caller j.key) js (λ j e. first_of (waits j) _ _ e) h in
-    let there = all_then (may_share (event ∷ events)) (may_share events) js (λ j e. others_of (waits j) (may_come event j.caller j.key) _ e) h in
+    let here = all_imply (may_share (event ∷ events)) (λ j. not (waits j) || may_come event j.caller j.key) js (λ j e. first_of (waits j) _ _ e) h in
+    let there = all_imply (may_share (event ∷ events)) (may_share events) js (λ j e. others_of (waits j) (may_come event j.caller j.key) _ e) h in
     let same = parked-answered load step place js c op k out shared reply here in
     let rest = own-answered other load step place js events there in
     λ i. cond ((c.session == other) && not (same i)) (event ∷ rest i) (rest i)
@@ -225,13 +226,13 @@ parked-callers load step place key (j ∷ js) h =
     → all_parked (cond b (with_answer place step j ∷ answered_from load step (place + 1) js) (j ∷ answered_from load step place js)) key (map (λ x. x.caller) (cond b (j ∷ filter (waits_for load) js) (filter (waits_for load) js))) ≡ true) [
       | true ↦ λ e.
           let after : List Joiner = answered_from load step (place + 1) js in
-          join_and _ _ (ap (λ b. (b && true) || is_parked after j.caller key) (itself j e))
-          (all_then (λ (c : Caller). is_parked after c key) (λ (c : Caller). is_parked (with_answer place step j ∷ after) c key) (callers_of load js)
+          and_from _ _ (ap (λ b. (b && true) || is_parked after j.caller key) (itself j e))
+          (all_imply (λ (c : Caller). is_parked after c key) (λ (c : Caller). is_parked (with_answer place step j ∷ after) c key) (callers_of load js)
           (λ c h. or_right (belongs_to c key j && true) _ h) (parked-callers load step (place + 1) key js parts.1))
       | false ↦ λ e.
-          all_then (λ (c : Caller). is_parked (answered_from load step place js) c key) (λ (c : Caller). is_parked (j ∷ answered_from load step place js) c key) (callers_of load js)
+          all_imply (λ (c : Caller). is_parked (answered_from load step place js) c key) (λ (c : Caller). is_parked (j ∷ answered_from load step place js) c key) (callers_of load js)
           (λ c h. or_right (belongs_to c key j && is_answered j.state) _ h) (parked-callers load step place key js parts.1)
     ] parts.0
   where
     itself : (j : Joiner) → pointwise ◌==◌ j.key key ≡ true → belongs_to j.caller key j ≡ true
-    itself j e = join_and _ _ (join_and _ _ (number_itself j.caller.session) (number_itself j.caller.call)) (nat_list_eq_equiv.symm key j.key ∙ e)
+    itself j e = and_from _ _ (and_from _ _ (number_itself j.caller.session) (number_itself j.caller.call)) (nat_list_eq_equiv.symm key j.key ∙ e)

@@ -3,6 +3,7 @@ use Rattle.std.proofs.Common.{◌≡◌, ◌≤◌, ◌+◌, ◌||◌, ℕ, List
 use Rattle.std.specs.List.{list_all, list_any}
 use Rattle.std.specs.FinMap.{from_entries}
 use Rattle.std.proofs.lemmas.List.{length-append}
+use Rattle.jc_types.proofs.CallerLemmas.{all_imply}
 use Rattle.jc_model.specs.declared.event.Op.{Op}
 use Rattle.jc_model.specs.declared.event.Out.{Out}
 use Rattle.jc_types.specs.declared.limits.TheConstants.{STEP_PLACES, HIT_PLACES}
@@ -27,7 +28,7 @@ use Rattle.jc_stripe.specs.Phases.{MayBegin, is_other_call, is_other_join, new_g
 use Rattle.jc_stripe.specs.Reached.{IsReached, IsUsed}
 use Rattle.jc_stripe.proofs.Refusing.{not_refused, roomy, alone_passes, passing_keeps, was_free, ticket_places, few_out, join_places, few_joined, loader_needs, writer_needs}
 use Rattle.jc_stripe.proofs.Tables.{reached_reserved, reached_joined}
-use Rattle.jc_stripe.proofs.Beside.{ask_same, all_then, or_right, none_left}
+use Rattle.jc_stripe.proofs.Beside.{ask_same, or_right, none_left}
 use Rattle.jc_stripe.proofs.Settled.{SharedAt, joins_same, joins_settled, remains_settled, may_commit, beside_found, callers_behind, callers_other, callers_apart, callers_beside, callers_left, claim_left_waiting, one_less_claimed, count_left, length_left}
 use Rattle.jc_stripe.proofs.SharedSteps.{shared-group}
 use Rattle.jc_stripe.proofs.Ordered.{order-group}
@@ -73,7 +74,7 @@ begins_done old new caller key op done reached may none nobody steps =
     (few_events (length old.history) g) in
     let kept : (q : Bytes) → list_any (is_key q) old.reservations ≡ true → entry_at (after_group old g).cache q ≡ entry_at old.cache q = λ q there. kept_on old caller key op nothing_said [] steps.short q reached.used there
     (λ is. passing ((not_refused old caller key op none).free (ap (is_reserved old) (sym is) ∙ there))) in
-    let aside : list_all (λ j. not (waits j) || is_other_join caller key j) old.joiners ≡ true = all_then (is_other_join caller key) (λ j. not (waits j) || is_other_join caller key j) old.joiners
+    let aside : list_all (λ j. not (waits j) || is_other_join caller key j) old.joiners ≡ true = all_imply (is_other_join caller key) (λ j. not (waits j) || is_other_join caller key j) old.joiners
     (λ j e. or_right (not (waits j)) (is_other_join caller key j) e) may.apart in
     let next : IsReached (after_group old g) = record {
       config_fits = reached.config_fits;

@@ -6,10 +6,11 @@
 --     SharedAt                     each caller's step stands at its place
 --     joins_settled, joins_same    the joiners behind a commit, and behind a step that is done at once
 use Rattle.std.proofs.Common.{◌≡◌, ◌==◌, ◌≤◌, ◌+◌, ◌&&◌, ◌||◌, ℕ, List, [], ◌∷◌, ◌++◌, length, map, Bool, true, false, cond, not, Option, None, Some, find, filter, refl, sym, ap, ◌∙◌, subst, arith, slice_get}
-use Rattle.std.proofs.lemmas.Bool.{eqb-true, and_parts}
+use Rattle.std.proofs.lemmas.Bool.{eqb-true, and_parts, and_from}
 use Rattle.std.proofs.lemmas.Cmp.{nat_list_eq_equiv}
 use Rattle.std.specs.List.{list_any, list_all, count_by}
 use Rattle.std.specs.Cmp.Lexicographic.{pointwise, same_text}
+use Rattle.jc_types.proofs.CallerLemmas.{all_imply, all_found}
 use Rattle.jc_types.specs.declared.config.Config.{Config}
 use Rattle.jc_model.specs.declared.event.Change.{Change}
 use Rattle.jc_model.specs.declared.event.Event.{Event}
@@ -35,7 +36,7 @@ use Rattle.jc_stripe.specs.Refusals.{first_asked, writer_for}
 use Rattle.jc_stripe.specs.Phases.{MayBegin, after_commit, is_other_call, is_other_join}
 use Rattle.jc_stripe.specs.Reached.{IsReached, AreNumbered, AllAsk, FindsLoad, JoinFits, AllJoin, may_end, may_share, are_beside, are_apart, all_apart}
 use Rattle.jc_stripe.proofs.Numbering.{one_number, key_found, numbered-left}
-use Rattle.jc_stripe.proofs.Beside.{join_and, or_right, all_then, all_both, all_found, beside_turned, all_left, beside_left, ask_left, ask_found, one_less, apart_turned, between_left, between_first, between_others, one_apart-alike, apart-alike, between-alike, length-alike}
+use Rattle.jc_stripe.proofs.Beside.{or_right, all_both, beside_turned, all_left, beside_left, ask_left, ask_found, one_less, apart_turned, between_left, between_first, between_others, one_apart-alike, apart-alike, between-alike, length-alike}
 use Rattle.jc_stripe.proofs.Joining.{loaded_at, fits_on, join_on, finds_on, still_there, count-cons}
 use Rattle.jc_types.specs.declared.caller.Caller.{Caller}
 use Rattle.jc_stripe.specs.declared.ticket.Reservation.{Reservation}
@@ -115,7 +116,7 @@ keyed_callers old r reached found = go old.joiners reached.joins
     go : (js : List Joiner) → AllJoin old js → keyed r.number r.key js ≡ true
     go [] all = refl
     go (j ∷ js) all =
-        join_and _ _
+        and_from _ _
         (elim (waits_for r.number j) as (λ b. waits_for r.number j ≡ b → (not b || pointwise ◌==◌ j.key r.key) ≡ true) [
           | true ↦ λ w. texts_same j.key r.key (one_shares old r j reached found w all.0).0
           | false ↦ λ w. refl
@@ -133,7 +134,7 @@ callers_then load key p q (j ∷ js) f k h =
     let parts = and_parts (p j) (list_all p js) h in
     let rest : list_all q (callers_of load js) ≡ true = callers_then load key p q js f keys.1 parts.1 in
     elim (waits_for load j) as (λ b. waits_for load j ≡ b → (not b || pointwise ◌==◌ j.key key) ≡ true → list_all q (map (λ x. x.caller) (cond b (j ∷ filter (waits_for load) js) (filter (waits_for load) js))) ≡ true) [
-      | true ↦ λ w e. join_and _ _ (f j w (same_text j.key key (sym e)) parts.0) rest
+      | true ↦ λ w e. and_from _ _ (f j w (same_text j.key key (sym e)) parts.0) rest
       | false ↦ λ w e. rest
     ] refl keys.0
 
@@ -177,7 +178,7 @@ callers_apart old r reached found = go old.joiners (keyed_callers old r reached 
         elim (waits_for r.number j) as (λ b. (not b || pointwise ◌==◌ j.key r.key) ≡ true → apart_callers (map (λ x. x.caller) (cond b (j ∷ filter (waits_for r.number) js) (filter (waits_for r.number) js))) ≡ true) [
           | true ↦ λ e.
               let key : j.key ≡ r.key = same_text j.key r.key (sym e) in
-              join_and _ _ (sessions_apart r.number j.caller r.key js keys.1 (ap (λ q. list_all (is_other_join j.caller q) js) (sym key) ∙ parts.0)) rest
+              and_from _ _ (sessions_apart r.number j.caller r.key js keys.1 (ap (λ q. list_all (is_other_join j.caller q) js) (sym key) ∙ parts.0)) rest
           | false ↦ λ e. rest
         ] keys.0
 
@@ -194,7 +195,7 @@ callers_other old r reached found = sessions_apart r.number r.caller r.key old.j
 
 beside_all : (rs : List Reservation) (js : List Joiner) → all_apart rs js ≡ true → list_all (λ j. list_all (is_other_call j.caller j.key) rs) js ≡ true
 beside_all rs [] h = refl
-beside_all rs (j ∷ js) h = join_and _ _ (between_first rs j js h) (beside_all rs js (between_others rs j js h))
+beside_all rs (j ∷ js) h = and_from _ _ (between_first rs j js h) (beside_all rs js (between_others rs j js h))
 
 -- each caller stands beside the other reservations
 pub callers_beside : (old : State) (r : Reservation) → IsReached old → IsOut old r → list_all (λ (c : Caller). list_all (is_other_call c r.key) (without_key r.key old.reservations)) (callers_of r.number old.joiners) ≡ true
@@ -214,7 +215,7 @@ beside_found (x ∷ xs) key r h all =
           let is : x ≡ r = cc in
           let P : Reservation → Type 0 = λ y. list_all (is_other_call y.caller y.key) (without_key key xs) ≡ true in subst P is (all_left (is_other_call x.caller x.key) key xs parts.0)
       | false ↦ λ h.
-          join_and _ _ (beside_turned r x ∙ all_found (is_key key) (is_other_call x.caller x.key) xs r h parts.0) (beside_found xs key r h parts.1)
+          and_from _ _ (beside_turned r x ∙ all_found (is_key key) (is_other_call x.caller x.key) xs r h parts.0) (beside_found xs key r h parts.1)
     ] h
 
 pub one_less_claimed : (old : State) (r : Reservation) → IsOut old r → length (without_key r.key old.reservations) + 1 ≤ length old.reservations
@@ -233,7 +234,7 @@ if_left caller key j = not (waits j) || is_other_join caller key j
 
 pub claim_left_waiting : (old : State) (r : Reservation) (place : ℕ) → IsReached old → IsOut old r → list_all (if_left r.caller r.key) (after_resolve r.number place old.joiners) ≡ true
 claim_left_waiting old r place reached found =
-    all_then (is_other_join r.caller r.key) (if_left r.caller r.key) (after_resolve r.number place old.joiners) (λ j h. or_right (not (waits j)) _ h) (claim_left old r place reached found)
+    all_imply (is_other_join r.caller r.key) (if_left r.caller r.key) (after_resolve r.number place old.joiners) (λ j h. or_right (not (waits j)) _ h) (claim_left old r place reached found)
 
 -- those that still wait are apart from each caller
 waiting_left : (load step place : ℕ) (key : Bytes) (js : List Joiner) → keyed load key js ≡ true → are_apart js ≡ true
@@ -248,10 +249,10 @@ waiting_left load step place key (j ∷ js) k h =
           let same : j.key ≡ key = same_text j.key key (sym e) in
           let after : List Joiner = answered_from load step (place + 1) js in
           let first : list_all (if_left j.caller key) after ≡ true =
-          all_then (is_other_join j.caller key) (if_left j.caller key) after (λ x h. or_right (not (waits x)) _ h)
+          all_imply (is_other_join j.caller key) (if_left j.caller key) after (λ x h. or_right (not (waits x)) _ h)
           (sym (one_apart-alike j.caller key js after (sym (calls-answered_from load step (place + 1) js))) ∙ ap (λ q. list_all (is_other_join j.caller q) js) (sym same) ∙ parts.0)
           in
-          join_and _ _ first (waiting_left load step (place + 1) key js keys.1 parts.1)
+          and_from _ _ first (waiting_left load step (place + 1) key js keys.1 parts.1)
       | false ↦ λ e.
           all_both (λ (c : Caller). if_left c key j) (λ (c : Caller). list_all (if_left c key) (answered_from load step place js)) (callers_of load js)
           (callers_then load key (is_other_join j.caller j.key) (λ c. if_left c key j) js
@@ -270,7 +271,7 @@ share-answered history load step place (j ∷ js) h =
     let parts = and_parts (may_share history j) (list_all (may_share history) js) h in
     elim (waits_for load j) as (λ b. list_all (may_share history) (cond b (with_answer place step j ∷ answered_from load step (place + 1) js) (j ∷ answered_from load step place js)) ≡ true) [
       | true ↦ share-answered history load step (place + 1) js parts.1
-      | false ↦ join_and _ _ parts.0 (share-answered history load step place js parts.1)
+      | false ↦ and_from _ _ parts.0 (share-answered history load step place js parts.1)
     ]
 
 pub shares_left : (old : State) (load place : ℕ) → IsReached old → list_all (may_share old.history) (after_resolve load place old.joiners) ≡ true

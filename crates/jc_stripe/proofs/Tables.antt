@@ -9,7 +9,8 @@ use Rattle.std.proofs.lemmas.List.{length-append}
 use Rattle.std.proofs.lemmas.List.Sums.{length-filter, count_by-le-length}
 use Rattle.std.specs.List.{list_all, count_by}
 use Rattle.std.specs.FinMap.{len, empty, len-empty, from_entries}
-use Rattle.std.proofs.lemmas.Bool.{and_parts}
+use Rattle.std.proofs.lemmas.Bool.{and_parts, and_from}
+use Rattle.jc_types.proofs.CallerLemmas.{all_filter}
 use Rattle.jc_types.specs.declared.config.Config.{Config}
 use Rattle.jc_types.specs.Limits.{check}
 use Rattle.jc_model.specs.declared.event.Event.{Event}
@@ -34,7 +35,7 @@ use Rattle.jc_stripe.specs.Reached.{IsReached, AreNumbered, AllAsk, AllJoin, Fin
 use Rattle.jc_types.specs.declared.limits.TheConstants.{STEP_PLACES, HIT_PLACES, RESERVATIONS_MAX, JOINERS_MAX}
 use Rattle.jc_stripe.proofs.Refusing.{joins_known}
 use Rattle.jc_stripe.proofs.Numbering.{numbered-push, numbered-left}
-use Rattle.jc_stripe.proofs.Beside.{join_and, all-push, all_kept, beside-push, all_left, beside_left, ask-push, ask_left, fewer_left, apart-push, apart_kept, between-push, between_kept, between_left, apart-alike, between-alike, length-alike}
+use Rattle.jc_stripe.proofs.Beside.{all-push, beside-push, all_left, beside_left, ask-push, ask_left, fewer_left, apart-push, apart_kept, between-push, between_kept, between_left, apart-alike, between-alike, length-alike}
 use Rattle.jc_stripe.proofs.Joining.{fits_on, join_on, finds_on, found_before, join-push, join_kept, still_there, count-cons, count-push, count_kept}
 use Rattle.jc_types.specs.declared.caller.Caller.{Caller}
 use Rattle.jc_stripe.specs.declared.ticket.Reservation.{Reservation}
@@ -187,7 +188,7 @@ share-dissolved history load (j ∷ js) h =
     let rest : list_all (may_share history) js ≡ true → list_all (may_share history) (after_dissolve load js) ≡ true = share-dissolved history load js in
     elim (waits_for load j) as (λ b. (may_share history j && list_all (may_share history) js) ≡ true → list_all (may_share history) (cond b (record j { state = Again }) j ∷ after_dissolve load js) ≡ true) [
       | true ↦ λ h. rest (and_parts _ _ h).1
-      | false ↦ λ h. join_and _ _ (and_parts _ _ h).0 (rest (and_parts _ _ h).1)
+      | false ↦ λ h. and_from _ _ (and_parts _ _ h).0 (rest (and_parts _ _ h).1)
     ] h
 
 count-dissolved : (load : ℕ) (js : List Joiner) → count_by waits (after_dissolve load js) ≤ count_by waits js
@@ -256,7 +257,7 @@ reached_left state join old =
       ends = old.ends;
       beside = old.beside;
       joins = join_kept new stays state.joiners (join_on state new [] state.joiners (same_history state.history) (λ i w f. finds_on state new i refl (λ q e. refl) (λ x h. h) f) old.joins);
-      shares = all_kept (may_share state.history) stays state.joiners old.shares;
+      shares = all_filter (may_share state.history) stays state.joiners old.shares;
       apart = apart_kept stays state.joiners old.apart;
       between = between_kept state.reservations stays state.joiners old.between;
     })

@@ -1,9 +1,8 @@
 -- What a test of all reservations, and of all events of a history, says.
---     all-map        a test of all that a list is mapped to
 --     all_not        one that fails a test at a place
 --     all_more       a test of the first ones, and of one more
 use Rattle.std.proofs.Common.{◌≡◌, ◌&&◌, ℕ, zero, suc, List, [], ◌∷◌, map, take, Bool, true, false, cond, Option, None, Some, IsSomeAnd, find, option_map, ◌==◌, refl, sym, ap, ◌∙◌, slice_get}
-use Rattle.std.proofs.lemmas.Bool.{eqb-true, and_parts}
+use Rattle.std.proofs.lemmas.Bool.{eqb-true, and_parts, and_from}
 use Rattle.std.specs.List.{list_all}
 use Rattle.std.specs.Cmp.Lexicographic.{same_text}
 use Rattle.jc_model.specs.Cache.{Bytes}
@@ -13,11 +12,6 @@ use Rattle.jc_reserve.specs.Reserving.{has_key}
 use Rattle.jc_stripe.specs.declared.ticket.Note.{Note}
 use Rattle.jc_stripe.specs.State.{is_key}
 use Rattle.jc_stripe.specs.Inside.{note_reservation}
-use Rattle.jc_stripe.proofs.Beside.{join_and}
-
-pub all-map : {A B : Type 0} (p : B → Bool) (f : A → B) (xs : List A) → list_all p (map f xs) ≡ list_all (λ x. p (f x)) xs
-all-map p f [] = refl
-all-map p f (x ∷ xs) = ap (λ b. p (f x) && b) (all-map p f xs)
 
 and_false : (b : Bool) → (b && false) ≡ false
 and_false true = refl
@@ -30,9 +24,9 @@ all_not p (y ∷ ys) (suc i) x h n = ap (λ b. p y && b) (all_not p ys i x h n) 
 
 pub all_more : {A : Type 0} (p : A → Bool) (xs : List A) (i : ℕ) (x : A) → slice_get xs i ≡ Some x → p x ≡ true → list_all p (take i xs) ≡ true → list_all p (take (suc i) xs) ≡ true
 all_more p [] i x h t before = cc
-all_more p (y ∷ ys) zero x h t before = let is : y ≡ x = cc in join_and _ _ (ap p is ∙ t) refl
+all_more p (y ∷ ys) zero x h t before = let is : y ≡ x = cc in and_from _ _ (ap p is ∙ t) refl
 all_more p (y ∷ ys) (suc i) x h t before =
-    let parts = and_parts (p y) (list_all p (take i ys)) before in join_and _ _ parts.0 (all_more p ys i x h t parts.1)
+    let parts = and_parts (p y) (list_all p (take i ys)) before in and_from _ _ parts.0 (all_more p ys i x h t parts.1)
 
 -- what is found at a key is its reservation
 pub held_found : (key : Bytes) (hs : List (Held Note)) (number : ℕ) (note : Note) → option_map {U = ℕ × Note} (λ h. (h.reservation, h.note)) (find (has_key key) hs) ≡ Some (number, note)

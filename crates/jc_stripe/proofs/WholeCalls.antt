@@ -7,6 +7,8 @@ use Rattle.std.proofs.lemmas.Cmp.{nat_list_eq_equiv}
 use Rattle.std.proofs.lemmas.List.Folds.{list_all-append}
 use Rattle.std.specs.List.{list_all, list_any}
 use Rattle.std.specs.Cmp.Lexicographic.{pointwise}
+use Rattle.std.proofs.lemmas.Bool.{and_from}
+use Rattle.jc_types.proofs.CallerLemmas.{all_imply}
 use Rattle.jc_types.specs.declared.caller.Caller.{Caller}
 use Rattle.jc_model.specs.declared.event.Event.{Event}
 use Rattle.jc_model.specs.declared.event.Event.TheVariants.{Step, Evict}
@@ -37,7 +39,7 @@ use Rattle.jc_stripe.proofs.Joining.{loaded_at}
 use Rattle.jc_stripe.proofs.Refusing.{was_free}
 use Rattle.jc_stripe.proofs.Settled.{waiting_finds}
 use Rattle.jc_stripe.proofs.OwnPick.{all_behind}
-use Rattle.jc_stripe.proofs.Beside.{join_and, or_left, all_then}
+use Rattle.jc_stripe.proofs.Beside.{or_left}
 use Rattle.jc_stripe.proofs.ParkedSteps.{filter-append}
 
 -- 1. A reservation that comes and goes leaves the others.
@@ -185,12 +187,12 @@ numbers_step m new caller key op out done steps h =
     let next : ℕ = caller.call + 1 in
     let p : Event → Bool = is_before_call session next in
     let g : Group = new_group m caller key op out [] steps.short in
-    let old : list_all p m.history ≡ true = all_then (is_before_call session caller.call) p m.history (λ e k. before_next session caller.call e k) h.steps in
-    let step : list_all p (victim_events g.victim ++ step_event g ∷ []) ≡ true = list_all-append p (victim_events g.victim) (step_event g ∷ []) ∙ join_and _ _ (victim_before session next g.victim) (join_and _ _ (next_is_above session caller.call) refl) in
+    let old : list_all p m.history ≡ true = all_imply (is_before_call session caller.call) p m.history (λ e k. before_next session caller.call e k) h.steps in
+    let step : list_all p (victim_events g.victim ++ step_event g ∷ []) ≡ true = list_all-append p (victim_events g.victim) (step_event g ∷ []) ∙ and_from _ _ (victim_before session next g.victim) (and_from _ _ (next_is_above session caller.call) refl) in
     let group : list_all p ((victim_events g.victim ++ step_event g ∷ []) ++ evicted_events g.step.key g.evicted) ≡ true =
-    list_all-append p (victim_events g.victim ++ step_event g ∷ []) (evicted_events g.step.key g.evicted) ∙ join_and _ _ step (evicted_before session next g.step.key g.evicted) in
+    list_all-append p (victim_events g.victim ++ step_event g ∷ []) (evicted_events g.step.key g.evicted) ∙ and_from _ _ step (evicted_before session next g.step.key g.evicted) in
     record {
-      steps = ap (λ (s : State). list_all p s.history) steps.after ∙ list_all-append p m.history ((victim_events g.victim ++ step_event g ∷ []) ++ evicted_events g.step.key g.evicted) ∙ join_and _ _ old group;
+      steps = ap (λ (s : State). list_all p s.history) steps.after ∙ list_all-append p m.history ((victim_events g.victim ++ step_event g ∷ []) ++ evicted_events g.step.key g.evicted) ∙ and_from _ _ old group;
       reservations = ap (λ (s : State). list_all (λ (r : Reservation). not (r.caller.session == session)) s.reservations) steps.after ∙ h.reservations;
       joins = ap (λ (s : State). list_all (λ (j : Joiner). not (j.caller.session == session)) s.joiners) steps.after ∙ h.joins;
     }
@@ -198,7 +200,7 @@ numbers_step m new caller key op out done steps h =
 same_numbers : (old new : State) (session call : ℕ) → new ≡ old → HasNoCallFrom old session call → HasNoCallFrom new session (call + 1)
 same_numbers old new session call is h =
     subst (λ (s : State). HasNoCallFrom s session (call + 1)) (sym is) (record {
-      steps = all_then (is_before_call session call) (is_before_call session (call + 1)) old.history (λ e k. before_next session call e k) h.steps;
+      steps = all_imply (is_before_call session call) (is_before_call session (call + 1)) old.history (λ e k. before_next session call e k) h.steps;
       reservations = h.reservations;
       joins = h.joins;
     })
@@ -212,10 +214,10 @@ caller_numbers =
     let whole : WholeCall = whole_call in record {
       may_begin = λ state caller key h of. record {
         of_stripe = of;
-        behind = all_then (is_before_call caller.session caller.call) (λ e. may_come e caller key) state.history (λ e k. may_from caller key e k) h.steps;
-        beside = all_then (λ (r : Reservation). not (r.caller.session == caller.session)) (is_other_call caller key) state.reservations
+        behind = all_imply (is_before_call caller.session caller.call) (λ e. may_come e caller key) state.history (λ e k. may_from caller key e k) h.steps;
+        beside = all_imply (λ (r : Reservation). not (r.caller.session == caller.session)) (is_other_call caller key) state.reservations
             (λ r k. or_left (not (r.caller.session == caller.session)) ((r.caller.call == caller.call) && not (pointwise ◌==◌ r.key key)) k) h.reservations;
-        apart = all_then (λ (j : Joiner). not (j.caller.session == caller.session)) (is_other_join caller key) state.joiners
+        apart = all_imply (λ (j : Joiner). not (j.caller.session == caller.session)) (is_other_join caller key) state.joiners
             (λ j k. or_left (not (j.caller.session == caller.session)) ((j.caller.call == caller.call) && not (pointwise ◌==◌ j.key key)) k) h.joins;
       };
       clear = λ state caller key apart own. all_behind caller key state.joiners state.history apart own;

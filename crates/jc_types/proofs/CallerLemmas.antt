@@ -1,11 +1,13 @@
--- Lemmas for the crates above: the first place at which a test passes, and what is found, left out or mapped there.
+-- Lemmas for the crates above: the first place at which a test passes, and what is found, left out or mapped there; and a test that
+-- all elements pass.
 use Rattle.std.proofs.Common.{◌≡◌, ℕ, ◌-◌, suc, ◌<◌, is_some, List, [], ◌∷◌, ◌++◌, take, drop, Bool, true, false, cond, not, length, Some, None, ap, refl, sym, ◌∙◌, arith, find, filter, map, get_or}
 use Rattle.std.proofs.lemmas.Grind.{common_steps}
 use Rattle.std.proofs.lemmas.List.{map-append, take-map, drop-map}
 use Rattle.std.proofs.lemmas.List.Elements.{All-head, All-tail}
 use Rattle.std.proofs.lemmas.List.Folds.{find_at}
 use Rattle.std.proofs.lemmas.Option.{slice_get_read}
-use Rattle.std.specs.List.{list_any, slice_get, position, position_or_len, remove, AllPairs, All}
+use Rattle.std.proofs.lemmas.Bool.{and_parts, and_from}
+use Rattle.std.specs.List.{list_all, list_any, slice_get, position, position_or_len, remove, AllPairs, All}
 
 module _ {X : Type 0} (p : X → Bool) where
   -- whether there is such a place
@@ -61,3 +63,27 @@ remove_at_place p (x ∷ xs) i at once =
           let more : i ≡ suc (i - 1) = grind (arith, common_steps) in
           rw more (ap (λ ys. x ∷ ys) (remove_at_place p xs (i - 1) later (λ j k d lt within. once (suc j) (suc k) d (omega arith) (omega arith))))
     ] refl
+
+-- what all pass that pass another test
+pub all_imply : {X : Type 0} (p q : X → Bool) (xs : List X) → ((x : X) → p x ≡ true → q x ≡ true) → list_all p xs ≡ true → list_all q xs ≡ true
+all_imply p q [] f h = refl
+all_imply p q (x ∷ xs) f h =
+    let parts = and_parts (p x) (list_all p xs) h in
+    and_from _ _ (f x parts.0) (all_imply p q xs f parts.1)
+
+-- what all pass, those pass that are left
+pub all_filter : {X : Type 0} (p q : X → Bool) (xs : List X) → list_all p xs ≡ true → list_all p (filter q xs) ≡ true
+all_filter p q [] h = refl
+all_filter p q (x ∷ xs) h =
+    let parts = and_parts (p x) (list_all p xs) h in
+    elim (q x) as (λ b. list_all p (cond b (x ∷ filter q xs) (filter q xs)) ≡ true) [ true ↦ and_from _ _ parts.0 (all_filter p q xs parts.1) | false ↦ all_filter p q xs parts.1 ]
+
+-- and the one that is found
+pub all_found : {X : Type 0} (p q : X → Bool) (xs : List X) (x : X) → find p xs ≡ Some x → list_all q xs ≡ true → q x ≡ true
+all_found p q [] r h all = cc
+all_found p q (x ∷ xs) r h all =
+    let parts = and_parts (q x) (list_all q xs) all in
+    elim (p x) as (λ b. cond b (Some x) (find p xs) ≡ Some r → q r ≡ true) [
+      | true ↦ λ h. let is : x ≡ r = cc in ap q (sym is) ∙ parts.0
+      | false ↦ λ h. all_found p q xs r h parts.1
+    ] h
