@@ -40,12 +40,12 @@ use Rattle.jc_script.specs.declared.line.Line.{Line}
 use Rattle.jc_script.specs.declared.line.Line.TheVariants.{Open, Set, Begin, OfCall, Foreign, Audit}
 use Rattle.jc_script.specs.declared.line.Act.{Act}
 use Rattle.jc_script.specs.declared.line.Act.TheVariants.{Read, ReadFail, Say, Apply, ApplyFail, ApplyLie, End, Drop, More, Take}
-use Rattle.jc_script.specs.declared.grammar.Bare.{Bare}
-use Rattle.jc_script.specs.declared.grammar.Bare.TheVariants as bare
-use Rattle.jc_script.specs.declared.grammar.Valued.{Valued}
-use Rattle.jc_script.specs.declared.grammar.Valued.TheVariants as valued
-use Rattle.jc_script.specs.declared.grammar.Form.{Form}
-use Rattle.jc_script.specs.declared.grammar.Form.TheVariants as form
+use Rattle.jc_script.specs.declared.commands.Bare.{Bare}
+use Rattle.jc_script.specs.declared.commands.Bare.TheVariants as bare
+use Rattle.jc_script.specs.declared.commands.Valued.{Valued}
+use Rattle.jc_script.specs.declared.commands.Valued.TheVariants as valued
+use Rattle.jc_script.specs.declared.commands.Form.{Form}
+use Rattle.jc_script.specs.declared.commands.Form.TheVariants as form
 use Rattle.jc_script.specs.declared.grammar.Lone.{Lone}
 use Rattle.jc_script.specs.declared.grammar.Lone.TheVariants as lone
 use Rattle.jc_script.specs.declared.grammar.Coded.{Coded}

@@ -11,7 +11,9 @@ ghost use Rattle.jc_script.specs.Transcript.{State, state_of, begin_events, drop
 use crate::fault::{Fault, ReadError};
 use crate::grammar::read;
 use crate::line::{Act, Line};
-use crate::printing::{put, put_audit, put_texts};
+use crate::print_audit::put_audit;
+use crate::print_shown::put_texts;
+use crate::printing::put;
 use jc_model::{LoadAnswer, WriteAnswer};
 use jc_stripe::First;
 use jc_types::{Config, Key, Refusal, Value};
