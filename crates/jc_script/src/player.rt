@@ -265,8 +265,9 @@ fn play_events(
     requires { AllFit world.old.world events.now }
     ensures { OnOk result ((text : List ℕ) × PlaysEvents world.old.world about.now events.now text (Some world.new.world) × (out.new.items ≡ out.old.items ++ text)) }
 {
-    let seen = world.play(alloc, events)?;
-    put_texts(out, about, events, &seen)?;
+    let mut shown = Vec::new(alloc);
+    world.play(events, &mut shown)?;
+    put_texts(out, about, events, &shown)?;
     Ok(())
 }
 

@@ -25,7 +25,6 @@ use crate::outside::{
     and_now, answer_of, entry_after, is_all_answered, is_honest_load, is_honest_report,
     is_never_touched, is_waiting_for_load, is_waiting_for_report, report_with,
 };
-use crate::room::push_in_room;
 use crate::slot::{Slot, part_at, part_under, set_part, take_slot};
 use crate::stripes::{
     EVENTS_MAX, begin_at, commit_at, make_stripes, pick_up_at, shown_of, withdraw_at,
@@ -303,16 +302,16 @@ impl Machine {
                 Ok(Shown::Stepped(shown_of(number, done)))
             }
             Begun::Load(ticket) => {
-                push_in_room(&mut self.slots, Slot::loading(ticket));
+                self.slots.push_reserved(Slot::loading(ticket));
                 Ok(Shown::Loads)
             }
             Begun::Write(ticket) => {
                 let (slot, change) = Slot::writing(ticket);
-                push_in_room(&mut self.slots, slot);
+                self.slots.push_reserved(slot);
                 Ok(Shown::Asks(change))
             }
             Begun::Joined(join) => {
-                push_in_room(&mut self.joins, join);
+                self.joins.push_reserved(join);
                 Ok(Shown::Joins)
             }
             Begun::Refused(refusal) => {

@@ -13,7 +13,6 @@ ghost use Rattle.jc_world.specs.Events.{step_of};
 ghost use Rattle.jc_world.specs.Sound.{KindFits};
 
 use crate::event::{Stepped, Under};
-use crate::room::push_in_room;
 use crate::slot::Slot;
 use jc_model::{Effect, Event, LoadAnswer, Op, Out, ProcessAnswer, Reply, WriteAnswer};
 use jc_stripe::{Begun, Join, Origin, Picked, StepDone, Stripe};
@@ -64,7 +63,7 @@ fn append_in_room(order: &mut Vec<Event>, stripe: &Stripe, from: usize)
         ),
     > = None;
     for place in from..history_len(stripe) {
-        push_in_room(order, stripe.event(place));
+        order.push_reserved(stripe.event(place));
     }
 }
 

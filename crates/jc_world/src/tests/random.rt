@@ -289,7 +289,8 @@ impl Run {
         event: WorldEvent,
     ) -> Shown {
         let keys = self.pinned(rt, alloc, world);
-        let seen = world.play(alloc, &[event]).expect(rt, "memory");
+        let mut seen = Vec::new(alloc);
+        world.play(&[event], &mut seen).expect(rt, "memory");
         self.shelf.reads_phase(rt, world.order(), &keys);
         let shown = seen.first().copied().expect(rt, "what is shown");
         if let Some(count) = self.shown.get_mut(kind(&shown)) {

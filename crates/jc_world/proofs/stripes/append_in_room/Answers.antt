@@ -17,10 +17,10 @@ loop-place-preserved c =
     let event = c.event.result in
     record {
       copied =
-          ap (λ xs. xs ++ drop (place + 1) history) c.push_in_room.ensures.items
+          ap (λ xs. xs ++ drop (place + 1) history) c.push_reserved.ensures.items
           ∙ append_assoc order (event ∷ []) (drop (place + 1) history)
           ∙ ap (λ n. order ++ event ∷ drop n history) (add-one place)
           ∙ ap (λ xs. order ++ xs) (sym (left_at history place event c.event.ensures))
           ∙ i.copied;
-      room = let r = i.room in let l = c.push_in_room.ensures.len in let k = c.push_in_room.ensures.capacity in let t = c.loop-place-test.true in let e = c.history_len-place-end.ensures.len in omega arith;
+      room = let r = i.room in let l = c.push_reserved.ensures.len in let k = c.push_reserved.ensures.capacity in let t = c.loop-place-test.true in let e = c.history_len-place-end.ensures.len in omega arith;
     }

@@ -53,9 +53,9 @@ invariant_of-self-in-Load c =
     let p = phased v c.try_reserve-3.new.self.items c.stripe_of-number.result u (begun.Load c.in-Load.ticket) c.begin_at-begun.new.stripes.items c.begin_at-begun.new.order.items c.in_ok-try_reserve-3.ensures.items t in
     let free = free_load v u c.stripe_of-number.result c.in-Load.ticket _ _ c.stripe_of-number.ensures p (subst IsSoundWorld (sym c.self.view_is) c.requires.sound) in
     let slot : c.loading.result ≡ (u.command.key, new_part c.in-Load.ticket.reservation) = c.loading.ensures ∙ ap (λ k. (k, new_part c.in-Load.ticket.reservation)) free.1 in
-    let items : c.push_in_room.new.items.items ≡ c.self.inside.slots.items ++ (u.command.key, new_part c.in-Load.ticket.reservation) ∷ [] =
-    c.push_in_room.ensures.items ∙ (λ i. c.in_ok-try_reserve.ensures.items i ++ slot i ∷ []) in
-    (pushed c.self.inside.slots.items c.push_in_room.new.items.items u.command.key (new_part c.in-Load.ticket.reservation) free.0 items c.self.invariant).1
+    let items : c.push_reserved.new.self.items ≡ c.self.inside.slots.items ++ (u.command.key, new_part c.in-Load.ticket.reservation) ∷ [] =
+    c.push_reserved.ensures.items ∙ (λ i. c.in_ok-try_reserve.ensures.items i ++ slot i ∷ []) in
+    (pushed c.self.inside.slots.items c.push_reserved.new.self.items u.command.key (new_part c.in-Load.ticket.reservation) free.0 items c.self.invariant).1
 
 pub invariant_of-self-in-Write : goal.invariant_of-self-in-Write
 invariant_of-self-in-Write c =
@@ -66,9 +66,9 @@ invariant_of-self-in-Write c =
     let free = free_write v u c.stripe_of-number.result c.in-Write.ticket _ _ c.stripe_of-number.ensures p (subst IsSoundWorld (sym c.self.view_is) c.requires.sound) in
     let part : Part = new_part c.in-Write.ticket.reservation in
     let slot : c.writing-slot.result.0 ≡ (u.command.key, part) = c.writing-slot.ensures.slot ∙ ap (λ k. (k, part)) free.1 in
-    let items : c.push_in_room-in-Write.new.items.items ≡ c.self.inside.slots.items ++ (u.command.key, part) ∷ [] =
-    c.push_in_room-in-Write.ensures.items ∙ (λ i. c.in_ok-try_reserve.ensures.items i ++ slot i ∷ []) in
-    (pushed c.self.inside.slots.items c.push_in_room-in-Write.new.items.items u.command.key part free.0 items c.self.invariant).1
+    let items : c.push_reserved-in-Write.new.self.items ≡ c.self.inside.slots.items ++ (u.command.key, part) ∷ [] =
+    c.push_reserved-in-Write.ensures.items ∙ (λ i. c.in_ok-try_reserve.ensures.items i ++ slot i ∷ []) in
+    (pushed c.self.inside.slots.items c.push_reserved-in-Write.new.self.items u.command.key part free.0 items c.self.invariant).1
 
 pub returns-in-Done-clause-ok : goal.returns-in-Done-clause-ok
 returns-in-Done-clause-ok c =
@@ -104,10 +104,10 @@ returns-in-Load-clause-ok c =
     let p = phased v c.try_reserve-3.new.self.items c.stripe_of-number.result u (begun.Load c.in-Load.ticket) c.begin_at-begun.new.stripes.items c.begin_at-begun.new.order.items c.in_ok-try_reserve-3.ensures.items t in
     let free = free_load v u c.stripe_of-number.result c.in-Load.ticket _ _ c.stripe_of-number.ensures p (subst IsSoundWorld (sym c.self.view_is) c.requires.sound) in
     let slot : c.loading.result ≡ (u.command.key, new_part c.in-Load.ticket.reservation) = c.loading.ensures ∙ ap (λ k. (k, new_part c.in-Load.ticket.reservation)) free.1 in
-    let items : c.push_in_room.new.items.items ≡ c.self.inside.slots.items ++ (u.command.key, new_part c.in-Load.ticket.reservation) ∷ [] =
-    c.push_in_room.ensures.items ∙ (λ i. c.in_ok-try_reserve.ensures.items i ++ slot i ∷ []) in
-    let put = pushed c.self.inside.slots.items c.push_in_room.new.items.items u.command.key (new_part c.in-Load.ticket.reservation) free.0 items c.self.invariant in
-    let next = world_of (record c.self.inside { stripes = c.begin_at-begun.new.stripes; order = c.begin_at-begun.new.order; slots = c.push_in_room.new.items; joins = c.try_reserve-2.new.self }) in
+    let items : c.push_reserved.new.self.items ≡ c.self.inside.slots.items ++ (u.command.key, new_part c.in-Load.ticket.reservation) ∷ [] =
+    c.push_reserved.ensures.items ∙ (λ i. c.in_ok-try_reserve.ensures.items i ++ slot i ∷ []) in
+    let put = pushed c.self.inside.slots.items c.push_reserved.new.self.items u.command.key (new_part c.in-Load.ticket.reservation) free.0 items c.self.invariant in
+    let next = world_of (record c.self.inside { stripes = c.begin_at-begun.new.stripes; order = c.begin_at-begun.new.order; slots = c.push_reserved.new.self; joins = c.try_reserve-2.new.self }) in
     let R : WorldState → Type 0 = λ x. Happens x (event.Start c.args.call c.args.key.now) shown.Loads next in
     subst R c.self.view_is (started_loads v next c.args.call c.args.key.now u c.stripe_of-number.result c.in-Load.ticket _ _ _ is c.stripe_of-number.ensures p put.0
     (λ i. record v { stripes = c.begin_at-begun.new.stripes.items; order = c.begin_at-begun.new.order.items; parts = next.parts; joins = c.in_ok-try_reserve-2.ensures.items i }))
@@ -122,10 +122,10 @@ returns-in-Write-clause-ok c =
     let free = free_write v u c.stripe_of-number.result c.in-Write.ticket _ _ c.stripe_of-number.ensures p (subst IsSoundWorld (sym c.self.view_is) c.requires.sound) in
     let part : Part = new_part c.in-Write.ticket.reservation in
     let slot : c.writing-slot.result.0 ≡ (u.command.key, part) = c.writing-slot.ensures.slot ∙ ap (λ k. (k, part)) free.1 in
-    let items : c.push_in_room-in-Write.new.items.items ≡ c.self.inside.slots.items ++ (u.command.key, part) ∷ [] =
-    c.push_in_room-in-Write.ensures.items ∙ (λ i. c.in_ok-try_reserve.ensures.items i ++ slot i ∷ []) in
-    let put = pushed c.self.inside.slots.items c.push_in_room-in-Write.new.items.items u.command.key part free.0 items c.self.invariant in
-    let next = world_of (record c.self.inside { stripes = c.begin_at-begun.new.stripes; order = c.begin_at-begun.new.order; slots = c.push_in_room-in-Write.new.items; joins = c.try_reserve-2.new.self }) in
+    let items : c.push_reserved-in-Write.new.self.items ≡ c.self.inside.slots.items ++ (u.command.key, part) ∷ [] =
+    c.push_reserved-in-Write.ensures.items ∙ (λ i. c.in_ok-try_reserve.ensures.items i ++ slot i ∷ []) in
+    let put = pushed c.self.inside.slots.items c.push_reserved-in-Write.new.self.items u.command.key part free.0 items c.self.invariant in
+    let next = world_of (record c.self.inside { stripes = c.begin_at-begun.new.stripes; order = c.begin_at-begun.new.order; slots = c.push_reserved-in-Write.new.self; joins = c.try_reserve-2.new.self }) in
     let R : WorldState → Type 0 = λ x. Happens x (event.Start c.args.call c.args.key.now) (shown.Asks c.writing-slot.result.1) next in
     subst R c.self.view_is (started_asks v next c.args.call c.args.key.now u c.stripe_of-number.result c.in-Write.ticket c.writing-slot.result.1 _ _ _ is c.stripe_of-number.ensures p c.writing-slot.ensures.change put.0
     (λ i. record v { stripes = c.begin_at-begun.new.stripes.items; order = c.begin_at-begun.new.order.items; parts = next.parts; joins = c.in_ok-try_reserve-2.ensures.items i }))
@@ -137,8 +137,8 @@ returns-in-Joined-clause-ok c =
     let is : under v c.args.call ≡ Some u = sym c.under.ensures ∙ sym c.copied.ensures ∙ c.in-Some.is in
     let t = at_begun c.self.inside.stripes.items c.try_reserve-3.new.self.items c.stripe_of-number.result u c.begin_at-begun.result (begun.Joined c.in-Joined.join) c.begin_at-begun.new.stripes.items c.begin_at-begun.new.order.items c.in-Joined.is c.begin_at-begun.ensures in
     let p = phased v c.try_reserve-3.new.self.items c.stripe_of-number.result u (begun.Joined c.in-Joined.join) c.begin_at-begun.new.stripes.items c.begin_at-begun.new.order.items c.in_ok-try_reserve-3.ensures.items t in
-    let items : c.push_in_room-in-Joined.new.items.items ≡ c.self.inside.joins.items ++ c.in-Joined.join ∷ [] = c.push_in_room-in-Joined.ensures.items ∙ ap (λ js. js ++ c.in-Joined.join ∷ []) c.in_ok-try_reserve-2.ensures.items in
-    let next = world_of (record c.self.inside { stripes = c.begin_at-begun.new.stripes; order = c.begin_at-begun.new.order; slots = c.try_reserve.new.self; joins = c.push_in_room-in-Joined.new.items }) in
+    let items : c.push_reserved-in-Joined.new.self.items ≡ c.self.inside.joins.items ++ c.in-Joined.join ∷ [] = c.push_reserved-in-Joined.ensures.items ∙ ap (λ js. js ++ c.in-Joined.join ∷ []) c.in_ok-try_reserve-2.ensures.items in
+    let next = world_of (record c.self.inside { stripes = c.begin_at-begun.new.stripes; order = c.begin_at-begun.new.order; slots = c.try_reserve.new.self; joins = c.push_reserved-in-Joined.new.self }) in
     let R : WorldState → Type 0 = λ x. Happens x (event.Start c.args.call c.args.key.now) shown.Joins next in
     subst R c.self.view_is (started_joins v next c.args.call c.args.key.now u c.stripe_of-number.result c.in-Joined.join _ _ _ is c.stripe_of-number.ensures p items
-    (λ i. record v { stripes = c.begin_at-begun.new.stripes.items; order = c.begin_at-begun.new.order.items; joins = c.push_in_room-in-Joined.new.items.items; parts = parts_of (c.in_ok-try_reserve.ensures.items i) }))
+    (λ i. record v { stripes = c.begin_at-begun.new.stripes.items; order = c.begin_at-begun.new.order.items; joins = c.push_reserved-in-Joined.new.self.items; parts = parts_of (c.in_ok-try_reserve.ensures.items i) }))
