@@ -325,11 +325,23 @@ fn parse(alloc: Global, words: &[&[u8]], line: &mut Line) -> Result<(), ReadErro
     }
 }
 
-/// Whether each byte may stand in a line: a space up to a tilde.
+/// Whether a byte may stand in a line: a space up to a tilde.
+fn is_plain(b: u8) -> bool
+    ensures { result ≡ is_plain b }
+{
+    b' ' <= b && b <= b'~'
+}
+
+/// Whether each byte may stand in a line.
 fn all_plain(text: &[u8]) -> bool
     ensures { result ≡ list_all is_plain text.now }
 {
-    text.iter().all(|b| b' ' <= *b && *b <= b'~')
+    // No byte ends the loop, so the processor can look at many at a time.
+    let mut plain = true;
+    for b in text {
+        plain = plain & is_plain(*b);
+    }
+    plain
 }
 
 /// Whether a line asks for nothing: it is empty, or its first byte is #.

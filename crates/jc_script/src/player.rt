@@ -234,13 +234,14 @@ fn put_begun(
 {
     let _types: Option<(Op, Value, LoadAnswer)> = None;
     events.clear();
-    events.push(WorldEvent::Call {
+    events.try_reserve(2)?;
+    events.push_reserved(WorldEvent::Call {
         call,
         session,
         command: *command,
-    })?;
+    });
     let key = command.key;
-    events.push(WorldEvent::Start { call, key })?;
+    events.push_reserved(WorldEvent::Start { call, key });
     Ok(())
 }
 
@@ -386,34 +387,35 @@ fn put_events(
 {
     let _types: Option<(Command, Op, Value, LoadAnswer)> = None;
     events.clear();
+    events.try_reserve(2)?;
     let key = *key;
     match act {
-        Act::Read => events.push(WorldEvent::Read { call, key })?,
+        Act::Read => events.push_reserved(WorldEvent::Read { call, key }),
         Act::ReadFail(code) => {
             let answer = LoadAnswer::Failed(*code);
-            events.push(WorldEvent::Say { call, key, answer })?
+            events.push_reserved(WorldEvent::Say { call, key, answer })
         }
         Act::Say(pairs) => {
             let answer = pairs.said(&key);
-            events.push(WorldEvent::Say { call, key, answer })?
+            events.push_reserved(WorldEvent::Say { call, key, answer })
         }
         Act::Apply => {
-            events.push(WorldEvent::Change { call, key })?;
-            events.push(WorldEvent::Report { call, fault: None })?
+            events.push_reserved(WorldEvent::Change { call, key });
+            events.push_reserved(WorldEvent::Report { call, fault: None })
         }
         Act::ApplyFail(code) => {
             let fault = Some(*code);
-            events.push(WorldEvent::Report { call, fault })?
+            events.push_reserved(WorldEvent::Report { call, fault })
         }
         Act::ApplyLie(code) => {
             let fault = Some(*code);
-            events.push(WorldEvent::Change { call, key })?;
-            events.push(WorldEvent::Report { call, fault })?
+            events.push_reserved(WorldEvent::Change { call, key });
+            events.push_reserved(WorldEvent::Report { call, fault })
         }
-        Act::End => events.push(WorldEvent::Commit { call, key })?,
+        Act::End => events.push_reserved(WorldEvent::Commit { call, key }),
         Act::Drop => put_dropped(events, call, key, part)?,
-        Act::More => events.push(WorldEvent::Start { call, key })?,
-        Act::Take => events.push(WorldEvent::PickUp { call, key })?,
+        Act::More => events.push_reserved(WorldEvent::Start { call, key }),
+        Act::Take => events.push_reserved(WorldEvent::PickUp { call, key }),
     }
     Ok(())
 }

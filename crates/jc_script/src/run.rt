@@ -7,6 +7,7 @@ use crate::fault::Fault;
 use crate::input::{InputFault, read_all, write_out};
 use crate::player::Player;
 use crate::printing::put_fault;
+use memchr::memchr;
 use std::alloc::{AllocError, Global};
 use std::io::{Read, Write};
 use thiserror::Error;
@@ -44,7 +45,7 @@ pub enum RunFault {
 fn line_feed(bytes: &[u8]) -> Option<usize>
     ensures { result ≡ position (λ b. b == 10) bytes.now }
 {
-    bytes.iter().position(|b| *b == b'\n')
+    memchr(b'\n', bytes)
 }
 
 /// The bytes before the first line feed, and those after it.
