@@ -109,12 +109,12 @@ impl World {
 
     /// All events, over all stripes: one legal history, and what is cached is what it leaves. The history of each stripe
     /// is its part of it: a place in a stripe, as it is shown, counts the events of that stripe alone.
-    pub fn order(&self) -> &[Event]
-        ensures order { result.now ≡ self.now.world.order }
+    pub fn order(&self, alloc: Global) -> Result<Vec<Event>, AllocError>
+        ensures order { IfOk result (λ order. order.items ≡ self.now.world.order) }
         ensures legal { IsOrder self.now.world }
         ensures parts { HasParts self.now.world }
     {
-        self.machine.order()
+        self.machine.order(alloc)
     }
 
     /// Whether no call has begun, and nobody else has written the store.
