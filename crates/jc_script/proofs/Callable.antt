@@ -8,12 +8,12 @@ use Rattle.jc_world.specs.Events.{is_single, is_session}
 use Rattle.jc_script.specs.declared.fault.Fault.{Fault}
 use Rattle.jc_script.specs.declared.fault.Fault.TheVariants.{LineTooLong, BadByte, BadLine, BadCaller}
 use Rattle.jc_script.specs.declared.line.Line.{Line}
-use Rattle.jc_script.specs.declared.grammar.Bare.{Bare}
-use Rattle.jc_script.specs.declared.grammar.Bare.TheVariants as bare
-use Rattle.jc_script.specs.declared.grammar.Valued.{Valued}
-use Rattle.jc_script.specs.declared.grammar.Valued.TheVariants as valued
-use Rattle.jc_script.specs.declared.grammar.Form.{Form}
-use Rattle.jc_script.specs.declared.grammar.Form.TheVariants as form
+use Rattle.jc_script.specs.declared.commands.Bare.{Bare}
+use Rattle.jc_script.specs.declared.commands.Bare.TheVariants as bare
+use Rattle.jc_script.specs.declared.commands.Valued.{Valued}
+use Rattle.jc_script.specs.declared.commands.Valued.TheVariants as valued
+use Rattle.jc_script.specs.declared.commands.Form.{Form}
+use Rattle.jc_script.specs.declared.commands.Form.TheVariants as form
 use Rattle.jc_script.specs.declared.grammar.LineKind.{LineKind}
 use Rattle.jc_script.specs.declared.grammar.LineKind.TheVariants as kind
 use Rattle.jc_script.specs.Words.{◌>>=◌, words_of, number_of, caller_if, caller_of, key_of, value_of, value_or_none_of, pairs_of}

@@ -13,11 +13,10 @@ use Rattle.jc_world.specs.declared.event.WorldEvent.TheVariants as event
 use Rattle.jc_world.specs.World.{WorldState, under, part_of, is_joined, is_untouched}
 use Rattle.jc_world.specs.Events.{may_start, may_leave, may_report, AllFit}
 use Rattle.jc_world.proofs.Fitting.{one_fits, report_fits, leave_fits}
-use Rattle.jc_script.specs.declared.fault.Fault.TheVariants.{NotNow}
 use Rattle.jc_script.specs.declared.line.Act.{Act}
 use Rattle.jc_script.specs.declared.line.Act.TheVariants.{Read, ReadFail, Say, Apply, ApplyFail, ApplyLie, End, Drop, More, Take}
 use Rattle.jc_script.specs.Words.{Pairs, said_after, said}
-use Rattle.jc_script.specs.Faults.{may_drop, fits_now, act_fault}
+use Rattle.jc_script.specs.Faults.{may_drop, fits_now}
 use Rattle.jc_script.specs.Transcript.{drop_events, events_of}
 
 -- what pairs say is an answer
@@ -28,11 +27,6 @@ said_given (pair ∷ pairs) answer key h = said_given pairs (cond (pointwise ◌
     either : (b : Bool) → is_load_given (cond b (Found pair.1) answer) ≡ true
     either true = refl
     either false = h
-
--- no fault: it fits now
-now : (b : Bool) → cond b None (Some NotNow) ≡ None → b ≡ true
-now true h = refl
-now false h = cc
 
 -- a call that is dropped leaves, and gives back first what it has reserved
 drop_fits : (w : WorldState) (number : ℕ) (u : Under) (o : Option Part) → under w number ≡ Some u → part_of w number u.command.key ≡ o → may_drop o (is_joined w number u.command.key) ≡ true
@@ -46,9 +40,9 @@ drop_fits w number u (Some part) here is may =
     opposite true h = cc
     opposite false h = refl
 
--- what is done for a call under way
-pub act_fits : (w : WorldState) (number : ℕ) (act : Act) (u : Under) → under w number ≡ Some u → act_fault w number act (Some u) ≡ None → AllFit w (events_of number u.command.key (part_of w number u.command.key) act)
-act_fits w number act u here none = go act (now (fits_now act (part_of w number u.command.key) (is_joined w number u.command.key)) none)
+-- what is done for a call under way, when its key waits for it
+pub act_fits : (w : WorldState) (number : ℕ) (act : Act) (u : Under) → under w number ≡ Some u → fits_now act (part_of w number u.command.key) (is_joined w number u.command.key) ≡ true → AllFit w (events_of number u.command.key (part_of w number u.command.key) act)
+act_fits w number act u here h = go act h
   where
     key : Bytes
     key = u.command.key

@@ -1,8 +1,10 @@
 -- A script's pieces, from its first line feed on.
-use Rattle.std.proofs.Common.{◌≡◌, ◌==◌, ℕ, ◌+◌, ◌<◌, ◌≤◌, Bool, true, false, cond, not, ltb, List, [], ◌∷◌, ◌++◌, length, take, drop, Option, None, Some, inl, inr, refl, ap, ◌∙◌, arith, append_assoc}
+use Rattle.std.proofs.Common.{◌≡◌, ◌==◌, ℕ, ◌+◌, ◌<◌, ◌≤◌, Bool, true, false, cond, not, ltb, List, [], ◌∷◌, ◌++◌, length, take, drop, Option, None, Some, inl, inr, refl, sym, ap, ◌∙◌, arith, append_assoc, get_or}
 use Rattle.std.proofs.lemmas.Option.{cond_some}
-use Rattle.std.proofs.lemmas.Bool.{ltb-true, ltb-false, le-ltb}
+use Rattle.std.proofs.lemmas.Bool.{ltb-true, ltb-false, le-ltb, lt-ltb}
 use Rattle.std.proofs.lemmas.List.Splits.{slice_split_first}
+use Rattle.std.proofs.lemmas.List.Sums.{position_or_len_is}
+use Rattle.memchr.specs.Find.{IsFirstByte}
 use Rattle.std.specs.List.{onto_first, position, position_or_len}
 use Rattle.jc_script.specs.Transcript.{pieces_of, State, Prints, Transcript, IsTranscript, fault_of}
 use Rattle.jc_script.specs.declared.fault.Fault.{Fault}
@@ -11,8 +13,28 @@ use Rattle.jc_script.specs.declared.run.RunEnd.TheVariants.{Clean, LineFault}
 use Rattle.jc_script.specs.Printing.{fault_line}
 use Rattle.std.specs.Io.KnownBytes.{Appends}
 
+-- a test that isn't passed fails
+fails : (b : Bool) → ¬ (b ≡ true) → b ≡ false
+fails true h = absurd (h refl)
+fails false h = refl
+
+inside : (b : Bool) (k : ℕ) → b ≡ true → Some k ≡ cond b (Some k) None
+inside b k e = rw e refl
+
+outside : (b : Bool) (k : ℕ) → b ≡ false → cond b (Some k) None ≡ None
+outside b k e = rw e refl
+
 abbrev is_feed : ℕ → Bool
 is_feed b = b == 10
+
+-- the first index of a byte is the position of it
+pub first_is_position : (test : ℕ → Bool) (bs : List ℕ) (r : Option ℕ) → IsFirstByte test bs r → r ≡ position test bs
+first_is_position test bs None nowhere =
+    let at_end = position_or_len_is test bs (length bs) 0 (omega arith) (λ k lt. fails (test (get_or bs k 0)) (nowhere k (omega arith) lt)) (λ lt. absurd (omega (arith, lt))) in
+    rw at_end (sym (outside (ltb (length bs) (length bs)) (length bs) (le-ltb _ _ (omega arith))))
+first_is_position test bs (Some k) first =
+    let at_k = position_or_len_is test bs k 0 (omega (arith, first.0.high)) (λ j lt. fails (test (get_or bs j 0)) (first.0.before j (omega arith) lt)) (λ lt. first.1) in
+    rw at_k (inside (ltb k (length bs)) k (lt-ltb k (length bs) first.0.high))
 
 pub cut_at : (bs : List ℕ) (i : ℕ) → position is_feed bs ≡ Some i → pieces_of bs ≡ take i bs ∷ pieces_of (drop (i + 1) bs)
 cut_at bs i e =

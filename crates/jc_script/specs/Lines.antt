@@ -2,6 +2,7 @@
 -- the words that stand after a first word or a name, and gives what they ask for or their fault.
 --     Gives                         what a function returned is what the definition says, unless memory ran out
 --     with_value                    the same of a function that leaves its value in a place: the result with that value
+--     with_line                     the same of a line, where a flag says whether the line asks for anything
 --     form_named                    the operation that a word names
 --     act_named                     the kind of line of a call, that a first word names
 --     line_named                    the kind of line that a first word names
@@ -40,12 +41,12 @@ use Rattle.jc_script.specs.declared.line.Line.{Line}
 use Rattle.jc_script.specs.declared.line.Line.TheVariants.{Open, Set, Begin, OfCall, Foreign, Audit}
 use Rattle.jc_script.specs.declared.line.Act.{Act}
 use Rattle.jc_script.specs.declared.line.Act.TheVariants.{Read, ReadFail, Say, Apply, ApplyFail, ApplyLie, End, Drop, More, Take}
-use Rattle.jc_script.specs.declared.grammar.Bare.{Bare}
-use Rattle.jc_script.specs.declared.grammar.Bare.TheVariants as bare
-use Rattle.jc_script.specs.declared.grammar.Valued.{Valued}
-use Rattle.jc_script.specs.declared.grammar.Valued.TheVariants as valued
-use Rattle.jc_script.specs.declared.grammar.Form.{Form}
-use Rattle.jc_script.specs.declared.grammar.Form.TheVariants as form
+use Rattle.jc_script.specs.declared.commands.Bare.{Bare}
+use Rattle.jc_script.specs.declared.commands.Bare.TheVariants as bare
+use Rattle.jc_script.specs.declared.commands.Valued.{Valued}
+use Rattle.jc_script.specs.declared.commands.Valued.TheVariants as valued
+use Rattle.jc_script.specs.declared.commands.Form.{Form}
+use Rattle.jc_script.specs.declared.commands.Form.TheVariants as form
 use Rattle.jc_script.specs.declared.grammar.Lone.{Lone}
 use Rattle.jc_script.specs.declared.grammar.Lone.TheVariants as lone
 use Rattle.jc_script.specs.declared.grammar.Coded.{Coded}
@@ -60,9 +61,15 @@ Gives (Err errors.Memory) said = Unit {0}
 Gives (Err (errors.Fault fault)) said = said ≡ Err fault
 
 -- the same of a function that leaves its value in a place
-abbrev pub with_value : {X : Type 0} → X → Result (Unit {0}) ReadError → Result X ReadError
+abbrev pub with_value : {X E : Type 0} → X → Result (Unit {0}) E → Result X E
 with_value x (Ok u) = Ok x
 with_value x (Err e) = Err e
+
+-- the same of a line, where a flag says whether the line asks for anything
+abbrev pub with_line : {E : Type 0} → Line → Result Bool E → Result (Option Line) E
+with_line l (Ok true) = Ok (Some l)
+with_line l (Ok false) = Ok None
+with_line l (Err e) = Err e
 
 -- 1. The fixed words.
 

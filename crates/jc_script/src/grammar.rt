@@ -1,44 +1,14 @@
 //! The kinds of line, and what each asks for.
 ghost use Rattle.std.specs.Prelude.{◌≡◌, map, length, IfOk};
 ghost use Rattle.std.specs.List.{list_all};
-ghost use Rattle.jc_script.specs.Lines.{Gives, form_named, act_named, line_named, flags_of, takes_words, bare_op, valued_op, bare_of, valued_of, value_alone_of, replace_if_of, command_of, open_of, set_of, begin_of, number_alone, lone_act, lone_of, coded_act, coded_of, say_of, foreign_of, audit_of, line_of, are_words, parsed, is_plain, is_comment, read_line};
+ghost use Rattle.jc_script.specs.Lines.{Gives, with_value, with_line, act_named, line_named, flags_of, open_of, set_of, begin_of, number_alone, lone_act, lone_of, coded_act, coded_of, say_of, foreign_of, audit_of, line_of, are_words, parsed, is_plain, is_comment, read_line};
 
+use crate::commands::{command, has_shape, read_form};
 use crate::fault::{Fault, ReadError};
 use crate::line::{Act, Line};
-use crate::words::{caller, is, key, number, pairs, value, value_or_none, words};
-use jc_model::Op;
-use jc_types::{Config, Value};
-use jc_world::event::Command;
+use crate::words::{caller, is, key, number, pairs, split, value, value_or_none};
+use jc_types::Config;
 use std::alloc::Global;
-
-/// An operation with no value.
-#[derive(Clone, Copy)]
-pub enum Bare {
-    Get,
-    Contains,
-    Remove,
-    GetRemove,
-}
-
-/// An operation with one value.
-#[derive(Clone, Copy)]
-pub enum Valued {
-    Put,
-    GetPut,
-    PutIf,
-    RemoveIf,
-    Replace,
-    GetReplace,
-}
-
-/// What stands after an operation's name: its key, and as many values.
-#[derive(Clone, Copy)]
-pub enum Form {
-    Bare(Bare),
-    Valued(Valued),
-    /// The old value and the new one.
-    ReplaceIf,
-}
 
 /// What happens next to a call, with no other word than its number.
 #[derive(Clone, Copy)]
@@ -70,45 +40,6 @@ pub enum LineKind {
     Say,
     Foreign,
     Audit,
-}
-
-fn read_form(word: &[u8]) -> Result<Form, Fault>
-    ensures { result ≡ form_named word.now }
-{
-    if is(word, "get") {
-        return Ok(Form::Bare(Bare::Get));
-    }
-    if is(word, "contains") {
-        return Ok(Form::Bare(Bare::Contains));
-    }
-    if is(word, "put") {
-        return Ok(Form::Valued(Valued::Put));
-    }
-    if is(word, "getput") {
-        return Ok(Form::Valued(Valued::GetPut));
-    }
-    if is(word, "putif") {
-        return Ok(Form::Valued(Valued::PutIf));
-    }
-    if is(word, "remove") {
-        return Ok(Form::Bare(Bare::Remove));
-    }
-    if is(word, "removeif") {
-        return Ok(Form::Valued(Valued::RemoveIf));
-    }
-    if is(word, "getremove") {
-        return Ok(Form::Bare(Bare::GetRemove));
-    }
-    if is(word, "replace") {
-        return Ok(Form::Valued(Valued::Replace));
-    }
-    if is(word, "replaceif") {
-        return Ok(Form::ReplaceIf);
-    }
-    if is(word, "getreplace") {
-        return Ok(Form::Valued(Valued::GetReplace));
-    }
-    Err(Fault::BadLine)
 }
 
 fn read_act(word: &[u8]) -> Result<LineKind, Fault>
@@ -192,109 +123,9 @@ fn flags(words: &[&[u8]]) -> Result<(bool, bool), Fault>
     }
 }
 
-/// Whether so many words stand after an operation's name: its key, and the values that it takes.
-fn has_shape(form: Form, count: usize) -> bool
-    ensures { result ≡ takes_words form count }
-{
-    match form {
-        Form::Bare(_) => count == 1,
-        Form::Valued(_) => count == 2,
-        Form::ReplaceIf => count == 3,
-    }
-}
-
-fn op_bare(bare: Bare) -> Op
-    ensures { result ≡ bare_op bare }
-{
-    match bare {
-        Bare::Get => Op::Get,
-        Bare::Contains => Op::ContainsKey,
-        Bare::Remove => Op::Remove,
-        Bare::GetRemove => Op::GetAndRemove,
-    }
-}
-
-fn op_valued(valued: Valued, value: Value) -> Op
-    ensures { result ≡ valued_op valued value }
-{
-    match valued {
-        Valued::Put => Op::Put(value),
-        Valued::GetPut => Op::GetAndPut(value),
-        Valued::PutIf => Op::PutIfAbsent(value),
-        Valued::RemoveIf => Op::RemoveIf(value),
-        Valued::Replace => Op::Replace(value),
-        Valued::GetReplace => Op::GetAndReplace(value),
-    }
-}
-
-fn bare_command(bare: Bare, words: &[&[u8]]) -> Result<Command, Fault>
-    ensures { result ≡ bare_of bare (map (λ w. w.now) words.now) }
-{
-    match words {
-        [k] => {
-            let key = key(k)?;
-            let op = op_bare(bare);
-            Ok(Command { op, key })
-        }
-        _ => Err(Fault::BadLine),
-    }
-}
-
-fn valued_command(valued: Valued, words: &[&[u8]]) -> Result<Command, Fault>
-    ensures { result ≡ valued_of valued (map (λ w. w.now) words.now) }
-{
-    match words {
-        [k, v] => {
-            let key = key(k)?;
-            let value = value(v)?;
-            let op = op_valued(valued, value);
-            Ok(Command { op, key })
-        }
-        _ => Err(Fault::BadLine),
-    }
-}
-
-fn value_alone(words: &[&[u8]]) -> Result<Value, Fault>
-    ensures { result ≡ value_alone_of (map (λ w. w.now) words.now) }
-{
-    match words {
-        [v] => value(v),
-        _ => Err(Fault::BadLine),
-    }
-}
-
-#[tactic(auto, unfolding(crate::specs::Lines::replace_if_of))]
-fn replace_if_command(words: &[&[u8]]) -> Result<Command, Fault>
-    ensures { result ≡ replace_if_of (map (λ w. w.now) words.now) }
-{
-    match words {
-        [k, v, rest @ ..] => {
-            let key = key(k)?;
-            let held = value(v)?;
-            let next = value_alone(rest)?;
-            let op = Op::ReplaceIf {
-                old: held,
-                new: next,
-            };
-            Ok(Command { op, key })
-        }
-        _ => Err(Fault::BadLine),
-    }
-}
-
-fn command(form: Form, words: &[&[u8]]) -> Result<Command, Fault>
-    ensures { result ≡ command_of form (map (λ w. w.now) words.now) }
-{
-    match form {
-        Form::Bare(bare) => bare_command(bare, words),
-        Form::Valued(valued) => valued_command(valued, words),
-        Form::ReplaceIf => replace_if_command(words),
-    }
-}
-
 #[tactic(auto, unfolding(crate::specs::Lines::open_of))]
-fn open(words: &[&[u8]]) -> Result<Line, Fault>
-    ensures { result ≡ open_of (map (λ w. w.now) words.now) }
+fn open(words: &[&[u8]], line: &mut Line) -> Result<(), Fault>
+    ensures { with_value line.new result ≡ open_of (map (λ w. w.now) words.now) }
 {
     match words {
         [s, c, h, rest @ ..] => {
@@ -302,34 +133,36 @@ fn open(words: &[&[u8]]) -> Result<Line, Fault>
             let stripes = number(s)? as usize;
             let capacity = number(c)? as usize;
             let history = number(h)? as usize;
-            Ok(Line::Open(Config {
+            *line = Line::Open(Config {
                 stripes,
                 capacity,
                 history,
                 read_through,
                 write_through,
-            }))
+            });
+            Ok(())
         }
         _ => Err(Fault::BadLine),
     }
 }
 
 #[tactic(auto, unfolding(crate::specs::Lines::set_of))]
-fn set(words: &[&[u8]]) -> Result<Line, Fault>
-    ensures { result ≡ set_of (map (λ w. w.now) words.now) }
+fn set(words: &[&[u8]], line: &mut Line) -> Result<(), Fault>
+    ensures { with_value line.new result ≡ set_of (map (λ w. w.now) words.now) }
 {
     match words {
         [k, v] => {
             let key = key(k)?;
-            Ok(Line::Set(key, value(v)?))
+            *line = Line::Set(key, value(v)?);
+            Ok(())
         }
         _ => Err(Fault::BadLine),
     }
 }
 
 #[tactic(auto, unfolding(crate::specs::Lines::begin_of))]
-fn begin(words: &[&[u8]]) -> Result<Line, Fault>
-    ensures { result ≡ begin_of (map (λ w. w.now) words.now) }
+fn begin(words: &[&[u8]], line: &mut Line) -> Result<(), Fault>
+    ensures { with_value line.new result ≡ begin_of (map (λ w. w.now) words.now) }
 {
     match words {
         [n, who, name, rest @ ..] => {
@@ -339,8 +172,8 @@ fn begin(words: &[&[u8]]) -> Result<Line, Fault>
             }
             let call = number(n)?;
             let session = caller(who)?;
-            let command = command(form, rest)?;
-            Ok(Line::Begin(call, session, command))
+            *line = Line::Begin(call, session, command(form, rest)?);
+            Ok(())
         }
         _ => Err(Fault::BadLine),
     }
@@ -368,11 +201,12 @@ fn act_lone(lone: Lone) -> Act
     }
 }
 
-fn lone_line(lone: Lone, words: &[&[u8]]) -> Result<Line, Fault>
-    ensures { result ≡ lone_of lone (map (λ w. w.now) words.now) }
+fn lone_line(lone: Lone, words: &[&[u8]], line: &mut Line) -> Result<(), Fault>
+    ensures { with_value line.new result ≡ lone_of lone (map (λ w. w.now) words.now) }
 {
     let n = lone_number(words)?;
-    Ok(Line::OfCall(n, act_lone(lone)))
+    *line = Line::OfCall(n, act_lone(lone));
+    Ok(())
 }
 
 fn act_coded(coded: Coded, code: u32) -> Act
@@ -386,8 +220,8 @@ fn act_coded(coded: Coded, code: u32) -> Act
 }
 
 #[tactic(auto, unfolding(crate::specs::Lines::coded_of))]
-fn coded_line(coded: Coded, words: &[&[u8]]) -> Result<Line, Fault>
-    ensures { result ≡ coded_of coded (map (λ w. w.now) words.now) }
+fn coded_line(coded: Coded, words: &[&[u8]], line: &mut Line) -> Result<(), Fault>
+    ensures { with_value line.new result ≡ coded_of coded (map (λ w. w.now) words.now) }
 {
     match words {
         [n, rest @ ..] => {
@@ -396,60 +230,71 @@ fn coded_line(coded: Coded, words: &[&[u8]]) -> Result<Line, Fault>
             }
             let n = number(n)?;
             let code = lone_number(rest)?;
-            Ok(Line::OfCall(n, act_coded(coded, code)))
+            *line = Line::OfCall(n, act_coded(coded, code));
+            Ok(())
         }
         _ => Err(Fault::BadLine),
     }
 }
 
 #[tactic(auto, unfolding(crate::specs::Lines::say_of))]
-fn say(alloc: Global, words: &[&[u8]]) -> Result<Line, ReadError>
-    ensures { Gives result (say_of (map (λ w. w.now) words.now)) }
+fn say(alloc: Global, words: &[&[u8]], line: &mut Line) -> Result<(), ReadError>
+    ensures { Gives (with_value line.new result) (say_of (map (λ w. w.now) words.now)) }
 {
     match words {
         [n, rest @ ..] => {
             let n = number(n)?;
             let pairs = pairs(alloc, rest)?;
-            Ok(Line::OfCall(n, Act::Say(pairs)))
+            *line = Line::OfCall(n, Act::Say(pairs));
+            Ok(())
         }
         _ => Err(ReadError::Fault(Fault::BadLine)),
     }
 }
 
 #[tactic(auto, unfolding(crate::specs::Lines::foreign_of))]
-fn foreign(words: &[&[u8]]) -> Result<Line, Fault>
-    ensures { result ≡ foreign_of (map (λ w. w.now) words.now) }
+fn foreign(words: &[&[u8]], line: &mut Line) -> Result<(), Fault>
+    ensures { with_value line.new result ≡ foreign_of (map (λ w. w.now) words.now) }
 {
     match words {
         [k, v] => {
             let key = key(k)?;
-            Ok(Line::Foreign(key, value_or_none(v)?))
+            *line = Line::Foreign(key, value_or_none(v)?);
+            Ok(())
         }
         _ => Err(Fault::BadLine),
     }
 }
 
-fn audit(words: &[&[u8]]) -> Result<Line, Fault>
-    ensures { result ≡ audit_of (map (λ w. w.now) words.now) }
+fn audit(words: &[&[u8]], line: &mut Line) -> Result<(), Fault>
+    ensures { with_value line.new result ≡ audit_of (map (λ w. w.now) words.now) }
 {
     match words {
-        [] => Ok(Line::Audit),
+        [] => {
+            *line = Line::Audit;
+            Ok(())
+        }
         _ => Err(Fault::BadLine),
     }
 }
 
-fn line_after(alloc: Global, kind: LineKind, words: &[&[u8]]) -> Result<Line, ReadError>
-    ensures { Gives result (line_of kind (map (λ w. w.now) words.now)) }
+fn line_after(
+    alloc: Global,
+    kind: LineKind,
+    words: &[&[u8]],
+    line: &mut Line,
+) -> Result<(), ReadError>
+    ensures { Gives (with_value line.new result) (line_of kind (map (λ w. w.now) words.now)) }
 {
     match kind {
-        LineKind::Open => Ok(open(words)?),
-        LineKind::Set => Ok(set(words)?),
-        LineKind::Begin => Ok(begin(words)?),
-        LineKind::Lone(lone) => Ok(lone_line(lone, words)?),
-        LineKind::Coded(coded) => Ok(coded_line(coded, words)?),
-        LineKind::Say => say(alloc, words),
-        LineKind::Foreign => Ok(foreign(words)?),
-        LineKind::Audit => Ok(audit(words)?),
+        LineKind::Open => Ok(open(words, line)?),
+        LineKind::Set => Ok(set(words, line)?),
+        LineKind::Begin => Ok(begin(words, line)?),
+        LineKind::Lone(lone) => Ok(lone_line(lone, words, line)?),
+        LineKind::Coded(coded) => Ok(coded_line(coded, words, line)?),
+        LineKind::Say => say(alloc, words, line),
+        LineKind::Foreign => Ok(foreign(words, line)?),
+        LineKind::Audit => Ok(audit(words, line)?),
     }
 }
 
@@ -465,8 +310,8 @@ fn none_empty(words: &[&[u8]]) -> bool
 }
 
 #[tactic(auto, unfolding(crate::specs::Lines::parsed))]
-fn parse(alloc: Global, words: &[&[u8]]) -> Result<Line, ReadError>
-    ensures { Gives result (parsed (map (λ w. w.now) words.now)) }
+fn parse(alloc: Global, words: &[&[u8]], line: &mut Line) -> Result<(), ReadError>
+    ensures { Gives (with_value line.new result) (parsed (map (λ w. w.now) words.now)) }
 {
     match words {
         [] => Err(ReadError::Fault(Fault::BadLine)),
@@ -475,16 +320,28 @@ fn parse(alloc: Global, words: &[&[u8]]) -> Result<Line, ReadError>
                 return Err(ReadError::Fault(Fault::BadLine));
             }
             let kind = read_kind(name)?;
-            line_after(alloc, kind, rest)
+            line_after(alloc, kind, rest, line)
         }
     }
 }
 
-/// Whether each byte may stand in a line: a space up to a tilde.
+/// Whether a byte may stand in a line: a space up to a tilde.
+fn is_plain(b: u8) -> bool
+    ensures { result ≡ is_plain b }
+{
+    b' ' <= b && b <= b'~'
+}
+
+/// Whether each byte may stand in a line.
 fn all_plain(text: &[u8]) -> bool
     ensures { result ≡ list_all is_plain text.now }
 {
-    text.iter().all(|b| b' ' <= *b && *b <= b'~')
+    // No byte ends the loop, so the processor can look at many at a time.
+    let mut plain = true;
+    for b in text {
+        plain = plain & is_plain(*b);
+    }
+    plain
 }
 
 /// Whether a line asks for nothing: it is empty, or its first byte is #.
@@ -497,10 +354,18 @@ fn comment(text: &[u8]) -> bool
     }
 }
 
-/// What the bytes of a line ask for, if anything. A line has at most 65,536 bytes.
+/// Reads the bytes of a line, of which it has at most 65,536. What they ask for is left in `line`, if they ask for anything: a
+/// comment gives `false`.
+///
+/// `words` is room for the words, which may hold those of another line.
 #[tactic(auto, unfolding(crate::specs::Lines::read_line))]
-pub fn read(alloc: Global, text: &[u8]) -> Result<Option<Line>, ReadError>
-    ensures { Gives result (read_line text.now) }
+pub fn read<'a>(
+    alloc: Global,
+    text: &'a [u8],
+    words: &mut Vec<&'a [u8]>,
+    line: &mut Line,
+) -> Result<bool, ReadError>
+    ensures { Gives (with_line line.new result) (read_line text.now) }
 {
     if 65536 < text.len() {
         return Err(ReadError::Fault(Fault::LineTooLong));
@@ -509,8 +374,9 @@ pub fn read(alloc: Global, text: &[u8]) -> Result<Option<Line>, ReadError>
         return Err(ReadError::Fault(Fault::BadByte));
     }
     if comment(text) {
-        return Ok(None);
+        return Ok(false);
     }
-    let words = words(alloc, text)?;
-    Ok(Some(parse(alloc, &words)?))
+    split(text, words)?;
+    parse(alloc, words, line)?;
+    Ok(true)
 }

@@ -3,6 +3,7 @@
 //! A script is bytes, and so is its transcript: one line for each thing that happened, up to the first line with a fault.
 #![tactic(auto)]
 
+mod commands;
 mod fault;
 mod grammar;
 mod input;
@@ -10,6 +11,8 @@ pub mod laws;
 mod line;
 mod pairs;
 mod player;
+mod print_audit;
+mod print_shown;
 mod printing;
 pub mod run;
 #[cfg(test)]

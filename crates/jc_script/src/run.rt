@@ -5,9 +5,9 @@ ghost use Rattle.jc_script.specs.Running.{Ran, Broke};
 
 use crate::fault::Fault;
 use crate::input::{InputFault, read_all, write_out};
-use crate::player::{close, line};
+use crate::player::Player;
 use crate::printing::put_fault;
-use jc_world::world::World;
+use memchr::memchr;
 use std::alloc::{AllocError, Global};
 use std::io::{Read, Write};
 use thiserror::Error;
@@ -45,7 +45,7 @@ pub enum RunFault {
 fn line_feed(bytes: &[u8]) -> Option<usize>
     ensures { result ≡ position (λ b. b == 10) bytes.now }
 {
-    bytes.iter().position(|b| *b == b'\n')
+    memchr(b'\n', bytes)
 }
 
 /// The bytes before the first line feed, and those after it.
@@ -60,13 +60,13 @@ fn first_line(bytes: &[u8]) -> Option<(&[u8], &[u8])>
     }
 }
 
-/// The transcript of a script, on a world that is still to be opened.
-fn lines(
+/// The transcript of a script, by a player whose world is still to be opened.
+fn lines<'a>(
     alloc: Global,
-    input: &[u8],
-    world: &mut Option<World>,
+    input: &'a [u8],
+    player: &mut Player<'a>,
 ) -> Result<(Vec<u8>, RunEnd), AllocError>
-    requires closed { world.old ≡ None }
+    requires closed { player.old.world ≡ None }
     requires fits { length input.now ≤ SCRIPT_MAX }
     ensures { IfOk result (λ r. IsTranscript input.now r.0.items r.1) }
 {
@@ -74,7 +74,7 @@ fn lines(
     let mut rest = input;
     let mut number: u64 = 1;
     while let Some((text, after)) = first_line(rest) {
-        match line(alloc, world, text, &mut out)? {
+        match player.play(alloc, text, &mut out)? {
             None => {}
             Some(fault) => {
                 put_fault(&mut out, number, fault)?;
@@ -95,9 +95,9 @@ fn transcript(alloc: Global, input: &[u8]) -> Result<(Vec<u8>, RunEnd), AllocErr
     requires { length input.now ≤ SCRIPT_MAX }
     ensures { IfOk result (λ r. IsTranscript input.now r.0.items r.1) }
 {
-    let mut world: Option<World> = None;
-    let made = lines(alloc, input, &mut world);
-    close(world);
+    let mut player = Player::new(alloc);
+    let made = lines(alloc, input, &mut player);
+    player.close();
     made
 }
 

@@ -1,5 +1,5 @@
 //! The kinds of word of a line.
-ghost use Rattle.std.specs.Prelude.{◌≡◌, ◌≤◌, ◌<◌, IfOk, IfSome, Ok, [], map, length, List, ℕ};
+ghost use Rattle.std.specs.Prelude.{◌≡◌, ◌≤◌, ◌<◌, OnOk, IfSome, Ok, [], map, length, List, ℕ};
 ghost use Rattle.std.specs.Str.{bytes_eq};
 ghost use Rattle.std.specs.List.{list_all};
 ghost use Rattle.jc_types.specs.declared.limits.TheConstants.{VALUE_MAX};
@@ -18,16 +18,14 @@ pub fn is(word: &[u8], text: &str) -> bool
     word == text.as_bytes()
 }
 
-/// The room that the words of a line get at first: few lines have more.
-const WORDS_AT_FIRST: usize = 8;
-
-/// The words of a line, which spaces part: two spaces together have an empty word between them.
-pub fn words(alloc: Global, line: &[u8]) -> Result<Vec<&[u8]>, AllocError>
-    ensures { IfOk result (λ words. map (λ w. w.now) words.items ≡ words_of line.now) }
+/// The words of a line, which spaces part: two spaces together have an empty word between them. They take the place of what the
+/// list held.
+pub fn split<'a>(line: &'a [u8], words: &mut Vec<&'a [u8]>) -> Result<(), AllocError>
+    ensures { OnOk result (map (λ w. w.now) words.new.items ≡ words_of line.now) }
 {
-    let mut words = Vec::with_capacity(alloc, WORDS_AT_FIRST)?;
+    words.clear();
     words.extend(line.split(|b| *b == b' '))?;
-    Ok(words)
+    Ok(())
 }
 
 /// Whether a byte may stand in a key or a value: A to Z, a to z, 0 to 9, a low line, a dot.

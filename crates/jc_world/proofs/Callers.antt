@@ -143,7 +143,7 @@ empty_at config base (suc count) zero s h = let is : empty_stripe config base �
 empty_at config base (suc count) (suc n) s h = empty_at config (base + 1) count n s h ∙ ap (empty_stripe config) (let e : (base + 1) + n ≡ base + suc n = omega arith in e)
 
 -- and there are as many as wanted
-empty_count : (config : Config) (base count : ℕ) → length (empty_stripes config base count) ≡ count
+pub empty_count : (config : Config) (base count : ℕ) → length (empty_stripes config base count) ≡ count
 empty_count config base zero = refl
 empty_count config base (suc count) = ap suc (empty_count config (base + 1) count)
 

@@ -341,13 +341,13 @@ all_left w sound = record {
 }
 
 -- each slot's ticket is out
-pub slots_out : (m : Inside) → IsKept m → IsSoundWorld (world_of m) → HasSlots m.config m.stripes.items m.slots.items
+pub slots_out : (m : Inside) → IsKept m → IsSoundWorld (world_of m) → HasSlots m.config m.stripes.stripes m.slots.items
 slots_out m kept sound =
     let w = world_of m in
     let slots = m.slots.items in
     record {
       once_is = kept;
-      out = each_slot m.config m.stripes.items slots kept (λ key part h. held_out w key part (stripe_for w key) (sound.held key part (get-from_entries nat_list_cmp_total slots key ∙ h)));
+      out = each_slot m.config m.stripes.stripes slots kept (λ key part h. held_out w key part (stripe_for w key) (sound.held key part (get-from_entries nat_list_cmp_total slots key ∙ h)));
       back = λ n s at. test_owned w (λ r. is_some (find key_cmp r.key slots)) s.reservations (λ r h.
           let part = some_of (get w.parts r.key) (λ part. part.reservation.caller.call ≡ r.caller.call) h.part in
           ap is_some (sym (get-from_entries nat_list_cmp_total slots r.key) ∙ part.1)) (sound.owned n s at);

@@ -19,3 +19,4 @@ pub mod Loads
 pub mod Homes
 pub mod Fitting
 pub mod Closing
+pub mod Merging

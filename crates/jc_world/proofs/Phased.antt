@@ -27,6 +27,7 @@ use Rattle.jc_world.specs.World.{WorldState, Parts, home, stripe_for, under, ove
 use Rattle.jc_world.specs.Events.{fits, Happens, step_of, new_part}
 use Rattle.jc_world.specs.Sound.{IsHeld, KindFits, IsSoundWorld}
 use Rattle.jc_world.specs.World.{is_join}
+use Rattle.jc_world.specs.Turns.{OrderedStripes, IsPhase, IsQuietPhase}
 use Rattle.jc_world.proofs.Numbered.{some_of}
 use Rattle.jc_world.proofs.Slotted.{is_part}
 use Rattle.jc_world.proofs.Reservations.{was_free, writer_alone}
@@ -62,6 +63,17 @@ pub record Phased (v : WorldState) (number : ℕ) (phase : State → State → T
   pub made : phase from to
   pub stripes_are : stripes ≡ slice_set v.stripes number to
   pub order_is : order ≡ v.order ++ drop (length from.history) to.history
+
+-- it knows it from what its stripes tell
+pub phased_from : (v : WorldState) (old new : OrderedStripes) (number : ℕ) (phase : State → State → Type 0) → old.stripes ≡ v.stripes → old.order ≡ v.order → IsPhase old number phase new → Phased v number phase new.stripes new.order
+phased_from v old new number phase stripes order p = record {
+  from = p.from;
+  at = ap (λ ss. slice_get ss number) (sym stripes) ∙ p.at;
+  to = p.to;
+  made = p.made;
+  stripes_are = p.stripes_are ∙ ap (λ ss. slice_set ss number p.to) stripes;
+  order_is = p.order_is ∙ ap (λ o. o ++ drop (length p.from.history) p.to.history) order;
+}
 
 -- 3. A first phase.
 
@@ -256,6 +268,16 @@ pub record Changed (v : WorldState) (number : ℕ) (phase : State → State → 
   pub to : State
   pub made : phase from to
   pub stripes_are : stripes ≡ slice_set v.stripes number to
+
+-- a machine knows it from what its stripes tell
+pub changed_from : (v : WorldState) (old new : OrderedStripes) (number : ℕ) (phase : State → State → Type 0) → old.stripes ≡ v.stripes → IsQuietPhase old number phase new → Changed v number phase new.stripes
+changed_from v old new number phase stripes p = record {
+  from = p.from;
+  at = ap (λ ss. slice_get ss number) (sym stripes) ∙ p.at;
+  to = p.to;
+  made = p.made;
+  stripes_are = p.stripes_are ∙ ap (λ ss. slice_set ss number p.to) stripes;
+}
 
 -- what it needs of the stripe
 pub may_withdraw_at : (v : WorldState) (call : ℕ) (key : Bytes) (part : Part) (number : ℕ) → part_of v call key ≡ Some part → number ≡ home v key → IsSoundWorld v → IsSomeAnd (slice_get v.stripes number) (λ s. IsOut s part.reservation)

@@ -1,5 +1,5 @@
 -- The stripes of a world, where one is set, and the calls, where one is over.
-use Rattle.std.proofs.Common.{◌≡◌, ◌==◌, ◌<◌, ◌%◌, ℕ, zero, suc, length, List, [], ◌∷◌, ◌++◌, sum, Bool, true, false, cond, not, Option, Some, IsSomeAnd, Ok, find, refl, sym, ap, ◌∙◌, subst, arith, slice_get, slice_set, nat_le, get_or, Result, Err}
+use Rattle.std.proofs.Common.{◌≡◌, ◌==◌, ◌<◌, ◌≤◌, ◌%◌, ℕ, zero, suc, length, List, [], ◌∷◌, ◌++◌, sum, Bool, true, false, cond, not, Option, Some, IsSomeAnd, Ok, find, refl, sym, ap, ◌∙◌, subst, arith, slice_get, slice_set, nat_le, get_or, Result, Err}
 use Rattle.std.proofs.lemmas.Bool.Decides.{nat_tests}
 use Rattle.std.proofs.lemmas.Bool.{eqb-true, and_parts}
 use Rattle.std.proofs.lemmas.Option.{slice_get-get_or}
@@ -42,6 +42,13 @@ positive n h = grind (arith, nat_tests)
 -- there is a stripe
 some_stripe : (config : Config) → check config ≡ Ok tt → 0 < config.stripes
 some_stripe config h = positive config.stripes ((and_parts (nat_le 1 config.stripes) (nat_le config.stripes STRIPES_MAX) (in_limits (is_between 1 STRIPES_MAX config.stripes) _ _ h)).0)
+
+-- and no more than a cache may have
+at_most : (n : ℕ) → nat_le n STRIPES_MAX ≡ true → n ≤ STRIPES_MAX
+at_most n h = grind (arith, nat_tests)
+
+pub few_stripes : (config : Config) → check config ≡ Ok tt → config.stripes ≤ STRIPES_MAX
+few_stripes config h = at_most config.stripes ((and_parts (nat_le 1 config.stripes) (nat_le config.stripes STRIPES_MAX) (in_limits (is_between 1 STRIPES_MAX config.stripes) _ _ h)).1)
 
 -- a remainder is a place in a list of that length
 within : (n count stripes : ℕ) → 0 < stripes → count ≡ stripes → n % stripes < count

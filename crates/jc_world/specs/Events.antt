@@ -23,6 +23,7 @@
 --     Happens                     what an event that fits may show and leave
 --     Step                        one event: one that doesn't fit is shown as a fault and changes nothing
 --     Run                         events one after another
+--     RunAppending                the same, and what they show is appended to a list
 --     is_fit, all_fit             what is shown is not the fault of an event that doesn't fit, and nothing that is shown is
 --     AllFit                      whatever the world may choose, each of these events fits when it comes
 --     StartFits                   where a call fits, its first phase fits directly behind it
@@ -242,6 +243,9 @@ Run old [] [] new = new ≡ old
 Run old (e ∷ es) (s ∷ ss) new = (mid : WorldState) × Step old e s mid × Run mid es ss new
 Run old [] (s ∷ ss) new = ⊥
 Run old (e ∷ es) [] new = ⊥
+
+abbrev pub RunAppending : WorldState → List WorldEvent → List Shown → List Shown → WorldState → Type 0
+RunAppending old events before after new = (seen : List Shown) × Run old events seen new × (after ≡ before ++ seen)
 
 -- 7. Events that fit.
 

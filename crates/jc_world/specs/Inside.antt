@@ -10,8 +10,8 @@ abbrev pub world_of : Inside → WorldState
 world_of m =
     record {
       config = m.config;
-      stripes = m.stripes.items;
-      order = m.order.items;
+      stripes = m.stripes.stripes;
+      order = m.stripes.order;
       store = m.store;
       fresh = m.fresh;
       last = m.last;

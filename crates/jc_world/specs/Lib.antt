@@ -6,6 +6,7 @@ pub mod Audit
 pub mod Played
 pub mod Sound
 pub mod Slots
+pub mod Turns
 pub mod Inside
 pub mod Ending
 pub mod Gathered

@@ -9,7 +9,6 @@ pub mod headline;
 mod joining;
 mod machine;
 mod outside;
-mod room;
 mod slot;
 mod stripes;
 #[cfg(test)]

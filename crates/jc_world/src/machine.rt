@@ -25,13 +25,10 @@ use crate::outside::{
     and_now, answer_of, entry_after, is_all_answered, is_honest_load, is_honest_report,
     is_never_touched, is_waiting_for_load, is_waiting_for_report, report_with,
 };
-use crate::room::push_in_room;
 use crate::slot::{Slot, part_at, part_under, set_part, take_slot};
-use crate::stripes::{
-    EVENTS_MAX, begin_at, commit_at, make_stripes, pick_up_at, shown_of, withdraw_at,
-};
+use crate::stripes::{Stripes, shown_of};
 use jc_model::{Change, Contents, Event, LoadAnswer, Op, WriteAnswer};
-use jc_stripe::{Begun, First, Join, Picked, Stripe};
+use jc_stripe::{Begun, First, Join, Picked};
 use jc_types::{Caller, Config, Key, Value, stripe_of};
 use std::alloc::{AllocError, Global};
 use std::marker::Model;
@@ -39,8 +36,7 @@ use std::marker::Model;
 /// Stripes, a store, and the calls under way.
 pub(crate) struct Machine {
     config: Config,
-    stripes: Vec<Stripe>,
-    order: Vec<Event>,
+    stripes: Stripes,
     store: Contents,
     fresh: bool,
     last: Option<u64>,
@@ -106,11 +102,10 @@ impl Machine {
         requires { check config.now ≡ Ok tt }
         ensures { IfOk result (λ m. m ≡ start config.now) }
     {
-        let stripes = make_stripes(alloc, config)?;
+        let stripes = Stripes::new(alloc, config)?;
         Ok(Machine {
             config: *config,
             stripes,
-            order: Vec::new(alloc),
             store: Contents::new(alloc),
             fresh: true,
             last: None,
@@ -175,10 +170,10 @@ impl Machine {
     }
 
     /// The order of all events.
-    pub(crate) fn order(&self) -> &[Event]
-        ensures { result.now ≡ self.now.order }
+    pub(crate) fn order(&self, alloc: Global) -> Result<Vec<Event>, AllocError>
+        ensures { IfOk result (λ order. order.items ≡ self.now.order) }
     {
-        &self.order
+        self.stripes.order(alloc)
     }
 
     /// Gives the store a value.
@@ -291,28 +286,28 @@ impl Machine {
         let _types: Option<Change> = None;
         self.slots.try_reserve(1)?;
         self.joins.try_reserve(1)?;
-        self.order.try_reserve(EVENTS_MAX)?;
+        self.stripes.reserve()?;
         let Some(u) = self.under(call).copied() else {
             unreachable!()
         };
         let number = stripe_of(&u.command.key, self.config.stripes);
-        let begun = begin_at(&mut self.stripes, &mut self.order, number, &u);
+        let begun = self.stripes.begin(number, &u);
         match begun {
             Begun::Done(done) => {
                 drop_call(&mut self.calls, u.caller.call);
                 Ok(Shown::Stepped(shown_of(number, done)))
             }
             Begun::Load(ticket) => {
-                push_in_room(&mut self.slots, Slot::loading(ticket));
+                self.slots.push_reserved(Slot::loading(ticket));
                 Ok(Shown::Loads)
             }
             Begun::Write(ticket) => {
                 let (slot, change) = Slot::writing(ticket);
-                push_in_room(&mut self.slots, slot);
+                self.slots.push_reserved(slot);
                 Ok(Shown::Asks(change))
             }
             Begun::Joined(join) => {
-                push_in_room(&mut self.joins, join);
+                self.joins.push_reserved(join);
                 Ok(Shown::Joins)
             }
             Begun::Refused(refusal) => {
@@ -329,11 +324,11 @@ impl Machine {
         ensures ok { IfOk result (λ seen. Happens self.old (event.Commit call key.now) seen self.new) }
         ensures err { OnErr result (self.new ≡ self.old) }
     {
-        self.order.try_reserve(EVENTS_MAX)?;
+        self.stripes.reserve()?;
         let number = stripe_of(key, self.config.stripes);
         let slot = take_slot(&mut self.slots, call, key);
         drop_call(&mut self.calls, call);
-        let done = commit_at(&mut self.stripes, &mut self.order, number, slot);
+        let done = self.stripes.commit(number, slot);
         Ok(Shown::Stepped(shown_of(number, done)))
     }
 
@@ -345,7 +340,7 @@ impl Machine {
     {
         let number = stripe_of(key, self.config.stripes);
         let slot = take_slot(&mut self.slots, call, key);
-        withdraw_at(&mut self.stripes, number, slot);
+        self.stripes.withdraw(number, slot);
     }
 
     /// A call that has joined a load asks for its answer.
@@ -356,7 +351,7 @@ impl Machine {
     {
         let stripe = stripe_of(key, self.config.stripes);
         let (join, place) = take_join(&mut self.joins, call, key);
-        match pick_up_at(&mut self.stripes, stripe, join) {
+        match self.stripes.pick_up(stripe, join) {
             Picked::Answer {
                 reply,
                 place: step,
@@ -559,7 +554,7 @@ impl Machine {
         ensures coherent { IfOk result (λ a. all_hold self.now ≡ true → Coherent self.now × (a.differing.items ≡ [])) }
         ensures legal { IfOk result (λ a. IsTrue a.is_legal) }
     {
-        let all = gather(alloc, &self.stripes)?;
+        let all = gather(alloc, self.stripes.items())?;
         let cache = all.entries(alloc)?;
         let store = self.store.entries(alloc)?;
         let differing = self.differing(alloc, &cache)?;
@@ -567,7 +562,7 @@ impl Machine {
             cache,
             store,
             differing,
-            events: self.order().len(),
+            events: self.stripes.events_len(),
             is_legal: true,
         })
     }
@@ -578,8 +573,7 @@ impl Machine {
     {
         let Machine {
             config,
-            mut stripes,
-            order: _,
+            stripes,
             store: _,
             fresh: _,
             last: _,
@@ -588,8 +582,9 @@ impl Machine {
             joins,
             premises: _,
         } = self;
-        end_all(&config, &mut stripes, slots, &joins);
-        pick_all(&config, &mut stripes, joins);
+        let mut items = stripes.into_items();
+        end_all(&config, &mut items, slots, &joins);
+        pick_all(&config, &mut items, joins);
     }
 }
 

@@ -1,9 +1,9 @@
-//! The stripes of a world, and the one order of all that they append to their histories.
-ghost use Rattle.std.specs.Prelude.{◌≡◌, ◌+◌, ◌-◌, ◌≤◌, ◌<◌, ◌++◌, Ok, true, Option, Some, None, IsSomeAnd, IfOk, length, drop, vec_len, vec_capacity, slice_get, slice_set};
-ghost use Rattle.jc_types.specs.declared.limits.TheConstants.{STEP_PLACES, JOINERS_MAX};
+//! The stripes of a world, and the order of all that they append to their histories.
+ghost use Rattle.std.specs.Prelude.{◌≡◌, ◌+◌, ◌-◌, ◌≤◌, ◌<◌, ◌++◌, [], Ok, true, Some, IsSomeAnd, IfOk, OnOk, length, replicate, vec_len, vec_capacity, slice_get};
+ghost use Rattle.jc_types.specs.declared.limits.TheConstants.{STEP_PLACES, JOINERS_MAX, STRIPES_MAX};
 ghost use Rattle.jc_types.specs.Limits.{check};
 ghost use Rattle.jc_model.specs.Cache.{entry_at};
-ghost use Rattle.jc_stripe.specs.State.{State, IsOut, IsJoined};
+ghost use Rattle.jc_stripe.specs.State.{IsOut, IsJoined};
 ghost use Rattle.jc_stripe.specs.Refusals.{has_phases};
 ghost use Rattle.jc_stripe.specs.Phases.{MayBegin, Begins, Commits, Withdraws, PicksUp};
 ghost use Rattle.jc_stripe.specs.declared.ticket.Origin.TheVariants.{Played};
@@ -11,20 +11,143 @@ ghost use Rattle.jc_world.specs.World.{out_of, is_answered, empty_stripes};
 ghost use Rattle.jc_stripe.specs.Reached.{IsReached};
 ghost use Rattle.jc_world.specs.Events.{step_of};
 ghost use Rattle.jc_world.specs.Sound.{KindFits};
+ghost use Rattle.jc_world.specs.Turns.{IsPhase, IsQuietPhase, history_at, merged, AreTurns};
 
 use crate::event::{Stepped, Under};
-use crate::room::push_in_room;
 use crate::slot::Slot;
 use jc_model::{Effect, Event, LoadAnswer, Op, Out, ProcessAnswer, Reply, WriteAnswer};
+use jc_stripe::phase_laws::grows;
 use jc_stripe::{Begun, Join, Origin, Picked, StepDone, Stripe};
-use jc_types::{Config, JOINERS_MAX, STEP_PLACES, Value};
+use jc_types::{Config, JOINERS_MAX, STEP_PLACES, STRIPES_MAX, Value};
 use std::alloc::{AllocError, Global};
+use std::marker::Model;
 
 /// The most events that one phase appends: a victim, a step, the steps that share its load, and the eviction of its own key.
-pub(crate) const EVENTS_MAX: usize = STEP_PLACES + JOINERS_MAX;
+const EVENTS_MAX: usize = STEP_PLACES + JOINERS_MAX;
+
+/// The stripes, and the order of all their events. An event is kept once, in the history of its stripe: the order has a turn for
+/// it, which is the number of that stripe.
+pub(crate) struct Stripes {
+    items: Vec<Stripe>,
+    turns: Vec<u8>,
+}
+
+impl Model for Stripes {
+    ghost use Rattle.std.specs.Coded.{codes};
+    ghost use Rattle.std.specs.FinMap.{code};
+    ghost use Rattle.jc_world.specs.Turns.{OrderedStripes, ordered, IsMergeable};
+
+    ghost Value = { OrderedStripes };
+
+    ghost coded = { Prim.hlevel (codes, code) };
+
+    ghost view = { ordered };
+
+    ghost invariant = { IsMergeable };
+}
+
+impl Stripes {
+    /// An empty stripe for each number, and no event.
+    pub(crate) fn new(alloc: Global, config: &Config) -> Result<Self, AllocError>
+        requires { check config.now ≡ Ok tt }
+        ensures stripes { IfOk result (λ made. made.stripes ≡ empty_stripes config.now 0 config.now.stripes) }
+        ensures order { IfOk result (λ made. made.order ≡ []) }
+    {
+        let items = make_stripes(alloc, config)?;
+        Ok(Stripes {
+            items,
+            turns: Vec::new(alloc),
+        })
+    }
+
+    /// Takes room for what one phase may append, before its first change.
+    pub(crate) fn reserve(&mut self) -> Result<(), AllocError>
+        ensures same { self.new ≡ record self.old { room = self.new.room } }
+        ensures room { OnOk result (STEP_PLACES + JOINERS_MAX ≤ self.new.room) }
+    {
+        self.turns.try_reserve(EVENTS_MAX)
+    }
+
+    /// The first phase of a call on the stripe of its key. What it appends is at the end of the order, too.
+    pub(crate) fn begin(&mut self, number: usize, u: &Under) -> Begun
+        requires begins { IsSomeAnd (slice_get self.old.stripes number) (λ s. MayBegin s u.now.caller u.now.command.key) }
+        requires phases { has_phases u.now.command.op ≡ true }
+        requires room { STEP_PLACES + JOINERS_MAX ≤ self.old.room }
+        ensures { IsPhase self.old number (λ from to. Begins from u.now.caller u.now.command.key u.now.command.op result to) self.new }
+    {
+        grows();
+        let stripe = &mut self.items[number];
+        let before = history_len(stripe);
+        let begun = stripe.begin(u.caller, &u.command.key, &u.command.op);
+        give_turns(&mut self.turns, number, stripe, before);
+        begun
+    }
+
+    /// The last phase of a key on its stripe. What it appends is at the end of the order, too.
+    pub(crate) fn commit(&mut self, number: usize, slot: Slot) -> StepDone
+        requires out { IsSomeAnd (slice_get self.old.stripes number) (λ s. IsOut s slot.1.reservation × KindFits slot.1.reservation.first slot.1 (entry_at s.cache slot.0) × (s.origin ≡ Played)) }
+        requires answered { is_answered (Some slot.1) ≡ true }
+        requires room { STEP_PLACES + JOINERS_MAX ≤ self.old.room }
+        ensures { IsPhase self.old number (λ from to. Commits from slot.1.reservation (out_of slot.1) result to) self.new }
+    {
+        grows();
+        let stripe = &mut self.items[number];
+        let before = history_len(stripe);
+        let done = slot.end(stripe);
+        give_turns(&mut self.turns, number, stripe, before);
+        done
+    }
+
+    /// Gives a key's reservation back.
+    pub(crate) fn withdraw(&mut self, number: usize, slot: Slot)
+        requires { IsSomeAnd (slice_get self.old.stripes number) (λ s. IsOut s slot.1.reservation) }
+        ensures { IsQuietPhase self.old number (λ from to. Withdraws from slot.1.reservation to) self.new }
+    {
+        let stripe = &mut self.items[number];
+        slot.withdraw(stripe);
+    }
+
+    /// Asks for the answer of the load that a call has joined.
+    pub(crate) fn pick_up(&mut self, number: usize, join: Join) -> Picked
+        requires { IsSomeAnd (slice_get self.old.stripes number) (λ s. IsJoined s join) }
+        ensures { IsQuietPhase self.old number (λ from to. PicksUp from join result to) self.new }
+    {
+        let stripe = &mut self.items[number];
+        stripe.pick_up(join)
+    }
+
+    /// How many events there are.
+    pub(crate) fn events_len(&self) -> usize
+        ensures { result ≡ length self.now.order }
+    {
+        self.turns.len()
+    }
+
+    /// All events in their order.
+    pub(crate) fn order(&self, alloc: Global) -> Result<Vec<Event>, AllocError>
+        ensures { IfOk result (λ order. order.items ≡ self.now.order) }
+    {
+        merge(alloc, &self.items, &self.turns)
+    }
+
+    /// The stripes.
+    pub(crate) fn items(&self) -> &[Stripe]
+        ensures { result.now ≡ self.now.stripes }
+    {
+        &self.items
+    }
+
+    /// The stripes, for one who ends them.
+    pub(crate) fn into_items(self) -> Vec<Stripe>
+        ensures { result.items ≡ self.stripes }
+    {
+        let Stripes { items, turns: _ } = self;
+        items
+    }
+}
 
 /// An empty stripe for each number.
-pub(crate) fn make_stripes(alloc: Global, config: &Config) -> Result<Vec<Stripe>, AllocError>
+fn make_stripes(alloc: Global, config: &Config) -> Result<Vec<Stripe>, AllocError>
     requires { check config.now ≡ Ok tt }
     ensures { IfOk result (λ made. made.items ≡ empty_stripes config.now 0 config.now.stripes) }
 {
@@ -43,11 +166,23 @@ fn history_len(stripe: &Stripe) -> usize
     stripe.events_len()
 }
 
-/// Copies the events of a stripe's history, from a place on, to the end of an order that has room.
-fn append_in_room(order: &mut Vec<Event>, stripe: &Stripe, from: usize)
+/// Gives a stripe a turn for each event that its history has from a place on. There is room for them.
+fn give_turns(turns: &mut Vec<u8>, number: usize, stripe: &Stripe, from: usize)
+    requires number { number < STRIPES_MAX }
     requires place { from ≤ length stripe.now.history }
-    requires room { vec_len order.old + (length stripe.now.history - from) ≤ vec_capacity order.old }
-    ensures { order.new.items ≡ order.old.items ++ drop from stripe.now.history }
+    requires room { vec_len turns.old + (length stripe.now.history - from) ≤ vec_capacity turns.old }
+    ensures { turns.new.items ≡ turns.old.items ++ replicate (length stripe.now.history - from) number }
+{
+    for place in from..history_len(stripe) {
+        turns.push_reserved(number as u8);
+    }
+}
+
+/// The merge of the stripes' histories by turns.
+fn merge(alloc: Global, stripes: &[Stripe], turns: &[u8]) -> Result<Vec<Event>, AllocError>
+    requires turns { AreTurns stripes.now turns.now }
+    requires count { length stripes.now ≤ STRIPES_MAX }
+    ensures { IfOk result (λ order. order.items ≡ merged (history_at stripes.now) turns.now) }
 {
     // Names the types of the values that a generic call moves here: the prover looks for their models in the types that a
     // function names.
@@ -63,71 +198,15 @@ fn append_in_room(order: &mut Vec<Event>, stripe: &Stripe, from: usize)
             Value,
         ),
     > = None;
-    for place in from..history_len(stripe) {
-        push_in_room(order, stripe.event(place));
+    let mut order = Vec::with_capacity(alloc, turns.len())?;
+    let mut taken = [0usize; STRIPES_MAX];
+    for turn in turns {
+        let number = *turn as usize;
+        let place = taken[number];
+        order.push_reserved(stripes[number].event(place));
+        taken[number] = place + 1;
     }
-}
-
-/// The first phase of a call on the stripe of its key. What it appends goes to the end of the order, too.
-pub(crate) fn begin_at(
-    stripes: &mut Vec<Stripe>,
-    order: &mut Vec<Event>,
-    number: usize,
-    u: &Under,
-) -> Begun
-    requires begins { IsSomeAnd (slice_get stripes.old.items number) (λ s. MayBegin s u.now.caller u.now.command.key) }
-    requires phases { has_phases u.now.command.op ≡ true }
-    requires room { vec_len order.old + (STEP_PLACES + JOINERS_MAX) ≤ vec_capacity order.old }
-    ensures { (from : State) × (slice_get stripes.old.items number ≡ Some from) × (to : State)
-        × Begins from u.now.caller u.now.command.key u.now.command.op result to
-        × (stripes.new.items ≡ slice_set stripes.old.items number to) × (order.new.items ≡ order.old.items ++ drop (length from.history) to.history) }
-{
-    let stripe = &mut stripes[number];
-    let before = history_len(stripe);
-    let begun = stripe.begin(u.caller, &u.command.key, &u.command.op);
-    append_in_room(order, stripe, before);
-    begun
-}
-
-/// The last phase of a key on its stripe. What it appends goes to the end of the order, too.
-pub(crate) fn commit_at(
-    stripes: &mut Vec<Stripe>,
-    order: &mut Vec<Event>,
-    number: usize,
-    slot: Slot,
-) -> StepDone
-    requires out { IsSomeAnd (slice_get stripes.old.items number) (λ s. IsOut s slot.1.reservation × KindFits slot.1.reservation.first slot.1 (entry_at s.cache slot.0) × (s.origin ≡ Played)) }
-    requires answered { is_answered (Some slot.1) ≡ true }
-    requires room { vec_len order.old + (STEP_PLACES + JOINERS_MAX) ≤ vec_capacity order.old }
-    ensures { (from : State) × (slice_get stripes.old.items number ≡ Some from) × (to : State)
-        × Commits from slot.1.reservation (out_of slot.1) result to
-        × (stripes.new.items ≡ slice_set stripes.old.items number to) × (order.new.items ≡ order.old.items ++ drop (length from.history) to.history) }
-{
-    let stripe = &mut stripes[number];
-    let before = history_len(stripe);
-    let done = slot.end(stripe);
-    append_in_room(order, stripe, before);
-    done
-}
-
-/// Gives a key's reservation back.
-pub(crate) fn withdraw_at(stripes: &mut Vec<Stripe>, number: usize, slot: Slot)
-    requires { IsSomeAnd (slice_get stripes.old.items number) (λ s. IsOut s slot.1.reservation) }
-    ensures { (from : State) × (slice_get stripes.old.items number ≡ Some from) × (to : State)
-        × Withdraws from slot.1.reservation to × (stripes.new.items ≡ slice_set stripes.old.items number to) }
-{
-    let stripe = &mut stripes[number];
-    slot.withdraw(stripe);
-}
-
-/// Asks for the answer of the load that a call has joined.
-pub(crate) fn pick_up_at(stripes: &mut Vec<Stripe>, number: usize, join: Join) -> Picked
-    requires { IsSomeAnd (slice_get stripes.old.items number) (λ s. IsJoined s join) }
-    ensures { (from : State) × (slice_get stripes.old.items number ≡ Some from) × (to : State)
-        × PicksUp from join result to × (stripes.new.items ≡ slice_set stripes.old.items number to) }
-{
-    let stripe = &mut stripes[number];
-    stripe.pick_up(join)
+    Ok(order)
 }
 
 /// What is shown of a step of a stripe.

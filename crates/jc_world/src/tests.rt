@@ -121,7 +121,7 @@ fn has_a_legal_order_of_a_put(rt: HostRuntime) {
     let config = config(&rt, "open 1 2 100 read write");
     let mut world = played(&rt, alloc, PUT_ASKED);
     goes_on(&rt, alloc, &mut world, PUT_COMMITTED);
-    let mut events = world.order().to_vec(alloc).expect(&rt, "memory");
+    let mut events = world.order(alloc).expect(&rt, "memory");
     world.close();
     assert!(rt;
         legal(alloc, &config, &[], &events).expect(&rt, "memory"),

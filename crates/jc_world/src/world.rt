@@ -1,16 +1,14 @@
 //! A world: stripes beside a store, driven by a list of events, with what there is to see of it.
-ghost use Rattle.std.specs.Prelude.{[], ◌≡◌, ◌≤◌, ◌⊎◌, ◌<◌, true, IsTrue, IfOk, IfErr, IsOk, option_copied, OnErr, OnOk, Ok, Err, List, take, length};
+ghost use Rattle.std.specs.Prelude.{[], ◌≡◌, ◌≤◌, ◌⊎◌, ◌<◌, true, IsTrue, IfOk, IfErr, IsOk, option_copied, OnErr, OnOk, Ok, Err, take, length};
 ghost use Rattle.jc_types.specs.Limits.{check};
-ghost use Rattle.jc_world.specs.declared.event.Shown.{Shown};
 ghost use Rattle.jc_world.specs.World.{start, is_busy, under, part_of, is_joined, with_stored};
-ghost use Rattle.jc_world.specs.Events.{Run, StartFits};
+ghost use Rattle.jc_world.specs.Events.{RunAppending, StartFits};
 ghost use Rattle.jc_world.specs.Coherent.{all_hold, Coherent};
 ghost use Rattle.jc_world.specs.Audit.{IsOrder, HasParts, IsAudit};
 
 use crate::audit::Audit;
 use crate::event::{Part, PickedUp, Reported, Shown, Stepped, Under, WorldEvent};
 use crate::machine::Machine;
-use crate::room::push_in_room;
 use jc_model::{Change, Event, LoadAnswer, Reply};
 use jc_stripe::Eviction;
 use jc_stripe::phase_laws::{keeps_reserved, stays_reached};
@@ -68,13 +66,13 @@ impl World {
         self.machine.store(key, value)
     }
 
-    /// Plays events in their order, and says what each shows.
+    /// Plays events in their order, and appends what each shows to `shown`.
     ///
     /// An event that doesn't fit is shown as `Unfit` and changes nothing. After an error of memory exactly the first `played` events
-    /// were taken, and nothing of the others.
-    pub fn play(&mut self, alloc: Global, events: &[WorldEvent]) -> Result<Vec<Shown>, AllocError>
-        ensures run { IfOk result (λ seen. Run self.old.world events.now seen.items self.new.world × (self.new.taken ≡ length events.now)) }
-        ensures prefix { OnErr result ((self.new.taken ≤ length events.now) × ((seen : List Shown) × Run self.old.world (take self.new.taken events.now) seen self.new.world)) }
+    /// were taken, what they show is appended, and nothing of the others.
+    pub fn play(&mut self, events: &[WorldEvent], shown: &mut Vec<Shown>) -> Result<(), AllocError>
+        ensures run { OnOk result (RunAppending self.old.world events.now shown.old.items shown.new.items self.new.world × (self.new.taken ≡ length events.now)) }
+        ensures prefix { OnErr result ((self.new.taken ≤ length events.now) × RunAppending self.old.world (take self.new.taken events.now) shown.old.items shown.new.items self.new.world) }
     {
         // Names the types of the values that a generic call moves here: the prover looks for their models in the types that a
         // function names.
@@ -93,13 +91,13 @@ impl World {
         stays_reached();
         keeps_reserved();
         self.played = 0;
-        let mut all = Vec::with_capacity(alloc, events.len())?;
+        shown.try_reserve(events.len())?;
         for event in events {
             let seen = self.machine.step(event)?;
-            push_in_room(&mut all, seen);
+            shown.push_reserved(seen);
             self.played += 1;
         }
-        Ok(all)
+        Ok(())
     }
 
     /// How many events of the last list were taken.
@@ -111,12 +109,12 @@ impl World {
 
     /// All events, over all stripes: one legal history, and what is cached is what it leaves. The history of each stripe
     /// is its part of it: a place in a stripe, as it is shown, counts the events of that stripe alone.
-    pub fn order(&self) -> &[Event]
-        ensures order { result.now ≡ self.now.world.order }
+    pub fn order(&self, alloc: Global) -> Result<Vec<Event>, AllocError>
+        ensures order { IfOk result (λ order. order.items ≡ self.now.world.order) }
         ensures legal { IsOrder self.now.world }
         ensures parts { HasParts self.now.world }
     {
-        self.machine.order()
+        self.machine.order(alloc)
     }
 
     /// Whether no call has begun, and nobody else has written the store.

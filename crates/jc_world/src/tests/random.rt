@@ -289,9 +289,14 @@ impl Run {
         event: WorldEvent,
     ) -> Shown {
         let keys = self.pinned(rt, alloc, world);
-        let seen = world.play(alloc, &[event]).expect(rt, "memory");
-        self.shelf.reads_phase(rt, world.order(), &keys);
+        let mut seen = Vec::new(alloc);
+        world.play(&[event], &mut seen).expect(rt, "memory");
         let shown = seen.first().copied().expect(rt, "what is shown");
+        // No other event appends: what one did would be read as part of the next step, and not agree.
+        if matches!(shown, Shown::Stepped(_)) {
+            let order = world.order(alloc).expect(rt, "memory");
+            self.shelf.reads_phase(rt, &order, &keys);
+        }
         if let Some(count) = self.shown.get_mut(kind(&shown)) {
             *count = count.saturating_add(1);
         }
@@ -330,8 +335,9 @@ impl Run {
 
     /// The history of each stripe is legal, and the entries are what is read of the order.
     fn agrees(&mut self, rt: &impl Abort, alloc: Global, world: &World, config: &Config) {
+        let order = world.order(alloc).expect(rt, "memory");
         for stripe in 0..config.stripes {
-            let history = self.shelf.history(rt, alloc, world.order(), stripe);
+            let history = self.shelf.history(rt, alloc, &order, stripe);
             assert!(rt; legal(alloc, config, &[], &history).expect(rt, "memory"));
         }
         let audit = world.audit(alloc).expect(rt, "memory");

@@ -7,7 +7,7 @@ use Rattle.jc_script.proofs.run.lines.Given as goal
 abbrev pub invariant-loop-text : goal.invariant-loop-text
 invariant-loop-text l =
     (l.number + length l.rest ≤ length l.input + 1)
-    × ((out : List ℕ) (end : RunEnd) → Transcript (state_of l.world) l.number (pieces_of l.rest) out end → IsTranscript l.input (l.out.items ++ out) end)
+    × ((out : List ℕ) (end : RunEnd) → Transcript (state_of l.player.world) l.number (pieces_of l.rest) out end → IsTranscript l.input (l.out.items ++ out) end)
 
 abbrev pub decreases-loop-text : goal.decreases-loop-text
 decreases-loop-text l = length l.rest

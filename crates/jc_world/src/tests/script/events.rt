@@ -228,7 +228,8 @@ fn read(rt: &impl Abort, alloc: Global, lines: &str) -> Vec<WorldEvent> {
 pub fn play(rt: &impl Abort, alloc: Global, world: &mut World, lines: &str) {
     let events = read(rt, alloc, lines);
     assert!(rt; !events.is_empty(), "an event");
-    let all = world.play(alloc, &events).expect(rt, "memory");
+    let mut all = Vec::new(alloc);
+    world.play(&events, &mut all).expect(rt, "memory");
     let are_played = all.len() == events.len() && world.played() == events.len();
     assert!(rt; are_played, "each event is played");
     for (line, seen) in lines.lines().zip(all.iter()) {

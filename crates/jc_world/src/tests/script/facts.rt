@@ -99,7 +99,10 @@ fn holds(rt: &impl Abort, alloc: Global, world: &World, audit: &Audit, words: &m
         "busy" => world.is_busy(words.session(rt)),
         "idle" => !world.is_busy(words.session(rt)),
         "last" => world.last() == number_or_none(rt, words),
-        "order" => are_keys(rt, alloc, &keys_at(rt, alloc, world.order()), words),
+        "order" => {
+            let order = world.order(alloc).expect(rt, "memory");
+            are_keys(rt, alloc, &keys_at(rt, alloc, &order), words)
+        }
         name => audit_shows(rt, alloc, audit, name, words),
     }
 }
@@ -108,10 +111,8 @@ fn holds(rt: &impl Abort, alloc: Global, world: &World, audit: &Audit, words: &m
 pub fn hold(rt: &impl Abort, alloc: Global, world: &World, lines: &str) {
     assert!(rt; !lines.is_empty(), "a fact");
     let audit = world.audit(alloc).expect(rt, "memory");
-    assert!(rt;
-        audit.events == world.order().len(),
-        "all events are in the order"
-    );
+    let order = world.order(alloc).expect(rt, "memory");
+    assert!(rt; audit.events == order.len(), "all events are in the order");
     for line in lines.lines() {
         let mut words = Words::of(line);
         assert!(rt; holds(rt, alloc, world, &audit, &mut words), "{line}");

@@ -1,8 +1,6 @@
-use Rattle.std.proofs.Common.{◌≡◌, ◌++◌, ◌∷◌, [], length, drop, ℕ, List, Some, IsSomeAnd, slice_get, slice_set, sym, subst, ap, ◌∙◌}
+use Rattle.std.proofs.Common.{◌≡◌, ◌++◌, ◌∷◌, [], ℕ, Some, IsSomeAnd, slice_get, refl, sym, subst, ap, ◌∙◌}
 use Rattle.jc_types.specs.Stripes.{stripe_of}
-use Rattle.jc_model.specs.declared.event.Event.{Event}
-use Rattle.jc_stripe.specs.State.{State}
-use Rattle.jc_stripe.specs.Phases.{MayBegin, Begins}
+use Rattle.jc_stripe.specs.Phases.{MayBegin}
 use Rattle.jc_stripe.specs.declared.begun.Begun.{Begun}
 use Rattle.jc_stripe.specs.declared.begun.Begun.TheVariants as begun
 use Rattle.jc_world.specs.declared.event.Under.{Under}
@@ -13,132 +11,119 @@ use Rattle.jc_world.specs.World.{WorldState, under}
 use Rattle.jc_world.specs.Events.{new_part, Happens}
 use Rattle.jc_world.specs.Sound.{IsSoundWorld}
 use Rattle.jc_world.specs.Inside.{world_of}
+use Rattle.jc_world.specs.Turns.{OrderedStripes, IsPhase}
 use Rattle.jc_world.specs.Slots.{parts_of}
 use Rattle.jc_world.proofs.Slotted.{pushed}
-use Rattle.jc_world.proofs.Phased.{may_begin_at, phased_at, Phased, BeginsAs, started_done, started_refused, started_loads, started_joins, started_asks, free_load, free_write}
+use Rattle.jc_world.proofs.Phased.{may_begin_at, phased_at, Phased, phased_from, BeginsAs, started_done, started_refused, started_loads, started_joins, started_asks, free_load, free_write}
 use Rattle.jc_world.proofs.machine.Machine.start.Goals as goal
 
--- what a call of `begin_at` tells
-abbrev Told : List State → List Event → ℕ → Under → Begun → List State → List Event → Type 0
-Told stripes order number u b stripes' order' =
-    (from : State) × (slice_get stripes number ≡ Some from) × (to : State) × Begins from u.caller u.command.key u.command.op b to
-    × (stripes' ≡ slice_set stripes number to) × (order' ≡ order ++ drop (length from.history) to.history)
+-- what a call of `begin` tells, once it is known what was begun
+told : (v : WorldState) (old mid new : OrderedStripes) (number room : ℕ) (u : Under) (b b' : Begun) → old.stripes ≡ v.stripes → old.order ≡ v.order → mid ≡ record old { room = room } → b ≡ b' → IsPhase mid number (BeginsAs u b) new → Phased v number (BeginsAs u b') new.stripes new.order
+told v old mid new number room u b b' stripes_are order_are same is t =
+    let P : Begun → Type 0 = λ x. IsPhase mid number (BeginsAs u x) new in
+    phased_from v mid new number (BeginsAs u b') (ap (λ (s : OrderedStripes). s.stripes) same ∙ stripes_are) (ap (λ (s : OrderedStripes). s.order) same ∙ order_are) (subst P is t)
 
-abbrev phased : (v : WorldState) (order : List Event) (number : ℕ) (u : Under) (b : Begun) (stripes' : List State) (order' : List Event) → order ≡ v.order → Told v.stripes order number u b stripes' order' → Phased v number (BeginsAs u b) stripes' order'
-phased v order number u b stripes' order' same t =
-    record { from = t.0; at = t.1; to = t.2; made = t.3; stripes_are = t.4; order_is = t.5 ∙ ap (λ o. o ++ drop (length (t.0).history) (t.2).history) same }
-
--- what it tells of what was begun
-at_begun : (stripes : List State) (order : List Event) (number : ℕ) (u : Under) (b b' : Begun) (stripes' : List State) (order' : List Event) → b ≡ b' → Told stripes order number u b stripes' order' → Told stripes order number u b' stripes' order'
-at_begun stripes order number u b b' stripes' order' is t = let P : Begun → Type 0 = λ x. Told stripes order number u x stripes' order' in subst P is t
-
-pub begin_at-begun-requires-clause-begins : goal.begin_at-begun-requires-clause-begins
-begin_at-begun-requires-clause-begins c =
+pub begin-begun-requires-clause-begins : goal.begin-begun-requires-clause-begins
+begin-begun-requires-clause-begins c =
     let w = c.args.self.now in
     let u = c.in-Some.u in
     let is : under w c.args.call ≡ Some u = ap (λ (x : WorldState). under x c.args.call) (sym c.self.view_is) ∙ sym c.under.ensures ∙ sym c.copied.ensures ∙ c.in-Some.is in
     let P : WorldState → Type 0 = λ x. IsSomeAnd (slice_get x.stripes (stripe_of u.command.key x.config.stripes)) (λ s. MayBegin s u.caller u.command.key) in
-    let Q : ℕ → Type 0 = λ n. IsSomeAnd (slice_get c.self.inside.stripes.items n) (λ s. MayBegin s u.caller u.command.key) in
-    subst Q (sym c.stripe_of-number.ensures) (subst P (sym c.self.view_is) (may_begin_at w c.args.call c.args.key.now u c.requires.fits is c.requires.sound))
+    let Q : ℕ → Type 0 = λ n. IsSomeAnd (slice_get c.self.inside.stripes.stripes n) (λ s. MayBegin s u.caller u.command.key) in
+    let R : OrderedStripes → Type 0 = λ v. IsSomeAnd (slice_get v.stripes c.stripe_of-number.result) (λ s. MayBegin s u.caller u.command.key) in
+    subst R (sym c.in_ok-reserve.ensures.same) (subst Q (sym c.stripe_of-number.ensures) (subst P (sym c.self.view_is) (may_begin_at w c.args.call c.args.key.now u c.requires.fits is c.requires.sound)))
 
-pub begin_at-begun-requires-clause-phases : goal.begin_at-begun-requires-clause-phases
-begin_at-begun-requires-clause-phases c =
+pub begin-begun-requires-clause-phases : goal.begin-begun-requires-clause-phases
+begin-begun-requires-clause-phases c =
     phased_at c.args.self.now c.args.call c.in-Some.u (ap (λ (x : WorldState). under x c.args.call) (sym c.self.view_is) ∙ sym c.under.ensures ∙ sym c.copied.ensures ∙ c.in-Some.is) c.requires.sound
 
 pub invariant_of-self-in-Load : goal.invariant_of-self-in-Load
 invariant_of-self-in-Load c =
     let v : WorldState = world_of c.self.inside in
     let u = c.in-Some.u in
-    let t = at_begun c.self.inside.stripes.items c.try_reserve-3.new.self.items c.stripe_of-number.result u c.begin_at-begun.result (begun.Load c.in-Load.ticket) c.begin_at-begun.new.stripes.items c.begin_at-begun.new.order.items c.in-Load.is c.begin_at-begun.ensures in
-    let p = phased v c.try_reserve-3.new.self.items c.stripe_of-number.result u (begun.Load c.in-Load.ticket) c.begin_at-begun.new.stripes.items c.begin_at-begun.new.order.items c.in_ok-try_reserve-3.ensures.items t in
+    let p = told v c.self.inside.stripes c.reserve.new.self c.begin-begun.new.self c.stripe_of-number.result c.reserve.new.self.room u c.begin-begun.result (begun.Load c.in-Load.ticket) refl refl c.in_ok-reserve.ensures.same c.in-Load.is c.begin-begun.ensures in
     let free = free_load v u c.stripe_of-number.result c.in-Load.ticket _ _ c.stripe_of-number.ensures p (subst IsSoundWorld (sym c.self.view_is) c.requires.sound) in
     let slot : c.loading.result ≡ (u.command.key, new_part c.in-Load.ticket.reservation) = c.loading.ensures ∙ ap (λ k. (k, new_part c.in-Load.ticket.reservation)) free.1 in
-    let items : c.push_in_room.new.items.items ≡ c.self.inside.slots.items ++ (u.command.key, new_part c.in-Load.ticket.reservation) ∷ [] =
-    c.push_in_room.ensures.items ∙ (λ i. c.in_ok-try_reserve.ensures.items i ++ slot i ∷ []) in
-    (pushed c.self.inside.slots.items c.push_in_room.new.items.items u.command.key (new_part c.in-Load.ticket.reservation) free.0 items c.self.invariant).1
+    let items : c.push_reserved.new.self.items ≡ c.self.inside.slots.items ++ (u.command.key, new_part c.in-Load.ticket.reservation) ∷ [] =
+    c.push_reserved.ensures.items ∙ (λ i. c.in_ok-try_reserve.ensures.items i ++ slot i ∷ []) in
+    (pushed c.self.inside.slots.items c.push_reserved.new.self.items u.command.key (new_part c.in-Load.ticket.reservation) free.0 items c.self.invariant).1
 
 pub invariant_of-self-in-Write : goal.invariant_of-self-in-Write
 invariant_of-self-in-Write c =
     let v : WorldState = world_of c.self.inside in
     let u = c.in-Some.u in
-    let t = at_begun c.self.inside.stripes.items c.try_reserve-3.new.self.items c.stripe_of-number.result u c.begin_at-begun.result (begun.Write c.in-Write.ticket) c.begin_at-begun.new.stripes.items c.begin_at-begun.new.order.items c.in-Write.is c.begin_at-begun.ensures in
-    let p = phased v c.try_reserve-3.new.self.items c.stripe_of-number.result u (begun.Write c.in-Write.ticket) c.begin_at-begun.new.stripes.items c.begin_at-begun.new.order.items c.in_ok-try_reserve-3.ensures.items t in
+    let p = told v c.self.inside.stripes c.reserve.new.self c.begin-begun.new.self c.stripe_of-number.result c.reserve.new.self.room u c.begin-begun.result (begun.Write c.in-Write.ticket) refl refl c.in_ok-reserve.ensures.same c.in-Write.is c.begin-begun.ensures in
     let free = free_write v u c.stripe_of-number.result c.in-Write.ticket _ _ c.stripe_of-number.ensures p (subst IsSoundWorld (sym c.self.view_is) c.requires.sound) in
     let part : Part = new_part c.in-Write.ticket.reservation in
     let slot : c.writing-slot.result.0 ≡ (u.command.key, part) = c.writing-slot.ensures.slot ∙ ap (λ k. (k, part)) free.1 in
-    let items : c.push_in_room-in-Write.new.items.items ≡ c.self.inside.slots.items ++ (u.command.key, part) ∷ [] =
-    c.push_in_room-in-Write.ensures.items ∙ (λ i. c.in_ok-try_reserve.ensures.items i ++ slot i ∷ []) in
-    (pushed c.self.inside.slots.items c.push_in_room-in-Write.new.items.items u.command.key part free.0 items c.self.invariant).1
+    let items : c.push_reserved-in-Write.new.self.items ≡ c.self.inside.slots.items ++ (u.command.key, part) ∷ [] =
+    c.push_reserved-in-Write.ensures.items ∙ (λ i. c.in_ok-try_reserve.ensures.items i ++ slot i ∷ []) in
+    (pushed c.self.inside.slots.items c.push_reserved-in-Write.new.self.items u.command.key part free.0 items c.self.invariant).1
 
 pub returns-in-Done-clause-ok : goal.returns-in-Done-clause-ok
 returns-in-Done-clause-ok c =
     let v : WorldState = world_of c.self.inside in
     let u = c.in-Some.u in
     let is : under v c.args.call ≡ Some u = sym c.under.ensures ∙ sym c.copied.ensures ∙ c.in-Some.is in
-    let t = at_begun c.self.inside.stripes.items c.try_reserve-3.new.self.items c.stripe_of-number.result u c.begin_at-begun.result (begun.Done c.in-Done.done) c.begin_at-begun.new.stripes.items c.begin_at-begun.new.order.items c.in-Done.is c.begin_at-begun.ensures in
-    let p = phased v c.try_reserve-3.new.self.items c.stripe_of-number.result u (begun.Done c.in-Done.done) c.begin_at-begun.new.stripes.items c.begin_at-begun.new.order.items c.in_ok-try_reserve-3.ensures.items t in
+    let p = told v c.self.inside.stripes c.reserve.new.self c.begin-begun.new.self c.stripe_of-number.result c.reserve.new.self.room u c.begin-begun.result (begun.Done c.in-Done.done) refl refl c.in_ok-reserve.ensures.same c.in-Done.is c.begin-begun.ensures in
     let number = c.stripe_of-number.result in
-    let next = world_of (record c.self.inside { stripes = c.begin_at-begun.new.stripes; order = c.begin_at-begun.new.order; calls = c.drop_call.new.calls; slots = c.try_reserve.new.self; joins = c.try_reserve-2.new.self }) in
+    let next = world_of (record c.self.inside { stripes = c.begin-begun.new.self; calls = c.drop_call.new.calls; slots = c.try_reserve.new.self; joins = c.try_reserve-2.new.self }) in
     let R : WorldState → Type 0 = λ x. Happens x (event.Start c.args.call c.args.key.now) (shown.Stepped c.shown_of.result) next in
     subst R c.self.view_is (started_done v next c.args.call c.args.key.now u number c.in-Done.done c.shown_of.result _ _ is c.stripe_of-number.ensures p c.shown_of.ensures.step c.shown_of.ensures.stripe
-    (λ i. record v { stripes = c.begin_at-begun.new.stripes.items; order = c.begin_at-begun.new.order.items; calls = c.drop_call.ensures i; parts = parts_of (c.in_ok-try_reserve.ensures.items i); joins = c.in_ok-try_reserve-2.ensures.items i }))
+    (λ i. record v { stripes = c.begin-begun.new.self.stripes; order = c.begin-begun.new.self.order; calls = c.drop_call.ensures i; parts = parts_of (c.in_ok-try_reserve.ensures.items i); joins = c.in_ok-try_reserve-2.ensures.items i }))
 
 pub returns-in-Refused-clause-ok : goal.returns-in-Refused-clause-ok
 returns-in-Refused-clause-ok c =
     let v : WorldState = world_of c.self.inside in
     let u = c.in-Some.u in
     let is : under v c.args.call ≡ Some u = sym c.under.ensures ∙ sym c.copied.ensures ∙ c.in-Some.is in
-    let t = at_begun c.self.inside.stripes.items c.try_reserve-3.new.self.items c.stripe_of-number.result u c.begin_at-begun.result (begun.Refused c.in-Refused.refusal) c.begin_at-begun.new.stripes.items c.begin_at-begun.new.order.items c.in-Refused.is c.begin_at-begun.ensures in
-    let p = phased v c.try_reserve-3.new.self.items c.stripe_of-number.result u (begun.Refused c.in-Refused.refusal) c.begin_at-begun.new.stripes.items c.begin_at-begun.new.order.items c.in_ok-try_reserve-3.ensures.items t in
-    let next = world_of (record c.self.inside { stripes = c.begin_at-begun.new.stripes; order = c.begin_at-begun.new.order; calls = c.drop_call-in-Refused.new.calls; slots = c.try_reserve.new.self; joins = c.try_reserve-2.new.self }) in
+    let p = told v c.self.inside.stripes c.reserve.new.self c.begin-begun.new.self c.stripe_of-number.result c.reserve.new.self.room u c.begin-begun.result (begun.Refused c.in-Refused.refusal) refl refl c.in_ok-reserve.ensures.same c.in-Refused.is c.begin-begun.ensures in
+    let next = world_of (record c.self.inside { stripes = c.begin-begun.new.self; calls = c.drop_call-in-Refused.new.calls; slots = c.try_reserve.new.self; joins = c.try_reserve-2.new.self }) in
     let R : WorldState → Type 0 = λ x. Happens x (event.Start c.args.call c.args.key.now) (shown.Refused c.in-Refused.refusal) next in
     subst R c.self.view_is (started_refused v next c.args.call c.args.key.now u c.stripe_of-number.result c.in-Refused.refusal _ _ is c.stripe_of-number.ensures p
-    (λ i. record v { stripes = c.begin_at-begun.new.stripes.items; order = c.begin_at-begun.new.order.items; calls = c.drop_call-in-Refused.ensures i; parts = parts_of (c.in_ok-try_reserve.ensures.items i); joins = c.in_ok-try_reserve-2.ensures.items i }))
+    (λ i. record v { stripes = c.begin-begun.new.self.stripes; order = c.begin-begun.new.self.order; calls = c.drop_call-in-Refused.ensures i; parts = parts_of (c.in_ok-try_reserve.ensures.items i); joins = c.in_ok-try_reserve-2.ensures.items i }))
 
 pub returns-in-Load-clause-ok : goal.returns-in-Load-clause-ok
 returns-in-Load-clause-ok c =
     let v : WorldState = world_of c.self.inside in
     let u = c.in-Some.u in
     let is : under v c.args.call ≡ Some u = sym c.under.ensures ∙ sym c.copied.ensures ∙ c.in-Some.is in
-    let t = at_begun c.self.inside.stripes.items c.try_reserve-3.new.self.items c.stripe_of-number.result u c.begin_at-begun.result (begun.Load c.in-Load.ticket) c.begin_at-begun.new.stripes.items c.begin_at-begun.new.order.items c.in-Load.is c.begin_at-begun.ensures in
-    let p = phased v c.try_reserve-3.new.self.items c.stripe_of-number.result u (begun.Load c.in-Load.ticket) c.begin_at-begun.new.stripes.items c.begin_at-begun.new.order.items c.in_ok-try_reserve-3.ensures.items t in
+    let p = told v c.self.inside.stripes c.reserve.new.self c.begin-begun.new.self c.stripe_of-number.result c.reserve.new.self.room u c.begin-begun.result (begun.Load c.in-Load.ticket) refl refl c.in_ok-reserve.ensures.same c.in-Load.is c.begin-begun.ensures in
     let free = free_load v u c.stripe_of-number.result c.in-Load.ticket _ _ c.stripe_of-number.ensures p (subst IsSoundWorld (sym c.self.view_is) c.requires.sound) in
     let slot : c.loading.result ≡ (u.command.key, new_part c.in-Load.ticket.reservation) = c.loading.ensures ∙ ap (λ k. (k, new_part c.in-Load.ticket.reservation)) free.1 in
-    let items : c.push_in_room.new.items.items ≡ c.self.inside.slots.items ++ (u.command.key, new_part c.in-Load.ticket.reservation) ∷ [] =
-    c.push_in_room.ensures.items ∙ (λ i. c.in_ok-try_reserve.ensures.items i ++ slot i ∷ []) in
-    let put = pushed c.self.inside.slots.items c.push_in_room.new.items.items u.command.key (new_part c.in-Load.ticket.reservation) free.0 items c.self.invariant in
-    let next = world_of (record c.self.inside { stripes = c.begin_at-begun.new.stripes; order = c.begin_at-begun.new.order; slots = c.push_in_room.new.items; joins = c.try_reserve-2.new.self }) in
+    let items : c.push_reserved.new.self.items ≡ c.self.inside.slots.items ++ (u.command.key, new_part c.in-Load.ticket.reservation) ∷ [] =
+    c.push_reserved.ensures.items ∙ (λ i. c.in_ok-try_reserve.ensures.items i ++ slot i ∷ []) in
+    let put = pushed c.self.inside.slots.items c.push_reserved.new.self.items u.command.key (new_part c.in-Load.ticket.reservation) free.0 items c.self.invariant in
+    let next = world_of (record c.self.inside { stripes = c.begin-begun.new.self; slots = c.push_reserved.new.self; joins = c.try_reserve-2.new.self }) in
     let R : WorldState → Type 0 = λ x. Happens x (event.Start c.args.call c.args.key.now) shown.Loads next in
     subst R c.self.view_is (started_loads v next c.args.call c.args.key.now u c.stripe_of-number.result c.in-Load.ticket _ _ _ is c.stripe_of-number.ensures p put.0
-    (λ i. record v { stripes = c.begin_at-begun.new.stripes.items; order = c.begin_at-begun.new.order.items; parts = next.parts; joins = c.in_ok-try_reserve-2.ensures.items i }))
+    (λ i. record v { stripes = c.begin-begun.new.self.stripes; order = c.begin-begun.new.self.order; parts = next.parts; joins = c.in_ok-try_reserve-2.ensures.items i }))
 
 pub returns-in-Write-clause-ok : goal.returns-in-Write-clause-ok
 returns-in-Write-clause-ok c =
     let v : WorldState = world_of c.self.inside in
     let u = c.in-Some.u in
     let is : under v c.args.call ≡ Some u = sym c.under.ensures ∙ sym c.copied.ensures ∙ c.in-Some.is in
-    let t = at_begun c.self.inside.stripes.items c.try_reserve-3.new.self.items c.stripe_of-number.result u c.begin_at-begun.result (begun.Write c.in-Write.ticket) c.begin_at-begun.new.stripes.items c.begin_at-begun.new.order.items c.in-Write.is c.begin_at-begun.ensures in
-    let p = phased v c.try_reserve-3.new.self.items c.stripe_of-number.result u (begun.Write c.in-Write.ticket) c.begin_at-begun.new.stripes.items c.begin_at-begun.new.order.items c.in_ok-try_reserve-3.ensures.items t in
+    let p = told v c.self.inside.stripes c.reserve.new.self c.begin-begun.new.self c.stripe_of-number.result c.reserve.new.self.room u c.begin-begun.result (begun.Write c.in-Write.ticket) refl refl c.in_ok-reserve.ensures.same c.in-Write.is c.begin-begun.ensures in
     let free = free_write v u c.stripe_of-number.result c.in-Write.ticket _ _ c.stripe_of-number.ensures p (subst IsSoundWorld (sym c.self.view_is) c.requires.sound) in
     let part : Part = new_part c.in-Write.ticket.reservation in
     let slot : c.writing-slot.result.0 ≡ (u.command.key, part) = c.writing-slot.ensures.slot ∙ ap (λ k. (k, part)) free.1 in
-    let items : c.push_in_room-in-Write.new.items.items ≡ c.self.inside.slots.items ++ (u.command.key, part) ∷ [] =
-    c.push_in_room-in-Write.ensures.items ∙ (λ i. c.in_ok-try_reserve.ensures.items i ++ slot i ∷ []) in
-    let put = pushed c.self.inside.slots.items c.push_in_room-in-Write.new.items.items u.command.key part free.0 items c.self.invariant in
-    let next = world_of (record c.self.inside { stripes = c.begin_at-begun.new.stripes; order = c.begin_at-begun.new.order; slots = c.push_in_room-in-Write.new.items; joins = c.try_reserve-2.new.self }) in
+    let items : c.push_reserved-in-Write.new.self.items ≡ c.self.inside.slots.items ++ (u.command.key, part) ∷ [] =
+    c.push_reserved-in-Write.ensures.items ∙ (λ i. c.in_ok-try_reserve.ensures.items i ++ slot i ∷ []) in
+    let put = pushed c.self.inside.slots.items c.push_reserved-in-Write.new.self.items u.command.key part free.0 items c.self.invariant in
+    let next = world_of (record c.self.inside { stripes = c.begin-begun.new.self; slots = c.push_reserved-in-Write.new.self; joins = c.try_reserve-2.new.self }) in
     let R : WorldState → Type 0 = λ x. Happens x (event.Start c.args.call c.args.key.now) (shown.Asks c.writing-slot.result.1) next in
     subst R c.self.view_is (started_asks v next c.args.call c.args.key.now u c.stripe_of-number.result c.in-Write.ticket c.writing-slot.result.1 _ _ _ is c.stripe_of-number.ensures p c.writing-slot.ensures.change put.0
-    (λ i. record v { stripes = c.begin_at-begun.new.stripes.items; order = c.begin_at-begun.new.order.items; parts = next.parts; joins = c.in_ok-try_reserve-2.ensures.items i }))
+    (λ i. record v { stripes = c.begin-begun.new.self.stripes; order = c.begin-begun.new.self.order; parts = next.parts; joins = c.in_ok-try_reserve-2.ensures.items i }))
 
 pub returns-in-Joined-clause-ok : goal.returns-in-Joined-clause-ok
 returns-in-Joined-clause-ok c =
     let v : WorldState = world_of c.self.inside in
     let u = c.in-Some.u in
     let is : under v c.args.call ≡ Some u = sym c.under.ensures ∙ sym c.copied.ensures ∙ c.in-Some.is in
-    let t = at_begun c.self.inside.stripes.items c.try_reserve-3.new.self.items c.stripe_of-number.result u c.begin_at-begun.result (begun.Joined c.in-Joined.join) c.begin_at-begun.new.stripes.items c.begin_at-begun.new.order.items c.in-Joined.is c.begin_at-begun.ensures in
-    let p = phased v c.try_reserve-3.new.self.items c.stripe_of-number.result u (begun.Joined c.in-Joined.join) c.begin_at-begun.new.stripes.items c.begin_at-begun.new.order.items c.in_ok-try_reserve-3.ensures.items t in
-    let items : c.push_in_room-in-Joined.new.items.items ≡ c.self.inside.joins.items ++ c.in-Joined.join ∷ [] = c.push_in_room-in-Joined.ensures.items ∙ ap (λ js. js ++ c.in-Joined.join ∷ []) c.in_ok-try_reserve-2.ensures.items in
-    let next = world_of (record c.self.inside { stripes = c.begin_at-begun.new.stripes; order = c.begin_at-begun.new.order; slots = c.try_reserve.new.self; joins = c.push_in_room-in-Joined.new.items }) in
+    let p = told v c.self.inside.stripes c.reserve.new.self c.begin-begun.new.self c.stripe_of-number.result c.reserve.new.self.room u c.begin-begun.result (begun.Joined c.in-Joined.join) refl refl c.in_ok-reserve.ensures.same c.in-Joined.is c.begin-begun.ensures in
+    let items : c.push_reserved-in-Joined.new.self.items ≡ c.self.inside.joins.items ++ c.in-Joined.join ∷ [] = c.push_reserved-in-Joined.ensures.items ∙ ap (λ js. js ++ c.in-Joined.join ∷ []) c.in_ok-try_reserve-2.ensures.items in
+    let next = world_of (record c.self.inside { stripes = c.begin-begun.new.self; slots = c.try_reserve.new.self; joins = c.push_reserved-in-Joined.new.self }) in
     let R : WorldState → Type 0 = λ x. Happens x (event.Start c.args.call c.args.key.now) shown.Joins next in
     subst R c.self.view_is (started_joins v next c.args.call c.args.key.now u c.stripe_of-number.result c.in-Joined.join _ _ _ is c.stripe_of-number.ensures p items
-    (λ i. record v { stripes = c.begin_at-begun.new.stripes.items; order = c.begin_at-begun.new.order.items; joins = c.push_in_room-in-Joined.new.items.items; parts = parts_of (c.in_ok-try_reserve.ensures.items i) }))
+    (λ i. record v { stripes = c.begin-begun.new.self.stripes; order = c.begin-begun.new.self.order; joins = c.push_reserved-in-Joined.new.self.items; parts = parts_of (c.in_ok-try_reserve.ensures.items i) }))

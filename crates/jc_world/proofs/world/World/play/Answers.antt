@@ -1,6 +1,5 @@
-use Rattle.std.proofs.Common.{◌+◌, take, List, sym, subst, ap, ◌∙◌, arith}
+use Rattle.std.proofs.Common.{◌+◌, ◌++◌, ◌∷◌, [], List, ap, ◌∙◌, arith, append_assoc}
 use Rattle.jc_world.specs.declared.event.Shown.{Shown}
-use Rattle.jc_world.specs.Events.{Run}
 use Rattle.jc_world.proofs.Runs.{run-more}
 use Rattle.jc_world.proofs.Sounding.{sound_step}
 use Rattle.jc_world.proofs.world.World.play.Goals as goal
@@ -9,13 +8,15 @@ pub loop-event-preserved : goal.loop-event-preserved
 loop-event-preserved c =
     let i = c.loop-event.invariant in
     let index = c.loop-event.event-index in
-    let events = c.args.events.now in
-    let P : List Shown → Type 0 = λ ss. Run c.args.self.now.world (take (index + 1) events) ss c.step.new.self in
+    let seen = c.in_ok-seen.seen in
+    let first = i.run.0 in
     record {
-      run = subst P (sym c.push_in_room.ensures.items)
-          (run-more c.args.self.now.world c.loop-event.self-inside.machine c.step.new.self events index c.event-item.result c.loop-event.all.items c.in_ok-seen.seen c.loop-event-test.true c.event-item.is i.run c.in_ok-seen.ensures.step);
-      sound = sound_step (record { stays = c.stays_reached.ensures; kept = c.keeps_reserved.ensures }) c.loop-event.self-inside.machine c.event-item.result c.in_ok-seen.seen c.step.new.self c.in_ok-seen.ensures.step i.sound;
+      run = (
+        first ++ seen ∷ [],
+        run-more c.args.self.now.world c.loop-event.self-inside.machine c.step.new.self c.args.events.now index c.event-item.result first seen c.loop-event-test.true c.event-item.is i.run.1 c.in_ok-seen.ensures.step,
+        c.push_reserved.ensures.items ∙ ap (λ (ss : List Shown). ss ++ seen ∷ []) i.run.2 ∙ append_assoc c.args.shown.now.items first (seen ∷ []),
+      );
+      sound = sound_step (record { stays = c.stays_reached.ensures; kept = c.keeps_reserved.ensures }) c.loop-event.self-inside.machine c.event-item.result seen c.step.new.self c.in_ok-seen.ensures.step i.sound;
       taken = ap (λ n. n + 1) i.taken;
-      shown = c.push_in_room.ensures.len ∙ ap (λ n. n + 1) i.shown;
-      room = let h = c.push_in_room.ensures.capacity in let r = i.room in omega arith;
+      room = let l = c.push_reserved.ensures.len in let h = c.push_reserved.ensures.capacity in let r = i.room in let t = c.loop-event-test.true in omega arith;
     }

@@ -1,13 +1,13 @@
-use Rattle.std.proofs.Common.{◌≡◌, ◌≤◌, take, length, vec_len, vec_capacity}
-use Rattle.jc_world.specs.Events.{Run}
+use Rattle.std.proofs.Common.{◌≡◌, ◌+◌, ◌-◌, ◌≤◌, take, length, vec_len, vec_capacity}
+use Rattle.jc_world.specs.Events.{RunAppending}
 use Rattle.jc_world.specs.Sound.{IsSoundWorld}
 use Rattle.jc_world.proofs.world.World.play.Given as goal
 
+-- what was played so far, and there is room for what the others show
 abbrev pub invariant-loop-event : goal.invariant-loop-event
 invariant-loop-event l = record {
-  run : Run l.fn.self.world (take l.event-index l.events) l.all.items l.self-inside.machine;
+  run : RunAppending l.fn.self.world (take l.event-index l.events) l.fn.shown.items l.shown.items l.self-inside.machine;
   sound : IsSoundWorld l.self-inside.machine;
   taken : l.self-inside.played ≡ l.event-index;
-  shown : vec_len l.all ≡ l.event-index;
-  room : length l.events ≤ vec_capacity l.all;
+  room : vec_len l.shown + (length l.events - l.event-index) ≤ vec_capacity l.shown;
 }

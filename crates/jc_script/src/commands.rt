@@ -1,0 +1,179 @@
+//! Operations as words: their names, and what stands after a name.
+ghost use Rattle.std.specs.Prelude.{◌≡◌, map, length};
+ghost use Rattle.jc_script.specs.Lines.{form_named, takes_words, bare_op, valued_op, bare_of, valued_of, value_alone_of, replace_if_of, command_of};
+
+use crate::fault::Fault;
+use crate::words::{is, key, value};
+use jc_model::Op;
+use jc_types::Value;
+use jc_world::event::Command;
+
+/// An operation with no value.
+#[derive(Clone, Copy)]
+pub enum Bare {
+    Get,
+    Contains,
+    Remove,
+    GetRemove,
+}
+
+/// An operation with one value.
+#[derive(Clone, Copy)]
+pub enum Valued {
+    Put,
+    GetPut,
+    PutIf,
+    RemoveIf,
+    Replace,
+    GetReplace,
+}
+
+/// What stands after an operation's name: its key, and as many values.
+#[derive(Clone, Copy)]
+pub enum Form {
+    Bare(Bare),
+    Valued(Valued),
+    /// The old value and the new one.
+    ReplaceIf,
+}
+
+/// The operation that a word names.
+pub fn read_form(word: &[u8]) -> Result<Form, Fault>
+    ensures { result ≡ form_named word.now }
+{
+    if is(word, "get") {
+        return Ok(Form::Bare(Bare::Get));
+    }
+    if is(word, "contains") {
+        return Ok(Form::Bare(Bare::Contains));
+    }
+    if is(word, "put") {
+        return Ok(Form::Valued(Valued::Put));
+    }
+    if is(word, "getput") {
+        return Ok(Form::Valued(Valued::GetPut));
+    }
+    if is(word, "putif") {
+        return Ok(Form::Valued(Valued::PutIf));
+    }
+    if is(word, "remove") {
+        return Ok(Form::Bare(Bare::Remove));
+    }
+    if is(word, "removeif") {
+        return Ok(Form::Valued(Valued::RemoveIf));
+    }
+    if is(word, "getremove") {
+        return Ok(Form::Bare(Bare::GetRemove));
+    }
+    if is(word, "replace") {
+        return Ok(Form::Valued(Valued::Replace));
+    }
+    if is(word, "replaceif") {
+        return Ok(Form::ReplaceIf);
+    }
+    if is(word, "getreplace") {
+        return Ok(Form::Valued(Valued::GetReplace));
+    }
+    Err(Fault::BadLine)
+}
+
+/// Whether so many words stand after an operation's name: its key, and the values that it takes.
+pub fn has_shape(form: Form, count: usize) -> bool
+    ensures { result ≡ takes_words form count }
+{
+    match form {
+        Form::Bare(_) => count == 1,
+        Form::Valued(_) => count == 2,
+        Form::ReplaceIf => count == 3,
+    }
+}
+
+fn op_bare(bare: Bare) -> Op
+    ensures { result ≡ bare_op bare }
+{
+    match bare {
+        Bare::Get => Op::Get,
+        Bare::Contains => Op::ContainsKey,
+        Bare::Remove => Op::Remove,
+        Bare::GetRemove => Op::GetAndRemove,
+    }
+}
+
+fn op_valued(valued: Valued, value: Value) -> Op
+    ensures { result ≡ valued_op valued value }
+{
+    match valued {
+        Valued::Put => Op::Put(value),
+        Valued::GetPut => Op::GetAndPut(value),
+        Valued::PutIf => Op::PutIfAbsent(value),
+        Valued::RemoveIf => Op::RemoveIf(value),
+        Valued::Replace => Op::Replace(value),
+        Valued::GetReplace => Op::GetAndReplace(value),
+    }
+}
+
+fn bare_command(bare: Bare, words: &[&[u8]]) -> Result<Command, Fault>
+    ensures { result ≡ bare_of bare (map (λ w. w.now) words.now) }
+{
+    match words {
+        [k] => {
+            let key = key(k)?;
+            let op = op_bare(bare);
+            Ok(Command { op, key })
+        }
+        _ => Err(Fault::BadLine),
+    }
+}
+
+fn valued_command(valued: Valued, words: &[&[u8]]) -> Result<Command, Fault>
+    ensures { result ≡ valued_of valued (map (λ w. w.now) words.now) }
+{
+    match words {
+        [k, v] => {
+            let key = key(k)?;
+            let value = value(v)?;
+            let op = op_valued(valued, value);
+            Ok(Command { op, key })
+        }
+        _ => Err(Fault::BadLine),
+    }
+}
+
+fn value_alone(words: &[&[u8]]) -> Result<Value, Fault>
+    ensures { result ≡ value_alone_of (map (λ w. w.now) words.now) }
+{
+    match words {
+        [v] => value(v),
+        _ => Err(Fault::BadLine),
+    }
+}
+
+#[tactic(auto, unfolding(crate::specs::Lines::replace_if_of))]
+fn replace_if_command(words: &[&[u8]]) -> Result<Command, Fault>
+    ensures { result ≡ replace_if_of (map (λ w. w.now) words.now) }
+{
+    match words {
+        [k, v, rest @ ..] => {
+            let key = key(k)?;
+            let held = value(v)?;
+            let next = value_alone(rest)?;
+            let op = Op::ReplaceIf {
+                old: held,
+                new: next,
+            };
+            Ok(Command { op, key })
+        }
+        _ => Err(Fault::BadLine),
+    }
+}
+
+/// The operation of a form, with the key and the values that the words after its name say.
+pub fn command(form: Form, words: &[&[u8]]) -> Result<Command, Fault>
+    ensures { result ≡ command_of form (map (λ w. w.now) words.now) }
+{
+    match form {
+        Form::Bare(bare) => bare_command(bare, words),
+        Form::Valued(valued) => valued_command(valued, words),
+        Form::ReplaceIf => replace_if_command(words),
+    }
+}

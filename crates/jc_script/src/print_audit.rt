@@ -1,0 +1,102 @@
+//! An audit, as lines.
+ghost use Rattle.std.specs.Prelude.{◌≡◌, ◌++◌, OnOk, decimal, codes, List, ℕ};
+ghost use Rattle.std.specs.List.{flat_map};
+ghost use Rattle.jc_script.specs.Printing.{entry_text, entries_line, key_text, differs_line, coherence_text, legal_name, history_line, audit_text};
+
+use crate::printing::{put, put_key, put_number, put_value};
+use jc_types::{Key, Value};
+use jc_world::audit::Audit;
+use std::alloc::AllocError;
+
+#[tactic(auto, unfolding(crate::specs::Printing::entry_text))]
+fn put_entry(out: &mut Vec<u8>, entry: &(Key, Value)) -> Result<(), AllocError>
+    ensures { OnOk result (out.new.items ≡ out.old.items ++ entry_text entry.now) }
+{
+    put(out, " ")?;
+    put_key(out, &entry.0)?;
+    put(out, "=")?;
+    put_value(out, &entry.1)
+}
+
+fn put_entries(out: &mut Vec<u8>, entries: &[(Key, Value)]) -> Result<(), AllocError>
+    ensures { OnOk result (out.new.items ≡ out.old.items ++ flat_map entry_text entries.now) }
+{
+    for entry in entries {
+        put_entry(out, entry)?;
+    }
+    Ok(())
+}
+
+#[tactic(auto, unfolding(crate::specs::Printing::entries_line))]
+fn put_entries_line(
+    out: &mut Vec<u8>,
+    name: &str,
+    entries: &[(Key, Value)],
+) -> Result<(), AllocError>
+    ensures { OnOk result (out.new.items ≡ out.old.items ++ entries_line name.now entries.now) }
+{
+    put(out, name)?;
+    put_entries(out, entries)?;
+    put(out, "\n")
+}
+
+#[tactic(auto, unfolding(crate::specs::Printing::key_text))]
+fn put_key_text(out: &mut Vec<u8>, key: &Key) -> Result<(), AllocError>
+    ensures { OnOk result (out.new.items ≡ out.old.items ++ key_text key.now) }
+{
+    put(out, " ")?;
+    put_key(out, key)
+}
+
+fn put_keys(out: &mut Vec<u8>, keys: &[Key]) -> Result<(), AllocError>
+    ensures { OnOk result (out.new.items ≡ out.old.items ++ flat_map key_text keys.now) }
+{
+    for key in keys {
+        put_key_text(out, key)?;
+    }
+    Ok(())
+}
+
+#[tactic(auto, unfolding(crate::specs::Printing::differs_line))]
+fn put_differs(out: &mut Vec<u8>, keys: &[Key]) -> Result<(), AllocError>
+    ensures { OnOk result (out.new.items ≡ out.old.items ++ differs_line keys.now) }
+{
+    put(out, "differs")?;
+    put_keys(out, keys)?;
+    put(out, "\n")
+}
+
+fn put_coherence(out: &mut Vec<u8>, keys: &[Key]) -> Result<(), AllocError>
+    ensures { OnOk result (out.new.items ≡ out.old.items ++ coherence_text keys.now) }
+{
+    match keys {
+        [] => put(out, "coherent\n"),
+        [_, ..] => put_differs(out, keys),
+    }
+}
+
+fn legality(is_legal: bool) -> &'static str
+    ensures { result.now ≡ legal_name is_legal }
+{
+    if is_legal { " legal\n" } else { " illegal\n" }
+}
+
+#[tactic(auto, unfolding(crate::specs::Printing::history_line))]
+fn put_history(out: &mut Vec<u8>, events: usize, is_legal: bool) -> Result<(), AllocError>
+    ensures { OnOk result (out.new.items ≡ out.old.items ++ history_line events is_legal) }
+{
+    put(out, "history ")?;
+    put_number(out, events as u64)?;
+    put(out, legality(is_legal))
+}
+
+/// What an audit says.
+#[tactic(auto, unfolding(crate::specs::Printing::audit_text))]
+pub fn put_audit(out: &mut Vec<u8>, audit: &Audit) -> Result<(), AllocError>
+    ensures { OnOk result (out.new.items ≡ out.old.items ++ audit_text audit.now.cache.items audit.now.store.items audit.now.differing.items audit.now.events audit.now.is_legal) }
+{
+    put_entries_line(out, "cache", &audit.cache)?;
+    put_entries_line(out, "store", &audit.store)?;
+    put_coherence(out, &audit.differing)?;
+    put_history(out, audit.events, audit.is_legal)
+}

@@ -1,0 +1,348 @@
+//! What a world shows of events, as lines.
+ghost use Rattle.std.specs.Prelude.{◌≡◌, ◌++◌, ◌-◌, OnOk, decimal, codes, List, ℕ};
+ghost use Rattle.jc_types.specs.Refusals.{refusal_name};
+ghost use Rattle.jc_script.specs.Printing.{subject, cause_name, evict_line, victim_text, evicted_text, outcome_text, stepped_text, picked_line, loads_line, write_line, delete_line, asks_text, joined_line, waits_line, again_line, dropped_line, refused_line, fails_line, answer_line, answer_text, done_name, change_name, fails_text, reported_text, shown_text, foreign_line, told, texts};
+
+use crate::printing::{
+    put, put_key, put_number, put_place, put_reply, put_value, put_value_or_none,
+};
+use jc_model::{Cause, Change, LoadAnswer, Reply};
+use jc_stripe::Eviction;
+use jc_types::{Key, Refusal, Value};
+use jc_world::event::{PickedUp, Reported, Shown, Stepped, WorldEvent};
+use std::alloc::AllocError;
+
+#[tactic(auto, unfolding(crate::specs::Printing::subject))]
+fn put_subject(out: &mut Vec<u8>, call: u64, key: &Key) -> Result<(), AllocError>
+    ensures { OnOk result (out.new.items ≡ out.old.items ++ subject call key.now) }
+{
+    put_number(out, call)?;
+    put(out, " ")?;
+    put_key(out, key)
+}
+
+fn name_of(cause: Cause) -> &'static str
+    ensures { result.now ≡ cause_name cause }
+{
+    match cause {
+        Cause::Full => "full",
+        Cause::Memory => "memory",
+    }
+}
+
+#[tactic(auto, unfolding(crate::specs::Printing::evict_line))]
+fn put_evict(
+    out: &mut Vec<u8>,
+    key: &Key,
+    cause: Cause,
+    stripe: usize,
+    place: u32,
+) -> Result<(), AllocError>
+    ensures { OnOk result (out.new.items ≡ out.old.items ++ evict_line key.now cause stripe place) }
+{
+    put(out, "evict ")?;
+    put_key(out, key)?;
+    put(out, " ")?;
+    put(out, name_of(cause))?;
+    put_place(out, stripe, place)?;
+    put(out, "\n")
+}
+
+fn put_victim(
+    out: &mut Vec<u8>,
+    victim: &Option<Key>,
+    stripe: usize,
+    place: u32,
+) -> Result<(), AllocError>
+    ensures { OnOk result (out.new.items ≡ out.old.items ++ victim_text victim.now stripe place) }
+{
+    match victim {
+        None => Ok(()),
+        Some(victim) => put_evict(out, victim, Cause::Full, stripe, place.saturating_sub(1)),
+    }
+}
+
+fn put_evicted(
+    out: &mut Vec<u8>,
+    key: &Key,
+    evicted: &Option<Eviction>,
+    stripe: usize,
+) -> Result<(), AllocError>
+    ensures { OnOk result (out.new.items ≡ out.old.items ++ evicted_text key.now evicted.now stripe) }
+{
+    match evicted {
+        None => Ok(()),
+        Some(gone) => put_evict(out, key, gone.cause, stripe, gone.place),
+    }
+}
+
+#[tactic(auto, unfolding(crate::specs::Printing::outcome_text))]
+fn put_outcome(
+    out: &mut Vec<u8>,
+    call: u64,
+    key: &Key,
+    reply: &Reply,
+    stripe: usize,
+    place: u32,
+) -> Result<(), AllocError>
+    ensures { OnOk result (out.new.items ≡ out.old.items ++ outcome_text call key.now reply.now stripe place) }
+{
+    put_subject(out, call, key)?;
+    put(out, " is ")?;
+    put_reply(out, reply)?;
+    put_place(out, stripe, place)
+}
+
+#[tactic(auto, unfolding(crate::specs::Printing::stepped_text))]
+fn put_stepped(out: &mut Vec<u8>, call: u64, key: &Key, seen: &Stepped) -> Result<(), AllocError>
+    ensures { OnOk result (out.new.items ≡ out.old.items ++ stepped_text call key.now seen.now) }
+{
+    put_victim(out, &seen.victim, seen.stripe, seen.place)?;
+    put_outcome(out, call, key, &seen.reply, seen.stripe, seen.place)?;
+    put(out, "\n")?;
+    put_evicted(out, key, &seen.evicted, seen.stripe)
+}
+
+#[tactic(auto, unfolding(crate::specs::Printing::picked_line))]
+fn put_picked(out: &mut Vec<u8>, call: u64, key: &Key, seen: &PickedUp) -> Result<(), AllocError>
+    ensures { OnOk result (out.new.items ≡ out.old.items ++ picked_line call key.now seen.now) }
+{
+    put_outcome(out, call, key, &seen.reply, seen.stripe, seen.place)?;
+    put(out, " shared ")?;
+    put_number(out, seen.shared as u64)?;
+    put(out, "\n")
+}
+
+#[tactic(auto, unfolding(crate::specs::Printing::loads_line))]
+fn put_loads(out: &mut Vec<u8>, call: u64, key: &Key) -> Result<(), AllocError>
+    ensures { OnOk result (out.new.items ≡ out.old.items ++ loads_line call key.now) }
+{
+    put_subject(out, call, key)?;
+    put(out, " load\n")
+}
+
+#[tactic(auto, unfolding(crate::specs::Printing::write_line))]
+fn put_write(out: &mut Vec<u8>, call: u64, key: &Key, value: &Value) -> Result<(), AllocError>
+    ensures { OnOk result (out.new.items ≡ out.old.items ++ write_line call key.now value.now) }
+{
+    put_subject(out, call, key)?;
+    put(out, " write ")?;
+    put_value(out, value)?;
+    put(out, "\n")
+}
+
+#[tactic(auto, unfolding(crate::specs::Printing::delete_line))]
+fn put_delete(out: &mut Vec<u8>, call: u64, key: &Key) -> Result<(), AllocError>
+    ensures { OnOk result (out.new.items ≡ out.old.items ++ delete_line call key.now) }
+{
+    put_subject(out, call, key)?;
+    put(out, " delete\n")
+}
+
+fn put_asks(out: &mut Vec<u8>, call: u64, key: &Key, change: &Change) -> Result<(), AllocError>
+    ensures { OnOk result (out.new.items ≡ out.old.items ++ asks_text call key.now change.now) }
+{
+    match change {
+        Change::Write(value) => put_write(out, call, key, value),
+        Change::Delete => put_delete(out, call, key),
+    }
+}
+
+#[tactic(auto, unfolding(crate::specs::Printing::joined_line))]
+fn put_joined(out: &mut Vec<u8>, call: u64, key: &Key) -> Result<(), AllocError>
+    ensures { OnOk result (out.new.items ≡ out.old.items ++ joined_line call key.now) }
+{
+    put_subject(out, call, key)?;
+    put(out, " joined\n")
+}
+
+#[tactic(auto, unfolding(crate::specs::Printing::waits_line))]
+fn put_waits(out: &mut Vec<u8>, call: u64, key: &Key) -> Result<(), AllocError>
+    ensures { OnOk result (out.new.items ≡ out.old.items ++ waits_line call key.now) }
+{
+    put_subject(out, call, key)?;
+    put(out, " waits\n")
+}
+
+#[tactic(auto, unfolding(crate::specs::Printing::again_line))]
+fn put_again(out: &mut Vec<u8>, call: u64, key: &Key) -> Result<(), AllocError>
+    ensures { OnOk result (out.new.items ≡ out.old.items ++ again_line call key.now) }
+{
+    put_subject(out, call, key)?;
+    put(out, " again\n")
+}
+
+#[tactic(auto, unfolding(crate::specs::Printing::dropped_line))]
+fn put_dropped(out: &mut Vec<u8>, call: u64) -> Result<(), AllocError>
+    ensures { OnOk result (out.new.items ≡ out.old.items ++ dropped_line call) }
+{
+    put_number(out, call)?;
+    put(out, " dropped\n")
+}
+
+#[tactic(auto, unfolding(crate::specs::Printing::refused_line))]
+fn put_refused(out: &mut Vec<u8>, call: u64, key: &Key, refusal: &Refusal) -> Result<(), AllocError>
+    ensures { OnOk result (out.new.items ≡ out.old.items ++ refused_line call key.now refusal.now) }
+{
+    put_subject(out, call, key)?;
+    put(out, " refused ")?;
+    put(out, refusal.name())?;
+    put(out, "\n")
+}
+
+#[tactic(auto, unfolding(crate::specs::Printing::fails_line))]
+fn put_fails(out: &mut Vec<u8>, call: u64, code: u32) -> Result<(), AllocError>
+    ensures { OnOk result (out.new.items ≡ out.old.items ++ fails_line call code) }
+{
+    put_number(out, call)?;
+    put(out, " fails ")?;
+    put_number(out, code as u64)?;
+    put(out, "\n")
+}
+
+#[tactic(auto, unfolding(crate::specs::Printing::answer_line))]
+fn put_answer_line(
+    out: &mut Vec<u8>,
+    call: u64,
+    key: &Key,
+    verb: &str,
+    value: &Option<Value>,
+) -> Result<(), AllocError>
+    ensures { OnOk result (out.new.items ≡ out.old.items ++ answer_line call key.now verb.now value.now) }
+{
+    put_subject(out, call, key)?;
+    put(out, verb)?;
+    put_value_or_none(out, value)?;
+    put(out, "\n")
+}
+
+fn put_answer(
+    out: &mut Vec<u8>,
+    call: u64,
+    key: &Key,
+    verb: &str,
+    answer: &LoadAnswer,
+) -> Result<(), AllocError>
+    ensures { OnOk result (out.new.items ≡ out.old.items ++ answer_text call key.now verb.now answer.now) }
+{
+    match answer {
+        LoadAnswer::NotAsked => Ok(()),
+        LoadAnswer::Found(value) => put_answer_line(out, call, key, verb, &Some(*value)),
+        LoadAnswer::Nothing => put_answer_line(out, call, key, verb, &None),
+        LoadAnswer::Failed(code) => put_fails(out, call, *code),
+    }
+}
+
+fn done(change: &Change) -> &'static str
+    ensures { result.now ≡ done_name change.now }
+{
+    match change {
+        Change::Write(_) => " written\n",
+        Change::Delete => " deleted\n",
+    }
+}
+
+fn changed(change: &Change, is_changed: bool) -> &'static str
+    ensures { result.now ≡ change_name change.now is_changed }
+{
+    if is_changed { done(change) } else { " left\n" }
+}
+
+fn put_fault_code(out: &mut Vec<u8>, call: u64, fault: Option<u32>) -> Result<(), AllocError>
+    ensures { OnOk result (out.new.items ≡ out.old.items ++ fails_text call fault) }
+{
+    match fault {
+        None => Ok(()),
+        Some(code) => put_fails(out, call, code),
+    }
+}
+
+#[tactic(auto, unfolding(crate::specs::Printing::reported_text))]
+fn put_reported(out: &mut Vec<u8>, call: u64, key: &Key, seen: &Reported) -> Result<(), AllocError>
+    ensures { OnOk result (out.new.items ≡ out.old.items ++ reported_text call key.now seen.now) }
+{
+    put_subject(out, call, key)?;
+    put(out, changed(&seen.change, seen.is_changed))?;
+    put_fault_code(out, call, seen.fault)
+}
+
+/// What was shown of an event of a call at a key.
+fn put_shown(out: &mut Vec<u8>, call: u64, key: &Key, seen: &Shown) -> Result<(), AllocError>
+    ensures { OnOk result (out.new.items ≡ out.old.items ++ shown_text call key.now seen.now) }
+{
+    match seen {
+        Shown::Begun => Ok(()),
+        Shown::Stepped(seen) => put_stepped(out, call, key, seen),
+        Shown::Loads => put_loads(out, call, key),
+        Shown::Asks(change) => put_asks(out, call, key, change),
+        Shown::Joins => put_joined(out, call, key),
+        Shown::Refused(refusal) => put_refused(out, call, key, refusal),
+        Shown::Reads(answer) => put_answer(out, call, key, " reads ", answer),
+        Shown::Says(answer) => put_answer(out, call, key, " says ", answer),
+        Shown::Changed => Ok(()),
+        Shown::Reported(seen) => put_reported(out, call, key, seen),
+        Shown::Withdrawn => Ok(()),
+        Shown::Left => put_dropped(out, call),
+        Shown::PickedUp(seen) => put_picked(out, call, key, seen),
+        Shown::Waits => put_waits(out, call, key),
+        Shown::Again => put_again(out, call, key),
+        Shown::Written => Ok(()),
+        Shown::Unfit => Ok(()),
+    }
+}
+
+#[tactic(auto, unfolding(crate::specs::Printing::foreign_line))]
+fn put_foreign(out: &mut Vec<u8>, key: &Key, value: &Option<Value>) -> Result<(), AllocError>
+    ensures { OnOk result (out.new.items ≡ out.old.items ++ foreign_line key.now value.now) }
+{
+    put(out, "foreign ")?;
+    put_key(out, key)?;
+    put(out, " ")?;
+    put_value_or_none(out, value)?;
+    put(out, "\n")
+}
+
+fn put_told(
+    out: &mut Vec<u8>,
+    about: &Key,
+    event: &WorldEvent,
+    seen: &Shown,
+) -> Result<(), AllocError>
+    ensures { OnOk result (out.new.items ≡ out.old.items ++ told about.now event.now seen.now) }
+{
+    match event {
+        WorldEvent::Call { .. } => Ok(()),
+        WorldEvent::Start { call, key } => put_shown(out, *call, key, seen),
+        WorldEvent::Read { call, key } => put_shown(out, *call, key, seen),
+        WorldEvent::Say { call, key, .. } => put_shown(out, *call, key, seen),
+        WorldEvent::Change { call, key } => put_shown(out, *call, key, seen),
+        WorldEvent::Report { call, .. } => put_shown(out, *call, about, seen),
+        WorldEvent::Commit { call, key } => put_shown(out, *call, key, seen),
+        WorldEvent::Withdraw { call, key } => put_shown(out, *call, key, seen),
+        WorldEvent::Leave { call } => put_shown(out, *call, about, seen),
+        WorldEvent::PickUp { call, key } => put_shown(out, *call, key, seen),
+        WorldEvent::Foreign { key, value } => put_foreign(out, key, value),
+    }
+}
+
+/// What was shown of events, of a line that is about this key.
+pub fn put_texts(
+    out: &mut Vec<u8>,
+    about: &Key,
+    events: &[WorldEvent],
+    seen: &[Shown],
+) -> Result<(), AllocError>
+    ensures { OnOk result (out.new.items ≡ out.old.items ++ texts about.now events.now seen.now) }
+{
+    let mut rest = seen;
+    for event in events {
+        match rest {
+            [] => return Ok(()),
+            [first, more @ ..] => {
+                put_told(out, about, event, first)?;
+                rest = more;
+            }
+        }
+    }
+    Ok(())
+}

@@ -1,0 +1,42 @@
+use Rattle.std.proofs.Common.{◌≡◌, slice_set, refl, sym, subst, ap, arith}
+use Rattle.jc_model.specs.Cache.{entry_at}
+use Rattle.jc_stripe.specs.State.{IsOut}
+use Rattle.jc_stripe.specs.Phases.{Commits}
+use Rattle.jc_stripe.specs.declared.ticket.Origin.TheVariants.{Played}
+use Rattle.jc_world.specs.World.{out_of}
+use Rattle.jc_world.specs.Sound.{KindFits}
+use Rattle.jc_world.specs.Turns.{AreTurns}
+use Rattle.jc_world.specs.Turns.{OrderedStripes}
+use Rattle.jc_world.proofs.Lengths.{ended_length, has_room}
+use Rattle.jc_world.proofs.Merging.{is_at, phase_made, grows_turns}
+use Rattle.jc_world.proofs.Shares.{length-slice_set}
+use Rattle.jc_world.proofs.stripes.Stripes.commit.Goals as goal
+
+pub give_turns-requires-clause-room : goal.give_turns-requires-clause-room
+give_turns-requires-clause-room c =
+    let from = c.index_mut-stripe.result.now in
+    let to = c.end-done.new.stripe in
+    let room = ap (λ (v : OrderedStripes). v.room) c.self.view_is in
+    let wanted = c.requires.room in
+    has_room _ _ c.history_len-before.result from to (omega arith) c.history_len-before.ensures.len (ended_length from to c.args.slot.1.reservation (out_of c.args.slot.1) _ c.history_len-before.ensures.reached c.end-done.ensures)
+
+pub invariant_of-self : goal.invariant_of-self
+invariant_of-self c =
+    let items = c.self.inside.items.items in
+    let from = c.index_mut-stripe.result.now in
+    let to = c.end-done.new.stripe in
+    let at = is_at c.self.inside c.args.self.now c.args.number from (λ s. IsOut s c.args.slot.1.reservation × KindFits c.args.slot.1.reservation.first c.args.slot.1 (entry_at s.cache c.args.slot.0) × (s.origin ≡ Played)) c.self.view_is c.requires.out c.index_mut-stripe.ensures.value in
+    let longer = c.grows.ensures.commits from to c.args.slot.1.reservation (out_of c.args.slot.1) c.end-done.result c.end-done.ensures in
+    record {
+      turns = subst (AreTurns (slice_set items c.args.number to)) (sym c.give_turns.ensures)
+          (grows_turns items c.self.inside.turns.items c.args.number c.history_len-before.result from to longer.more c.self.invariant.turns at longer.history c.history_len-before.ensures.len);
+      count = let e = length-slice_set items c.args.number to in let k = c.self.invariant.count in omega arith;
+    }
+
+pub returns : goal.returns
+returns c =
+    let from = c.index_mut-stripe.result.now in
+    let to = c.end-done.new.stripe in
+    let at = is_at c.self.inside c.args.self.now c.args.number from (λ s. IsOut s c.args.slot.1.reservation × KindFits c.args.slot.1.reservation.first c.args.slot.1 (entry_at s.cache c.args.slot.0) × (s.origin ≡ Played)) c.self.view_is c.requires.out c.index_mut-stripe.ensures.value in
+    let longer = c.grows.ensures.commits from to c.args.slot.1.reservation (out_of c.args.slot.1) c.end-done.result c.end-done.ensures in
+    phase_made c.self.inside c.args.self.now c.args.number c.history_len-before.result from to (λ old new. Commits old c.args.slot.1.reservation (out_of c.args.slot.1) c.end-done.result new) c.give_turns.new.turns.items _ c.self.view_is c.self.invariant at longer c.history_len-before.ensures.len c.end-done.ensures c.give_turns.ensures refl refl

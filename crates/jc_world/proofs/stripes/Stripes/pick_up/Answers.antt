@@ -1,0 +1,25 @@
+use Rattle.std.proofs.Common.{refl, arith}
+use Rattle.jc_stripe.specs.State.{IsJoined}
+use Rattle.jc_stripe.specs.Phases.{PicksUp}
+use Rattle.jc_world.proofs.Merging.{picked_same}
+use Rattle.jc_world.proofs.Merging.{is_at, quiet_made, stays_turns}
+use Rattle.jc_world.proofs.Shares.{length-slice_set}
+use Rattle.jc_world.proofs.stripes.Stripes.pick_up.Goals as goal
+
+pub invariant_of-self : goal.invariant_of-self
+invariant_of-self c =
+    let items = c.self.inside.items.items in
+    let from = c.index_mut-stripe.result.now in
+    let to = c.pick_up.new.self in
+    let at = is_at c.self.inside c.args.self.now c.args.number from (λ s. IsJoined s c.args.join) c.self.view_is c.requires c.index_mut-stripe.ensures.value in
+    record {
+      turns = stays_turns items c.self.inside.turns.items c.args.number from to c.self.invariant.turns at (picked_same from to c.args.join c.pick_up.result c.pick_up.ensures.picks_up);
+      count = let e = length-slice_set items c.args.number to in let k = c.self.invariant.count in omega arith;
+    }
+
+pub returns : goal.returns
+returns c =
+    let from = c.index_mut-stripe.result.now in
+    let to = c.pick_up.new.self in
+    let at = is_at c.self.inside c.args.self.now c.args.number from (λ s. IsJoined s c.args.join) c.self.view_is c.requires c.index_mut-stripe.ensures.value in
+    quiet_made c.self.inside c.args.self.now c.args.number from to (λ old new. PicksUp old c.args.join c.pick_up.result new) _ c.self.view_is at (picked_same from to c.args.join c.pick_up.result c.pick_up.ensures.picks_up) c.pick_up.ensures.picks_up refl refl

@@ -1,0 +1,70 @@
+-- The order of all events as turns: a number for each event, that of the stripe whose event it is.
+--     history_in       the history of a stripe, and nothing if there is none
+--     history_at       the history of the stripe with a number, and nothing if there is no such stripe
+--     turns_of         how many of some turns are a stripe's
+--     after_turn       what is left of each history once a stripe has had its turn
+--     merged           the merge of histories by turns: each turn takes the first event that is left of its stripe's history
+--     OrderedStripes   stripes, the order of all their events, and how many turns more there is room for
+--     ordered          what the fields of `Stripes` mean: the order is the merge of the stripes' histories
+--     IsPhase          a phase of the stripe with a number: what it appends to its history is at the end of the order, too
+--     IsQuietPhase     a phase that appends nothing: the order stays
+--     AreTurns         each stripe has as many turns as its history has events
+--     IsMergeable      what is true of the fields: that, and the number of stripes is within its limit, so a number fits a byte
+use Rattle.std.specs.Prelude.{◌≡◌, ◌==◌, ◌≤◌, ◌-◌, ℕ, List, [], ◌∷◌, ◌++◌, Option, None, Some, length, take, drop, count_by, slice_get, slice_set, vec_len, vec_capacity, if◌then◌else◌}
+use Rattle.jc_types.specs.declared.limits.TheConstants.{STRIPES_MAX}
+use Rattle.jc_model.specs.declared.event.Event.{Event}
+use Rattle.jc_stripe.specs.State.{State}
+use Rattle.jc_world.specs.declared.stripes.Stripes.TheInside.{Inside}
+
+abbrev pub history_in : Option State → List Event
+history_in None = []
+history_in (Some stripe) = stripe.history
+
+abbrev pub history_at : List State → ℕ → List Event
+history_at stripes number = history_in (slice_get stripes number)
+
+abbrev pub turns_of : ℕ → List ℕ → ℕ
+turns_of number turns = count_by (λ turn. turn == number) turns
+
+abbrev pub after_turn : (ℕ → List Event) → ℕ → ℕ → List Event
+after_turn left turn number = if turn == number then drop 1 (left number) else left number
+
+abbrev pub merged : (ℕ → List Event) → List ℕ → List Event
+merged left [] = []
+merged left (turn ∷ turns) = take 1 (left turn) ++ merged (after_turn left turn) turns
+
+pub record OrderedStripes : Type 0 where
+  pub stripes : List State
+  pub order : List Event
+  pub room : ℕ
+
+pub record IsPhase (old : OrderedStripes) (number : ℕ) (phase : State → State → Type 0) (new : OrderedStripes) : Type 0 where
+  pub from : State
+  pub at : slice_get old.stripes number ≡ Some from
+  pub to : State
+  pub made : phase from to
+  pub stripes_are : new.stripes ≡ slice_set old.stripes number to
+  pub order_is : new.order ≡ old.order ++ drop (length from.history) to.history
+
+pub record IsQuietPhase (old : OrderedStripes) (number : ℕ) (phase : State → State → Type 0) (new : OrderedStripes) : Type 0 where
+  pub from : State
+  pub at : slice_get old.stripes number ≡ Some from
+  pub to : State
+  pub made : phase from to
+  pub stripes_are : new.stripes ≡ slice_set old.stripes number to
+  pub order_is : new.order ≡ old.order
+
+abbrev pub ordered : Inside → OrderedStripes
+ordered s =
+    record {
+      stripes = s.items.items;
+      order = merged (history_at s.items.items) s.turns.items;
+      room = vec_capacity s.turns - vec_len s.turns;
+    }
+
+abbrev pub AreTurns : List State → List ℕ → Type 0
+AreTurns stripes turns = (number : ℕ) → turns_of number turns ≡ length (history_at stripes number)
+
+pub record IsMergeable (s : Inside) : Type 0 where
+  pub turns : AreTurns s.items.items s.turns.items
+  pub count : length s.items.items ≤ STRIPES_MAX
