@@ -39,6 +39,7 @@ use Rattle.jc_stripe.specs.Tickets.{Ticket, JoinClaim}
 use Rattle.jc_stripe.specs.State.{State, is_key, is_of, is_reserved, with_reservation, without_key}
 use Rattle.jc_stripe.specs.Refusals.{has_phases, reserves}
 use Rattle.jc_stripe.specs.Phases.{MayBegin, Begins, Commits, Withdraws, PicksUp, Steps, new_group, after_commit, with_joiner, without_joiner, is_other_call, is_other_join as is_join_apart}
+use Rattle.jc_stripe.specs.Laws.{IsSameStripe, Extends}
 use Rattle.jc_stripe.specs.Reached.{IsReached}
 use Rattle.jc_stripe.specs.Laws.{StaysReached}
 use Rattle.jc_world.specs.declared.event.Command.{Command}
@@ -56,7 +57,7 @@ use Rattle.jc_world.specs.Sound.{IsStripe, is_up_to, none_from, has_answer, is_t
 use Rattle.jc_world.proofs.Halves.{HasOrder}
 use Rattle.jc_world.proofs.Places.{at_stripe, stripe_put}
 use Rattle.jc_world.proofs.Reservations.{out_reserved, was_free, writer_alone}
-use Rattle.jc_world.proofs.Shares.{some_of, is_some_and, set_cases, all_filter, all_imply, found_test, turned_eq, Each, GoesOn, added, share_grows, share_stays, shape_same, shape_set, all_come, AllBy, by_map, by_group, added_order, numbers_added, none_added}
+use Rattle.jc_world.proofs.Shares.{some_of, is_some_and, set_cases, all_filter, all_imply, found_test, turned_eq, Each, added, share_grows, share_stays, shape_same, shape_set, all_come, AllBy, by_map, by_group, added_order, numbers_added, none_added}
 use Rattle.jc_world.proofs.Underway.{found_number, find_over, fits_found, calls_filter, calls_on, each_found, elsewhere_found, up_self, up_more, numbers_more, none_new, calls_pushed, find_pushed, all_owned, each_owned, owned_pushed, owned_left, owned_found, others_left, test_owned, same_bytes, of_call-at, of_call-none}
 use Rattle.jc_world.proofs.Joiners.{joiner_of, unanswered, waited_found, told_resolved, told_waiting, told_dissolved, told_pushed, find_kept, each_own, each_caller, each_both, called_each, called_found, called_test, join_is, joined_no_part, other_call}
 
@@ -381,14 +382,16 @@ order_over w u may old =
 -- 6. A step.
 
 -- of a stripe that went on by the group of a step
-goes : (from mid to : State) (caller : Caller) (key : Bytes) (op : Op) (out : Out) (callers : List Caller) (done : StepDone) → mid.config ≡ from.config → mid.stripe ≡ from.stripe → mid.origin ≡ from.origin → mid.history ≡ from.history
-    → Steps mid caller key op out callers done to → GoesOn from to
-goes from mid to caller key op out callers done config num origin history steps = record {
+goes : (from mid to : State) (caller : Caller) (key : Bytes) (op : Op) (out : Out) (callers : List Caller) (done : StepDone) → IsSameStripe from mid → mid.history ≡ from.history → Steps mid caller key op out callers done to → Extends from to
+goes from mid to caller key op out callers done same history steps = record {
+  same = record {
+    config = ap (λ (s : State). s.config) steps.after ∙ same.config;
+    stripe = ap (λ (s : State). s.stripe) steps.after ∙ same.stripe;
+    origin = ap (λ (s : State). s.origin) steps.after ∙ same.origin;
+    opening = ap (λ (s : State). s.opening) steps.after ∙ same.opening;
+  };
   more = events_of (length mid.history) (new_group mid caller key op out callers steps.short);
-  config_is = ap (λ (s : State). s.config) steps.after ∙ config;
-  number_is = ap (λ (s : State). s.stripe) steps.after ∙ num;
-  origin_is = ap (λ (s : State). s.origin) steps.after ∙ origin;
-  history_is = ap (λ (s : State). s.history) steps.after ∙ ap (λ h. h ++ events_of (length mid.history) (new_group mid caller key op out callers steps.short)) history;
+  history = ap (λ (s : State). s.history) steps.after ∙ ap (λ h. h ++ events_of (length mid.history) (new_group mid caller key op out callers steps.short)) history;
 }
 
 -- a step is put down for a call under way, which isn't served yet: for the one that is over then, or for one that is served then
@@ -427,7 +430,7 @@ abbrev stepped_world : WorldState → Bytes → State → State → ℕ → Part
 stepped_world w key from to call parts = record w { stripes = slice_set w.stripes (home w key) to; order = w.order ++ added from to; calls = over call w.calls; parts = parts }
 
 -- the world's order with a step of a call that is over then
-pub order_stepped : (w : WorldState) (key : Bytes) (from to : State) (call : ℕ) (parts : Parts) → IsSoundWorld w → stripe_for w key ≡ Some from → (g : GoesOn from to) → IsReached to
+pub order_stepped : (w : WorldState) (key : Bytes) (from to : State) (call : ℕ) (parts : Parts) → IsSoundWorld w → stripe_for w key ≡ Some from → (g : Extends from to) → IsReached to
     → AllBy (IsPut w (stepped_world w key from to call parts) call) g.more
     → ((v : Under) → is_told (joiner_of v.caller v.command.key from.joiners) ≡ true → is_told (joiner_of v.caller v.command.key to.joiners) ≡ true)
     → ((n : ℕ) (s : State) → slice_get (slice_set w.stripes (home w key) to) n ≡ Some s → AllOwned (stepped_world w key from to call parts) s.reservations)
@@ -437,7 +440,7 @@ order_stepped w key from to call parts old there g reached put keeps owned =
     let at = old.shape.each (home w key) from there in
     let fit : (who : Caller) → (p : IsPut w new call who) → FitsCall w p.v = λ who p. fits_found w (has_number who.call) w.calls p.v p.here old.calls in
     record {
-      shape = shape_set w new key from to refl refl old.shape there g.config_is g.number_is g.origin_is reached
+      shape = shape_set w new key from to refl refl old.shape there g.same.config g.same.stripe g.same.origin reached
           (share_grows w (home w key) from to g at reached)
           (λ m apart. share_stays w (home w key) m from to g at reached apart);
       order = added_order w.order from to g reached old.order
@@ -471,7 +474,7 @@ order_done stays w u from to done there begins may old =
     let new : WorldState = call_over (goes_on w key from to) u.caller.call in
     let at = old.shape.each (home w key) from there in
     let reached = stays.begins from to u.caller key u.command.op (begun.Done done) at.reached (begins_with w u from old there may) (single_phases u.command.op may.fit.single) begins in
-    let g = goes from from to u.caller key u.command.op nothing_said [] done refl refl refl refl begins.2 in
+    let g = goes from from to u.caller key u.command.op nothing_said [] done (record { config = refl; stripe = refl; origin = refl; opening = refl }) refl begins.2 in
     let one : IsPut w new u.caller.call u.caller = record { v = u; here = may.here; session_is = refl; unserved = unserved w u u.caller.call refl may.alone old; over = inl refl } in
     let kept : (rs : List Reservation) → AllOwned w rs → AllOwned new rs = λ rs. each_owned w new rs (λ r h. record { part = h.part; call = call_kept w u.caller.call r (refuted (u.caller.call == r.caller.call) (not_own w u r may h)) h }) in
     order_stepped w key from to u.caller.call w.parts old there g reached
@@ -631,7 +634,7 @@ pub record Ending (w : WorldState) (call : ℕ) (key : Bytes) (from to : State) 
   pub number : u.caller.call ≡ call
   pub here : under w u.caller.call ≡ Some u
   pub key_is : u.command.key ≡ key
-  pub goes_on : GoesOn from to
+  pub goes_on : Extends from to
   pub put : AllBy (IsPut w (ended_world w key from to u.caller.call) u.caller.call) goes_on.more
   pub keeps : (v : Under) → is_told (joiner_of v.caller v.command.key from.joiners) ≡ true → is_told (joiner_of v.caller v.command.key to.joiners) ≡ true
   pub left : to.reservations ≡ without_key key from.reservations
@@ -670,7 +673,7 @@ ending w call key part from to done is part_call r_key there steps owned old =
     let key_is : u.0.command.key ≡ key = u.2.1 ∙ r_key in
     let call_is : u.0.caller.call ≡ call = number ∙ part_call in
     let mid = after_commit from r done.place in
-    let g = goes from mid to r.caller r.key r.op (out_of part) (callers_of r.number from.joiners) done refl refl refl refl steps in
+    let g = goes from mid to r.caller r.key r.op (out_of part) (callers_of r.number from.joiners) done (record { config = refl; stripe = refl; origin = refl; opening = refl }) refl steps in
     let n = ended_world w key from to u.0.caller.call in
     let alone : is_joined w call u.0.command.key ≡ false = ap (is_joined w call) key_is ∙ refuted (is_joined w call key) (λ t. let e : Some part ≡ None = sym is ∙ joined_no_part w call key t old.joins in cc) in
     let one : IsPut w n u.0.caller.call r.caller = record { v = u.0; here = u.1; session_is = u.2.0; unserved = unserved w u.0 call call_is alone old; over = inl (sym number) } in

@@ -1,5 +1,4 @@
 -- The order's parts: what a stripe puts down stands in its own part, and behind what may stand before it.
---     GoesOn         a stripe puts more events down
 --     shape_set      the shape of a world, where one stripe is another and the order is that stripe's longer one
 --     AllBy          each step among events is of such a caller
 --     added_order    steps of calls whose numbers are not in the order may stand at its end
@@ -26,8 +25,10 @@ use Rattle.jc_model.specs.Group.{Group, victim_events, step_event, step_place, s
 use Rattle.jc_model.specs.Legal.{may_come, may_follow, in_order, event_key, is_of_stripe, of_stripe}
 use Rattle.jc_stripe.specs.State.{State}
 use Rattle.jc_stripe.specs.Reached.{IsReached}
+use Rattle.jc_stripe.specs.Laws.{Extends}
 use Rattle.jc_world.specs.World.{WorldState, home, stripe_for}
-use Rattle.jc_world.specs.Sound.{IsStripe, IsShaped, is_up_to, number_up_to, is_before, none_from}
+use Rattle.jc_stripe.specs.OwnSteps.{is_before_call}
+use Rattle.jc_world.specs.Sound.{IsStripe, IsShaped, is_up_to, number_up_to, none_from}
 
 -- 1. Small facts.
 
@@ -106,19 +107,12 @@ each_map P Q (x ∷ xs) f h = (f x h.0, each_map P Q xs f h.1)
 
 -- 2. What a stripe puts down.
 
-pub record GoesOn (from to : State) : Type 0 where
-  pub more : List Event
-  pub config_is : to.config ≡ from.config
-  pub number_is : to.stripe ≡ from.stripe
-  pub origin_is : to.origin ≡ from.origin
-  pub history_is : to.history ≡ from.history ++ more
-
 -- what a stripe put down
 abbrev pub added : State → State → List Event
 added from to = drop (length from.history) to.history
 
-pub added_is : (from to : State) (g : GoesOn from to) → added from to ≡ g.more
-added_is from to g = ap (drop (length from.history)) g.history_is ∙ drop-append_seam from.history g.more
+pub added_is : (from to : State) (g : Extends from to) → added from to ≡ g.more
+added_is from to g = ap (drop (length from.history)) g.history ∙ drop-append_seam from.history g.more
 
 -- the second of two lists
 all_back : {A : Type 0} (p : A → Bool) (xs ys : List A) → list_all p (xs ++ ys) ≡ true → list_all p ys ≡ true
@@ -135,28 +129,28 @@ none_kept p q [] f h = refl
 none_kept p q (x ∷ xs) f h = let parts = and_parts (p x) (list_all p xs) h in ap (λ b. cond b (x ∷ filter q xs) (filter q xs)) (f x parts.0) ∙ none_kept p q xs f parts.1
 
 -- what a stripe that is reached puts down is of its keys
-own_added : (w : WorldState) (n : ℕ) (from to : State) (g : GoesOn from to) → IsStripe w n from → IsReached to → list_all (is_of_stripe w.config.stripes n) g.more ≡ true
+own_added : (w : WorldState) (n : ℕ) (from to : State) (g : Extends from to) → IsStripe w n from → IsReached to → list_all (is_of_stripe w.config.stripes n) g.more ≡ true
 own_added w n from to g at reached =
-    let s : to.config.stripes ≡ w.config.stripes = ap (λ (c : Config). c.stripes) (g.config_is ∙ at.config_is) in
-    let m : to.stripe ≡ n = g.number_is ∙ at.number_is in
-    let e : list_all (is_of_stripe to.config.stripes to.stripe) to.history ≡ list_all (is_of_stripe w.config.stripes n) (from.history ++ g.more) = λ i. list_all (is_of_stripe (s i) (m i)) (g.history_is i) in
+    let s : to.config.stripes ≡ w.config.stripes = ap (λ (c : Config). c.stripes) (g.same.config ∙ at.config_is) in
+    let m : to.stripe ≡ n = g.same.stripe ∙ at.number_is in
+    let e : list_all (is_of_stripe to.config.stripes to.stripe) to.history ≡ list_all (is_of_stripe w.config.stripes n) (from.history ++ g.more) = λ i. list_all (is_of_stripe (s i) (m i)) (g.history i) in
     all_back (is_of_stripe w.config.stripes n) from.history g.more (sym e ∙ reached.own)
 
 -- so the stripe's part of the order grows by it
-pub share_grows : (w : WorldState) (n : ℕ) (from to : State) → GoesOn from to → IsStripe w n from → IsReached to → of_stripe w.config.stripes n (w.order ++ added from to) ≡ to.history
+pub share_grows : (w : WorldState) (n : ℕ) (from to : State) → Extends from to → IsStripe w n from → IsReached to → of_stripe w.config.stripes n (w.order ++ added from to) ≡ to.history
 share_grows w n from to g at reached =
     ap (λ more. of_stripe w.config.stripes n (w.order ++ more)) (added_is from to g)
     ∙ filter-append (is_of_stripe w.config.stripes n) w.order g.more
     ∙ ap (λ h. h ++ of_stripe w.config.stripes n g.more) at.share
     ∙ ap (λ more. from.history ++ more) (all_kept (is_of_stripe w.config.stripes n) g.more (own_added w n from to g at reached))
-    ∙ sym g.history_is
+    ∙ sym g.history
 
 -- an event is of one stripe
 one_stripe : (stripes n m : ℕ) (e : Event) → (n ≡ m → ⊥) → is_of_stripe stripes n e ≡ true → is_of_stripe stripes m e ≡ false
 one_stripe stripes n m e apart h = ne_eqb (stripe_of (event_key e) stripes) m (λ is. apart (sym (eqb-true (stripe_of (event_key e) stripes) n h) ∙ is))
 
 -- and the others' parts stay
-pub share_stays : (w : WorldState) (n m : ℕ) (from to : State) → GoesOn from to → IsStripe w n from → IsReached to → (n ≡ m → ⊥) → of_stripe w.config.stripes m (w.order ++ added from to) ≡ of_stripe w.config.stripes m w.order
+pub share_stays : (w : WorldState) (n m : ℕ) (from to : State) → Extends from to → IsStripe w n from → IsReached to → (n ≡ m → ⊥) → of_stripe w.config.stripes m (w.order ++ added from to) ≡ of_stripe w.config.stripes m w.order
 share_stays w n m from to g at reached apart =
     ap (λ more. of_stripe w.config.stripes m (w.order ++ more)) (added_is from to g)
     ∙ filter-append (is_of_stripe w.config.stripes m) w.order g.more
@@ -206,13 +200,13 @@ first_two true b c h = refl
 first_two false true c h = refl
 first_two false false c h = cc
 
-before_comes : (caller : Caller) (key : Bytes) (event : Event) → is_before caller event ≡ true → may_come event caller key ≡ true
+before_comes : (caller : Caller) (key : Bytes) (event : Event) → is_before_call caller.session caller.call event ≡ true → may_come event caller key ≡ true
 before_comes caller key (Step who op k out shared reply) h = first_two (not (who.session == caller.session)) (nat_lt who.call caller.call) _ h
 before_comes caller key (Evict k cause) h = refl
 
 -- so it may come behind an order without its number
 pub all_come : (order : List Event) (caller : Caller) (key : Bytes) → none_from order caller ≡ true → list_all (λ e. may_come e caller key) order ≡ true
-all_come order caller key none = all_imply (is_before caller) (λ e. may_come e caller key) order (before_comes caller key) none
+all_come order caller key none = all_imply (is_before_call caller.session caller.call) (λ e. may_come e caller key) order (before_comes caller key) none
 
 -- each step among these events is of such a caller
 abbrev pub AllBy : (Caller → Type 0) → List Event → Type 0
@@ -260,7 +254,7 @@ all_by P p (Step who op key out shared reply ∷ es) f g h = all _ _ (f who op k
 all_by P p (Evict key cause ∷ es) f g h = all _ _ (g key cause) (all_by P p es f g h)
 
 -- what is before such a step may stand before it
-before_follows : (x : Event) (who : Caller) (op : Op) (key : Bytes) (out : Out) (shared : Option ℕ) (reply : Reply) → is_before who x ≡ true → may_follow x (Step who op key out shared reply) ≡ true
+before_follows : (x : Event) (who : Caller) (op : Op) (key : Bytes) (out : Out) (shared : Option ℕ) (reply : Reply) → is_before_call who.session who.call x ≡ true → may_follow x (Step who op key out shared reply) ≡ true
 before_follows (Step who' op' key' out' shared' reply') who op key out shared reply h = first_two (not (who'.session == who.session)) (nat_lt who'.call who.call) _ h
 before_follows (Evict key' cause) who op key out shared reply h = refl
 
@@ -274,8 +268,8 @@ all_follow : (xs ys : List Event) → AllBy (λ who. none_from xs who ≡ true) 
 all_follow [] ys h = refl
 all_follow (x ∷ xs) ys h = all _ _
     (all_by (λ who. none_from (x ∷ xs) who ≡ true) (may_follow x) ys
-    (λ who op key out shared reply k. before_follows x who op key out shared reply (and_parts (is_before who x) (none_from xs who) k).0) (before_evict x) h)
-    (all_follow xs ys (by_map (λ who. none_from (x ∷ xs) who ≡ true) (λ who. none_from xs who ≡ true) ys (λ who k. (and_parts (is_before who x) (none_from xs who) k).1) h))
+    (λ who op key out shared reply k. before_follows x who op key out shared reply (and_parts (is_before_call who.session who.call x) (none_from xs who) k).0) (before_evict x) h)
+    (all_follow xs ys (by_map (λ who. none_from (x ∷ xs) who ≡ true) (λ who. none_from xs who ≡ true) ys (λ who k. (and_parts (is_before_call who.session who.call x) (none_from xs who) k).1) h))
 
 -- two parts in order, of which the one may stand behind the other
 order_joined : (xs ys : List Event) → in_order xs ≡ true → in_order ys ≡ true → list_all (λ x. list_all (may_follow x) ys) xs ≡ true → in_order (xs ++ ys) ≡ true
@@ -291,22 +285,22 @@ order_back [] ys h = h
 order_back (x ∷ xs) ys h = order_back xs ys (and_parts (list_all (may_follow x) (xs ++ ys)) (in_order (xs ++ ys)) h).1
 
 -- the order with the steps of calls whose numbers it doesn't have
-pub added_order : (order : List Event) (from to : State) (g : GoesOn from to) → IsReached to → in_order order ≡ true → AllBy (λ who. none_from order who ≡ true) g.more → in_order (order ++ added from to) ≡ true
+pub added_order : (order : List Event) (from to : State) (g : Extends from to) → IsReached to → in_order order ≡ true → AllBy (λ who. none_from order who ≡ true) g.more → in_order (order ++ added from to) ≡ true
 added_order order from to g reached h none =
     ap (λ more. in_order (order ++ more)) (added_is from to g)
-    ∙ order_joined order g.more h (order_back from.history g.more (sym (ap in_order g.history_is) ∙ reached.legal.order)) (all_follow order g.more none)
+    ∙ order_joined order g.more h (order_back from.history g.more (sym (ap in_order g.history) ∙ reached.legal.order)) (all_follow order g.more none)
 
 -- a fact of each event of the order, and of what is added
-added_all : (p : Event → Bool) (order : List Event) (from to : State) (g : GoesOn from to) → list_all p order ≡ true → list_all p g.more ≡ true → list_all p (order ++ added from to) ≡ true
+added_all : (p : Event → Bool) (order : List Event) (from to : State) (g : Extends from to) → list_all p order ≡ true → list_all p g.more ≡ true → list_all p (order ++ added from to) ≡ true
 added_all p order from to g before here = list_all-append p order (added from to) ∙ all _ _ before (ap (list_all p) (added_is from to g) ∙ here)
 
 -- the numbers of the steps are at most the last
-pub numbers_added : (last : Option ℕ) (order : List Event) (from to : State) (g : GoesOn from to) → list_all (number_up_to last) order ≡ true → AllBy (λ who. is_up_to last who.call ≡ true) g.more → list_all (number_up_to last) (order ++ added from to) ≡ true
+pub numbers_added : (last : Option ℕ) (order : List Event) (from to : State) (g : Extends from to) → list_all (number_up_to last) order ≡ true → AllBy (λ who. is_up_to last who.call ≡ true) g.more → list_all (number_up_to last) (order ++ added from to) ≡ true
 numbers_added last order from to g before here =
     added_all (number_up_to last) order from to g before (all_by (λ who. is_up_to last who.call ≡ true) (number_up_to last) g.more (λ who op key out shared reply h. h) (λ key cause. refl) here)
 
 -- a call of another session is still above all steps of its session
-pub none_added : (order : List Event) (from to : State) (caller : Caller) (g : GoesOn from to) → none_from order caller ≡ true → AllBy (λ who. not (who.session == caller.session) ≡ true) g.more → none_from (order ++ added from to) caller ≡ true
+pub none_added : (order : List Event) (from to : State) (caller : Caller) (g : Extends from to) → none_from order caller ≡ true → AllBy (λ who. not (who.session == caller.session) ≡ true) g.more → none_from (order ++ added from to) caller ≡ true
 none_added order from to caller g before here =
-    added_all (is_before caller) order from to g before
-    (all_by (λ who. not (who.session == caller.session) ≡ true) (is_before caller) g.more (λ who op key out shared reply h. ap (λ b. b || nat_lt who.call caller.call) h) (λ key cause. refl) here)
+    added_all (is_before_call caller.session caller.call) order from to g before
+    (all_by (λ who. not (who.session == caller.session) ≡ true) (is_before_call caller.session caller.call) g.more (λ who op key out shared reply h. ap (λ b. b || nat_lt who.call caller.call) h) (λ key cause. refl) here)

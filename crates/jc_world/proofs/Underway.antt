@@ -22,7 +22,8 @@ use Rattle.jc_world.specs.declared.event.Under.{Under}
 use Rattle.jc_world.specs.declared.event.Part.{Part}
 use Rattle.jc_world.specs.World.{WorldState, has_number, is_of, over, of_call}
 use Rattle.jc_world.specs.Events.{is_new}
-use Rattle.jc_world.specs.Sound.{is_up_to, number_up_to, is_before, none_from, is_apart, FitsCall, CallsFit, IsOwned, AllOwned}
+use Rattle.jc_stripe.specs.OwnSteps.{is_before_call}
+use Rattle.jc_world.specs.Sound.{is_up_to, number_up_to, none_from, is_apart, FitsCall, CallsFit, IsOwned, AllOwned}
 use Rattle.jc_world.proofs.Shares.{all, turned_eq, all_filter, all_imply, found_all, found_test, Each}
 
 -- 1. A call that is over.
@@ -161,13 +162,13 @@ or-right true b h = refl
 or-right false b h = h
 
 -- an event is before a new call
-event_before : (last : Option ℕ) (caller : Caller) (e : Event) → is_new last caller.call ≡ true → number_up_to last e ≡ true → is_before caller e ≡ true
+event_before : (last : Option ℕ) (caller : Caller) (e : Event) → is_new last caller.call ≡ true → number_up_to last e ≡ true → is_before_call caller.session caller.call e ≡ true
 event_before last caller (Step who op k out shared reply) new up = or-right _ _ (up_to_new last caller.call who.call new up)
 event_before last caller (Evict k c) new up = refl
 
 -- no step has the number of a new call, or a higher one
 pub none_new : (last : Option ℕ) (caller : Caller) (order : List Event) → is_new last caller.call ≡ true → list_all (number_up_to last) order ≡ true → none_from order caller ≡ true
-none_new last caller order new h = all_imply (number_up_to last) (is_before caller) order (λ e. event_before last caller e new) h
+none_new last caller order new h = all_imply (number_up_to last) (is_before_call caller.session caller.call) order (λ e. event_before last caller e new) h
 
 -- a session that is not busy has no call of these
 not_busy : (session : ℕ) (x : Under) (xs : List Under) → not (list_any (is_of session) (x ∷ xs)) ≡ true → (not (session == x.caller.session) ≡ true) × (not (list_any (is_of session) xs) ≡ true)

@@ -2,7 +2,6 @@
 --     IsStripe                      a stripe of the world: it is reached, and its history is its part of the order
 --     IsShaped                      there is a stripe for each number
 --     is_up_to, number_up_to        a number is at most the last call's, and so is the number of an event's step
---     is_before                     an event is no step of a caller's session with its call number or a higher one
 --     none_from                     no step of a caller's session has its call number or a higher one
 --     has_answer, is_told           an answer is parked for a joiner in this state, and for a joiner that is there
 --     is_served_in, is_served       the answer of a load that it has joined is parked for a call, in a stripe and in the world
@@ -23,7 +22,7 @@
 --     KeyTold                       as long as the premises hold: what is known of any key, by its part, the store's value and the
 --                                   cached one
 --     IsSoundWorld                  all of it; and while a world is fresh, nothing is cached, reserved, joined or under way
-use Rattle.std.specs.Prelude.{◌≡◌, ◌==◌, ℕ, List, [], ◌∷◌, length, Ok, Bool, true, false, not, ◌&&◌, ◌||◌, Option, None, Some, IfSome, IsSomeAnd, find, slice_get, nat_le, nat_lt}
+use Rattle.std.specs.Prelude.{◌≡◌, ◌==◌, ℕ, List, [], ◌∷◌, length, Ok, Bool, true, false, not, ◌&&◌, Option, None, Some, IfSome, IsSomeAnd, find, slice_get, nat_le}
 use Rattle.std.specs.List.{list_all, list_any}
 use Rattle.std.specs.FinMap.{get}
 use Rattle.jc_types.specs.declared.caller.Caller.{Caller}
@@ -49,6 +48,7 @@ use Rattle.jc_stripe.specs.declared.ticket.Reservation.{Reservation}
 use Rattle.jc_stripe.specs.Tickets.{JoinClaim}
 use Rattle.jc_stripe.specs.State.{State, IsOut, IsJoined}
 use Rattle.jc_stripe.specs.Reached.{IsReached}
+use Rattle.jc_stripe.specs.OwnSteps.{is_before_call}
 use Rattle.jc_world.specs.declared.event.Under.{Under}
 use Rattle.jc_world.specs.declared.event.Part.{Part}
 use Rattle.jc_world.specs.World.{WorldState, home, stripe_for, cached, under, part_of, is_join, is_joined}
@@ -81,12 +81,8 @@ abbrev pub number_up_to : Option ℕ → Event → Bool
 number_up_to last (stripe.Step caller op key out shared_with reply) = is_up_to last caller.call
 number_up_to last (stripe.Evict key cause) = true
 
-abbrev pub is_before : Caller → Event → Bool
-is_before caller (stripe.Step who op key out shared_with reply) = not (who.session == caller.session) || nat_lt who.call caller.call
-is_before caller (stripe.Evict key cause) = true
-
 abbrev pub none_from : List Event → Caller → Bool
-none_from order caller = list_all (is_before caller) order
+none_from order caller = list_all (is_before_call caller.session caller.call) order
 
 -- an answer is parked
 abbrev pub has_answer : JoinState → Bool

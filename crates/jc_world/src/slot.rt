@@ -167,39 +167,25 @@ impl Slot {
     {
         let Slot { ticket, part } = self;
         match ticket {
-            Ticket::Load(ticket) => close_load(ticket, part.load, stripe),
-            Ticket::Write(ticket) => close_write(ticket, part.report, stripe),
+            Ticket::Load(mut ticket) => {
+                let answer = part.load;
+                if answer.is_given() {
+                    let ask = ticket.ask();
+                    stripe.commit_load(ticket, played_load(ask, answer));
+                } else {
+                    stripe.withdraw_load(ticket);
+                }
+            }
+            Ticket::Write(mut ticket) => {
+                let answer = part.report;
+                if answer.is_given() {
+                    let ask = ticket.ask();
+                    stripe.commit_write(ticket, played_write(ask, answer));
+                } else {
+                    stripe.withdraw_write(ticket);
+                }
+            }
         }
-    }
-}
-
-/// Commits a load that was answered, and gives another one back.
-fn close_load(mut ticket: LoadTicket, answer: LoadAnswer, stripe: &mut Stripe)
-    requires out { IsOut stripe.old ticket.reservation }
-    requires unasked { ticket.asked ≡ false }
-    requires origin { stripe.old.origin ≡ Played }
-    ensures { ((out : Out) × (done : StepDone) × Commits stripe.old ticket.reservation out done stripe.new) ⊎ Withdraws stripe.old ticket.reservation stripe.new }
-{
-    if answer.is_given() {
-        let ask = ticket.ask();
-        stripe.commit_load(ticket, played_load(ask, answer));
-    } else {
-        stripe.withdraw_load(ticket);
-    }
-}
-
-/// Commits a write that was answered, and gives another one back.
-fn close_write(mut ticket: WriteTicket, answer: WriteAnswer, stripe: &mut Stripe)
-    requires out { IsOut stripe.old ticket.reservation }
-    requires unasked { ticket.asked ≡ false }
-    requires origin { stripe.old.origin ≡ Played }
-    ensures { ((out : Out) × (done : StepDone) × Commits stripe.old ticket.reservation out done stripe.new) ⊎ Withdraws stripe.old ticket.reservation stripe.new }
-{
-    if answer.is_given() {
-        let ask = ticket.ask();
-        stripe.commit_write(ticket, played_write(ask, answer));
-    } else {
-        stripe.withdraw_write(ticket);
     }
 }
 

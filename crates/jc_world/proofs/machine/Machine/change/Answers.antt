@@ -1,4 +1,4 @@
-use Rattle.std.proofs.Common.{◌≡◌, true, Some, sym, ap, ◌∙◌}
+use Rattle.std.proofs.Common.{◌≡◌, true, Some, refl, sym, ap, ◌∙◌}
 use Rattle.std.specs.FinMap.{insert}
 use Rattle.jc_model.specs.Cache.{with_entry}
 use Rattle.jc_world.specs.declared.event.Part.{Part}
@@ -31,4 +31,4 @@ returns-clause-ok c =
     let store : c.set.new.self ≡ (changed v c.args.key.now part change).store = c.in_ok-set-in-Some-change_in.ensures.ok ∙ ap (with_entry c.self.inside.store c.args.key.now) c.entry_after.ensures in
     let parts : next.parts ≡ insert v.parts c.args.key.now (record part { is_changed = true }) = c.set_part.ensures.parts ∙ ap (insert v.parts c.args.key.now) c.with_change.ensures in
     let is : next ≡ changed v c.args.key.now part change = λ i. record v { store = store i; parts = parts i } in
-    (part, change, of_w, (c.change_in.ensures change).0 c.in-Some-change_in.is, is ∙ ap (λ (x : WorldState). changed x c.args.key.now part change) c.self.view_is)
+    (part, change, of_w, (c.change_in.ensures change).0 c.in-Some-change_in.is, refl, is ∙ ap (λ (x : WorldState). changed x c.args.key.now part change) c.self.view_is)

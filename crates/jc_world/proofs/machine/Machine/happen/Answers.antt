@@ -1,6 +1,5 @@
 use Rattle.std.proofs.Common.{sym, subst, IfOk}
 use Rattle.jc_world.specs.declared.event.WorldEvent.{WorldEvent}
-use Rattle.jc_world.specs.declared.event.Shown.TheVariants as shown
 use Rattle.jc_world.specs.Events.{Happens}
 use Rattle.jc_world.proofs.machine.Machine.happen.Goals as goal
 
@@ -11,7 +10,7 @@ returns-in-Commit-clause-ok c =
 
 pub returns-in-Withdraw-clause-ok : goal.returns-in-Withdraw-clause-ok
 returns-in-Withdraw-clause-ok c =
-    let P : WorldEvent → Type 0 = λ e. Happens c.args.self.now e shown.Withdrawn c.withdraw.new.self in
+    let P : WorldEvent → Type 0 = λ e. Happens c.args.self.now e c.withdraw.result c.withdraw.new.self in
     subst P (sym c.in-Withdraw.is) c.withdraw.ensures
 
 pub returns-in-PickUp-clause-ok : goal.returns-in-PickUp-clause-ok
@@ -28,3 +27,18 @@ pub returns-in-Report-clause-ok : goal.returns-in-Report-clause-ok
 returns-in-Report-clause-ok c =
     let P : WorldEvent → Type 0 = λ e. Happens c.args.self.now e c.end_write.result c.end_write.new.self in
     subst P (sym c.in-Report.is) c.end_write.ensures
+
+pub returns-in-Call-clause-ok : goal.returns-in-Call-clause-ok
+returns-in-Call-clause-ok c =
+    let P : WorldEvent → Type 0 = λ e. IfOk c.open.result (λ seen. Happens c.args.self.now e seen c.open.new.self) in
+    subst P (sym c.in-Call.is) c.open.ensures.ok
+
+pub returns-in-Change-clause-ok : goal.returns-in-Change-clause-ok
+returns-in-Change-clause-ok c =
+    let P : WorldEvent → Type 0 = λ e. IfOk c.change.result (λ seen. Happens c.args.self.now e seen c.change.new.self) in
+    subst P (sym c.in-Change.is) c.change.ensures.ok
+
+pub returns-in-Foreign-clause-ok : goal.returns-in-Foreign-clause-ok
+returns-in-Foreign-clause-ok c =
+    let P : WorldEvent → Type 0 = λ e. IfOk c.disturb.result (λ seen. Happens c.args.self.now e seen c.disturb.new.self) in
+    subst P (sym c.in-Foreign.is) c.disturb.ensures.ok

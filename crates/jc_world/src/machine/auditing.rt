@@ -1,0 +1,75 @@
+//! What there is to see of a machine.
+ghost use Rattle.std.specs.Prelude.{IsTrue, ◌≡◌, ◌&&◌, [], true, false, Ok, IfOk, Option, None, Some};
+ghost use Rattle.jc_model.specs.Table.{holds};
+ghost use Rattle.jc_world.specs.Sound.{IsSoundWorld};
+ghost use Rattle.jc_world.specs.Coherent.{is_changed, all_hold, Coherent};
+ghost use Rattle.jc_world.specs.Audit.{differs, differing, IsAudit};
+
+use crate::audit::{Audit, gather};
+use crate::event::Part;
+use crate::machine::Machine;
+use jc_types::{Key, Value};
+use std::alloc::{AllocError, Global};
+
+impl Machine {
+    /// What there is to see of the world.
+    pub(crate) fn audit(&self, alloc: Global) -> Result<Audit, AllocError>
+        requires { IsSoundWorld self.now }
+        ensures audit { IfOk result (λ a. IsAudit self.now a.cache.items a.store.items a.differing.items a.events a.is_legal) }
+        ensures coherent { IfOk result (λ a. all_hold self.now ≡ true → Coherent self.now × (a.differing.items ≡ [])) }
+        ensures legal { IfOk result (λ a. IsTrue a.is_legal) }
+    {
+        let all = gather(alloc, self.stripes.items())?;
+        let cache = all.entries(alloc)?;
+        let store = self.store.entries(alloc)?;
+        let differing = self.differing(alloc, &cache)?;
+        Ok(Audit {
+            cache,
+            store,
+            differing,
+            events: self.stripes.events_len(),
+            is_legal: true,
+        })
+    }
+
+    /// The keys of such entries.
+    fn differing(&self, alloc: Global, entries: &[(Key, Value)]) -> Result<Vec<Key>, AllocError>
+        ensures { IfOk result (λ keys. keys.items ≡ differing self.now entries.now) }
+    {
+        let mut keys = Vec::new(alloc);
+        for entry in entries {
+            if self.is_differing(entry) {
+                keys.push(entry.0)?;
+            }
+        }
+        Ok(keys)
+    }
+
+    /// Whether an entry isn't the store's, while no writer's change of its key waits for its commit.
+    fn is_differing(&self, entry: &(Key, Value)) -> bool
+        ensures { result ≡ differs self.now entry.now }
+    {
+        let (key, value) = entry;
+        !is_held(self.stored(key), value) && !is_changing(self.reserved(key))
+    }
+}
+
+/// Whether this value is held.
+fn is_held(held: Option<Value>, value: &Value) -> bool
+    ensures { result ≡ holds held value.now }
+{
+    match held {
+        Some(held) => held == *value,
+        None => false,
+    }
+}
+
+/// Whether a writer's change waits for its commit.
+fn is_changing(part: Option<Part>) -> bool
+    ensures { result ≡ is_changed part }
+{
+    match part {
+        Some(part) => part.is_changed,
+        None => false,
+    }
+}
