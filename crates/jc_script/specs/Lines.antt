@@ -13,6 +13,7 @@
 --     value_alone_of                one value, and no word behind it
 --     command_of                    an operation with its key and values
 --     open_of, set_of, begin_of     what the words after `open`, `set` and `begin` ask for
+--     begin_with                    the begin of a call with a command
 --     number_alone                  one number, and no word behind it
 --     lone_act, lone_of             the act of a line with a call's number alone, and what its words ask for
 --     coded_act, coded_of           the act of a line with a call's number and a code, and what its words ask for
@@ -200,14 +201,17 @@ set_of [] = Err BadLine
 set_of (k ∷ []) = Err BadLine
 set_of (k ∷ v ∷ x ∷ more) = Err BadLine
 
+-- or the fault of the command
+abbrev pub begin_with : ℕ → ℕ → Result Command Fault → Result Line Fault
+begin_with number session command = command >>= λ command. Ok (Begin number session command)
+
 unfoldable pub begin_of : List (List ℕ) → Result Line Fault
 begin_of (n ∷ who ∷ name ∷ words) = do
   form ← form_named name
   shaped ← (if takes_words form (length words) then Ok true else Err BadLine)
   number ← number_of n
   session ← caller_of who
-  command ← command_of form words
-  Ok (Begin number session command)
+  begin_with number session (command_of form words)
 begin_of [] = Err BadLine
 begin_of (n ∷ []) = Err BadLine
 begin_of (n ∷ who ∷ []) = Err BadLine

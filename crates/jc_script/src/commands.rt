@@ -1,8 +1,9 @@
 //! Operations as words: their names, and what stands after a name.
 ghost use Rattle.std.specs.Prelude.{◌≡◌, map, length};
-ghost use Rattle.jc_script.specs.Lines.{form_named, takes_words, bare_op, valued_op, bare_of, valued_of, value_alone_of, replace_if_of, command_of};
+ghost use Rattle.jc_script.specs.Lines.{with_value, form_named, takes_words, bare_op, valued_op, bare_of, valued_of, value_alone_of, replace_if_of, command_of, begin_with};
 
 use crate::fault::Fault;
+use crate::line::Line;
 use crate::words::{is, key, value};
 use jc_model::Op;
 use jc_types::Value;
@@ -112,28 +113,41 @@ fn op_valued(valued: Valued, value: Value) -> Op
     }
 }
 
-fn bare_command(bare: Bare, words: &[&[u8]]) -> Result<Command, Fault>
-    ensures { result ≡ bare_of bare (map (λ w. w.now) words.now) }
+fn begin_bare(
+    call: u32,
+    session: u32,
+    bare: Bare,
+    words: &[&[u8]],
+    line: &mut Line,
+) -> Result<(), Fault>
+    ensures { with_value line.new result ≡ begin_with call session (bare_of bare (map (λ w. w.now) words.now)) }
 {
     match words {
         [k] => {
             let key = key(k)?;
             let op = op_bare(bare);
-            Ok(Command { op, key })
+            *line = Line::Begin(call, session, Command { op, key });
+            Ok(())
         }
         _ => Err(Fault::BadLine),
     }
 }
 
-fn valued_command(valued: Valued, words: &[&[u8]]) -> Result<Command, Fault>
-    ensures { result ≡ valued_of valued (map (λ w. w.now) words.now) }
+fn begin_valued(
+    call: u32,
+    session: u32,
+    valued: Valued,
+    words: &[&[u8]],
+    line: &mut Line,
+) -> Result<(), Fault>
+    ensures { with_value line.new result ≡ begin_with call session (valued_of valued (map (λ w. w.now) words.now)) }
 {
     match words {
         [k, v] => {
             let key = key(k)?;
-            let value = value(v)?;
-            let op = op_valued(valued, value);
-            Ok(Command { op, key })
+            let op = op_valued(valued, value(v)?);
+            *line = Line::Begin(call, session, Command { op, key });
+            Ok(())
         }
         _ => Err(Fault::BadLine),
     }
@@ -149,31 +163,36 @@ fn value_alone(words: &[&[u8]]) -> Result<Value, Fault>
 }
 
 #[tactic(auto, unfolding(crate::specs::Lines::replace_if_of))]
-fn replace_if_command(words: &[&[u8]]) -> Result<Command, Fault>
-    ensures { result ≡ replace_if_of (map (λ w. w.now) words.now) }
+fn begin_replace_if(call: u32, session: u32, words: &[&[u8]], line: &mut Line) -> Result<(), Fault>
+    ensures { with_value line.new result ≡ begin_with call session (replace_if_of (map (λ w. w.now) words.now)) }
 {
     match words {
         [k, v, rest @ ..] => {
             let key = key(k)?;
-            let held = value(v)?;
-            let next = value_alone(rest)?;
-            let op = Op::ReplaceIf {
-                old: held,
-                new: next,
-            };
-            Ok(Command { op, key })
+            let old = value(v)?;
+            let new = value_alone(rest)?;
+            let op = Op::ReplaceIf { old, new };
+            *line = Line::Begin(call, session, Command { op, key });
+            Ok(())
         }
         _ => Err(Fault::BadLine),
     }
 }
 
-/// The operation of a form, with the key and the values that the words after its name say.
-pub fn command(form: Form, words: &[&[u8]]) -> Result<Command, Fault>
-    ensures { result ≡ command_of form (map (λ w. w.now) words.now) }
+/// The begin of a call, with the operation of a form and with the key and the values that the words after its name say. It is left
+/// in `line`.
+pub fn begin_command(
+    call: u32,
+    session: u32,
+    form: Form,
+    words: &[&[u8]],
+    line: &mut Line,
+) -> Result<(), Fault>
+    ensures { with_value line.new result ≡ begin_with call session (command_of form (map (λ w. w.now) words.now)) }
 {
     match form {
-        Form::Bare(bare) => bare_command(bare, words),
-        Form::Valued(valued) => valued_command(valued, words),
-        Form::ReplaceIf => replace_if_command(words),
+        Form::Bare(bare) => begin_bare(call, session, bare, words, line),
+        Form::Valued(valued) => begin_valued(call, session, valued, words, line),
+        Form::ReplaceIf => begin_replace_if(call, session, words, line),
     }
 }

@@ -3,7 +3,7 @@ ghost use Rattle.std.specs.Prelude.{◌≡◌, map, length, IfOk};
 ghost use Rattle.std.specs.List.{list_all};
 ghost use Rattle.jc_script.specs.Lines.{Gives, with_value, with_line, act_named, line_named, flags_of, open_of, set_of, begin_of, number_alone, lone_act, lone_of, coded_act, coded_of, say_of, foreign_of, audit_of, line_of, are_words, parsed, is_plain, is_comment, read_line};
 
-use crate::commands::{command, has_shape, read_form};
+use crate::commands::{begin_command, has_shape, read_form};
 use crate::fault::{Fault, ReadError};
 use crate::line::{Act, Line};
 use crate::words::{caller, is, key, number, pairs, split, value, value_or_none};
@@ -172,8 +172,7 @@ fn begin(words: &[&[u8]], line: &mut Line) -> Result<(), Fault>
             }
             let call = number(n)?;
             let session = caller(who)?;
-            *line = Line::Begin(call, session, command(form, rest)?);
-            Ok(())
+            begin_command(call, session, form, rest, line)
         }
         _ => Err(Fault::BadLine),
     }
