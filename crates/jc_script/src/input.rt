@@ -1,8 +1,9 @@
 //! All that a reader gives, and all that a writer takes.
-ghost use Rattle.std.specs.Prelude.{◌≡◌, ◌<◌, ◌≤◌, ℕ, take, drop, length, List, IfOk, IfErr, OnOk, OnErr, IfSome};
+ghost use Rattle.std.specs.Prelude.{◌≡◌, ◌<◌, ◌≤◌, ◌↔◌, ℕ, take, drop, length, List, IfOk, IfErr, IsErr, OnOk, OnErr, IfSome, true, false};
 ghost use Rattle.std.specs.Io.KnownBytes.{Appends, Consumes, IsAtEnd};
 ghost use Rattle.jc_script.specs.Running.{ReadsAll};
 
+use crate::noted::Noted;
 use crate::run::SCRIPT_MAX;
 use std::alloc::Global;
 use std::io::{Read, Write};
@@ -16,9 +17,10 @@ pub enum InputFault {
 }
 
 /// All the bytes that the reader gives. An error of the reader is not retried.
-pub fn read_all<R: Read>(alloc: Global, reader: &mut R) -> Result<Vec<u8>, InputFault>
-    ensures ok { IfOk result (λ v. ReadsAll (R.remaining reader.old) (R.remaining reader.new) v.items) }
-    ensures long { IfErr result (λ e. e ≡ InputFault.TooLong → IfSome (R.remaining reader.old) (λ xs. SCRIPT_MAX < length xs)) }
+pub fn read_all<R: Read>(alloc: Global, reader: &mut Noted<R>) -> Result<Vec<u8>, InputFault>
+    ensures ok { IfOk result (λ v. ReadsAll (R.remaining reader.old.inner) (R.remaining reader.new.inner) v.items) }
+    ensures long { IfErr result (λ e. e ≡ InputFault.TooLong → IfSome (R.remaining reader.old.inner) (λ xs. SCRIPT_MAX < length xs)) }
+    ensures failed { reader.old.failed ≡ false → (result ≡ Err InputFault.Read ↔ reader.new.failed ≡ true) }
 {
     let mut input = Vec::new(alloc);
     let mut chunk = [0u8; 65536];
@@ -44,9 +46,10 @@ pub fn read_all<R: Read>(alloc: Global, reader: &mut R) -> Result<Vec<u8>, Input
 pub struct WriteFault;
 
 /// Writes all the bytes. An error of the writer is not retried, and a write of nothing is an error.
-pub fn write_out<W: Write>(writer: &mut W, bytes: &[u8]) -> Result<(), WriteFault>
-    ensures ok { OnOk result (Appends (W.contents writer.old) (W.contents writer.new) bytes.now) }
-    ensures err { OnErr result ((n : ℕ) × (n ≤ length bytes.now) × Appends (W.contents writer.old) (W.contents writer.new) (take n bytes.now)) }
+pub fn write_out<W: Write>(writer: &mut Noted<W>, bytes: &[u8]) -> Result<(), WriteFault>
+    ensures ok { OnOk result (Appends (W.contents writer.old.inner) (W.contents writer.new.inner) bytes.now) }
+    ensures err { OnErr result ((n : ℕ) × (n ≤ length bytes.now) × Appends (W.contents writer.old.inner) (W.contents writer.new.inner) (take n bytes.now)) }
+    ensures failed { writer.old.failed ≡ false → (IsErr result ↔ writer.new.failed ≡ true) }
 {
     let mut at = 0;
     while at < bytes.len() {

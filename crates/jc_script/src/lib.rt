@@ -9,6 +9,7 @@ mod grammar;
 mod input;
 pub mod laws;
 mod line;
+pub mod noted;
 mod pairs;
 mod player;
 mod print_audit;

@@ -1,10 +1,11 @@
 //! A script's run, from the bytes that are read to the bytes that are written.
-ghost use Rattle.std.specs.Prelude.{◌≡◌, ◌≢◌, ◌<◌, ◌≤◌, ◌∷◌, ◌==◌, [], None, length, position, IfOk, IfErr, IfSome, MatchOption};
+ghost use Rattle.std.specs.Prelude.{◌≡◌, ◌≢◌, ◌↔◌, true, false, ◌<◌, ◌≤◌, ◌∷◌, ◌==◌, [], None, length, position, IfOk, IfErr, IfSome, MatchOption};
 ghost use Rattle.jc_script.specs.Transcript.{pieces_of, IsTranscript};
 ghost use Rattle.jc_script.specs.Running.{Ran, Broke};
 
 use crate::fault::Fault;
 use crate::input::{InputFault, read_all, write_out};
+use crate::noted::Noted;
 use crate::player::Player;
 use crate::printing::put_fault;
 use memchr::memchr;
@@ -104,17 +105,20 @@ fn transcript(alloc: Global, input: &[u8]) -> Result<(Vec<u8>, RunEnd), AllocErr
 /// Reads a script to its end, and writes its transcript, which is made whole before the first write.
 pub fn run<R: Read, W: Write>(
     alloc: Global,
-    reader: &mut R,
-    writer: &mut W,
+    reader: &mut Noted<R>,
+    writer: &mut Noted<W>,
 ) -> Result<RunEnd, RunFault>
     // What was written is the transcript of what was read.
-    ensures ran { IfOk result (λ end. Ran (R.remaining reader.old) (R.remaining reader.new) (W.contents writer.old) (W.contents writer.new) end) }
+    ensures ran { IfOk result (λ end. Ran (R.remaining reader.old.inner) (R.remaining reader.new.inner) (W.contents writer.old.inner) (W.contents writer.new.inner) end) }
     // After a failed write, a front of it.
-    ensures broke { result ≡ Err RunFault.Write → Broke (R.remaining reader.old) (R.remaining reader.new) (W.contents writer.old) (W.contents writer.new) }
+    ensures broke { result ≡ Err RunFault.Write → Broke (R.remaining reader.old.inner) (R.remaining reader.new.inner) (W.contents writer.old.inner) (W.contents writer.new.inner) }
     // Any other fault writes nothing.
     ensures silent { IfErr result (λ e. e ≢ RunFault.Write → writer.new ≡ writer.old) }
     // A script is too long only over the limit.
-    ensures long { result ≡ Err RunFault.TooLong → IfSome (R.remaining reader.old) (λ xs. SCRIPT_MAX < length xs) }
+    ensures long { result ≡ Err RunFault.TooLong → IfSome (R.remaining reader.old.inner) (λ xs. SCRIPT_MAX < length xs) }
+    // Reading failed exactly if the reader did, and writing exactly if the writer did, in this call.
+    ensures read_failed { reader.old.failed ≡ false → (result ≡ Err RunFault.Read ↔ reader.new.failed ≡ true) }
+    ensures write_failed { writer.old.failed ≡ false → (result ≡ Err RunFault.Write ↔ writer.new.failed ≡ true) }
 {
     let input = match read_all(alloc, reader) {
         Ok(input) => input,

@@ -1,6 +1,7 @@
 //! Whole scripts with their transcripts, and every fault of a line.
 //!
 //! Scripts stand in texts, since a check proves a table of rows at a price that grows faster than its length.
+use crate::noted::Noted;
 use crate::run::{RunEnd, RunFault, SCRIPT_MAX, run};
 use std::alloc::{AllocError, Global};
 use std::io;
@@ -10,9 +11,8 @@ use std::test::Fail;
 // 1. How scripts are played.
 
 fn played(alloc: Global, script: &[u8]) -> Result<(Vec<u8>, RunEnd), Fail> {
-    let mut reader = script;
     let mut out = Vec::new(alloc);
-    let end = run(alloc, &mut reader, &mut out)?;
+    let end = run(alloc, &mut Noted::new(script), &mut Noted::new(&mut out))?;
     Ok((out, end))
 }
 
@@ -1074,7 +1074,8 @@ fn takes_no_input_over_a_limit(rt: HostRuntime) -> Result<(), Fail> {
     let alloc = rt.alloc();
     let long = comment(alloc, SCRIPT_MAX)?;
     let mut out = Vec::new(alloc);
-    let ended = run(alloc, &mut long.as_slice(), &mut out);
+    let mut reader = Noted::new(long.as_slice());
+    let ended = run(alloc, &mut reader, &mut Noted::new(&mut out));
     assert_eq!(rt; ended, Err(RunFault::TooLong));
     assert!(rt; out.is_empty());
     Ok(())
@@ -1124,8 +1125,9 @@ impl io::Write for Narrow {
 fn tells_a_failed_read(rt: HostRuntime) -> Result<(), Fail> {
     let alloc = rt.alloc();
     let mut out = Vec::new(alloc);
-    let mut torn = Torn { has_given: false };
-    assert_eq!(rt; run(alloc, &mut torn, &mut out), Err(RunFault::Read));
+    let mut torn = Noted::new(Torn { has_given: false });
+    let ended = run(alloc, &mut torn, &mut Noted::new(&mut out));
+    assert_eq!(rt; ended, Err(RunFault::Read));
     assert!(rt; out.is_empty());
     Ok(())
 }
@@ -1138,7 +1140,8 @@ fn tells_a_failed_write(rt: HostRuntime) -> Result<(), Fail> {
             taken: Vec::new(alloc),
             left,
         };
-        let ended = run(alloc, &mut &b"open 1 2 100\n"[..], &mut writer);
+        let mut reader = Noted::new(&b"open 1 2 100\n"[..]);
+        let ended = run(alloc, &mut reader, &mut Noted::new(&mut writer));
         assert_eq!(rt; ended, wanted);
         assert!(rt; b"open\n".starts_with(&writer.taken));
         assert_eq!(rt; writer.taken.len(), left);

@@ -1,10 +1,12 @@
 //! What the program does with its words, and the status that it ends with.
-ghost use Rattle.std.specs.Prelude.{◌≡◌, ◌⊎◌, ◌≤◌, ℕ};
-ghost use Rattle.jc_script.specs.Running.{Broke, Ran};
-ghost use Rattle.jc_script.specs.declared.run.RunEnd.TheVariants.{Clean, LineFault};
+ghost use Rattle.std.specs.Prelude.{◌≡◌, ◌⊎◌, ◌↔◌, map, string_bytes, true, false};
+ghost use Rattle.jcache.specs.CommandLine.{faults_at};
+ghost use Rattle.jcache.specs.Answered.{Answered, FailsByStreams, Played};
 
 use crate::commands::{Task, read_task};
+use clap::Error;
 use clap::error::ErrorKind;
+use jc_script::noted::Noted;
 use jc_script::run::{RunEnd, RunFault, run};
 use std::alloc::Global;
 use std::io::{Read, Write};
@@ -26,12 +28,14 @@ fn complain<E: Write>(err: &mut E, text: &str) {
 }
 
 /// Plays the script, and answers the status.
-fn play<R: Read, W: Write, E: Write>(alloc: Global, reader: &mut R, out: &mut W, err: &mut E) -> u8
-    ensures clean { result ≡ 0 → Ran (R.remaining reader.old) (R.remaining reader.new) (W.contents out.old) (W.contents out.new) Clean }
-    ensures fault { result ≡ 1 → (line : ℕ) × Ran (R.remaining reader.old) (R.remaining reader.new) (W.contents out.old) (W.contents out.new) (LineFault line) }
-    ensures streams { result ≡ 3 → Broke (R.remaining reader.old) (R.remaining reader.new) (W.contents out.old) (W.contents out.new) ⊎ (out.new ≡ out.old) }
-    ensures memory { result ≡ 4 → out.new ≡ out.old }
-    ensures others { (result ≡ 0) ⊎ ((result ≡ 1) ⊎ ((result ≡ 3) ⊎ (result ≡ 4))) }
+fn play<R: Read, W: Write, E: Write>(
+    alloc: Global,
+    reader: &mut Noted<R>,
+    out: &mut Noted<W>,
+    err: &mut E,
+) -> u8
+    ensures played { Played result (R.remaining reader.old.inner) (R.remaining reader.new.inner) (W.contents out.old.inner) (W.contents out.new.inner) (out.new ≡ out.old) }
+    ensures streams { reader.old.failed ≡ false → out.old.failed ≡ false → FailsByStreams result reader.new.failed out.new.failed (R.remaining reader.old.inner) (out.new ≡ out.old) }
 {
     match run(alloc, reader, out) {
         Ok(RunEnd::Clean) => CLEAN,
@@ -55,30 +59,44 @@ fn play<R: Read, W: Write, E: Write>(alloc: Global, reader: &mut R, out: &mut W,
     }
 }
 
-/// Does what the words of a command line ask for, and answers the status: 0 where the script was played to its end, or where a
-/// text was asked for and shown, as by `--help` and `--version`; 1 where the transcript ends with a line's fault; 2 where the words
-/// are none of this program's, of which `err` is told; 3 where the input or output failed, or the input is too long; 4 where there
-/// was no memory.
+/// Shows the text that was asked for, and answers the status.
+fn show<W: Write, E: Write>(alloc: Global, text: &Error, out: &mut Noted<W>, err: &mut E) -> u8
+    ensures shown { (result ≡ 0) ⊎ ((result ≡ 3) ⊎ ((result ≡ 4) × (out.new ≡ out.old))) }
+    ensures streams { out.old.failed ≡ false → (result ≡ 3 ↔ out.new.failed ≡ true) }
+{
+    let text = match format!(in alloc; "{text}") {
+        Ok(text) => text,
+        Err(_) => {
+            complain(err, "jcache: out of memory\n");
+            return MEMORY;
+        }
+    };
+    match out.write_all(text.as_bytes()) {
+        Ok(()) => CLEAN,
+        Err(_) => {
+            complain(err, "jcache: write failed\n");
+            STREAMS
+        }
+    }
+}
+
+/// Does what the words of a command line ask for, and answers the status: 0 if the script was played to its end, or if a
+/// text was asked for and shown, as by `--help` and `--version`; 1 if the transcript ends with a line's fault; 2 if the words
+/// are none of this program's, which `err` is told; 3 if the input or output failed, or the input is too long; 4 if an
+/// allocation failed.
 pub fn exec<R: Read, W: Write, E: Write>(
     alloc: Global,
     words: &[String],
-    reader: &mut R,
-    out: &mut W,
+    reader: &mut Noted<R>,
+    out: &mut Noted<W>,
     err: &mut E,
 ) -> u8
-    // Either the script was played to its end and its transcript written, or a text was shown and nothing was read.
-    ensures clean { result ≡ 0 → Ran (R.remaining reader.old) (R.remaining reader.new) (W.contents out.old) (W.contents out.new) Clean ⊎ (reader.new ≡ reader.old) }
-
-    // What was written is the transcript up to the faulty line, and that line's fault.
-    ensures fault { result ≡ 1 → (line : ℕ) × Ran (R.remaining reader.old) (R.remaining reader.new) (W.contents out.old) (W.contents out.new) (LineFault line) }
-
-    // What was written is a front of the transcript, nothing, or a front of the text that was asked for.
-    ensures streams { result ≡ 3 → Broke (R.remaining reader.old) (R.remaining reader.new) (W.contents out.old) (W.contents out.new) ⊎ ((out.new ≡ out.old) ⊎ (reader.new ≡ reader.old)) }
-
-    // Nothing was read, and nothing written but to `err`.
-    ensures usage { result ≡ 2 → (reader.new ≡ reader.old) × (out.new ≡ out.old) }
-    ensures memory { result ≡ 4 → out.new ≡ out.old }
-    ensures most { result ≤ 4 }
+    // Right words are played. Others are told so, or the text that they ask for; then nothing is read.
+    ensures answered { Answered (faults_at (map string_bytes words.now)) result
+        (Played result (R.remaining reader.old.inner) (R.remaining reader.new.inner) (W.contents out.old.inner) (W.contents out.new.inner) (out.new ≡ out.old))
+        (reader.new ≡ reader.old) (out.new ≡ out.old) }
+    // Status 3 comes if a stream failed in this call, and only then or if the script is too long.
+    ensures streams { reader.old.failed ≡ false → out.old.failed ≡ false → FailsByStreams result reader.new.failed out.new.failed (R.remaining reader.old.inner) (out.new ≡ out.old) }
 {
     match read_task(alloc, words) {
         Ok(Task::Run) => play(alloc, reader, out, err),
@@ -91,13 +109,7 @@ pub fn exec<R: Read, W: Write, E: Write>(
                 let _ = write!(err, "{error}");
                 return USAGE;
             }
-            match write!(out, "{error}") {
-                Ok(()) => CLEAN,
-                Err(_) => {
-                    complain(err, "jcache: write failed\n");
-                    STREAMS
-                }
-            }
+            show(alloc, &error, out, err)
         }
     }
 }

@@ -6,6 +6,7 @@ mod exec;
 #[cfg(test)]
 mod tests;
 
+use jc_script::noted::Noted;
 use std::io;
 use std::process::ExitCode;
 
@@ -15,8 +16,8 @@ fn main(rt: HostRuntime) -> io::Result<ExitCode> {
     let status = exec::exec(
         alloc,
         &words,
-        &mut rt.reader(),
-        &mut io::writer(&rt),
+        &mut Noted::new(rt.reader()),
+        &mut Noted::new(io::writer(&rt)),
         &mut rt.stderr(),
     );
     Ok(ExitCode::from(status))

@@ -1,5 +1,6 @@
 //! The program's statuses, and what it says where.
 use crate::exec::exec;
+use jc_script::noted::Noted;
 use std::alloc::Global;
 use std::io;
 use std::test::Fail;
@@ -19,11 +20,18 @@ fn words(alloc: Global, line: &str) -> Result<Vec<String>, Fail> {
 }
 
 // The status, standard output and standard error.
-fn run_with(alloc: Global, line: &str, mut input: &[u8]) -> Result<(u8, Vec<u8>, Vec<u8>), Fail> {
+fn run_with(alloc: Global, line: &str, input: &[u8]) -> Result<(u8, Vec<u8>, Vec<u8>), Fail> {
     let words = words(alloc, line)?;
     let mut out = Vec::new(alloc);
     let mut err = Vec::new(alloc);
-    let status = exec(alloc, &words, &mut input, &mut out, &mut err);
+    let mut reader = Noted::new(input);
+    let status = exec(
+        alloc,
+        &words,
+        &mut reader,
+        &mut Noted::new(&mut out),
+        &mut err,
+    );
     Ok((status, out, err))
 }
 
@@ -75,6 +83,7 @@ fn shows_what_is_asked_for(rt: HostRuntime) -> Result<(), Fail> {
     for line in [
         "jcache --help",
         "jcache -h",
+        "jcache help",
         "jcache run --help",
         "jcache --version",
         "jcache -V",
@@ -117,13 +126,32 @@ fn tells_failed_streams(rt: HostRuntime) -> Result<(), Fail> {
     let words = words(alloc, "jcache run")?;
     let mut out = Vec::new(alloc);
     let mut err = Vec::new(alloc);
-    let status = exec(alloc, &words, &mut Broken, &mut out, &mut err);
+    let mut reader = Noted::new(Broken);
+    let status = exec(
+        alloc,
+        &words,
+        &mut reader,
+        &mut Noted::new(&mut out),
+        &mut err,
+    );
     assert_eq!(rt; status, 3);
     assert!(rt; out.is_empty());
     assert_eq!(rt; err.as_slice(), &b"jcache: read failed\n"[..]);
     let mut err = Vec::new(alloc);
-    let mut input = STORY;
-    let status = exec(alloc, &words, &mut input, &mut Full, &mut err);
+    let mut reader = Noted::new(STORY);
+    let status = exec(alloc, &words, &mut reader, &mut Noted::new(Full), &mut err);
+    assert_eq!(rt; status, 3);
+    assert_eq!(rt; err.as_slice(), &b"jcache: write failed\n"[..]);
+    Ok(())
+}
+
+#[test]
+fn tells_a_failed_help(rt: HostRuntime) -> Result<(), Fail> {
+    let alloc = rt.alloc();
+    let words = words(alloc, "jcache --help")?;
+    let mut err = Vec::new(alloc);
+    let mut reader = Noted::new(STORY);
+    let status = exec(alloc, &words, &mut reader, &mut Noted::new(Full), &mut err);
     assert_eq!(rt; status, 3);
     assert_eq!(rt; err.as_slice(), &b"jcache: write failed\n"[..]);
     Ok(())

@@ -1,4 +1,4 @@
-use Rattle.std.proofs.Common.{◌≤◌, arith, drop, length}
+use Rattle.std.proofs.Common.{◌≤◌, arith, rules, drop, length}
 use Rattle.std.proofs.lemmas.List.{take_rest, length-drop}
 use Rattle.std.proofs.Math.Seq.{take-add}
 use Rattle.jc_script.proofs.Pieces.{appends-then}
@@ -11,4 +11,4 @@ loop-at-preserved g c =
     let bs = c.args.bytes.now in
     let ensures = rw (take_rest bs at) at c.in-Ok.ensures in
     let bound : n ≤ length (drop at bs) = ensures.bound in
-    (omega (arith, length-drop at bs), rw (take-add at n bs) (appends-then _ _ _ _ _ c.loop-at.invariant.1 ensures.bytes))
+    (omega (arith, length-drop at bs), rw (take-add at n bs) (appends-then _ _ _ _ _ c.loop-at.invariant.1 ensures.bytes), search rules)
