@@ -1,10 +1,10 @@
 //! What the program does with its words, and the status that it ends with.
 ghost use Rattle.std.specs.Prelude.{◌≡◌, ◌⊎◌, ◌↔◌, map, string_bytes, true, false};
+ghost use Rattle.std.specs.Io.KnownBytes.{Appends};
 ghost use Rattle.jcache.specs.CommandLine.{faults_at};
 ghost use Rattle.jcache.specs.Answered.{Answered, FailsByStreams, Played};
 
 use crate::commands::{Task, read_task};
-use clap::Error;
 use clap::error::ErrorKind;
 use jc_script::noted::Noted;
 use jc_script::run::{RunEnd, RunFault, run};
@@ -60,17 +60,11 @@ fn play<R: Read, W: Write, E: Write>(
 }
 
 /// Shows the text that was asked for, and answers the status.
-fn show<W: Write, E: Write>(alloc: Global, text: &Error, out: &mut Noted<W>, err: &mut E) -> u8
-    ensures shown { (result ≡ 0) ⊎ ((result ≡ 3) ⊎ ((result ≡ 4) × (out.new ≡ out.old))) }
+fn show<W: Write, E: Write>(text: &str, out: &mut Noted<W>, err: &mut E) -> u8
+    ensures shown { result ≡ 0 → Appends (W.contents out.old.inner) (W.contents out.new.inner) text.now }
+    ensures others { (result ≡ 0) ⊎ (result ≡ 3) }
     ensures streams { out.old.failed ≡ false → (result ≡ 3 ↔ out.new.failed ≡ true) }
 {
-    let text = match format!(in alloc; "{text}") {
-        Ok(text) => text,
-        Err(_) => {
-            complain(err, "jcache: out of memory\n");
-            return MEMORY;
-        }
-    };
     match out.write_all(text.as_bytes()) {
         Ok(()) => CLEAN,
         Err(_) => {
@@ -109,7 +103,13 @@ pub fn exec<R: Read, W: Write, E: Write>(
                 let _ = write!(err, "{error}");
                 return USAGE;
             }
-            show(alloc, &error, out, err)
+            match format!(in alloc; "{error}") {
+                Ok(text) => show(&text, out, err),
+                Err(_) => {
+                    complain(err, "jcache: out of memory\n");
+                    MEMORY
+                }
+            }
         }
     }
 }
