@@ -11,6 +11,8 @@ use Rattle.std.specs.Cmp.Lexicographic.{pointwise, texts_ties}
 use Rattle.std.proofs.lemmas.Bool.{eq-eqb, eqb-true, and_parts}
 use Rattle.std.proofs.lemmas.Cmp.{nat_list_cmp_total, nat_list_eq_equiv}
 use Rattle.std.specs.FinMap.{get, insert, remove, get-insert, get-remove, empty, from_entries, len-empty}
+use Rattle.jc_world.proofs.Numbered.{some_of}
+use Rattle.jc_types.proofs.CallerLemmas.{all_filter, all_imply}
 use Rattle.jc_types.specs.declared.caller.Caller.{Caller}
 use Rattle.jc_types.specs.declared.config.Config.{Config}
 use Rattle.jc_types.specs.Limits.{check}
@@ -57,7 +59,7 @@ use Rattle.jc_world.specs.Sound.{IsStripe, is_up_to, none_from, has_answer, is_t
 use Rattle.jc_world.proofs.Halves.{HasOrder}
 use Rattle.jc_world.proofs.Places.{at_stripe, stripe_put}
 use Rattle.jc_world.proofs.Reservations.{out_reserved, was_free, writer_alone}
-use Rattle.jc_world.proofs.Shares.{some_of, is_some_and, set_cases, all_filter, all_imply, found_test, turned_eq, Each, added, share_grows, share_stays, shape_same, shape_set, all_come, AllBy, by_map, by_group, added_order, numbers_added, none_added}
+use Rattle.jc_world.proofs.Shares.{is_some_and, set_cases, found_test, turned_eq, Each, added, share_grows, share_stays, shape_same, shape_set, all_come, AllBy, by_map, by_group, added_order, numbers_added, none_added}
 use Rattle.jc_world.proofs.Underway.{found_number, find_over, fits_found, calls_filter, calls_on, each_found, elsewhere_found, up_self, up_more, numbers_more, none_new, calls_pushed, find_pushed, all_owned, each_owned, owned_pushed, owned_left, owned_found, others_left, test_owned, same_bytes, of_call-at, of_call-none}
 use Rattle.jc_world.proofs.Joiners.{joiner_of, unanswered, waited_found, told_resolved, told_waiting, told_dissolved, told_pushed, find_kept, each_own, each_caller, each_both, called_each, called_found, called_test, join_is, joined_no_part, other_call}
 
@@ -317,7 +319,7 @@ begins_with w u from old there may =
       of_stripe = own_key w u.command.key from at;
       behind =
           ap (λ h. list_all (λ e. may_come e u.caller u.command.key) h) (sym at.share)
-          ∙ all_filter (is_of_stripe w.config.stripes (home w u.command.key)) (λ e. may_come e u.caller u.command.key) w.order
+          ∙ all_filter (λ e. may_come e u.caller u.command.key) (is_of_stripe w.config.stripes (home w u.command.key)) w.order
           (all_come w.order u.caller u.command.key (may.fit.none (unserved w u u.caller.call refl may.alone old)));
       beside = test_owned w (is_other_call u.caller u.command.key) from.reservations (λ r h. beside_own w u r old may h) (old.owned (home w u.command.key) from there);
       apart = called_test w (home w u.command.key) (is_join_apart u.caller u.command.key) from.joiners (λ j h. apart_own w u (home w u.command.key) j old may h) (old.called (home w u.command.key) from there);

@@ -9,10 +9,11 @@ use Rattle.std.specs.List.{list_all, list_any}
 use Rattle.std.specs.Ordering.{eq_by_cmp}
 use Rattle.std.specs.Cmp.{eq_by_cmp_equiv}
 use Rattle.std.specs.Cmp.Lexicographic.{pointwise, texts_ties}
-use Rattle.std.proofs.lemmas.Bool.{eq-eqb, eqb-true, and_parts}
+use Rattle.std.proofs.lemmas.Bool.{eq-eqb, eqb-true, and_parts, and_from}
 use Rattle.std.proofs.lemmas.Cmp.{nat_list_cmp_total, nat_list_eq_equiv}
 use Rattle.std.specs.FinMap.{find, get, get-from_entries}
 use Rattle.std.proofs.Common.{find as find_in}
+use Rattle.jc_types.proofs.CallerLemmas.{all_filter, all_imply}
 use Rattle.jc_types.specs.declared.config.Config.{Config}
 use Rattle.jc_types.specs.Stripes.{stripe_of}
 use Rattle.jc_model.specs.declared.event.Out.{Out}
@@ -38,9 +39,9 @@ use Rattle.jc_world.specs.Slots.{once}
 use Rattle.jc_world.specs.Inside.{world_of, IsKept}
 use Rattle.jc_world.specs.Ending.{IsLeft, AreLeft, out_at, IsEntryOut, AllOut, HasSlots, IsJoinOut, AllJoinsOut, HasJoins, NoneReserved}
 use Rattle.jc_world.proofs.Listed.{Entry, tied, split}
-use Rattle.jc_world.proofs.Numbered.{within, at_index}
+use Rattle.jc_world.proofs.Numbered.{within, at_index, some_of}
 use Rattle.jc_world.proofs.Places.{at_stripe}
-use Rattle.jc_world.proofs.Shares.{all, set_cases, length-slice_set, all_filter, all_imply, some_of}
+use Rattle.jc_world.proofs.Shares.{set_cases, length-slice_set}
 use Rattle.jc_world.proofs.Underway.{others_left, same_bytes, test_owned}
 use Rattle.jc_world.proofs.Reservations.{found_left}
 use Rattle.jc_world.proofs.Joiners.{joiner_of, find_kept, joined_resolved, joined_dissolved}
@@ -62,7 +63,7 @@ once_left : (xs : List Entry) (e : Entry) → once (xs ++ e ∷ []) ≡ true →
 once_left [] e h = refl
 once_left (x ∷ xs) e h =
     let parts = and_parts (is_none (find key_cmp x.0 (xs ++ e ∷ []))) (once (xs ++ e ∷ [])) h in
-    all _ _ (ap is_none (unfound_last x.0 xs e (none_is _ parts.0)).0) (once_left xs e parts.1)
+    and_from _ _ (ap is_none (unfound_last x.0 xs e (none_is _ parts.0)).0) (once_left xs e parts.1)
 
 -- the last slot's reservation is out, and so are the others
 last_out : (config : Config) (ss : List State) (xs : List Entry) (e : Entry) → AllOut config ss (xs ++ e ∷ []) → IsEntryOut config ss e
@@ -158,7 +159,7 @@ backs xs e [] h k = refl
 backs xs e (r ∷ rs) h k =
     let a = and_parts (is_some (find key_cmp r.key (xs ++ e ∷ []))) (list_all (λ (r : Reservation). is_some (find key_cmp r.key (xs ++ e ∷ []))) rs) h in
     let b = and_parts (not (is_key e.0 r)) (list_all (λ (r : Reservation). not (is_key e.0 r)) rs) k in
-    all _ _ (found_before r.key xs e ((eq_by_cmp_equiv nat_list_cmp_total).symm r.key e.0 ∙ sym (texts_ties e.0 r.key) ∙ not_true (is_key e.0 r) b.0) a.0) (backs xs e rs a.1 b.1)
+    and_from _ _ (found_before r.key xs e ((eq_by_cmp_equiv nat_list_cmp_total).symm r.key e.0 ∙ sym (texts_ties e.0 r.key) ∙ not_true (is_key e.0 r) b.0) a.0) (backs xs e rs a.1 b.1)
   where
     not_true : (b : Bool) → not b ≡ true → b ≡ false
     not_true true h = cc
@@ -183,7 +184,7 @@ ended config ss from to xs e left at is h =
           (λ same here.
           let B : List Reservation → Type 0 = λ rs. list_all (λ r. is_some (find key_cmp r.key xs)) rs ≡ true in
           let some : list_all (λ r. is_some (find key_cmp r.key (xs ++ e ∷ []))) (without_key e.0 from.reservations) ≡ true =
-          all_filter (λ r. not (is_key e.0 r)) (λ r. is_some (find key_cmp r.key (xs ++ e ∷ []))) from.reservations (h.back n from at) in
+          all_filter (λ r. is_some (find key_cmp r.key (xs ++ e ∷ []))) (λ r. not (is_key e.0 r)) from.reservations (h.back n from at) in
           subst B (sym is.left ∙ ap (λ (s : State). s.reservations) here) (backs xs e (without_key e.0 from.reservations) some (others_left e.0 from.reservations)))
           (λ apart here. backs xs e s.reservations (h.back m s here) (other_stripe config e.0 m s s.reservations (left.each m s here) apart (left.each m s here).reached.keys));
     }
@@ -244,7 +245,7 @@ other_joined from join j apart h =
     subst J (sym (find_kept (is_joiner_of j.caller j.key) (λ x. not (is_joiner_of join.caller join.key x)) from.joiners (λ x t. ap not (refuted (is_joiner_of join.caller join.key x) (λ e.
     let mine = parts_of_test j x t in
     let same = parts_of_test join x e in
-    let its : is_join j.caller.call j.key join ≡ true = all _ _ (eq-eqb join.caller.call j.caller.call (sym same.0 ∙ mine.0)) (ap (pointwise ◌==◌ j.key) (sym same.1 ∙ mine.1) ∙ nat_list_eq_equiv.refl j.key) in
+    let its : is_join j.caller.call j.key join ≡ true = and_from _ _ (eq-eqb join.caller.call j.caller.call (sym same.0 ∙ mine.0)) (ap (pointwise ◌==◌ j.key) (sym same.1 ∙ mine.1) ∙ nat_list_eq_equiv.refl j.key) in
     let t : true ≡ false = sym its ∙ apart in cc))))) h
   where
     parts_of_test : (j : JoinClaim) (x : Joiner) → is_joiner_of j.caller j.key x ≡ true → (x.caller.call ≡ j.caller.call) × (x.key ≡ j.key)
@@ -269,7 +270,7 @@ picked_up config ss from to js join at is h = record { once_is = singles js h.on
     singles [] o = refl
     singles (x ∷ xs) o =
         let parts = and_parts (not (list_any (is_join x.caller.call x.key) (xs ++ join ∷ []))) (joined_once (xs ++ join ∷ [])) o in
-        all _ _ (none_of (is_join x.caller.call x.key) xs join parts.0).0 (singles xs parts.1)
+        and_from _ _ (none_of (is_join x.caller.call x.key) xs join parts.0).0 (singles xs parts.1)
 
     each : (js : List JoinClaim) → joined_once (js ++ join ∷ []) ≡ true → AllJoinsOut config ss (js ++ join ∷ []) → AllJoinsOut config (slice_set ss n to) js
     each [] o h = tt

@@ -6,10 +6,11 @@
 use Rattle.std.proofs.Common.{◌≡◌, ℕ, List, [], ◌∷◌, ◌++◌, true, false, cond, not, Option, None, Some, IsSomeAnd, find, inl, inr, refl, sym, ap, ◌∙◌, subst, arith, is_none, nat_lt, nat_le}
 use Rattle.std.specs.Option.{option_or}
 use Rattle.std.specs.FinMap.{get, remove, get-insert, get-remove}
-use Rattle.std.proofs.lemmas.Bool.{eq-eqb, and_parts}
+use Rattle.std.proofs.lemmas.Bool.{eq-eqb, and_parts, and_from}
 use Rattle.std.proofs.lemmas.Bool.Decides.{nat_tests}
 use Rattle.std.proofs.lemmas.Cmp.{nat_list_cmp_total, nat_eq_equiv, nat_list_eq_equiv}
 use Rattle.std.proofs.lemmas.List.Folds.{find-append}
+use Rattle.jc_world.proofs.Numbered.{some_of}
 use Rattle.jc_model.specs.Cache.{Bytes}
 use Rattle.jc_stripe.specs.State.{State}
 use Rattle.jc_world.specs.declared.event.Part.{Part}
@@ -21,7 +22,6 @@ use Rattle.jc_world.specs.declared.event.WorldEvent.TheVariants as event
 use Rattle.jc_world.specs.World.{WorldState, stripe_for, has_number, under, of_call, part_of, waits_for_report, is_join, is_joined}
 use Rattle.jc_world.specs.Events.{fits, is_new, is_free, may_start, may_leave, may_report, changed, with_stripe, without_part, Happens, is_fit, AllFit, StartFits}
 use Rattle.jc_world.specs.Sound.{is_up_to, IsHeld, IsSoundWorld}
-use Rattle.jc_world.proofs.Shares.{all, some_of}
 use Rattle.jc_world.proofs.Entries.{tied}
 use Rattle.jc_world.proofs.Underway.{found_number, fits_found, of_call-at}
 use Rattle.jc_world.proofs.Joiners.{join_any, join_is}
@@ -55,7 +55,7 @@ none_fit w (s ∷ ss) new run = absurd run
 -- an event that fits, and others that fit wherever it leads
 fits_then : (w : WorldState) (e : WorldEvent) (es : List WorldEvent) → fits w e ≡ true → ((seen : Shown) (mid : WorldState) → Happens w e seen mid → AllFit mid es) → AllFit w (e ∷ es)
 fits_then w e es fit more [] new run = absurd run
-fits_then w e es fit more (s ∷ ss) new (mid, inl (fit_now, happens), run) = all _ _ (fit_shown w mid e s happens) (more s mid happens ss new run)
+fits_then w e es fit more (s ∷ ss) new (mid, inl (fit_now, happens), run) = and_from _ _ (fit_shown w mid e s happens) (more s mid happens ss new run)
 fits_then w e es fit more (s ∷ ss) new (mid, inr (unfit, shows, is), run) = let t : true ≡ false = sym fit ∙ unfit in cc
 
 -- an event that fits, alone
@@ -92,7 +92,7 @@ leave_fits w call u here free fit =
     let P : WorldState → Type 0 = λ m. fits m (event.Leave call) ≡ true in
     let gone : get (remove w.parts key) key ≡ None = get-remove nat_list_cmp_total w.parts key key ∙ ap (λ b. cond b None (get w.parts key)) (tied key) in
     one_fits mid (event.Leave call)
-    (subst P (sym happens.7) (ap (may_leave new call) here ∙ all _ _ (ap (λ o. is_none (of_call call o)) gone) (ap not free))))
+    (subst P (sym happens.7) (ap (may_leave new call) here ∙ and_from _ _ (ap (λ o. is_none (of_call call o)) gone) (ap not free))))
 
 -- 3. A call that has just begun.
 
@@ -117,7 +117,7 @@ nobody w call other P none same h = let Q : Option Under → Type 0 = λ o. IsSo
 new_free : (w : WorldState) (call : ℕ) (key : Bytes) → is_new w.last call ≡ true → IsSoundWorld w → is_free w call key ≡ true
 new_free w call key new old =
     let none = new_under w call new old in
-    all _ _
+    and_from _ _
     (ap is_none (missing (part_of w call key) (λ part is.
     let at = of_call-at call (get w.parts key) part is in
     let held = some_of (stripe_for w key) (λ (s : State). IsHeld w s key part) (old.held key part at.0) in
@@ -138,4 +138,4 @@ start_fits w old call session command fit =
     fits_then w (event.Call call session command) (event.Start call command.key ∷ []) fit (λ seen mid happens.
     let P : WorldState → Type 0 = λ m. fits m (event.Start call command.key) ≡ true in
     one_fits mid (event.Start call command.key)
-    (subst P (sym happens.1) (ap (may_start next call command.key) here ∙ all _ _ (nat_list_eq_equiv.refl command.key) (new_free w call command.key new old))))
+    (subst P (sym happens.1) (ap (may_start next call command.key) here ∙ and_from _ _ (nat_list_eq_equiv.refl command.key) (new_free w call command.key new old))))

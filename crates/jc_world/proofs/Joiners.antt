@@ -13,8 +13,9 @@ use Rattle.std.proofs.lemmas.Iterator.Adapters.{position_from-zero}
 use Rattle.std.specs.Ordering.{eq_by_cmp}
 use Rattle.std.specs.Cmp.Lexicographic.{pointwise}
 use Rattle.std.specs.FinMap.{get, insert, remove, get-insert, get-remove}
-use Rattle.std.proofs.lemmas.Bool.{eqb-true, and_parts}
+use Rattle.std.proofs.lemmas.Bool.{eqb-true, and_parts, and_from}
 use Rattle.std.proofs.lemmas.Cmp.{nat_list_cmp_total, nat_eq_equiv, nat_list_eq_equiv}
+use Rattle.jc_world.proofs.Numbered.{some_of}
 use Rattle.jc_types.specs.declared.caller.Caller.{Caller}
 use Rattle.jc_model.specs.Cache.{Bytes, key_cmp}
 use Rattle.jc_model.proofs.CallerLemmas.{same_key}
@@ -31,7 +32,7 @@ use Rattle.jc_world.specs.declared.event.Under.{Under}
 use Rattle.jc_world.specs.declared.event.Part.{Part}
 use Rattle.jc_world.specs.World.{WorldState, Parts, under, of_call, part_of, is_join, is_joined, unjoined}
 use Rattle.jc_world.specs.Sound.{has_answer, is_told, IsWaitedFor, AllWaitedFor, joined_once, IsCalled, AllCalled}
-use Rattle.jc_world.proofs.Shares.{all, some_of, turned_eq, Each, each_map}
+use Rattle.jc_world.proofs.Shares.{turned_eq, Each, each_map}
 use Rattle.jc_world.proofs.Underway.{same_bytes}
 
 -- the joiner of a caller at a key
@@ -148,7 +149,7 @@ pub each_own : (js : List Joiner) → are_apart js ≡ true → Each (λ (j : Jo
 each_own [] h = tt
 each_own (x ∷ xs) h =
     let parts = and_parts (list_all (is_other_join x.caller x.key) xs) (are_apart xs) h in (
-      ap (λ b. cond b (Some x) (find (belongs_to x.caller x.key) xs)) (all _ _ (all _ _ (nat_eq_equiv.refl x.caller.session) (nat_eq_equiv.refl x.caller.call)) (nat_list_eq_equiv.refl x.key)),
+      ap (λ b. cond b (Some x) (find (belongs_to x.caller x.key) xs)) (and_from _ _ (and_from _ _ (nat_eq_equiv.refl x.caller.session) (nat_eq_equiv.refl x.caller.call)) (nat_list_eq_equiv.refl x.key)),
       behind xs (each_own xs parts.1) parts.0,
     )
   where
@@ -278,7 +279,7 @@ called_each w m P (x ∷ xs) f h = (f x h.0, called_each w m P xs f h.1)
 -- a test of each
 pub called_test : (w : WorldState) (m : ℕ) (p : Joiner → Bool) (js : List Joiner) → ((j : Joiner) → IsCalled w m j → p j ≡ true) → AllCalled w m js → list_all p js ≡ true
 called_test w m p [] f h = refl
-called_test w m p (x ∷ xs) f h = all _ _ (f x h.0) (called_test w m p xs f h.1)
+called_test w m p (x ∷ xs) f h = and_from _ _ (f x h.0) (called_test w m p xs f h.1)
 
 -- two facts of each
 pub each_both : {A : Type 0} (P Q R : A → Type 0) (xs : List A) → ((x : A) → P x → Q x → R x) → Each P xs → Each Q xs → Each R xs
@@ -310,7 +311,7 @@ waited_pushed w (x ∷ xs) j h one = (h.0, waited_pushed w xs j h.1 one)
 pub each_joined : (js : List JoinClaim) → Each (λ (j : JoinClaim). list_any (is_join j.caller.call j.key) js ≡ true) js
 each_joined [] = tt
 each_joined (x ∷ xs) = (
-  ap (λ b. b || list_any (is_join x.caller.call x.key) xs) (all _ _ (nat_eq_equiv.refl x.caller.call) (nat_list_eq_equiv.refl x.key)),
+  ap (λ b. b || list_any (is_join x.caller.call x.key) xs) (and_from _ _ (nat_eq_equiv.refl x.caller.call) (nat_list_eq_equiv.refl x.key)),
   each_map (λ (j : JoinClaim). list_any (is_join j.caller.call j.key) xs ≡ true) (λ (j : JoinClaim). (is_join j.caller.call j.key x || list_any (is_join j.caller.call j.key) xs) ≡ true) xs
       (λ j h. or_second (is_join j.caller.call j.key x) (list_any (is_join j.caller.call j.key) xs) h) (each_joined xs),
 )
@@ -382,7 +383,7 @@ once_filter q [] h = h
 once_filter q (x ∷ xs) h =
     let parts = and_parts (not (list_any (is_join x.caller.call x.key) xs)) (joined_once xs) h in
     elim (q x) as (λ b. joined_once (cond b (x ∷ filter q xs) (filter q xs)) ≡ true) [
-      | true ↦ all _ _ (none_left (is_join x.caller.call x.key) q xs parts.0) (once_filter q xs parts.1)
+      | true ↦ and_from _ _ (none_left (is_join x.caller.call x.key) q xs parts.0) (once_filter q xs parts.1)
       | false ↦ once_filter q xs parts.1
     ]
 
@@ -400,7 +401,7 @@ once_pushed (x ∷ xs) j h o =
     let parts = and_parts (not (list_any (is_join x.caller.call x.key) xs)) (joined_once xs) o in
     elim (is_join j.caller.call j.key x) as (λ b. is_join j.caller.call j.key x ≡ b → not (b || list_any (is_join j.caller.call j.key) xs) ≡ true → (not (list_any (is_join x.caller.call x.key) (xs ++ j ∷ [])) && joined_once (xs ++ j ∷ [])) ≡ true) [
       | true ↦ λ e h. cc
-      | false ↦ λ e h. all _ _ (none_more (is_join x.caller.call x.key) xs j parts.0 (not_joined j x e)) (once_pushed xs j h parts.1)
+      | false ↦ λ e h. and_from _ _ (none_more (is_join x.caller.call x.key) xs j parts.0 (not_joined j x e)) (once_pushed xs j h parts.1)
     ] refl h
   where
     none_more : (p : JoinClaim → Bool) (ys : List JoinClaim) (y : JoinClaim) → not (list_any p ys) ≡ true → p y ≡ false → not (list_any p (ys ++ y ∷ [])) ≡ true

@@ -5,8 +5,9 @@ use Rattle.std.proofs.Common.{◌≡◌, ◌==◌, ◌&&◌, ◌+◌, ℕ, List,
 use Rattle.std.specs.List.{list_any}
 use Rattle.std.specs.Cmp.Lexicographic.{pointwise}
 use Rattle.std.specs.FinMap.{get, insert, remove}
-use Rattle.std.proofs.lemmas.Bool.{eq-eqb, eqb-true, and_parts}
+use Rattle.std.proofs.lemmas.Bool.{eq-eqb, eqb-true, and_parts, and_from}
 use Rattle.std.proofs.lemmas.Cmp.{nat_eq_equiv, nat_list_eq_equiv}
+use Rattle.jc_world.proofs.Numbered.{some_of}
 use Rattle.jc_types.specs.declared.caller.Caller.{Caller}
 use Rattle.jc_types.specs.declared.config.Config.{Config}
 use Rattle.jc_types.specs.Limits.{check}
@@ -35,7 +36,7 @@ use Rattle.jc_world.specs.Events.{may_leave, fits, with_stripe, goes_on, call_ov
 use Rattle.jc_world.specs.Sound.{IsHeld, IsWaitedFor, AllWaitedFor, IsCalled, AllCalled, IsSoundWorld}
 use Rattle.jc_world.proofs.Halves.{HasJoins}
 use Rattle.jc_world.proofs.Places.{at_stripe, stripe_put}
-use Rattle.jc_world.proofs.Shares.{all, some_of, is_some_and, set_cases, turned_eq, found_test}
+use Rattle.jc_world.proofs.Shares.{is_some_and, set_cases, turned_eq, found_test}
 use Rattle.jc_world.proofs.Underway.{found_number, find_over, find_pushed, of_call-at, same_bytes}
 use Rattle.jc_world.proofs.Joiners.{joiner_of, any_kept, any_front, any_last, joined_resolved, joined_dissolved, joined_front, joined_last, find_kept, called_found, called_on, called_all, called_resolved, called_dissolved, called_pushed, once_pushed, once_filter, waited_on, waited_all, waited_pushed, each_joined, join_is, joined_no_part, other_call, none_inserted, none_removed, part_other}
 use Rattle.jc_world.proofs.Callers.{MayStart, may_start_at, may_leave_at, start_is, refuted, Picking, picking}
@@ -205,7 +206,7 @@ joins_joined w u from to join there join_is to_is may old =
     let its_call : IsSomeAnd (under w join.caller.call) (IsOf join.caller.session join.key) = is_some_and (under w join.caller.call) (IsOf join.caller.session join.key) u (ap (under w) call_is ∙ may.here) (sym session_is, sym key_is) in
     let one : IsCalled new (home w key) next = record {
       home_is = ap (home w) key_is;
-      join = any_last (is_join join.caller.call join.key) w.joins join (all _ _ (nat_eq_equiv.refl join.caller.call) (nat_list_eq_equiv.refl join.key));
+      join = any_last (is_join join.caller.call join.key) w.joins join (and_from _ _ (nat_eq_equiv.refl join.caller.call) (nat_list_eq_equiv.refl join.key));
       call = its_call;
     } in
     let F : State → Type 0 = λ s. IsJoined s join in
@@ -218,7 +219,7 @@ joins_joined w u from to join there join_is to_is may old =
       out = is_some_and (stripe_for new join.key) F to (ap (λ k. slice_get new.stripes (home w k)) key_is ∙ stripe_put w.stripes (home w key) from to there)
           (subst (J join) (sym joiners)
           (joined_last (λ x. x.load ≡ join.load) (is_joiner_of join.caller join.key) from.joiners next alone
-          (all _ _ (all _ _ (nat_eq_equiv.refl join.caller.session) (nat_eq_equiv.refl join.caller.call)) (nat_list_eq_equiv.refl join.key)) refl));
+          (and_from _ _ (and_from _ _ (nat_eq_equiv.refl join.caller.session) (nat_eq_equiv.refl join.caller.call)) (nat_list_eq_equiv.refl join.key)) refl));
       call = its_call;
       no_part = (λ i. part_of w (call_is i) (key_is i)) ∙ none_is (part_of w u.caller.call key) may.none;
     } in
@@ -317,7 +318,7 @@ apart_from w call key join p number session q other h = refuted (number == call)
 
 -- a test that is passed by what is so
 join_of_is : (call number : ℕ) (key q : Bytes) → q ≡ key → number ≡ call → ((number == call) && pointwise ◌==◌ key q) ≡ true
-join_of_is call number key q e f = all _ _ (eq-eqb number call f) (ap (pointwise ◌==◌ key) e ∙ nat_list_eq_equiv.refl key)
+join_of_is call number key q e f = and_from _ _ (eq-eqb number call f) (ap (pointwise ◌==◌ key) e ∙ nat_list_eq_equiv.refl key)
 
 -- what is not true is not so
 denied : (b : Bool) → not b ≡ true → b ≡ true → ⊥
@@ -359,7 +360,7 @@ joins_picked w call key join from to calls joined there is go old =
           }) (each_joined w.joins) old.joins;
       called = called_set w new key from to there
           (λ h. subst (AllCalled new (home w key)) (sym joiners) (called_on w new (home w key) (λ j. not (its j)) from.joiners
-          (λ j other k. on (home w key) j (λ e f g. denied (its j) other (all _ _ (all _ _ (eq-eqb j.caller.session join.caller.session g) (eq-eqb j.caller.call join.caller.call (f ∙ sym p.call_is))) (ap (pointwise ◌==◌ join.key) (e ∙ sym p.join_key) ∙ nat_list_eq_equiv.refl join.key))) k) h))
+          (λ j other k. on (home w key) j (λ e f g. denied (its j) other (and_from _ _ (and_from _ _ (eq-eqb j.caller.session join.caller.session g) (eq-eqb j.caller.call join.caller.call (f ∙ sym p.call_is))) (ap (pointwise ◌==◌ join.key) (e ∙ sym p.join_key) ∙ nat_list_eq_equiv.refl join.key))) k) h))
           (λ m js apart h. called_all w new m js (λ j k. on m j (λ e f g. apart (ap (home w) (sym e) ∙ k.home_is)) k) h) old;
       once = once_filter (λ j. not (is_join call key j)) w.joins old.once;
       alone = λ f. absurd (let t : None ≡ Some p.u = ap (find (has_number call)) (sym (old.idle f).0) ∙ p.here in cc);

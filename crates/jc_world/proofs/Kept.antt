@@ -4,9 +4,10 @@ use Rattle.std.specs.List.{list_any}
 use Rattle.std.specs.Ordering.{eq_by_cmp}
 use Rattle.std.specs.Cmp.Lexicographic.{texts_ties, pointwise}
 use Rattle.std.proofs.lemmas.Cmp.{nat_list_cmp_total}
-use Rattle.std.proofs.lemmas.Bool.{eqb-true, and_parts}
+use Rattle.std.proofs.lemmas.Bool.{eqb-true, and_parts, and_from}
 use Rattle.std.specs.FinMap.{get, insert, remove, get-empty, get-insert, get-remove}
 use Rattle.std.specs.Bool.{beq}
+use Rattle.jc_world.proofs.Numbered.{some_of}
 use Rattle.jc_types.specs.declared.caller.Caller.{Caller}
 use Rattle.jc_types.specs.declared.config.Config.{Config}
 use Rattle.jc_types.specs.Limits.{check}
@@ -72,17 +73,14 @@ abbrev AllTold : WorldState → Parts → Cache → Type 0
 AllTold w parts store = (key : Bytes) → KeyTold (get parts key) (entry_at store key) (cached w key)
 
 -- two tests that both pass
-all : (a b : Bool) → a ≡ true → b ≡ true → (a && b) ≡ true
-all a b h k = ap (λ x. x && b) h ∙ k
-
--- a further premise held, and all the former ones
+-- a further premise held, and and_from the former ones
 hold_loader : (on w l h q : Bool) → (on && (w && (l && h) && q)) ≡ true → ((on && (w && l && q)) ≡ true) × (h ≡ true)
 hold_loader on w l h q e =
     let a = and_parts on (w && (l && h) && q) e in
     let b = and_parts (w && (l && h)) q a.1 in
     let c = and_parts w (l && h) b.0 in
     let d = and_parts l h c.1 in
-    (all on (w && l && q) a.0 (all (w && l) q (all w l c.0 d.0) b.1), d.1)
+    (and_from on (w && l && q) a.0 (and_from (w && l) q (and_from w l c.0 d.0) b.1), d.1)
 
 -- the same, of the writers
 hold_writer : (on w h l q : Bool) → (on && ((w && h) && l && q)) ≡ true → ((on && (w && l && q)) ≡ true) × (h ≡ true)
@@ -91,7 +89,7 @@ hold_writer on w h l q e =
     let b = and_parts ((w && h) && l) q a.1 in
     let c = and_parts (w && h) l b.0 in
     let d = and_parts w h c.0 in
-    (all on (w && l && q) a.0 (all (w && l) q (all w l d.0 c.1) b.1), d.1)
+    (and_from on (w && l && q) a.0 (and_from (w && l) q (and_from w l d.0 c.1) b.1), d.1)
 
 -- a store that was written by somebody else isn't quiet
 undisturbed : (on w l : Bool) → (on && (w && l && false)) ≡ true → ⊥
@@ -120,12 +118,7 @@ other_call (Some p) call part is none =
     let P : Part → Type 0 = λ x. (x.reservation.caller.call == call) ≡ false in
     subst P same (elim (p.reservation.caller.call == call) as (λ b. is_none (cond b (Some p) None) ≡ true → b ≡ false) [ true ↦ λ h. cc | false ↦ λ h. refl ] none)
 
--- what holds of each value holds of what is there
-some_of : {A : Type 0} (o : Option A) (P : A → Type 0) → IsSomeAnd o P → (x : A) × (o ≡ Some x) × P x
-some_of None P h = absurd h
-some_of (Some x) P h = (x, refl, h)
-
--- and goes on to what follows from it
+-- what holds of what is there goes on to what follows from it
 some_map : {A : Type 0} (o : Option A) (P Q : A → Type 0) → ((x : A) → P x → Q x) → IsSomeAnd o P → IsSomeAnd o Q
 some_map None P Q f h = h
 some_map (Some x) P Q f h = f x h

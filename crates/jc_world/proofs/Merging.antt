@@ -18,7 +18,7 @@ use Rattle.jc_stripe.specs.State.{State}
 use Rattle.jc_types.specs.declared.config.Config.{Config}
 use Rattle.jc_types.specs.Limits.{check}
 use Rattle.jc_world.specs.World.{empty_stripes}
-use Rattle.jc_world.proofs.Places.{few_stripes}
+use Rattle.jc_world.proofs.Places.{few_stripes, stripe_put}
 use Rattle.jc_world.proofs.Callers.{empty_count}
 use Rattle.jc_stripe.specs.Laws.{Extends}
 use Rattle.jc_stripe.specs.Phases.{PicksUp}
@@ -139,12 +139,6 @@ merged_same left left' (turn ∷ turns) each longer =
 
 -- 4. A stripe that appends.
 
--- what the stripe at a number is, when one is put in its place
-at_set : (stripes : List State) (n : ℕ) (from to : State) → slice_get stripes n ≡ Some from → slice_get (slice_set stripes n to) n ≡ Some to
-at_set [] n from to h = cc
-at_set (s ∷ ss) zero from to h = refl
-at_set (s ∷ ss) (suc n) from to h = at_set ss n from to h
-
 other_set : (stripes : List State) (n m : ℕ) (to : State) → (n == m) ≡ false → slice_get (slice_set stripes n to) m ≡ slice_get stripes m
 other_set [] n m to h = refl
 other_set (s ∷ ss) zero zero to h = cc
@@ -162,7 +156,7 @@ history_set stripes n m from to more at is =
       | true ↦ λ e.
           let same = eqb-true n m e in
           subst (λ k. history_at (slice_set stripes n to) k ≡ history_at stripes k ++ more) same
-          (ap history_in (at_set stripes n from to at) ∙ is ∙ ap (λ o. history_in o ++ more) (sym at))
+          (ap history_in (stripe_put stripes n from to at) ∙ is ∙ ap (λ o. history_in o ++ more) (sym at))
       | false ↦ λ e. ap history_in (other_set stripes n m to e) ∙ sym (append-nil (history_at stripes m))
     ] refl
 
@@ -183,7 +177,7 @@ grows_merged stripes turns n count from to more each at is counted =
     let left' = history_at (slice_set stripes n to) in
     let longer : Longer left left' = λ m. (cond (n == m) more [], history_set stripes n m from to more at is) in
     let here : left n ≡ from.history = ap history_in at in
-    let there : left' n ≡ to.history = ap history_in (at_set stripes n from to at) in
+    let there : left' n ≡ to.history = ap history_in (stripe_put stripes n from to at) in
     let rest : all_left left' turns n ≡ more =
     left_at left' turns n ∙ ap (λ k. drop k (left' n)) (each n ∙ ap length here) ∙ ap (drop (length from.history)) there ∙ added_is from to more is in
     merged_both left' turns (replicate (length to.history - count) n)

@@ -5,6 +5,7 @@ use Rattle.jc_types.specs.declared.config.Config.{Config}
 use Rattle.jc_stripe.specs.State.{State}
 use Rattle.jc_world.specs.World.{empty_stripe, empty_stripes}
 
+-- what is there, by a condition on it
 pub some_of : {A : Type 0} (o : Option A) (P : A → Type 0) → IsSomeAnd o P → (x : A) × (o ≡ Some x) × P x
 some_of None P h = absurd h
 some_of (Some x) P h = (x, refl, h)

@@ -50,11 +50,6 @@ phased_at w call u is sound = single_phases u.command.op (under_single w call u 
 
 -- 2. The stripe that a phase has changed.
 
-pub get-set : (xs : List State) (i : ℕ) (x y : State) → slice_get xs i ≡ Some x → slice_get (slice_set xs i y) i ≡ Some y
-get-set [] i x y h = cc
-get-set (z ∷ zs) zero x y h = refl
-get-set (z ∷ zs) (suc i) x y h = get-set zs i x y h
-
 -- what a machine knows once it has run a phase
 pub record Phased (v : WorldState) (number : ℕ) (phase : State → State → Type 0) (stripes : List State) (order : List Event) : Type 0 where
   pub from : State

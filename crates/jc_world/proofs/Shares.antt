@@ -2,13 +2,14 @@
 --     shape_set      the shape of a world, where one stripe is another and the order is that stripe's longer one
 --     AllBy          each step among events is of such a caller
 --     added_order    steps of calls whose numbers are not in the order may stand at its end
-use Rattle.std.proofs.Common.{◌≡◌, ◌==◌, ◌&&◌, ◌||◌, ℕ, zero, suc, List, [], ◌∷◌, ◌++◌, length, drop, Bool, true, false, cond, not, Option, None, Some, IsSomeAnd, filter, find, map, nat_lt, slice_get, slice_set, refl, sym, ap, ◌∙◌, subst, arith, append-nil}
+use Rattle.std.proofs.Common.{◌≡◌, ◌==◌, ◌||◌, ℕ, zero, suc, List, [], ◌∷◌, ◌++◌, length, drop, Bool, true, false, cond, not, Option, None, Some, IsSomeAnd, filter, find, map, nat_lt, slice_get, slice_set, refl, sym, ap, ◌∙◌, subst, arith, append-nil}
 use Rattle.std.specs.List.{list_all}
 use Rattle.std.proofs.Math.Seq.{drop-append_seam}
-use Rattle.std.proofs.lemmas.Bool.{ne_eqb, eqb-true, and_parts}
+use Rattle.std.proofs.lemmas.Bool.{ne_eqb, eqb-true, and_parts, and_from}
 use Rattle.std.proofs.lemmas.Bool.Decides.{nat_tests}
 use Rattle.std.proofs.lemmas.List.Elements.{filter-append}
 use Rattle.std.proofs.lemmas.List.Folds.{list_all-append}
+use Rattle.jc_types.proofs.CallerLemmas.{all_imply}
 use Rattle.jc_types.specs.declared.caller.Caller.{Caller}
 use Rattle.jc_types.specs.declared.config.Config.{Config}
 use Rattle.jc_types.specs.Stripes.{stripe_of}
@@ -33,15 +34,6 @@ use Rattle.jc_world.specs.Sound.{IsStripe, IsShaped, is_up_to, number_up_to, non
 -- 1. Small facts.
 
 -- both tests hold
-pub all : (a b : Bool) → a ≡ true → b ≡ true → (a && b) ≡ true
-all true b g h = h
-all false b g h = cc
-
--- what is there, by a condition on it
-pub some_of : {A : Type 0} (o : Option A) (P : A → Type 0) → IsSomeAnd o P → (x : A) × (o ≡ Some x) × P x
-some_of None P h = absurd h
-some_of (Some x) P h = (x, refl, h)
-
 -- a condition on what is there
 pub is_some_and : {A : Type 0} (o : Option A) (P : A → Type 0) (x : A) → o ≡ Some x → P x → IsSomeAnd o P
 is_some_and o P x e h = let Q : Option _ → Type 0 = λ o. IsSomeAnd o P in subst Q (sym e) h
@@ -63,28 +55,6 @@ pub length-slice_set : {A : Type 0} (xs : List A) (i : ℕ) (x : A) → length (
 length-slice_set [] i x = refl
 length-slice_set (z ∷ zs) zero x = refl
 length-slice_set (z ∷ zs) (suc i) x = ap suc (length-slice_set zs i x)
-
--- what holds of each holds of each that is left
-pub all_filter : {A : Type 0} (p q : A → Bool) (xs : List A) → list_all q xs ≡ true → list_all q (filter p xs) ≡ true
-all_filter p q [] h = refl
-all_filter p q (x ∷ xs) h =
-    let parts = and_parts (q x) (list_all q xs) h in
-    elim (p x) as (λ b. list_all q (cond b (x ∷ filter p xs) (filter p xs)) ≡ true) [ true ↦ all _ _ parts.0 (all_filter p q xs parts.1) | false ↦ all_filter p q xs parts.1 ]
-
--- a test that follows from another
-pub all_imply : {A : Type 0} (p q : A → Bool) (xs : List A) → ((x : A) → p x ≡ true → q x ≡ true) → list_all p xs ≡ true → list_all q xs ≡ true
-all_imply p q [] f h = refl
-all_imply p q (x ∷ xs) f h = let parts = and_parts (p x) (list_all p xs) h in all _ _ (f x parts.0) (all_imply p q xs f parts.1)
-
--- what holds of each holds of one that is found
-pub found_all : {A : Type 0} (p q : A → Bool) (xs : List A) (x : A) → find p xs ≡ Some x → list_all q xs ≡ true → q x ≡ true
-found_all p q [] x h each = cc
-found_all p q (y ∷ ys) x h each =
-    let parts = and_parts (q y) (list_all q ys) each in
-    elim (p y) as (λ b. cond b (Some y) (find p ys) ≡ Some x → q x ≡ true) [
-      | true ↦ λ h. let is : y ≡ x = cc in ap q (sym is) ∙ parts.0
-      | false ↦ λ h. found_all p q ys x h parts.1
-    ] h
 
 -- one that is found passes the test
 pub found_test : {A : Type 0} (p : A → Bool) (xs : List A) (x : A) → find p xs ≡ Some x → p x ≡ true
@@ -250,8 +220,8 @@ by_group P place group one callers =
 pub all_by : (P : Caller → Type 0) (p : Event → Bool) (es : List Event) → ((who : Caller) (op : Op) (key : Bytes) (out : Out) (shared : Option ℕ) (reply : Reply) → P who → p (Step who op key out shared reply) ≡ true)
     → ((key : Bytes) (cause : Cause) → p (Evict key cause) ≡ true) → AllBy P es → list_all p es ≡ true
 all_by P p [] f g h = refl
-all_by P p (Step who op key out shared reply ∷ es) f g h = all _ _ (f who op key out shared reply h.0) (all_by P p es f g h.1)
-all_by P p (Evict key cause ∷ es) f g h = all _ _ (g key cause) (all_by P p es f g h)
+all_by P p (Step who op key out shared reply ∷ es) f g h = and_from _ _ (f who op key out shared reply h.0) (all_by P p es f g h.1)
+all_by P p (Evict key cause ∷ es) f g h = and_from _ _ (g key cause) (all_by P p es f g h)
 
 -- what is before such a step may stand before it
 before_follows : (x : Event) (who : Caller) (op : Op) (key : Bytes) (out : Out) (shared : Option ℕ) (reply : Reply) → is_before_call who.session who.call x ≡ true → may_follow x (Step who op key out shared reply) ≡ true
@@ -266,7 +236,7 @@ before_evict (Evict key' cause') key cause = refl
 -- events may stand behind an order without their numbers
 all_follow : (xs ys : List Event) → AllBy (λ who. none_from xs who ≡ true) ys → list_all (λ x. list_all (may_follow x) ys) xs ≡ true
 all_follow [] ys h = refl
-all_follow (x ∷ xs) ys h = all _ _
+all_follow (x ∷ xs) ys h = and_from _ _
     (all_by (λ who. none_from (x ∷ xs) who ≡ true) (may_follow x) ys
     (λ who op key out shared reply k. before_follows x who op key out shared reply (and_parts (is_before_call who.session who.call x) (none_from xs who) k).0) (before_evict x) h)
     (all_follow xs ys (by_map (λ who. none_from (x ∷ xs) who ≡ true) (λ who. none_from xs who ≡ true) ys (λ who k. (and_parts (is_before_call who.session who.call x) (none_from xs who) k).1) h))
@@ -277,7 +247,7 @@ order_joined [] ys h k f = k
 order_joined (x ∷ xs) ys h k f =
     let parts = and_parts (list_all (may_follow x) xs) (in_order xs) h in
     let fits = and_parts (list_all (may_follow x) ys) (list_all (λ x. list_all (may_follow x) ys) xs) f in
-    all _ _ (list_all-append (may_follow x) xs ys ∙ all _ _ parts.0 fits.0) (order_joined xs ys parts.1 k fits.1)
+    and_from _ _ (list_all-append (may_follow x) xs ys ∙ and_from _ _ parts.0 fits.0) (order_joined xs ys parts.1 k fits.1)
 
 -- the second part of what is in order is in order
 order_back : (xs ys : List Event) → in_order (xs ++ ys) ≡ true → in_order ys ≡ true
@@ -292,7 +262,7 @@ added_order order from to g reached h none =
 
 -- a fact of each event of the order, and of what is added
 added_all : (p : Event → Bool) (order : List Event) (from to : State) (g : Extends from to) → list_all p order ≡ true → list_all p g.more ≡ true → list_all p (order ++ added from to) ≡ true
-added_all p order from to g before here = list_all-append p order (added from to) ∙ all _ _ before (ap (list_all p) (added_is from to g) ∙ here)
+added_all p order from to g before here = list_all-append p order (added from to) ∙ and_from _ _ before (ap (list_all p) (added_is from to g) ∙ here)
 
 -- the numbers of the steps are at most the last
 pub numbers_added : (last : Option ℕ) (order : List Event) (from to : State) (g : Extends from to) → list_all (number_up_to last) order ≡ true → AllBy (λ who. is_up_to last who.call ≡ true) g.more → list_all (number_up_to last) (order ++ added from to) ≡ true

@@ -8,9 +8,10 @@
 use Rattle.std.proofs.Common.{◌≡◌, ◌==◌, ◌||◌, ℕ, List, [], ◌∷◌, ◌++◌, Bool, true, false, cond, not, Option, None, Some, IsSomeAnd, find, filter, nat_lt, nat_le, refl, sym, ap, ◌∙◌, subst, arith, is_none}
 use Rattle.std.specs.List.{list_all, list_any}
 use Rattle.std.specs.Cmp.Lexicographic.{pointwise, texts_ties}
-use Rattle.std.proofs.lemmas.Bool.{eqb-true, and_parts}
+use Rattle.std.proofs.lemmas.Bool.{eqb-true, and_parts, and_from}
 use Rattle.std.proofs.lemmas.Cmp.{nat_eq_equiv}
 use Rattle.std.proofs.lemmas.Bool.Decides.{nat_tests}
+use Rattle.jc_types.proofs.CallerLemmas.{all_filter, all_imply, all_found}
 use Rattle.jc_types.specs.declared.caller.Caller.{Caller}
 use Rattle.jc_model.specs.declared.event.Event.{Event}
 use Rattle.jc_model.specs.declared.event.Event.TheVariants.{Step, Evict}
@@ -24,7 +25,7 @@ use Rattle.jc_world.specs.World.{WorldState, has_number, is_of, over, of_call}
 use Rattle.jc_world.specs.Events.{is_new}
 use Rattle.jc_stripe.specs.OwnSteps.{is_before_call}
 use Rattle.jc_world.specs.Sound.{is_up_to, number_up_to, none_from, is_apart, FitsCall, CallsFit, IsOwned, AllOwned}
-use Rattle.jc_world.proofs.Shares.{all, turned_eq, all_filter, all_imply, found_all, found_test, Each}
+use Rattle.jc_world.proofs.Shares.{turned_eq, found_test, Each}
 
 -- 1. A call that is over.
 
@@ -59,7 +60,7 @@ pub calls_filter : (w n : WorldState) (p : Under → Bool) (P : Under → Type 0
 calls_filter w n p P [] f each fit = tt
 calls_filter w n p P (x ∷ xs) f each fit =
     elim (p x) as (λ b. p x ≡ b → CallsFit n (cond b (x ∷ filter p xs) (filter p xs))) [
-      | true ↦ λ e. (f x e each.0 fit.0, all_filter p (is_apart x) xs fit.1, calls_filter w n p P xs f each.1 fit.2)
+      | true ↦ λ e. (f x e each.0 fit.0, all_filter (is_apart x) p xs fit.1, calls_filter w n p P xs f each.1 fit.2)
       | false ↦ λ e. calls_filter w n p P xs f each.1 fit.2
     ] refl
 
@@ -105,18 +106,18 @@ apart_over w call (x ∷ xs) u h fit =
     elim (has_number call x) as (λ b. cond b (Some x) (find (has_number call) xs) ≡ Some u → list_all (is_elsewhere u.caller.session) (cond (not b) (x ∷ over call xs) (over call xs)) ≡ true) [
       | true ↦ λ h.
           let is : x ≡ u = cc in
-          let here = all_filter (λ o. not (has_number call o)) (is_elsewhere x.caller.session) xs (all_imply (is_apart x) (is_elsewhere x.caller.session) xs (elsewhere x) fit.1) in
+          let here = all_filter (is_elsewhere x.caller.session) (λ o. not (has_number call o)) xs (all_imply (is_apart x) (is_elsewhere x.caller.session) xs (elsewhere x) fit.1) in
           ap (λ (y : Under). list_all (is_elsewhere y.caller.session) (over call xs)) (sym is) ∙ here
       | false ↦ λ h.
-          let away = elsewhere x u (found_all (has_number call) (is_apart x) xs u h fit.1) in
-          all _ _ (ap not (turned_eq x.caller.session u.caller.session) ∙ away) (apart_over w call xs u h fit.2)
+          let away = elsewhere x u (all_found (has_number call) (is_apart x) xs u h fit.1) in
+          and_from _ _ (ap not (turned_eq x.caller.session u.caller.session) ∙ away) (apart_over w call xs u h fit.2)
     ] h
 
 -- a call under way of another number is of another session
 pub elsewhere_found : (w : WorldState) (call other : ℕ) (calls : List Under) (u v : Under) → CallsFit w calls → find (has_number call) calls ≡ Some u → find (has_number other) calls ≡ Some v
     → (call == other) ≡ false → is_elsewhere u.caller.session v ≡ true
 elsewhere_found w call other calls u v fit one two apart =
-    found_all (has_number other) (is_elsewhere u.caller.session) (over call calls) v (find_over call other calls apart ∙ two) (apart_over w call calls u one fit)
+    all_found (has_number other) (is_elsewhere u.caller.session) (over call calls) v (find_over call other calls apart ∙ two) (apart_over w call calls u one fit)
 
 -- 3. A new call.
 
@@ -180,8 +181,8 @@ not_busy session x xs h = let parts = neither (is_of session x) (list_any (is_of
 
 -- a test of each, and of one more
 pushed_apart : (p : Under → Bool) (xs : List Under) (u : Under) → list_all p xs ≡ true → p u ≡ true → list_all p (xs ++ u ∷ []) ≡ true
-pushed_apart p [] u h one = all _ _ one refl
-pushed_apart p (x ∷ xs) u h one = let parts = and_parts (p x) (list_all p xs) h in all _ _ parts.0 (pushed_apart p xs u parts.1 one)
+pushed_apart p [] u h one = and_from _ _ one refl
+pushed_apart p (x ∷ xs) u h one = let parts = and_parts (p x) (list_all p xs) h in and_from _ _ parts.0 (pushed_apart p xs u parts.1 one)
 
 -- the calls fit with a new one
 pub calls_pushed : (w n : WorldState) (u : Under) (calls : List Under) → is_new w.last u.caller.call ≡ true → not (list_any (is_of u.caller.session) calls) ≡ true
@@ -190,7 +191,7 @@ calls_pushed w n u [] new free f fit rest = (fit, refl, tt)
 calls_pushed w n u (x ∷ xs) new free f fit rest =
     let away = not_busy u.caller.session x xs free in (
       f x rest.0,
-      pushed_apart (is_apart x) xs u rest.1 (all _ _ away.0 (less_not x.caller.call u.caller.call (up_to_new w.last u.caller.call x.caller.call new rest.0.number))),
+      pushed_apart (is_apart x) xs u rest.1 (and_from _ _ away.0 (less_not x.caller.call u.caller.call (up_to_new w.last u.caller.call x.caller.call new rest.0.number))),
       calls_pushed w n u xs new away.1 f fit rest.2,
     )
 
@@ -238,13 +239,13 @@ others_left key [] = refl
 others_left key (x ∷ xs) =
     elim (is_key key x) as (λ b. is_key key x ≡ b → list_all (λ r. not (is_key key r)) (cond (not b) (x ∷ without_key key xs) (without_key key xs)) ≡ true) [
       | true ↦ λ e. others_left key xs
-      | false ↦ λ e. all _ _ (ap not e) (others_left key xs)
+      | false ↦ λ e. and_from _ _ (ap not e) (others_left key xs)
     ] refl
 
 -- a condition on each reservation from what it owns
 pub test_owned : (w : WorldState) (p : Reservation → Bool) (rs : List Reservation) → ((r : Reservation) → IsOwned w r → p r ≡ true) → AllOwned w rs → list_all p rs ≡ true
 test_owned w p [] f owned = refl
-test_owned w p (r ∷ rs) f owned = all _ _ (f r owned.0) (test_owned w p rs f owned.1)
+test_owned w p (r ∷ rs) f owned = and_from _ _ (f r owned.0) (test_owned w p rs f owned.1)
 
 -- keys that are equal by test are one
 pub same_bytes : (a b : Bytes) → pointwise ◌==◌ a b ≡ true → a ≡ b
