@@ -24,7 +24,7 @@ use std::alloc::{AllocError, Global};
 
 /// The events of one line, and what the world shows of them. Each line uses the same room again.
 #[derive(Drop)]
-pub struct Turn {
+struct Turn {
     events: Vec<WorldEvent>,
     shown: Vec<Shown>,
 }
