@@ -1,0 +1,213 @@
+//! Faults of lines: which comes first, by shape, words and state.
+use super::{all_end_with_faults, all_play};
+use std::test::Fail;
+
+const FAULTS: &str = "\
+no such call
+open 1 2 100
+end 9
+--
+open
+line 2: no such call
+==
+not now
+open 1 2 100 read
+begin 1 s1 get a
+end 1
+--
+open
+1 a load
+line 3: not now
+==
+bad config stripes
+open 0 1 16
+--
+line 1: bad config stripes
+==
+bad config capacity
+open 1 0 16
+--
+line 1: bad config capacity
+==
+bad config history
+open 1 1 15
+--
+line 1: bad config history
+";
+
+#[test]
+fn ends_at_a_fault(rt: HostRuntime) -> Result<(), Fail> {
+    all_play(&rt, rt.alloc(), FAULTS)
+}
+
+const BAD_LINES: &str = "\
+bad line
+frob
+begin x y frob
+set  a 1
+open 1 2
+open 1 2 100 write read
+open 1 2 100 read read
+open 1 2 100 read write x
+begin 1 s1 get
+begin 1 s1 put a
+begin 1 s1 replaceif a 1
+begin 1 s1 replaceif a 1 2 3
+begin 1 s1 clear
+readfail x
+readfail x 1 2
+apply 1 but a
+applyfail 1 2 but
+say
+foreign !
+audit 1
+drop
+more
+take
+drop 1 2
+drop x y
+more 1 a
+take 1 but a
+";
+
+#[test]
+fn tells_the_shape_of_a_line_first(rt: HostRuntime) -> Result<(), Fail> {
+    all_end_with_faults(&rt, rt.alloc(), BAD_LINES)
+}
+
+const BAD_WORDS: &str = "\
+bad number
+end 01
+end 00
+end +1
+end 1000000000
+readfail 1 x
+readfail x y
+open 1 2 100x
+begin x y get !
+drop x
+more 01
+take 1000000000
+==
+bad caller
+begin 1 s0 get !
+begin 1 s33 get a
+begin 1 s01 get a
+begin 1 t1 get a
+==
+bad key
+begin 1 s1 put ! !
+set kkkkkkkkkkkkkkkkkkkkkkkkkkkkkkkkk 1
+set ~ 1
+foreign - -
+say 1 a=1 !=!
+say 1 =1
+==
+bad value
+begin 1 s1 put a !
+begin 1 s1 replaceif a 1 !
+begin 1 s1 put a -
+set a vvvvvvvvvvvvvvvvvvvvvvvvvvvvvvvvvvvvvvvvvvvvvvvvvvvvvvvvvvvvvvvvv
+foreign a !
+say 1 a=
+say 1 a
+say 1 a=-
+say 1 a=1=2
+";
+
+#[test]
+fn tells_bad_words_from_the_left(rt: HostRuntime) -> Result<(), Fail> {
+    all_end_with_faults(&rt, rt.alloc(), BAD_WORDS)
+}
+
+const BAD_STATES: &str = "\
+not open
+end 9
+audit
+foreign a 1
+set a 1
+begin 1 s1 get a
+drop 1
+more 1
+take 1
+==
+open twice
+open 1 2 100; open 0 0 0
+==
+bad config stripes
+open 0 0 0
+open 65 1 16
+==
+bad config capacity
+open 1 0 0
+open 1 4097 16
+==
+bad config history
+open 1 1 65537
+==
+set too late
+open 1 2 100; begin 1 s1 get a; set a 1
+open 1 2 100; foreign a -; set a 1
+==
+number not rising
+open 1 2 100; begin 1 s1 get a; begin 1 s2 get a
+open 1 2 100; begin 7 s1 get a; begin 0 s2 get a
+open 1 2 100 read write; begin 1 s1 get a; begin 1 s1 get a
+==
+caller busy
+open 1 2 100 read write; begin 1 s1 get a; begin 2 s1 get b
+open 1 2 100 read; begin 1 s1 get a; begin 2 s2 get a; begin 3 s2 get b
+open 1 2 100 read; begin 1 s1 get a; begin 2 s2 get a; drop 1; take 2; begin 3 s2 get b
+==
+no such call
+open 1 2 100; read 1
+open 1 2 100; begin 1 s1 get a; end 1
+open 1 2 100; drop 1
+open 1 2 100; more 1
+open 1 2 100; take 1
+open 1 2 100; begin 1 s1 get a; drop 1
+open 1 2 100 read; begin 1 s1 get a; drop 1; more 1
+open 1 2 100 read; begin 1 s1 get a; begin 2 s2 get a; read 1; end 1; take 2; take 2
+open 1 2 100 read; begin 1 s1 get a; begin 2 s2 get a; drop 1; take 2; drop 2; more 2
+";
+
+#[test]
+fn tells_the_state_last(rt: HostRuntime) -> Result<(), Fail> {
+    all_end_with_faults(&rt, rt.alloc(), BAD_STATES)
+}
+
+const TOO_EARLY: &str = "\
+not now
+open 1 2 100 read write; begin 1 s1 get a; end 1
+open 1 2 100 read write; begin 1 s1 get a; apply 1
+open 1 2 100 read write; begin 1 s1 get a; applyfail 1 2
+open 1 2 100 read write; begin 1 s1 get a; applylie 1 2
+open 1 2 100 read write; begin 1 s1 get a; read 1; read 1
+open 1 2 100 read write; begin 1 s1 get a; read 1; say 1
+open 1 2 100 read write; begin 1 s1 get a; read 1; readfail 1 2
+open 1 2 100 read write; begin 1 s1 put a 1; read 1
+open 1 2 100 read write; begin 1 s1 put a 1; end 1
+open 1 2 100 read write; begin 1 s1 put a 1; apply 1; apply 1
+open 1 2 100 read; begin 1 s1 get a; begin 2 s2 get a; read 2
+open 1 2 100 read; begin 1 s1 get a; begin 2 s2 get a; apply 2
+open 1 2 100 read; begin 1 s1 get a; begin 2 s2 get a; end 2
+open 1 2 100 read; begin 1 s1 get a; read 1; drop 1
+open 1 2 100 read; begin 1 s1 get a; readfail 1 2; drop 1
+open 1 2 100 write; begin 1 s1 put a 1; apply 1; drop 1
+open 1 2 100 write; begin 1 s1 put a 1; applyfail 1 2; drop 1
+open 1 2 100 read; begin 1 s1 get a; begin 2 s2 get a; drop 2
+open 1 2 100 read; begin 1 s1 get a; begin 2 s2 get a; read 1; end 1; drop 2
+open 1 2 100 read; begin 1 s1 get a; begin 2 s2 get a; drop 1; drop 2
+open 1 2 100 read; begin 1 s1 get a; more 1
+open 1 2 100 read; begin 1 s1 get a; read 1; more 1
+open 1 2 100 read; begin 1 s1 get a; begin 2 s2 get a; more 2
+open 1 2 100 read; begin 1 s1 get a; begin 2 s2 get a; drop 1; more 2
+open 1 2 100 read; begin 1 s1 get a; begin 2 s2 get a; drop 1; take 2; more 2; more 2
+open 1 2 100 read; begin 1 s1 get a; take 1
+open 1 2 100 read; begin 1 s1 get a; begin 2 s2 get a; drop 1; take 2; take 2
+";
+
+#[test]
+fn tells_what_a_call_does_not_wait_for(rt: HostRuntime) -> Result<(), Fail> {
+    all_end_with_faults(&rt, rt.alloc(), TOO_EARLY)
+}
