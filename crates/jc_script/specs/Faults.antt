@@ -4,25 +4,21 @@
 --     config_fault     the fault of a world's shape: the first number out of its limits
 --     is_rising        a call's number is above all before it
 --     begin_fault      the fault of a `begin`: first the number, then the caller
---     may_drop         the call may leave: it isn't joined, and nothing was said outside for what it has reserved
---     may_restart      the call's key is neither reserved nor joined: it was told to begin again
---     fits_now         the call's key waits for this act
---     act_fault        the fault of an act: there is no such call, or its key doesn't wait for this
+--     act_fault        the fault of an act: there is no such call, or the first event that the act stands for doesn't fit
 --     state_fault      the fault that the state of the world gives a line, the first one in order
-use Rattle.std.specs.Prelude.{ℕ, List, codes, Bool, true, not, ◌&&◌, ◌||◌, nat_lt, Option, None, Some, is_none, Result, Ok, Err, if◌then◌else◌}
+use Rattle.std.specs.Prelude.{ℕ, List, codes, Bool, true, nat_lt, Option, None, Some, Result, Ok, Err, if◌then◌else◌}
 use Rattle.jc_types.specs.declared.refusal.Refusal.{Refusal}
 use Rattle.jc_types.specs.declared.refusal.Refusal.TheVariants as refusal
 use Rattle.jc_types.specs.declared.config.Field.TheVariants.{Stripes, Capacity, History}
 use Rattle.jc_types.specs.Limits.{check}
-use Rattle.jc_world.specs.declared.event.Part.{Part}
 use Rattle.jc_world.specs.declared.event.Under.{Under}
-use Rattle.jc_world.specs.World.{WorldState, under, part_of, is_joined, is_busy, waits_for_load, waits_for_report, is_answered, is_untouched}
+use Rattle.jc_world.specs.World.{WorldState, under, part_of, is_busy}
+use Rattle.jc_script.specs.LineEvents.{events_of, first_fits}
 use Rattle.jc_script.specs.declared.fault.Fault.{Fault}
 use Rattle.jc_script.specs.declared.fault.Fault.TheVariants.{CutLine, LineTooLong, BadByte, BadLine, BadNumber, BadCaller, BadKey, BadValue, NotOpen, OpenTwice, BadConfig, SetTooLate, NotRising, CallerBusy, NoSuchCall, NotNow}
 use Rattle.jc_script.specs.declared.line.Line.{Line}
 use Rattle.jc_script.specs.declared.line.Line.TheVariants.{Open, Set, Begin, OfCall, Foreign, Audit}
 use Rattle.jc_script.specs.declared.line.Act.{Act}
-use Rattle.jc_script.specs.declared.line.Act.TheVariants.{Read, ReadFail, Say, Apply, ApplyFail, ApplyLie, End, Drop, More, Take}
 
 abbrev pub text_of : Fault → List ℕ
 text_of CutLine = codes "cut line"
@@ -62,29 +58,11 @@ abbrev pub begin_fault : WorldState → ℕ → ℕ → Option Fault
 begin_fault w number session =
     if is_rising w.last number then (if is_busy w session then Some CallerBusy else None) else Some NotRising
 
-abbrev pub may_drop : Option Part → Bool → Bool
-may_drop part joined = not joined && (is_none part || is_untouched part)
-
-abbrev pub may_restart : Option Part → Bool → Bool
-may_restart part joined = not joined && is_none part
-
--- from what the call has asked and heard for the key, and whether it has joined the key's load
-abbrev pub fits_now : Act → Option Part → Bool → Bool
-fits_now Read part joined = waits_for_load part
-fits_now (ReadFail code) part joined = waits_for_load part
-fits_now (Say pairs) part joined = waits_for_load part
-fits_now Apply part joined = waits_for_report part
-fits_now (ApplyFail code) part joined = waits_for_report part
-fits_now (ApplyLie code) part joined = waits_for_report part
-fits_now End part joined = is_answered part
-fits_now Drop part joined = may_drop part joined
-fits_now More part joined = may_restart part joined
-fits_now Take part joined = joined
-
+-- it isn't the time for an act if the first event that it stands for doesn't fit
 abbrev pub act_fault : WorldState → ℕ → Act → Option Under → Option Fault
 act_fault w number act None = Some NoSuchCall
 act_fault w number act (Some u) =
-    if fits_now act (part_of w number u.command.key) (is_joined w number u.command.key) then None else Some NotNow
+    if first_fits w (events_of number u.command.key (part_of w number u.command.key) act) then None else Some NotNow
 
 abbrev pub state_fault : Option WorldState → Line → Option Fault
 state_fault None (Open config) = config_fault (check config)

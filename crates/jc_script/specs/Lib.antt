@@ -1,5 +1,6 @@
-pub mod Faults
 pub mod Words
+pub mod LineEvents
+pub mod Faults
 pub mod Lines
 pub mod Printing
 pub mod Transcript

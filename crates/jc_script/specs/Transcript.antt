@@ -1,10 +1,6 @@
 -- The transcript of a script, as a relation, since the world may choose.
 --     State                    a world, once it was opened
 --     state_of                 the same, from what a `World` is to its callers
---     begin_events             the events that the begin of a call stands for
---     drop_events              the events of a call that is dropped: what is reserved is given back first
---     events_of                the events that an act stands for, for a call's number and key, and what it asked and heard for the
---                              key
 --     PlaysEvents              the world may take these events, each of them fits when it comes, and this is printed of them
 --     PlaysAct                 the same of the events of an act, if its call is under way
 --     Audited                  what is printed of an audit
@@ -20,9 +16,6 @@
 use Rattle.std.specs.Prelude.{◌≡◌, ◌==◌, ◌⊎◌, ℕ, ◌+◌, List, [], ◌∷◌, ◌++◌, Bool, true, IsTrue, Option, None, Some, Result, Ok, Err, codes}
 use Rattle.std.specs.List.{slice_split}
 use Rattle.jc_model.specs.Cache.{Bytes}
-use Rattle.jc_model.specs.declared.event.LoadAnswer.TheVariants.{Failed}
-use Rattle.jc_world.specs.declared.event.Command.{Command}
-use Rattle.jc_world.specs.declared.event.Part.{Part}
 use Rattle.jc_world.specs.declared.event.Under.{Under}
 use Rattle.jc_world.specs.declared.event.Shown.{Shown}
 use Rattle.jc_world.specs.declared.event.WorldEvent.{WorldEvent}
@@ -37,12 +30,11 @@ use Rattle.jc_script.specs.declared.fault.Fault.TheVariants.{CutLine}
 use Rattle.jc_script.specs.declared.line.Line.{Line}
 use Rattle.jc_script.specs.declared.line.Line.TheVariants.{Open, Set, Begin, OfCall, Foreign, Audit}
 use Rattle.jc_script.specs.declared.line.Act.{Act}
-use Rattle.jc_script.specs.declared.line.Act.TheVariants.{Read, ReadFail, Say, Apply, ApplyFail, ApplyLie, End, Drop, More, Take}
 use Rattle.jc_script.specs.declared.run.RunEnd.{RunEnd}
 use Rattle.jc_script.specs.declared.run.RunEnd.TheVariants.{Clean, LineFault}
-use Rattle.jc_script.specs.Words.{said}
 use Rattle.jc_script.specs.Lines.{read_line}
 use Rattle.jc_script.specs.Faults.{state_fault}
+use Rattle.jc_script.specs.LineEvents.{begin_events, events_of}
 use Rattle.jc_script.specs.Printing.{texts, audit_text, fault_line}
 
 -- a world, once it was opened
@@ -53,28 +45,7 @@ abbrev pub state_of : Option Played → State
 state_of None = None
 state_of (Some played) = Some played.world
 
--- 1. The events that lines stand for.
-
-abbrev pub begin_events : ℕ → ℕ → Command → List WorldEvent
-begin_events number session command = event.Call number session command ∷ event.Start number command.key ∷ []
-
-abbrev pub drop_events : ℕ → Bytes → Option Part → List WorldEvent
-drop_events number key None = event.Leave number ∷ []
-drop_events number key (Some part) = event.Withdraw number key ∷ event.Leave number ∷ []
-
-abbrev pub events_of : ℕ → Bytes → Option Part → Act → List WorldEvent
-events_of number key part Read = event.Read number key ∷ []
-events_of number key part (ReadFail code) = event.Say number key (Failed code) ∷ []
-events_of number key part (Say pairs) = event.Say number key (said pairs key) ∷ []
-events_of number key part Apply = event.Change number key ∷ event.Report number None ∷ []
-events_of number key part (ApplyFail code) = event.Report number (Some code) ∷ []
-events_of number key part (ApplyLie code) = event.Change number key ∷ event.Report number (Some code) ∷ []
-events_of number key part End = event.Commit number key ∷ []
-events_of number key part Drop = drop_events number key part
-events_of number key part More = event.Start number key ∷ []
-events_of number key part Take = event.PickUp number key ∷ []
-
--- 2. What a line prints, and what it leaves.
+-- 1. What a line prints, and what it leaves.
 
 -- of a line that is about the key
 pub record PlaysEvents (w : WorldState) (key : Bytes) (events : List WorldEvent) (text : List ℕ) (new : State) : Type 0 where
@@ -140,7 +111,7 @@ Prints old line text new = PlaysRead old (read_line line) text new
 abbrev pub fault_of : State → List ℕ → Option Fault
 fault_of old line = fault_read old (read_line line)
 
--- 3. Whole scripts.
+-- 2. Whole scripts.
 
 abbrev pub pieces_of : List ℕ → List (List ℕ)
 pieces_of input = slice_split (λ b. b == 10) input

@@ -2,12 +2,13 @@
 ghost use Rattle.std.specs.Prelude.{◌≡◌, ◌++◌, ◌∷◌, List, ℕ, [], Some, None, true, option_copied, OnOk, IfOk, MatchOption};
 ghost use Rattle.jc_types.specs.Limits.{check};
 ghost use Rattle.jc_world.specs.declared.event.WorldEvent.TheVariants as event;
-ghost use Rattle.jc_world.specs.World.{waits_for_load, waits_for_report, is_answered, is_untouched, start};
+ghost use Rattle.jc_world.specs.World.{start};
 ghost use Rattle.jc_world.specs.Events.{fits, AllFit};
 ghost use Rattle.jc_script.specs.declared.line.Line.TheVariants as lines;
 ghost use Rattle.jc_script.specs.Lines.{is_callable};
-ghost use Rattle.jc_script.specs.Faults.{config_fault, is_rising, begin_fault, may_drop, may_restart, fits_now};
-ghost use Rattle.jc_script.specs.Transcript.{state_of, begin_events, drop_events, events_of, PlaysEvents, Audited, Takes, Prints, fault_of};
+ghost use Rattle.jc_script.specs.Faults.{config_fault, is_rising, begin_fault};
+ghost use Rattle.jc_script.specs.LineEvents.{begin_events, drop_events, events_of, first_fits};
+ghost use Rattle.jc_script.specs.Transcript.{state_of, PlaysEvents, Audited, Takes, Prints, fault_of};
 
 use crate::fault::{Fault, ReadError};
 use crate::grammar::read;
@@ -15,8 +16,7 @@ use crate::line::{Act, Line};
 use crate::print_audit::put_audit;
 use crate::print_shown::put_texts;
 use crate::printing::put;
-use jc_model::{LoadAnswer, Op, WriteAnswer};
-use jc_stripe::First;
+use jc_model::{LoadAnswer, Op};
 use jc_types::{Config, Key, Refusal, Value};
 use jc_world::event::{Command, Part, Shown, WorldEvent};
 use jc_world::world::World;
@@ -258,80 +258,13 @@ impl Turn {
     }
 }
 
-fn waits_load(part: Option<&Part>) -> bool
-    ensures { result ≡ waits_for_load (option_copied part.entry) }
+/// Whether the first of some events fits now.
+fn first_fits(world: &World, events: &[WorldEvent]) -> bool
+    ensures { result ≡ first_fits world.now.world events.now }
 {
-    match part {
-        Some(part) => {
-            matches!(&part.reservation.first, First::Loader)
-                && matches!(&part.load, LoadAnswer::NotAsked)
-        }
-        None => false,
-    }
-}
-
-fn waits_report(part: Option<&Part>) -> bool
-    ensures { result ≡ waits_for_report (option_copied part.entry) }
-{
-    match part {
-        Some(part) => {
-            matches!(&part.reservation.first, First::Writer(_))
-                && matches!(&part.report, WriteAnswer::NotAsked)
-        }
-        None => false,
-    }
-}
-
-fn has_answers(part: Option<&Part>) -> bool
-    ensures { result ≡ is_answered (option_copied part.entry) }
-{
-    match part {
-        Some(part) => match &part.reservation.first {
-            First::Nobody | First::Processor => false,
-            First::Loader => !matches!(&part.load, LoadAnswer::NotAsked),
-            First::Writer(_) => !matches!(&part.report, WriteAnswer::NotAsked),
-        },
-        None => false,
-    }
-}
-
-fn is_silent(part: &Part) -> bool
-    ensures { result ≡ is_untouched (Some part.now) }
-{
-    matches!(&part.load, LoadAnswer::NotAsked)
-        && !part.is_changed
-        && matches!(&part.report, WriteAnswer::NotAsked)
-}
-
-fn may_leave(part: Option<&Part>, is_joined: bool) -> bool
-    ensures { result ≡ may_drop (option_copied part.entry) is_joined }
-{
-    match part {
-        Some(part) => !is_joined && is_silent(part),
-        None => !is_joined,
-    }
-}
-
-fn may_begin_again(part: Option<&Part>, is_joined: bool) -> bool
-    ensures { result ≡ may_restart (option_copied part.entry) is_joined }
-{
-    !is_joined && part.is_none()
-}
-
-fn waits_for(act: &Act, part: Option<&Part>, is_joined: bool) -> bool
-    ensures { result ≡ fits_now act.now (option_copied part.entry) is_joined }
-{
-    match act {
-        Act::Read => waits_load(part),
-        Act::ReadFail(_) => waits_load(part),
-        Act::Say(_) => waits_load(part),
-        Act::Apply => waits_report(part),
-        Act::ApplyFail(_) => waits_report(part),
-        Act::ApplyLie(_) => waits_report(part),
-        Act::End => has_answers(part),
-        Act::Drop => may_leave(part, is_joined),
-        Act::More => may_begin_again(part, is_joined),
-        Act::Take => is_joined,
+    match events.first() {
+        Some(event) => world.fits(event),
+        None => true,
     }
 }
 
@@ -349,11 +282,11 @@ fn act_on(
         None => Ok(Some(Fault::NoSuchCall)),
         Some(under) => {
             let key = under.command.key;
-            let part = world.part(call, &key);
-            if !waits_for(act, part, world.is_joined(call, &key)) {
+            put_events(&mut turn.events, call, &key, world.part(call, &key), act)?;
+            if !first_fits(world, &turn.events) {
                 return Ok(Some(Fault::NotNow));
             }
-            put_events(&mut turn.events, call, &key, part, act)?;
+            world.lets_calls_continue();
             turn.play(world, &key, out)?;
             Ok(None)
         }

@@ -3,6 +3,7 @@
 --     report_fits    the writer's return, behind its change of the store
 --     leave_fits     a call's leaving, behind its withdrawal
 --     start_fits     a call's first phase, behind its beginning
+--     rest_fits      what follows in a line, if its first event fits
 use Rattle.std.proofs.Common.{◌≡◌, ℕ, List, [], ◌∷◌, ◌++◌, true, false, cond, not, Option, None, Some, IsSomeAnd, find, inl, inr, refl, sym, ap, ◌∙◌, subst, arith, is_none, nat_lt, nat_le}
 use Rattle.std.specs.Option.{option_or}
 use Rattle.std.specs.FinMap.{get, remove, get-insert, get-remove}
@@ -19,8 +20,8 @@ use Rattle.jc_world.specs.declared.event.Shown.{Shown}
 use Rattle.jc_world.specs.declared.event.Shown.TheVariants as shown
 use Rattle.jc_world.specs.declared.event.WorldEvent.{WorldEvent}
 use Rattle.jc_world.specs.declared.event.WorldEvent.TheVariants as event
-use Rattle.jc_world.specs.World.{WorldState, stripe_for, has_number, under, of_call, part_of, waits_for_report, is_join, is_joined}
-use Rattle.jc_world.specs.Events.{fits, is_new, is_free, may_start, may_leave, may_report, changed, with_stripe, without_part, Happens, is_fit, AllFit, StartFits}
+use Rattle.jc_world.specs.World.{WorldState, stripe_for, has_number, under, of_call, part_of, waits_for_report, is_join, is_joined, is_untouched}
+use Rattle.jc_world.specs.Events.{fits, is_new, is_free, may_start, may_leave, may_report, changed, with_stripe, without_part, Happens, is_fit, AllFit, StartFits, RestFits}
 use Rattle.jc_world.specs.Sound.{is_up_to, IsHeld, IsSoundWorld}
 use Rattle.jc_world.proofs.Entries.{tied}
 use Rattle.jc_world.proofs.Underway.{found_number, fits_found, of_call-at}
@@ -139,3 +140,20 @@ start_fits w old call session command fit =
     let P : WorldState → Type 0 = λ m. fits m (event.Start call command.key) ≡ true in
     one_fits mid (event.Start call command.key)
     (subst P (sym happens.1) (ap (may_start next call command.key) here ∙ and_from _ _ (nat_list_eq_equiv.refl command.key) (new_free w call command.key new old))))
+
+-- 4. What follows in a line.
+
+-- a call that has reserved its key has not joined a load of it
+unjoined_held : (w : WorldState) (call : ℕ) (key : Bytes) → is_untouched (part_of w call key) ≡ true → IsSoundWorld w → is_joined w call key ≡ false
+unjoined_held w call key held old = refuted (is_joined w call key) (λ joined.
+    let j = join_any w (is_join call key) w.joins joined old.joins in
+    let same = join_is call key j.0 j.2 in
+    let none : part_of w call key ≡ None = subst (λ n. part_of w n key ≡ None) same.0 (subst (λ k. part_of w j.0.caller.call k ≡ None) same.1 j.3.no_part) in
+    let no : true ≡ false = sym held ∙ ap is_untouched none in cc)
+
+pub rest_fits : (w : WorldState) → IsSoundWorld w → RestFits w
+rest_fits w old = record {
+  alone = one_fits w;
+  report = report_fits w;
+  leave = λ call u here fit. leave_fits w call u here (unjoined_held w call u.command.key fit old) fit;
+}

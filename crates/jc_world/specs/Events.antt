@@ -27,6 +27,8 @@
 --     is_fit, all_fit             what is shown is not the fault of an event that doesn't fit, and nothing that is shown is
 --     AllFit                      whatever the world may choose, each of these events fits when it comes
 --     StartFits                   where a call fits, its first phase fits directly behind it
+--     RestFits                    if the first fits, so do all: of an event alone, of a writer's change and its return, of a withdrawal
+--                                 and the call's leaving
 use Rattle.std.specs.Prelude.{◌≡◌, ◌==◌, ◌⊎◌, ℕ, List, [], ◌∷◌, ◌++◌, length, drop, Bool, true, false, not, ◌&&◌, Option, None, Some, is_none, nat_lt, slice_set}
 use Rattle.std.specs.List.{list_all}
 use Rattle.std.specs.Cmp.Lexicographic.{pointwise}
@@ -262,3 +264,11 @@ AllFit old events = (seen : List Shown) (new : WorldState) → Run old events se
 -- it does so in every world that is reached
 abbrev pub StartFits : WorldState → Type 0
 StartFits w = (call session : ℕ) (command : Command) → fits w (event.Call call session command) ≡ true → AllFit w (event.Call call session command ∷ event.Start call command.key ∷ [])
+
+-- so is this, of the call's own key
+pub record RestFits (w : WorldState) : Type 0 where
+  pub alone : (e : WorldEvent) → fits w e ≡ true → AllFit w (e ∷ [])
+  pub report : (call : ℕ) (u : Under) (fault : Option ℕ) → under w call ≡ Some u → fits w (event.Change call u.command.key) ≡ true
+      → AllFit w (event.Change call u.command.key ∷ event.Report call fault ∷ [])
+  pub leave : (call : ℕ) (u : Under) → under w call ≡ Some u → fits w (event.Withdraw call u.command.key) ≡ true
+      → AllFit w (event.Withdraw call u.command.key ∷ event.Leave call ∷ [])

@@ -2,7 +2,7 @@
 ghost use Rattle.std.specs.Prelude.{[], ◌≡◌, ◌≤◌, ◌⊎◌, ◌<◌, true, IsTrue, IfOk, IfErr, IsOk, option_copied, OnErr, OnOk, Ok, Err, take, length};
 ghost use Rattle.jc_types.specs.Limits.{check};
 ghost use Rattle.jc_world.specs.World.{start, is_busy, under, part_of, is_joined, with_stored};
-ghost use Rattle.jc_world.specs.Events.{RunAppending, StartFits};
+ghost use Rattle.jc_world.specs.Events.{fits, RestFits, RunAppending, StartFits};
 ghost use Rattle.jc_world.specs.Coherent.{all_hold, Coherent};
 ghost use Rattle.jc_world.specs.Audit.{IsOrder, HasParts, IsAudit};
 
@@ -157,6 +157,21 @@ impl World {
         ensures { result ≡ is_joined self.now.world call key.now }
     {
         self.machine.is_joined(call, key)
+    }
+
+    /// Whether an event fits now. One that doesn't would be shown as `Unfit`, and change nothing.
+    pub fn fits(&self, event: &WorldEvent) -> bool
+        ensures { result ≡ fits self.now.world event.now }
+    {
+        self.machine.fits(event)
+    }
+
+    /// If the first event of a line fits, so do those that follow: the writer's return after its change of the store, and a call's
+    /// leaving after its withdrawal. This does nothing: what it says is its contract.
+    pub fn lets_calls_continue(&self)
+        ensures { RestFits self.now.world }
+    {
+        let _ = &self.machine;
     }
 
     /// Where a call fits, its first phase fits directly behind it. This does nothing: what it says is its contract.

@@ -14,7 +14,7 @@ use jc_types::Key;
 
 impl Machine {
     /// Whether the event fits.
-    pub(super) fn fits(&self, event: &WorldEvent) -> bool
+    pub(crate) fn fits(&self, event: &WorldEvent) -> bool
         ensures { result ≡ fits self.now event.now }
     {
         match event {
