@@ -6,6 +6,7 @@ usage: generate.py KIND SIZE
 KIND  plain     one stripe, nobody asked outside: get and put on few keys. The history fills up: then calls are refused
       phases    get, put and remove in phases, with read-through and write-through: begin, read or apply, end
       stripes   all eleven operations over 64 stripes, with read-through and write-through
+      mixed     16 stripes of 4,096 entries, nobody asked outside: four gets to a put, of 10,000 keys
       joins     64 stripes with read-through: one get of a key loads, and 15 others join it and take its answer
       hits16, hits4096
                 one stripe, nobody asked outside: gets of random keys among so many entries, which are all there
@@ -210,6 +211,19 @@ def stripes(size):
     return script.text()
 
 
+def mixed(size):
+    script = Script(size)
+    script.open(16, 4096, 65536, '')
+    below = script.numbers.below
+    while not script.is_full():
+        script.call += 1
+        key = f'key{below(10000):05d}'
+        session = 1 + below(32)
+        operation = f'put {key} value{below(100000):05d}' if below(5) == 0 else f'get {key}'
+        script.put(f'begin {script.call} s{session} {operation}')
+    return script.text()
+
+
 def joins(size):
     script = Script(size)
     script.open(64, 64, 16384, ' read')
@@ -263,6 +277,7 @@ KINDS = {
     'plain': plain,
     'phases': phases,
     'stripes': stripes,
+    'mixed': mixed,
     'joins': joins,
     'hits16': lambda size: hits(16, size),
     'hits4096': lambda size: hits(4096, size),
