@@ -5,7 +5,7 @@
 --     PlaysAct                 the same of the events of an act, if its call is under way
 --     Audited                  what is printed of an audit
 --     Plays                    a line with no fault: what it prints and leaves. ⊥ stands where no such line is played
---     Takes                    a line that was read is played, or its fault is told: what is printed, then, and what is left
+--     PlaysLine                a line that was read is played, or its fault is told: what is printed, then, and what is left
 --     PlaysRead, Prints        the same from what was read of a line, and from its bytes; a comment prints nothing and changes
 --                              nothing
 --     fault_read, fault_of     the fault of a line, if it has one, from what was read of it, and from its bytes
@@ -89,10 +89,10 @@ Plays None Audit text new = ⊥
 Plays (Some w) (Open config) text new = ⊥
 
 -- printed at the end of what stands already
-abbrev pub Takes : State → Line → Option Fault → List ℕ → List ℕ → State → Type 0
-Takes old line None before after new =
+abbrev pub PlaysLine : State → Line → Option Fault → List ℕ → List ℕ → State → Type 0
+PlaysLine old line None before after new =
     (state_fault old line ≡ None) × ((text : List ℕ) × Plays old line text new × (after ≡ before ++ text))
-Takes old line (Some fault) before after new = (state_fault old line ≡ Some fault) × (after ≡ before)
+PlaysLine old line (Some fault) before after new = (state_fault old line ≡ Some fault) × (after ≡ before)
 
 -- a comment prints nothing and changes nothing; other lines are played where they have no fault
 abbrev pub PlaysRead : State → Result (Option Line) Fault → List ℕ → State → Type 0

@@ -8,7 +8,7 @@ ghost use Rattle.jc_script.specs.declared.line.Line.TheVariants as lines;
 ghost use Rattle.jc_script.specs.Lines.{is_callable};
 ghost use Rattle.jc_script.specs.Faults.{config_fault, is_rising, begin_fault};
 ghost use Rattle.jc_script.specs.LineEvents.{begin_events, drop_events, events_of, first_fits};
-ghost use Rattle.jc_script.specs.Transcript.{state_of, PlaysEvents, Audited, Takes, Prints, fault_of};
+ghost use Rattle.jc_script.specs.Transcript.{state_of, PlaysEvents, Audited, PlaysLine, Prints, fault_of};
 
 use crate::fault::{Fault, ReadError};
 use crate::grammar::read;
@@ -24,7 +24,7 @@ use std::alloc::{AllocError, Global};
 
 /// The events of one line, and what the world shows of them. Each line uses the same room again.
 #[derive(Drop)]
-struct Turn {
+struct LineBuffers {
     events: Vec<WorldEvent>,
     shown: Vec<Shown>,
 }
@@ -35,7 +35,7 @@ pub struct Player<'a> {
     pub world: Option<World>,
     words: Vec<&'a [u8]>,
     line: Line,
-    turn: Turn,
+    buffers: LineBuffers,
 }
 
 impl<'a> Player<'a> {
@@ -47,7 +47,7 @@ impl<'a> Player<'a> {
             world: None,
             words: Vec::new(alloc),
             line: Line::Audit,
-            turn: Turn {
+            buffers: LineBuffers {
                 events: Vec::new(alloc),
                 shown: Vec::new(alloc),
             },
@@ -69,7 +69,7 @@ impl<'a> Player<'a> {
             Err(ReadError::Memory) => Err(AllocError),
             Err(ReadError::Fault(fault)) => Ok(Some(fault)),
             Ok(false) => Ok(None),
-            Ok(true) => take(alloc, &mut self.world, &self.line, &mut self.turn, out),
+            Ok(true) => play_line(alloc, &mut self.world, &self.line, &mut self.buffers, out),
         }
     }
 
@@ -79,25 +79,25 @@ impl<'a> Player<'a> {
             world,
             words: _words,
             line: _line,
-            turn: _turn,
+            buffers: _buffers,
         } = self;
         close(world);
     }
 }
 
 /// A line that was read, if it has no fault.
-fn take(
+fn play_line(
     alloc: Global,
     world: &mut Option<World>,
     line: &Line,
-    turn: &mut Turn,
+    buffers: &mut LineBuffers,
     out: &mut Vec<u8>,
 ) -> Result<Option<Fault>, AllocError>
     requires { is_callable line.now ≡ true }
-    ensures { IfOk result (λ r. Takes (state_of world.old) line.now r out.old.items out.new.items (state_of world.new)) }
+    ensures { IfOk result (λ r. PlaysLine (state_of world.old) line.now r out.old.items out.new.items (state_of world.new)) }
 {
     if let Some(world) = world {
-        return take_in(alloc, world, line, turn, out);
+        return play_line_on(alloc, world, line, buffers, out);
     }
     match line {
         Line::Open(config) => open(alloc, world, config, out),
@@ -106,15 +106,15 @@ fn take(
 }
 
 /// The same, on a world that is open.
-fn take_in(
+fn play_line_on(
     alloc: Global,
     world: &mut World,
     line: &Line,
-    turn: &mut Turn,
+    buffers: &mut LineBuffers,
     out: &mut Vec<u8>,
 ) -> Result<Option<Fault>, AllocError>
     requires { is_callable line.now ≡ true }
-    ensures { IfOk result (λ r. Takes (Some world.old.world) line.now r out.old.items out.new.items (Some world.new.world)) }
+    ensures { IfOk result (λ r. PlaysLine (Some world.old.world) line.now r out.old.items out.new.items (Some world.new.world)) }
 {
     match line {
         Line::Open(_) => Ok(Some(Fault::OpenTwice)),
@@ -129,12 +129,12 @@ fn take_in(
             if let Some(fault) = fault_of_begin(world, *number, *session) {
                 return Ok(Some(fault));
             }
-            begin(world, *number, *session, command, turn, out)?;
+            begin(world, *number, *session, command, buffers, out)?;
             Ok(None)
         }
-        Line::OfCall(number, act) => act_on(world, *number, act, turn, out),
+        Line::OfCall(number, act) => act_on(world, *number, act, buffers, out),
         Line::Foreign(key, value) => {
-            foreign(world, key, value, turn, out)?;
+            foreign(world, key, value, buffers, out)?;
             Ok(None)
         }
         Line::Audit => {
@@ -175,7 +175,7 @@ fn open(
     config: &Config,
     out: &mut Vec<u8>,
 ) -> Result<Option<Fault>, AllocError>
-    ensures { IfOk result (λ r. Takes None (lines.Open config.now) r out.old.items out.new.items (state_of world.new)) }
+    ensures { IfOk result (λ r. PlaysLine None (lines.Open config.now) r out.old.items out.new.items (state_of world.new)) }
 {
     if let Some(fault) = fault_of_config(config) {
         return Ok(Some(fault));
@@ -212,15 +212,15 @@ fn begin(
     number: u32,
     session: u32,
     command: &Command,
-    turn: &mut Turn,
+    buffers: &mut LineBuffers,
     out: &mut Vec<u8>,
 ) -> Result<(), AllocError>
     requires { fits world.old.world (event.Call number session command.now) ≡ true }
     ensures { OnOk result ((text : List ℕ) × PlaysEvents world.old.world command.now.key (begin_events number session command.now) text (Some world.new.world) × (out.new.items ≡ out.old.items ++ text)) }
 {
-    put_begun(&mut turn.events, number as u64, session, command)?;
+    put_begun(&mut buffers.events, number as u64, session, command)?;
     world.lets_calls_start();
-    turn.play(world, &command.key, out)?;
+    buffers.play(world, &command.key, out)?;
     Ok(())
 }
 
@@ -245,7 +245,7 @@ fn put_begun(
     Ok(())
 }
 
-impl Turn {
+impl LineBuffers {
     /// Plays the events of a line that is about this key, and prints what the world shows of them.
     fn play(&mut self, world: &mut World, about: &Key, out: &mut Vec<u8>) -> Result<(), AllocError>
         requires { AllFit world.old.world self.old.events.items }
@@ -272,22 +272,22 @@ fn act_on(
     world: &mut World,
     number: u32,
     act: &Act,
-    turn: &mut Turn,
+    buffers: &mut LineBuffers,
     out: &mut Vec<u8>,
 ) -> Result<Option<Fault>, AllocError>
-    ensures { IfOk result (λ r. Takes (Some world.old.world) (lines.OfCall number act.now) r out.old.items out.new.items (Some world.new.world)) }
+    ensures { IfOk result (λ r. PlaysLine (Some world.old.world) (lines.OfCall number act.now) r out.old.items out.new.items (Some world.new.world)) }
 {
     let call = number as u64;
     match world.under(call) {
         None => Ok(Some(Fault::NoSuchCall)),
         Some(under) => {
             let key = under.command.key;
-            put_events(&mut turn.events, call, &key, world.part(call, &key), act)?;
-            if !first_fits(world, &turn.events) {
+            put_events(&mut buffers.events, call, &key, world.part(call, &key), act)?;
+            if !first_fits(world, &buffers.events) {
                 return Ok(Some(Fault::NotNow));
             }
             world.lets_calls_continue();
-            turn.play(world, &key, out)?;
+            buffers.play(world, &key, out)?;
             Ok(None)
         }
     }
@@ -357,18 +357,18 @@ fn foreign(
     world: &mut World,
     key: &Key,
     value: &Option<Value>,
-    turn: &mut Turn,
+    buffers: &mut LineBuffers,
     out: &mut Vec<u8>,
 ) -> Result<(), AllocError>
     ensures { OnOk result ((text : List ℕ) × PlaysEvents world.old.world key.now (event.Foreign key.now value.now ∷ []) text (Some world.new.world) × (out.new.items ≡ out.old.items ++ text)) }
 {
     let _types: Option<(Command, Op, LoadAnswer)> = None;
-    turn.events.clear();
-    turn.events.push(WorldEvent::Foreign {
+    buffers.events.clear();
+    buffers.events.push(WorldEvent::Foreign {
         key: *key,
         value: *value,
     })?;
-    turn.play(world, key, out)?;
+    buffers.play(world, key, out)?;
     Ok(())
 }
 

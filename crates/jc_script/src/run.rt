@@ -34,10 +34,10 @@ pub enum RunFault {
     /// The script has more than [`SCRIPT_MAX`] bytes. Nothing was written.
     #[error("input too long")]
     TooLong,
-    /// There was no memory. Nothing was written.
+    /// An allocation failed. Nothing was written.
     #[error("out of memory")]
     OutOfMemory,
-    /// The writer failed. A front of the transcript was written.
+    /// The writer failed. A prefix of the transcript was written.
     #[error("write failed")]
     Write,
 }
@@ -110,7 +110,7 @@ pub fn run<R: Read, W: Write>(
 ) -> Result<RunEnd, RunFault>
     // What was written is the transcript of what was read.
     ensures ran { IfOk result (λ end. Ran (R.remaining reader.old.inner) (R.remaining reader.new.inner) (W.contents writer.old.inner) (W.contents writer.new.inner) end) }
-    // After a failed write, a front of it.
+    // After a failed write, a prefix of it.
     ensures broke { result ≡ Err RunFault.Write → Broke (R.remaining reader.old.inner) (R.remaining reader.new.inner) (W.contents writer.old.inner) (W.contents writer.new.inner) }
     // Any other fault writes nothing.
     ensures silent { IfErr result (λ e. e ≢ RunFault.Write → writer.new ≡ writer.old) }

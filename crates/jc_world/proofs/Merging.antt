@@ -27,7 +27,7 @@ use Rattle.jc_stripe.specs.declared.begun.Picked.{Picked}
 use Rattle.jc_stripe.specs.declared.begun.Picked.TheVariants as picked
 use Rattle.jc_world.specs.declared.stripes.Stripes.TheInside.{Inside}
 use Rattle.jc_world.proofs.Numbered.{at_index}
-use Rattle.jc_world.specs.Turns.{OrderedStripes, IsPhase, IsQuietPhase, ordered, IsMergeable, history_in, history_at, turns_of, after_turn, merged, AreTurns}
+use Rattle.jc_world.specs.Turns.{OrderedStripes, IsPhase, IsQuietPhase, ordered_stripes, IsMergeable, history_in, history_at, turns_of, after_turn, merge, AreTurns}
 
 -- 1. Turns.
 
@@ -72,18 +72,18 @@ left_at left (turn ∷ turns) number =
     ∙ drop_turn (turn == number) (turns_of number turns) (left number)
     ∙ ap (λ n. drop n (left number)) (sym (count_one number turn turns))
 
-merged_both : (left : ℕ → List Event) (turns more : List ℕ) → merged left (turns ++ more) ≡ merged left turns ++ merged (all_left left turns) more
+merged_both : (left : ℕ → List Event) (turns more : List ℕ) → merge left (turns ++ more) ≡ merge left turns ++ merge (all_left left turns) more
 merged_both left [] more = refl
 merged_both left (turn ∷ turns) more =
     ap (λ xs. take 1 (left turn) ++ xs) (merged_both (after_turn left turn) turns more)
-    ∙ sym (append_assoc (take 1 (left turn)) (merged (after_turn left turn) turns) (merged (all_left (after_turn left turn) turns) more))
+    ∙ sym (append_assoc (take 1 (left turn)) (merge (after_turn left turn) turns) (merge (all_left (after_turn left turn) turns) more))
 
 -- what one stripe has left, with as many turns
-merged_alone : (left : ℕ → List Event) (number : ℕ) (more : List Event) → left number ≡ more → merged left (replicate (length more) number) ≡ more
+merged_alone : (left : ℕ → List Event) (number : ℕ) (more : List Event) → left number ≡ more → merge left (replicate (length more) number) ≡ more
 merged_alone left number [] is = refl
 merged_alone left number (e ∷ more) is =
     let rest : after_turn left number number ≡ more = ap (λ b. cond b (drop 1 (left number)) (left number)) (same_number number) ∙ ap (drop 1) is in
-    ap (λ xs. take 1 xs ++ merged (after_turn left number) (replicate (length more) number)) is
+    ap (λ xs. take 1 xs ++ merge (after_turn left number) (replicate (length more) number)) is
     ∙ ap (λ xs. e ∷ xs) (merged_alone (after_turn left number) number more rest)
 
 -- 3. Histories that are longer.
@@ -128,13 +128,13 @@ longer_after left left' turn some longer number =
       ] refl,
     )
 
-merged_same : (left left' : ℕ → List Event) (turns : List ℕ) → ((number : ℕ) → turns_of number turns ≤ length (left number)) → Longer left left' → merged left' turns ≡ merged left turns
+merged_same : (left left' : ℕ → List Event) (turns : List ℕ) → ((number : ℕ) → turns_of number turns ≤ length (left number)) → Longer left left' → merge left' turns ≡ merge left turns
 merged_same left left' [] each longer = refl
 merged_same left left' (turn ∷ turns) each longer =
     let first = has_first left turn turns each in
     let some : 1 ≤ length (left turn) = omega arith in
-    ap (λ xs. take 1 xs ++ merged (after_turn left' turn) turns) (longer turn).1
-    ∙ ap (λ xs. xs ++ merged (after_turn left' turn) turns) (first_same (left turn) (longer turn).0 some)
+    ap (λ xs. take 1 xs ++ merge (after_turn left' turn) turns) (longer turn).1
+    ∙ ap (λ xs. xs ++ merge (after_turn left' turn) turns) (first_same (left turn) (longer turn).0 some)
     ∙ ap (λ xs. take 1 (left turn) ++ xs) (merged_same (after_turn left turn) (after_turn left' turn) turns (within_after left turn turns each) (longer_after left left' turn some longer))
 
 -- 4. A stripe that appends.
@@ -171,7 +171,7 @@ pub at_most : (stripes : List State) (turns : List ℕ) → AreTurns stripes tur
 at_most stripes turns each number = let e = each number in omega arith
 
 pub grows_merged : (stripes : List State) (turns : List ℕ) (n count : ℕ) (from to : State) (more : List Event) → AreTurns stripes turns → slice_get stripes n ≡ Some from → to.history ≡ from.history ++ more → count ≡ length from.history
-    → merged (history_at (slice_set stripes n to)) (turns ++ replicate (length to.history - count) n) ≡ merged (history_at stripes) turns ++ drop (length from.history) to.history
+    → merge (history_at (slice_set stripes n to)) (turns ++ replicate (length to.history - count) n) ≡ merge (history_at stripes) turns ++ drop (length from.history) to.history
 grows_merged stripes turns n count from to more each at is counted =
     let left = history_at stripes in
     let left' = history_at (slice_set stripes n to) in
@@ -181,9 +181,9 @@ grows_merged stripes turns n count from to more each at is counted =
     let rest : all_left left' turns n ≡ more =
     left_at left' turns n ∙ ap (λ k. drop k (left' n)) (each n ∙ ap length here) ∙ ap (drop (length from.history)) there ∙ added_is from to more is in
     merged_both left' turns (replicate (length to.history - count) n)
-    ∙ ap (λ xs. xs ++ merged (all_left left' turns) (replicate (length to.history - count) n)) (merged_same left left' turns (at_most stripes turns each) longer)
-    ∙ ap (λ k. merged left turns ++ merged (all_left left' turns) (replicate k n)) (ap (λ c. length to.history - c) counted ∙ appended from to more is)
-    ∙ ap (λ xs. merged left turns ++ xs) (merged_alone (all_left left' turns) n more rest ∙ sym (added_is from to more is))
+    ∙ ap (λ xs. xs ++ merge (all_left left' turns) (replicate (length to.history - count) n)) (merged_same left left' turns (at_most stripes turns each) longer)
+    ∙ ap (λ k. merge left turns ++ merge (all_left left' turns) (replicate k n)) (ap (λ c. length to.history - c) counted ∙ appended from to more is)
+    ∙ ap (λ xs. merge left turns ++ xs) (merged_alone (all_left left' turns) n more rest ∙ sym (added_is from to more is))
 
 pub grows_turns : (stripes : List State) (turns : List ℕ) (n count : ℕ) (from to : State) (more : List Event) → AreTurns stripes turns → slice_get stripes n ≡ Some from → to.history ≡ from.history ++ more → count ≡ length from.history
     → AreTurns (slice_set stripes n to) (turns ++ replicate (length to.history - count) n)
@@ -207,8 +207,8 @@ history_stays stripes n m from to at is =
     none true = refl
     none false = refl
 
-pub stays_merged : (stripes : List State) (turns : List ℕ) (n : ℕ) (from to : State) → slice_get stripes n ≡ Some from → to.history ≡ from.history → merged (history_at (slice_set stripes n to)) turns ≡ merged (history_at stripes) turns
-stays_merged stripes turns n from to at is = λ i. merged (λ m. history_stays stripes n m from to at is i) turns
+pub stays_merged : (stripes : List State) (turns : List ℕ) (n : ℕ) (from to : State) → slice_get stripes n ≡ Some from → to.history ≡ from.history → merge (history_at (slice_set stripes n to)) turns ≡ merge (history_at stripes) turns
+stays_merged stripes turns n from to at is = λ i. merge (λ m. history_stays stripes n m from to at is i) turns
 
 pub stays_turns : (stripes : List State) (turns : List ℕ) (n : ℕ) (from to : State) → AreTurns stripes turns → slice_get stripes n ≡ Some from → to.history ≡ from.history → AreTurns (slice_set stripes n to) turns
 stays_turns stripes turns n from to each at is m = each m ∙ ap length (sym (history_stays stripes n m from to at is))
@@ -219,12 +219,12 @@ abbrev Meets : (State → Type 0) → ℕ → OrderedStripes → Type 0
 Meets P number v = IsSomeAnd (slice_get v.stripes number) P
 
 -- the stripe that was read is that of the number
-pub is_at : (s : Inside) (now : OrderedStripes) (number : ℕ) (from : State) (P : State → Type 0) → ordered s ≡ now → IsSomeAnd (slice_get now.stripes number) P → from ≡ get_or s.items.items number from → slice_get s.items.items number ≡ Some from
+pub is_at : (s : Inside) (now : OrderedStripes) (number : ℕ) (from : State) (P : State → Type 0) → ordered_stripes s ≡ now → IsSomeAnd (slice_get now.stripes number) P → from ≡ get_or s.items.items number from → slice_get s.items.items number ≡ Some from
 is_at s now number from P is h read = at_index s.items.items number from P (subst (Meets P number) (sym is) h) read
 
 -- a phase that appends
-pub phase_made : (s : Inside) (now : OrderedStripes) (number count : ℕ) (from to : State) (phase : State → State → Type 0) (turns : List ℕ) (next : OrderedStripes) → ordered s ≡ now → IsMergeable s → slice_get s.items.items number ≡ Some from → Extends from to → count ≡ length from.history → phase from to
-    → turns ≡ s.turns.items ++ replicate (length to.history - count) number → next.stripes ≡ slice_set s.items.items number to → next.order ≡ merged (history_at (slice_set s.items.items number to)) turns → IsPhase now number phase next
+pub phase_made : (s : Inside) (now : OrderedStripes) (number count : ℕ) (from to : State) (phase : State → State → Type 0) (turns : List ℕ) (next : OrderedStripes) → ordered_stripes s ≡ now → IsMergeable s → slice_get s.items.items number ≡ Some from → Extends from to → count ≡ length from.history → phase from to
+    → turns ≡ s.turns.items ++ replicate (length to.history - count) number → next.stripes ≡ slice_set s.items.items number to → next.order ≡ merge (history_at (slice_set s.items.items number to)) turns → IsPhase now number phase next
 phase_made s now number count from to phase turns next is ok at longer counted made given stripes_are order_are =
     let P : OrderedStripes → Type 0 = λ v. IsPhase v number phase next in
     subst P is (record {
@@ -235,13 +235,13 @@ phase_made s now number count from to phase turns next is ok at longer counted m
       stripes_are = stripes_are;
       order_is =
           order_are
-          ∙ ap (merged (history_at (slice_set s.items.items number to))) given
+          ∙ ap (merge (history_at (slice_set s.items.items number to))) given
           ∙ grows_merged s.items.items s.turns.items number count from to longer.more ok.turns at longer.history counted;
     })
 
 -- one that appends nothing
-pub quiet_made : (s : Inside) (now : OrderedStripes) (number : ℕ) (from to : State) (phase : State → State → Type 0) (next : OrderedStripes) → ordered s ≡ now → slice_get s.items.items number ≡ Some from → to.history ≡ from.history → phase from to
-    → next.stripes ≡ slice_set s.items.items number to → next.order ≡ merged (history_at (slice_set s.items.items number to)) s.turns.items → IsQuietPhase now number phase next
+pub quiet_made : (s : Inside) (now : OrderedStripes) (number : ℕ) (from to : State) (phase : State → State → Type 0) (next : OrderedStripes) → ordered_stripes s ≡ now → slice_get s.items.items number ≡ Some from → to.history ≡ from.history → phase from to
+    → next.stripes ≡ slice_set s.items.items number to → next.order ≡ merge (history_at (slice_set s.items.items number to)) s.turns.items → IsQuietPhase now number phase next
 quiet_made s now number from to phase next is at same made stripes_are order_are =
     let P : OrderedStripes → Type 0 = λ v. IsQuietPhase v number phase next in
     subst P is (record { from = from; at = at; to = to; made = made; stripes_are = stripes_are; order_is = order_are ∙ stays_merged s.items.items s.turns.items number from to at same })
@@ -273,22 +273,22 @@ first_at (x ∷ xs) zero e h = let is : x ≡ e = cc in ap (λ y. y ∷ []) is
 first_at (x ∷ xs) (suc k) e h = first_at xs k e h
 
 pub merged_next : (left : ℕ → List Event) (turns : List ℕ) (i n place : ℕ) (e : Event) → i < length turns → n ≡ get_or turns i 0 → place ≡ turns_of n (take i turns) → slice_get (left n) place ≡ Some e
-    → merged left (take (i + 1) turns) ≡ merged left (take i turns) ++ e ∷ []
+    → merge left (take (i + 1) turns) ≡ merge left (take i turns) ++ e ∷ []
 merged_next left turns i n place e h is counted at =
-    ap (merged left) (take_more turns i 0 h ∙ ap (λ t. take i turns ++ t ∷ []) (sym is))
+    ap (merge left) (take_more turns i 0 h ∙ ap (λ t. take i turns ++ t ∷ []) (sym is))
     ∙ merged_both left (take i turns) (n ∷ [])
-    ∙ ap (λ xs. merged left (take i turns) ++ xs) (append-nil (take 1 (all_left left (take i turns) n)))
-    ∙ ap (λ xs. merged left (take i turns) ++ take 1 xs) (left_at left (take i turns) n ∙ ap (λ k. drop k (left n)) (sym counted))
-    ∙ ap (λ xs. merged left (take i turns) ++ xs) (first_at (left n) place e at)
+    ∙ ap (λ xs. merge left (take i turns) ++ xs) (append-nil (take 1 (all_left left (take i turns) n)))
+    ∙ ap (λ xs. merge left (take i turns) ++ take 1 xs) (left_at left (take i turns) n ∙ ap (λ k. drop k (left n)) (sym counted))
+    ∙ ap (λ xs. merge left (take i turns) ++ xs) (first_at (left n) place e at)
 
 -- as many events as turns
-pub merged_length : (left : ℕ → List Event) (turns : List ℕ) → ((number : ℕ) → turns_of number turns ≤ length (left number)) → length (merged left turns) ≡ length turns
+pub merged_length : (left : ℕ → List Event) (turns : List ℕ) → ((number : ℕ) → turns_of number turns ≤ length (left number)) → length (merge left turns) ≡ length turns
 merged_length left [] each = refl
 merged_length left (turn ∷ turns) each =
     let first = has_first left turn turns each in
     let some : 1 ≤ length (left turn) = omega arith in
-    length-append (take 1 (left turn)) (merged (after_turn left turn) turns)
-    ∙ ap (λ n. n + length (merged (after_turn left turn) turns)) (one (left turn) some)
+    length-append (take 1 (left turn)) (merge (after_turn left turn) turns)
+    ∙ ap (λ n. n + length (merge (after_turn left turn) turns)) (one (left turn) some)
     ∙ (let rest = merged_length (after_turn left turn) turns (within_after left turn turns each) in omega arith)
   where
     one : (xs : List Event) → 1 ≤ length xs → length (take 1 xs) ≡ 1

@@ -3,9 +3,9 @@
 --     history_at       the history of the stripe with a number, and nothing if there is no such stripe
 --     turns_of         how many of some turns are a stripe's
 --     after_turn       what is left of each history once a stripe has had its turn
---     merged           the merge of histories by turns: each turn takes the first event that is left of its stripe's history
+--     merge            the merge of histories by turns: each turn takes the first event that is left of its stripe's history
 --     OrderedStripes   stripes, the order of all their events, and how many turns more there is room for
---     ordered          what the fields of `Stripes` mean: the order is the merge of the stripes' histories
+--     ordered_stripes  what the fields of `Stripes` mean: the order is the merge of the stripes' histories
 --     IsPhase          a phase of the stripe with a number: what it appends to its history is at the end of the order, too
 --     IsQuietPhase     a phase that appends nothing: the order stays
 --     AreTurns         each stripe has as many turns as its history has events
@@ -29,9 +29,9 @@ turns_of number turns = count_by (λ turn. turn == number) turns
 abbrev pub after_turn : (ℕ → List Event) → ℕ → ℕ → List Event
 after_turn left turn number = if turn == number then drop 1 (left number) else left number
 
-abbrev pub merged : (ℕ → List Event) → List ℕ → List Event
-merged left [] = []
-merged left (turn ∷ turns) = take 1 (left turn) ++ merged (after_turn left turn) turns
+abbrev pub merge : (ℕ → List Event) → List ℕ → List Event
+merge left [] = []
+merge left (turn ∷ turns) = take 1 (left turn) ++ merge (after_turn left turn) turns
 
 pub record OrderedStripes : Type 0 where
   pub stripes : List State
@@ -54,11 +54,11 @@ pub record IsQuietPhase (old : OrderedStripes) (number : ℕ) (phase : State →
   pub stripes_are : new.stripes ≡ slice_set old.stripes number to
   pub order_is : new.order ≡ old.order
 
-abbrev pub ordered : Inside → OrderedStripes
-ordered s =
+abbrev pub ordered_stripes : Inside → OrderedStripes
+ordered_stripes s =
     record {
       stripes = s.items.items;
-      order = merged (history_at s.items.items) s.turns.items;
+      order = merge (history_at s.items.items) s.turns.items;
       room = vec_capacity s.turns - vec_len s.turns;
     }
 

@@ -11,7 +11,7 @@ ghost use Rattle.jc_world.specs.World.{out_of, is_answered, empty_stripes};
 ghost use Rattle.jc_stripe.specs.Reached.{IsReached};
 ghost use Rattle.jc_world.specs.Events.{step_of};
 ghost use Rattle.jc_world.specs.Sound.{KindFits};
-ghost use Rattle.jc_world.specs.Turns.{IsPhase, IsQuietPhase, history_at, merged, AreTurns};
+ghost use Rattle.jc_world.specs.Turns.{IsPhase, IsQuietPhase, history_at, merge, AreTurns};
 
 use crate::event::{Stepped, Under};
 use crate::slot::Slot;
@@ -35,13 +35,13 @@ pub(crate) struct Stripes {
 impl Model for Stripes {
     ghost use Rattle.std.specs.Coded.{codes};
     ghost use Rattle.std.specs.FinMap.{code};
-    ghost use Rattle.jc_world.specs.Turns.{OrderedStripes, ordered, IsMergeable};
+    ghost use Rattle.jc_world.specs.Turns.{OrderedStripes, ordered_stripes, IsMergeable};
 
     ghost Value = { OrderedStripes };
 
     ghost coded = { Prim.hlevel (codes, code) };
 
-    ghost view = { ordered };
+    ghost view = { ordered_stripes };
 
     ghost invariant = { IsMergeable };
 }
@@ -182,7 +182,7 @@ fn give_turns(turns: &mut Vec<u8>, number: usize, stripe: &Stripe, from: usize)
 fn merge(alloc: Global, stripes: &[Stripe], turns: &[u8]) -> Result<Vec<Event>, AllocError>
     requires turns { AreTurns stripes.now turns.now }
     requires count { length stripes.now ≤ STRIPES_MAX }
-    ensures { IfOk result (λ order. order.items ≡ merged (history_at stripes.now) turns.now) }
+    ensures { IfOk result (λ order. order.items ≡ merge (history_at stripes.now) turns.now) }
 {
     // Names the types of the values that a generic call moves here: the prover looks for their models in the types that a
     // function names.

@@ -109,6 +109,8 @@ impl World {
 
     /// All events, over all stripes: one legal history, and what is cached is what it leaves. The history of each stripe
     /// is its part of it: a place in a stripe, as it is shown, counts the events of that stripe alone.
+    ///
+    /// The list is built at each call, in one pass. An `Err` says that an allocation failed; the world is as it was.
     pub fn order(&self, alloc: Global) -> Result<Vec<Event>, AllocError>
         ensures order { IfOk result (λ order. order.items ≡ self.now.world.order) }
         ensures legal { IsOrder self.now.world }

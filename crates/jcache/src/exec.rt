@@ -19,7 +19,7 @@ const LINE_FAULT: u8 = 1;
 const USAGE: u8 = 2;
 /// Standard input or output failed, or the input is too long.
 const STREAMS: u8 = 3;
-/// There was no memory.
+/// An allocation failed.
 const MEMORY: u8 = 4;
 
 /// Says what failed. Nobody is left to hear of it where that fails, too.

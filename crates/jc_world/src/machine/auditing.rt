@@ -32,7 +32,7 @@ impl Machine {
         })
     }
 
-    /// The keys of such entries.
+    /// The keys of the entries that aren't the store's, while no writer's change of their keys waits for its commit.
     fn differing(&self, alloc: Global, entries: &[(Key, Value)]) -> Result<Vec<Key>, AllocError>
         ensures { IfOk result (λ keys. keys.items ≡ differing self.now entries.now) }
     {

@@ -1,7 +1,7 @@
 use Rattle.std.proofs.Common.{◌∙◌, ap, refl, List, ◌++◌}
 use Rattle.jc_world.specs.declared.event.Shown.{Shown}
 use Rattle.jc_script.specs.Printing.{texts}
-use Rattle.jc_script.proofs.player.Turn.play.Goals as goal
+use Rattle.jc_script.proofs.player.LineBuffers.play.Goals as goal
 
 pub returns : goal.returns
 returns c =
