@@ -148,24 +148,25 @@ impl Machine {
         self.store.set(key, Some(*value))
     }
 
-    /// One event. One that doesn't fit is shown as such, and changes nothing.
-    pub(crate) fn step(&mut self, event: &WorldEvent) -> Result<Shown, AllocError>
+    /// One event, and what it shows. One that doesn't fit is shown as such, and changes nothing.
+    pub(crate) fn step(&mut self, event: &WorldEvent, seen: &mut Shown) -> Result<(), AllocError>
         requires { IsSoundWorld self.old }
-        ensures step { IfOk result (λ seen. Step self.old event.now seen self.new) }
+        ensures step { OnOk result (Step self.old event.now seen.new self.new) }
         ensures err { OnErr result (self.new ≡ self.old) }
     {
         if self.fits(event) {
-            self.happen(event)
+            self.happen(event, seen)
         } else {
-            Ok(Shown::Unfit)
+            *seen = Shown::Unfit;
+            Ok(())
         }
     }
 
     /// One event that fits.
-    fn happen(&mut self, event: &WorldEvent) -> Result<Shown, AllocError>
+    fn happen(&mut self, event: &WorldEvent, seen: &mut Shown) -> Result<(), AllocError>
         requires sound { IsSoundWorld self.old }
         requires fits { fits self.old event.now ≡ true }
-        ensures ok { IfOk result (λ seen. Happens self.old event.now seen self.new) }
+        ensures ok { OnOk result (Happens self.old event.now seen.new self.new) }
         ensures err { OnErr result (self.new ≡ self.old) }
     {
         match event {
@@ -173,29 +174,49 @@ impl Machine {
                 call,
                 session,
                 command,
-            } => self.open(*call, *session, command),
-            WorldEvent::Start { call, key } => self.start(*call, key),
-            WorldEvent::Read { call, key } => Ok(self.read(*call, key)),
+            } => self.open(*call, *session, command, seen),
+            WorldEvent::Start { call, key } => self.start(*call, key, seen),
+            WorldEvent::Read { call, key } => {
+                *seen = self.read(*call, key);
+                Ok(())
+            }
             WorldEvent::Say { call, key, answer } => {
                 self.tell(*call, key, *answer);
-                Ok(Shown::Says(*answer))
+                *seen = Shown::Says(*answer);
+                Ok(())
             }
-            WorldEvent::Change { call, key } => self.change(*call, key),
-            WorldEvent::Report { call, fault } => Ok(self.end_write(*call, *fault)),
-            WorldEvent::Commit { call, key } => self.end(*call, key),
-            WorldEvent::Withdraw { call, key } => Ok(self.withdraw(*call, key)),
+            WorldEvent::Change { call, key } => self.change(*call, key, seen),
+            WorldEvent::Report { call, fault } => {
+                *seen = self.end_write(*call, *fault);
+                Ok(())
+            }
+            WorldEvent::Commit { call, key } => self.end(*call, key, seen),
+            WorldEvent::Withdraw { call, key } => {
+                *seen = self.withdraw(*call, key);
+                Ok(())
+            }
             WorldEvent::Leave { call } => {
                 drop_call(&mut self.calls, *call);
-                Ok(Shown::Left)
+                *seen = Shown::Left;
+                Ok(())
             }
-            WorldEvent::PickUp { call, key } => Ok(self.pick_up(*call, key)),
-            WorldEvent::Foreign { key, value } => self.disturb(key, *value),
+            WorldEvent::PickUp { call, key } => {
+                *seen = self.pick_up(*call, key);
+                Ok(())
+            }
+            WorldEvent::Foreign { key, value } => self.disturb(key, *value, seen),
         }
     }
 
     /// A call begins.
-    fn open(&mut self, call: u64, session: u32, command: &Command) -> Result<Shown, AllocError>
-        ensures ok { IfOk result (λ seen. Happens self.old (event.Call call session command.now) seen self.new) }
+    fn open(
+        &mut self,
+        call: u64,
+        session: u32,
+        command: &Command,
+        seen: &mut Shown,
+    ) -> Result<(), AllocError>
+        ensures ok { OnOk result (Happens self.old (event.Call call session command.now) seen.new self.new) }
         ensures err { OnErr result (self.new ≡ self.old) }
     {
         // Names the types of the values that a generic call moves here: the prover looks for their models in the types that a
@@ -207,55 +228,62 @@ impl Machine {
         })?;
         self.last = Some(call);
         self.fresh = false;
-        Ok(Shown::Begun)
+        *seen = Shown::Begun;
+        Ok(())
     }
 
     /// The first phase of a call.
-    fn start(&mut self, call: u64, key: &Key) -> Result<Shown, AllocError>
+    fn start(&mut self, call: u64, key: &Key, seen: &mut Shown) -> Result<(), AllocError>
         requires sound { IsSoundWorld self.old }
         requires fits { fits self.old (event.Start call key.now) ≡ true }
-        ensures ok { IfOk result (λ seen. Happens self.old (event.Start call key.now) seen self.new) }
+        ensures ok { OnOk result (Happens self.old (event.Start call key.now) seen.new self.new) }
         ensures err { OnErr result (self.new ≡ self.old) }
     {
         let _types: Option<Change> = None;
         self.slots.try_reserve(1)?;
         self.joins.try_reserve(1)?;
         self.stripes.reserve()?;
-        let Some(u) = self.under(call).copied() else {
+        let Some(u) = find_call(&self.calls, call) else {
             unreachable!()
         };
+        let caller = u.caller;
         let number = stripe_of(&u.command.key, self.config.stripes);
-        let begun = self.stripes.begin(number, &u);
+        let begun = self.stripes.begin(number, u);
         match begun {
             Begun::Done(done) => {
-                drop_call(&mut self.calls, u.caller.call);
-                Ok(Shown::Stepped(shown_of(number, done)))
+                drop_call(&mut self.calls, caller.call);
+                *seen = Shown::Stepped(shown_of(number, done));
+                Ok(())
             }
             Begun::Load(ticket) => {
                 self.slots.push_reserved(Slot::loading(ticket));
-                Ok(Shown::Loads)
+                *seen = Shown::Loads;
+                Ok(())
             }
             Begun::Write(ticket) => {
                 let (slot, change) = Slot::writing(ticket);
                 self.slots.push_reserved(slot);
-                Ok(Shown::Asks(change))
+                *seen = Shown::Asks(change);
+                Ok(())
             }
             Begun::Joined(join) => {
                 self.joins.push_reserved(join);
-                Ok(Shown::Joins)
+                *seen = Shown::Joins;
+                Ok(())
             }
             Begun::Refused(refusal) => {
-                drop_call(&mut self.calls, u.caller.call);
-                Ok(Shown::Refused(refusal))
+                drop_call(&mut self.calls, caller.call);
+                *seen = Shown::Refused(refusal);
+                Ok(())
             }
         }
     }
 
     /// The last phase of a key.
-    fn end(&mut self, call: u64, key: &Key) -> Result<Shown, AllocError>
+    fn end(&mut self, call: u64, key: &Key, seen: &mut Shown) -> Result<(), AllocError>
         requires sound { IsSoundWorld self.old }
         requires fits { fits self.old (event.Commit call key.now) ≡ true }
-        ensures ok { IfOk result (λ seen. Happens self.old (event.Commit call key.now) seen self.new) }
+        ensures ok { OnOk result (Happens self.old (event.Commit call key.now) seen.new self.new) }
         ensures err { OnErr result (self.new ≡ self.old) }
     {
         self.stripes.reserve()?;
@@ -263,7 +291,8 @@ impl Machine {
         let slot = take_slot(&mut self.slots, call, key);
         drop_call(&mut self.calls, call);
         let done = self.stripes.commit(number, slot);
-        Ok(Shown::Stepped(shown_of(number, done)))
+        *seen = Shown::Stepped(shown_of(number, done));
+        Ok(())
     }
 
     /// The reservation of a key is given back.

@@ -92,8 +92,9 @@ impl World {
         keeps_reserved();
         self.played = 0;
         shown.try_reserve(events.len())?;
+        let mut seen = Shown::Unfit;
         for event in events {
-            let seen = self.machine.step(event)?;
+            self.machine.step(event, &mut seen)?;
             shown.push_reserved(seen);
             self.played += 1;
         }

@@ -1,5 +1,5 @@
 //! What loaders, writers and others do.
-ghost use Rattle.std.specs.Prelude.{◌≡◌, true, false, Ok, IfOk, OnErr, Option, None, Some};
+ghost use Rattle.std.specs.Prelude.{◌≡◌, true, false, Ok, OnOk, OnErr, Option, None, Some};
 ghost use Rattle.jc_stripe.specs.declared.ticket.First.TheVariants.{Writer};
 ghost use Rattle.jc_model.specs.declared.event.Change.{Change};
 ghost use Rattle.jc_world.specs.declared.event.WorldEvent.TheVariants as event;
@@ -51,9 +51,14 @@ impl Machine {
     }
 
     /// The writer changes the store.
-    pub(super) fn change(&mut self, call: u64, key: &Key) -> Result<Shown, AllocError>
+    pub(super) fn change(
+        &mut self,
+        call: u64,
+        key: &Key,
+        seen: &mut Shown,
+    ) -> Result<(), AllocError>
         requires { waits_for_report (part_of self.old call key.now) ≡ true }
-        ensures ok { IfOk result (λ seen. Happens self.old (event.Change call key.now) seen self.new) }
+        ensures ok { OnOk result (Happens self.old (event.Change call key.now) seen.new self.new) }
         ensures err { OnErr result (self.new ≡ self.old) }
     {
         match self.part_of(call, key).copied() {
@@ -61,7 +66,8 @@ impl Machine {
                 Some(change) => {
                     self.store.set(key, entry_after(&change))?;
                     set_part(&mut self.slots, call, key, with_change(part));
-                    Ok(Shown::Changed)
+                    *seen = Shown::Changed;
+                    Ok(())
                 }
                 None => unreachable!(),
             },
@@ -109,14 +115,20 @@ impl Machine {
     }
 
     /// Somebody else changes the store.
-    pub(super) fn disturb(&mut self, key: &Key, value: Option<Value>) -> Result<Shown, AllocError>
-        ensures ok { IfOk result (λ seen. Happens self.old (event.Foreign key.now value) seen self.new) }
+    pub(super) fn disturb(
+        &mut self,
+        key: &Key,
+        value: Option<Value>,
+        seen: &mut Shown,
+    ) -> Result<(), AllocError>
+        ensures ok { OnOk result (Happens self.old (event.Foreign key.now value) seen.new self.new) }
         ensures err { OnErr result (self.new ≡ self.old) }
     {
         self.store.set(key, value)?;
         self.fresh = false;
         self.premises.quiet = false;
-        Ok(Shown::Written)
+        *seen = Shown::Written;
+        Ok(())
     }
 }
 

@@ -1,11 +1,11 @@
-use Rattle.std.proofs.Common.{sym, subst, IfOk}
+use Rattle.std.proofs.Common.{sym, subst, OnOk}
 use Rattle.jc_world.specs.declared.event.WorldEvent.{WorldEvent}
 use Rattle.jc_world.specs.Events.{Happens}
 use Rattle.jc_world.proofs.machine.Machine.happen.Goals as goal
 
 pub returns-in-Commit-clause-ok : goal.returns-in-Commit-clause-ok
 returns-in-Commit-clause-ok c =
-    let P : WorldEvent → Type 0 = λ e. IfOk c.end.result (λ seen. Happens c.args.self.now e seen c.end.new.self) in
+    let P : WorldEvent → Type 0 = λ e. OnOk c.end.result (Happens c.args.self.now e c.end.new.seen c.end.new.self) in
     subst P (sym c.in-Commit.is) c.end.ensures.ok
 
 pub returns-in-Withdraw-clause-ok : goal.returns-in-Withdraw-clause-ok
@@ -30,15 +30,15 @@ returns-in-Report-clause-ok c =
 
 pub returns-in-Call-clause-ok : goal.returns-in-Call-clause-ok
 returns-in-Call-clause-ok c =
-    let P : WorldEvent → Type 0 = λ e. IfOk c.open.result (λ seen. Happens c.args.self.now e seen c.open.new.self) in
+    let P : WorldEvent → Type 0 = λ e. OnOk c.open.result (Happens c.args.self.now e c.open.new.seen c.open.new.self) in
     subst P (sym c.in-Call.is) c.open.ensures.ok
 
 pub returns-in-Change-clause-ok : goal.returns-in-Change-clause-ok
 returns-in-Change-clause-ok c =
-    let P : WorldEvent → Type 0 = λ e. IfOk c.change.result (λ seen. Happens c.args.self.now e seen c.change.new.self) in
+    let P : WorldEvent → Type 0 = λ e. OnOk c.change.result (Happens c.args.self.now e c.change.new.seen c.change.new.self) in
     subst P (sym c.in-Change.is) c.change.ensures.ok
 
 pub returns-in-Foreign-clause-ok : goal.returns-in-Foreign-clause-ok
 returns-in-Foreign-clause-ok c =
-    let P : WorldEvent → Type 0 = λ e. IfOk c.disturb.result (λ seen. Happens c.args.self.now e seen c.disturb.new.self) in
+    let P : WorldEvent → Type 0 = λ e. OnOk c.disturb.result (Happens c.args.self.now e c.disturb.new.seen c.disturb.new.self) in
     subst P (sym c.in-Foreign.is) c.disturb.ensures.ok
