@@ -16,13 +16,12 @@ use Rattle.jc_inflight.specs.Joining.{callers_of, waits_for}
 use Rattle.jc_inflight.specs.Resolving.{after_resolve}
 use Rattle.jc_stripe.specs.declared.ticket.Note.{Note}
 use Rattle.jc_stripe.specs.declared.ticket.First.TheVariants.{Nobody}
-use Rattle.jc_stripe.specs.declared.appending.NewGroup.{NewGroup}
 use Rattle.jc_stripe.specs.declared.stripe.Stripe.TheInside.{Inside}
 use Rattle.jc_stripe.specs.State.{State, IsOut, without_key, waits}
 use Rattle.jc_stripe.specs.OrderOfUse.{by_use, pinned}
 use Rattle.jc_stripe.specs.Refusals.{first_refusal, first_asked, needs_free_key, places_needed}
 use Rattle.jc_stripe.specs.Phases.{MayBegin, Steps, new_group, after_commit}
-use Rattle.jc_stripe.specs.Appending.{AppliesStep, AnswersFirst, group_events, append_group}
+use Rattle.jc_stripe.specs.Appending.{NewGroup, AppliesStep, AnswersFirst, group_events, append_group}
 use Rattle.jc_stripe.specs.Inside.{IsStripe, state_of, note_reservation}
 use Rattle.jc_stripe.proofs.Lawfully.{MayShare}
 use Rattle.jc_stripe.proofs.Fields.{left-reserved_of, pinned-reserved_of}

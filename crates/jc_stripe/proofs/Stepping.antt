@@ -10,12 +10,11 @@ use Rattle.jc_model.specs.Table.{answers_fit, entry_after, reply_after}
 use Rattle.jc_model.specs.Group.{Group, victim_events, events_of, step_place, cache_after_group}
 use Rattle.jc_model.proofs.CallerLemmas.{len-distinct}
 use Rattle.jc_entries.specs.ByUse.{ByUse, lru_victim}
-use Rattle.jc_stripe.specs.declared.appending.NewGroup.{NewGroup}
 use Rattle.jc_stripe.specs.State.{State}
 use Rattle.jc_stripe.specs.OrderOfUse.{by_use, pinned}
 use Rattle.jc_stripe.specs.Phases.{new_group, inserts_here, overflows, own_cause, own_eviction, Steps}
 use Rattle.jc_stripe.specs.Reached.{IsUsed}
-use Rattle.jc_stripe.specs.Appending.{AppliesStep, inserts_into, overflows_in, victim_in, group_events, entries_after, eviction_of}
+use Rattle.jc_stripe.specs.Appending.{NewGroup, AppliesStep, inserts_into, overflows_in, victim_in, group_events, entries_after, eviction_of}
 use Rattle.jc_stripe.proofs.Used.{find-entry, from-left}
 use Rattle.jc_stripe.proofs.Lawfully.{MayShare, made_lawful}
 use Rattle.jc_stripe.proofs.Stepped.{few_events, by_use_on}

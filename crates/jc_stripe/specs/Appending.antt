@@ -1,4 +1,6 @@
 -- How a step is made in the entries and appended. No contract of a public call cites this.
+--     NewGroup            a step, and who goes before and after it: a group without those that share its load
+--     group_in            what the fields of a `NewGroup` mean: what the step is made of is lent
 --     inserts_into        the step inserts: its key is missing in the entries, and it leaves an entry there
 --     overflows_in        it inserts into entries that are as many as may be
 --     victim_in           who goes before it, if one has to and can
@@ -34,7 +36,7 @@ use Rattle.jc_inflight.specs.declared.joiner.Joiner.{Joiner}
 use Rattle.jc_inflight.specs.declared.joiner.JoinState.{JoinState}
 use Rattle.jc_inflight.specs.declared.joiner.JoinState.TheVariants.{Waiting, Answered, Again}
 use Rattle.jc_inflight.specs.Joining.{callers_of}
-use Rattle.jc_stripe.specs.declared.appending.NewGroup.{NewGroup}
+use Rattle.jc_stripe.specs.declared.appending.NewGroup.TheInside.{Inside}
 use Rattle.jc_stripe.specs.declared.begun.Eviction.{Eviction}
 use Rattle.jc_stripe.specs.declared.ticket.First.{First}
 use Rattle.jc_stripe.specs.declared.ticket.First.TheVariants.{Nobody, Loader, Writer, Processor}
@@ -42,6 +44,18 @@ use Rattle.jc_stripe.specs.OrderOfUse.{used_at}
 use Rattle.jc_stripe.specs.Tickets.{JoinClaim}
 use Rattle.jc_stripe.specs.State.{State}
 use Rattle.jc_stripe.specs.Phases.{own_cause, IsSharedStep, without_joiner}
+
+pub record NewGroup : Type 0 where
+  pub caller : Caller
+  pub key : Bytes
+  pub op : Op
+  pub out : Out
+  pub reply : Reply
+  pub victim : Option Bytes  -- who goes before it
+  pub evicted : Option Cause  -- why its own key goes after it, if it does
+
+abbrev pub group_in : Inside → NewGroup
+group_in g = record { caller = g.caller; key = g.key.now; op = g.op.now; out = g.out.now; reply = g.reply; victim = g.victim; evicted = g.evicted }
 
 -- 1. The entries.
 

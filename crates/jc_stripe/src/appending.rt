@@ -14,19 +14,28 @@ use jc_history::History;
 use jc_inflight::Joiners;
 use jc_model::{Cause, Event, LoadAnswer, Op, Out, Reply};
 use jc_types::{Caller, Key, Value};
+use std::marker::Model;
 
-/// A step, and who goes before and after it: a group without those that share its load.
-#[derive(Clone, Copy)]
-pub(crate) struct NewGroup {
-    pub(crate) caller: Caller,
-    pub(crate) key: Key,
-    pub(crate) op: Op,
-    pub(crate) out: Out,
-    pub(crate) reply: Reply,
+/// A step, and who goes before and after it: a group without those that share its load. What the step is made of is lent.
+#[derive(Drop)]
+pub(crate) struct NewGroup<'a> {
+    caller: Caller,
+    key: &'a Key,
+    op: &'a Op,
+    out: &'a Out,
+    reply: Reply,
     /// Who was evicted before the step, since the stripe was full.
-    pub(crate) victim: Option<Key>,
+    victim: Option<Key>,
     /// Why the step's own key was evicted after it, if it was.
-    pub(crate) evicted: Option<Cause>,
+    evicted: Option<Cause>,
+}
+
+impl<'a> Model for NewGroup<'a> {
+    ghost use Rattle.jc_stripe.specs.Appending.{NewGroup, group_in};
+
+    ghost Value = { NewGroup };
+
+    ghost view = { group_in };
 }
 
 /// Whether a step without a fault makes the entry that it leaves the most recently used.
@@ -100,15 +109,15 @@ fn apply_to_entries(
 }
 
 /// Makes a step in the entries if the key has this entry, and says what is to be appended of it.
-pub(crate) fn make_step(
+pub(crate) fn make_step<'a>(
     entries: &mut Entries,
     pinned: &[Key],
     caller: Caller,
-    key: &Key,
+    key: &'a Key,
     entry: Option<Value>,
-    op: &Op,
-    out: &Out,
-) -> NewGroup
+    op: &'a Op,
+    out: &'a Out,
+) -> NewGroup<'a>
     requires room { length entries.old.list ≤ entries.old.capacity }
     requires entry { entry ≡ finite.find key_cmp key.now entries.old.list }
     ensures group { result ≡ record { caller = caller; key = key.now; op = op.now; out = out.now; reply = reply_after op.now entry out.now; victim = result.victim; evicted = result.evicted } }
@@ -120,9 +129,9 @@ pub(crate) fn make_step(
     let (victim, evicted) = apply_to_entries(entries, pinned, key, found, op, out);
     NewGroup {
         caller,
-        key: *key,
-        op: *op,
-        out: *out,
+        key,
+        op,
+        out,
         reply,
         victim,
         evicted,
@@ -143,9 +152,9 @@ fn append_step(history: &mut History, group: &NewGroup) -> u32
     let place = history.len() as u32;
     history.push(&Event::Step {
         caller: group.caller,
-        op: group.op,
-        key: group.key,
-        out: group.out,
+        op: *group.op,
+        key: *group.key,
+        out: *group.out,
         shared_with: None,
         reply: group.reply,
     });
@@ -185,7 +194,7 @@ fn append_shared(
     };
     for joiner in joiners.list() {
         if joiner.waits_for(load) {
-            history.push(&shared_event(place, &group.key, group.out.load, joiner.caller));
+            history.push(&shared_event(place, group.key, group.out.load, joiner.caller));
         }
     }
 }
@@ -201,7 +210,7 @@ fn append_evicted(history: &mut History, group: &NewGroup) -> Option<Eviction>
         Some(cause) => {
             let place = history.len() as u32;
             history.push(&Event::Evict {
-                key: group.key,
+                key: *group.key,
                 cause,
             });
             Some(Eviction { cause, place })

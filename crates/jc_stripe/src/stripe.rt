@@ -353,6 +353,7 @@ impl Stripe {
         let kept = places_needed(found.needs_free_key);
         let _ = self.history.promise(kept);
         let pinned = self.reservations.keys();
+        let out = Out::nothing_said();
         let group = make_step(
             &mut self.entries,
             pinned,
@@ -360,7 +361,7 @@ impl Stripe {
             key,
             found.entry,
             op,
-            &Out::nothing_said(),
+            &out,
         );
         append_group(&mut self.history, &self.joiners, None, &group, kept)
     }

@@ -49,14 +49,14 @@ asked c = ap (λ (s : State). first_asked s.config c.args.op.now (entry_at s.cac
 made : (c : goal.After-group-1) → IsMade (state_of c.self.inside) c.args.caller c.args.key.now c.args.op.now nothing_said c.make_step-group.result
 made c =
     made_is (state_of c.self.inside) c.args.caller c.args.key.now c.args.op.now nothing_said c.args.found.now.entry c.make_step-group.result
-    (c.make_step-group.ensures.group ∙ (λ i. record { caller = c.args.caller; key = c.args.key.now; op = c.args.op.now; out = c.nothing_said.ensures i; reply = reply_after c.args.op.now c.args.found.now.entry (c.nothing_said.ensures i); victim = c.make_step-group.result.victim; evicted = c.make_step-group.result.evicted }))
+    (c.make_step-group.ensures.group ∙ (λ i. record { caller = c.args.caller; key = c.args.key.now; op = c.args.op.now; out = c.nothing_said-out.ensures i; reply = reply_after c.args.op.now c.args.found.now.entry (c.nothing_said-out.ensures i); victim = c.make_step-group.result.victim; evicted = c.make_step-group.result.evicted }))
     (ap (λ (f : Found). f.entry) c.requires.found ∙ sym (ap (λ (s : State). entry_at s.cache c.args.key.now) c.self.view_is))
 
 pub append_group-requires-clause-places : goal.append_group-requires-clause-places
 append_group-requires-clause-places c =
     subst (λ n. length (group_events (length c.promise.new.self.events) c.make_step-group.result []) ≤ n) (needed c)
     (done_few c.self.inside c.args.caller c.args.key.now c.args.op.now c.make_step-group.new.entries c.keys-pinned.result.now c.make_step-group.result (length c.promise.new.self.events) c.self.invariant (asked c) c.keys-pinned.ensures.keys (made c)
-    (subst (λ o. AppliesStep c.self.inside.entries c.keys-pinned.result.now c.args.key.now c.args.op.now o c.make_step-group.result.victim c.make_step-group.result.evicted c.make_step-group.new.entries) c.nothing_said.ensures c.make_step-group.ensures.applies))
+    (subst (λ o. AppliesStep c.self.inside.entries c.keys-pinned.result.now c.args.key.now c.args.op.now o c.make_step-group.result.victim c.make_step-group.result.evicted c.make_step-group.new.entries) c.nothing_said-out.ensures c.make_step-group.ensures.applies))
 
 is_done : (c : goal.After-append_group)
     → IsDone c.self.inside c.args.caller c.args.key.now c.args.op.now c.make_step-group.new.entries c.promise.new.self c.append_group.new.history c.keys-pinned.result.now c.make_step-group.result c.append_group.result c.places_needed-kept.result
@@ -64,7 +64,7 @@ is_done c = record {
   sound = c.self.invariant;
   keys_are = c.keys-pinned.ensures.keys;
   is = made c.before;
-  keeps = subst (λ o. AppliesStep c.self.inside.entries c.keys-pinned.result.now c.args.key.now c.args.op.now o c.make_step-group.result.victim c.make_step-group.result.evicted c.make_step-group.new.entries) c.nothing_said.ensures c.make_step-group.ensures.applies;
+  keeps = subst (λ o. AppliesStep c.self.inside.entries c.keys-pinned.result.now c.args.key.now c.args.op.now o c.make_step-group.result.victim c.make_step-group.result.evicted c.make_step-group.new.entries) c.nothing_said-out.ensures c.make_step-group.ensures.applies;
   promises = promises c.before;
   told = record { reply = c.append_group.ensures.reply; place = c.append_group.ensures.place; victim = c.append_group.ensures.victim; evicted = c.append_group.ensures.evicted };
   put = c.append_group.ensures.history;
