@@ -113,6 +113,7 @@ fn op_valued(valued: Valued, value: Value) -> Op
     }
 }
 
+#[inline(never)]
 fn begin_bare(
     call: u32,
     session: u32,
@@ -133,6 +134,7 @@ fn begin_bare(
     }
 }
 
+#[inline(never)]
 fn begin_valued(
     call: u32,
     session: u32,
@@ -163,6 +165,7 @@ fn value_alone(words: &[&[u8]]) -> Result<Value, Fault>
 }
 
 #[tactic(auto, unfolding(crate::specs::Lines::replace_if_of))]
+#[inline(never)]
 fn begin_replace_if(call: u32, session: u32, words: &[&[u8]], line: &mut Line) -> Result<(), Fault>
     ensures { with_value line.new result ≡ begin_with call session (replace_if_of (map (λ w. w.now) words.now)) }
 {

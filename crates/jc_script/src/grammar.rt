@@ -124,6 +124,7 @@ fn flags(words: &[&[u8]]) -> Result<(bool, bool), Fault>
 }
 
 #[tactic(auto, unfolding(crate::specs::Lines::open_of))]
+#[inline(never)]
 fn open(words: &[&[u8]], line: &mut Line) -> Result<(), Fault>
     ensures { with_value line.new result ≡ open_of (map (λ w. w.now) words.now) }
 {
@@ -147,6 +148,7 @@ fn open(words: &[&[u8]], line: &mut Line) -> Result<(), Fault>
 }
 
 #[tactic(auto, unfolding(crate::specs::Lines::set_of))]
+#[inline(never)]
 fn set(words: &[&[u8]], line: &mut Line) -> Result<(), Fault>
     ensures { with_value line.new result ≡ set_of (map (λ w. w.now) words.now) }
 {
@@ -200,6 +202,7 @@ fn act_lone(lone: Lone) -> Act
     }
 }
 
+#[inline(never)]
 fn lone_line(lone: Lone, words: &[&[u8]], line: &mut Line) -> Result<(), Fault>
     ensures { with_value line.new result ≡ lone_of lone (map (λ w. w.now) words.now) }
 {
@@ -219,6 +222,7 @@ fn act_coded(coded: Coded, code: u32) -> Act
 }
 
 #[tactic(auto, unfolding(crate::specs::Lines::coded_of))]
+#[inline(never)]
 fn coded_line(coded: Coded, words: &[&[u8]], line: &mut Line) -> Result<(), Fault>
     ensures { with_value line.new result ≡ coded_of coded (map (λ w. w.now) words.now) }
 {
@@ -237,6 +241,7 @@ fn coded_line(coded: Coded, words: &[&[u8]], line: &mut Line) -> Result<(), Faul
 }
 
 #[tactic(auto, unfolding(crate::specs::Lines::say_of))]
+#[inline(never)]
 fn say(alloc: Global, words: &[&[u8]], line: &mut Line) -> Result<(), ReadError>
     ensures { Gives (with_value line.new result) (say_of (map (λ w. w.now) words.now)) }
 {
@@ -252,6 +257,7 @@ fn say(alloc: Global, words: &[&[u8]], line: &mut Line) -> Result<(), ReadError>
 }
 
 #[tactic(auto, unfolding(crate::specs::Lines::foreign_of))]
+#[inline(never)]
 fn foreign(words: &[&[u8]], line: &mut Line) -> Result<(), Fault>
     ensures { with_value line.new result ≡ foreign_of (map (λ w. w.now) words.now) }
 {

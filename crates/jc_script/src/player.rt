@@ -169,6 +169,7 @@ fn fault_of_config(config: &Config) -> Option<Fault>
     }
 }
 
+#[inline(never)]
 fn open(
     alloc: Global,
     world: &mut Option<World>,
@@ -268,6 +269,7 @@ fn first_fits(world: &World, events: &[WorldEvent]) -> bool
     }
 }
 
+#[inline(never)]
 fn act_on(
     world: &mut World,
     number: u32,
@@ -353,6 +355,7 @@ fn put_events(
     Ok(())
 }
 
+#[inline(never)]
 fn foreign(
     world: &mut World,
     key: &Key,
@@ -372,6 +375,7 @@ fn foreign(
     Ok(())
 }
 
+#[inline(never)]
 fn audit(alloc: Global, world: &World, out: &mut Vec<u8>) -> Result<(), AllocError>
     ensures { OnOk result ((text : List ℕ) × Audited world.now.world text × (out.new.items ≡ out.old.items ++ text)) }
 {

@@ -16,7 +16,7 @@ ghost use Rattle.jc_stripe.specs.Finding.{found_at};
 ghost use Rattle.jc_stripe.specs.Appending.{AnswersFirst, HasToldStep, after_pick_up};
 ghost use Rattle.jc_stripe.specs.Phases.{MayBegin, Steps, Begins, Commits, Withdraws, PicksUp, with_joiner, told_to};
 ghost use Rattle.jc_stripe.specs.OnePhase.{IsPhaseOf};
-ghost use Rattle.jc_stripe.specs.declared.ticket.First.TheVariants.{Nobody};
+ghost use Rattle.jc_stripe.specs.declared.ticket.First.TheVariants.{Nobody, Loader, Writer};
 
 mod finding;
 mod testing;
@@ -283,16 +283,36 @@ impl Stripe {
         }
         match found.first {
             First::Nobody => Begun::Done(self.finish(caller, key, op, &found)),
-            First::Loader => {
-                let reservation = self.reserve(caller, key, op, First::Loader);
-                Begun::Load(LoadTicket::new(reservation))
-            }
-            First::Writer(change) => {
-                let reservation = self.reserve(caller, key, op, First::Writer(change));
-                Begun::Write(WriteTicket::new(reservation))
-            }
+            First::Loader => self.begin_load(caller, key, op),
+            First::Writer(change) => self.begin_write(caller, key, op, change),
             First::Processor => unreachable!(),
         }
+    }
+
+    /// Reserves a key, and gives the ticket with which the loader is asked.
+    #[inline(never)]
+    fn begin_load(&mut self, caller: Caller, key: &Key, op: &Op) -> Begun
+        requires free { first_refusal self.old caller key.now op.now ≡ None }
+        requires alone { load_joined self.old key.now op.now ≡ None }
+        requires asks { first_asked self.old.config op.now (entry_at self.old.cache key.now) ≡ Loader }
+        requires begins { MayBegin self.old caller key.now }
+        ensures { Begins self.old caller key.now op.now result self.new }
+    {
+        let reservation = self.reserve(caller, key, op, First::Loader);
+        Begun::Load(LoadTicket::new(reservation))
+    }
+
+    /// Reserves a key, and gives the ticket with which the writer is asked for this change.
+    #[inline(never)]
+    fn begin_write(&mut self, caller: Caller, key: &Key, op: &Op, change: Change) -> Begun
+        requires free { first_refusal self.old caller key.now op.now ≡ None }
+        requires alone { load_joined self.old key.now op.now ≡ None }
+        requires asks { first_asked self.old.config op.now (entry_at self.old.cache key.now) ≡ Writer change }
+        requires begins { MayBegin self.old caller key.now }
+        ensures { Begins self.old caller key.now op.now result self.new }
+    {
+        let reservation = self.reserve(caller, key, op, First::Writer(change));
+        Begun::Write(WriteTicket::new(reservation))
     }
 
     /// Reserves a key, and keeps room in the history for its commit.
@@ -329,6 +349,7 @@ impl Stripe {
     }
 
     /// Joins a load, and keeps room in the history for the shared step.
+    #[inline(never)]
     fn join(&mut self, caller: Caller, key: &Key, op: &Op, load: u64) -> Join
         requires free { first_refusal self.old caller key.now op.now ≡ None }
         requires load { load_joined self.old key.now op.now ≡ Some load }

@@ -162,7 +162,8 @@ impl Machine {
         }
     }
 
-    /// One event that fits.
+    /// One event that fits. Each kind has a function of its own, in the machine code too: there a function clears the room of all
+    /// its values when it begins, and an event is to clear its own alone.
     fn happen(&mut self, event: &WorldEvent, seen: &mut Shown) -> Result<(), AllocError>
         requires sound { IsSoundWorld self.old }
         requires fits { fits self.old event.now ≡ true }
@@ -177,22 +178,21 @@ impl Machine {
             } => self.open(*call, *session, command, seen),
             WorldEvent::Start { call, key } => self.start(*call, key, seen),
             WorldEvent::Read { call, key } => {
-                *seen = self.read(*call, key);
+                self.read(*call, key, seen);
                 Ok(())
             }
             WorldEvent::Say { call, key, answer } => {
-                self.tell(*call, key, *answer);
-                *seen = Shown::Says(*answer);
+                self.say(*call, key, *answer, seen);
                 Ok(())
             }
             WorldEvent::Change { call, key } => self.change(*call, key, seen),
             WorldEvent::Report { call, fault } => {
-                *seen = self.end_write(*call, *fault);
+                self.end_write(*call, *fault, seen);
                 Ok(())
             }
             WorldEvent::Commit { call, key } => self.end(*call, key, seen),
             WorldEvent::Withdraw { call, key } => {
-                *seen = self.withdraw(*call, key);
+                self.withdraw(*call, key, seen);
                 Ok(())
             }
             WorldEvent::Leave { call } => {
@@ -201,7 +201,7 @@ impl Machine {
                 Ok(())
             }
             WorldEvent::PickUp { call, key } => {
-                *seen = self.pick_up(*call, key);
+                self.pick_up(*call, key, seen);
                 Ok(())
             }
             WorldEvent::Foreign { key, value } => self.disturb(key, *value, seen),
@@ -233,6 +233,7 @@ impl Machine {
     }
 
     /// The first phase of a call.
+    #[inline(never)]
     fn start(&mut self, call: u64, key: &Key, seen: &mut Shown) -> Result<(), AllocError>
         requires sound { IsSoundWorld self.old }
         requires fits { fits self.old (event.Start call key.now) ≡ true }
@@ -280,6 +281,7 @@ impl Machine {
     }
 
     /// The last phase of a key.
+    #[inline(never)]
     fn end(&mut self, call: u64, key: &Key, seen: &mut Shown) -> Result<(), AllocError>
         requires sound { IsSoundWorld self.old }
         requires fits { fits self.old (event.Commit call key.now) ≡ true }
@@ -296,22 +298,24 @@ impl Machine {
     }
 
     /// The reservation of a key is given back.
-    fn withdraw(&mut self, call: u64, key: &Key) -> Shown
+    #[inline(never)]
+    fn withdraw(&mut self, call: u64, key: &Key, seen: &mut Shown)
         requires sound { IsSoundWorld self.old }
         requires fits { fits self.old (event.Withdraw call key.now) ≡ true }
-        ensures { Happens self.old (event.Withdraw call key.now) result self.new }
+        ensures { Happens self.old (event.Withdraw call key.now) seen.new self.new }
     {
         let number = stripe_of(key, self.config.stripes);
         let slot = take_slot(&mut self.slots, call, key);
         self.stripes.withdraw(number, slot);
-        Shown::Withdrawn
+        *seen = Shown::Withdrawn;
     }
 
     /// A call that has joined a load asks for its answer.
-    fn pick_up(&mut self, call: u64, key: &Key) -> Shown
+    #[inline(never)]
+    fn pick_up(&mut self, call: u64, key: &Key, seen: &mut Shown)
         requires sound { IsSoundWorld self.old }
         requires fits { fits self.old (event.PickUp call key.now) ≡ true }
-        ensures { Happens self.old (event.PickUp call key.now) result self.new }
+        ensures { Happens self.old (event.PickUp call key.now) seen.new self.new }
     {
         let stripe = stripe_of(key, self.config.stripes);
         let (join, place) = take_join(&mut self.joins, call, key);
@@ -322,17 +326,17 @@ impl Machine {
                 shared_with: shared,
             } => {
                 drop_call(&mut self.calls, call);
-                Shown::PickedUp(PickedUp {
+                *seen = Shown::PickedUp(PickedUp {
                     reply,
                     stripe,
                     place: step,
                     shared,
-                })
+                });
             }
-            Picked::Again => Shown::Again,
+            Picked::Again => *seen = Shown::Again,
             Picked::NotYet(join) => {
                 put_back(&mut self.joins, join, place);
-                Shown::Waits
+                *seen = Shown::Waits;
             }
         }
     }

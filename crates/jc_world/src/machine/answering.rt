@@ -22,7 +22,7 @@ use std::alloc::AllocError;
 
 impl Machine {
     /// The loader answers.
-    pub(super) fn tell(&mut self, call: u64, key: &Key, answer: LoadAnswer)
+    fn tell(&mut self, call: u64, key: &Key, answer: LoadAnswer)
         requires { waits_for_load (part_of self.old call key.now) ≡ true }
         ensures { (part : Part) × (part_of self.old call key.now ≡ Some part) × (self.new ≡ answered self.old key.now part answer) }
     {
@@ -39,18 +39,32 @@ impl Machine {
     }
 
     /// The loader reads the store, and returns what it has.
-    pub(super) fn read(&mut self, call: u64, key: &Key) -> Shown
+    #[inline(never)]
+    pub(super) fn read(&mut self, call: u64, key: &Key, seen: &mut Shown)
         requires { fits self.old (event.Read call key.now) ≡ true }
-        ensures { Happens self.old (event.Read call key.now) result self.new }
+        ensures { Happens self.old (event.Read call key.now) seen.new self.new }
     {
         let answer = answer_of(self.stored(key));
         // Copied first: a value counts as moved by the call that takes it.
         let kept = answer;
         self.tell(call, key, answer);
-        Shown::Reads(kept)
+        *seen = Shown::Reads(kept);
+    }
+
+    /// The loader answers this, whatever the store holds.
+    #[inline(never)]
+    pub(super) fn say(&mut self, call: u64, key: &Key, answer: LoadAnswer, seen: &mut Shown)
+        requires { fits self.old (event.Say call key.now answer) ≡ true }
+        ensures { Happens self.old (event.Say call key.now answer) seen.new self.new }
+    {
+        // Copied first: a value counts as moved by the call that takes it.
+        let kept = answer;
+        self.tell(call, key, answer);
+        *seen = Shown::Says(kept);
     }
 
     /// The writer changes the store.
+    #[inline(never)]
     pub(super) fn change(
         &mut self,
         call: u64,
@@ -104,17 +118,19 @@ impl Machine {
     }
 
     /// The writer of a single-key call returns.
-    pub(super) fn end_write(&mut self, call: u64, fault: Option<u32>) -> Shown
+    #[inline(never)]
+    pub(super) fn end_write(&mut self, call: u64, fault: Option<u32>, seen: &mut Shown)
         requires { fits self.old (event.Report call fault) ≡ true }
-        ensures { Happens self.old (event.Report call fault) result self.new }
+        ensures { Happens self.old (event.Report call fault) seen.new self.new }
     {
         let Some(u) = self.under(call).copied() else {
             unreachable!()
         };
-        Shown::Reported(self.report(call, &u.command.key, fault))
+        *seen = Shown::Reported(self.report(call, &u.command.key, fault));
     }
 
     /// Somebody else changes the store.
+    #[inline(never)]
     pub(super) fn disturb(
         &mut self,
         key: &Key,

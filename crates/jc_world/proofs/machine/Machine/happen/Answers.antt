@@ -10,22 +10,22 @@ returns-in-Commit-clause-ok c =
 
 pub returns-in-Withdraw-clause-ok : goal.returns-in-Withdraw-clause-ok
 returns-in-Withdraw-clause-ok c =
-    let P : WorldEvent → Type 0 = λ e. Happens c.args.self.now e c.withdraw.result c.withdraw.new.self in
+    let P : WorldEvent → Type 0 = λ e. Happens c.args.self.now e c.withdraw.new.seen c.withdraw.new.self in
     subst P (sym c.in-Withdraw.is) c.withdraw.ensures
 
 pub returns-in-PickUp-clause-ok : goal.returns-in-PickUp-clause-ok
 returns-in-PickUp-clause-ok c =
-    let P : WorldEvent → Type 0 = λ e. Happens c.args.self.now e c.pick_up.result c.pick_up.new.self in
+    let P : WorldEvent → Type 0 = λ e. Happens c.args.self.now e c.pick_up.new.seen c.pick_up.new.self in
     subst P (sym c.in-PickUp.is) c.pick_up.ensures
 
 pub returns-in-Read-clause-ok : goal.returns-in-Read-clause-ok
 returns-in-Read-clause-ok c =
-    let P : WorldEvent → Type 0 = λ e. Happens c.args.self.now e c.read.result c.read.new.self in
+    let P : WorldEvent → Type 0 = λ e. Happens c.args.self.now e c.read.new.seen c.read.new.self in
     subst P (sym c.in-Read.is) c.read.ensures
 
 pub returns-in-Report-clause-ok : goal.returns-in-Report-clause-ok
 returns-in-Report-clause-ok c =
-    let P : WorldEvent → Type 0 = λ e. Happens c.args.self.now e c.end_write.result c.end_write.new.self in
+    let P : WorldEvent → Type 0 = λ e. Happens c.args.self.now e c.end_write.new.seen c.end_write.new.self in
     subst P (sym c.in-Report.is) c.end_write.ensures
 
 pub returns-in-Call-clause-ok : goal.returns-in-Call-clause-ok
