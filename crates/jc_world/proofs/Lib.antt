@@ -20,3 +20,4 @@ pub mod Homes
 pub mod Fitting
 pub mod Closing
 pub mod Merging
+pub mod Standing

@@ -6,7 +6,7 @@
 --     joiners_at      the joiners of the stripe with a number
 --     times_shown     once, or not yet if the answer is still parked
 --     StepsShownOnce  after every list of events, each step of the order was shown exactly once, or its answer is parked
-use Rattle.std.specs.Prelude.{◌≡◌, ◌==◌, ◌&&◌, ℕ, List, [], zip, count_by, slice_get, Bool, true, false, Option, None, Some, Ok, if◌then◌else◌}
+use Rattle.std.specs.Prelude.{◌≡◌, ◌==◌, ◌&&◌, ℕ, List, [], zip, count_by, slice_get, Bool, false, Option, None, Some, Ok, if◌then◌else◌}
 use Rattle.jc_types.specs.declared.caller.Caller.{Caller}
 use Rattle.jc_types.specs.declared.config.Config.{Config}
 use Rattle.jc_types.specs.Limits.{check}
@@ -19,7 +19,6 @@ use Rattle.jc_model.specs.Legal.{of_stripe}
 use Rattle.jc_inflight.specs.declared.joiner.Joiner.{Joiner}
 use Rattle.jc_stripe.specs.State.{State}
 use Rattle.jc_stripe.specs.OnePhase.{is_parked}
-use Rattle.jc_world.specs.declared.event.Command.{Command}
 use Rattle.jc_world.specs.declared.event.WorldEvent.{WorldEvent}
 use Rattle.jc_world.specs.declared.event.WorldEvent.TheVariants as event
 use Rattle.jc_world.specs.declared.event.Shown.{Shown}

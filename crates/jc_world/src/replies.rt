@@ -1,0 +1,15 @@
+//! What callers were shown, as laws over every run.
+ghost use Rattle.jc_world.specs.Replies.{RepliesStand, StepsShownOnce};
+
+use jc_stripe::phase_laws::{keeps_reserved, stays_reached};
+
+/// After every list of events, on a world of any shape within its limits and with any values in its store at the start: each
+/// answer that was shown is that of one step. The call whose answer it is was begun before. The stripe that was shown is that of
+/// the call's key, and at the place that was shown is a step of that caller, with the operation and the key of the call, and
+/// with the reply that was shown. A pick-up was also shown the place of the step whose load it shares.
+pub fn replies_stand()
+    ensures { RepliesStand }
+{
+    stays_reached();
+    keeps_reserved();
+}
