@@ -21,3 +21,4 @@ pub mod Fitting
 pub mod Closing
 pub mod Merging
 pub mod Standing
+pub mod ShownOnce

@@ -159,6 +159,17 @@ pub later_step : (w new : WorldState) (e : WorldEvent) (seen : Shown) → Step w
 later_step w new e seen (inl (fit, happens)) = later_happens w new e seen happens
 later_step w new e seen (inr (unfit, shows, is)) = later_same w new (ap (λ (x : WorldState). x.config) is) (ap (λ (x : WorldState). x.order) is)
 
+-- a run keeps the configuration, and so does what the store holds at the start
+pub config_run : (w new : WorldState) (es : List WorldEvent) (ss : List Shown) → Run w es ss new → new.config ≡ w.config
+config_run w new [] [] run = ap (λ (x : WorldState). x.config) run
+config_run w new [] (s ∷ ss) run = absurd run
+config_run w new (e ∷ es) [] run = absurd run
+config_run w new (e ∷ es) (s ∷ ss) (mid, step, rest) = config_run mid new es ss rest ∙ (later_step w mid e s step).config
+
+pub config_opened : (config : Config) (stored : List (Bytes × Bytes)) → (opened config stored).config ≡ config
+config_opened config [] = refl
+config_opened config (e ∷ es) = config_opened config es
+
 -- 4. What was shown stays true.
 
 answered_on : (w n : WorldState) (shows more : List (WorldEvent × Shown)) (call : ℕ) (key : Bytes) (reply : Reply) (number place : ℕ) (shared : Option ℕ) → IsLater w n

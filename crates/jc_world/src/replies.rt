@@ -1,7 +1,7 @@
 //! What callers were shown, as laws over every run.
 ghost use Rattle.jc_world.specs.Replies.{RepliesStand, StepsShownOnce};
 
-use jc_stripe::phase_laws::{keeps_reserved, stays_reached};
+use jc_stripe::phase_laws::{grows, keeps_reserved, stays_reached};
 
 /// After every list of events, on a world of any shape within its limits and with any values in its store at the start: each
 /// answer that was shown is that of one step. The call whose answer it is was begun before. The stripe that was shown is that of
@@ -12,4 +12,14 @@ pub fn replies_stand()
 {
     stays_reached();
     keeps_reserved();
+}
+
+/// After every list of events, on such a world: each step of the order was shown to its caller exactly once, as the answer at its
+/// stripe and its place, unless its answer is parked for a call that has joined a load. Then it was shown to nobody.
+pub fn steps_are_shown_once()
+    ensures { StepsShownOnce }
+{
+    stays_reached();
+    keeps_reserved();
+    grows();
 }
