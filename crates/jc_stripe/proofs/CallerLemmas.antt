@@ -1,4 +1,5 @@
--- Lemmas for the crates above: which steps of a stripe are parked after each phase.
+-- Lemmas for the crates above: where the step of a phase is, and which steps of a stripe are parked after each phase.
+--     step_at                             a step is at its place, with its reply
 --     joined_parks, withdrawn_parks       a join and a withdrawal park what was parked
 --     beginner_parks                      a call that may begin has no parked step at its key
 --     commit_parks, committer_parks, sharers_park
@@ -7,7 +8,7 @@
 --     picker_parks, picked_parks          a pick-up finds its step parked, and leaves it so no more
 --     others_park                         it parks of the steps at other places what was parked
 --     again_parks_same                    a pick-up that is told to retry parks what was parked
-use Rattle.std.proofs.Common.{◌≡◌, ◌==◌, ◌&&◌, ◌||◌, ◌+◌, ℕ, zero, suc, List, [], ◌∷◌, Bool, true, false, not, Option, Some, refl, sym, ap, ◌∙◌, slice_get}
+use Rattle.std.proofs.Common.{◌≡◌, ◌==◌, ◌&&◌, ◌||◌, ◌+◌, ℕ, zero, suc, List, [], ◌∷◌, Bool, true, false, not, Option, None, Some, refl, sym, ap, ◌∙◌, slice_get}
 use Rattle.std.proofs.lemmas.Bool.{eqb-true, and_parts}
 use Rattle.std.specs.List.{list_all}
 use Rattle.std.specs.Cmp.Lexicographic.{pointwise, same_text}
@@ -24,18 +25,27 @@ use Rattle.jc_inflight.specs.declared.joiner.JoinState.TheVariants.{Answered, Ag
 use Rattle.jc_inflight.specs.Joining.{callers_of}
 use Rattle.jc_inflight.specs.Resolving.{after_resolve}
 use Rattle.jc_inflight.specs.Taking as taking
+use Rattle.jc_stripe.specs.declared.begun.StepDone.{StepDone}
 use Rattle.jc_stripe.specs.declared.ticket.Reservation.{Reservation}
 use Rattle.jc_stripe.specs.Tickets.{JoinClaim}
 use Rattle.jc_stripe.specs.State.{State, IsOut, waits}
-use Rattle.jc_stripe.specs.Phases.{MayBegin, with_joiner, after_commit, after_withdrawal, without_joiner, told_to}
+use Rattle.jc_stripe.specs.Phases.{MayBegin, Steps, new_group, with_joiner, after_commit, after_withdrawal, without_joiner, told_to}
 use Rattle.jc_stripe.specs.Reached.{IsReached, may_share}
 use Rattle.jc_stripe.specs.OnePhase.{is_parked}
 use Rattle.jc_stripe.proofs.Settled.{claim_left, keyed_callers}
 use Rattle.jc_stripe.proofs.ParkedSteps.{parked-joined, parked-dissolved, parked-answered, parked-callers}
 use Rattle.jc_stripe.proofs.OwnPick.{is_call, differs, before_differs, after_differs, parked_other, none_parked, parked_told}
-use Rattle.jc_stripe.proofs.Own.{unparked, again_parks}
+use Rattle.jc_stripe.proofs.Own.{unparked, step_there, again_parks}
 
--- 1. A join, and a withdrawal.
+-- 1. A step at its place.
+
+pub step_at : (old new : State) (caller : Caller) (key : Bytes) (op : Op) (out : Out) (callers : List Caller) (done : StepDone) → Steps old caller key op out callers done new
+    → slice_get new.history done.place ≡ Some (Step caller op key out None done.reply)
+step_at old new caller key op out callers done steps =
+    (λ i. slice_get (steps.after i).history (steps.place i)) ∙ step_there old.history (new_group old caller key op out callers steps.short)
+    ∙ ap (λ reply. Some (Step caller op key out None reply)) (sym steps.reply)
+
+-- 2. A join, and a withdrawal.
 
 pub joined_parks : (old : State) (join : JoinClaim) (c : Caller) (k : Bytes) → is_parked (with_joiner old join).joiners c k ≡ is_parked old.joiners c k
 joined_parks old join c k = parked-joined join.caller join.load join.key old.joiners c k
@@ -43,7 +53,7 @@ joined_parks old join c k = parked-joined join.caller join.load join.key old.joi
 pub withdrawn_parks : (old : State) (r : Reservation) (c : Caller) (k : Bytes) → is_parked (after_withdrawal old r).joiners c k ≡ is_parked old.joiners c k
 withdrawn_parks old r c k = parked-dissolved r.number old.joiners c k
 
--- 2. A step that is done at once, and a commit.
+-- 3. A step that is done at once, and a commit.
 
 pub beginner_parks : (old : State) (caller : Caller) (key : Bytes) → MayBegin old caller key → is_parked old.joiners caller key ≡ false
 beginner_parks old caller key may = unparked caller key old.joiners may.apart
@@ -76,7 +86,7 @@ committer_parks old r place reached found = unparked r.caller r.key (after_resol
 pub sharers_park : (old : State) (r : Reservation) (place : ℕ) → IsReached old → IsOut old r → list_all (λ c. is_parked (after_commit old r place).joiners c r.key) (callers_of r.number old.joiners) ≡ true
 sharers_park old r place reached found = parked-callers r.number place (place + 1) r.key old.joiners (keyed_callers old r reached found)
 
--- 3. A pick-up.
+-- 4. A pick-up.
 
 pub picker_parks : (old : State) (join : JoinClaim) (place shared : ℕ) → told_to old join ≡ Some (Answered place shared) → is_parked old.joiners join.caller join.key ≡ true
 picker_parks old join place shared told = parked_told join.caller join.key old.joiners place shared told

@@ -7,7 +7,8 @@
 use Rattle.std.proofs.Common.{inl, inr, ◌≡◌, ◌==◌, ◌&&◌, ◌+◌, ℕ, zero, suc, List, [], ◌∷◌, ◌++◌, length, map, count_by, Bool, true, false, cond, Option, None, Some, slice_get, slice_set, refl, sym, ap, ◌∙◌, subst, arith}
 use Rattle.std.specs.List.{list_all}
 use Rattle.std.proofs.lemmas.Bool.{and_parts, eqb-true, eqb-false, eq-eqb}
-use Rattle.std.proofs.lemmas.Bool.Decides.{nat_tests}
+use Rattle.std.proofs.Math.Bool.{and-false}
+use Rattle.std.proofs.Math.Dec.{eqb-suc-zero, eqb-zero-suc, eqb-suc-suc}
 use Rattle.std.proofs.lemmas.List.Sums.{sum_by-cons}
 use Rattle.jc_types.specs.declared.caller.Caller.{Caller}
 use Rattle.jc_types.specs.declared.config.Config.{Config}
@@ -48,13 +49,11 @@ use Rattle.jc_world.specs.Headline.{opened}
 use Rattle.jc_world.specs.Replies.{is_answer_at, joiners_in, joiners_at, times_shown}
 use Rattle.jc_world.proofs.Shares.{added, share_stays}
 use Rattle.jc_world.proofs.Places.{stripe_put}
+use Rattle.jc_world.proofs.Merging.{other_set}
+use Rattle.jc_world.proofs.Loads.{one_if}
 use Rattle.jc_world.proofs.Callers.{begins_at}
 use Rattle.jc_world.proofs.Sounding.{Laws, sound_step}
 use Rattle.jc_world.proofs.Standing.{config_run, config_opened}
-
--- one, or none
-abbrev one_if : Bool → ℕ
-one_if b = cond b 1 0
 
 -- 1. How often an answer is to have been shown.
 
@@ -79,16 +78,6 @@ none_due js place key answer [] (Some cause) (suc p) h = refl
 none_due js place key answer (c ∷ cs) cause zero h = ap times_shown (and_parts (is_parked js c key) (list_all (λ c. is_parked js c key) cs) h).0
 none_due js place key answer (c ∷ cs) cause (suc p) h = none_due js place key answer cs cause p (and_parts (is_parked js c key) (list_all (λ c. is_parked js c key) cs) h).1
 
--- tests of numbers
-zero_apart : (p : ℕ) → (0 == suc p) ≡ false
-zero_apart p = grind (arith, nat_tests)
-
-suc_apart : (n : ℕ) → (suc n == 0) ≡ false
-suc_apart n = grind (arith, nat_tests)
-
-suc_same : (n p : ℕ) → (suc n == suc p) ≡ (n == p)
-suc_same n p = grind (arith, nat_tests)
-
 -- of a group's events the step is due once, at its place
 group_due : (js : List Joiner) (place : ℕ) (group : Group) (p : ℕ) → is_parked js group.caller group.step.key ≡ false → list_all (λ c. is_parked js c group.step.key) group.joined ≡ true
     → times_due js (slice_get (events_of place group) p) ≡ one_if (length (victim_events group.victim) == p)
@@ -102,12 +91,12 @@ group_due js place group p free parked = go group.victim p
 
     from_step : (p : ℕ) → times_due js (slice_get ((step_event group ∷ behind) ++ own) p) ≡ one_if (0 == p)
     from_step zero = ap times_shown free
-    from_step (suc p) = none_due js (step_place place group) group.step.key group.step.out.load group.joined group.evicted p parked ∙ ap one_if (sym (zero_apart p))
+    from_step (suc p) = none_due js (step_place place group) group.step.key group.step.out.load group.joined group.evicted p parked ∙ ap one_if (sym (eqb-zero-suc p))
 
     go : (victim : Option Bytes) (p : ℕ) → times_due js (slice_get ((victim_events victim ++ (step_event group ∷ behind)) ++ own) p) ≡ one_if (length (victim_events victim) == p)
     go None p = from_step p
-    go (Some key) zero = ap one_if (sym (suc_apart 0))
-    go (Some key) (suc p) = from_step p ∙ ap one_if (sym (suc_same 0 p))
+    go (Some key) zero = ap one_if (sym (eqb-suc-zero 0))
+    go (Some key) (suc p) = from_step p ∙ ap one_if (sym (eqb-suc-suc 0 p))
 
 -- and so it is where the group follows a history of which as much is parked as before
 history_due : (js next : List Joiner) (events more : List Event) (n p : ℕ) → ((i : ℕ) (c : Caller) (op : Op) (k : Bytes) (out : Out) (shared : Option ℕ) (reply : Reply) → slice_get events i ≡ Some (stripe.Step c op k out shared reply) → is_parked next c k ≡ is_parked js c k)
@@ -117,10 +106,10 @@ history_due js next [] more n p same due_is = due_is p ∙ (let e : one_if (n ==
 history_due js next (x ∷ xs) more n zero same due_is =
     due_same js next (Some x) (same 0)
     ∙ (let e : times_due js (Some x) ≡ 0 + times_due js (Some x) = omega arith in e)
-    ∙ ap (λ b. one_if b + times_due js (Some x)) (sym (ap (λ m. m == 0) (let e : suc (length xs) + n ≡ suc (length xs + n) = omega arith in e) ∙ suc_apart (length xs + n)))
+    ∙ ap (λ b. one_if b + times_due js (Some x)) (sym (ap (λ m. m == 0) (let e : suc (length xs) + n ≡ suc (length xs + n) = omega arith in e) ∙ eqb-suc-zero (length xs + n)))
 history_due js next (x ∷ xs) more n (suc p) same due_is =
     history_due js next xs more n p (λ i. same (suc i)) due_is
-    ∙ ap (λ b. one_if b + times_due js (slice_get xs p)) (sym (ap (λ m. m == suc p) (let e : suc (length xs) + n ≡ suc (length xs + n) = omega arith in e) ∙ suc_same (length xs + n) p))
+    ∙ ap (λ b. one_if b + times_due js (slice_get xs p)) (sym (ap (λ m. m == suc p) (let e : suc (length xs) + n ≡ suc (length xs + n) = omega arith in e) ∙ eqb-suc-suc (length xs + n) p))
 
 -- 2. A phase of a stripe.
 
@@ -185,14 +174,6 @@ gives_picked from to join reply place shared reached h p =
 abbrev pub due : WorldState → ℕ → ℕ → ℕ
 due w number place = times_due (joiners_at w number) (slice_get (of_stripe w.config.stripes number w.order) place)
 
--- the other places of a list of which one place is another
-set_other : {A : Type 0} (xs : List A) (i j : ℕ) (x : A) → (i ≡ j → ⊥) → slice_get (slice_set xs i x) j ≡ slice_get xs j
-set_other [] i j x apart = refl
-set_other (z ∷ zs) zero zero x apart = absurd (apart refl)
-set_other (z ∷ zs) zero (suc j) x apart = refl
-set_other (z ∷ zs) (suc i) zero x apart = refl
-set_other (z ∷ zs) (suc i) (suc j) x apart = set_other zs i j x (λ same. apart (ap suc same))
-
 -- a phase of one stripe answers there what it answers
 due_set : (w new : WorldState) (key : Bytes) (from to : State) (answers : ℕ → Bool) (number place : ℕ) → stripe_for w key ≡ Some from → IsSoundWorld w → IsSoundWorld new → new.config ≡ w.config → new.stripes ≡ slice_set w.stripes (home w key) to
     → ((m : ℕ) → (home w key ≡ m → ⊥) → of_stripe w.config.stripes m new.order ≡ of_stripe w.config.stripes m w.order) → Gives from to answers
@@ -210,22 +191,17 @@ due_set w new key from to answers number place there old sound config stripes re
           ∙ gives place
           ∙ sym (λ i. one_if (answers place) + times_due (joiners_in (there i)) (slice_get (was i) place)))
       | false ↦ λ e.
-          let apart = eqb-false n number e in
-          let others : slice_get new.stripes number ≡ slice_get w.stripes number = ap (λ ss. slice_get ss number) stripes ∙ set_other w.stripes n number to apart in
-          let share : of_stripe new.config.stripes number new.order ≡ of_stripe w.config.stripes number w.order = ap (λ (c : Config). of_stripe c.stripes number new.order) config ∙ rest number apart in
+          let others : slice_get new.stripes number ≡ slice_get w.stripes number = ap (λ ss. slice_get ss number) stripes ∙ other_set w.stripes n number to e in
+          let share : of_stripe new.config.stripes number new.order ≡ of_stripe w.config.stripes number w.order = ap (λ (c : Config). of_stripe c.stripes number new.order) config ∙ rest number (eqb-false n number e) in
           (λ i. times_due (joiners_in (others i)) (slice_get (share i) place)) ∙ (let z : due w number place ≡ 0 + due w number place = omega arith in z)
     ] refl
-
-and_false : (b : Bool) → (b && false) ≡ false
-and_false true = refl
-and_false false = refl
 
 -- one that appends nothing and answers nothing
 due_quiet : (w new : WorldState) (key : Bytes) (from to : State) (number place : ℕ) → stripe_for w key ≡ Some from → IsSoundWorld w → IsSoundWorld new → new.config ≡ w.config → new.stripes ≡ slice_set w.stripes (home w key) to
     → new.order ≡ w.order → Gives from to nowhere → due new number place ≡ 0 + due w number place
 due_quiet w new key from to number place there old sound config stripes order gives =
     due_set w new key from to nowhere number place there old sound config stripes (λ m apart. ap (of_stripe w.config.stripes m) order) gives
-    ∙ ap (λ b. one_if b + due w number place) (and_false (home w key == number))
+    ∙ ap (λ b. one_if b + due w number place) (and-false (home w key == number))
 
 -- one that appends a group, and answers its step
 due_grown : (w new : WorldState) (key : Bytes) (from to : State) (at number place : ℕ) → stripe_for w key ≡ Some from → IsSoundWorld w → IsSoundWorld new → new.config ≡ w.config → new.stripes ≡ slice_set w.stripes (home w key) to

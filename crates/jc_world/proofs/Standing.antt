@@ -2,14 +2,17 @@
 --     IsLater        a world is of the same configuration as another, and has that one's order and what follows it
 --     BegunAs        a call of a caller has begun, with this operation and key
 --     AllBegun       what is under way, reserved and joined is so of calls that have begun
---     AllStand       each answer that was shown is that of its call's step
+--     AllStand       each answer that was shown is that of its call's step, and the call has begun before it
 --     stands_run     so a run of events keeps that
-use Rattle.std.proofs.Common.{inl, inr, ◌≡◌, ◌==◌, ℕ, zero, suc, List, [], ◌∷◌, ◌++◌, length, zip, Bool, true, false, cond, not, Option, None, Some, find, filter, map, slice_get, ◌+◌, refl, sym, ap, ◌∙◌, subst, append-nil, append_assoc, arith}
+use Rattle.std.proofs.Common.{inl, inr, ◌≡◌, ◌==◌, ℕ, zero, suc, List, [], ◌∷◌, ◌++◌, length, take, zip, Bool, true, false, cond, not, Option, None, Some, find, filter, slice_get, refl, sym, ap, ◌∙◌, subst, append-nil, append_assoc, arith}
 use Rattle.std.specs.Cmp.Lexicographic.{pointwise}
 use Rattle.std.specs.FinMap.{get, insert, remove, get-empty, get-insert, get-remove}
 use Rattle.std.proofs.lemmas.Cmp.{nat_list_cmp_total}
 use Rattle.std.proofs.lemmas.Bool.{and_parts}
 use Rattle.std.proofs.lemmas.List.Elements.{filter-append}
+use Rattle.std.proofs.Math.Seq.{take-append_seam}
+use Rattle.std.proofs.lemmas.List.{take-append-le}
+use Rattle.std.proofs.lemmas.Option.{slice_get_within}
 use Rattle.jc_types.specs.declared.caller.Caller.{Caller}
 use Rattle.jc_types.specs.declared.config.Config.{Config}
 use Rattle.jc_types.specs.Stripes.{stripe_of}
@@ -20,14 +23,14 @@ use Rattle.jc_model.specs.declared.event.Reply.{Reply}
 use Rattle.jc_model.specs.declared.event.Event.{Event as StripeEvent}
 use Rattle.jc_model.specs.declared.event.Event.TheVariants as stripe
 use Rattle.jc_model.specs.Cache.{Bytes, key_cmp}
-use Rattle.jc_model.specs.Group.{Group, nothing_said, victim_events, step_event, step_place, shared_event, evicted_events, events_of}
+use Rattle.jc_model.specs.Group.{nothing_said}
 use Rattle.jc_model.specs.Legal.{is_of_stripe, of_stripe}
 use Rattle.jc_inflight.specs.Joining.{callers_of}
-use Rattle.jc_stripe.specs.declared.begun.StepDone.{StepDone}
 use Rattle.jc_stripe.specs.Tickets.{Ticket, JoinClaim}
 use Rattle.jc_stripe.specs.State.{State}
 use Rattle.jc_stripe.specs.Refusals.{load_joined}
-use Rattle.jc_stripe.specs.Phases.{Steps, new_group, after_commit}
+use Rattle.jc_stripe.specs.Phases.{after_commit}
+use Rattle.jc_stripe.proofs.CallerLemmas.{step_at}
 use Rattle.jc_world.specs.declared.event.Part.{Part}
 use Rattle.jc_world.specs.declared.event.Shown.{Shown}
 use Rattle.jc_world.specs.declared.event.Shown.TheVariants as shown
@@ -55,22 +58,17 @@ still_at [] ys i x h = cc
 still_at (z ∷ zs) ys zero x h = h
 still_at (z ∷ zs) ys (suc i) x h = still_at zs ys i x h
 
--- what is at a place of a list with one more is the last, or was there
-pub pushed_at : {A P : Type 0} (xs : List A) (y : A) (i : ℕ) (x : A) → (slice_get xs i ≡ Some x → P) → (y ≡ x → P) → slice_get (xs ++ y ∷ []) i ≡ Some x → P
-pushed_at [] y zero x before last h = last (let t : Some y ≡ Some x = h in cc)
+-- what is at a place of a list with one more was there, or is the last
+pub pushed_at : {A P : Type 0} (xs : List A) (y : A) (i : ℕ) (x : A) → (slice_get xs i ≡ Some x → P) → (i ≡ length xs → y ≡ x → P) → slice_get (xs ++ y ∷ []) i ≡ Some x → P
+pushed_at [] y zero x before last h = last refl (let t : Some y ≡ Some x = h in cc)
 pushed_at [] y (suc i) x before last h = cc
 pushed_at (z ∷ zs) y zero x before last h = before h
-pushed_at (z ∷ zs) y (suc i) x before last h = pushed_at zs y i x before last h
+pushed_at (z ∷ zs) y (suc i) x before last h = pushed_at zs y i x before (λ at. last (ap suc at)) h
 
 -- the first of what follows a list
 pub seam_at : {A : Type 0} (xs ys : List A) (y : A) → slice_get (xs ++ y ∷ ys) (length xs) ≡ Some y
 seam_at [] ys y = refl
 seam_at (z ∷ zs) ys y = seam_at zs ys y
-
--- what follows a list, from its end on
-pub behind_at : {A : Type 0} (xs ys : List A) (i : ℕ) → slice_get (xs ++ ys) (length xs + i) ≡ slice_get ys i
-behind_at [] ys i = ap (slice_get ys) (let e : 0 + i ≡ i = omega arith in e)
-behind_at (z ∷ zs) ys i = ap (slice_get (z ∷ zs ++ ys)) (let e : suc (length zs) + i ≡ suc (length zs + i) = omega arith in e) ∙ behind_at zs ys i
 
 -- a fact of each of a list, of those that are left, of one more, and of one that is found
 each_filter : {A : Type 0} (P : A → Type 0) (p : A → Bool) (xs : List A) → Each P xs → Each P (filter p xs)
@@ -89,26 +87,7 @@ each_here P p (y ∷ ys) x h all =
       | false ↦ λ h. each_here P p ys x h all.1
     ] h
 
--- 2. A step at its place.
-
--- the step of a group is at its place
-group_at : (events : List StripeEvent) (group : Group) → slice_get (events ++ events_of (length events) group) (step_place (length events) group) ≡ Some (step_event group)
-group_at events group =
-    let front = victim_events group.victim in
-    let shared = map (shared_event (step_place (length events) group) group.step.key group.step.out.load) group.joined in
-    let own = evicted_events group.step.key group.evicted in
-    behind_at events (events_of (length events) group) (length front)
-    ∙ still_at (front ++ (step_event group ∷ shared)) own (length front) (step_event group) (seam_at front shared (step_event group))
-
--- and so is a stripe's step, with its reply
-pub step_at : (old new : State) (caller : Caller) (key : Bytes) (op : Op) (out : Out) (callers : List Caller) (done : StepDone) → Steps old caller key op out callers done new
-    → slice_get new.history done.place ≡ Some (stripe.Step caller op key out None done.reply)
-step_at old new caller key op out callers done steps =
-    let group = new_group old caller key op out callers steps.short in
-    let history : new.history ≡ old.history ++ events_of (length old.history) group = ap (λ (s : State). s.history) steps.after in
-    (λ i. slice_get (history i) (steps.place i)) ∙ group_at old.history group ∙ ap (λ r. Some (stripe.Step caller op key out None r)) (sym steps.reply)
-
--- 3. Later worlds.
+-- 2. Later worlds.
 
 -- a world of the same configuration, whose order continues the other's
 pub record IsLater (old new : WorldState) : Type 0 where
@@ -170,17 +149,17 @@ pub config_opened : (config : Config) (stored : List (Bytes × Bytes)) → (open
 config_opened config [] = refl
 config_opened config (e ∷ es) = config_opened config es
 
--- 4. What was shown stays true.
+-- 3. What was shown stays true.
 
-answered_on : (w n : WorldState) (shows more : List (WorldEvent × Shown)) (call : ℕ) (key : Bytes) (reply : Reply) (number place : ℕ) (shared : Option ℕ) → IsLater w n
-    → Answered w shows call key reply number place shared → Answered n (shows ++ more) call key reply number place shared
-answered_on w n shows more call key reply number place shared later h =
+answered_on : (w n : WorldState) (shows : List (WorldEvent × Shown)) (call : ℕ) (key : Bytes) (reply : Reply) (number place : ℕ) (shared : Option ℕ) → IsLater w n
+    → Answered w shows call key reply number place shared → Answered n shows call key reply number place shared
+answered_on w n shows call key reply number place shared later h =
     let mine = is_of_stripe w.config.stripes number in
     record {
       session = h.session;
       op = h.op;
       at = h.at;
-      begun = still_at shows more h.at _ h.begun;
+      begun = h.begun;
       home_is = h.home_is ∙ ap (λ (c : Config). stripe_of key c.stripes) (sym later.config);
       out = h.out;
       step = (λ i. slice_get (of_stripe (later.config i).stripes number (later.order i)) place)
@@ -188,15 +167,15 @@ answered_on w n shows more call key reply number place shared later h =
           ∙ still_at (of_stripe w.config.stripes number w.order) (of_stripe w.config.stripes number later.more) place _ h.step;
     }
 
-stands_on : (w n : WorldState) (shows more : List (WorldEvent × Shown)) (e : WorldEvent) (seen : Shown) → IsLater w n → Stands w shows e seen → Stands n (shows ++ more) e seen
-stands_on w n shows more (event.Start call key) (shown.Stepped x) later h = answered_on w n shows more call key x.reply x.stripe x.place None later h
-stands_on w n shows more (event.Commit call key) (shown.Stepped x) later h = answered_on w n shows more call key x.reply x.stripe x.place None later h
-stands_on w n shows more (event.PickUp call key) (shown.PickedUp x) later h = answered_on w n shows more call key x.reply x.stripe x.place (Some x.shared) later h
-stands_on w n shows more e (shown.Stepped x) later h = absurd h
-stands_on w n shows more e (shown.PickedUp x) later h = absurd h
-stands_on w n shows more e seen later h = tt
+stands_on : (w n : WorldState) (shows : List (WorldEvent × Shown)) (e : WorldEvent) (seen : Shown) → IsLater w n → Stands w shows e seen → Stands n shows e seen
+stands_on w n shows (event.Start call key) (shown.Stepped x) later h = answered_on w n shows call key x.reply x.stripe x.place None later h
+stands_on w n shows (event.Commit call key) (shown.Stepped x) later h = answered_on w n shows call key x.reply x.stripe x.place None later h
+stands_on w n shows (event.PickUp call key) (shown.PickedUp x) later h = answered_on w n shows call key x.reply x.stripe x.place (Some x.shared) later h
+stands_on w n shows e (shown.Stepped x) later h = absurd h
+stands_on w n shows e (shown.PickedUp x) later h = absurd h
+stands_on w n shows e seen later h = tt
 
--- 5. Which calls have begun.
+-- 4. Which calls have begun.
 
 -- this caller's call of this operation and key is among what has happened
 abbrev pub BegunAs : List (WorldEvent × Shown) → Caller → Bytes → Op → Type 0
@@ -328,7 +307,7 @@ begun_opened : (shows : List (WorldEvent × Shown)) (config : Config) (stored : 
 begun_opened shows config [] = record { calls = tt; parts = λ key part is. let t : None ≡ Some part = sym (get-empty key_cmp key) ∙ is in cc; joins = tt }
 begun_opened shows config (e ∷ es) = let rest = begun_opened shows config es in record { calls = rest.calls; parts = rest.parts; joins = rest.joins }
 
--- 6. A new answer.
+-- 5. A new answer.
 
 -- the answer of a call that has begun, with its step in the stripe of its key
 answered_at : (w new : WorldState) (shows : List (WorldEvent × Shown)) (caller : Caller) (key : Bytes) (op : Op) (out : Out) (shared : Option ℕ) (reply : Reply) (number place : ℕ) (to : State) → number ≡ home w key → IsLater w new
@@ -423,11 +402,25 @@ stands_step : (shows : List (WorldEvent × Shown)) (w new : WorldState) (e : Wor
 stands_step shows w new e seen (inl (fit, happens)) old sound begun = stands_happens shows w new e seen fit happens old sound begun
 stands_step shows w new e seen (inr (unfit, shows_it, is)) old sound begun = subst (Stands new shows e) (sym shows_it) (stands_unfit shows new e)
 
--- 7. A run.
+-- 6. A run.
 
--- each answer that was shown is that of its call's step
+-- each answer that was shown is that of its call's step, and the call has begun before it
 abbrev pub AllStand : WorldState → List (WorldEvent × Shown) → Type 0
-AllStand w shows = (at : ℕ) (e : WorldEvent) (seen : Shown) → slice_get shows at ≡ Some (e, seen) → Stands w shows e seen
+AllStand w shows = (at : ℕ) (e : WorldEvent) (seen : Shown) → slice_get shows at ≡ Some (e, seen) → Stands w (take at shows) e seen
+
+-- it goes on so with one event more
+stands_more : (shows : List (WorldEvent × Shown)) (w new : WorldState) (e : WorldEvent) (s : Shown) → IsLater w new → AllStand w shows → Stands new shows e s → AllStand new (shows ++ (e, s) ∷ [])
+stands_more shows w new e s later stand one at x seen is =
+    let now = shows ++ (e, s) ∷ [] in
+    let P : List (WorldEvent × Shown) → Type 0 = λ l. Stands new l x seen in
+    pushed_at shows (e, s) at (x, seen)
+    (λ before.
+    let within = slice_get_within shows at (x, seen) before in
+    subst P (sym (take-append-le at shows ((e, s) ∷ []) (omega arith))) (stands_on w new (take at shows) x seen later (stand at x seen before)))
+    (λ last same.
+    let Q : WorldEvent × Shown → Type 0 = λ p. Stands new shows p.0 p.1 in
+    subst P (sym (ap (λ i. take i now) last ∙ take-append_seam shows ((e, s) ∷ []))) (subst Q same one))
+    is
 
 pub stands_run : Laws → (shows : List (WorldEvent × Shown)) (w new : WorldState) (es : List WorldEvent) (ss : List Shown) → Run w es ss new → IsSoundWorld w → AllBegun shows w → AllStand w shows → AllStand new (shows ++ zip es ss)
 stands_run laws shows w new [] [] run old begun stand =
@@ -439,14 +432,10 @@ stands_run laws shows w new (e ∷ es) [] run old begun stand = absurd run
 stands_run laws shows w new (e ∷ es) (s ∷ ss) (mid, step, rest) old begun stand =
     let now = shows ++ (e, s) ∷ [] in
     let sound = sound_step laws w e s mid step old in
-    let more = all_begun_on shows ((e, s) ∷ []) w begun in
+    let more = begun_step now w mid e s (length shows, seam_at shows [] (e, s)) step (all_begun_on shows ((e, s) ∷ []) w begun) in
     let Q : List (WorldEvent × Shown) → Type 0 = λ l. AllStand new l in
     subst Q (append_assoc shows ((e, s) ∷ []) (zip es ss))
-    (stands_run laws now mid new es ss rest sound (begun_step now w mid e s (length shows, seam_at shows [] (e, s)) step more)
-    (λ at x seen is. pushed_at shows (e, s) at (x, seen)
-    (λ before. stands_on w mid shows ((e, s) ∷ []) x seen (later_step w mid e s step) (stand at x seen before))
-    (λ last. let P : WorldEvent × Shown → Type 0 = λ p. Stands mid now p.0 p.1 in subst P last (stands_step now w mid e s step old sound more))
-    is))
+    (stands_run laws now mid new es ss rest sound more (stands_more shows w mid e s (later_step w mid e s step) stand (stands_step shows w mid e s step old sound begun)))
 
 -- from the start
 pub stands_opened : Laws → (config : Config) (stored : List (Bytes × Bytes)) (new : WorldState) (es : List WorldEvent) (ss : List Shown) → Run (opened config stored) es ss new → IsSoundWorld (opened config stored) → AllStand new (zip es ss)

@@ -1,12 +1,13 @@
 -- What callers were shown, over every run: each answer is the reply of a step of the order, and each step was answered once.
---     Answered        the event at a place of the order is a step of a call that has begun, with this reply
+--     Answered        the event at a place of the order is a step of a call that has begun before, with this reply
 --     Stands          what an event showed, if it is an answer, is that of its call's step
 --     RepliesStand    after every list of events, each answer that was shown is that of the step at its place
 --     is_answer_at    what was shown is the answer of the step at a place
---     joiners_at      the joiners of the stripe with a number
+--     joiners_in, joiners_at
+--                     the joiners of a stripe, and of the one with a number; none if there is no such stripe
 --     times_shown     once, or not yet if the answer is still parked
 --     StepsShownOnce  after every list of events, each step of the order was shown exactly once, or its answer is parked
-use Rattle.std.specs.Prelude.{◌≡◌, ◌==◌, ◌&&◌, ℕ, List, [], zip, count_by, slice_get, Bool, false, Option, None, Some, Ok, if◌then◌else◌}
+use Rattle.std.specs.Prelude.{◌≡◌, ◌==◌, ◌&&◌, ℕ, List, [], take, zip, count_by, slice_get, Bool, false, Option, None, Some, Ok, if◌then◌else◌}
 use Rattle.jc_types.specs.declared.caller.Caller.{Caller}
 use Rattle.jc_types.specs.declared.config.Config.{Config}
 use Rattle.jc_types.specs.Limits.{check}
@@ -29,8 +30,8 @@ use Rattle.jc_world.specs.Headline.{opened}
 
 -- 1. Each answer is that of a step.
 
--- `shows` are the events so far, each with what it showed; `stripe` and `place` are those that were shown; `shared` is the place of the
--- step whose load this one shares
+-- `shows` are the events before the answer, each with what it showed; `stripe` and `place` are those that were shown; `shared` is
+-- the place of the step whose load this one shares
 pub record Answered (w : WorldState) (shows : List (WorldEvent × Shown)) (call : ℕ) (key : Bytes) (reply : Reply) (stripe place : ℕ) (shared : Option ℕ) : Type 0 where
   pub session : ℕ
   pub op : Op
@@ -50,7 +51,7 @@ Stands w shows e seen = Unit {0}
 
 abbrev pub RepliesStand : Type 0
 RepliesStand = (config : Config) (stored : List (Bytes × Bytes)) (events : List WorldEvent) (seen : List Shown) (new : WorldState) → check config ≡ Ok tt → Run (opened config stored) events seen new
-    → (at : ℕ) (e : WorldEvent) (s : Shown) → slice_get (zip events seen) at ≡ Some (e, s) → Stands new (zip events seen) e s
+    → (at : ℕ) (e : WorldEvent) (s : Shown) → slice_get (zip events seen) at ≡ Some (e, s) → Stands new (take at (zip events seen)) e s
 
 -- 2. Each step was answered once.
 
