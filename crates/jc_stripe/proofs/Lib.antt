@@ -27,3 +27,4 @@ pub mod Own
 pub mod WholeCalls
 pub mod UniformParts
 pub mod Testing
+pub mod CallerLemmas

@@ -114,7 +114,7 @@ commits_own old new r out done reached commits =
     }
 
 -- a joiner that is told to retry has nothing parked, and its call has no other joiner
-again_parks : (c : Caller) (k : Bytes) (js : List Joiner) → are_apart js ≡ true → option_map (λ x. x.state) (find (belongs_to c k) js) ≡ Some Again → is_parked js c k ≡ false
+pub again_parks : (c : Caller) (k : Bytes) (js : List Joiner) → are_apart js ≡ true → option_map (λ x. x.state) (find (belongs_to c k) js) ≡ Some Again → is_parked js c k ≡ false
 again_parks c k [] apart h = refl
 again_parks c k (j ∷ js) apart h =
     let parts = and_parts (list_all (is_other_join j.caller j.key) js) (are_apart js) apart in

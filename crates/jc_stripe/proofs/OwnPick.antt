@@ -36,10 +36,10 @@ use Rattle.jc_stripe.proofs.ParkedSteps.{number_itself, number_below, and_false,
 
 -- 1. The other events are other calls' or of other keys.
 
-abbrev is_call : Caller → Bytes → Caller → Bytes → Bool
+abbrev pub is_call : Caller → Bytes → Caller → Bytes → Bool
 is_call c k c' k' = (c'.session == c.session) && (c'.call == c.call) && pointwise ◌==◌ k' k
 
-abbrev differs : Caller → Bytes → Event → Bool
+abbrev pub differs : Caller → Bytes → Event → Bool
 differs c k (Step c' op k' out shared reply) = not (is_call c k c' k')
 differs c k (Evict k' cause) = true
 
@@ -50,12 +50,12 @@ apart_by true l true false f h = refl
 apart_by true l false p f h = refl
 apart_by false l b p f h = refl
 
-before_differs : (c : Caller) (op : Op) (k : Bytes) (out : Out) (shared : Option ℕ) (reply : Reply) (x : Event) → may_follow x (Step c op k out shared reply) ≡ true → differs c k x ≡ true
+pub before_differs : (c : Caller) (op : Op) (k : Bytes) (out : Out) (shared : Option ℕ) (reply : Reply) (x : Event) → may_follow x (Step c op k out shared reply) ≡ true → differs c k x ≡ true
 before_differs c op k out shared reply (Step c' op' k' out' shared' reply') h =
     apart_by (c'.session == c.session) (nat_lt c'.call c.call) (c'.call == c.call) (pointwise ◌==◌ k' k) (λ e. number_below c.call c'.call (sym (eqb-true c'.call c.call e))) h
 before_differs c op k out shared reply (Evict k' cause) h = refl
 
-after_differs : (c : Caller) (op : Op) (k : Bytes) (out : Out) (shared : Option ℕ) (reply : Reply) (y : Event) → may_follow (Step c op k out shared reply) y ≡ true → differs c k y ≡ true
+pub after_differs : (c : Caller) (op : Op) (k : Bytes) (out : Out) (shared : Option ℕ) (reply : Reply) (y : Event) → may_follow (Step c op k out shared reply) y ≡ true → differs c k y ≡ true
 after_differs c op k out shared reply (Step c' op' k' out' shared' reply') h =
     (λ i. not (turned_eq c'.session c.session i && turned_eq c'.call c.call i && nat_list_eq_equiv.symm k' k i))
     ∙ apart_by (c.session == c'.session) (nat_lt c.call c'.call) (c.call == c'.call) (pointwise ◌==◌ k k') (λ e. number_below c'.call c.call (sym (eqb-true c.call c'.call e))) h
@@ -103,7 +103,7 @@ none_parked c k (j ∷ js) =
       | false ↦ λ e. ap (λ b. (b && is_answered j.state) || is_parked (taking.without_joiner c k js) c k) e ∙ none_parked c k js
     ] refl
 
-parked_told : (c : Caller) (k : Bytes) (js : List Joiner) (place shared : ℕ) → option_map (λ x. x.state) (find (belongs_to c k) js) ≡ Some (Answered place shared) → is_parked js c k ≡ true
+pub parked_told : (c : Caller) (k : Bytes) (js : List Joiner) (place shared : ℕ) → option_map (λ x. x.state) (find (belongs_to c k) js) ≡ Some (Answered place shared) → is_parked js c k ≡ true
 parked_told c k [] place shared h = cc
 parked_told c k (j ∷ js) place shared h =
     elim (belongs_to c k j) as (λ b. option_map (λ x. x.state) (cond b (Some j) (find (belongs_to c k) js)) ≡ Some (Answered place shared) → ((b && is_answered j.state) || is_parked js c k) ≡ true) [

@@ -20,3 +20,5 @@ pub mod Homes
 pub mod Fitting
 pub mod Closing
 pub mod Merging
+pub mod Standing
+pub mod ShownOnce

@@ -48,7 +48,7 @@ use Rattle.jc_world.proofs.Sounding.{Laws, sound_step}
 -- 1. What is counted.
 
 -- one, or none
-abbrev one_if : Bool → ℕ
+abbrev pub one_if : Bool → ℕ
 one_if b = cond b 1 0
 
 abbrev pub total : WorldState → Bytes → ℕ

@@ -139,7 +139,7 @@ merged_same left left' (turn ∷ turns) each longer =
 
 -- 4. A stripe that appends.
 
-other_set : (stripes : List State) (n m : ℕ) (to : State) → (n == m) ≡ false → slice_get (slice_set stripes n to) m ≡ slice_get stripes m
+pub other_set : (stripes : List State) (n m : ℕ) (to : State) → (n == m) ≡ false → slice_get (slice_set stripes n to) m ≡ slice_get stripes m
 other_set [] n m to h = refl
 other_set (s ∷ ss) zero zero to h = cc
 other_set (s ∷ ss) zero (suc m) to h = refl

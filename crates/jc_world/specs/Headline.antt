@@ -3,6 +3,9 @@
 --     StaysLegal        after every list of events the order is one legal history, what is cached is what it leaves, and each
 --                       stripe's history is its part of the order
 --     StaysCoherent     after every list of events, as long as the premises held, the world is coherent
+--     reopened          a world in which the premises have held so far, whatever came before
+--     StaysCoherentFrom from any world that is reached and coherent, in which no key is reserved: after every list of events, as long
+--                       as the premises held since then, the world is coherent
 --     is_answer         an event is an answer of the loader for a key, and was taken
 --     is_load           an event is a step of a key that had the loader asked, and isn't shared
 --     is_loaded         an answer of the loader is kept for the commit
@@ -37,6 +40,13 @@ StaysLegal = (config : Config) (stored : List (Bytes × Bytes)) (events : List W
 
 abbrev pub StaysCoherent : Type 0
 StaysCoherent = (config : Config) (stored : List (Bytes × Bytes)) (events : List WorldEvent) (seen : List Shown) (new : WorldState) → check config ≡ Ok tt → Run (opened config stored) events seen new → all_hold new ≡ true → Coherent new
+
+abbrev pub reopened : WorldState → WorldState
+reopened w = record w { premises = record { writers = true; loaders = true; quiet = true } }
+
+abbrev pub StaysCoherentFrom : Type 0
+StaysCoherentFrom = (config : Config) (stored : List (Bytes × Bytes)) (before events : List WorldEvent) (seen_before seen : List Shown) (opening new : WorldState) → check config ≡ Ok tt → Run (opened config stored) before seen_before opening
+    → ((key : Bytes) → get opening.parts key ≡ None) → Coherent opening → Run (reopened opening) events seen new → all_hold new ≡ true → Coherent new
 
 -- an answer of the loader for a key, which was taken
 abbrev pub is_answer : Bytes → WorldEvent → Shown → Bool

@@ -11,3 +11,6 @@ pub mod Inside
 pub mod Ending
 pub mod Gathered
 pub mod Headline
+pub mod Replies
+pub mod Reserved
+pub mod PickUps

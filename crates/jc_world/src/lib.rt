@@ -9,6 +9,7 @@ pub mod headline;
 mod joining;
 mod machine;
 mod outside;
+pub mod replies;
 mod slot;
 mod stripes;
 #[cfg(test)]

@@ -1,0 +1,132 @@
+-- Lemmas for the crates above: where the step of a phase is, and which steps of a stripe are parked after each phase.
+--     step_at                             a step is at its place, with its reply
+--     joined_parks, withdrawn_parks       a join and a withdrawal park what was parked
+--     beginner_parks                      a call that may begin has no parked step at its key
+--     commit_parks, committer_parks, sharers_park
+--                                         a commit parks of the steps that were there what was parked, not its own step, and each
+--                                         step that shares its load
+--     picker_parks, picked_parks          a pick-up finds its step parked, and leaves it so no more
+--     others_park                         it parks of the steps at other places what was parked
+--     again_parks_same                    a pick-up that is told to retry parks what was parked
+use Rattle.std.proofs.Common.{◌≡◌, ◌==◌, ◌&&◌, ◌||◌, ◌+◌, ℕ, zero, suc, List, [], ◌∷◌, Bool, true, false, not, Option, None, Some, refl, sym, ap, ◌∙◌, slice_get}
+use Rattle.std.proofs.lemmas.Bool.{eqb-true, and_parts}
+use Rattle.std.specs.List.{list_all}
+use Rattle.std.specs.Cmp.Lexicographic.{pointwise, same_text}
+use Rattle.jc_types.proofs.CallerLemmas.{all_imply}
+use Rattle.jc_types.specs.declared.caller.Caller.{Caller}
+use Rattle.jc_model.specs.declared.event.Event.{Event}
+use Rattle.jc_model.specs.declared.event.Event.TheVariants.{Step}
+use Rattle.jc_model.specs.declared.event.Op.{Op}
+use Rattle.jc_model.specs.declared.event.Out.{Out}
+use Rattle.jc_model.specs.declared.event.Reply.{Reply}
+use Rattle.jc_model.specs.Cache.{Bytes}
+use Rattle.jc_model.specs.Legal.{in_order, may_come, may_follow}
+use Rattle.jc_inflight.specs.declared.joiner.JoinState.TheVariants.{Answered, Again}
+use Rattle.jc_inflight.specs.Joining.{callers_of}
+use Rattle.jc_inflight.specs.Resolving.{after_resolve}
+use Rattle.jc_inflight.specs.Taking as taking
+use Rattle.jc_stripe.specs.declared.begun.StepDone.{StepDone}
+use Rattle.jc_stripe.specs.declared.ticket.Reservation.{Reservation}
+use Rattle.jc_stripe.specs.Tickets.{JoinClaim}
+use Rattle.jc_stripe.specs.State.{State, IsOut, waits}
+use Rattle.jc_stripe.specs.Phases.{MayBegin, Steps, new_group, with_joiner, after_commit, after_withdrawal, without_joiner, told_to}
+use Rattle.jc_stripe.specs.Reached.{IsReached, may_share}
+use Rattle.jc_stripe.specs.OnePhase.{is_parked}
+use Rattle.jc_stripe.proofs.Settled.{claim_left, keyed_callers}
+use Rattle.jc_stripe.proofs.ParkedSteps.{parked-joined, parked-dissolved, parked-answered, parked-callers}
+use Rattle.jc_stripe.proofs.OwnPick.{is_call, differs, before_differs, after_differs, parked_other, none_parked, parked_told}
+use Rattle.jc_stripe.proofs.Own.{unparked, step_there, again_parks}
+
+-- 1. A step at its place.
+
+pub step_at : (old new : State) (caller : Caller) (key : Bytes) (op : Op) (out : Out) (callers : List Caller) (done : StepDone) → Steps old caller key op out callers done new
+    → slice_get new.history done.place ≡ Some (Step caller op key out None done.reply)
+step_at old new caller key op out callers done steps =
+    (λ i. slice_get (steps.after i).history (steps.place i)) ∙ step_there old.history (new_group old caller key op out callers steps.short)
+    ∙ ap (λ reply. Some (Step caller op key out None reply)) (sym steps.reply)
+
+-- 2. A join, and a withdrawal.
+
+pub joined_parks : (old : State) (join : JoinClaim) (c : Caller) (k : Bytes) → is_parked (with_joiner old join).joiners c k ≡ is_parked old.joiners c k
+joined_parks old join c k = parked-joined join.caller join.load join.key old.joiners c k
+
+pub withdrawn_parks : (old : State) (r : Reservation) (c : Caller) (k : Bytes) → is_parked (after_withdrawal old r).joiners c k ≡ is_parked old.joiners c k
+withdrawn_parks old r c k = parked-dissolved r.number old.joiners c k
+
+-- 3. A step that is done at once, and a commit.
+
+pub beginner_parks : (old : State) (caller : Caller) (key : Bytes) → MayBegin old caller key → is_parked old.joiners caller key ≡ false
+beginner_parks old caller key may = unparked caller key old.joiners may.apart
+
+-- what all of a list pass, that at a place does
+all_at : {A : Type 0} (p : A → Bool) (xs : List A) (i : ℕ) (x : A) → list_all p xs ≡ true → slice_get xs i ≡ Some x → p x ≡ true
+all_at p [] i x all h = cc
+all_at p (y ∷ ys) zero x all h = let is : y ≡ x = cc in ap p (sym is) ∙ (and_parts (p y) (list_all p ys) all).0
+all_at p (y ∷ ys) (suc i) x all h = all_at p ys i x (and_parts (p y) (list_all p ys) all).1 h
+
+-- one that waits may share behind each event
+shares_at : (w all one : Bool) → (all ≡ true → one ≡ true) → (not w || all) ≡ true → (not w || one) ≡ true
+shares_at true all one f h = f h
+shares_at false all one f h = refl
+
+-- the steps that were there are parked as before
+pub commit_parks : (old : State) (r : Reservation) (place at : ℕ) (c : Caller) (op : Op) (k : Bytes) (out : Out) (shared : Option ℕ) (reply : Reply) → IsReached old
+    → slice_get old.history at ≡ Some (Step c op k out shared reply) → is_parked (after_commit old r place).joiners c k ≡ is_parked old.joiners c k
+commit_parks old r place at c op k out shared reply reached there =
+    let e : Event = Step c op k out shared reply in
+    parked-answered r.number place (place + 1) old.joiners c op k out shared reply
+    (all_imply (may_share old.history) (λ j. not (waits j) || may_come e j.caller j.key) old.joiners
+    (λ j. shares_at (waits j) _ _ (λ all. all_at (λ x. may_come x j.caller j.key) old.history at e all there)) reached.shares)
+
+-- the commit's own step is not parked
+pub committer_parks : (old : State) (r : Reservation) (place : ℕ) → IsReached old → IsOut old r → is_parked (after_commit old r place).joiners r.caller r.key ≡ false
+committer_parks old r place reached found = unparked r.caller r.key (after_resolve r.number place old.joiners) (claim_left old r place reached found)
+
+-- those that share its load are
+pub sharers_park : (old : State) (r : Reservation) (place : ℕ) → IsReached old → IsOut old r → list_all (λ c. is_parked (after_commit old r place).joiners c r.key) (callers_of r.number old.joiners) ≡ true
+sharers_park old r place reached found = parked-callers r.number place (place + 1) r.key old.joiners (keyed_callers old r reached found)
+
+-- 4. A pick-up.
+
+pub picker_parks : (old : State) (join : JoinClaim) (place shared : ℕ) → told_to old join ≡ Some (Answered place shared) → is_parked old.joiners join.caller join.key ≡ true
+picker_parks old join place shared told = parked_told join.caller join.key old.joiners place shared told
+
+pub picked_parks : (old : State) (join : JoinClaim) → is_parked (without_joiner old join).joiners join.caller join.key ≡ false
+picked_parks old join = none_parked join.caller join.key old.joiners
+
+-- a step at another place is another call's or of another key
+differs_at : (c : Caller) (op : Op) (k : Bytes) (out : Out) (shared : Option ℕ) (reply : Reply) (events : List Event) (place at : ℕ) (e : Event) → in_order events ≡ true
+    → slice_get events place ≡ Some (Step c op k out shared reply) → slice_get events at ≡ Some e → (place ≡ at → ⊥) → differs c k e ≡ true
+differs_at c op k out shared reply [] place at e h here there apart = cc
+differs_at c op k out shared reply (x ∷ xs) zero zero e h here there apart = absurd (apart refl)
+differs_at c op k out shared reply (x ∷ xs) zero (suc at) e h here there apart =
+    let is : x ≡ Step c op k out shared reply = cc in
+    after_differs c op k out shared reply e (ap (λ y. may_follow y e) (sym is) ∙ all_at (may_follow x) xs at e (and_parts (list_all (may_follow x) xs) (in_order xs) h).0 there)
+differs_at c op k out shared reply (x ∷ xs) (suc place) zero e h here there apart =
+    let is : x ≡ e = cc in
+    before_differs c op k out shared reply e (ap (λ y. may_follow y (Step c op k out shared reply)) (sym is) ∙ all_at (may_follow x) xs place (Step c op k out shared reply) (and_parts (list_all (may_follow x) xs) (in_order xs) h).0 here)
+differs_at c op k out shared reply (x ∷ xs) (suc place) (suc at) e h here there apart =
+    differs_at c op k out shared reply xs place at e (and_parts (list_all (may_follow x) xs) (in_order xs) h).1 here there (λ same. apart (ap suc same))
+
+-- so it is parked as before
+pub others_park : (old : State) (join : JoinClaim) (op : Op) (out : Out) (shared : Option ℕ) (reply : Reply) (place at : ℕ) (c : Caller) (op' : Op) (k : Bytes) (out' : Out) (shared' : Option ℕ) (reply' : Reply) → IsReached old
+    → slice_get old.history place ≡ Some (Step join.caller op join.key out shared reply) → slice_get old.history at ≡ Some (Step c op' k out' shared' reply') → (place ≡ at → ⊥)
+    → is_parked (without_joiner old join).joiners c k ≡ is_parked old.joiners c k
+others_park old join op out shared reply place at c op' k out' shared' reply' reached here there apart =
+    parked_other join.caller join.key old.joiners c k
+    (differs_at join.caller op join.key out shared reply old.history place at (Step c op' k out' shared' reply') reached.legal.order here there apart)
+
+-- one that is told to retry had nothing parked
+pub again_parks_same : (old : State) (join : JoinClaim) (c : Caller) (k : Bytes) → IsReached old → told_to old join ≡ Some Again → is_parked (without_joiner old join).joiners c k ≡ is_parked old.joiners c k
+again_parks_same old join c k reached told =
+    let mine : Caller = join.caller in
+    elim (is_call mine join.key c k) as (λ b. is_call mine join.key c k ≡ b → is_parked (taking.without_joiner mine join.key old.joiners) c k ≡ is_parked old.joiners c k) [
+      | true ↦ λ e.
+          let outer = and_parts ((c.session == mine.session) && (c.call == mine.call)) (pointwise ◌==◌ k join.key) e in
+          let inner = and_parts (c.session == mine.session) (c.call == mine.call) outer.0 in
+          let who : c ≡ mine = λ i. record { session = eqb-true c.session mine.session inner.0 i; call = eqb-true c.call mine.call inner.1 i } in
+          let key : k ≡ join.key = same_text k join.key (sym outer.1) in
+          (λ i. is_parked (taking.without_joiner mine join.key old.joiners) (who i) (key i)) ∙ none_parked mine join.key old.joiners
+          ∙ sym (again_parks mine join.key old.joiners reached.apart told) ∙ (λ i. is_parked old.joiners (sym who i) (sym key i))
+      | false ↦ λ e. parked_other mine join.key old.joiners c k (ap not e)
+    ] refl

@@ -1,0 +1,442 @@
+-- Each answer that was shown is that of a step of its call.
+--     IsLater        a world is of the same configuration as another, and has that one's order and what follows it
+--     BegunAs        a call of a caller has begun, with this operation and key
+--     AllBegun       what is under way, reserved and joined is so of calls that have begun
+--     AllStand       each answer that was shown is that of its call's step, and the call has begun before it
+--     stands_run     so a run of events keeps that
+use Rattle.std.proofs.Common.{inl, inr, ◌≡◌, ◌==◌, ℕ, zero, suc, List, [], ◌∷◌, ◌++◌, length, take, zip, Bool, true, false, cond, not, Option, None, Some, find, filter, slice_get, refl, sym, ap, ◌∙◌, subst, append-nil, append_assoc, arith}
+use Rattle.std.specs.Cmp.Lexicographic.{pointwise}
+use Rattle.std.specs.FinMap.{get, insert, remove, get-empty, get-insert, get-remove}
+use Rattle.std.proofs.lemmas.Cmp.{nat_list_cmp_total}
+use Rattle.std.proofs.lemmas.Bool.{and_parts}
+use Rattle.std.proofs.lemmas.List.Elements.{filter-append}
+use Rattle.std.proofs.Math.Seq.{take-append_seam}
+use Rattle.std.proofs.lemmas.List.{take-append-le}
+use Rattle.std.proofs.lemmas.Option.{slice_get_within}
+use Rattle.jc_types.specs.declared.caller.Caller.{Caller}
+use Rattle.jc_types.specs.declared.config.Config.{Config}
+use Rattle.jc_types.specs.Stripes.{stripe_of}
+use Rattle.jc_model.specs.declared.event.Op.{Op}
+use Rattle.jc_model.specs.declared.event.Op.TheVariants.{Get}
+use Rattle.jc_model.specs.declared.event.Out.{Out}
+use Rattle.jc_model.specs.declared.event.Reply.{Reply}
+use Rattle.jc_model.specs.declared.event.Event.{Event as StripeEvent}
+use Rattle.jc_model.specs.declared.event.Event.TheVariants as stripe
+use Rattle.jc_model.specs.Cache.{Bytes, key_cmp}
+use Rattle.jc_model.specs.Group.{nothing_said}
+use Rattle.jc_model.specs.Legal.{is_of_stripe, of_stripe}
+use Rattle.jc_inflight.specs.Joining.{callers_of}
+use Rattle.jc_stripe.specs.Tickets.{Ticket, JoinClaim}
+use Rattle.jc_stripe.specs.State.{State}
+use Rattle.jc_stripe.specs.Refusals.{load_joined}
+use Rattle.jc_stripe.specs.Phases.{after_commit}
+use Rattle.jc_stripe.proofs.CallerLemmas.{step_at}
+use Rattle.jc_world.specs.declared.event.Part.{Part}
+use Rattle.jc_world.specs.declared.event.Shown.{Shown}
+use Rattle.jc_world.specs.declared.event.Shown.TheVariants as shown
+use Rattle.jc_world.specs.declared.event.Under.{Under}
+use Rattle.jc_world.specs.declared.event.WorldEvent.{WorldEvent}
+use Rattle.jc_world.specs.declared.event.WorldEvent.TheVariants as event
+use Rattle.jc_world.specs.World.{WorldState, Parts, home, stripe_for, has_number, is_join, join_of, part_of, out_of, under}
+use Rattle.jc_world.specs.Events.{fits, is_free, may_start, new_part, step_of, Starts, Ends, Picks, Happens, Step, Run}
+use Rattle.jc_world.specs.Sound.{IsSoundWorld}
+use Rattle.jc_world.specs.Headline.{opened}
+use Rattle.jc_world.specs.Replies.{Answered, Stands}
+use Rattle.jc_world.proofs.Shares.{found_test, Each, each_map, added}
+use Rattle.jc_world.proofs.Underway.{found_number, same_bytes, of_call-at}
+use Rattle.jc_world.proofs.Joiners.{join_is}
+use Rattle.jc_world.proofs.Places.{stripe_put}
+use Rattle.jc_world.proofs.Entries.{split}
+use Rattle.jc_world.proofs.Callers.{part_key}
+use Rattle.jc_world.proofs.Sounding.{Laws, sound_step}
+
+-- 1. Places of lists.
+
+-- what is at a place stays there if more follows
+pub still_at : {A : Type 0} (xs ys : List A) (i : ℕ) (x : A) → slice_get xs i ≡ Some x → slice_get (xs ++ ys) i ≡ Some x
+still_at [] ys i x h = cc
+still_at (z ∷ zs) ys zero x h = h
+still_at (z ∷ zs) ys (suc i) x h = still_at zs ys i x h
+
+-- what is at a place of a list with one more was there, or is the last
+pub pushed_at : {A P : Type 0} (xs : List A) (y : A) (i : ℕ) (x : A) → (slice_get xs i ≡ Some x → P) → (i ≡ length xs → y ≡ x → P) → slice_get (xs ++ y ∷ []) i ≡ Some x → P
+pushed_at [] y zero x before last h = last refl (let t : Some y ≡ Some x = h in cc)
+pushed_at [] y (suc i) x before last h = cc
+pushed_at (z ∷ zs) y zero x before last h = before h
+pushed_at (z ∷ zs) y (suc i) x before last h = pushed_at zs y i x before (λ at. last (ap suc at)) h
+
+-- the first of what follows a list
+pub seam_at : {A : Type 0} (xs ys : List A) (y : A) → slice_get (xs ++ y ∷ ys) (length xs) ≡ Some y
+seam_at [] ys y = refl
+seam_at (z ∷ zs) ys y = seam_at zs ys y
+
+-- a fact of each of a list, of those that are left, of one more, and of one that is found
+each_filter : {A : Type 0} (P : A → Type 0) (p : A → Bool) (xs : List A) → Each P xs → Each P (filter p xs)
+each_filter P p [] h = tt
+each_filter P p (x ∷ xs) h = elim (p x) as (λ b. Each P (cond b (x ∷ filter p xs) (filter p xs))) [ true ↦ (h.0, each_filter P p xs h.1) | false ↦ each_filter P p xs h.1 ]
+
+each_pushed : {A : Type 0} (P : A → Type 0) (xs : List A) (y : A) → Each P xs → P y → Each P (xs ++ y ∷ [])
+each_pushed P [] y h one = (one, tt)
+each_pushed P (x ∷ xs) y h one = (h.0, each_pushed P xs y h.1 one)
+
+each_here : {A : Type 0} (P : A → Type 0) (p : A → Bool) (xs : List A) (x : A) → find p xs ≡ Some x → Each P xs → P x
+each_here P p [] x h all = cc
+each_here P p (y ∷ ys) x h all =
+    elim (p y) as (λ b. cond b (Some y) (find p ys) ≡ Some x → P x) [
+      | true ↦ λ h. let is : y ≡ x = cc in subst P is all.0
+      | false ↦ λ h. each_here P p ys x h all.1
+    ] h
+
+-- 2. Later worlds.
+
+-- a world of the same configuration, whose order continues the other's
+pub record IsLater (old new : WorldState) : Type 0 where
+  pub config : new.config ≡ old.config
+  pub more : List StripeEvent
+  pub order : new.order ≡ old.order ++ more
+
+later_same : (old new : WorldState) → new.config ≡ old.config → new.order ≡ old.order → IsLater old new
+later_same old new config order = record { config = config; more = []; order = order ∙ sym (append-nil old.order) }
+
+-- by what is shown of a first phase
+later_started : (w new : WorldState) (u : Under) (from to : State) (seen : Shown) → Starts w u from to seen new → IsLater w new
+later_started w new u from to (shown.Refused refusal) h = later_same w new (ap (λ (x : WorldState). x.config) h.1) (ap (λ (x : WorldState). x.order) h.1)
+later_started w new u from to (shown.Stepped seen) h = record { config = ap (λ (x : WorldState). x.config) h.2; more = added from to; order = ap (λ (x : WorldState). x.order) h.2 }
+later_started w new u from to shown.Loads h = later_same w new (ap (λ (x : WorldState). x.config) h.2) (ap (λ (x : WorldState). x.order) h.2)
+later_started w new u from to (shown.Asks change) h = later_same w new (ap (λ (x : WorldState). x.config) h.3) (ap (λ (x : WorldState). x.order) h.3)
+later_started w new u from to shown.Joins h = later_same w new (ap (λ (x : WorldState). x.config) h.2) (ap (λ (x : WorldState). x.order) h.2)
+later_started w new u from to seen h = absurd h
+
+-- of a last phase
+later_ended : (w new : WorldState) (call : ℕ) (key : Bytes) (part : Part) (from to : State) (seen : Shown) → Ends w call key part from to seen new → IsLater w new
+later_ended w new call key part from to (shown.Stepped seen) h = record { config = ap (λ (x : WorldState). x.config) h.2; more = added from to; order = ap (λ (x : WorldState). x.order) h.2 }
+later_ended w new call key part from to seen h = absurd h
+
+-- of a pick-up
+later_picks : (w new : WorldState) (call : ℕ) (key : Bytes) (join : JoinClaim) (from to : State) (seen : Shown) → Picks w call key join from to seen new → IsLater w new
+later_picks w new call key join from to (shown.PickedUp seen) h = later_same w new (ap (λ (x : WorldState). x.config) h.2) (ap (λ (x : WorldState). x.order) h.2)
+later_picks w new call key join from to shown.Again h = later_same w new (ap (λ (x : WorldState). x.config) h.1) (ap (λ (x : WorldState). x.order) h.1)
+later_picks w new call key join from to shown.Waits h = later_same w new (ap (λ (x : WorldState). x.config) h.1) (ap (λ (x : WorldState). x.order) h.1)
+later_picks w new call key join from to seen h = absurd h
+
+-- of any event that fits
+later_happens : (w new : WorldState) (e : WorldEvent) (seen : Shown) → Happens w e seen new → IsLater w new
+later_happens w new (event.Call call session command) seen h = later_same w new (ap (λ (x : WorldState). x.config) h.1) (ap (λ (x : WorldState). x.order) h.1)
+later_happens w new (event.Start call key) seen h = later_started w new h.0 h.2 h.4 seen h.5
+later_happens w new (event.Read call key) seen h = later_same w new (ap (λ (x : WorldState). x.config) h.3) (ap (λ (x : WorldState). x.order) h.3)
+later_happens w new (event.Say call key answer) seen h = later_same w new (ap (λ (x : WorldState). x.config) h.3) (ap (λ (x : WorldState). x.order) h.3)
+later_happens w new (event.Change call key) seen h = later_same w new (ap (λ (x : WorldState). x.config) h.5) (ap (λ (x : WorldState). x.order) h.5)
+later_happens w new (event.Report call fault) seen h = later_same w new (ap (λ (x : WorldState). x.config) h.7) (ap (λ (x : WorldState). x.order) h.7)
+later_happens w new (event.Commit call key) seen h = later_ended w new call key h.0 h.2 h.4 seen h.5
+later_happens w new (event.Withdraw call key) seen h = later_same w new (ap (λ (x : WorldState). x.config) h.7) (ap (λ (x : WorldState). x.order) h.7)
+later_happens w new (event.Leave call) seen h = later_same w new (ap (λ (x : WorldState). x.config) h.1) (ap (λ (x : WorldState). x.order) h.1)
+later_happens w new (event.PickUp call key) seen h = later_picks w new call key h.0 h.2 h.4 seen h.5
+later_happens w new (event.Foreign key value) seen h = later_same w new (ap (λ (x : WorldState). x.config) h.1) (ap (λ (x : WorldState). x.order) h.1)
+
+-- and of any event
+pub later_step : (w new : WorldState) (e : WorldEvent) (seen : Shown) → Step w e seen new → IsLater w new
+later_step w new e seen (inl (fit, happens)) = later_happens w new e seen happens
+later_step w new e seen (inr (unfit, shows, is)) = later_same w new (ap (λ (x : WorldState). x.config) is) (ap (λ (x : WorldState). x.order) is)
+
+-- a run keeps the configuration, and so does what the store holds at the start
+pub config_run : (w new : WorldState) (es : List WorldEvent) (ss : List Shown) → Run w es ss new → new.config ≡ w.config
+config_run w new [] [] run = ap (λ (x : WorldState). x.config) run
+config_run w new [] (s ∷ ss) run = absurd run
+config_run w new (e ∷ es) [] run = absurd run
+config_run w new (e ∷ es) (s ∷ ss) (mid, step, rest) = config_run mid new es ss rest ∙ (later_step w mid e s step).config
+
+pub config_opened : (config : Config) (stored : List (Bytes × Bytes)) → (opened config stored).config ≡ config
+config_opened config [] = refl
+config_opened config (e ∷ es) = config_opened config es
+
+-- 3. What was shown stays true.
+
+answered_on : (w n : WorldState) (shows : List (WorldEvent × Shown)) (call : ℕ) (key : Bytes) (reply : Reply) (number place : ℕ) (shared : Option ℕ) → IsLater w n
+    → Answered w shows call key reply number place shared → Answered n shows call key reply number place shared
+answered_on w n shows call key reply number place shared later h =
+    let mine = is_of_stripe w.config.stripes number in
+    record {
+      session = h.session;
+      op = h.op;
+      at = h.at;
+      begun = h.begun;
+      home_is = h.home_is ∙ ap (λ (c : Config). stripe_of key c.stripes) (sym later.config);
+      out = h.out;
+      step = (λ i. slice_get (of_stripe (later.config i).stripes number (later.order i)) place)
+          ∙ ap (λ es. slice_get es place) (filter-append mine w.order later.more)
+          ∙ still_at (of_stripe w.config.stripes number w.order) (of_stripe w.config.stripes number later.more) place _ h.step;
+    }
+
+stands_on : (w n : WorldState) (shows : List (WorldEvent × Shown)) (e : WorldEvent) (seen : Shown) → IsLater w n → Stands w shows e seen → Stands n shows e seen
+stands_on w n shows (event.Start call key) (shown.Stepped x) later h = answered_on w n shows call key x.reply x.stripe x.place None later h
+stands_on w n shows (event.Commit call key) (shown.Stepped x) later h = answered_on w n shows call key x.reply x.stripe x.place None later h
+stands_on w n shows (event.PickUp call key) (shown.PickedUp x) later h = answered_on w n shows call key x.reply x.stripe x.place (Some x.shared) later h
+stands_on w n shows e (shown.Stepped x) later h = absurd h
+stands_on w n shows e (shown.PickedUp x) later h = absurd h
+stands_on w n shows e seen later h = tt
+
+-- 4. Which calls have begun.
+
+-- this caller's call of this operation and key is among what has happened
+abbrev pub BegunAs : List (WorldEvent × Shown) → Caller → Bytes → Op → Type 0
+BegunAs shows caller key op = (at : ℕ) × (slice_get shows at ≡ Some (event.Call caller.call caller.session (record { op = op; key = key }), shown.Begun))
+
+abbrev IsBegun : List (WorldEvent × Shown) → Under → Type 0
+IsBegun shows u = BegunAs shows u.caller u.command.key u.command.op
+
+abbrev PartBegun : List (WorldEvent × Shown) → Part → Type 0
+PartBegun shows part = BegunAs shows part.reservation.caller part.reservation.key part.reservation.op
+
+abbrev JoinBegun : List (WorldEvent × Shown) → JoinClaim → Type 0
+JoinBegun shows join = BegunAs shows join.caller join.key Get
+
+abbrev PartsBegun : List (WorldEvent × Shown) → Parts → Type 0
+PartsBegun shows parts = (key : Bytes) (part : Part) → get parts key ≡ Some part → PartBegun shows part
+
+-- what is under way, reserved and joined is so of calls that have begun
+pub record AllBegun (shows : List (WorldEvent × Shown)) (w : WorldState) : Type 0 where
+  pub calls : Each (IsBegun shows) w.calls
+  pub parts : PartsBegun shows w.parts
+  pub joins : Each (JoinBegun shows) w.joins
+
+begun_on : (shows more : List (WorldEvent × Shown)) (caller : Caller) (key : Bytes) (op : Op) → BegunAs shows caller key op → BegunAs (shows ++ more) caller key op
+begun_on shows more caller key op h = (h.0, still_at shows more h.0 _ h.1)
+
+-- they are so when more has happened
+all_begun_on : (shows more : List (WorldEvent × Shown)) (w : WorldState) → AllBegun shows w → AllBegun (shows ++ more) w
+all_begun_on shows more w h = record {
+  calls = each_map (IsBegun shows) (IsBegun (shows ++ more)) w.calls (λ u b. begun_on shows more u.caller u.command.key u.command.op b) h.calls;
+  parts = λ key part is. begun_on shows more part.reservation.caller part.reservation.key part.reservation.op (h.parts key part is);
+  joins = each_map (JoinBegun shows) (JoinBegun (shows ++ more)) w.joins (λ j b. begun_on shows more j.caller j.key Get b) h.joins;
+}
+
+-- the call that is found under way has begun
+begun_under : (shows : List (WorldEvent × Shown)) (w : WorldState) (call : ℕ) (u : Under) → under w call ≡ Some u → AllBegun shows w → IsBegun shows u
+begun_under shows w call u here h = each_here (IsBegun shows) (has_number call) w.calls u here h.calls
+
+-- a part is put in place, or taken away
+parts_put : (shows : List (WorldEvent × Shown)) (parts : Parts) (key : Bytes) (part : Part) → PartBegun shows part → PartsBegun shows parts → PartsBegun shows (insert parts key part)
+parts_put shows parts key part one all q p is =
+    split q key (λ b. cond b (Some part) (get parts q) ≡ Some p → PartBegun shows p)
+    (λ same e. let it : part ≡ p = cc in subst (PartBegun shows) it one)
+    (λ apart e. all q p e)
+    (sym (get-insert nat_list_cmp_total parts key part q) ∙ is)
+
+parts_left : (shows : List (WorldEvent × Shown)) (parts : Parts) (key : Bytes) → PartsBegun shows parts → PartsBegun shows (remove parts key)
+parts_left shows parts key all q p is =
+    split q key (λ b. cond b None (get parts q) ≡ Some p → PartBegun shows p) (λ same e. cc) (λ apart e. all q p e) (sym (get-remove nat_list_cmp_total parts key q) ∙ is)
+
+-- a part of a call has begun
+part_begun : (shows : List (WorldEvent × Shown)) (w : WorldState) (call : ℕ) (key : Bytes) (part : Part) → part_of w call key ≡ Some part → AllBegun shows w → PartBegun shows part
+part_begun shows w call key part is h = h.parts key part (of_call-at call (get w.parts key) part is).0
+
+-- only a `Get` joins a load
+joins_get : (s : State) (key : Bytes) (op : Op) (load : ℕ) → load_joined s key op ≡ Some load → op ≡ Get
+joins_get s key Get load h = refl
+joins_get s key op load h = cc
+
+-- by what is shown of a first phase
+begun_started : (shows : List (WorldEvent × Shown)) (w new : WorldState) (u : Under) (from to : State) (seen : Shown) → Starts w u from to seen new → IsBegun shows u → AllBegun shows w → AllBegun shows new
+begun_started shows w new u from to (shown.Refused refusal) h one old =
+    subst (AllBegun shows) (sym h.1) (record { calls = each_filter (IsBegun shows) (λ x. not (has_number u.caller.call x)) w.calls old.calls; parts = old.parts; joins = old.joins })
+begun_started shows w new u from to (shown.Stepped seen) h one old =
+    subst (AllBegun shows) (sym h.2) (record { calls = each_filter (IsBegun shows) (λ x. not (has_number u.caller.call x)) w.calls old.calls; parts = old.parts; joins = old.joins })
+begun_started shows w new u from to shown.Loads h one old =
+    let P : Ticket → Type 0 = λ t. PartBegun shows (new_part t.reservation) in
+    subst (AllBegun shows) (sym h.2) (record { calls = old.calls; parts = parts_put shows w.parts u.command.key (new_part h.0.reservation) (subst P (sym h.1.3) one) old.parts; joins = old.joins })
+begun_started shows w new u from to (shown.Asks change) h one old =
+    let P : Ticket → Type 0 = λ t. PartBegun shows (new_part t.reservation) in
+    subst (AllBegun shows) (sym h.3) (record { calls = old.calls; parts = parts_put shows w.parts u.command.key (new_part h.0.reservation) (subst P (sym h.1.3) one) old.parts; joins = old.joins })
+begun_started shows w new u from to shown.Joins h one old =
+    let get_is : u.command.op ≡ Get = joins_get from u.command.key u.command.op h.0.load h.1.1 in
+    let P : JoinClaim → Type 0 = JoinBegun shows in
+    let B : Op → Type 0 = BegunAs shows u.caller u.command.key in
+    subst (AllBegun shows) (sym h.2) (record { calls = old.calls; parts = old.parts; joins = each_pushed (JoinBegun shows) w.joins h.0 old.joins (subst P (sym h.1.2) (subst B get_is one)) })
+begun_started shows w new u from to seen h one old = absurd h
+
+-- of a last phase
+begun_ended : (shows : List (WorldEvent × Shown)) (w new : WorldState) (call : ℕ) (key : Bytes) (part : Part) (from to : State) (seen : Shown) → Ends w call key part from to seen new → AllBegun shows w → AllBegun shows new
+begun_ended shows w new call key part from to (shown.Stepped seen) h old =
+    subst (AllBegun shows) (sym h.2) (record { calls = each_filter (IsBegun shows) (λ x. not (has_number call x)) w.calls old.calls; parts = parts_left shows w.parts key old.parts; joins = old.joins })
+begun_ended shows w new call key part from to seen h old = absurd h
+
+-- of a pick-up
+begun_picks : (shows : List (WorldEvent × Shown)) (w new : WorldState) (call : ℕ) (key : Bytes) (join : JoinClaim) (from to : State) (seen : Shown) → Picks w call key join from to seen new → AllBegun shows w → AllBegun shows new
+begun_picks shows w new call key join from to (shown.PickedUp seen) h old =
+    subst (AllBegun shows) (sym h.2)
+    (record {
+      calls = each_filter (IsBegun shows) (λ x. not (has_number call x)) w.calls old.calls;
+      parts = old.parts;
+      joins = each_filter (JoinBegun shows) (λ j. not (is_join call key j)) w.joins old.joins;
+    })
+begun_picks shows w new call key join from to shown.Again h old =
+    subst (AllBegun shows) (sym h.1) (record { calls = old.calls; parts = old.parts; joins = each_filter (JoinBegun shows) (λ j. not (is_join call key j)) w.joins old.joins })
+begun_picks shows w new call key join from to shown.Waits h old = subst (AllBegun shows) (sym h.1) old
+begun_picks shows w new call key join from to seen h old = absurd h
+
+-- of any event that fits, if it is among what has happened
+begun_happens : (shows : List (WorldEvent × Shown)) (w new : WorldState) (e : WorldEvent) (seen : Shown) → (at : ℕ) × (slice_get shows at ≡ Some (e, seen)) → Happens w e seen new → AllBegun shows w → AllBegun shows new
+begun_happens shows w new (event.Call call session command) seen last h old =
+    let one : Under = record { caller = record { session = session; call = call }; command = command } in
+    let begun : IsBegun shows one = (last.0, last.1 ∙ ap (λ s. Some (event.Call call session command, s)) h.0) in
+    subst (AllBegun shows) (sym h.1) (record { calls = each_pushed (IsBegun shows) w.calls one old.calls begun; parts = old.parts; joins = old.joins })
+begun_happens shows w new (event.Start call key) seen last h old = begun_started shows w new h.0 h.2 h.4 seen h.5 (begun_under shows w call h.0 h.1 old) old
+begun_happens shows w new (event.Read call key) seen last h old =
+    subst (AllBegun shows) (sym h.3) (record { calls = old.calls; parts = parts_put shows w.parts key _ (part_begun shows w call key h.0 h.1 old) old.parts; joins = old.joins })
+begun_happens shows w new (event.Say call key answer) seen last h old =
+    subst (AllBegun shows) (sym h.3) (record { calls = old.calls; parts = parts_put shows w.parts key _ (part_begun shows w call key h.0 h.1 old) old.parts; joins = old.joins })
+begun_happens shows w new (event.Change call key) seen last h old =
+    subst (AllBegun shows) (sym h.5) (record { calls = old.calls; parts = parts_put shows w.parts key _ (part_begun shows w call key h.0 h.2 old) old.parts; joins = old.joins })
+begun_happens shows w new (event.Report call fault) seen last h old =
+    subst (AllBegun shows) (sym h.7) (record { calls = old.calls; parts = parts_put shows w.parts h.0.command.key _ (part_begun shows w call h.0.command.key h.1 h.4 old) old.parts; joins = old.joins })
+begun_happens shows w new (event.Commit call key) seen last h old = begun_ended shows w new call key h.0 h.2 h.4 seen h.5 old
+begun_happens shows w new (event.Withdraw call key) seen last h old =
+    subst (AllBegun shows) (sym h.7) (record { calls = old.calls; parts = parts_left shows w.parts key old.parts; joins = old.joins })
+begun_happens shows w new (event.Leave call) seen last h old =
+    subst (AllBegun shows) (sym h.1) (record { calls = each_filter (IsBegun shows) (λ x. not (has_number call x)) w.calls old.calls; parts = old.parts; joins = old.joins })
+begun_happens shows w new (event.PickUp call key) seen last h old = begun_picks shows w new call key h.0 h.2 h.4 seen h.5 old
+begun_happens shows w new (event.Foreign key value) seen last h old = subst (AllBegun shows) (sym h.1) (record { calls = old.calls; parts = old.parts; joins = old.joins })
+
+-- and of any event
+begun_step : (shows : List (WorldEvent × Shown)) (w new : WorldState) (e : WorldEvent) (seen : Shown) → (at : ℕ) × (slice_get shows at ≡ Some (e, seen)) → Step w e seen new → AllBegun shows w → AllBegun shows new
+begun_step shows w new e seen last (inl (fit, happens)) old = begun_happens shows w new e seen last happens old
+begun_step shows w new e seen last (inr (unfit, shows_it, is)) old = subst (AllBegun shows) (sym is) old
+
+-- nothing is under way at the start
+begun_opened : (shows : List (WorldEvent × Shown)) (config : Config) (stored : List (Bytes × Bytes)) → AllBegun shows (opened config stored)
+begun_opened shows config [] = record { calls = tt; parts = λ key part is. let t : None ≡ Some part = sym (get-empty key_cmp key) ∙ is in cc; joins = tt }
+begun_opened shows config (e ∷ es) = let rest = begun_opened shows config es in record { calls = rest.calls; parts = rest.parts; joins = rest.joins }
+
+-- 5. A new answer.
+
+-- the answer of a call that has begun, with its step in the stripe of its key
+answered_at : (w new : WorldState) (shows : List (WorldEvent × Shown)) (caller : Caller) (key : Bytes) (op : Op) (out : Out) (shared : Option ℕ) (reply : Reply) (number place : ℕ) (to : State) → number ≡ home w key → IsLater w new
+    → slice_get new.stripes (home w key) ≡ Some to → IsSoundWorld new → slice_get to.history place ≡ Some (stripe.Step caller op key out shared reply) → BegunAs shows caller key op
+    → Answered new shows caller.call key reply number place shared
+answered_at w new shows caller key op out shared reply number place to home_is later here sound step begun = record {
+  session = caller.session;
+  op = op;
+  at = begun.0;
+  begun = begun.1;
+  home_is = home_is ∙ ap (λ (c : Config). stripe_of key c.stripes) (sym later.config);
+  out = out;
+  step = (λ i. slice_get (of_stripe new.config.stripes (home_is i) new.order) place) ∙ ap (λ es. slice_get es place) (sound.shape.each (home w key) to here).share ∙ step;
+}
+
+-- of another call and key that are the same
+answered_for : (w : WorldState) (shows : List (WorldEvent × Shown)) (call n : ℕ) (key k : Bytes) (reply : Reply) (number place : ℕ) (shared : Option ℕ) → call ≡ n → key ≡ k → Answered w shows call key reply number place shared → Answered w shows n k reply number place shared
+answered_for w shows call n key k reply number place shared calls keys h =
+    let P : ℕ → Type 0 = λ m. Answered w shows m k reply number place shared in
+    let Q : Bytes → Type 0 = λ q. Answered w shows call q reply number place shared in
+    subst P calls (subst Q keys h)
+
+-- by what is shown of a first phase
+stands_started : (shows : List (WorldEvent × Shown)) (w new : WorldState) (call : ℕ) (key : Bytes) (u : Under) (from to : State) (seen : Shown) → fits w (event.Start call key) ≡ true → under w call ≡ Some u → stripe_for w u.command.key ≡ Some from
+    → Starts w u from to seen new → IsBegun shows u → IsSoundWorld new → Stands new shows (event.Start call key) seen
+stands_started shows w new call key u from to (shown.Refused refusal) fit here there h begun sound = tt
+stands_started shows w new call key u from to (shown.Stepped x) fit here there h begun sound =
+    let own = u.command.key in
+    let placed : slice_get new.stripes (home w own) ≡ Some to = ap (λ (v : WorldState). slice_get v.stripes (home w own)) h.2 ∙ stripe_put w.stripes (home w own) from to there in
+    let keys = same_bytes key own (and_parts (pointwise ◌==◌ key own) (is_free w call key) (sym (ap (may_start w call key) here) ∙ fit)).0 in
+    answered_for new shows u.caller.call call own key x.reply x.stripe x.place None (found_number call w.calls u here) (sym keys)
+    (answered_at w new shows u.caller own u.command.op nothing_said None x.reply x.stripe x.place to h.1 (later_started w new u from to (shown.Stepped x) h) placed sound
+    (step_at from to u.caller own u.command.op nothing_said [] (step_of x) h.0.2) begun)
+stands_started shows w new call key u from to shown.Loads fit here there h begun sound = tt
+stands_started shows w new call key u from to (shown.Asks change) fit here there h begun sound = tt
+stands_started shows w new call key u from to shown.Joins fit here there h begun sound = tt
+stands_started shows w new call key u from to seen fit here there h begun sound = absurd h
+
+-- of a last phase
+stands_ended : (shows : List (WorldEvent × Shown)) (w new : WorldState) (call : ℕ) (key : Bytes) (part : Part) (from to : State) (seen : Shown) → part_of w call key ≡ Some part → part.reservation.key ≡ key → stripe_for w key ≡ Some from
+    → Ends w call key part from to seen new → PartBegun shows part → IsSoundWorld new → Stands new shows (event.Commit call key) seen
+stands_ended shows w new call key part from to (shown.Stepped x) is key_is there h begun sound =
+    let r = part.reservation in
+    let mid = after_commit from r x.place in
+    let home_is : home w r.key ≡ home w key = ap (home w) key_is in
+    let placed : slice_get new.stripes (home w r.key) ≡ Some to = ap (slice_get new.stripes) home_is ∙ ap (λ (v : WorldState). slice_get v.stripes (home w key)) h.2 ∙ stripe_put w.stripes (home w key) from to there in
+    answered_for new shows r.caller.call call r.key key x.reply x.stripe x.place None (of_call-at call (get w.parts key) part is).1 key_is
+    (answered_at w new shows r.caller r.key r.op (out_of part) None x.reply x.stripe x.place to (h.1 ∙ sym home_is) (later_ended w new call key part from to (shown.Stepped x) h) placed sound
+    (step_at mid to r.caller r.key r.op (out_of part) (callers_of r.number from.joiners) (step_of x) h.0.1) begun)
+stands_ended shows w new call key part from to seen is key_is there h begun sound = absurd h
+
+-- of a pick-up
+stands_picks : (shows : List (WorldEvent × Shown)) (w new : WorldState) (call : ℕ) (key : Bytes) (join : JoinClaim) (from to : State) (seen : Shown) → join_of w call key ≡ Some join → stripe_for w key ≡ Some from
+    → Picks w call key join from to seen new → JoinBegun shows join → IsSoundWorld new → Stands new shows (event.PickUp call key) seen
+stands_picks shows w new call key join from to (shown.PickedUp x) is there h begun sound =
+    let same = join_is call key join (found_test (is_join call key) w.joins join is) in
+    let home_is : home w join.key ≡ home w key = ap (home w) same.1 in
+    let placed : slice_get new.stripes (home w join.key) ≡ Some to = ap (slice_get new.stripes) home_is ∙ ap (λ (v : WorldState). slice_get v.stripes (home w key)) h.2 ∙ stripe_put w.stripes (home w key) from to there in
+    let step = h.0.2 in
+    answered_for new shows join.caller.call call join.key key x.reply x.stripe x.place (Some x.shared) same.0 same.1
+    (answered_at w new shows join.caller join.key Get step.0 (Some x.shared) x.reply x.stripe x.place to (h.1 ∙ sym home_is) (later_picks w new call key join from to (shown.PickedUp x) h) placed sound
+    (ap (λ (s : State). slice_get s.history x.place) h.0.3 ∙ step.1) begun)
+stands_picks shows w new call key join from to shown.Again is there h begun sound = tt
+stands_picks shows w new call key join from to shown.Waits is there h begun sound = tt
+stands_picks shows w new call key join from to seen is there h begun sound = absurd h
+
+-- of any event that fits
+stands_happens : (shows : List (WorldEvent × Shown)) (w new : WorldState) (e : WorldEvent) (seen : Shown) → fits w e ≡ true → Happens w e seen new → IsSoundWorld w → IsSoundWorld new → AllBegun shows w → Stands new shows e seen
+stands_happens shows w new (event.Call call session command) seen fit h old sound begun = subst (Stands new shows (event.Call call session command)) (sym h.0) tt
+stands_happens shows w new (event.Start call key) seen fit h old sound begun = stands_started shows w new call key h.0 h.2 h.4 seen fit h.1 h.3 h.5 (begun_under shows w call h.0 h.1 begun) sound
+stands_happens shows w new (event.Read call key) seen fit h old sound begun = subst (Stands new shows (event.Read call key)) (sym h.2) tt
+stands_happens shows w new (event.Say call key answer) seen fit h old sound begun = subst (Stands new shows (event.Say call key answer)) (sym h.2) tt
+stands_happens shows w new (event.Change call key) seen fit h old sound begun = subst (Stands new shows (event.Change call key)) (sym h.4) tt
+stands_happens shows w new (event.Report call fault) seen fit h old sound begun = subst (Stands new shows (event.Report call fault)) (sym h.6) tt
+stands_happens shows w new (event.Commit call key) seen fit h old sound begun =
+    stands_ended shows w new call key h.0 h.2 h.4 seen h.1 (part_key w call key h.0 h.1 old) h.3 h.5 (part_begun shows w call key h.0 h.1 begun) sound
+stands_happens shows w new (event.Withdraw call key) seen fit h old sound begun = subst (Stands new shows (event.Withdraw call key)) (sym h.6) tt
+stands_happens shows w new (event.Leave call) seen fit h old sound begun = subst (Stands new shows (event.Leave call)) (sym h.0) tt
+stands_happens shows w new (event.PickUp call key) seen fit h old sound begun =
+    stands_picks shows w new call key h.0 h.2 h.4 seen h.1 h.3 h.5 (each_here (JoinBegun shows) (is_join call key) w.joins h.0 h.1 begun.joins) sound
+stands_happens shows w new (event.Foreign key value) seen fit h old sound begun = subst (Stands new shows (event.Foreign key value)) (sym h.0) tt
+
+-- what doesn't fit is no answer
+stands_unfit : (shows : List (WorldEvent × Shown)) (w : WorldState) (e : WorldEvent) → Stands w shows e shown.Unfit
+stands_unfit shows w (event.Start call key) = tt
+stands_unfit shows w (event.Commit call key) = tt
+stands_unfit shows w (event.PickUp call key) = tt
+stands_unfit shows w e = tt
+
+-- and of any event
+stands_step : (shows : List (WorldEvent × Shown)) (w new : WorldState) (e : WorldEvent) (seen : Shown) → Step w e seen new → IsSoundWorld w → IsSoundWorld new → AllBegun shows w → Stands new shows e seen
+stands_step shows w new e seen (inl (fit, happens)) old sound begun = stands_happens shows w new e seen fit happens old sound begun
+stands_step shows w new e seen (inr (unfit, shows_it, is)) old sound begun = subst (Stands new shows e) (sym shows_it) (stands_unfit shows new e)
+
+-- 6. A run.
+
+-- each answer that was shown is that of its call's step, and the call has begun before it
+abbrev pub AllStand : WorldState → List (WorldEvent × Shown) → Type 0
+AllStand w shows = (at : ℕ) (e : WorldEvent) (seen : Shown) → slice_get shows at ≡ Some (e, seen) → Stands w (take at shows) e seen
+
+-- it goes on so with one event more
+stands_more : (shows : List (WorldEvent × Shown)) (w new : WorldState) (e : WorldEvent) (s : Shown) → IsLater w new → AllStand w shows → Stands new shows e s → AllStand new (shows ++ (e, s) ∷ [])
+stands_more shows w new e s later stand one at x seen is =
+    let now = shows ++ (e, s) ∷ [] in
+    let P : List (WorldEvent × Shown) → Type 0 = λ l. Stands new l x seen in
+    pushed_at shows (e, s) at (x, seen)
+    (λ before.
+    let within = slice_get_within shows at (x, seen) before in
+    subst P (sym (take-append-le at shows ((e, s) ∷ []) (omega arith))) (stands_on w new (take at shows) x seen later (stand at x seen before)))
+    (λ last same.
+    let Q : WorldEvent × Shown → Type 0 = λ p. Stands new shows p.0 p.1 in
+    subst P (sym (ap (λ i. take i now) last ∙ take-append_seam shows ((e, s) ∷ []))) (subst Q same one))
+    is
+
+pub stands_run : Laws → (shows : List (WorldEvent × Shown)) (w new : WorldState) (es : List WorldEvent) (ss : List Shown) → Run w es ss new → IsSoundWorld w → AllBegun shows w → AllStand w shows → AllStand new (shows ++ zip es ss)
+stands_run laws shows w new [] [] run old begun stand =
+    let P : WorldState → Type 0 = λ v. AllStand v (shows ++ []) in
+    let Q : List (WorldEvent × Shown) → Type 0 = λ l. AllStand w l in
+    subst P (sym run) (subst Q (sym (append-nil shows)) stand)
+stands_run laws shows w new [] (s ∷ ss) run old begun stand = absurd run
+stands_run laws shows w new (e ∷ es) [] run old begun stand = absurd run
+stands_run laws shows w new (e ∷ es) (s ∷ ss) (mid, step, rest) old begun stand =
+    let now = shows ++ (e, s) ∷ [] in
+    let sound = sound_step laws w e s mid step old in
+    let more = begun_step now w mid e s (length shows, seam_at shows [] (e, s)) step (all_begun_on shows ((e, s) ∷ []) w begun) in
+    let Q : List (WorldEvent × Shown) → Type 0 = λ l. AllStand new l in
+    subst Q (append_assoc shows ((e, s) ∷ []) (zip es ss))
+    (stands_run laws now mid new es ss rest sound more (stands_more shows w mid e s (later_step w mid e s step) stand (stands_step shows w mid e s step old sound begun)))
+
+-- from the start
+pub stands_opened : Laws → (config : Config) (stored : List (Bytes × Bytes)) (new : WorldState) (es : List WorldEvent) (ss : List Shown) → Run (opened config stored) es ss new → IsSoundWorld (opened config stored) → AllStand new (zip es ss)
+stands_opened laws config stored new es ss run sound = stands_run laws [] (opened config stored) new es ss run sound (begun_opened [] config stored) (λ at e seen is. cc)
