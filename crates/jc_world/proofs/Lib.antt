@@ -14,6 +14,7 @@ pub mod Slotted
 pub mod Lengths
 pub mod Phased
 pub mod Sounding
+pub mod Reopening
 pub mod Runs
 pub mod Loads
 pub mod Homes
