@@ -15,6 +15,7 @@ pub mod Lengths
 pub mod Phased
 pub mod Sounding
 pub mod Reopening
+pub mod ReservedEntries
 pub mod Runs
 pub mod Loads
 pub mod Homes

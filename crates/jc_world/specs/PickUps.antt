@@ -3,7 +3,7 @@
 --     Resolves       what a pick-up shows, by what has become of the load: the answer of the step that committed it, that it was
 --                    withdrawn, or that it is still out
 --     AnswersJoins   after every list of events, each pick-up is so of the load that the call joined
-use Rattle.std.specs.Prelude.{◌≡◌, ◌==◌, ◌&&◌, ℕ, List, zip, slice_get, Bool, true, false, not, Some, Ok}
+use Rattle.std.specs.Prelude.{◌≡◌, ◌==◌, ◌&&◌, ℕ, List, zip, slice_get, Bool, true, false, Some, Ok}
 use Rattle.std.specs.List.{list_any}
 use Rattle.std.specs.Cmp.Lexicographic.{pointwise}
 use Rattle.jc_types.specs.declared.config.Config.{Config}
@@ -44,4 +44,4 @@ AnswersJoins = (config : Config) (stored : List (Bytes × Bytes)) (before betwee
     → Run joined between seen_between new → list_any (is_over call key) (zip between seen_between) ≡ false
     → Step new (event.PickUp call key) s newer
     → (load : Part) × (part_of old load.reservation.caller.call key ≡ Some load) × (asks_loader load.reservation.first ≡ true) × (load.reservation.key ≡ key)
-      × Resolves new (zip between seen_between) load.reservation s
+    × Resolves new (zip between seen_between) load.reservation s
