@@ -16,6 +16,8 @@ pub mod Phased
 pub mod Sounding
 pub mod Reopening
 pub mod ReservedEntries
+pub mod JoinedLoads
+pub mod PickUps
 pub mod Runs
 pub mod Loads
 pub mod Homes

@@ -86,7 +86,7 @@ unmoved_step w new e seen (inr (unfit, shows, is)) none = subst (IsUnmoved w) (s
 -- 2. A reservation that is still out.
 
 -- what holds of each holds of the one that is found
-found_holds : {A : Type 0} (p : A → Bool) (P : A → Type 0) (xs : List A) (x : A) → find p xs ≡ Some x → All P xs → P x
+pub found_holds : {A : Type 0} (p : A → Bool) (P : A → Type 0) (xs : List A) (x : A) → find p xs ≡ Some x → All P xs → P x
 found_holds p P [] x h all = cc
 found_holds p P (y ∷ ys) x h all =
     elim (p y) as (λ b. cond b (Some y) (find p ys) ≡ Some x → P x) [

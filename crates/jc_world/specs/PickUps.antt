@@ -1,8 +1,10 @@
 -- What a call that has joined a load is told, over every run.
---     is_over        an event ended the call's join of a key: a pick-up that did not come too early
---     Resolves       what a pick-up shows, by what has become of the load: the answer of the step that committed it, that it was
---                    withdrawn, or that it is still out
---     AnswersJoins   after every list of events, each pick-up is so of the load that the call joined
+--     ends_join         a pick-up that shows this ended its join: it did not come too early
+--     is_last_pick_up   an event is the pick-up that ended the call's join of a key
+--     Resolves          what a pick-up shows, by what has become of the load: the answer of the step that committed it, that it was
+--                       withdrawn, or that it is still out
+--     AnswersJoins      after every list of events, each pick-up is so of the load that the call joined, which asked the loader for
+--                       the key
 use Rattle.std.specs.Prelude.{◌≡◌, ◌==◌, ◌&&◌, ℕ, List, zip, slice_get, Bool, true, false, Some, Ok}
 use Rattle.std.specs.List.{list_any}
 use Rattle.std.specs.Cmp.Lexicographic.{pointwise}
@@ -21,14 +23,14 @@ use Rattle.jc_world.specs.World.{WorldState, part_of}
 use Rattle.jc_world.specs.Events.{Step, Run}
 use Rattle.jc_world.specs.Headline.{opened}
 
-abbrev pub is_told : Shown → Bool
-is_told (shown.PickedUp x) = true
-is_told shown.Again = true
-is_told seen = false
+abbrev pub ends_join : Shown → Bool
+ends_join (shown.PickedUp x) = true
+ends_join shown.Again = true
+ends_join seen = false
 
-abbrev pub is_over : ℕ → Bytes → WorldEvent × Shown → Bool
-is_over call key (event.PickUp c k, seen) = (c == call) && pointwise ◌==◌ key k && is_told seen
-is_over call key (e, seen) = false
+abbrev pub is_last_pick_up : ℕ → Bytes → WorldEvent × Shown → Bool
+is_last_pick_up call key (event.PickUp c k, seen) = (c == call) && pointwise ◌==◌ key k && ends_join seen
+is_last_pick_up call key (e, seen) = false
 
 -- `shows` are the events since the call joined, each with what it showed, and `load` is the reservation of the load that it joined
 abbrev pub Resolves : WorldState → List (WorldEvent × Shown) → Reservation → Shown → Type 0
@@ -41,7 +43,7 @@ Resolves w shows load seen = ⊥
 abbrev pub AnswersJoins : Type 0
 AnswersJoins = (config : Config) (stored : List (Bytes × Bytes)) (before between : List WorldEvent) (seen_before seen_between : List Shown) (old joined new newer : WorldState) (call : ℕ) (key : Bytes) (s : Shown) → check config ≡ Ok tt
     → Run (opened config stored) before seen_before old → Step old (event.Start call key) shown.Joins joined
-    → Run joined between seen_between new → list_any (is_over call key) (zip between seen_between) ≡ false
+    → Run joined between seen_between new → list_any (is_last_pick_up call key) (zip between seen_between) ≡ false
     → Step new (event.PickUp call key) s newer
     → (load : Part) × (part_of old load.reservation.caller.call key ≡ Some load) × (asks_loader load.reservation.first ≡ true) × (load.reservation.key ≡ key)
     × Resolves new (zip between seen_between) load.reservation s

@@ -9,6 +9,7 @@ pub mod headline;
 mod joining;
 mod machine;
 mod outside;
+pub mod pick_ups;
 pub mod reserved;
 mod slot;
 mod stripes;
