@@ -4,8 +4,13 @@
 --     tells_kept         it does later, if the joiners are the same or more, and the load stays out
 --     same_number        two reservations with one number are one
 --     tells_committed, tells_withdrawn      it does where any load is over
-use Rattle.std.proofs.Common.{◌≡◌, ◌==◌, ◌&&◌, ◌+◌, ℕ, zero, suc, List, [], ◌∷◌, ◌++◌, length, Bool, true, false, cond, Some, IsSomeAnd, find, slice_get, refl, sym, ap, ◌∙◌, subst, arith}
-use Rattle.std.specs.List.{All, AllPairs}
+use Rattle.std.proofs.Common.{◌≡◌, ◌==◌, ◌<◌, ◌&&◌, ◌||◌, ◌+◌, ℕ, zero, suc, List, [], ◌∷◌, ◌++◌, length, Bool, true, false, cond, Some, IsSomeAnd, find, slice_get, refl, sym, ap, ◌∙◌, subst, arith}
+use Rattle.std.specs.List.{All, AllPairs, list_any}
+use Rattle.std.specs.Cmp.Lexicographic.{pointwise}
+use Rattle.std.proofs.Math.Seq.{take-append_seam}
+use Rattle.std.proofs.lemmas.List.{take-append-le}
+use Rattle.std.proofs.lemmas.List.Folds.{list_any-append}
+use Rattle.std.proofs.lemmas.Option.{slice_get_within}
 use Rattle.std.proofs.lemmas.Bool.{eq-eqb, eqb-true, and_parts}
 use Rattle.jc_types.specs.declared.caller.Caller.{Caller}
 use Rattle.jc_model.specs.Cache.{Bytes}
@@ -24,6 +29,10 @@ use Rattle.jc_world.specs.declared.event.Shown.TheVariants as shown
 use Rattle.jc_world.specs.declared.event.Stepped.{Stepped}
 use Rattle.jc_world.specs.declared.event.WorldEvent.{WorldEvent}
 use Rattle.jc_world.specs.declared.event.WorldEvent.TheVariants as event
+use Rattle.jc_world.specs.Events.{is_fit}
+use Rattle.jc_world.specs.PickUps.{ends_load, IsEnd}
+use Rattle.jc_world.proofs.Underway.{same_bytes}
+use Rattle.jc_world.proofs.Callers.{refuted}
 use Rattle.jc_world.proofs.Joiners.{joiner_of, joined_front}
 use Rattle.jc_world.proofs.Reservations.{found_left}
 use Rattle.jc_world.proofs.Entries.{split}
@@ -37,10 +46,9 @@ Shows = List (WorldEvent × Shown)
 -- 1. What the state of a joiner tells.
 
 abbrev pub Tells : ℕ → Shows → State → Reservation → JoinState → Type 0
-Tells number shows s r Waiting = IsOut s r
-Tells number shows s r (Answered place shared) =
-    (at : ℕ) × (step : Stepped) × (slice_get shows at ≡ Some (event.Commit r.caller.call r.key, shown.Stepped step)) × (step.stripe ≡ number) × (step.place ≡ shared)
-Tells number shows s r Again = (at : ℕ) × (slice_get shows at ≡ Some (event.Withdraw r.caller.call r.key, shown.Withdrawn))
+Tells number shows s r Waiting = IsOut s r × (list_any (ends_load r) shows ≡ false)
+Tells number shows s r (Answered place shared) = (at : ℕ) × (step : Stepped) × IsEnd shows r at (event.Commit r.caller.call r.key) (shown.Stepped step) × (step.stripe ≡ number) × (step.place ≡ shared)
+Tells number shows s r Again = (at : ℕ) × IsEnd shows r at (event.Withdraw r.caller.call r.key) shown.Withdrawn
 
 -- of a joiner of this load
 abbrev pub TellsOf : ℕ → Shows → State → Reservation → Joiner → Type 0
@@ -62,26 +70,42 @@ there_last : {A : Type 0} (xs : List A) (x : A) → slice_get (xs ++ x ∷ []) (
 there_last [] x = refl
 there_last (z ∷ zs) x = there_last zs x
 
+-- the end of a load is its end later
+end_more : (shows more : Shows) (r : Reservation) (at : ℕ) (e : WorldEvent) (seen : Shown) → IsEnd shows r at e seen → IsEnd (shows ++ more) r at e seen
+end_more shows more r at e seen h =
+    let within : at < length shows = slice_get_within shows at (e, seen) h.there in
+    record { there = there_more shows more at (e, seen) h.there; first = ap (list_any (ends_load r)) (take-append-le at shows more (omega arith)) ∙ h.first }
+
+-- an event is the end of a load that was out before it
+end_last : (shows : Shows) (r : Reservation) (e : WorldEvent) (seen : Shown) → list_any (ends_load r) shows ≡ false → IsEnd (shows ++ (e, seen) ∷ []) r (length shows) e seen
+end_last shows r e seen none = record { there = there_last shows (e, seen); first = ap (list_any (ends_load r)) (take-append_seam shows ((e, seen) ∷ [])) ∙ none }
+
+-- an event of another key ends no load of this one
+pub none_of_key : (r : Reservation) (call : ℕ) (key : Bytes) (seen : Shown) → (r.key ≡ key → ⊥) → ((is_fit seen && (call == r.caller.call)) && pointwise ◌==◌ r.key key) ≡ false
+none_of_key r call key seen apart = refuted _ (λ t. apart (same_bytes r.key key (and_parts (is_fit seen && (call == r.caller.call)) (pointwise ◌==◌ r.key key) t).1))
+
 -- it tells the same later, if a load that is waited for is still out
-pub tells_on : (number : ℕ) (shows more : Shows) (s t : State) (r : Reservation) (state : JoinState) → (is_waiting state ≡ true → IsOut s r → IsOut t r) → Tells number shows s r state → Tells number (shows ++ more) t r state
-tells_on number shows more s t r Waiting out h = out refl h
-tells_on number shows more s t r (Answered place shared) out (at, step, there, stripe, same) = (at, step, there_more shows more at _ there, stripe, same)
-tells_on number shows more s t r Again out (at, there) = (at, there_more shows more at _ there)
+pub tells_on : (number : ℕ) (shows more : Shows) (s t : State) (r : Reservation) (state : JoinState) → (is_waiting state ≡ true → IsOut s r → IsOut t r × (list_any (ends_load r) more ≡ false)) → Tells number shows s r state
+    → Tells number (shows ++ more) t r state
+tells_on number shows more s t r Waiting on (out, none) = let k = on refl out in (k.0, list_any-append (ends_load r) shows more ∙ (λ i. none i || k.1 i))
+tells_on number shows more s t r (Answered place shared) on (at, step, end, stripe, same) = (at, step, end_more shows more r at _ _ end, stripe, same)
+tells_on number shows more s t r Again on (at, end) = (at, end_more shows more r at _ _ end)
 
 -- a joiner that waits tells that the load is out
-tells_out : (number : ℕ) (shows : Shows) (s : State) (r : Reservation) (state : JoinState) → is_waiting state ≡ true → Tells number shows s r state → IsOut s r
+tells_out : (number : ℕ) (shows : Shows) (s : State) (r : Reservation) (state : JoinState) → is_waiting state ≡ true → Tells number shows s r state → IsOut s r × (list_any (ends_load r) shows ≡ false)
 tells_out number shows s r Waiting waits h = h
 tells_out number shows s r (Answered place shared) waits h = cc
 tells_out number shows s r Again waits h = cc
 
 -- the joiners are the same, or there are more behind them
-pub tells_kept : (number : ℕ) (shows more : Shows) (join : JoinClaim) (r : Reservation) (s t : State) (behind : List Joiner) → t.joiners ≡ s.joiners ++ behind → (IsOut s r → IsOut t r) → TellsIn number shows join r s → TellsIn number (shows ++ more) join r t
-tells_kept number shows more join r s t behind joiners out h =
+pub tells_kept : (number : ℕ) (shows more : Shows) (join : JoinClaim) (r : Reservation) (s t : State) (behind : List Joiner) → t.joiners ≡ s.joiners ++ behind → list_any (ends_load r) more ≡ false → (IsOut s r → IsOut t r)
+    → TellsIn number shows join r s → TellsIn number (shows ++ more) join r t
+tells_kept number shows more join r s t behind joiners none out h =
     let Q : Joiner → Type 0 = TellsOf number (shows ++ more) t r in
     let J : List Joiner → Type 0 = λ js. IsSomeAnd (joiner_of join.caller join.key js) Q in
     subst J (sym joiners)
     (joined_front Q (belongs_to join.caller join.key) s.joiners behind
-    (some_map (joiner_of join.caller join.key s.joiners) (TellsOf number shows s r) Q (λ j k. (k.0, tells_on number shows more s t r j.state (λ waits. out) k.1)) h))
+    (some_map (joiner_of join.caller join.key s.joiners) (TellsOf number shows s r) Q (λ j k. (k.0, tells_on number shows more s t r j.state (λ waits o. (out o, none)) k.1)) h))
 
 -- 3. A load is over.
 
@@ -139,15 +163,17 @@ same_number p q (x ∷ xs) r s once f g same =
       ] g
     ] f
 
--- a reservation of another number is still out
-out_past : (p r : Reservation) (rs : List Reservation) → find (is_key p.key) rs ≡ Some p → find (is_key r.key) rs ≡ Some r → (r.number == p.number) ≡ false → find (is_key r.key) (without_key p.key rs) ≡ Some r
-out_past p r rs over out apart =
-    split r.key p.key (λ b. find (is_key r.key) (without_key p.key rs) ≡ Some r)
-    (λ same.
+-- two that are out by other numbers are of other keys
+keys_apart : (p r : Reservation) (rs : List Reservation) → find (is_key p.key) rs ≡ Some p → find (is_key r.key) rs ≡ Some r → (r.number == p.number) ≡ false → r.key ≡ p.key → ⊥
+keys_apart p r rs over out apart same =
     let e : Some r ≡ Some p = sym out ∙ ap (λ k. find (is_key k) rs) same ∙ over in
     let one : r ≡ p = cc in
-    absurd (let t : true ≡ false = sym (eq-eqb r.number p.number (ap (λ (x : Reservation). x.number) one)) ∙ apart in cc))
-    (λ other. found_left r.key p.key rs other ∙ out)
+    let t : true ≡ false = sym (eq-eqb r.number p.number (ap (λ (x : Reservation). x.number) one)) ∙ apart in
+    cc
+
+-- so the other is still out
+out_past : (p r : Reservation) (rs : List Reservation) → find (is_key r.key) rs ≡ Some r → (r.key ≡ p.key → ⊥) → find (is_key r.key) (without_key p.key rs) ≡ Some r
+out_past p r rs out apart = split r.key p.key (λ b. find (is_key r.key) (without_key p.key rs) ≡ Some r) (λ same. absurd (apart same)) (λ other. found_left r.key p.key rs other ∙ out)
 
 -- the first of two tests fails, where both don't hold and the second does
 first_fails : (a b : Bool) → (a && b) ≡ false → b ≡ true → a ≡ false
@@ -155,19 +181,23 @@ first_fails true b h t = sym t ∙ h
 first_fails false b h t = refl
 
 -- a joiner that didn't wait for the load that is over tells what it told
-tells_past : (number : ℕ) (shows more : Shows) (p r : Reservation) (from to : State) (j : Joiner) → IsOut from p → to.reservations ≡ without_key p.key from.reservations → waits_for p.number j ≡ false
-    → TellsOf number shows from r j → TellsOf number (shows ++ more) to r j
-tells_past number shows more p r from to j over left other (load, told) = (
+tells_past : (number : ℕ) (shows more : Shows) (p r : Reservation) (from to : State) (j : Joiner) → IsOut from p → to.reservations ≡ without_key p.key from.reservations → ((r.key ≡ p.key → ⊥) → list_any (ends_load r) more ≡ false)
+    → waits_for p.number j ≡ false → TellsOf number shows from r j → TellsOf number (shows ++ more) to r j
+tells_past number shows more p r from to j over left none other (load, told) = (
   load,
   tells_on number shows more from to r j.state
-      (λ waits out. ap (find (is_key r.key)) left ∙ out_past p r from.reservations over out (ap (λ n. n == p.number) (sym load) ∙ first_fails (j.load == p.number) (is_waiting j.state) other waits)) told,
+      (λ waits out.
+      let number_apart : (r.number == p.number) ≡ false = ap (λ n. n == p.number) (sym load) ∙ first_fails (j.load == p.number) (is_waiting j.state) other waits in
+      let apart = keys_apart p r from.reservations over out number_apart in
+      (ap (find (is_key r.key)) left ∙ out_past p r from.reservations out apart, none apart)) told,
 )
 
--- one that waited for it has joined that load
-load_over : (number : ℕ) (shows : Shows) (p r : Reservation) (from : State) (j : Joiner) → IsReached from → IsOut from p → waits_for p.number j ≡ true → TellsOf number shows from r j → p ≡ r
+-- one that waited for it has joined that load, which was out before
+load_over : (number : ℕ) (shows : Shows) (p r : Reservation) (from : State) (j : Joiner) → IsReached from → IsOut from p → waits_for p.number j ≡ true → TellsOf number shows from r j → (p ≡ r) × (list_any (ends_load r) shows ≡ false)
 load_over number shows p r from j reached over waits (load, told) =
     let parts = and_parts (j.load == p.number) (is_waiting j.state) waits in
-    same_number (is_key p.key) (is_key r.key) from.reservations p r reached.numbered.numbers over (tells_out number shows from r j.state parts.1 told) (sym (eqb-true j.load p.number parts.0) ∙ load)
+    let out = tells_out number shows from r j.state parts.1 told in
+    (same_number (is_key p.key) (is_key r.key) from.reservations p r reached.numbered.numbers over out.0 (sym (eqb-true j.load p.number parts.0) ∙ load), out.1)
 
 -- a load was committed
 pub tells_committed : (number call : ℕ) (key : Bytes) (shows : Shows) (join : JoinClaim) (p r : Reservation) (from to : State) (seen : Stepped) → IsReached from → IsOut from p → p.caller.call ≡ call → p.key ≡ key → (r.key ≡ key → seen.stripe ≡ number)
@@ -181,10 +211,11 @@ tells_committed number call key shows join p r from to seen reached over call_is
     (resolved_by (TellsOf number shows from r) Q p.number seen.place (seen.place + 1) join.caller join.key from.joiners
     (λ place j waits k.
     let one = load_over number shows p r from j reached over waits k in
-    let call_of : call ≡ r.caller.call = sym call_is ∙ ap (λ (x : Reservation). x.caller.call) one in
-    let key_of : key ≡ r.key = sym key_is ∙ ap (λ (x : Reservation). x.key) one in
-    (k.0, (length shows, seen, there_last shows (event.Commit call key, shown.Stepped seen) ∙ (λ i. Some (event.Commit (call_of i) (key_of i), shown.Stepped seen)), stripe_is (sym key_of), refl)))
-    (λ j other k. tells_past number shows more p r from to j over left other k) h)
+    let call_of : call ≡ r.caller.call = sym call_is ∙ ap (λ (x : Reservation). x.caller.call) one.0 in
+    let key_of : key ≡ r.key = sym key_is ∙ ap (λ (x : Reservation). x.key) one.0 in
+    let E : WorldEvent → Type 0 = λ e. IsEnd (shows ++ more) r (length shows) e (shown.Stepped seen) in
+    (k.0, (length shows, seen, subst E (λ i. event.Commit (call_of i) (key_of i)) (end_last shows r (event.Commit call key) (shown.Stepped seen) one.1), stripe_is (sym key_of), refl)))
+    (λ j other k. tells_past number shows more p r from to j over left (λ apart. ap (λ b. b || false) (none_of_key r call key (shown.Stepped seen) (λ same. apart (same ∙ sym key_is)))) other k) h)
 
 -- a load was withdrawn
 pub tells_withdrawn : (number call : ℕ) (key : Bytes) (shows : Shows) (join : JoinClaim) (p r : Reservation) (from to : State) → IsReached from → IsOut from p → p.caller.call ≡ call → p.key ≡ key
@@ -198,7 +229,8 @@ tells_withdrawn number call key shows join p r from to reached over call_is key_
     (dissolved_by (TellsOf number shows from r) Q p.number join.caller join.key from.joiners
     (λ j waits k.
     let one = load_over number shows p r from j reached over waits k in
-    let call_of : call ≡ r.caller.call = sym call_is ∙ ap (λ (x : Reservation). x.caller.call) one in
-    let key_of : key ≡ r.key = sym key_is ∙ ap (λ (x : Reservation). x.key) one in
-    (k.0, (length shows, there_last shows (event.Withdraw call key, shown.Withdrawn) ∙ (λ i. Some (event.Withdraw (call_of i) (key_of i), shown.Withdrawn)))))
-    (λ j other k. tells_past number shows more p r from to j over left other k) h)
+    let call_of : call ≡ r.caller.call = sym call_is ∙ ap (λ (x : Reservation). x.caller.call) one.0 in
+    let key_of : key ≡ r.key = sym key_is ∙ ap (λ (x : Reservation). x.key) one.0 in
+    let E : WorldEvent → Type 0 = λ e. IsEnd (shows ++ more) r (length shows) e shown.Withdrawn in
+    (k.0, (length shows, subst E (λ i. event.Withdraw (call_of i) (key_of i)) (end_last shows r (event.Withdraw call key) shown.Withdrawn one.1))))
+    (λ j other k. tells_past number shows more p r from to j over left (λ apart. ap (λ b. b || false) (none_of_key r call key shown.Withdrawn (λ same. apart (same ∙ sym key_is)))) other k) h)

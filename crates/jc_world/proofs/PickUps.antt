@@ -36,10 +36,10 @@ use Rattle.jc_world.specs.declared.event.WorldEvent.{WorldEvent}
 use Rattle.jc_world.specs.declared.event.WorldEvent.TheVariants as event
 use Rattle.jc_world.specs.World.{WorldState, home, stripe_for, under, of_call, part_of, is_join, join_of, is_joined, unjoined}
 use Rattle.jc_world.specs.Events.{fits, is_free, may_start, with_stripe, with_join, Starts, Ends, Picks, Happens, Step, Run}
-use Rattle.jc_world.specs.PickUps.{ends_join, is_last_pick_up, Resolves}
+use Rattle.jc_world.specs.PickUps.{ends_join, is_last_pick_up, ends_load, Resolves}
 use Rattle.jc_world.specs.Sound.{IsHeld, IsSoundWorld}
 use Rattle.jc_world.proofs.Numbered.{some_of}
-use Rattle.jc_world.proofs.Places.{at_stripe, stripe_put}
+use Rattle.jc_world.proofs.Places.{at_stripe_apart, stripe_put}
 use Rattle.jc_world.proofs.Shares.{is_some_and, found_test}
 use Rattle.jc_world.proofs.Underway.{found_number, of_call-at, owned_found, same_bytes}
 use Rattle.jc_world.proofs.Joiners.{joiner_of, find_kept, joined_last, join_is}
@@ -47,7 +47,7 @@ use Rattle.jc_world.proofs.Reservations.{found_more, found_last}
 use Rattle.jc_world.proofs.Kept.{some_map}
 use Rattle.jc_world.proofs.Callers.{MayStart, may_start_at, refuted, part_key}
 use Rattle.jc_world.proofs.Joins.{no_joiner}
-use Rattle.jc_world.proofs.JoinedLoads.{Shows, Tells, TellsOf, TellsIn, tells_on, tells_kept, tells_committed, tells_withdrawn}
+use Rattle.jc_world.proofs.JoinedLoads.{Shows, Tells, TellsOf, TellsIn, none_of_key, tells_on, tells_kept, tells_committed, tells_withdrawn}
 use Rattle.jc_world.proofs.Sounding.{Laws, sound_step, sound_run}
 
 -- 1. From world to world.
@@ -59,9 +59,9 @@ pub record Follows (w : WorldState) (shows : Shows) (join : JoinClaim) (r : Rese
 
 -- the stripe of a key is another, and the join is still there
 follows_set : (w n : WorldState) (shows more : Shows) (join : JoinClaim) (r : Reservation) (key : Bytes) (from to : State) → Follows w shows join r → n.config ≡ w.config → n.stripes ≡ slice_set w.stripes (home w key) to
-    → stripe_for w key ≡ Some from → join_of n join.caller.call join.key ≡ Some join
+    → stripe_for w key ≡ Some from → join_of n join.caller.call join.key ≡ Some join → ((home w key ≡ home w join.key → ⊥) → list_any (ends_load r) more ≡ false)
     → (TellsIn (home w join.key) shows join r from → TellsIn (home w join.key) (shows ++ more) join r to) → Follows n (shows ++ more) join r
-follows_set w n shows more join r key from to h config stripes there joined phase =
+follows_set w n shows more join r key from to h config stripes there joined none phase =
     let m = home w join.key in
     let C : Config → Type 0 = λ c. IsSomeAnd (slice_get n.stripes (stripe_of join.key c.stripes)) (TellsIn (stripe_of join.key c.stripes) (shows ++ more) join r) in
     let S : List State → Type 0 = λ ss. IsSomeAnd (slice_get ss m) (TellsIn m (shows ++ more) join r) in
@@ -69,14 +69,15 @@ follows_set w n shows more join r key from to h config stripes there joined phas
       key_is = h.key_is;
       join_is = joined;
       joiner = subst C (sym config) (subst S (sym stripes)
-          (at_stripe w.stripes (home w key) m from to (λ o x. IsSomeAnd o (TellsIn m shows join r) → IsSomeAnd x (TellsIn m (shows ++ more) join r)) there phase
-          (some_map (slice_get w.stripes m) (TellsIn m shows join r) (TellsIn m (shows ++ more) join r) (λ s t. tells_kept m shows more join r s s [] (sym (append-nil s.joiners)) (λ o. o) t))
+          (at_stripe_apart w.stripes (home w key) m from to (λ o x. IsSomeAnd o (TellsIn m shows join r) → IsSomeAnd x (TellsIn m (shows ++ more) join r)) there (λ same. phase)
+          (λ apart. some_map (slice_get w.stripes m) (TellsIn m shows join r) (TellsIn m (shows ++ more) join r) (λ s t. tells_kept m shows more join r s s [] (sym (append-nil s.joiners)) (none apart) (λ o. o) t))
           h.joiner));
     }
 
 -- the stripes and the joins are the same
-follows_same : (w n : WorldState) (shows more : Shows) (join : JoinClaim) (r : Reservation) → Follows w shows join r → n.config ≡ w.config → n.stripes ≡ w.stripes → n.joins ≡ w.joins → Follows n (shows ++ more) join r
-follows_same w n shows more join r h config stripes joins =
+follows_same : (w n : WorldState) (shows more : Shows) (join : JoinClaim) (r : Reservation) → Follows w shows join r → n.config ≡ w.config → n.stripes ≡ w.stripes → n.joins ≡ w.joins → list_any (ends_load r) more ≡ false
+    → Follows n (shows ++ more) join r
+follows_same w n shows more join r h config stripes joins none =
     let m = home w join.key in
     let C : Config → Type 0 = λ c. IsSomeAnd (slice_get n.stripes (stripe_of join.key c.stripes)) (TellsIn (stripe_of join.key c.stripes) (shows ++ more) join r) in
     let S : List State → Type 0 = λ ss. IsSomeAnd (slice_get ss m) (TellsIn m (shows ++ more) join r) in
@@ -84,40 +85,44 @@ follows_same w n shows more join r h config stripes joins =
       key_is = h.key_is;
       join_is = ap (find (is_join join.caller.call join.key)) joins ∙ h.join_is;
       joiner = subst C (sym config) (subst S (sym stripes)
-          (some_map (slice_get w.stripes m) (TellsIn m shows join r) (TellsIn m (shows ++ more) join r) (λ s t. tells_kept m shows more join r s s [] (sym (append-nil s.joiners)) (λ o. o) t) h.joiner));
+          (some_map (slice_get w.stripes m) (TellsIn m shows join r) (TellsIn m (shows ++ more) join r) (λ s t. tells_kept m shows more join r s s [] (sym (append-nil s.joiners)) none (λ o. o) t) h.joiner));
     }
 
 -- in a world that is another only beside them
-follows_beside : (w n m : WorldState) (shows more : Shows) (join : JoinClaim) (r : Reservation) → Follows w shows join r → n ≡ m → m.config ≡ w.config → m.stripes ≡ w.stripes → m.joins ≡ w.joins → Follows n (shows ++ more) join r
-follows_beside w n m shows more join r h is config stripes joins = let P : WorldState → Type 0 = λ x. Follows x (shows ++ more) join r in subst P (sym is) (follows_same w m shows more join r h config stripes joins)
+follows_beside : (w n m : WorldState) (shows more : Shows) (join : JoinClaim) (r : Reservation) → Follows w shows join r → n ≡ m → m.config ≡ w.config → m.stripes ≡ w.stripes → m.joins ≡ w.joins → list_any (ends_load r) more ≡ false
+    → Follows n (shows ++ more) join r
+follows_beside w n m shows more join r h is config stripes joins none =
+    let P : WorldState → Type 0 = λ x. Follows x (shows ++ more) join r in
+    subst P (sym is) (follows_same w m shows more join r h config stripes joins none)
 
 -- the first phase of a call
-follows_started : (w new : WorldState) (u : Under) (from to : State) (seen : Shown) (shows more : Shows) (join : JoinClaim) (r : Reservation) → stripe_for w u.command.key ≡ Some from → Starts w u from to seen new → Follows w shows join r → Follows new (shows ++ more) join r
-follows_started w new u from to (shown.Refused refusal) shows more join r there h f = follows_beside w new _ shows more join r f h.1 refl refl refl
-follows_started w new u from to (shown.Stepped seen) shows more join r there h f =
+follows_started : (w new : WorldState) (u : Under) (from to : State) (seen : Shown) (shows more : Shows) (join : JoinClaim) (r : Reservation) → stripe_for w u.command.key ≡ Some from → Starts w u from to seen new → list_any (ends_load r) more ≡ false
+    → Follows w shows join r → Follows new (shows ++ more) join r
+follows_started w new u from to (shown.Refused refusal) shows more join r there h none f = follows_beside w new _ shows more join r f h.1 refl refl refl none
+follows_started w new u from to (shown.Stepped seen) shows more join r there h none f =
     let after = h.0.2.after in
     follows_set w new shows more join r u.command.key from to f (ap (λ (x : WorldState). x.config) h.2) (ap (λ (x : WorldState). x.stripes) h.2) there
-    (ap (λ (x : WorldState). join_of x join.caller.call join.key) h.2 ∙ f.join_is)
-    (tells_kept (home w join.key) shows more join r from to [] (ap (λ (s : State). s.joiners) after ∙ sym (append-nil from.joiners)) (λ out. ap (λ (s : State). reservation_of s r.key) after ∙ out))
-follows_started w new u from to shown.Loads shows more join r there h f =
+    (ap (λ (x : WorldState). join_of x join.caller.call join.key) h.2 ∙ f.join_is) (λ apart. none)
+    (tells_kept (home w join.key) shows more join r from to [] (ap (λ (s : State). s.joiners) after ∙ sym (append-nil from.joiners)) none (λ out. ap (λ (s : State). reservation_of s r.key) after ∙ out))
+follows_started w new u from to shown.Loads shows more join r there h none f =
     let after = h.1.4 in
     follows_set w new shows more join r u.command.key from to f (ap (λ (x : WorldState). x.config) h.2) (ap (λ (x : WorldState). x.stripes) h.2) there
-    (ap (λ (x : WorldState). join_of x join.caller.call join.key) h.2 ∙ f.join_is)
-    (tells_kept (home w join.key) shows more join r from to [] (ap (λ (s : State). s.joiners) after ∙ sym (append-nil from.joiners))
+    (ap (λ (x : WorldState). join_of x join.caller.call join.key) h.2 ∙ f.join_is) (λ apart. none)
+    (tells_kept (home w join.key) shows more join r from to [] (ap (λ (s : State). s.joiners) after ∙ sym (append-nil from.joiners)) none
     (λ out. ap (λ (s : State). reservation_of s r.key) after ∙ found_more (is_key r.key) from.reservations (h.0.reservation ∷ []) r out))
-follows_started w new u from to (shown.Asks change) shows more join r there h f =
+follows_started w new u from to (shown.Asks change) shows more join r there h none f =
     let after = h.1.4 in
     follows_set w new shows more join r u.command.key from to f (ap (λ (x : WorldState). x.config) h.3) (ap (λ (x : WorldState). x.stripes) h.3) there
-    (ap (λ (x : WorldState). join_of x join.caller.call join.key) h.3 ∙ f.join_is)
-    (tells_kept (home w join.key) shows more join r from to [] (ap (λ (s : State). s.joiners) after ∙ sym (append-nil from.joiners))
+    (ap (λ (x : WorldState). join_of x join.caller.call join.key) h.3 ∙ f.join_is) (λ apart. none)
+    (tells_kept (home w join.key) shows more join r from to [] (ap (λ (s : State). s.joiners) after ∙ sym (append-nil from.joiners)) none
     (λ out. ap (λ (s : State). reservation_of s r.key) after ∙ found_more (is_key r.key) from.reservations (h.0.reservation ∷ []) r out))
-follows_started w new u from to shown.Joins shows more join r there h f =
+follows_started w new u from to shown.Joins shows more join r there h none f =
     let after = h.1.3 in
     let other = h.0 in
     follows_set w new shows more join r u.command.key from to f (ap (λ (x : WorldState). x.config) h.2) (ap (λ (x : WorldState). x.stripes) h.2) there
-    (ap (λ (x : WorldState). join_of x join.caller.call join.key) h.2 ∙ found_more (is_join join.caller.call join.key) w.joins (other ∷ []) join f.join_is)
-    (tells_kept (home w join.key) shows more join r from to (record { caller = other.caller; key = other.key; load = other.load; state = Waiting } ∷ []) (ap (λ (s : State). s.joiners) after) (λ out. ap (λ (s : State). reservation_of s r.key) after ∙ out))
-follows_started w new u from to seen shows more join r there h f = absurd h
+    (ap (λ (x : WorldState). join_of x join.caller.call join.key) h.2 ∙ found_more (is_join join.caller.call join.key) w.joins (other ∷ []) join f.join_is) (λ apart. none)
+    (tells_kept (home w join.key) shows more join r from to (record { caller = other.caller; key = other.key; load = other.load; state = Waiting } ∷ []) (ap (λ (s : State). s.joiners) after) none (λ out. ap (λ (s : State). reservation_of s r.key) after ∙ out))
+follows_started w new u from to seen shows more join r there h none f = absurd h
 
 -- the last phase of a call
 follows_ended : (w new : WorldState) (call : ℕ) (key : Bytes) (part : Part) (from to : State) (seen : Shown) (shows : Shows) (join : JoinClaim) (r : Reservation) → part_of w call key ≡ Some part → stripe_for w key ≡ Some from
@@ -127,6 +132,7 @@ follows_ended w new call key part from to (shown.Stepped seen) shows join r is t
     let after = h.0.1.after in
     follows_set w new shows ((event.Commit call key, shown.Stepped seen) ∷ []) join r key from to f (ap (λ (x : WorldState). x.config) h.2) (ap (λ (x : WorldState). x.stripes) h.2) there
     (ap (λ (x : WorldState). join_of x join.caller.call join.key) h.2 ∙ f.join_is)
+    (λ apart. ap (λ b. b || false) (none_of_key r call key (shown.Stepped seen) (λ same. apart (ap (home w) (sym same ∙ f.key_is)))))
     (tells_committed (home w join.key) call key shows join p r from to seen (old.shape.each (home w key) from there).reached h.0.0
     (of_call-at call (get w.parts key) part is).1 (part_key w call key part is old) (λ same. h.1 ∙ ap (home w) (sym same ∙ f.key_is))
     (ap (λ (s : State). s.reservations) after) (ap (λ (s : State). s.joiners) after))
@@ -134,8 +140,9 @@ follows_ended w new call key part from to seen shows join r is there h old f = a
 
 -- a pick-up of another join leaves this one, and its joiner
 follows_others : (w new : WorldState) (call : ℕ) (key : Bytes) (other : JoinClaim) (from to : State) (shows more : Shows) (join : JoinClaim) (r : Reservation) → join_of w call key ≡ Some other → stripe_for w key ≡ Some from → to ≡ without_joiner from other
-    → (call ≡ join.caller.call → key ≡ join.key → ⊥) → new.config ≡ w.config → new.stripes ≡ slice_set w.stripes (home w key) to → new.joins ≡ unjoined call key w.joins → Follows w shows join r → Follows new (shows ++ more) join r
-follows_others w new call key other from to shows more join r found there after apart config stripes joins f =
+    → (call ≡ join.caller.call → key ≡ join.key → ⊥) → new.config ≡ w.config → new.stripes ≡ slice_set w.stripes (home w key) to → new.joins ≡ unjoined call key w.joins
+    → list_any (ends_load r) more ≡ false → Follows w shows join r → Follows new (shows ++ more) join r
+follows_others w new call key other from to shows more join r found there after apart config stripes joins none f =
     let is = join_is call key other (found_test (is_join call key) w.joins other found) in
     let left : join_of new join.caller.call join.key ≡ Some join =
     ap (find (is_join join.caller.call join.key)) joins
@@ -153,11 +160,11 @@ follows_others w new call key other from to shows more join r found there after 
     let b = belongs_to_same other.caller other.key x its in
     apart (sym is.0 ∙ ap (λ (c : Caller). c.call) (sym b.0 ∙ a.0)) (sym is.1 ∙ sym b.1 ∙ a.1))))
     in
-    follows_set w new shows more join r key from to f config stripes there left
+    follows_set w new shows more join r key from to f config stripes there left (λ other_home. none)
     (λ t. let J : Option Joiner → Type 0 = λ o. IsSomeAnd o Q in
     subst J (sym kept)
     (some_map (joiner_of join.caller join.key from.joiners) (TellsOf (home w join.key) shows from r) Q
-    (λ j k. (k.0, tells_on (home w join.key) shows more from to r j.state (λ waits out. ap (λ (s : State). reservation_of s r.key) after ∙ out) k.1)) t))
+    (λ j k. (k.0, tells_on (home w join.key) shows more from to r j.state (λ waits out. (ap (λ (s : State). reservation_of s r.key) after ∙ out, none)) k.1)) t))
 
 -- a pick-up that ends a join, and isn't the last of this one, is of another
 of_another : (call mine : ℕ) (key own : Bytes) (seen : Shown) → is_last_pick_up mine own (event.PickUp call key, seen) ≡ false → ends_join seen ≡ true → call ≡ mine → key ≡ own → ⊥
@@ -169,25 +176,26 @@ of_another call mine key own seen other ends same_call same_key =
 
 -- a pick-up
 follows_picks : (w new : WorldState) (call : ℕ) (key : Bytes) (other : JoinClaim) (from to : State) (seen : Shown) (shows more : Shows) (join : JoinClaim) (r : Reservation) → join_of w call key ≡ Some other → stripe_for w key ≡ Some from
-    → Picks w call key other from to seen new → is_last_pick_up join.caller.call join.key (event.PickUp call key, seen) ≡ false → Follows w shows join r → Follows new (shows ++ more) join r
-follows_picks w new call key other from to (shown.PickedUp seen) shows more join r found there h last f =
+    → Picks w call key other from to seen new → is_last_pick_up join.caller.call join.key (event.PickUp call key, seen) ≡ false → list_any (ends_load r) more ≡ false
+    → Follows w shows join r → Follows new (shows ++ more) join r
+follows_picks w new call key other from to (shown.PickedUp seen) shows more join r found there h last none f =
     follows_others w new call key other from to shows more join r found there h.0.3 (of_another call join.caller.call key join.key (shown.PickedUp seen) last refl)
-    (ap (λ (x : WorldState). x.config) h.2) (ap (λ (x : WorldState). x.stripes) h.2) (ap (λ (x : WorldState). x.joins) h.2) f
-follows_picks w new call key other from to shown.Again shows more join r found there h last f =
+    (ap (λ (x : WorldState). x.config) h.2) (ap (λ (x : WorldState). x.stripes) h.2) (ap (λ (x : WorldState). x.joins) h.2) none f
+follows_picks w new call key other from to shown.Again shows more join r found there h last none f =
     follows_others w new call key other from to shows more join r found there h.0.2 (of_another call join.caller.call key join.key shown.Again last refl)
-    (ap (λ (x : WorldState). x.config) h.1) (ap (λ (x : WorldState). x.stripes) h.1) (ap (λ (x : WorldState). x.joins) h.1) f
-follows_picks w new call key other from to shown.Waits shows more join r found there h last f = follows_beside w new w shows more join r f h.1 refl refl refl
-follows_picks w new call key other from to seen shows more join r found there h last f = absurd h
+    (ap (λ (x : WorldState). x.config) h.1) (ap (λ (x : WorldState). x.stripes) h.1) (ap (λ (x : WorldState). x.joins) h.1) none f
+follows_picks w new call key other from to shown.Waits shows more join r found there h last none f = follows_beside w new w shows more join r f h.1 refl refl refl none
+follows_picks w new call key other from to seen shows more join r found there h last none f = absurd h
 
 -- by the kind of the event
 follows_happens : (w new : WorldState) (e : WorldEvent) (seen : Shown) (shows : Shows) (join : JoinClaim) (r : Reservation) → Happens w e seen new → is_last_pick_up join.caller.call join.key (e, seen) ≡ false → IsSoundWorld w → Follows w shows join r
     → Follows new (shows ++ (e, seen) ∷ []) join r
-follows_happens w new (event.Call call session command) seen shows join r h last old f = follows_beside w new _ shows _ join r f h.1 refl refl refl
-follows_happens w new (event.Start call key) seen shows join r h last old f = follows_started w new h.0 h.2 h.4 seen shows _ join r h.3 h.5 f
-follows_happens w new (event.Read call key) seen shows join r h last old f = follows_beside w new _ shows _ join r f h.3 refl refl refl
-follows_happens w new (event.Say call key answer) seen shows join r h last old f = follows_beside w new _ shows _ join r f h.3 refl refl refl
-follows_happens w new (event.Change call key) seen shows join r h last old f = follows_beside w new _ shows _ join r f h.5 refl refl refl
-follows_happens w new (event.Report call fault) seen shows join r h last old f = follows_beside w new _ shows _ join r f h.7 refl refl refl
+follows_happens w new (event.Call call session command) seen shows join r h last old f = follows_beside w new _ shows _ join r f h.1 refl refl refl refl
+follows_happens w new (event.Start call key) seen shows join r h last old f = follows_started w new h.0 h.2 h.4 seen shows _ join r h.3 h.5 refl f
+follows_happens w new (event.Read call key) seen shows join r h last old f = follows_beside w new _ shows _ join r f h.3 refl refl refl refl
+follows_happens w new (event.Say call key answer) seen shows join r h last old f = follows_beside w new _ shows _ join r f h.3 refl refl refl refl
+follows_happens w new (event.Change call key) seen shows join r h last old f = follows_beside w new _ shows _ join r f h.5 refl refl refl refl
+follows_happens w new (event.Report call fault) seen shows join r h last old f = follows_beside w new _ shows _ join r f h.7 refl refl refl refl
 follows_happens w new (event.Commit call key) seen shows join r h last old f = follows_ended w new call key h.0 h.2 h.4 seen shows join r h.1 h.3 h.5 old f
 follows_happens w new (event.Withdraw call key) seen shows join r h last old f =
     let p = h.0.reservation in
@@ -195,17 +203,24 @@ follows_happens w new (event.Withdraw call key) seen shows join r h last old f =
     subst S (sym h.6)
     (follows_set w new shows ((event.Withdraw call key, shown.Withdrawn) ∷ []) join r key h.2 h.4 f (ap (λ (x : WorldState). x.config) h.7) (ap (λ (x : WorldState). x.stripes) h.7) h.3
     (ap (λ (x : WorldState). join_of x join.caller.call join.key) h.7 ∙ f.join_is)
+    (λ apart. ap (λ b. b || false) (none_of_key r call key shown.Withdrawn (λ same. apart (ap (home w) (sym same ∙ f.key_is)))))
     (tells_withdrawn (home w join.key) call key shows join p r h.2 h.4 (old.shape.each (home w key) h.2 h.3).reached h.5.0
     (of_call-at call (get w.parts key) h.0 h.1).1 (part_key w call key h.0 h.1 old)
     (ap (λ (s : State). s.reservations) h.5.1) (ap (λ (s : State). s.joiners) h.5.1)))
-follows_happens w new (event.Leave call) seen shows join r h last old f = follows_beside w new _ shows _ join r f h.1 refl refl refl
-follows_happens w new (event.PickUp call key) seen shows join r h last old f = follows_picks w new call key h.0 h.2 h.4 seen shows _ join r h.1 h.3 h.5 last f
-follows_happens w new (event.Foreign key value) seen shows join r h last old f = follows_beside w new _ shows _ join r f h.1 refl refl refl
+follows_happens w new (event.Leave call) seen shows join r h last old f = follows_beside w new _ shows _ join r f h.1 refl refl refl refl
+follows_happens w new (event.PickUp call key) seen shows join r h last old f = follows_picks w new call key h.0 h.2 h.4 seen shows _ join r h.1 h.3 h.5 last refl f
+follows_happens w new (event.Foreign key value) seen shows join r h last old f = follows_beside w new _ shows _ join r f h.1 refl refl refl refl
+
+-- what doesn't fit ends no load
+unfit_ends : (r : Reservation) (e : WorldEvent) → ends_load r (e, shown.Unfit) ≡ false
+unfit_ends r (event.Commit call key) = refl
+unfit_ends r (event.Withdraw call key) = refl
+unfit_ends r e = refl
 
 follows_step : (w new : WorldState) (e : WorldEvent) (seen : Shown) (shows : Shows) (join : JoinClaim) (r : Reservation) → Step w e seen new → is_last_pick_up join.caller.call join.key (e, seen) ≡ false → IsSoundWorld w → Follows w shows join r
     → Follows new (shows ++ (e, seen) ∷ []) join r
 follows_step w new e seen shows join r (inl (fit, happens)) last old f = follows_happens w new e seen shows join r happens last old f
-follows_step w new e seen shows join r (inr (unfit, shown_is, is)) last old f = follows_beside w new w shows _ join r f is refl refl refl
+follows_step w new e seen shows join r (inr (unfit, shown_is, is)) last old f = follows_beside w new w shows _ join r f is refl refl refl (ap (λ b. b || false) (ap (λ s. ends_load r (e, s)) shown_is ∙ unfit_ends r e))
 
 -- both tests fail, where not one of them holds
 neither : (a b : Bool) → (a || b) ≡ false → (a ≡ false) × (b ≡ false)
@@ -214,7 +229,7 @@ neither false b h = (refl, h)
 
 follows_run : Laws → (w new : WorldState) (es : List WorldEvent) (ss : List Shown) (shows : Shows) (join : JoinClaim) (r : Reservation) → Run w es ss new → list_any (is_last_pick_up join.caller.call join.key) (zip es ss) ≡ false → IsSoundWorld w
     → Follows w shows join r → Follows new (shows ++ zip es ss) join r
-follows_run laws w new [] [] shows join r run none old f = follows_beside w new w shows [] join r f run refl refl refl
+follows_run laws w new [] [] shows join r run none old f = follows_beside w new w shows [] join r f run refl refl refl refl
 follows_run laws w new [] (s ∷ ss) shows join r run none old f = absurd run
 follows_run laws w new (e ∷ es) [] shows join r run none old f = absurd run
 follows_run laws w new (e ∷ es) (s ∷ ss) shows join r (mid, step, rest) none old f =
@@ -286,7 +301,7 @@ follows_joined w u from to join r there join_is_of to_is r_key r_number out may 
           (subst J (sym (ap (λ (s : State). s.joiners) to_is))
           (joined_last Q (belongs_to join.caller join.key) from.joiners next (no_joiner w key from join there free old)
           (and_from _ _ (and_from _ _ (nat_eq_equiv.refl join.caller.session) (nat_eq_equiv.refl join.caller.call)) (nat_list_eq_equiv.refl join.key))
-          (sym r_number, ap (λ (s : State). reservation_of s r.key) to_is ∙ out)));
+          (sym r_number, (ap (λ (s : State). reservation_of s r.key) to_is ∙ out, refl))));
     }
 
 -- what is told of a joiner whose state is known
@@ -304,7 +319,10 @@ resolves_picks w new call key join from to (shown.PickedUp seen) shows r there k
     let t = known_at (home w key) shows join r from (Answered seen.place seen.shared) h.0.1 told in
     (t.0, t.1, t.2, t.3 ∙ sym h.1, t.4)
 resolves_picks w new call key join from to shown.Again shows r there key_is told old h = known_at (home w key) shows join r from Again h.0.1 told
-resolves_picks w new call key join from to shown.Waits shows r there key_is told old h = part_of_out w key from r there key_is (known_at (home w key) shows join r from Waiting h.0.1 told) old
+resolves_picks w new call key join from to shown.Waits shows r there key_is told old h =
+    let out = known_at (home w key) shows join r from Waiting h.0.1 told in
+    let part = part_of_out w key from r there key_is out.0 old in
+    (part.0, part.1, part.2, out.1)
 resolves_picks w new call key join from to seen shows r there key_is told old h = absurd h
 
 -- the pick-up fits, and shows that
