@@ -189,6 +189,13 @@ not_there : {A : Type 0} (o : Option A) → ((x : A) → o ≡ Some x → ⊥) �
 not_there None h = refl
 not_there (Some x) h = absurd (h x refl)
 
+-- a call without a join has no joiner
+pub no_joiner : (w : WorldState) (key : Bytes) (from : State) (join : JoinClaim) → stripe_for w key ≡ Some from → is_joined w join.caller.call join.key ≡ false → IsSoundWorld w → joiner_of join.caller join.key from.joiners ≡ None
+no_joiner w key from join there free old = not_there (joiner_of join.caller join.key from.joiners) (λ x e.
+    let its = joiner_is join.caller join.key x (found_test (is_joiner_of join.caller join.key) from.joiners x e) in
+    let had = (called_found w (home w key) (is_joiner_of join.caller join.key) from.joiners x e (old.called (home w key) from there)).join in
+    let t : true ≡ false = sym had ∙ (λ i. is_joined w (its.1 i) (its.2 i)) ∙ free in cc)
+
 -- the call has joined a load
 joins_joined : (w : WorldState) (u : Under) (from to : State) (join : JoinClaim) → stripe_for w u.command.key ≡ Some from → join ≡ record { caller = u.caller; key = u.command.key; load = join.load } → to ≡ with_joiner from join
     → MayStart w u → IsSoundWorld w → HasJoins (with_join (with_stripe w u.command.key to) join)
@@ -210,11 +217,7 @@ joins_joined w u from to join there join_is to_is may old =
       call = its_call;
     } in
     let F : State → Type 0 = λ s. IsJoined s join in
-    let alone : joiner_of join.caller join.key from.joiners ≡ None = not_there (joiner_of join.caller join.key from.joiners) (λ x e.
-    let its = joiner_is join.caller join.key x (found_test (is_joiner_of join.caller join.key) from.joiners x e) in
-    let had = (called_found w (home w key) (is_joiner_of join.caller join.key) from.joiners x e (old.called (home w key) from there)).join in
-    let t : true ≡ false = sym had ∙ (λ i. is_joined w ((its.1 ∙ call_is) i) ((its.2 ∙ key_is) i)) ∙ may.alone in cc)
-    in
+    let alone = no_joiner w key from join there ((λ i. is_joined w (call_is i) (key_is i)) ∙ may.alone) old in
     let waits : IsWaitedFor new join = record {
       out = is_some_and (stripe_for new join.key) F to (ap (λ k. slice_get new.stripes (home w k)) key_is ∙ stripe_put w.stripes (home w key) from to there)
           (subst (J join) (sym joiners)

@@ -119,7 +119,7 @@ other_call (Some p) call part is none =
     subst P same (elim (p.reservation.caller.call == call) as (λ b. is_none (cond b (Some p) None) ≡ true → b ≡ false) [ true ↦ λ h. cc | false ↦ λ h. refl ] none)
 
 -- what holds of what is there goes on to what follows from it
-some_map : {A : Type 0} (o : Option A) (P Q : A → Type 0) → ((x : A) → P x → Q x) → IsSomeAnd o P → IsSomeAnd o Q
+pub some_map : {A : Type 0} (o : Option A) (P Q : A → Type 0) → ((x : A) → P x → Q x) → IsSomeAnd o P → IsSomeAnd o Q
 some_map None P Q f h = h
 some_map (Some x) P Q f h = f x h
 

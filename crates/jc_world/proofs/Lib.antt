@@ -14,6 +14,10 @@ pub mod Slotted
 pub mod Lengths
 pub mod Phased
 pub mod Sounding
+pub mod Reopening
+pub mod ReservedEntries
+pub mod JoinedLoads
+pub mod PickUps
 pub mod Runs
 pub mod Loads
 pub mod Homes

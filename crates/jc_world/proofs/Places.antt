@@ -16,13 +16,18 @@ use Rattle.jc_world.specs.Sound.{IsShaped}
 -- 1. The stripes.
 
 -- what goes on from a stripe to the one that is put in its place goes on at every number
+pub at_stripe_apart : (stripes : List State) (i j : ℕ) (from next : State) (P : Option State → Option State → Type 0) → slice_get stripes i ≡ Some from → (i ≡ j → P (Some from) (Some next)) → ((i ≡ j → ⊥) → P (slice_get stripes j) (slice_get stripes j))
+    → P (slice_get stripes j) (slice_get (slice_set stripes i next) j)
+at_stripe_apart [] i j from next P h same other = cc
+at_stripe_apart (x ∷ xs) zero zero from next P h same other = subst (λ o. P o (Some next)) (sym h) (same refl)
+at_stripe_apart (x ∷ xs) zero (suc j) from next P h same other = other (λ e. omega arith)
+at_stripe_apart (x ∷ xs) (suc i) zero from next P h same other = other (λ e. omega arith)
+at_stripe_apart (x ∷ xs) (suc i) (suc j) from next P h same other = at_stripe_apart xs i j from next P h (λ e. same (ap suc e)) (λ apart. other (λ e. apart (omega arith)))
+
+-- the same, whether the numbers are one or not
 pub at_stripe : (stripes : List State) (i j : ℕ) (from next : State) (P : Option State → Option State → Type 0) → slice_get stripes i ≡ Some from → P (Some from) (Some next) → P (slice_get stripes j) (slice_get stripes j)
     → P (slice_get stripes j) (slice_get (slice_set stripes i next) j)
-at_stripe [] i j from next P h same other = cc
-at_stripe (x ∷ xs) zero zero from next P h same other = subst (λ o. P o (Some next)) (sym h) same
-at_stripe (x ∷ xs) zero (suc j) from next P h same other = other
-at_stripe (x ∷ xs) (suc i) zero from next P h same other = other
-at_stripe (x ∷ xs) (suc i) (suc j) from next P h same other = at_stripe xs i j from next P h same other
+at_stripe stripes i j from next P h same other = at_stripe_apart stripes i j from next P h (λ e. same) (λ apart. other)
 
 -- a stripe that is put in place is there
 pub stripe_put : (stripes : List State) (i : ℕ) (from next : State) → slice_get stripes i ≡ Some from → slice_get (slice_set stripes i next) i ≡ Some next

@@ -92,7 +92,7 @@ writer_alone s key Get first h writes = loads_only (s.config.read_through && is_
 writer_alone s key op first h writes = refl
 
 -- the last of a list is found, where none before it passes the test
-found_last : {A : Type 0} (p : A → Bool) (xs : List A) (r : A) → list_any p xs ≡ false → p r ≡ true → find p (xs ++ r ∷ []) ≡ Some r
+pub found_last : {A : Type 0} (p : A → Bool) (xs : List A) (r : A) → list_any p xs ≡ false → p r ≡ true → find p (xs ++ r ∷ []) ≡ Some r
 found_last p [] r none e = ap (λ b. cond b (Some r) None) e
 found_last p (x ∷ xs) r none e = elim (p x) as (λ b. (b || list_any p xs) ≡ false → cond b (Some x) (find p (xs ++ r ∷ [])) ≡ Some r) [ true ↦ λ h. cc | false ↦ λ h. found_last p xs r h e ] none
 

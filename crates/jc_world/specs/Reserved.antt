@@ -1,5 +1,5 @@
 -- What stays while nothing is appended, and while a key is reserved.
---     is_answer         what was shown is a step's answer, which was given as the step was appended
+--     is_appended       what was shown is a step's answer, which was given as the step was appended
 --     OnlyStepsChange   an event that doesn't append a step leaves the order, and all that is cached: so do a reservation, an outside
 --                       answer, a withdrawal and a pick-up
 --     EntryStays        the cached entry of a reserved key stays as long as the reservation is out, whatever happens meanwhile

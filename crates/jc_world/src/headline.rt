@@ -1,5 +1,5 @@
 //! The headline, as laws over every run.
-ghost use Rattle.jc_world.specs.Headline.{StaysLegal, StaysCoherent, CountsLoads};
+ghost use Rattle.jc_world.specs.Headline.{StaysLegal, StaysCoherent, StaysCoherentFrom, CountsLoads};
 
 use jc_stripe::phase_laws::{keeps_reserved, stays_reached};
 
@@ -20,6 +20,16 @@ pub fn stays_legal()
 /// cached value is the store's, but for keys whose writer has changed the store and whose call isn't committed.
 pub fn stays_coherent()
     ensures { StaysCoherent }
+{
+    stays_reached();
+    keeps_reserved();
+}
+
+/// The same from any moment on, whatever came before. If no key is reserved then, and each cached value is the store's, both stay in
+/// step through every further list of events, under the same conditions, of which all but write-through need to hold only from then
+/// on.
+pub fn stays_coherent_from()
+    ensures { StaysCoherentFrom }
 {
     stays_reached();
     keeps_reserved();

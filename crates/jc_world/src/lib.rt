@@ -9,7 +9,9 @@ pub mod headline;
 mod joining;
 mod machine;
 mod outside;
+pub mod pick_ups;
 pub mod replies;
+pub mod reserved;
 mod slot;
 mod stripes;
 #[cfg(test)]

@@ -1,0 +1,379 @@
+-- A call that has joined a load, from its join to the pick-up that ends it.
+--     Follows            a join is there, and the joiner in the stripe of its key tells what has become of the load
+--     follows_step       an event that doesn't end the join keeps it so, with what it shows
+--     follows_run        so does a run
+--     part_of_out        the part of a reservation that is out
+--     follows_joined     it is so where the call has just joined
+--     resolves           so what a pick-up shows is what has become of the load
+--     answers_joins      the whole, from the join to the pick-up
+use Rattle.std.proofs.Common.{inl, inr, ◌≡◌, ◌==◌, ◌&&◌, ◌||◌, ℕ, List, [], ◌∷◌, ◌++◌, zip, Bool, true, false, cond, not, Option, None, Some, IsSomeAnd, option_map, find, slice_get, slice_set, refl, sym, ap, ◌∙◌, subst, append-nil, append_assoc}
+use Rattle.std.specs.List.{list_any}
+use Rattle.std.specs.FinMap.{get}
+use Rattle.std.specs.Cmp.Lexicographic.{pointwise}
+use Rattle.std.proofs.lemmas.Bool.{eq-eqb, and_parts, and_from}
+use Rattle.std.proofs.lemmas.Cmp.{nat_eq_equiv, nat_list_eq_equiv}
+use Rattle.jc_types.specs.declared.caller.Caller.{Caller}
+use Rattle.jc_types.specs.declared.config.Config.{Config}
+use Rattle.jc_types.specs.Stripes.{stripe_of}
+use Rattle.jc_model.specs.Cache.{Bytes}
+use Rattle.jc_inflight.specs.declared.joiner.Joiner.{Joiner}
+use Rattle.jc_inflight.specs.declared.joiner.JoinState.{JoinState}
+use Rattle.jc_inflight.specs.declared.joiner.JoinState.TheVariants.{Waiting, Answered, Again}
+use Rattle.jc_inflight.specs.Joining.{belongs_to}
+use Rattle.jc_inflight.proofs.CallerLemmas.{belongs_to_same}
+use Rattle.jc_stripe.specs.declared.ticket.First.{First}
+use Rattle.jc_stripe.specs.declared.ticket.First.TheVariants.{Nobody, Loader, Writer, Processor}
+use Rattle.jc_stripe.specs.declared.ticket.Reservation.{Reservation}
+use Rattle.jc_stripe.specs.Tickets.{JoinClaim, asks_loader}
+use Rattle.jc_stripe.specs.State.{State, is_key, reservation_of, IsOut}
+use Rattle.jc_stripe.specs.Refusals.{load_of, load_at}
+use Rattle.jc_stripe.specs.Phases.{with_joiner, without_joiner, told_to}
+use Rattle.jc_world.specs.declared.event.Part.{Part}
+use Rattle.jc_world.specs.declared.event.Under.{Under}
+use Rattle.jc_world.specs.declared.event.Shown.{Shown}
+use Rattle.jc_world.specs.declared.event.Shown.TheVariants as shown
+use Rattle.jc_world.specs.declared.event.WorldEvent.{WorldEvent}
+use Rattle.jc_world.specs.declared.event.WorldEvent.TheVariants as event
+use Rattle.jc_world.specs.World.{WorldState, home, stripe_for, under, of_call, part_of, is_join, join_of, is_joined, unjoined}
+use Rattle.jc_world.specs.Events.{fits, is_free, may_start, with_stripe, with_join, Starts, Ends, Picks, Happens, Step, Run}
+use Rattle.jc_world.specs.PickUps.{ends_join, is_last_pick_up, ends_load, Resolves}
+use Rattle.jc_world.specs.Sound.{IsHeld, IsSoundWorld}
+use Rattle.jc_world.proofs.Numbered.{some_of}
+use Rattle.jc_world.proofs.Places.{at_stripe_apart, stripe_put}
+use Rattle.jc_world.proofs.Shares.{is_some_and, found_test}
+use Rattle.jc_world.proofs.Underway.{found_number, of_call-at, owned_found, same_bytes}
+use Rattle.jc_world.proofs.Joiners.{joiner_of, find_kept, joined_last, join_is}
+use Rattle.jc_world.proofs.Reservations.{found_more, found_last}
+use Rattle.jc_world.proofs.Kept.{some_map}
+use Rattle.jc_world.proofs.Callers.{MayStart, may_start_at, refuted, part_key}
+use Rattle.jc_world.proofs.Joins.{no_joiner}
+use Rattle.jc_world.proofs.JoinedLoads.{Shows, Tells, TellsOf, TellsIn, none_of_key, tells_on, tells_kept, tells_committed, tells_withdrawn}
+use Rattle.jc_world.proofs.Sounding.{Laws, sound_step, sound_run}
+
+-- 1. From world to world.
+
+pub record Follows (w : WorldState) (shows : Shows) (join : JoinClaim) (r : Reservation) : Type 0 where
+  pub key_is : r.key ≡ join.key
+  pub join_is : join_of w join.caller.call join.key ≡ Some join
+  pub joiner : IsSomeAnd (stripe_for w join.key) (TellsIn (home w join.key) shows join r)
+
+-- the stripe of a key is another, and the join is still there
+follows_set : (w n : WorldState) (shows more : Shows) (join : JoinClaim) (r : Reservation) (key : Bytes) (from to : State) → Follows w shows join r → n.config ≡ w.config → n.stripes ≡ slice_set w.stripes (home w key) to
+    → stripe_for w key ≡ Some from → join_of n join.caller.call join.key ≡ Some join → ((home w key ≡ home w join.key → ⊥) → list_any (ends_load r) more ≡ false)
+    → (TellsIn (home w join.key) shows join r from → TellsIn (home w join.key) (shows ++ more) join r to) → Follows n (shows ++ more) join r
+follows_set w n shows more join r key from to h config stripes there joined none phase =
+    let m = home w join.key in
+    let C : Config → Type 0 = λ c. IsSomeAnd (slice_get n.stripes (stripe_of join.key c.stripes)) (TellsIn (stripe_of join.key c.stripes) (shows ++ more) join r) in
+    let S : List State → Type 0 = λ ss. IsSomeAnd (slice_get ss m) (TellsIn m (shows ++ more) join r) in
+    record {
+      key_is = h.key_is;
+      join_is = joined;
+      joiner = subst C (sym config) (subst S (sym stripes)
+          (at_stripe_apart w.stripes (home w key) m from to (λ o x. IsSomeAnd o (TellsIn m shows join r) → IsSomeAnd x (TellsIn m (shows ++ more) join r)) there (λ same. phase)
+          (λ apart. some_map (slice_get w.stripes m) (TellsIn m shows join r) (TellsIn m (shows ++ more) join r) (λ s t. tells_kept m shows more join r s s [] (sym (append-nil s.joiners)) (none apart) (λ o. o) t))
+          h.joiner));
+    }
+
+-- the stripes and the joins are the same
+follows_same : (w n : WorldState) (shows more : Shows) (join : JoinClaim) (r : Reservation) → Follows w shows join r → n.config ≡ w.config → n.stripes ≡ w.stripes → n.joins ≡ w.joins → list_any (ends_load r) more ≡ false
+    → Follows n (shows ++ more) join r
+follows_same w n shows more join r h config stripes joins none =
+    let m = home w join.key in
+    let C : Config → Type 0 = λ c. IsSomeAnd (slice_get n.stripes (stripe_of join.key c.stripes)) (TellsIn (stripe_of join.key c.stripes) (shows ++ more) join r) in
+    let S : List State → Type 0 = λ ss. IsSomeAnd (slice_get ss m) (TellsIn m (shows ++ more) join r) in
+    record {
+      key_is = h.key_is;
+      join_is = ap (find (is_join join.caller.call join.key)) joins ∙ h.join_is;
+      joiner = subst C (sym config) (subst S (sym stripes)
+          (some_map (slice_get w.stripes m) (TellsIn m shows join r) (TellsIn m (shows ++ more) join r) (λ s t. tells_kept m shows more join r s s [] (sym (append-nil s.joiners)) none (λ o. o) t) h.joiner));
+    }
+
+-- in a world that is another only beside them
+follows_beside : (w n m : WorldState) (shows more : Shows) (join : JoinClaim) (r : Reservation) → Follows w shows join r → n ≡ m → m.config ≡ w.config → m.stripes ≡ w.stripes → m.joins ≡ w.joins → list_any (ends_load r) more ≡ false
+    → Follows n (shows ++ more) join r
+follows_beside w n m shows more join r h is config stripes joins none =
+    let P : WorldState → Type 0 = λ x. Follows x (shows ++ more) join r in
+    subst P (sym is) (follows_same w m shows more join r h config stripes joins none)
+
+-- the first phase of a call
+follows_started : (w new : WorldState) (u : Under) (from to : State) (seen : Shown) (shows more : Shows) (join : JoinClaim) (r : Reservation) → stripe_for w u.command.key ≡ Some from → Starts w u from to seen new → list_any (ends_load r) more ≡ false
+    → Follows w shows join r → Follows new (shows ++ more) join r
+follows_started w new u from to (shown.Refused refusal) shows more join r there h none f = follows_beside w new _ shows more join r f h.1 refl refl refl none
+follows_started w new u from to (shown.Stepped seen) shows more join r there h none f =
+    let after = h.0.2.after in
+    follows_set w new shows more join r u.command.key from to f (ap (λ (x : WorldState). x.config) h.2) (ap (λ (x : WorldState). x.stripes) h.2) there
+    (ap (λ (x : WorldState). join_of x join.caller.call join.key) h.2 ∙ f.join_is) (λ apart. none)
+    (tells_kept (home w join.key) shows more join r from to [] (ap (λ (s : State). s.joiners) after ∙ sym (append-nil from.joiners)) none (λ out. ap (λ (s : State). reservation_of s r.key) after ∙ out))
+follows_started w new u from to shown.Loads shows more join r there h none f =
+    let after = h.1.4 in
+    follows_set w new shows more join r u.command.key from to f (ap (λ (x : WorldState). x.config) h.2) (ap (λ (x : WorldState). x.stripes) h.2) there
+    (ap (λ (x : WorldState). join_of x join.caller.call join.key) h.2 ∙ f.join_is) (λ apart. none)
+    (tells_kept (home w join.key) shows more join r from to [] (ap (λ (s : State). s.joiners) after ∙ sym (append-nil from.joiners)) none
+    (λ out. ap (λ (s : State). reservation_of s r.key) after ∙ found_more (is_key r.key) from.reservations (h.0.reservation ∷ []) r out))
+follows_started w new u from to (shown.Asks change) shows more join r there h none f =
+    let after = h.1.4 in
+    follows_set w new shows more join r u.command.key from to f (ap (λ (x : WorldState). x.config) h.3) (ap (λ (x : WorldState). x.stripes) h.3) there
+    (ap (λ (x : WorldState). join_of x join.caller.call join.key) h.3 ∙ f.join_is) (λ apart. none)
+    (tells_kept (home w join.key) shows more join r from to [] (ap (λ (s : State). s.joiners) after ∙ sym (append-nil from.joiners)) none
+    (λ out. ap (λ (s : State). reservation_of s r.key) after ∙ found_more (is_key r.key) from.reservations (h.0.reservation ∷ []) r out))
+follows_started w new u from to shown.Joins shows more join r there h none f =
+    let after = h.1.3 in
+    let other = h.0 in
+    follows_set w new shows more join r u.command.key from to f (ap (λ (x : WorldState). x.config) h.2) (ap (λ (x : WorldState). x.stripes) h.2) there
+    (ap (λ (x : WorldState). join_of x join.caller.call join.key) h.2 ∙ found_more (is_join join.caller.call join.key) w.joins (other ∷ []) join f.join_is) (λ apart. none)
+    (tells_kept (home w join.key) shows more join r from to (record { caller = other.caller; key = other.key; load = other.load; state = Waiting } ∷ []) (ap (λ (s : State). s.joiners) after) none (λ out. ap (λ (s : State). reservation_of s r.key) after ∙ out))
+follows_started w new u from to seen shows more join r there h none f = absurd h
+
+-- the last phase of a call
+follows_ended : (w new : WorldState) (call : ℕ) (key : Bytes) (part : Part) (from to : State) (seen : Shown) (shows : Shows) (join : JoinClaim) (r : Reservation) → part_of w call key ≡ Some part → stripe_for w key ≡ Some from
+    → Ends w call key part from to seen new → IsSoundWorld w → Follows w shows join r → Follows new (shows ++ (event.Commit call key, seen) ∷ []) join r
+follows_ended w new call key part from to (shown.Stepped seen) shows join r is there h old f =
+    let p = part.reservation in
+    let after = h.0.1.after in
+    follows_set w new shows ((event.Commit call key, shown.Stepped seen) ∷ []) join r key from to f (ap (λ (x : WorldState). x.config) h.2) (ap (λ (x : WorldState). x.stripes) h.2) there
+    (ap (λ (x : WorldState). join_of x join.caller.call join.key) h.2 ∙ f.join_is)
+    (λ apart. ap (λ b. b || false) (none_of_key r call key (shown.Stepped seen) (λ same. apart (ap (home w) (sym same ∙ f.key_is)))))
+    (tells_committed (home w join.key) call key shows join p r from to seen (old.shape.each (home w key) from there).reached h.0.0
+    (of_call-at call (get w.parts key) part is).1 (part_key w call key part is old) (λ same. h.1 ∙ ap (home w) (sym same ∙ f.key_is))
+    (ap (λ (s : State). s.reservations) after) (ap (λ (s : State). s.joiners) after))
+follows_ended w new call key part from to seen shows join r is there h old f = absurd h
+
+-- a pick-up of another join leaves this one, and its joiner
+follows_others : (w new : WorldState) (call : ℕ) (key : Bytes) (other : JoinClaim) (from to : State) (shows more : Shows) (join : JoinClaim) (r : Reservation) → join_of w call key ≡ Some other → stripe_for w key ≡ Some from → to ≡ without_joiner from other
+    → (call ≡ join.caller.call → key ≡ join.key → ⊥) → new.config ≡ w.config → new.stripes ≡ slice_set w.stripes (home w key) to → new.joins ≡ unjoined call key w.joins
+    → list_any (ends_load r) more ≡ false → Follows w shows join r → Follows new (shows ++ more) join r
+follows_others w new call key other from to shows more join r found there after apart config stripes joins none f =
+    let is = join_is call key other (found_test (is_join call key) w.joins other found) in
+    let left : join_of new join.caller.call join.key ≡ Some join =
+    ap (find (is_join join.caller.call join.key)) joins
+    ∙ find_kept (is_join join.caller.call join.key) (λ x. not (is_join call key x)) w.joins (λ x mine. ap not (refuted (is_join call key x) (λ its.
+    let a = join_is join.caller.call join.key x mine in
+    let b = join_is call key x its in
+    apart (sym b.0 ∙ a.0) (sym b.1 ∙ a.1))))
+    ∙ f.join_is
+    in
+    let Q : Joiner → Type 0 = TellsOf (home w join.key) (shows ++ more) to r in
+    let kept : joiner_of join.caller join.key to.joiners ≡ joiner_of join.caller join.key from.joiners =
+    ap (λ (s : State). joiner_of join.caller join.key s.joiners) after
+    ∙ find_kept (belongs_to join.caller join.key) (λ x. not (belongs_to other.caller other.key x)) from.joiners (λ x mine. ap not (refuted (belongs_to other.caller other.key x) (λ its.
+    let a = belongs_to_same join.caller join.key x mine in
+    let b = belongs_to_same other.caller other.key x its in
+    apart (sym is.0 ∙ ap (λ (c : Caller). c.call) (sym b.0 ∙ a.0)) (sym is.1 ∙ sym b.1 ∙ a.1))))
+    in
+    follows_set w new shows more join r key from to f config stripes there left (λ other_home. none)
+    (λ t. let J : Option Joiner → Type 0 = λ o. IsSomeAnd o Q in
+    subst J (sym kept)
+    (some_map (joiner_of join.caller join.key from.joiners) (TellsOf (home w join.key) shows from r) Q
+    (λ j k. (k.0, tells_on (home w join.key) shows more from to r j.state (λ waits out. (ap (λ (s : State). reservation_of s r.key) after ∙ out, none)) k.1)) t))
+
+-- a pick-up that ends a join, and isn't the last of this one, is of another
+of_another : (call mine : ℕ) (key own : Bytes) (seen : Shown) → is_last_pick_up mine own (event.PickUp call key, seen) ≡ false → ends_join seen ≡ true → call ≡ mine → key ≡ own → ⊥
+of_another call mine key own seen other ends same_call same_key =
+    let t : true ≡ false =
+    sym (and_from ((call == mine) && pointwise ◌==◌ own key) (ends_join seen) (and_from (call == mine) (pointwise ◌==◌ own key) (eq-eqb call mine same_call) (ap (pointwise ◌==◌ own) same_key ∙ nat_list_eq_equiv.refl own)) ends) ∙ other
+    in
+    cc
+
+-- a pick-up
+follows_picks : (w new : WorldState) (call : ℕ) (key : Bytes) (other : JoinClaim) (from to : State) (seen : Shown) (shows more : Shows) (join : JoinClaim) (r : Reservation) → join_of w call key ≡ Some other → stripe_for w key ≡ Some from
+    → Picks w call key other from to seen new → is_last_pick_up join.caller.call join.key (event.PickUp call key, seen) ≡ false → list_any (ends_load r) more ≡ false
+    → Follows w shows join r → Follows new (shows ++ more) join r
+follows_picks w new call key other from to (shown.PickedUp seen) shows more join r found there h last none f =
+    follows_others w new call key other from to shows more join r found there h.0.3 (of_another call join.caller.call key join.key (shown.PickedUp seen) last refl)
+    (ap (λ (x : WorldState). x.config) h.2) (ap (λ (x : WorldState). x.stripes) h.2) (ap (λ (x : WorldState). x.joins) h.2) none f
+follows_picks w new call key other from to shown.Again shows more join r found there h last none f =
+    follows_others w new call key other from to shows more join r found there h.0.2 (of_another call join.caller.call key join.key shown.Again last refl)
+    (ap (λ (x : WorldState). x.config) h.1) (ap (λ (x : WorldState). x.stripes) h.1) (ap (λ (x : WorldState). x.joins) h.1) none f
+follows_picks w new call key other from to shown.Waits shows more join r found there h last none f = follows_beside w new w shows more join r f h.1 refl refl refl none
+follows_picks w new call key other from to seen shows more join r found there h last none f = absurd h
+
+-- by the kind of the event
+follows_happens : (w new : WorldState) (e : WorldEvent) (seen : Shown) (shows : Shows) (join : JoinClaim) (r : Reservation) → Happens w e seen new → is_last_pick_up join.caller.call join.key (e, seen) ≡ false → IsSoundWorld w → Follows w shows join r
+    → Follows new (shows ++ (e, seen) ∷ []) join r
+follows_happens w new (event.Call call session command) seen shows join r h last old f = follows_beside w new _ shows _ join r f h.1 refl refl refl refl
+follows_happens w new (event.Start call key) seen shows join r h last old f = follows_started w new h.0 h.2 h.4 seen shows _ join r h.3 h.5 refl f
+follows_happens w new (event.Read call key) seen shows join r h last old f = follows_beside w new _ shows _ join r f h.3 refl refl refl refl
+follows_happens w new (event.Say call key answer) seen shows join r h last old f = follows_beside w new _ shows _ join r f h.3 refl refl refl refl
+follows_happens w new (event.Change call key) seen shows join r h last old f = follows_beside w new _ shows _ join r f h.5 refl refl refl refl
+follows_happens w new (event.Report call fault) seen shows join r h last old f = follows_beside w new _ shows _ join r f h.7 refl refl refl refl
+follows_happens w new (event.Commit call key) seen shows join r h last old f = follows_ended w new call key h.0 h.2 h.4 seen shows join r h.1 h.3 h.5 old f
+follows_happens w new (event.Withdraw call key) seen shows join r h last old f =
+    let p = h.0.reservation in
+    let S : Shown → Type 0 = λ s. Follows new (shows ++ (event.Withdraw call key, s) ∷ []) join r in
+    subst S (sym h.6)
+    (follows_set w new shows ((event.Withdraw call key, shown.Withdrawn) ∷ []) join r key h.2 h.4 f (ap (λ (x : WorldState). x.config) h.7) (ap (λ (x : WorldState). x.stripes) h.7) h.3
+    (ap (λ (x : WorldState). join_of x join.caller.call join.key) h.7 ∙ f.join_is)
+    (λ apart. ap (λ b. b || false) (none_of_key r call key shown.Withdrawn (λ same. apart (ap (home w) (sym same ∙ f.key_is)))))
+    (tells_withdrawn (home w join.key) call key shows join p r h.2 h.4 (old.shape.each (home w key) h.2 h.3).reached h.5.0
+    (of_call-at call (get w.parts key) h.0 h.1).1 (part_key w call key h.0 h.1 old)
+    (ap (λ (s : State). s.reservations) h.5.1) (ap (λ (s : State). s.joiners) h.5.1)))
+follows_happens w new (event.Leave call) seen shows join r h last old f = follows_beside w new _ shows _ join r f h.1 refl refl refl refl
+follows_happens w new (event.PickUp call key) seen shows join r h last old f = follows_picks w new call key h.0 h.2 h.4 seen shows _ join r h.1 h.3 h.5 last refl f
+follows_happens w new (event.Foreign key value) seen shows join r h last old f = follows_beside w new _ shows _ join r f h.1 refl refl refl refl
+
+-- what doesn't fit ends no load
+unfit_ends : (r : Reservation) (e : WorldEvent) → ends_load r (e, shown.Unfit) ≡ false
+unfit_ends r (event.Commit call key) = refl
+unfit_ends r (event.Withdraw call key) = refl
+unfit_ends r e = refl
+
+follows_step : (w new : WorldState) (e : WorldEvent) (seen : Shown) (shows : Shows) (join : JoinClaim) (r : Reservation) → Step w e seen new → is_last_pick_up join.caller.call join.key (e, seen) ≡ false → IsSoundWorld w → Follows w shows join r
+    → Follows new (shows ++ (e, seen) ∷ []) join r
+follows_step w new e seen shows join r (inl (fit, happens)) last old f = follows_happens w new e seen shows join r happens last old f
+follows_step w new e seen shows join r (inr (unfit, shown_is, is)) last old f = follows_beside w new w shows _ join r f is refl refl refl (ap (λ b. b || false) (ap (λ s. ends_load r (e, s)) shown_is ∙ unfit_ends r e))
+
+-- both tests fail, where not one of them holds
+neither : (a b : Bool) → (a || b) ≡ false → (a ≡ false) × (b ≡ false)
+neither true b h = cc
+neither false b h = (refl, h)
+
+follows_run : Laws → (w new : WorldState) (es : List WorldEvent) (ss : List Shown) (shows : Shows) (join : JoinClaim) (r : Reservation) → Run w es ss new → list_any (is_last_pick_up join.caller.call join.key) (zip es ss) ≡ false → IsSoundWorld w
+    → Follows w shows join r → Follows new (shows ++ zip es ss) join r
+follows_run laws w new [] [] shows join r run none old f = follows_beside w new w shows [] join r f run refl refl refl refl
+follows_run laws w new [] (s ∷ ss) shows join r run none old f = absurd run
+follows_run laws w new (e ∷ es) [] shows join r run none old f = absurd run
+follows_run laws w new (e ∷ es) (s ∷ ss) shows join r (mid, step, rest) none old f =
+    let parts = neither (is_last_pick_up join.caller.call join.key (e, s)) (list_any (is_last_pick_up join.caller.call join.key) (zip es ss)) none in
+    let next = follows_step w mid e s shows join r step parts.0 old f in
+    let P : Shows → Type 0 = λ xs. Follows new xs join r in
+    subst P (append_assoc shows ((e, s) ∷ []) (zip es ss)) (follows_run laws mid new es ss (shows ++ (e, s) ∷ []) join r rest parts.1 (sound_step laws w e s mid step old) next)
+
+-- 2. The part of a load that is out.
+
+pub part_of_out : (w : WorldState) (key : Bytes) (s : State) (r : Reservation) → stripe_for w key ≡ Some s → r.key ≡ key → IsOut s r → IsSoundWorld w → (part : Part) × (part_of w r.caller.call r.key ≡ Some part) × (part.reservation ≡ r)
+part_of_out w key s r there key_is out old =
+    let owned = owned_found w (is_key r.key) s.reservations r out (old.owned (home w key) s there) in
+    let part = some_of (get w.parts r.key) (λ p. p.reservation.caller.call ≡ r.caller.call) owned.part in
+    let held = some_of (stripe_for w r.key) (λ x. IsHeld w x r.key part.0) (old.held r.key part.0 part.1) in
+    let e : Some held.0 ≡ Some s = sym held.1 ∙ ap (stripe_for w) key_is ∙ there in
+    let here : held.0 ≡ s = cc in
+    let O : State → Type 0 = λ x. IsOut x part.0.reservation in
+    let t : Some part.0.reservation ≡ Some r = sym (subst O here held.2.out) ∙ ap (reservation_of s) held.2.key_is ∙ out in (
+      part.0,
+      ap (of_call r.caller.call) part.1 ∙ ap (λ b. cond b (Some part.0) None) (eq-eqb part.0.reservation.caller.call r.caller.call part.2),
+      cc,
+    )
+
+-- 3. The join, and the pick-up.
+
+-- a first phase is of the call's key
+start_key : (w : WorldState) (call : ℕ) (key : Bytes) (u : Under) → fits w (event.Start call key) ≡ true → under w call ≡ Some u → u.command.key ≡ key
+start_key w call key u fit is = sym (same_bytes key u.command.key (and_parts (pointwise ◌==◌ key u.command.key) (is_free w call key) (sym (ap (may_start w call key) is) ∙ fit)).0)
+
+-- one is there where one is found
+found_any : {A : Type 0} (p : A → Bool) (xs : List A) (x : A) → find p xs ≡ Some x → list_any p xs ≡ true
+found_any p [] x h = cc
+found_any p (y ∷ ys) x h = elim (p y) as (λ b. cond b (Some y) (find p ys) ≡ Some x → (b || list_any p ys) ≡ true) [ true ↦ λ h. refl | false ↦ λ h. found_any p ys x h ] h
+
+-- a load that can be joined is a reservation that asked the loader
+load_there : (o : Option Reservation) (load : ℕ) → load_at o ≡ Some load → (r : Reservation) × (o ≡ Some r) × (r.number ≡ load) × (asks_loader r.first ≡ true)
+load_there None load h = cc
+load_there (Some r) load h = let at = asked r.first r.number h in (r, refl, at.0, at.1)
+  where
+    asked : (first : First) (number : ℕ) → load_of first number ≡ Some load → (number ≡ load) × (asks_loader first ≡ true)
+    asked Nobody number h = cc
+    asked Loader number h = (cc, refl)
+    asked (Writer change) number h = cc
+    asked Processor number h = cc
+
+-- a load that is joined on a condition can be joined
+can_join : (b : Bool) (o : Option ℕ) (load : ℕ) → cond b o None ≡ Some load → o ≡ Some load
+can_join true o load h = h
+can_join false o load h = cc
+
+-- what has just been joined is followed
+follows_joined : (w : WorldState) (u : Under) (from to : State) (join : JoinClaim) (r : Reservation) → stripe_for w u.command.key ≡ Some from → join ≡ record { caller = u.caller; key = u.command.key; load = join.load } → to ≡ with_joiner from join
+    → r.key ≡ u.command.key → r.number ≡ join.load → IsOut from r → MayStart w u → IsSoundWorld w → Follows (with_join (with_stripe w u.command.key to) join) [] join r
+follows_joined w u from to join r there join_is_of to_is r_key r_number out may old =
+    let key = u.command.key in
+    let call_is : join.caller.call ≡ u.caller.call = ap (λ (j : JoinClaim). j.caller.call) join_is_of in
+    let key_is : join.key ≡ key = ap (λ (j : JoinClaim). j.key) join_is_of in
+    let next : Joiner = record { caller = join.caller; key = join.key; load = join.load; state = Waiting } in
+    let new : WorldState = with_join (with_stripe w key to) join in
+    let free : is_joined w join.caller.call join.key ≡ false = (λ i. is_joined w (call_is i) (key_is i)) ∙ may.alone in
+    let Q : Joiner → Type 0 = TellsOf (home w join.key) [] to r in
+    let J : List Joiner → Type 0 = λ js. IsSomeAnd (joiner_of join.caller join.key js) Q in
+    let I : State → Type 0 = TellsIn (home w join.key) [] join r in
+    record {
+      key_is = r_key ∙ sym key_is;
+      join_is = found_last (is_join join.caller.call join.key) w.joins join free (and_from _ _ (nat_eq_equiv.refl join.caller.call) (nat_list_eq_equiv.refl join.key));
+      joiner = is_some_and (stripe_for new join.key) I to (ap (λ k. slice_get new.stripes (home w k)) key_is ∙ stripe_put w.stripes (home w key) from to there)
+          (subst J (sym (ap (λ (s : State). s.joiners) to_is))
+          (joined_last Q (belongs_to join.caller join.key) from.joiners next (no_joiner w key from join there free old)
+          (and_from _ _ (and_from _ _ (nat_eq_equiv.refl join.caller.session) (nat_eq_equiv.refl join.caller.call)) (nat_list_eq_equiv.refl join.key))
+          (sym r_number, (ap (λ (s : State). reservation_of s r.key) to_is ∙ out, refl))));
+    }
+
+-- what is told of a joiner whose state is known
+known_at : (number : ℕ) (shows : Shows) (join : JoinClaim) (r : Reservation) (s : State) (state : JoinState) → told_to s join ≡ Some state → TellsIn number shows join r s → Tells number shows s r state
+known_at number shows join r s state is h =
+    let j = some_of (joiner_of join.caller join.key s.joiners) (TellsOf number shows s r) h in
+    let e : Some j.0.state ≡ Some state = ap (option_map (λ (x : Joiner). x.state)) (sym j.1) ∙ is in
+    let same : j.0.state ≡ state = cc in
+    subst (Tells number shows s r) same j.2.1
+
+-- by what is shown of the pick-up
+resolves_picks : (w new : WorldState) (call : ℕ) (key : Bytes) (join : JoinClaim) (from to : State) (seen : Shown) (shows : Shows) (r : Reservation) → stripe_for w key ≡ Some from → r.key ≡ key → TellsIn (home w key) shows join r from → IsSoundWorld w
+    → Picks w call key join from to seen new → Resolves w shows r seen
+resolves_picks w new call key join from to (shown.PickedUp seen) shows r there key_is told old h =
+    let t = known_at (home w key) shows join r from (Answered seen.place seen.shared) h.0.1 told in
+    (t.0, t.1, t.2, t.3 ∙ sym h.1, t.4)
+resolves_picks w new call key join from to shown.Again shows r there key_is told old h = known_at (home w key) shows join r from Again h.0.1 told
+resolves_picks w new call key join from to shown.Waits shows r there key_is told old h =
+    let out = known_at (home w key) shows join r from Waiting h.0.1 told in
+    let part = part_of_out w key from r there key_is out.0 old in
+    (part.0, part.1, part.2, out.1)
+resolves_picks w new call key join from to seen shows r there key_is told old h = absurd h
+
+-- the pick-up fits, and shows that
+resolves : (w new : WorldState) (call : ℕ) (key : Bytes) (join : JoinClaim) (seen : Shown) (shows : Shows) (r : Reservation) → join.caller.call ≡ call → join.key ≡ key → Follows w shows join r → IsSoundWorld w
+    → Step w (event.PickUp call key) seen new → Resolves w shows r seen
+resolves w new call key join seen shows r call_is key_is f old (inl (fit, (other, found, from, there, to, picks))) =
+    let e : Some other ≡ Some join = sym found ∙ (λ i. join_of w (sym call_is i) (sym key_is i)) ∙ f.join_is in
+    let same : other ≡ join = cc in
+    let K : Bytes → Type 0 = λ k. IsSomeAnd (stripe_for w k) (TellsIn (home w k) shows join r) in
+    let at = some_of (stripe_for w key) (TellsIn (home w key) shows join r) (subst K key_is f.joiner) in
+    let t : Some at.0 ≡ Some from = sym at.1 ∙ there in
+    let here : at.0 ≡ from = cc in
+    let P : JoinClaim → Type 0 = λ j. Picks w call key j from to seen new in
+    resolves_picks w new call key join from to seen shows r there (f.key_is ∙ key_is) (subst (TellsIn (home w key) shows join r) here at.2) old (subst P same picks)
+resolves w new call key join seen shows r call_is key_is f old (inr (unfit, shown_is, is)) =
+    let joined = found_any (is_join call key) w.joins join ((λ i. join_of w (sym call_is i) (sym key_is i)) ∙ f.join_is) in
+    absurd (let t : true ≡ false = sym joined ∙ unfit in cc)
+
+-- 4. From the join to the pick-up.
+
+-- what is asked of the part of a load that was joined
+abbrev pub IsAnswered : WorldState → WorldState → Bytes → Shows → Shown → Type 0
+IsAnswered old new key shows seen =
+    (load : Part) × (part_of old load.reservation.caller.call key ≡ Some load) × (asks_loader load.reservation.first ≡ true) × (load.reservation.key ≡ key) × Resolves new shows load.reservation seen
+
+-- by what is shown of the first phase
+answers_started : Laws → (old joined new newer : WorldState) (call : ℕ) (key : Bytes) (u : Under) (from to : State) (es : List WorldEvent) (ss : List Shown) (seen : Shown) → under old call ≡ Some u → fits old (event.Start call key) ≡ true
+    → stripe_for old u.command.key ≡ Some from → Starts old u from to shown.Joins joined → IsSoundWorld old → IsSoundWorld joined → Run joined es ss new → list_any (is_last_pick_up call key) (zip es ss) ≡ false
+    → Step new (event.PickUp call key) seen newer → IsAnswered old new key (zip es ss) seen
+answers_started laws old joined new newer call key u from to es ss seen here fit there (join, begins, is) sound_old sound_joined run none step =
+    let may = may_start_at old call key u fit here sound_old in
+    let own : u.command.key ≡ key = start_key old call key u fit here in
+    let load = load_there (reservation_of from u.command.key) join.load (can_join _ _ join.load begins.1) in
+    let r_key : load.0.key ≡ u.command.key = sym (same_bytes u.command.key load.0.key (found_test (is_key u.command.key) from.reservations load.0 load.1)) in
+    let out : IsOut from load.0 = ap (reservation_of from) r_key ∙ load.1 in
+    let part = part_of_out old u.command.key from load.0 there r_key out sound_old in
+    let r = part.0.reservation in
+    let call_is : join.caller.call ≡ call = ap (λ (j : JoinClaim). j.caller.call) begins.2 ∙ found_number call old.calls u here in
+    let key_is : join.key ≡ key = ap (λ (j : JoinClaim). j.key) begins.2 ∙ own in
+    let F : WorldState → Type 0 = λ w. Follows w [] join load.0 in
+    let f = subst F (sym is) (follows_joined old u from to join load.0 there begins.2 begins.3 r_key load.2 out may sound_old) in
+    let none_of : list_any (is_last_pick_up join.caller.call join.key) (zip es ss) ≡ false = (λ i. list_any (is_last_pick_up (call_is i) (key_is i)) (zip es ss)) ∙ none in
+    let g = follows_run laws joined new es ss [] join load.0 run none_of sound_joined f in
+    let resolved = resolves new newer call key join seen (zip es ss) load.0 call_is key_is g (sound_run laws joined new es ss run sound_joined) step in
+    let R : Reservation → Type 0 = λ x. (part_of old x.caller.call key ≡ Some part.0) × (asks_loader x.first ≡ true) × (x.key ≡ key) × Resolves new (zip es ss) x seen in
+    let all = subst R (sym part.2) (ap (part_of old load.0.caller.call) (sym (r_key ∙ own)) ∙ part.1, load.3, r_key ∙ own, resolved) in
+    (part.0, all.0, all.1, all.2, all.3)
+
+pub answers_joins : Laws → (old joined new newer : WorldState) (call : ℕ) (key : Bytes) (es : List WorldEvent) (ss : List Shown) (seen : Shown) → Step old (event.Start call key) shown.Joins joined → IsSoundWorld old → Run joined es ss new
+    → list_any (is_last_pick_up call key) (zip es ss) ≡ false → Step new (event.PickUp call key) seen newer → IsAnswered old new key (zip es ss) seen
+answers_joins laws old joined new newer call key es ss seen (inl (fit, (u, here, from, there, to, starts))) sound_old run none step =
+    answers_started laws old joined new newer call key u from to es ss seen here fit there starts sound_old
+    (sound_step laws old (event.Start call key) shown.Joins joined (inl (fit, (u, here, from, there, to, starts))) sound_old) run none step
+answers_joins laws old joined new newer call key es ss seen (inr (unfit, shown_is, is)) sound_old run none step = cc
