@@ -81,6 +81,16 @@ impl Entries {
         self.cache.peek(key).copied()
     }
 
+    /// The key's value, or none, by one look-up. Its entry is then the most recently used; if the key has no entry, nothing
+    /// changes.
+    pub fn get(&mut self, key: &Key) -> Option<Value>
+        ensures value { result ≡ finite.find key_cmp key.now self.old.list }
+        ensures after { self.new ≡ record self.old { list = after_touch key.now self.old.list } }
+        ensures valid { IsValidByUse self.new }
+    {
+        self.cache.get(key).copied()
+    }
+
     /// Makes the key's entry the most recently used. If the key has no entry, nothing changes.
     pub fn touch(&mut self, key: &Key)
         ensures after { self.new ≡ record self.old { list = after_touch key.now self.old.list } }

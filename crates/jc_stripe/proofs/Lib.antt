@@ -13,6 +13,7 @@ pub mod Ordered
 pub mod Picking
 pub mod Reaching
 pub mod Refusing
+pub mod Hitting
 pub mod Settled
 pub mod SharedSteps
 pub mod Sharing

@@ -1,5 +1,5 @@
 //! What a step leaves of the entries, and what is appended of it.
-ghost use Rattle.std.specs.Prelude.{◌≡◌, ◌+◌, ◌≤◌, ◌<◌, ◌^◌, [], ◌∷◌, ◌++◌, map, length, Option, IsTrue, option_map};
+ghost use Rattle.std.specs.Prelude.{◌≡◌, ◌+◌, ◌≤◌, ◌<◌, ◌^◌, [], ◌∷◌, ◌++◌, map, length, Option, None, Some, IsTrue, option_map};
 ghost use Rattle.std.specs.FinMap as finite;
 ghost use Rattle.jc_model.specs.Cache.{key_cmp};
 ghost use Rattle.jc_model.specs.Table.{reply_after, holds};
@@ -135,6 +135,27 @@ pub(crate) fn make_step<'a>(
         reply,
         victim,
         evicted,
+    }
+}
+
+/// The step of a call that found this entry and has it only moved to the front: nobody is evicted.
+pub(crate) fn touching_step<'a>(
+    caller: Caller,
+    key: &'a Key,
+    value: Value,
+    op: &'a Op,
+    out: &'a Out,
+) -> NewGroup<'a>
+    ensures { result ≡ record { caller = caller; key = key.now; op = op.now; out = out.now; reply = reply_after op.now (Some value) out.now; victim = None; evicted = None } }
+{
+    NewGroup {
+        caller,
+        key,
+        op,
+        out,
+        reply: op.reply_after(Some(value), out),
+        victim: None,
+        evicted: None,
     }
 }
 

@@ -1,14 +1,15 @@
 //! A stripe and its phases.
-ghost use Rattle.std.specs.Prelude.{◌≡◌, ◌≤◌, ◌<◌, ◌+◌, ◌++◌, ◌↔◌, [], true, false, IsTrue, IfOk, IsOk, OnOk, OnErr, Ok, None, Some, length, nat_le, slice_get, slice_range, vec_len, vec_capacity};
+ghost use Rattle.std.specs.Prelude.{◌≡◌, ◌≤◌, ◌<◌, ◌+◌, ◌++◌, ◌↔◌, [], true, false, IsTrue, IfOk, IsOk, OnOk, OnErr, Ok, None, Some, MatchOption, length, nat_le, slice_get, slice_range, vec_len, vec_capacity};
 ghost use Rattle.std.specs.FinMap as map;
 ghost use Rattle.jc_types.specs.Limits.{check};
 ghost use Rattle.jc_model.specs.declared.event.Op.{Op};
+ghost use Rattle.jc_model.specs.declared.event.Op.TheVariants.{Get};
 ghost use Rattle.jc_model.specs.Cache.{Bytes, entry_at};
 ghost use Rattle.jc_model.specs.Listed.{has_distinct_keys};
 ghost use Rattle.jc_model.specs.Group.{load_only, write_only, nothing_said};
 ghost use Rattle.jc_model.specs.Legal.{Legal};
 ghost use Rattle.jc_stripe.specs.Tickets.{JoinClaim};
-ghost use Rattle.jc_types.specs.declared.limits.TheConstants.{RESERVATIONS_MAX, JOINERS_MAX};
+ghost use Rattle.jc_types.specs.declared.limits.TheConstants.{RESERVATIONS_MAX, JOINERS_MAX, HIT_PLACES};
 ghost use Rattle.jc_stripe.specs.State.{IsOut, IsJoined, IsIdle, is_reserved, reservation_of, new_reservation, with_reservation};
 ghost use Rattle.jc_stripe.specs.OrderOfUse.{by_use};
 ghost use Rattle.jc_stripe.specs.Refusals.{has_phases, has_room, first_refusal, first_asked, load_at, load_joined, needs_reservation};
@@ -17,13 +18,14 @@ ghost use Rattle.jc_stripe.specs.Appending.{AnswersFirst, HasToldStep, after_pic
 ghost use Rattle.jc_stripe.specs.Phases.{MayBegin, Steps, Begins, Commits, Withdraws, PicksUp, with_joiner, told_to};
 ghost use Rattle.jc_stripe.specs.OnePhase.{IsPhaseOf};
 ghost use Rattle.jc_stripe.specs.declared.ticket.First.TheVariants.{Nobody, Loader, Writer};
+ghost use Rattle.jc_stripe.specs.declared.begun.Begun.TheVariants.{Done};
 
 mod finding;
 mod testing;
 #[cfg(test)]
 mod tests;
 
-use crate::appending::{append_group, make_step};
+use crate::appending::{append_group, make_step, touching_step};
 use crate::begun::{Begun, Picked, StepDone};
 use crate::needs::{Found, places_needed};
 use crate::ticket::{
@@ -274,7 +276,14 @@ impl Stripe {
         requires begins { MayBegin self.old caller key.now }
         ensures { Begins self.old caller key.now op.now result self.new }
     {
-        let found = self.find(key, op);
+        let entry = match op {
+            Op::Get if self.has_room(caller.call, HIT_PLACES) => match self.hit(caller, key) {
+                Some(done) => return Begun::Done(done),
+                None => None,
+            },
+            _ => self.entry(key),
+        };
+        let found = self.find(key, op, entry);
         if let Some(refusal) = self.refusal(caller, &found) {
             return Begun::Refused(refusal);
         }
@@ -287,6 +296,26 @@ impl Stripe {
             First::Writer(change) => self.begin_write(caller, key, op, change),
             First::Processor => unreachable!(),
         }
+    }
+
+    /// A `get` that finds its entry: the one look-up also makes the entry the most recently used. If the entry is missing, nothing
+    /// is done.
+    #[inline(never)]
+    fn hit(&mut self, caller: Caller, key: &Key) -> Option<StepDone>
+        requires room { has_room self.old caller.call HIT_PLACES ≡ true }
+        requires begins { MayBegin self.old caller key.now }
+        ensures { MatchOption result
+            ((self.new ≡ self.old) × (entry_at self.old.cache key.now ≡ None))
+            (λ done. Begins self.old caller key.now Get (Done done) self.new) }
+    {
+        let Some(value) = self.entries.get(key) else {
+            return None;
+        };
+        let _ = self.history.promise(HIT_PLACES);
+        let op = Op::Get;
+        let out = Out::nothing_said();
+        let group = touching_step(caller, key, value, &op, &out);
+        Some(append_group(&mut self.history, &self.joiners, None, &group, HIT_PLACES))
     }
 
     /// Reserves a key, and gives the ticket with which the loader is asked.

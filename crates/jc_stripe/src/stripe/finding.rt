@@ -15,11 +15,11 @@ use jc_model::{Change, Op};
 use jc_types::{Caller, JOINERS_MAX, Key, RESERVATIONS_MAX, Refusal, Value};
 
 impl Stripe {
-    /// What a call finds at its key.
-    pub(super) fn find(&self, key: &Key, op: &Op) -> Found
+    /// What a call finds at its key, which has this entry.
+    pub(super) fn find(&self, key: &Key, op: &Op, entry: Option<Value>) -> Found
+        requires { entry ≡ entry_at self.now.cache key.now }
         ensures { result ≡ found_at self.now key.now op.now }
     {
-        let entry = self.entry(key);
         let first = first_asked(&self.config, op, &entry);
         if answers_at_once(&self.config, op, &entry) {
             return Found {
@@ -65,7 +65,7 @@ impl Stripe {
     }
 
     /// Whether so many places of the history are free, and the numbers aren't at their end.
-    fn has_room(&self, call: u64, needed: usize) -> bool
+    pub(super) fn has_room(&self, call: u64, needed: usize) -> bool
         ensures { result ≡ has_room self.now call needed }
     {
         if !self.history.has_room(needed) {
