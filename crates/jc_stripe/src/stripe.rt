@@ -276,13 +276,24 @@ impl Stripe {
         requires begins { MayBegin self.old caller key.now }
         ensures { Begins self.old caller key.now op.now result self.new }
     {
-        let entry = match op {
-            Op::Get if self.has_room(caller.call, HIT_PLACES) => match self.hit(caller, key) {
-                Some(done) => return Begun::Done(done),
-                None => None,
-            },
-            _ => self.entry(key),
-        };
+        if matches!(op, Op::Get) && self.has_room(caller.call, HIT_PLACES) {
+            return match self.hit(caller, key) {
+                Some(done) => Begun::Done(done),
+                None => self.begin_on(caller, key, op, None),
+            };
+        }
+        let entry = self.entry(key);
+        self.begin_on(caller, key, op, entry)
+    }
+
+    /// What a first phase gives on a key that has this entry, and what it leaves.
+    #[inline(never)]
+    fn begin_on(&mut self, caller: Caller, key: &Key, op: &Op, entry: Option<Value>) -> Begun
+        requires op { IsTrue (has_phases op.now) }
+        requires begins { MayBegin self.old caller key.now }
+        requires entry { entry ≡ entry_at self.old.cache key.now }
+        ensures { Begins self.old caller key.now op.now result self.new }
+    {
         let found = self.find(key, op, entry);
         if let Some(refusal) = self.refusal(caller, &found) {
             return Begun::Refused(refusal);
