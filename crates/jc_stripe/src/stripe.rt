@@ -287,7 +287,6 @@ impl Stripe {
     }
 
     /// What a first phase gives on a key that has this entry, and what it leaves.
-    #[inline(never)]
     fn begin_on(&mut self, caller: Caller, key: &Key, op: &Op, entry: Option<Value>) -> Begun
         requires op { IsTrue (has_phases op.now) }
         requires begins { MayBegin self.old caller key.now }
