@@ -70,23 +70,27 @@ impl Config {
 #[cfg(test)]
 mod tests {
     use super::*;
+    use crate::testing::is;
+
+    // Stripes, capacity and history, and the first field that is out of its limits.
+    const SHAPES: [(&str, usize, usize, usize, Option<Field>); 12] = [
+        ("the least", 1, 1, 16, None),
+        ("the most", 64, 4096, 65536, None),
+        ("few stripes", 0, 1, 16, Some(Field::Stripes)),
+        ("many stripes", 65, 1, 16, Some(Field::Stripes)),
+        ("low capacity", 1, 0, 16, Some(Field::Capacity)),
+        ("high capacity", 1, 4097, 16, Some(Field::Capacity)),
+        ("short history", 1, 1, 15, Some(Field::History)),
+        ("long history", 1, 1, 65537, Some(Field::History)),
+        ("all too few", 0, 0, 15, Some(Field::Stripes)),
+        ("the first two", 65, 4097, 16, Some(Field::Stripes)),
+        ("the last two", 64, 4097, 65537, Some(Field::Capacity)),
+        ("the last two, too few", 64, 0, 0, Some(Field::Capacity)),
+    ];
 
     #[test]
     fn checks_stripes_then_capacity_then_history(rt: HostRuntime) {
-        for (stripes, capacity, history, fault) in [
-            (1, 1, 16, None),
-            (64, 4096, 65536, None),
-            (0, 1, 16, Some(Field::Stripes)),
-            (65, 1, 16, Some(Field::Stripes)),
-            (1, 0, 16, Some(Field::Capacity)),
-            (1, 4097, 16, Some(Field::Capacity)),
-            (1, 1, 15, Some(Field::History)),
-            (1, 1, 65537, Some(Field::History)),
-            (0, 0, 15, Some(Field::Stripes)),
-            (65, 4097, 16, Some(Field::Stripes)),
-            (64, 4097, 65537, Some(Field::Capacity)),
-            (64, 0, 0, Some(Field::Capacity)),
-        ] {
+        for (at, stripes, capacity, history, fault) in SHAPES {
             let config = Config {
                 stripes,
                 capacity,
@@ -98,7 +102,7 @@ mod tests {
                 Some(field) => Err(Refusal::BadConfig(field)),
                 None => Ok(()),
             };
-            assert_eq!(rt; config.check(), want, "at {config:?}");
+            is(&rt, at, config.check(), want);
         }
     }
 }

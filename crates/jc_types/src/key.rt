@@ -174,92 +174,89 @@ pub fn stripe_of(key: &Key, stripes: usize) -> usize
 #[cfg(test)]
 mod tests {
     use super::*;
-    use std::hash::DefaultHasher;
+    use crate::testing::is;
     use std::test::Fail;
+
+    // Texts of 0, 1, 32 and 33 bytes, and why they make no key.
+    const TEXTS: [(&str, Option<KeyFault>); 4] = [
+        ("", Some(KeyFault::Empty)),
+        ("0", None),
+        ("0123456789abcdef0123456789abcdef", None),
+        ("0123456789abcdef0123456789abcdefg", Some(KeyFault::TooLong)),
+    ];
 
     #[test]
     fn takes_1_to_32_bytes(rt: HostRuntime) {
-        let text = b"0123456789abcdef0123456789abcdefg";
-        for (bytes, fault) in [
-            (&text[..0], Some(KeyFault::Empty)),
-            (&text[..1], None),
-            (&text[..32], None),
-            (&text[..33], Some(KeyFault::TooLong)),
-        ] {
-            let len = bytes.len();
-            match Key::new(bytes) {
-                Ok(key) => {
-                    assert_eq!(rt; fault, None, "at {len} bytes");
-                    assert_eq!(rt; key.bytes(), bytes, "at {len} bytes");
+        for (text, fault) in TEXTS {
+            match Key::new(text.as_bytes()) {
+                Ok(made) => {
+                    is(&rt, text, fault, None);
+                    is(&rt, text, made.bytes(), text.as_bytes());
                 }
-                Err(found) => assert_eq!(rt; fault, Some(found), "at {len} bytes"),
+                Err(found) => is(&rt, text, fault, Some(found)),
             }
         }
     }
 
-    fn hash_of(key: &Key) -> u64 {
-        let mut hasher = DefaultHasher::new();
-        key.hash(&mut hasher);
-        hasher.finish()
-    }
+    // The last two are of 32 bytes.
+    const PAIRS: [(&str, &str, Ordering); 6] = [
+        ("a", "a", Ordering::Equal),
+        ("a\0", "a\0", Ordering::Equal),
+        ("a", "a\0", Ordering::Less),
+        ("b", "ab", Ordering::Greater),
+        (
+            "0123456789abcdef0123456789abcde1",
+            "0123456789abcdef0123456789abcde1",
+            Ordering::Equal,
+        ),
+        (
+            "0123456789abcdef0123456789abcde1",
+            "0123456789abcdef0123456789abcde0",
+            Ordering::Greater,
+        ),
+    ];
 
     #[test]
-    fn compares_and_hashes_all_bytes(rt: HostRuntime) -> Result<(), Fail> {
-        let long = b"0123456789abcdef0123456789abcde1";
-        let other = b"0123456789abcdef0123456789abcde0";
-        for (left, right, want) in [
-            (&b"a"[..], &b"a"[..], Ordering::Equal),
-            (&b"a\0"[..], &b"a\0"[..], Ordering::Equal),
-            (&b"a"[..], &b"a\0"[..], Ordering::Less),
-            (&b"b"[..], &b"ab"[..], Ordering::Greater),
-            (&long[..], &long[..], Ordering::Equal),
-            (&long[..], &other[..], Ordering::Greater),
-        ] {
-            let (a, b) = (Key::new(left)?, Key::new(right)?);
-            assert_eq!(rt; a.cmp(&b), want, "{left:?} and {right:?}");
-            assert_eq!(rt; a.partial_cmp(&b), Some(want), "{left:?} and {right:?}");
-            assert_eq!(rt; a == b, want == Ordering::Equal, "{left:?} and {right:?}");
-            assert_eq!(rt;
-                hash_of(&a) == hash_of(&b),
-                a == b,
-                "{left:?} and {right:?}"
-            );
+    fn compares_all_bytes(rt: HostRuntime) -> Result<(), Fail> {
+        for (left, right, want) in PAIRS {
+            let (a, b) = (Key::new(left.as_bytes())?, Key::new(right.as_bytes())?);
+            is(&rt, left, a.partial_cmp(&b), Some(want));
+            is(&rt, left, a == b, want == Ordering::Equal);
         }
         Ok(())
     }
 
     #[test]
     fn finds_the_stripe(rt: HostRuntime) -> Result<(), Fail> {
-        for (bytes, stripes, want) in [
-            (&b"a"[..], 4, 1),
-            (&b"ab"[..], 4, 3),
-            (&b"ba"[..], 4, 3),
-            (&b"a"[..], 1, 0),
-            (&[255; KEY_MAX][..], 64, 32),
-        ] {
-            let key = Key::new(bytes)?;
-            assert_eq!(rt; stripe_of(&key, stripes), want, "{bytes:?} of {stripes}");
-        }
+        let longest = Key::new(&[255; KEY_MAX])?;
+        is(&rt, "255 times 32", stripe_of(&longest, 64), 32);
+        let key = Key::new(b"ab")?;
+        is(&rt, "97 and 98", stripe_of(&key, 4), 3);
+        is(&rt, "the only one", stripe_of(&key, 1), 0);
         Ok(())
     }
+
+    const FAULTS: [(KeyFault, &str); 2] = [
+        (KeyFault::Empty, "a key has at least one byte"),
+        (KeyFault::TooLong, "a key has at most 32 bytes"),
+    ];
 
     #[test]
     fn says_why(rt: HostRuntime) -> Result<(), Fail> {
-        for (fault, want) in [
-            (KeyFault::Empty, "a key has at least one byte"),
-            (KeyFault::TooLong, "a key has at most 32 bytes"),
-        ] {
+        for (fault, want) in FAULTS {
             let text = format!(in rt.alloc(); "{fault}")?;
-            assert_eq!(rt; text.as_str(), want);
+            is(&rt, want, text.as_str(), want);
         }
         Ok(())
     }
 
+    const PRINTED: [(&[u8], &str); 2] = [(b"a.1", "\"a.1\""), (&[255, 0], "[255, 0]")];
+
     #[test]
     fn prints_as_text(rt: HostRuntime) -> Result<(), Fail> {
-        for (bytes, want) in [(&b"a.1"[..], "\"a.1\""), (&[255, 0][..], "[255, 0]")] {
+        for (bytes, want) in PRINTED {
             let text = format!(in rt.alloc(); "{:?}", Key::new(bytes)?)?;
-            assert_eq!(rt; text.as_str(), want);
+            is(&rt, want, text.as_str(), want);
         }
         Ok(())
     }

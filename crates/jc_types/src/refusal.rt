@@ -132,6 +132,7 @@ impl Refusal {
 #[cfg(test)]
 mod tests {
     use super::*;
+    use crate::testing::is;
     use std::test::Fail;
 
     // The name of each refusal, and what it says.
@@ -154,33 +155,34 @@ TooManySessions: the cache has handed out all of its sessions
 StillReserved: the cache is in use and can't be closed
 ";
 
+    const REFUSALS: [Refusal; 16] = [
+        Refusal::HistoryFull,
+        Refusal::Busy,
+        Refusal::TooManyInFlight,
+        Refusal::TooManyJoiners,
+        Refusal::LoaderFailed(7),
+        Refusal::WriterFailed(0),
+        Refusal::ProcessorFailed(u32::MAX),
+        Refusal::OutOfMemory,
+        Refusal::TooManyKeys,
+        Refusal::BadConfig(Field::Stripes),
+        Refusal::BadConfig(Field::Capacity),
+        Refusal::BadConfig(Field::History),
+        Refusal::NoLoader,
+        Refusal::NoWriter,
+        Refusal::TooManySessions,
+        Refusal::StillReserved,
+    ];
+
     #[test]
     fn names_and_explains_each_refusal(rt: HostRuntime) -> Result<(), Fail> {
-        let refusals = [
-            Refusal::HistoryFull,
-            Refusal::Busy,
-            Refusal::TooManyInFlight,
-            Refusal::TooManyJoiners,
-            Refusal::LoaderFailed(7),
-            Refusal::WriterFailed(0),
-            Refusal::ProcessorFailed(u32::MAX),
-            Refusal::OutOfMemory,
-            Refusal::TooManyKeys,
-            Refusal::BadConfig(Field::Stripes),
-            Refusal::BadConfig(Field::Capacity),
-            Refusal::BadConfig(Field::History),
-            Refusal::NoLoader,
-            Refusal::NoWriter,
-            Refusal::TooManySessions,
-            Refusal::StillReserved,
-        ];
         let mut lines = TEXTS.lines();
-        for refusal in refusals {
+        for refusal in REFUSALS {
             let name = refusal.name();
             let found = format!(in rt.alloc(); "{name}: {refusal}")?;
-            assert_eq!(rt; Some(found.as_str()), lines.next());
+            is(&rt, name, Some(found.as_str()), lines.next());
         }
-        assert_eq!(rt; lines.next(), None);
+        is(&rt, "the end", lines.next(), None);
         Ok(())
     }
 }

@@ -128,45 +128,53 @@ impl PartialOrd for Value {
 #[cfg(test)]
 mod tests {
     use super::*;
+    use crate::testing::is;
     use std::test::Fail;
+
+    // Texts of 64 bytes that differ in the last one.
+    const LONG: &str = "0123456789abcdef0123456789abcdef0123456789abcdef0123456789abcde1";
+
+    const OTHER: &str = "0123456789abcdef0123456789abcdef0123456789abcdef0123456789abcde0";
+
+    // Texts of 0, 1, 64 and 65 bytes, and why they make no value.
+    const TEXTS: [(&str, Option<ValueFault>); 4] = [
+        ("", None),
+        ("v", None),
+        (LONG, None),
+        (
+            "0123456789abcdef0123456789abcdef0123456789abcdef0123456789abcdefv",
+            Some(ValueFault::TooLong),
+        ),
+    ];
 
     #[test]
     fn takes_0_to_64_bytes(rt: HostRuntime) {
-        let text = [b'v'; 65];
-        for (bytes, fault) in [
-            (&text[..0], None),
-            (&text[..1], None),
-            (&text[..64], None),
-            (&text[..65], Some(ValueFault::TooLong)),
-        ] {
-            let len = bytes.len();
-            match Value::new(bytes) {
-                Ok(value) => {
-                    assert_eq!(rt; fault, None, "at {len} bytes");
-                    assert_eq!(rt; value.bytes(), bytes, "at {len} bytes");
+        for (text, fault) in TEXTS {
+            match Value::new(text.as_bytes()) {
+                Ok(made) => {
+                    is(&rt, text, fault, None);
+                    is(&rt, text, made.bytes(), text.as_bytes());
                 }
-                Err(found) => assert_eq!(rt; fault, Some(found), "at {len} bytes"),
+                Err(found) => is(&rt, text, fault, Some(found)),
             }
         }
     }
 
+    const PAIRS: [(&str, &str, Ordering); 6] = [
+        ("", "", Ordering::Equal),
+        ("", "\0", Ordering::Less),
+        ("a", "a\0", Ordering::Less),
+        ("b", "ab", Ordering::Greater),
+        (LONG, LONG, Ordering::Equal),
+        (LONG, OTHER, Ordering::Greater),
+    ];
+
     #[test]
     fn compares_all_bytes(rt: HostRuntime) -> Result<(), Fail> {
-        let mut long = [b'v'; VALUE_MAX];
-        let other = long;
-        long[VALUE_MAX - 1] = b'w';
-        for (left, right, want) in [
-            (&b""[..], &b""[..], Ordering::Equal),
-            (&b""[..], &b"\0"[..], Ordering::Less),
-            (&b"a"[..], &b"a\0"[..], Ordering::Less),
-            (&b"b"[..], &b"ab"[..], Ordering::Greater),
-            (&long[..], &long[..], Ordering::Equal),
-            (&long[..], &other[..], Ordering::Greater),
-        ] {
-            let (a, b) = (Value::new(left)?, Value::new(right)?);
-            assert_eq!(rt; a.cmp(&b), want, "{left:?} and {right:?}");
-            assert_eq!(rt; a.partial_cmp(&b), Some(want), "{left:?} and {right:?}");
-            assert_eq!(rt; a == b, want == Ordering::Equal, "{left:?} and {right:?}");
+        for (left, right, want) in PAIRS {
+            let (a, b) = (Value::new(left.as_bytes())?, Value::new(right.as_bytes())?);
+            is(&rt, left, a.partial_cmp(&b), Some(want));
+            is(&rt, left, a == b, want == Ordering::Equal);
         }
         Ok(())
     }
@@ -174,7 +182,8 @@ mod tests {
     #[test]
     fn says_why(rt: HostRuntime) -> Result<(), Fail> {
         let text = format!(in rt.alloc(); "{}", ValueFault::TooLong)?;
-        assert_eq!(rt; text.as_str(), "a value has at most 64 bytes");
+        let want = "a value has at most 64 bytes";
+        is(&rt, want, text.as_str(), want);
         Ok(())
     }
 }
