@@ -43,30 +43,35 @@ fn look_at_list(rt: &impl Abort, table: &Reservations<char>) {
     }
 }
 
+// A key that is reserved with a note, or with none is released, and the number that this gives.
+const CHANGES: [(&str, Option<char>, Option<u64>); 9] = [
+    ("a", Some('x'), Some(0)),
+    ("b", Some('y'), Some(1)),
+    ("a", Some('z'), None),
+    ("b", None, Some(1)),
+    ("b", None, None),
+    ("b", Some('u'), Some(2)),
+    ("a", None, Some(0)),
+    ("a", Some('v'), Some(3)),
+    ("c", Some('w'), Some(4)),
+];
+
+// The keys after that, with their numbers and notes.
+const FOUND: [(&str, Option<(u64, char)>); 4] = [
+    ("a", Some((3, 'v'))),
+    ("b", Some((2, 'u'))),
+    ("c", Some((4, 'w'))),
+    ("d", None),
+];
+
 #[test]
 fn numbers_rise_and_never_come_twice(rt: HostRuntime) -> Result<(), Fail> {
     let mut table = Reservations::new();
     is(&rt, "new", table.is_empty(), true);
-    // A key that is reserved with a note, or with none is released, and the number that this gives.
-    for (name, note, want) in [
-        ("a", Some('x'), Some(0)),
-        ("b", Some('y'), Some(1)),
-        ("a", Some('z'), None),
-        ("b", None, Some(1)),
-        ("b", None, None),
-        ("b", Some('u'), Some(2)),
-        ("a", None, Some(0)),
-        ("a", Some('v'), Some(3)),
-        ("c", Some('w'), Some(4)),
-    ] {
+    for (name, note, want) in CHANGES {
         is(&rt, name, change(&mut table, &key(&rt, name), note), want);
     }
-    for (name, want) in [
-        ("a", Some((3, 'v'))),
-        ("b", Some((2, 'u'))),
-        ("c", Some((4, 'w'))),
-        ("d", None),
-    ] {
+    for (name, want) in FOUND {
         look_up(&rt, &table, name, want);
     }
     is(&rt, "a", table.release(&key(&rt, "a")), Some((3, 'v')));
