@@ -24,16 +24,16 @@ fn resolve(rt: &impl Abort, joiners: &mut Joiners, load: u64, step: u32) -> u32 
     joiners.resolve(load, step)
 }
 
-/// Has calls ask for their answers.
-fn take(rt: &impl Abort, joiners: &mut Joiners, calls: &[(u32, u64, &Key, Option<JoinState>)]) {
-    for (session, call, key, want) in calls {
-        is(
-            rt,
-            "take",
-            joiners.take(caller(*session, *call), key),
-            *want,
-        );
+/// Session, call and key of a call that asks for its answer, and what it is given.
+type Taken = (u32, u64, &'static str, Option<JoinState>);
+
+fn take(rt: &impl Abort, joiners: &mut Joiners, calls: &[Taken]) -> Result<(), Fail> {
+    for (session, call, name, want) in calls {
+        let key = Key::new(name.as_bytes())?;
+        let found = joiners.take(caller(*session, *call), &key);
+        is(rt, name, found, *want);
     }
+    Ok(())
 }
 
 /// Two joiners of load 7, at one key, with one of load 8 between them, at another.
@@ -60,13 +60,23 @@ fn three(rt: &impl Abort, a: &Key, b: &Key) -> Joiners {
     joiners
 }
 
-/// An answer at this place, which shares the load at place 40.
-fn answered(place: u32) -> Option<JoinState> {
-    Some(JoinState::Answered {
-        place,
-        shared_with: 40,
-    })
-}
+// The first and the second answer of the load at place 40.
+const FIRST: Option<JoinState> = Some(JoinState::Answered {
+    place: 41,
+    shared_with: 40,
+});
+
+const SECOND: Option<JoinState> = Some(JoinState::Answered {
+    place: 42,
+    shared_with: 40,
+});
+
+const ANSWERS: &[Taken] = &[
+    (3, 30, "a", SECOND),
+    (2, 20, "b", Some(JoinState::Waiting)),
+    (1, 10, "a", FIRST),
+    (1, 10, "a", None),
+];
 
 #[test]
 fn answers_in_the_order_of_joining(rt: HostRuntime) -> Result<(), Fail> {
@@ -79,19 +89,19 @@ fn answers_in_the_order_of_joining(rt: HostRuntime) -> Result<(), Fail> {
     is(&rt, "resolve", resolve(&rt, &mut joiners, 7, 40), 2);
     is(&rt, "no longer", joiners.waiting(7), 0);
     is(&rt, "still", joiners.waiting(8), 1);
-    take(
-        &rt,
-        &mut joiners,
-        &[
-            (3, 30, &a, answered(42)),
-            (2, 20, &b, Some(JoinState::Waiting)),
-            (1, 10, &a, answered(41)),
-            (1, 10, &a, None),
-        ],
-    );
+    take(&rt, &mut joiners, ANSWERS)?;
     is(&rt, "length", joiners.len(), 1);
     Ok(())
 }
+
+// Another key, another call and another session take nothing.
+const RETRIES: &[Taken] = &[
+    (1, 10, "a", Some(JoinState::Again)),
+    (3, 30, "a", Some(JoinState::Again)),
+    (2, 20, "a", None),
+    (2, 21, "b", None),
+    (1, 20, "b", None),
+];
 
 #[test]
 fn tells_the_joiners_of_a_withdrawn_load_to_retry(rt: HostRuntime) -> Result<(), Fail> {
@@ -105,21 +115,9 @@ fn tells_the_joiners_of_a_withdrawn_load_to_retry(rt: HostRuntime) -> Result<(),
         resolve(&rt, &mut joiners, 7, 1),
         0,
     );
-    let again = Some(JoinState::Again);
-    // Another key, another call and another session take nothing.
-    take(
-        &rt,
-        &mut joiners,
-        &[
-            (1, 10, &a, again),
-            (3, 30, &a, again),
-            (2, 20, &a, None),
-            (2, 21, &b, None),
-            (1, 20, &b, None),
-        ],
-    );
+    take(&rt, &mut joiners, RETRIES)?;
     is(&rt, "dissolve", joiners.dissolve(8), 1);
-    take(&rt, &mut joiners, &[(2, 20, &b, again)]);
+    take(&rt, &mut joiners, &[(2, 20, "b", Some(JoinState::Again))])?;
     is(&rt, "empty", joiners.is_empty(), true);
     Ok(())
 }
@@ -153,7 +151,7 @@ fn holds_64_joiners_and_no_65th(rt: HostRuntime) -> Result<(), Fail> {
         join(&rt, &mut joiners, late, &k, 0),
         false,
     );
-    take(&rt, &mut joiners, &[(1, 0, &k, answered(41))]);
+    take(&rt, &mut joiners, &[(1, 0, "k", FIRST)])?;
     is(&rt, "room", join(&rt, &mut joiners, late, &k, 9), true);
     is(&rt, "joined", joiners.has_joined(late, &k), true);
     is(&rt, "taken", joiners.has_joined(caller(1, 0), &k), false);
