@@ -19,10 +19,7 @@ use std::alloc::AllocError;
 
 /// The first word, and what follows it, if anything.
 fn first_word(text: &str) -> (&str, &str) {
-    match text.split_once(' ') {
-        Some(parts) => parts,
-        None => (text, ""),
-    }
+    text.split_once(' ').unwrap_or((text, ""))
 }
 
 fn number(word: &str) -> Option<u32> {
@@ -39,10 +36,10 @@ fn value(word: &str) -> Option<Value> {
 
 /// The value that a word says; a dash says none.
 fn value_or_none(word: &str) -> Option<Option<Value>> {
-    match word.as_bytes() {
-        b"-" => Some(None),
-        _ => Some(Some(value(word)?)),
+    if word == "-" {
+        return Some(None);
     }
+    Some(Some(value(word)?))
 }
 
 // 2. Steps.
