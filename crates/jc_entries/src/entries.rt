@@ -213,6 +213,3 @@ impl Entries {
         None
     }
 }
-
-#[cfg(test)]
-mod tests;

@@ -11,8 +11,6 @@ mod inline;
 pub mod key;
 pub mod limits;
 pub mod refusal;
-#[cfg(test)]
-mod testing;
 pub mod value;
 
 pub use caller::Caller;

@@ -1,6 +1,7 @@
 //! The callers' order.
 use super::script::all_judged;
-use super::*;
+use super::shape;
+use std::test::Fail;
 
 const CALLERS: &str = "\
 a call's number that rises

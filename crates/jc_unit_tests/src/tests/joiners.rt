@@ -1,14 +1,9 @@
 //! Joiners of two loads, answered and told to retry, and a table that is full. No test is given an allocator.
-//!
-//! Each assertion is a call of `is`, which is proved once: an assertion in its own place costs the check far more.
-use super::*;
-use std::fmt::Debug;
+use super::is;
+use jc_inflight::{JoinState, Joiners};
+use jc_types::{Caller, Key};
 use std::process::Abort;
 use std::test::Fail;
-
-fn is<T: Copy + Debug + PartialEq>(rt: &impl Abort, at: &str, found: T, want: T) {
-    assert_eq!(rt; found, want, "{at}");
-}
 
 fn caller(session: u32, call: u64) -> Caller {
     Caller { session, call }

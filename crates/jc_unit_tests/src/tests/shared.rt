@@ -1,6 +1,7 @@
 //! Loads that several callers share, and what they see of a put.
 use super::script::all_judged;
-use super::*;
+use super::shape;
+use std::test::Fail;
 
 // A load answers, and its value is seen while a put is out; the put commits, and then the new value is seen.
 const PUT: &str = "\

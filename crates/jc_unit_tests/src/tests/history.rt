@@ -1,13 +1,11 @@
-use super::*;
-use jc_model::{Cause, Effect, LoadAnswer, Op, Out, ProcessAnswer, WriteAnswer};
-use jc_types::{Caller, Field, KEY_MAX, Key, Refusal, VALUE_MAX, Value};
-use std::fmt::Debug;
+//! Room for events, and events read back.
+use super::is;
+use jc_history::History;
+use jc_model::{Cause, Effect, Event, LoadAnswer, Op, Out, ProcessAnswer, Reply, WriteAnswer};
+use jc_types::{Caller, HISTORY_MAX, KEY_MAX, Key, VALUE_MAX, Value};
+use std::alloc::Global;
 use std::process::Abort;
 use std::test::Fail;
-
-fn is<T: Copy + Debug + PartialEq>(rt: &impl Abort, at: &str, found: T, want: T) {
-    assert_eq!(rt; found, want, "{at}");
-}
 
 /// Asserts what becomes of a promise beside an earlier one: whether it fits, and how many places are promised then.
 fn promises(
@@ -127,26 +125,6 @@ fn largest(key: Key, value: Value) -> Event {
         shared_with: Some(u32::MAX),
         reply: Reply::Value(Some(value)),
     }
-}
-
-/// The bytes of an event that is the only one of a history.
-fn bytes_of(rt: &impl Abort, alloc: Global, event: &Event) -> Result<usize, Fail> {
-    let mut history = History::new(alloc, 1)?;
-    assert!(rt; history.promise(1));
-    pushes(rt, &mut history, event);
-    Ok(history.bytes.len())
-}
-
-#[test]
-fn stores_few_bytes(rt: HostRuntime) -> Result<(), Fail> {
-    let key = Key::new(&[255; KEY_MAX])?;
-    let value = Value::new(&[0; VALUE_MAX])?;
-    let found = bytes_of(&rt, rt.alloc(), &largest(key, value))?;
-    is(&rt, "the largest", found, 43 + KEY_MAX + 6 * VALUE_MAX);
-    is(&rt, "the largest", found, EVENT_ROOM);
-    let found = bytes_of(&rt, rt.alloc(), &hit(key, value))?;
-    is(&rt, "a hit", found, 23 + KEY_MAX + VALUE_MAX);
-    Ok(())
 }
 
 /// Asserts which event is at a place, and its reply.

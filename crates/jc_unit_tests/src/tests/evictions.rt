@@ -1,6 +1,7 @@
 //! Evictions from a stripe with room for two entries.
 use super::script::all_judged;
-use super::*;
+use super::shape;
+use std::test::Fail;
 
 const VICTIMS: &str = "\
 a victim

@@ -1,8 +1,8 @@
 //! What the texts don't run: the rows of an entry processor, and a list that an entry is taken out of.
-use super::*;
-use crate::event::{Change, Effect, ProcessAnswer};
-use crate::listed::take_out;
-use crate::table::LoaderAsk;
+use super::{key, value};
+use jc_model::listed::take_out;
+use jc_model::{Change, Effect, LoaderAsk, Op, ProcessAnswer};
+use std::test::Fail;
 
 #[test]
 fn asks_for_an_entry_processor(rt: HostRuntime) {

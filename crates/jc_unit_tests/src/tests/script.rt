@@ -7,13 +7,11 @@
 //! - `CALL SESSION OP KEY [, ANSWER], is REPLY [shared PLACE]`, a step, as `1 s1 get a, read 1, is 1`. Nobody was asked
 //!   if there is no answer. The loader's is `read VALUE`, `read -` or `readfail CODE`, the writer's `apply` or `applyfail CODE`;
 //! - `evict KEY full` or `evict KEY memory`.
-use super::{
-    Abort, Caller, Config, Event, Fail, Global, Key, LoadAnswer, Op, Out, Reply, Value,
-    WriteAnswer, legal,
-};
-use crate::event::Cause;
-use jc_types::Refusal;
-use std::alloc::AllocError;
+use jc_model::{Cause, Event, LoadAnswer, Op, Out, Reply, WriteAnswer, legal};
+use jc_types::{Caller, Config, Key, Refusal, Value};
+use std::alloc::{AllocError, Global};
+use std::process::Abort;
+use std::test::Fail;
 
 // 1. Words.
 

@@ -1,20 +1,16 @@
 //! The order of use, evictions past pinned keys, and the limits of the capacity. A text stands for keys of one byte each.
-use super::*;
+use super::{key, value};
+use jc_entries::{Entries, Inserted};
+use jc_model::Cause;
+use jc_types::{CAPACITY_MAX, Key, Value};
+use std::alloc::Global;
 use std::process::Abort;
 use std::test::Fail;
-
-fn key(rt: &impl Abort, byte: u8) -> Key {
-    Key::new(&[byte]).ok().expect(rt, "a key")
-}
-
-fn value(rt: &impl Abort, text: &str) -> Value {
-    Value::new(text.as_bytes()).ok().expect(rt, "a value")
-}
 
 fn keys_in(rt: &impl Abort, alloc: Global, text: &str) -> Result<Vec<Key>, Fail> {
     let mut keys = Vec::new(alloc);
     for byte in text.as_bytes() {
-        keys.push(key(rt, *byte))?;
+        keys.push(key(rt, &[*byte]))?;
     }
     Ok(keys)
 }
@@ -45,7 +41,7 @@ enum Call {
 fn made(rt: &impl Abort, entries: &mut Entries, key: &Key, call: Call) -> Option<Value> {
     match call {
         Call::Put(text) => {
-            let found = entries.insert(key, &value(rt, text), &[]);
+            let found = entries.insert(key, &value(rt, text.as_bytes()), &[]);
             assert_eq!(rt; found, Inserted::Kept);
             None
         }
@@ -79,9 +75,9 @@ fn keeps_the_order_of_use(rt: HostRuntime) -> Result<(), Fail> {
     let mut entries = Entries::new(rt.alloc(), 3)?;
     assert!(rt; entries.is_empty());
     for (call, byte, text, left) in CALLS {
-        let found = made(&rt, &mut entries, &key(&rt, byte), call);
+        let found = made(&rt, &mut entries, &key(&rt, &[byte]), call);
         let want = match text {
-            Some(text) => Some(value(&rt, text)),
+            Some(text) => Some(value(&rt, text.as_bytes())),
             None => None,
         };
         assert_eq!(rt; found, want, "before {left:?}");
@@ -90,8 +86,8 @@ fn keeps_the_order_of_use(rt: HostRuntime) -> Result<(), Fail> {
     let mut found = Vec::new(rt.alloc());
     entries.append_to(&mut found)?;
     let want = [
-        (key(&rt, b'b'), value(&rt, "4")),
-        (key(&rt, b'c'), value(&rt, "3")),
+        (key(&rt, &[b'b']), value(&rt, b"4")),
+        (key(&rt, &[b'c']), value(&rt, b"3")),
     ];
     assert_eq!(rt; found.as_slice(), want.as_slice());
     Ok(())
@@ -109,10 +105,10 @@ fn evicts(
 ) -> Result<(), Fail> {
     let mut entries = Entries::new(alloc, 2)?;
     for byte in b"ab" {
-        entries.insert(&key(rt, *byte), &value(rt, "x"), &[]);
+        entries.insert(&key(rt, &[*byte]), &value(rt, b"x"), &[]);
     }
     let pinned_keys = keys_in(rt, alloc, pinned)?;
-    let found = entries.insert(&key(rt, b'c'), &value(rt, "y"), &pinned_keys);
+    let found = entries.insert(&key(rt, &[b'c']), &value(rt, b"y"), &pinned_keys);
     assert_eq!(rt; found, want, "pinned {pinned}");
     assert_eq!(rt; shown(alloc, &entries)?.as_slice(), left, "pinned {pinned}");
     Ok(())
@@ -120,7 +116,7 @@ fn evicts(
 
 #[test]
 fn evicts_the_least_recently_used_that_is_not_pinned(rt: HostRuntime) -> Result<(), Fail> {
-    let (a, b) = (key(&rt, b'a'), key(&rt, b'b'));
+    let (a, b) = (key(&rt, &[b'a']), key(&rt, &[b'b']));
     for (pinned, want, left) in [
         ("", Inserted::KeptAfter(a), b"cb"),
         ("bc", Inserted::KeptAfter(a), b"cb"),
@@ -136,12 +132,12 @@ fn evicts_the_least_recently_used_that_is_not_pinned(rt: HostRuntime) -> Result<
 fn fills(rt: &impl Abort, alloc: Global, capacity: usize) -> Result<(), Fail> {
     assert!(rt; 0 < capacity && capacity <= CAPACITY_MAX);
     let mut entries = Entries::new(alloc, capacity)?;
-    let x = value(rt, "x");
+    let x = value(rt, b"x");
     for i in 0..capacity {
         let found = entries.insert(&Key::new(&i.to_be_bytes())?, &x, &[]);
         assert_eq!(rt; found, Inserted::Kept, "{i} of {capacity}");
     }
-    let found = entries.insert(&key(rt, b'm'), &x, &[]);
+    let found = entries.insert(&key(rt, &[b'm']), &x, &[]);
     let first = Key::new(&0usize.to_be_bytes())?;
     assert_eq!(rt; found, Inserted::KeptAfter(first), "of {capacity}");
     assert_eq!(rt; entries.len(), entries.capacity());

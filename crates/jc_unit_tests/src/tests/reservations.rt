@@ -1,18 +1,9 @@
 //! What a table of reservations answers, from an empty one to a full one. No test is given an allocator.
-//!
-//! Each assertion is a call of `is`, which is proved once: an assertion in its own place costs the check far more.
-use super::*;
-use std::fmt::Debug;
+use super::{is, key};
+use jc_reserve::Reservations;
+use jc_types::Key;
 use std::process::Abort;
 use std::test::Fail;
-
-fn is<T: Copy + Debug + PartialEq>(rt: &impl Abort, at: &str, found: T, want: T) {
-    assert_eq!(rt; found, want, "{at}");
-}
-
-fn key(rt: &impl Abort, name: &str) -> Key {
-    Key::new(name.as_bytes()).ok().expect(rt, "a key")
-}
 
 /// Reserves a key with this note, or with none releases it, and gives the number of its reservation.
 fn change(table: &mut Reservations<char>, key: &Key, note: Option<char>) -> Option<u64> {
@@ -24,14 +15,14 @@ fn change(table: &mut Reservations<char>, key: &Key, note: Option<char>) -> Opti
 
 /// Looks a key up, which is reserved or free.
 fn look_up(rt: &impl Abort, table: &Reservations<char>, name: &str, want: Option<(u64, char)>) {
-    let key = key(rt, name);
+    let key = key(rt, name.as_bytes());
     is(rt, name, table.find(&key), want);
     is(rt, name, table.is_reserved(&key), want.is_some());
 }
 
 /// Asks for the reservations as a list: the keys `b` and `c`, by the numbers 2 and 4.
 fn look_at_list(rt: &impl Abort, table: &Reservations<char>) {
-    let left = [key(rt, "b"), key(rt, "c")];
+    let left = [key(rt, b"b"), key(rt, b"c")];
     is(rt, "keys", table.keys(), left.as_slice());
     is(rt, "length", table.len(), 2);
     for (held, want) in table
@@ -69,12 +60,17 @@ fn numbers_rise_and_never_come_twice(rt: HostRuntime) -> Result<(), Fail> {
     let mut table = Reservations::new();
     is(&rt, "new", table.is_empty(), true);
     for (name, note, want) in CHANGES {
-        is(&rt, name, change(&mut table, &key(&rt, name), note), want);
+        is(
+            &rt,
+            name,
+            change(&mut table, &key(&rt, name.as_bytes()), note),
+            want,
+        );
     }
     for (name, want) in FOUND {
         look_up(&rt, &table, name, want);
     }
-    is(&rt, "a", table.release(&key(&rt, "a")), Some((3, 'v')));
+    is(&rt, "a", table.release(&key(&rt, b"a")), Some((3, 'v')));
     look_at_list(&rt, &table);
     Ok(())
 }
@@ -94,7 +90,7 @@ fn holds_64_keys_and_no_65th(rt: HostRuntime) -> Result<(), Fail> {
     let mut table = Reservations::new();
     reserve_64(&rt, &mut table)?;
     is(&rt, "full", table.is_full(), true);
-    let other = key(&rt, "other");
+    let other = key(&rt, b"other");
     is(&rt, "full", table.reserve(&other, 64), None);
     is(&rt, "full", table.len(), 64);
     let left = Key::new(&[b'k', 31])?;
@@ -109,7 +105,7 @@ fn holds_64_keys_and_no_65th(rt: HostRuntime) -> Result<(), Fail> {
 fn stops_at_the_end_of_the_numbers(rt: HostRuntime) -> Result<(), Fail> {
     let last = u64::MAX - 1;
     let mut table = Reservations::new_from(last);
-    let (a, b) = (key(&rt, "a"), key(&rt, "b"));
+    let (a, b) = (key(&rt, b"a"), key(&rt, b"b"));
     is(&rt, "one number is left", table.is_used_up(), false);
     is(&rt, "the last number", table.reserve(&a, ()), Some(last));
     is(&rt, "no number is left", table.is_used_up(), true);

@@ -1,6 +1,8 @@
 //! Openings and shapes that have no legal history, and keys of two stripes.
 use super::script::all_judged;
-use super::*;
+use super::shape;
+use jc_model::legal;
+use std::test::Fail;
 
 const OPENINGS: &str = "\
 as many as fit
