@@ -77,10 +77,13 @@ const ANSWERS: &[Taken] = &[
 fn answers_in_the_order_of_joining(rt: HostRuntime) -> Result<(), Fail> {
     let (a, b) = (Key::new(b"a")?, Key::new(b"b")?);
     let mut joiners = three(&rt, &a, &b);
-    for (joiner, session) in joiners.list().iter().zip([1, 2, 3]) {
-        is(&rt, "list", joiner.caller.session, session);
-        is(&rt, "list", joiner.waits_for(7), session != 2);
-    }
+    let list = joiners.list();
+    assert!(rt; list.len() == 3);
+    let (first, second, third) = (list[0], list[1], list[2]);
+    is(&rt, "first", first.belongs_to(caller(1, 10), &a), true);
+    is(&rt, "second", second.belongs_to(caller(2, 20), &b), true);
+    is(&rt, "third", third.belongs_to(caller(3, 30), &a), true);
+    is(&rt, "another load", second.waits_for(7), false);
     is(&rt, "resolve", resolve(&rt, &mut joiners, 7, 40), 2);
     is(&rt, "no longer", joiners.waiting(7), 0);
     is(&rt, "still", joiners.waiting(8), 1);

@@ -24,14 +24,14 @@ fn look_up(rt: &impl Abort, table: &Reservations<char>, name: &str, want: Option
 fn look_at_list(rt: &impl Abort, table: &Reservations<char>) {
     let left = [key(rt, b"b"), key(rt, b"c")];
     is(rt, "keys", table.keys(), left.as_slice());
-    is(rt, "length", table.len(), 2);
-    for (held, want) in table
-        .list()
-        .iter()
-        .zip([(left[0], 2, 'u'), (left[1], 4, 'w')])
-    {
-        is(rt, "held", (held.key, held.reservation, held.note), want);
+    let list = table.list();
+    assert!(rt; list.len() == 2 && table.len() == 2);
+    for place in 0..2 {
+        is(rt, "key", list[place].key, left[place]);
     }
+    let (b, c) = (list[0], list[1]);
+    is(rt, "b", (b.reservation, b.note), (2, 'u'));
+    is(rt, "c", (c.reservation, c.note), (4, 'w'));
 }
 
 // A key that is reserved with a note, or with none is released, and the number that this gives.
