@@ -223,6 +223,3 @@ impl Entries {
         None
     }
 }
-
-#[cfg(test)]
-mod tests;

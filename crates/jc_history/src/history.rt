@@ -223,6 +223,3 @@ fn push_copy<T: Copy>(items: &mut Vec<T>, item: &T)
 {
     items.push_reserved(*item);
 }
-
-#[cfg(test)]
-mod tests;

@@ -194,6 +194,3 @@ fn retry_each(joiners: &mut [Joiner], load: u64) -> u32
     }
     count
 }
-
-#[cfg(test)]
-mod tests;

@@ -18,8 +18,6 @@ mod same;
 mod stripes;
 pub mod table;
 pub mod table_laws;
-#[cfg(test)]
-mod tests;
 
 pub use checker::legal;
 pub use contents::Contents;

@@ -178,6 +178,3 @@ fn place_among(keys: &[Key], key: &Key) -> Option<usize>
 {
     keys.iter().position(|k| *key == *k)
 }
-
-#[cfg(test)]
-mod tests;

@@ -66,39 +66,3 @@ impl Config {
         Ok(())
     }
 }
-
-#[cfg(test)]
-mod tests {
-    use super::*;
-
-    #[test]
-    fn checks_stripes_then_capacity_then_history(rt: HostRuntime) {
-        for (stripes, capacity, history, fault) in [
-            (1, 1, 16, None),
-            (64, 4096, 65536, None),
-            (0, 1, 16, Some(Field::Stripes)),
-            (65, 1, 16, Some(Field::Stripes)),
-            (1, 0, 16, Some(Field::Capacity)),
-            (1, 4097, 16, Some(Field::Capacity)),
-            (1, 1, 15, Some(Field::History)),
-            (1, 1, 65537, Some(Field::History)),
-            (0, 0, 15, Some(Field::Stripes)),
-            (65, 4097, 16, Some(Field::Stripes)),
-            (64, 4097, 65537, Some(Field::Capacity)),
-            (64, 0, 0, Some(Field::Capacity)),
-        ] {
-            let config = Config {
-                stripes,
-                capacity,
-                history,
-                read_through: true,
-                write_through: false,
-            };
-            let want = match fault {
-                Some(field) => Err(Refusal::BadConfig(field)),
-                None => Ok(()),
-            };
-            assert_eq!(rt; config.check(), want, "at {config:?}");
-        }
-    }
-}

@@ -1,0 +1,89 @@
+//! Keys, and the stripe that one belongs to.
+use super::is;
+use jc_types::{KEY_MAX, Key, KeyFault, stripe_of};
+use std::cmp::Ordering;
+use std::test::Fail;
+
+// Texts of 0, 1, 32 and 33 bytes, and why they make no key.
+const TEXTS: [(&str, Option<KeyFault>); 4] = [
+    ("", Some(KeyFault::Empty)),
+    ("0", None),
+    ("0123456789abcdef0123456789abcdef", None),
+    ("0123456789abcdef0123456789abcdefg", Some(KeyFault::TooLong)),
+];
+
+#[test]
+fn takes_1_to_32_bytes(rt: HostRuntime) {
+    for (text, fault) in TEXTS {
+        match Key::new(text.as_bytes()) {
+            Ok(made) => {
+                is(&rt, text, fault, None);
+                is(&rt, text, made.bytes(), text.as_bytes());
+            }
+            Err(found) => is(&rt, text, fault, Some(found)),
+        }
+    }
+}
+
+// The last two are of 32 bytes.
+const PAIRS: [(&str, &str, Ordering); 6] = [
+    ("a", "a", Ordering::Equal),
+    ("a\0", "a\0", Ordering::Equal),
+    ("a", "a\0", Ordering::Less),
+    ("b", "ab", Ordering::Greater),
+    (
+        "0123456789abcdef0123456789abcde1",
+        "0123456789abcdef0123456789abcde1",
+        Ordering::Equal,
+    ),
+    (
+        "0123456789abcdef0123456789abcde1",
+        "0123456789abcdef0123456789abcde0",
+        Ordering::Greater,
+    ),
+];
+
+#[test]
+fn compares_all_bytes(rt: HostRuntime) -> Result<(), Fail> {
+    for (left, right, want) in PAIRS {
+        let (a, b) = (Key::new(left.as_bytes())?, Key::new(right.as_bytes())?);
+        is(&rt, left, a.partial_cmp(&b), Some(want));
+        is(&rt, left, a == b, want == Ordering::Equal);
+    }
+    Ok(())
+}
+
+#[test]
+fn finds_the_stripe(rt: HostRuntime) -> Result<(), Fail> {
+    let longest = Key::new(&[255; KEY_MAX])?;
+    is(&rt, "255 times 32", stripe_of(&longest, 64), 32);
+    let key = Key::new(b"ab")?;
+    is(&rt, "97 and 98", stripe_of(&key, 4), 3);
+    is(&rt, "the only one", stripe_of(&key, 1), 0);
+    Ok(())
+}
+
+const FAULTS: [(KeyFault, &str); 2] = [
+    (KeyFault::Empty, "a key has at least one byte"),
+    (KeyFault::TooLong, "a key has at most 32 bytes"),
+];
+
+#[test]
+fn says_why(rt: HostRuntime) -> Result<(), Fail> {
+    for (fault, want) in FAULTS {
+        let text = format!(in rt.alloc(); "{fault}")?;
+        is(&rt, want, text.as_str(), want);
+    }
+    Ok(())
+}
+
+const PRINTED: [(&[u8], &str); 2] = [(b"a.1", "\"a.1\""), (&[255, 0], "[255, 0]")];
+
+#[test]
+fn prints_as_text(rt: HostRuntime) -> Result<(), Fail> {
+    for (bytes, want) in PRINTED {
+        let text = format!(in rt.alloc(); "{:?}", Key::new(bytes)?)?;
+        is(&rt, want, text.as_str(), want);
+    }
+    Ok(())
+}

@@ -1,0 +1,117 @@
+//! What a table of reservations answers, from an empty one to a full one. No test is given an allocator.
+use super::{is, key};
+use jc_reserve::Reservations;
+use jc_types::Key;
+use std::process::Abort;
+use std::test::Fail;
+
+/// Reserves a key with this note, or with none releases it, and gives the number of its reservation.
+fn change(table: &mut Reservations<char>, key: &Key, note: Option<char>) -> Option<u64> {
+    match note {
+        Some(note) => table.reserve(key, note),
+        None => Some(table.release(key)?.0),
+    }
+}
+
+/// Looks a key up, which is reserved or free.
+fn look_up(rt: &impl Abort, table: &Reservations<char>, name: &str, want: Option<(u64, char)>) {
+    let key = key(rt, name.as_bytes());
+    is(rt, name, table.find(&key), want);
+    is(rt, name, table.is_reserved(&key), want.is_some());
+}
+
+/// Asks for the reservations as a list: the keys `b` and `c`, by the numbers 2 and 4.
+fn look_at_list(rt: &impl Abort, table: &Reservations<char>) {
+    let left = [key(rt, b"b"), key(rt, b"c")];
+    is(rt, "keys", table.keys(), left.as_slice());
+    let list = table.list();
+    assert!(rt; list.len() == 2 && table.len() == 2);
+    for place in 0..2 {
+        is(rt, "key", list[place].key, left[place]);
+    }
+    let (b, c) = (list[0], list[1]);
+    is(rt, "b", (b.reservation, b.note), (2, 'u'));
+    is(rt, "c", (c.reservation, c.note), (4, 'w'));
+}
+
+// A key that is reserved with a note, or with none is released, and the number that this gives.
+const CHANGES: [(&str, Option<char>, Option<u64>); 9] = [
+    ("a", Some('x'), Some(0)),
+    ("b", Some('y'), Some(1)),
+    ("a", Some('z'), None),
+    ("b", None, Some(1)),
+    ("b", None, None),
+    ("b", Some('u'), Some(2)),
+    ("a", None, Some(0)),
+    ("a", Some('v'), Some(3)),
+    ("c", Some('w'), Some(4)),
+];
+
+// The keys after that, with their numbers and notes.
+const FOUND: [(&str, Option<(u64, char)>); 4] = [
+    ("a", Some((3, 'v'))),
+    ("b", Some((2, 'u'))),
+    ("c", Some((4, 'w'))),
+    ("d", None),
+];
+
+#[test]
+fn numbers_rise_and_never_come_twice(rt: HostRuntime) -> Result<(), Fail> {
+    let mut table = Reservations::new();
+    is(&rt, "new", table.is_empty(), true);
+    for (name, note, want) in CHANGES {
+        is(
+            &rt,
+            name,
+            change(&mut table, &key(&rt, name.as_bytes()), note),
+            want,
+        );
+    }
+    for (name, want) in FOUND {
+        look_up(&rt, &table, name, want);
+    }
+    is(&rt, "a", table.release(&key(&rt, b"a")), Some((3, 'v')));
+    look_at_list(&rt, &table);
+    Ok(())
+}
+
+/// Reserves the keys with the bytes `k0` to `k63`, each with its number as its note.
+fn reserve_64(rt: &impl Abort, table: &mut Reservations<u8>) -> Result<(), Fail> {
+    for i in 0..64u8 {
+        is(rt, "full too early", table.is_full(), false);
+        let key = Key::new(&[b'k', i])?;
+        is(rt, "a number", table.reserve(&key, i), Some(i as u64));
+    }
+    Ok(())
+}
+
+#[test]
+fn holds_64_keys_and_no_65th(rt: HostRuntime) -> Result<(), Fail> {
+    let mut table = Reservations::new();
+    reserve_64(&rt, &mut table)?;
+    is(&rt, "full", table.is_full(), true);
+    let other = key(&rt, b"other");
+    is(&rt, "full", table.reserve(&other, 64), None);
+    is(&rt, "full", table.len(), 64);
+    let left = Key::new(&[b'k', 31])?;
+    is(&rt, "one leaves", table.release(&left), Some((31, 31)));
+    let found = table.reserve(&other, 64);
+    is(&rt, "the refused call used no number", found, Some(64));
+    is(&rt, "full again", table.is_full(), true);
+    Ok(())
+}
+
+#[test]
+fn stops_at_the_end_of_the_numbers(rt: HostRuntime) -> Result<(), Fail> {
+    let last = u64::MAX - 1;
+    let mut table = Reservations::new_from(last);
+    let (a, b) = (key(&rt, b"a"), key(&rt, b"b"));
+    is(&rt, "one number is left", table.is_used_up(), false);
+    is(&rt, "the last number", table.reserve(&a, ()), Some(last));
+    is(&rt, "no number is left", table.is_used_up(), true);
+    is(&rt, "no number is left", table.reserve(&b, ()), None);
+    is(&rt, "a is released", table.release(&a), Some((last, ())));
+    is(&rt, "no number comes again", table.reserve(&a, ()), None);
+    is(&rt, "nothing is reserved", table.is_empty(), true);
+    Ok(())
+}

@@ -1,0 +1,168 @@
+//! Histories as texts, and how they are read and judged.
+//!
+//! Histories are in texts, since a check proves a table of rows at a price that grows faster than its length. The words
+//! are those of scripts and transcripts. A row is a name, its lines, and `legal` or `illegal`. Its lines are:
+//!
+//! - `set KEY VALUE`, an entry of the opening;
+//! - `CALL SESSION OP KEY [, ANSWER], is REPLY [shared PLACE]`, a step, as `1 s1 get a, read 1, is 1`. Nobody was asked
+//!   if there is no answer. The loader's is `read VALUE`, `read -` or `readfail CODE`, the writer's `apply` or `applyfail CODE`;
+//! - `evict KEY full` or `evict KEY memory`.
+use jc_model::{Cause, Event, LoadAnswer, Op, Out, Reply, WriteAnswer, legal};
+use jc_types::{Caller, Config, Key, Refusal, Value};
+use std::alloc::{AllocError, Global};
+use std::process::Abort;
+use std::test::Fail;
+
+// 1. Words.
+
+/// The first word, and what follows it, if anything.
+fn first_word(text: &str) -> (&str, &str) {
+    text.split_once(' ').unwrap_or((text, ""))
+}
+
+fn number(word: &str) -> Option<u32> {
+    word.parse().ok()
+}
+
+fn key(word: &str) -> Option<Key> {
+    Key::new(word.as_bytes()).ok()
+}
+
+fn value(word: &str) -> Option<Value> {
+    Value::new(word.as_bytes()).ok()
+}
+
+/// The value that a word says; a dash says none.
+fn value_or_none(word: &str) -> Option<Option<Value>> {
+    if word == "-" {
+        return Some(None);
+    }
+    Some(Some(value(word)?))
+}
+
+// 2. Steps.
+
+/// An operation, with its value if it takes one.
+fn op(name: &str, word: &str) -> Option<Op> {
+    match name {
+        "get" => Some(Op::Get),
+        "contains" => Some(Op::ContainsKey),
+        "put" => Some(Op::Put(value(word)?)),
+        "clear" => Some(Op::Clear),
+        "loadall" => Some(Op::LoadAll { replace: true }),
+        _ => None,
+    }
+}
+
+/// The outside answer, of the loader or of the writer.
+fn answer(text: &str) -> Option<Out> {
+    let (word, rest) = first_word(text);
+    match word {
+        "read" => Some(Out::load_only(match value_or_none(rest)? {
+            Some(value) => LoadAnswer::Found(value),
+            None => LoadAnswer::Nothing,
+        })),
+        "readfail" => Some(Out::load_only(LoadAnswer::Failed(number(rest)?))),
+        "apply" => Some(Out::write_only(WriteAnswer::Done)),
+        "applyfail" => Some(Out::write_only(WriteAnswer::Failed(number(rest)?))),
+        _ => None,
+    }
+}
+
+fn reply(text: &str) -> Option<Reply> {
+    let (word, rest) = first_word(text);
+    match word {
+        "LoaderFailed" => Some(Reply::Fault(Refusal::LoaderFailed(number(rest)?))),
+        "WriterFailed" => Some(Reply::Fault(Refusal::WriterFailed(number(rest)?))),
+        "ok" => Some(Reply::Unit),
+        "true" => Some(Reply::Flag(true)),
+        "false" => Some(Reply::Flag(false)),
+        _ => Some(Reply::Value(value_or_none(word)?)),
+    }
+}
+
+/// The step of a call, with the outside answer if there was one, which replied so.
+fn step(call: &str, out: Out, replied: &str) -> Option<Event> {
+    let (count, call) = first_word(call);
+    let (session, call) = first_word(call);
+    let (name, call) = first_word(call);
+    let (word, rest) = first_word(call);
+    let (replied, shared_with) = match replied.split_once(" shared ") {
+        Some((replied, place)) => (replied, Some(number(place)?)),
+        None => (replied, None),
+    };
+    Some(Event::Step {
+        caller: Caller {
+            session: number(session.strip_prefix('s')?)?,
+            call: u64::from(number(count)?),
+        },
+        op: op(name, rest)?,
+        key: key(word)?,
+        out,
+        shared_with,
+        reply: reply(replied)?,
+    })
+}
+
+fn event(line: &str) -> Option<Event> {
+    if let Some(text) = line.strip_prefix("evict ") {
+        let (word, cause) = first_word(text);
+        return Some(Event::Evict {
+            key: key(word)?,
+            cause: if cause == "full" {
+                Cause::Full
+            } else {
+                Cause::Memory
+            },
+        });
+    }
+    let (call, replied) = line.split_once(", is ")?;
+    match call.split_once(", ") {
+        Some((call, said)) => step(call, answer(said)?, replied),
+        None => step(call, Out::nothing_said(), replied),
+    }
+}
+
+fn opening_entry(line: &str) -> Option<(Key, Value)> {
+    let (word, rest) = first_word(line.strip_prefix("set ")?);
+    Some((key(word)?, value(rest)?))
+}
+
+// 3. Histories.
+
+/// Whether the lines are a legal history.
+fn is_legal(
+    rt: &impl Abort,
+    alloc: Global,
+    config: &Config,
+    lines: &str,
+) -> Result<bool, AllocError> {
+    let mut opening = Vec::new(alloc);
+    let mut events = Vec::new(alloc);
+    for line in lines.lines() {
+        match opening_entry(line) {
+            Some(entry) => opening.push(entry)?,
+            None => events.push(event(line).expect(rt, line))?,
+        }
+    }
+    legal(alloc, config, &opening, &events)
+}
+
+/// Judges rows that are separated by `==`.
+pub(super) fn all_judged(
+    rt: &impl Abort,
+    alloc: Global,
+    config: &Config,
+    rows: &str,
+) -> Result<(), Fail> {
+    for row in rows.split("\n==\n") {
+        let (name, row) = row.split_once('\n').expect(rt, "a name");
+        let (lines, verdict) = row.rsplit_once('\n').expect(rt, name);
+        assert_eq!(rt;
+            is_legal(rt, alloc, config, lines)?,
+            verdict == "legal",
+            "at {name}"
+        );
+    }
+    Ok(())
+}

@@ -1,0 +1,61 @@
+//! Values.
+use super::is;
+use jc_types::{Value, ValueFault};
+use std::cmp::Ordering;
+use std::test::Fail;
+
+// Texts of 64 bytes that differ in the last one.
+const LONG: &str = "0123456789abcdef0123456789abcdef0123456789abcdef0123456789abcde1";
+
+const OTHER: &str = "0123456789abcdef0123456789abcdef0123456789abcdef0123456789abcde0";
+
+// Texts of 0, 1, 64 and 65 bytes, and why they make no value.
+const TEXTS: [(&str, Option<ValueFault>); 4] = [
+    ("", None),
+    ("v", None),
+    (LONG, None),
+    (
+        "0123456789abcdef0123456789abcdef0123456789abcdef0123456789abcdefv",
+        Some(ValueFault::TooLong),
+    ),
+];
+
+#[test]
+fn takes_0_to_64_bytes(rt: HostRuntime) {
+    for (text, fault) in TEXTS {
+        match Value::new(text.as_bytes()) {
+            Ok(made) => {
+                is(&rt, text, fault, None);
+                is(&rt, text, made.bytes(), text.as_bytes());
+            }
+            Err(found) => is(&rt, text, fault, Some(found)),
+        }
+    }
+}
+
+const PAIRS: [(&str, &str, Ordering); 6] = [
+    ("", "", Ordering::Equal),
+    ("", "\0", Ordering::Less),
+    ("a", "a\0", Ordering::Less),
+    ("b", "ab", Ordering::Greater),
+    (LONG, LONG, Ordering::Equal),
+    (LONG, OTHER, Ordering::Greater),
+];
+
+#[test]
+fn compares_all_bytes(rt: HostRuntime) -> Result<(), Fail> {
+    for (left, right, want) in PAIRS {
+        let (a, b) = (Value::new(left.as_bytes())?, Value::new(right.as_bytes())?);
+        is(&rt, left, a.partial_cmp(&b), Some(want));
+        is(&rt, left, a == b, want == Ordering::Equal);
+    }
+    Ok(())
+}
+
+#[test]
+fn says_why(rt: HostRuntime) -> Result<(), Fail> {
+    let text = format!(in rt.alloc(); "{}", ValueFault::TooLong)?;
+    let want = "a value has at most 64 bytes";
+    is(&rt, want, text.as_str(), want);
+    Ok(())
+}
