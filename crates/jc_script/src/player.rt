@@ -1,5 +1,5 @@
 //! Lines, played on a world.
-ghost use Rattle.std.specs.Prelude.{◌≡◌, ◌++◌, ◌∷◌, List, ℕ, [], Some, None, true, option_copied, OnOk, IfOk, MatchOption};
+ghost use Rattle.std.specs.Prelude.{◌≡◌, ◌++◌, ◌∷◌, List, ℕ, [], Some, None, true, OnOk, IfOk, MatchOption};
 ghost use Rattle.jc_types.specs.Limits.{check};
 ghost use Rattle.jc_world.specs.declared.event.WorldEvent.TheVariants as event;
 ghost use Rattle.jc_world.specs.World.{start};
@@ -284,7 +284,8 @@ fn act_on(
         None => Ok(Some(Fault::NoSuchCall)),
         Some(under) => {
             let key = under.command.key;
-            put_events(&mut buffers.events, call, &key, world.part(call, &key), act)?;
+            let part = world.part(call, &key);
+            put_events(&mut buffers.events, call, &key, &part, act)?;
             if !first_fits(world, &buffers.events) {
                 return Ok(Some(Fault::NotNow));
             }
@@ -299,9 +300,9 @@ fn put_dropped(
     events: &mut Vec<WorldEvent>,
     call: u64,
     key: Key,
-    part: Option<&Part>,
+    part: &Option<Part>,
 ) -> Result<(), AllocError>
-    ensures { OnOk result (events.new.items ≡ events.old.items ++ drop_events call key (option_copied part.entry)) }
+    ensures { OnOk result (events.new.items ≡ events.old.items ++ drop_events call key part.now) }
 {
     let _types: Option<(Command, Op, Value, LoadAnswer)> = None;
     if part.is_some() {
@@ -315,10 +316,10 @@ fn put_events(
     events: &mut Vec<WorldEvent>,
     call: u64,
     key: &Key,
-    part: Option<&Part>,
+    part: &Option<Part>,
     act: &Act,
 ) -> Result<(), AllocError>
-    ensures { OnOk result (events.new.items ≡ events_of call key.now (option_copied part.entry) act.now) }
+    ensures { OnOk result (events.new.items ≡ events_of call key.now part.now act.now) }
 {
     let _types: Option<(Command, Op, Value, LoadAnswer)> = None;
     events.clear();

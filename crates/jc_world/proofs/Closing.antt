@@ -1,24 +1,23 @@
--- The end of a world: each slot's reservation is over, and then each join.
---     ended          one slot less, once its reservation is over
---     none_reserved  with no slot left no key is reserved
+-- The end of a world: each reservation is over, and then each join.
+--     ended          one key less, once its reservation is over
+--     none_reserved  with nothing held no key is reserved
 --     picked         one join less, once it has its answer
 --     never_waits    where no key is reserved no joiner waits
---     slots_out, joins_out      what is out in a world that is sound
-use Rattle.std.proofs.Common.{inl, inr, ◌⊎◌, ◌≡◌, ◌==◌, ◌&&◌, ◌||◌, ◌+◌, ℕ, List, [], ◌∷◌, ◌++◌, length, Bool, true, false, cond, not, Option, None, Some, IsSomeAnd, is_none, is_some, option_map, slice_get, slice_set, get_or, ◌<◌, arith, refl, sym, ap, ◌∙◌, subst}
+--     held_out, joins_out    what is out in a world that is sound
+use Rattle.std.proofs.Common.{inl, inr, ◌⊎◌, ◌≡◌, ◌==◌, ◌&&◌, ◌||◌, ◌+◌, ℕ, List, [], ◌∷◌, ◌++◌, length, Bool, true, false, cond, not, Option, None, Some, IsSomeAnd, is_some, option_map, slice_get, slice_set, get_or, ◌<◌, arith, refl, sym, ap, ◌∙◌, subst}
 use Rattle.std.specs.List.{list_all, list_any}
 use Rattle.std.specs.Ordering.{eq_by_cmp}
 use Rattle.std.specs.Cmp.{eq_by_cmp_equiv}
 use Rattle.std.specs.Cmp.Lexicographic.{pointwise, texts_ties}
 use Rattle.std.proofs.lemmas.Bool.{eq-eqb, eqb-true, and_parts, and_from}
 use Rattle.std.proofs.lemmas.Cmp.{nat_list_cmp_total, nat_list_eq_equiv}
-use Rattle.std.specs.FinMap.{find, get, get-from_entries}
+use Rattle.std.specs.FinMap.{get, remove, empty, get-remove, get-empty}
 use Rattle.std.proofs.Common.{find as find_in}
 use Rattle.jc_types.proofs.CallerLemmas.{all_filter, all_imply}
 use Rattle.jc_types.specs.declared.config.Config.{Config}
 use Rattle.jc_types.specs.Stripes.{stripe_of}
 use Rattle.jc_model.specs.declared.event.Out.{Out}
 use Rattle.jc_model.specs.Cache.{Bytes, key_cmp}
-use Rattle.jc_model.proofs.CallerLemmas.{none_is}
 use Rattle.jc_inflight.specs.declared.joiner.Joiner.{Joiner}
 use Rattle.jc_inflight.specs.declared.joiner.JoinState.TheVariants.{Waiting}
 use Rattle.jc_inflight.specs.Joining.{belongs_to as is_joiner_of}
@@ -32,13 +31,9 @@ use Rattle.jc_stripe.specs.Phases.{Commits, Withdraws, PicksUp, without_joiner}
 use Rattle.jc_stripe.specs.Reached.{JoinFits, AllJoin, IsReached}
 use Rattle.jc_stripe.specs.Laws.{StaysReached}
 use Rattle.jc_world.specs.declared.event.Part.{Part}
-use Rattle.jc_world.specs.declared.machine.Machine.TheInside.{Inside}
-use Rattle.jc_world.specs.World.{WorldState, stripe_for, is_join}
+use Rattle.jc_world.specs.World.{WorldState, Parts, stripe_for, is_join}
 use Rattle.jc_world.specs.Sound.{IsSoundWorld, IsHeld, AllWaitedFor, joined_once}
-use Rattle.jc_world.specs.Slots.{once}
-use Rattle.jc_world.specs.Inside.{world_of, IsKept}
-use Rattle.jc_world.specs.Ending.{IsLeft, AreLeft, out_at, IsEntryOut, AllOut, HasSlots, IsJoinOut, AllJoinsOut, HasJoins, NoneReserved}
-use Rattle.jc_world.proofs.Listed.{Entry, tied, split}
+use Rattle.jc_world.specs.Ending.{IsLeft, AreLeft, out_at, IsPartOut, HasHeld, IsJoinOut, AllJoinsOut, HasJoins, NoneReserved}
 use Rattle.jc_world.proofs.Numbered.{within, at_index, some_of}
 use Rattle.jc_world.proofs.Places.{at_stripe}
 use Rattle.jc_world.proofs.Shares.{set_cases, length-slice_set}
@@ -47,34 +42,7 @@ use Rattle.jc_world.proofs.Reservations.{found_left}
 use Rattle.jc_world.proofs.Joiners.{joiner_of, find_kept, joined_resolved, joined_dissolved}
 use Rattle.jc_world.proofs.Callers.{refuted}
 
--- 1. The last of the slots.
-
--- a key that isn't found isn't the last one's, and isn't before it
-unfound_last : (key : Bytes) (xs : List Entry) (e : Entry) → find key_cmp key (xs ++ e ∷ []) ≡ None → (find key_cmp key xs ≡ None) × (eq_by_cmp key_cmp key e.0 ≡ false)
-unfound_last key [] e h = (refl, elim (eq_by_cmp key_cmp key e.0) as (λ b. cond b (Some e.1) None ≡ None → b ≡ false) [ true ↦ λ h. cc | false ↦ λ h. refl ] h)
-unfound_last key (x ∷ xs) e h =
-    elim (eq_by_cmp key_cmp key x.0) as (λ b. cond b (Some x.1) (find key_cmp key (xs ++ e ∷ [])) ≡ None → (cond b (Some x.1) (find key_cmp key xs) ≡ None) × (eq_by_cmp key_cmp key e.0 ≡ false)) [
-      | true ↦ λ h. cc
-      | false ↦ λ h. unfound_last key xs e h
-    ] h
-
--- where no key stands twice, none does without the last
-once_left : (xs : List Entry) (e : Entry) → once (xs ++ e ∷ []) ≡ true → once xs ≡ true
-once_left [] e h = refl
-once_left (x ∷ xs) e h =
-    let parts = and_parts (is_none (find key_cmp x.0 (xs ++ e ∷ []))) (once (xs ++ e ∷ [])) h in
-    and_from _ _ (ap is_none (unfound_last x.0 xs e (none_is _ parts.0)).0) (once_left xs e parts.1)
-
--- the last slot's reservation is out, and so are the others
-last_out : (config : Config) (ss : List State) (xs : List Entry) (e : Entry) → AllOut config ss (xs ++ e ∷ []) → IsEntryOut config ss e
-last_out config ss [] e h = h.0
-last_out config ss (x ∷ xs) e h = last_out config ss xs e h.1
-
-others_out : (config : Config) (ss : List State) (xs : List Entry) (e : Entry) → AllOut config ss (xs ++ e ∷ []) → AllOut config ss xs
-others_out config ss [] e h = tt
-others_out config ss (x ∷ xs) e h = (h.0, others_out config ss xs e h.1)
-
--- 2. A reservation that is over.
+-- 1. A reservation that is over.
 
 -- what that leaves of its stripe
 pub record IsOver (key : Bytes) (from to : State) : Type 0 where
@@ -128,38 +96,35 @@ left_set config ss n from to left at config_is number_is origin_is reached =
           (λ apart here. left.each m s here);
     }
 
--- the others are still out
-still_out : (config : Config) (ss : List State) (n : ℕ) (from to : State) (x e : Entry) → slice_get ss n ≡ Some from → IsOver e.0 from to → eq_by_cmp key_cmp x.0 e.0 ≡ false → IsEntryOut config ss x → IsEntryOut config (slice_set ss n to) x
-still_out config ss n from to x e at is apart =
-    let F : State → Type 0 = λ s. (x.1.reservation.key ≡ x.0) × IsOut s x.1.reservation in
-    at_stripe ss n (stripe_of x.0 config.stripes) from to (λ o y. IsSomeAnd o F → IsSomeAnd y F) at
+-- what is left where one key is taken out
+left_at : (parts left : Parts) (key q : Bytes) → left ≡ remove parts key → get left q ≡ cond (eq_by_cmp key_cmp q key) None (get parts q)
+left_at parts left key q is = ap (λ (m : Parts). get m q) is ∙ get-remove nat_list_cmp_total parts key q
+
+-- a choice that gives something isn't the empty one
+chosen : {X : Type 0} (b : Bool) (o : Option X) (x : X) → cond b None o ≡ Some x → (b ≡ false) × (o ≡ Some x)
+chosen true o x h = cc
+chosen false o x h = (refl, h)
+
+-- another key is still out
+still_out : (config : Config) (ss : List State) (n : ℕ) (from to : State) (key q : Bytes) (part : Part) → slice_get ss n ≡ Some from → IsOver key from to → eq_by_cmp key_cmp q key ≡ false → IsPartOut config ss q part
+    → IsPartOut config (slice_set ss n to) q part
+still_out config ss n from to key q part at is apart =
+    let F : State → Type 0 = λ s. (part.reservation.key ≡ q) × IsOut s part.reservation in
+    at_stripe ss n (stripe_of q config.stripes) from to (λ o y. IsSomeAnd o F → IsSomeAnd y F) at
     (λ h.
-    let R : List Reservation → Type 0 = λ rs. find_in (is_key x.1.reservation.key) rs ≡ Some x.1.reservation in
-    (h.0, subst R (sym is.left) (found_left x.1.reservation.key e.0 from.reservations (ap (λ k. eq_by_cmp key_cmp k e.0) h.0 ∙ apart) ∙ h.1)))
+    let R : List Reservation → Type 0 = λ rs. find_in (is_key part.reservation.key) rs ≡ Some part.reservation in
+    (h.0, subst R (sym is.left) (found_left part.reservation.key key from.reservations (ap (λ k. eq_by_cmp key_cmp k key) h.0 ∙ apart) ∙ h.1)))
     (λ h. h)
 
-all_still : (config : Config) (ss : List State) (n : ℕ) (from to : State) (xs : List Entry) (e : Entry) → slice_get ss n ≡ Some from → IsOver e.0 from to → once (xs ++ e ∷ []) ≡ true → AllOut config ss xs → AllOut config (slice_set ss n to) xs
-all_still config ss n from to [] e at is o h = tt
-all_still config ss n from to (x ∷ xs) e at is o h =
-    let parts = and_parts (is_none (find key_cmp x.0 (xs ++ e ∷ []))) (once (xs ++ e ∷ [])) o in
-    (still_out config ss n from to x e at is (unfound_last x.0 xs e (none_is _ parts.0)).1 h.0, all_still config ss n from to xs e at is parts.1 h.1)
-
--- a key that is found, and isn't the last one's, is found before it
-found_before : (key : Bytes) (xs : List Entry) (e : Entry) → eq_by_cmp key_cmp key e.0 ≡ false → is_some (find key_cmp key (xs ++ e ∷ [])) ≡ true → is_some (find key_cmp key xs) ≡ true
-found_before key [] e apart h = let t : is_some {T = Part} None ≡ true = sym (ap (λ b. is_some (cond b (Some e.1) None)) apart) ∙ h in t
-found_before key (x ∷ xs) e apart h =
-    elim (eq_by_cmp key_cmp key x.0) as (λ b. is_some (cond b (Some x.1) (find key_cmp key (xs ++ e ∷ []))) ≡ true → is_some (cond b (Some x.1) (find key_cmp key xs)) ≡ true) [
-      | true ↦ λ h. refl
-      | false ↦ λ h. found_before key xs e apart h
-    ] h
-
--- so each reservation of another key has its slot before it
-backs : (xs : List Entry) (e : Entry) (rs : List Reservation) → list_all (λ r. is_some (find key_cmp r.key (xs ++ e ∷ []))) rs ≡ true → list_all (λ r. not (is_key e.0 r)) rs ≡ true → list_all (λ r. is_some (find key_cmp r.key xs)) rs ≡ true
-backs xs e [] h k = refl
-backs xs e (r ∷ rs) h k =
-    let a = and_parts (is_some (find key_cmp r.key (xs ++ e ∷ []))) (list_all (λ (r : Reservation). is_some (find key_cmp r.key (xs ++ e ∷ []))) rs) h in
-    let b = and_parts (not (is_key e.0 r)) (list_all (λ (r : Reservation). not (is_key e.0 r)) rs) k in
-    and_from _ _ (found_before r.key xs e ((eq_by_cmp_equiv nat_list_cmp_total).symm r.key e.0 ∙ sym (texts_ties e.0 r.key) ∙ not_true (is_key e.0 r) b.0) a.0) (backs xs e rs a.1 b.1)
+-- each reservation of another key is still held
+backs : (parts left : Parts) (key : Bytes) (rs : List Reservation) → left ≡ remove parts key → list_all (λ r. is_some (get parts r.key)) rs ≡ true → list_all (λ r. not (is_key key r)) rs ≡ true
+    → list_all (λ r. is_some (get left r.key)) rs ≡ true
+backs parts left key [] is h k = refl
+backs parts left key (r ∷ rs) is h k =
+    let a = and_parts (is_some (get parts r.key)) (list_all (λ (r : Reservation). is_some (get parts r.key)) rs) h in
+    let b = and_parts (not (is_key key r)) (list_all (λ (r : Reservation). not (is_key key r)) rs) k in
+    let apart : eq_by_cmp key_cmp r.key key ≡ false = (eq_by_cmp_equiv nat_list_cmp_total).symm r.key key ∙ sym (texts_ties key r.key) ∙ not_true (is_key key r) b.0 in
+    and_from _ _ (ap is_some (left_at parts left key r.key is ∙ ap (λ b. cond b None (get parts r.key)) apart) ∙ a.0) (backs parts left key rs is a.1 b.1)
   where
     not_true : (b : Bool) → not b ≡ true → b ≡ false
     not_true true h = cc
@@ -172,21 +137,22 @@ other_stripe config key m s rs at apart = all_imply (λ (r : Reservation). is_of
     let number : stripe_of r.key s.config.stripes ≡ s.stripe = eqb-true (stripe_of r.key s.config.stripes) s.stripe mine in
     apart (ap (λ k. stripe_of k config.stripes) keys ∙ ap (λ (c : Config). stripe_of r.key c.stripes) (sym at.config_is) ∙ number ∙ at.number_is))))
 
--- one slot less
-pub ended : (config : Config) (ss : List State) (from to : State) (xs : List Entry) (e : Entry) → AreLeft config ss → slice_get ss (stripe_of e.0 config.stripes) ≡ Some from → IsOver e.0 from to → HasSlots config ss (xs ++ e ∷ [])
-    → HasSlots config (slice_set ss (stripe_of e.0 config.stripes) to) xs
-ended config ss from to xs e left at is h =
-    let n = stripe_of e.0 config.stripes in
+-- one key less
+pub ended : (config : Config) (ss : List State) (from to : State) (parts left : Parts) (key : Bytes) → AreLeft config ss → slice_get ss (stripe_of key config.stripes) ≡ Some from → IsOver key from to → left ≡ remove parts key
+    → HasHeld config ss parts → HasHeld config (slice_set ss (stripe_of key config.stripes) to) left
+ended config ss from to parts left key are at is less h =
+    let n = stripe_of key config.stripes in
     record {
-      once_is = once_left xs e h.once_is;
-      out = all_still config ss n from to xs e at is h.once_is (others_out config ss xs e h.out);
+      out = λ q part there.
+          let was = chosen (eq_by_cmp key_cmp q key) (get parts q) part (sym (left_at parts left key q less) ∙ there) in
+          still_out config ss n from to key q part at is was.0 (h.out q part was.1);
       back = λ m s. set_cases ss n m to s
           (λ same here.
-          let B : List Reservation → Type 0 = λ rs. list_all (λ r. is_some (find key_cmp r.key xs)) rs ≡ true in
-          let some : list_all (λ r. is_some (find key_cmp r.key (xs ++ e ∷ []))) (without_key e.0 from.reservations) ≡ true =
-          all_filter (λ r. is_some (find key_cmp r.key (xs ++ e ∷ []))) (λ r. not (is_key e.0 r)) from.reservations (h.back n from at) in
-          subst B (sym is.left ∙ ap (λ (s : State). s.reservations) here) (backs xs e (without_key e.0 from.reservations) some (others_left e.0 from.reservations)))
-          (λ apart here. backs xs e s.reservations (h.back m s here) (other_stripe config e.0 m s s.reservations (left.each m s here) apart (left.each m s here).reached.keys));
+          let B : List Reservation → Type 0 = λ rs. list_all (λ r. is_some (get left r.key)) rs ≡ true in
+          let some : list_all (λ r. is_some (get parts r.key)) (without_key key from.reservations) ≡ true =
+          all_filter (λ r. is_some (get parts r.key)) (λ r. not (is_key key r)) from.reservations (h.back n from at) in
+          subst B (sym is.left ∙ ap (λ (s : State). s.reservations) here) (backs parts left key (without_key key from.reservations) less some (others_left key from.reservations)))
+          (λ apart here. backs parts left key s.reservations less (h.back m s here) (other_stripe config key m s s.reservations (are.each m s here) apart (are.each m s here).reached.keys));
     }
 
 -- the joins are still out
@@ -199,18 +165,16 @@ joins_kept config ss n from to js at keeps h = record { once_is = h.once_is; out
         let F : State → Type 0 = λ s. IsJoined s j in
         (at_stripe ss n (stripe_of j.key config.stripes) from to (λ o y. IsSomeAnd o F → IsSomeAnd y F) at (keeps j) (λ h. h) h.0, each js h.1)
 
--- with no slot left no key is reserved
-pub none_reserved : (config : Config) (ss : List State) → HasSlots config ss [] → NoneReserved ss
-none_reserved config ss h = λ n s at. nothing s.reservations (h.back n s at)
+-- with nothing held no key is reserved
+pub none_reserved : (config : Config) (ss : List State) (parts : Parts) → parts ≡ empty → HasHeld config ss parts → NoneReserved ss
+none_reserved config ss parts none h = λ n s at. nothing s.reservations (h.back n s at)
   where
-    no_entries : List Entry
-    no_entries = []
-
-    nothing : (rs : List Reservation) → list_all (λ r. is_some (find key_cmp r.key no_entries)) rs ≡ true → rs ≡ []
+    nothing : (rs : List Reservation) → list_all (λ r. is_some (get parts r.key)) rs ≡ true → rs ≡ []
     nothing [] h = refl
-    nothing (r ∷ rs) h = cc
+    nothing (r ∷ rs) h =
+        let t : is_some {T = Part} None ≡ true = sym (ap is_some (ap (λ (m : Parts). get m r.key) none ∙ get-empty key_cmp r.key)) ∙ (and_parts (is_some (get parts r.key)) _ h).0 in cc
 
--- 3. A join that has its answer.
+-- 2. A join that has its answer.
 
 -- the last join is out, and so are the others
 pub last_join : (config : Config) (ss : List State) (js : List JoinClaim) (join : JoinClaim) → AllJoinsOut config ss (js ++ join ∷ []) → IsJoinOut config ss join
@@ -286,7 +250,7 @@ picked_up config ss from to js join at is h = record { once_is = singles js h.on
 pub none_set : (ss : List State) (n : ℕ) (from to : State) → slice_get ss n ≡ Some from → to.reservations ≡ from.reservations → NoneReserved ss → NoneReserved (slice_set ss n to)
 none_set ss n from to at same none = λ m s. set_cases ss n m to s (λ e is. ap (λ (s : State). s.reservations) (sym is) ∙ same ∙ none n from at) (λ apart here. none m s here)
 
--- 4. The stripe of the last slot, and of the last join.
+-- 3. The stripe of a held key, and of the last join.
 
 -- what is known of it
 pub record IsHome (config : Config) (ss : List State) (key : Bytes) (from : State) (P : State → Type 0) : Type 0 where
@@ -308,31 +272,29 @@ home_of config ss key from P left h =
       made = λ is. let Q : Option State → Type 0 = λ o. IsSomeAnd o P in subst Q (at_index ss n from P h is) h;
     }
 
--- the home of the last slot
-pub home_of_slot : (config : Config) (ss : List State) (slots xs : List Entry) (e : Entry) (from : State) → slots ≡ xs ++ e ∷ [] → AreLeft config ss → HasSlots config ss slots
-    → IsHome config ss e.0 from (λ s. (e.1.reservation.key ≡ e.0) × IsOut s e.1.reservation)
-home_of_slot config ss slots xs e from is left h = home_of config ss e.0 from _ left (last_out config ss xs e (subst (AllOut config ss) is h.out))
+-- the home of a held key
+pub home_of_key : (config : Config) (ss : List State) (parts : Parts) (key : Bytes) (part : Part) (from : State) → get parts key ≡ Some part → AreLeft config ss → HasHeld config ss parts
+    → IsHome config ss key from (λ s. (part.reservation.key ≡ key) × IsOut s part.reservation)
+home_of_key config ss parts key part from there left h = home_of config ss key from _ left (h.out key part there)
+
+-- its reservation names it
+pub key_of : (config : Config) (ss : List State) (parts : Parts) (key : Bytes) (part : Part) → get parts key ≡ Some part → HasHeld config ss parts → part.reservation.key ≡ key
+key_of config ss parts key part there h = named (out_at config ss key) (h.out key part there)
+  where
+    named : (o : Option State) → IsSomeAnd o (λ s. (part.reservation.key ≡ key) × IsOut s part.reservation) → part.reservation.key ≡ key
+    named None h = absurd h
+    named (Some s) h = h.0
 
 -- and of the last join
 pub home_of_join : (config : Config) (ss : List State) (joins xs : List JoinClaim) (join : JoinClaim) (from : State) → joins ≡ xs ++ join ∷ [] → AreLeft config ss → HasJoins config ss joins → IsHome config ss join.key from (λ s. IsJoined s join)
 home_of_join config ss joins xs join from is left h = home_of config ss join.key from _ left (last_join config ss xs join (subst (AllJoinsOut config ss) is h.out))
 
--- 5. What is out in a world that is sound.
-
--- what holds of each key's part holds of each slot, where no key stands twice
-each_slot : (config : Config) (ss : List State) (slots : List Entry) → once slots ≡ true → ((key : Bytes) (part : Part) → find key_cmp key slots ≡ Some part → IsEntryOut config ss (key, part)) → AllOut config ss slots
-each_slot config ss [] o each = tt
-each_slot config ss (x ∷ xs) o each =
-    let parts = and_parts (is_none (find key_cmp x.0 xs)) (once xs) o in
-    let rest : (key : Bytes) (part : Part) → find key_cmp key xs ≡ Some part → IsEntryOut config ss (key, part) = λ key part h.
-    each key part (split key x.0 (λ (b : Bool). cond b (Some x.1) (find key_cmp key xs) ≡ Some part) (λ e. let twice : Some part ≡ None = sym h ∙ ap (λ k. find key_cmp k xs) e ∙ none_is _ parts.0 in cc) (λ e. h))
-    in
-    (each x.0 x.1 (ap (λ b. cond b (Some x.1) (find key_cmp x.0 xs)) (tied x.0)), each_slot config ss xs parts.1 rest)
+-- 4. What is out in a world that is sound.
 
 -- a part has its reservation
-held_out : (w : WorldState) (key : Bytes) (part : Part) (o : Option State) → IsSomeAnd o (λ s. IsHeld w s key part) → IsSomeAnd o (λ s. (part.reservation.key ≡ key) × IsOut s part.reservation)
-held_out w key part None h = h
-held_out w key part (Some s) h = (h.key_is, h.out)
+part_out : (w : WorldState) (key : Bytes) (part : Part) (o : Option State) → IsSomeAnd o (λ s. IsHeld w s key part) → IsSomeAnd o (λ s. (part.reservation.key ≡ key) × IsOut s part.reservation)
+part_out w key part None h = h
+part_out w key part (Some s) h = (h.key_is, h.out)
 
 -- the stripes are reached
 pub all_left : (w : WorldState) → IsSoundWorld w → AreLeft w.config w.stripes
@@ -341,18 +303,12 @@ all_left w sound = record {
   each = λ n s at. let h = sound.shape.each n s at in record { config_is = h.config_is; number_is = h.number_is; origin_is = h.origin_is; reached = h.reached };
 }
 
--- each slot's ticket is out
-pub slots_out : (m : Inside) → IsKept m → IsSoundWorld (world_of m) → HasSlots m.config m.stripes.stripes m.slots.items
-slots_out m kept sound =
-    let w = world_of m in
-    let slots = m.slots.items in
-    record {
-      once_is = kept;
-      out = each_slot m.config m.stripes.stripes slots kept (λ key part h. held_out w key part (stripe_for w key) (sound.held key part (get-from_entries nat_list_cmp_total slots key ∙ h)));
-      back = λ n s at. test_owned w (λ r. is_some (find key_cmp r.key slots)) s.reservations (λ r h.
-          let part = some_of (get w.parts r.key) (λ part. part.reservation.caller.call ≡ r.caller.call) h.part in
-          ap is_some (sym (get-from_entries nat_list_cmp_total slots r.key) ∙ part.1)) (sound.owned n s at);
-    }
+-- what is held is out
+pub held_out : (w : WorldState) → IsSoundWorld w → HasHeld w.config w.stripes w.parts
+held_out w sound = record {
+  out = λ key part there. part_out w key part (stripe_for w key) (sound.held key part there);
+  back = λ n s at. test_owned w (λ r. is_some (get w.parts r.key)) s.reservations (λ r h. ap is_some (some_of (get w.parts r.key) (λ part. part.reservation.caller.call ≡ r.caller.call) h.part).1) (sound.owned n s at);
+}
 
 -- each join is joined
 pub joins_out : (w : WorldState) → IsSoundWorld w → HasJoins w.config w.stripes w.joins

@@ -8,9 +8,9 @@ pub mod Places
 pub mod Entries
 pub mod Reservations
 pub mod Kept
-pub mod Listed
+pub mod Maps
 pub mod Numbered
-pub mod Slotted
+pub mod Holding
 pub mod Lengths
 pub mod Phased
 pub mod Sounding

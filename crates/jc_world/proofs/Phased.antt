@@ -1,7 +1,7 @@
 -- What the machine of a world does in a first and a last phase is what the definitions say.
 use Rattle.std.proofs.Common.{false, ◌≡◌, ◌∙◌, ℕ, zero, suc, List, [], ◌∷◌, ◌++◌, length, drop, Option, Some, None, IsSomeAnd, true, slice_get, slice_set, refl, sym, ap, subst, append-nil}
 use Rattle.std.specs.FinMap.{get, insert, remove}
-use Rattle.jc_model.specs.Cache.{Bytes, entry_at}
+use Rattle.jc_model.specs.Cache.{Bytes}
 use Rattle.jc_model.specs.declared.event.Change.{Change}
 use Rattle.jc_model.specs.declared.event.Event.{Event}
 use Rattle.jc_stripe.specs.Tickets.{Ticket, JoinClaim, asks_writer}
@@ -25,11 +25,11 @@ use Rattle.jc_world.specs.declared.event.WorldEvent.TheVariants as event
 use Rattle.jc_world.specs.declared.event.Shown.TheVariants as shown
 use Rattle.jc_world.specs.World.{WorldState, Parts, home, stripe_for, under, over, part_of, join_of, unjoined, out_of}
 use Rattle.jc_world.specs.Events.{fits, Happens, step_of, new_part}
-use Rattle.jc_world.specs.Sound.{IsHeld, KindFits, IsSoundWorld}
+use Rattle.jc_world.specs.Sound.{IsHeld, IsSoundWorld}
 use Rattle.jc_world.specs.World.{is_join}
 use Rattle.jc_world.specs.Turns.{OrderedStripes, IsPhase, IsQuietPhase}
 use Rattle.jc_world.proofs.Numbered.{some_of}
-use Rattle.jc_world.proofs.Slotted.{is_part}
+use Rattle.jc_world.proofs.Holding.{is_part}
 use Rattle.jc_world.proofs.Reservations.{was_free, writer_alone}
 use Rattle.jc_world.proofs.Joiners.{waited_found, join_is}
 use Rattle.jc_world.proofs.Shares.{found_test}
@@ -244,15 +244,15 @@ ended v next call key part number done seen stripes order parts is home_is p sho
 
 -- what a commit needs of the stripe
 pub may_end_at : (v : WorldState) (call : ℕ) (key : Bytes) (part : Part) (number : ℕ) → part_of v call key ≡ Some part → number ≡ home v key → IsSoundWorld v
-    → IsSomeAnd (slice_get v.stripes number) (λ s. IsOut s part.reservation × KindFits part.reservation.first part (entry_at s.cache key) × (s.origin ≡ Played))
+    → IsSomeAnd (slice_get v.stripes number) (λ s. IsOut s part.reservation × (s.origin ≡ Played))
 may_end_at v call key part number is home_is sound =
     let found = some_of (stripe_for v key) (λ s. IsHeld v s key part) (sound.held key part (is_part (get v.parts key) call part is)) in
     let s = found.0 in
     let held = found.2 in
-    let P : State → Type 0 = λ s. IsOut s part.reservation × KindFits part.reservation.first part (entry_at s.cache key) × (s.origin ≡ Played) in
+    let P : State → Type 0 = λ s. IsOut s part.reservation × (s.origin ≡ Played) in
     let Q : Option State → Type 0 = λ o. IsSomeAnd o P in
     let R : ℕ → Type 0 = λ n. IsSomeAnd (slice_get v.stripes n) P in
-    subst R (sym home_is) (subst Q (sym found.1) (held.out, held.kind, (sound.shape.each (home v key) s found.1).origin_is))
+    subst R (sym home_is) (subst Q (sym found.1) (held.out, (sound.shape.each (home v key) s found.1).origin_is))
 
 -- 5. A reservation that is given back.
 
@@ -279,7 +279,7 @@ pub may_withdraw_at : (v : WorldState) (call : ℕ) (key : Bytes) (part : Part) 
 may_withdraw_at v call key part number is home_is sound =
     weaker (slice_get v.stripes number) (may_end_at v call key part number is home_is sound)
   where
-    weaker : (o : Option State) → IsSomeAnd o (λ s. IsOut s part.reservation × KindFits part.reservation.first part (entry_at s.cache key) × (s.origin ≡ Played)) → IsSomeAnd o (λ s. IsOut s part.reservation)
+    weaker : (o : Option State) → IsSomeAnd o (λ s. IsOut s part.reservation × (s.origin ≡ Played)) → IsSomeAnd o (λ s. IsOut s part.reservation)
     weaker None h = h
     weaker (Some s) h = h.0
 

@@ -1,10 +1,8 @@
 -- What a machine's fields mean. Callers see the world's state alone.
 --     world_of      the state that the fields mean
---     IsKept        what is true of the fields
-use Rattle.std.specs.Prelude.{◌≡◌, true}
 use Rattle.jc_world.specs.declared.machine.Machine.TheInside.{Inside}
 use Rattle.jc_world.specs.World.{WorldState}
-use Rattle.jc_world.specs.Slots.{once, parts_of}
+use Rattle.jc_world.specs.Held.{parts_of}
 
 abbrev pub world_of : Inside → WorldState
 world_of m =
@@ -16,10 +14,7 @@ world_of m =
       fresh = m.fresh;
       last = m.last;
       calls = m.calls.items;
-      parts = parts_of m.slots.items;
+      parts = parts_of m.held;
       joins = m.joins.items;
       premises = m.premises;
     }
-
-abbrev pub IsKept : Inside → Type 0
-IsKept m = once m.slots.items ≡ true

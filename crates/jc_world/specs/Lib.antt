@@ -5,7 +5,7 @@ pub mod Coherent
 pub mod Audit
 pub mod Played
 pub mod Sound
-pub mod Slots
+pub mod Held
 pub mod Turns
 pub mod Inside
 pub mod Ending

@@ -1,8 +1,9 @@
 //! The end of a world: each ticket and each join is spent.
 ghost use Rattle.std.specs.Prelude.{◌≡◌};
-ghost use Rattle.jc_world.specs.Ending.{AreLeft, HasSlots, HasJoins, NoneReserved};
+ghost use Rattle.jc_world.specs.Ending.{AreLeft, HasHeld, HasJoins, NoneReserved};
+ghost use Rattle.jc_world.specs.Held.{parts_of};
 
-use crate::slot::Slot;
+use crate::held_keys::{HeldKeys, take_any};
 use jc_stripe::phase_laws::stays_reached;
 use jc_stripe::{Join, Picked, Stripe};
 use jc_types::{Config, stripe_of};
@@ -11,23 +12,23 @@ use jc_types::{Config, stripe_of};
 pub(crate) fn end_all(
     config: &Config,
     stripes: &mut Vec<Stripe>,
-    mut slots: Vec<Slot>,
+    mut held: HeldKeys,
     joins: &[Join],
 )
     requires left { AreLeft config.now stripes.old.items }
-    requires slots { HasSlots config.now stripes.old.items slots.items }
+    requires held { HasHeld config.now stripes.old.items (parts_of held) }
     requires joins { HasJoins config.now stripes.old.items joins.now }
     ensures left { AreLeft config.now stripes.new.items }
     ensures none { NoneReserved stripes.new.items }
     ensures joins { HasJoins config.now stripes.new.items joins.now }
 {
     stays_reached();
-    'ending: while let Some(slot) = slots.pop() {
-        let number = stripe_of(&slot.key(), config.stripes);
+    'ending: while let Some(one) = take_any(&mut held) {
+        let number = stripe_of(&one.key(), config.stripes);
         let stripe = &mut stripes[number];
-        slot.close(stripe);
+        one.close(stripe);
     }
-    slots.destroy_empty();
+    held.destroy_empty();
 }
 
 /// Picks up the answer of every join, where no load is under way any more.

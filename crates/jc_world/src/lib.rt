@@ -6,13 +6,14 @@ mod calls;
 mod ending;
 pub mod event;
 pub mod headline;
+mod held;
+mod held_keys;
 mod joining;
 mod machine;
 mod outside;
 pub mod pick_ups;
 pub mod replies;
 pub mod reserved;
-mod slot;
 mod stripes;
 #[cfg(test)]
 mod tests;

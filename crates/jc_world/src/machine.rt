@@ -14,9 +14,10 @@ mod fitting;
 
 use crate::calls::{drop_call, find_call, has_call};
 use crate::ending::{end_all, pick_all};
-use crate::event::{Command, Part, PickedUp, Premises, Shown, Under, WorldEvent};
+use crate::event::{Command, PickedUp, Premises, Shown, Under, WorldEvent};
+use crate::held::Held;
+use crate::held_keys::{HeldKeys, held_at, held_by, hold_load, hold_write, make_room, take};
 use crate::joining::{has_joined, put_back, take_join};
-use crate::slot::{Slot, part_at, part_under, take_slot};
 use crate::stripes::{Stripes, shown_of};
 use jc_model::{Change, Contents, Event, Op};
 use jc_stripe::{Begun, Join, Picked};
@@ -32,7 +33,7 @@ pub(crate) struct Machine {
     fresh: bool,
     last: Option<u64>,
     calls: Vec<Under>,
-    slots: Vec<Slot>,
+    held: HeldKeys,
     joins: Vec<Join>,
     premises: Premises,
 }
@@ -46,11 +47,9 @@ impl Model for Machine {
 
     ghost coded = { Prim.hlevel (codes, code) };
 
-    ghost use Rattle.jc_world.specs.Inside.{world_of, IsKept};
+    ghost use Rattle.jc_world.specs.Inside.{world_of};
 
     ghost view = { world_of };
-
-    ghost invariant = { IsKept };
 }
 
 impl Machine {
@@ -67,7 +66,7 @@ impl Machine {
             fresh: true,
             last: None,
             calls: Vec::new(alloc),
-            slots: Vec::new(alloc),
+            held: HeldKeys::new(alloc),
             joins: Vec::new(alloc),
             premises: Premises {
                 writers: true,
@@ -105,18 +104,18 @@ impl Machine {
         find_call(&self.calls, call)
     }
 
-    /// The key's part, if it is reserved.
-    fn reserved(&self, key: &Key) -> Option<Part>
-        ensures { result ≡ map.get self.now.parts key.now }
+    /// What is held of a key.
+    fn reserved(&self, key: &Key) -> Option<&Held>
+        ensures { option_copied result ≡ map.get self.now.parts key.now }
     {
-        part_at(&self.slots, key)
+        held_at(&self.held, key)
     }
 
-    /// The key's part, if it is this call's.
-    pub(crate) fn part_of(&self, call: u64, key: &Key) -> Option<&Part>
+    /// What a call holds of a key.
+    pub(crate) fn held_by(&self, call: u64, key: &Key) -> Option<&Held>
         ensures { option_copied result ≡ part_of self.now call key.now }
     {
-        part_under(&self.slots, call, key)
+        held_by(&self.held, call, key)
     }
 
     /// Whether a call has joined a load of a key, and hasn't its answer.
@@ -241,7 +240,7 @@ impl Machine {
         ensures err { OnErr result (self.new ≡ self.old) }
     {
         let _types: Option<Change> = None;
-        self.slots.try_reserve(1)?;
+        make_room(&mut self.held)?;
         self.joins.try_reserve(1)?;
         self.stripes.reserve()?;
         let Some(u) = find_call(&self.calls, call) else {
@@ -257,14 +256,12 @@ impl Machine {
                 Ok(())
             }
             Begun::Load(ticket) => {
-                self.slots.push_reserved(Slot::loading(ticket));
+                hold_load(&mut self.held, ticket);
                 *seen = Shown::Loads;
                 Ok(())
             }
             Begun::Write(ticket) => {
-                let (slot, change) = Slot::writing(ticket);
-                self.slots.push_reserved(slot);
-                *seen = Shown::Asks(change);
+                *seen = Shown::Asks(hold_write(&mut self.held, ticket));
                 Ok(())
             }
             Begun::Joined(join) => {
@@ -290,9 +287,9 @@ impl Machine {
     {
         self.stripes.reserve()?;
         let number = stripe_of(key, self.config.stripes);
-        let slot = take_slot(&mut self.slots, call, key);
+        let held = take(&mut self.held, key);
         drop_call(&mut self.calls, call);
-        let done = self.stripes.commit(number, slot);
+        let done = self.stripes.commit(number, held);
         *seen = Shown::Stepped(shown_of(number, done));
         Ok(())
     }
@@ -305,8 +302,8 @@ impl Machine {
         ensures { Happens self.old (event.Withdraw call key.now) seen.new self.new }
     {
         let number = stripe_of(key, self.config.stripes);
-        let slot = take_slot(&mut self.slots, call, key);
-        self.stripes.withdraw(number, slot);
+        let held = take(&mut self.held, key);
+        self.stripes.withdraw(number, held);
         *seen = Shown::Withdrawn;
     }
 
@@ -352,12 +349,12 @@ impl Machine {
             fresh: _,
             last: _,
             calls: _,
-            slots,
+            held,
             joins,
             premises: _,
         } = self;
         let mut items = stripes.into_items();
-        end_all(&config, &mut items, slots, &joins);
+        end_all(&config, &mut items, held, &joins);
         pick_all(&config, &mut items, joins);
     }
 }

@@ -1,13 +1,12 @@
 //! What loaders and writers say, and whether they are honest.
 ghost use Rattle.std.specs.Prelude.{◌≡◌, ◌&&◌, option_copied};
 ghost use Rattle.std.specs.Bool.{beq};
-ghost use Rattle.jc_stripe.specs.Tickets.{asks_loader, asks_writer};
 ghost use Rattle.jc_world.specs.World.{waits_for_load, waits_for_report, is_answered, is_untouched};
-ghost use Rattle.jc_world.specs.Premises.{read_answer, changed_to, report_of, is_true_load, is_done, is_true_report};
+ghost use Rattle.jc_world.specs.Premises.{read_answer, changed_to, report_of, is_true_load, is_done};
 
-use crate::event::Part;
+use crate::event::Reported;
+use crate::held::Held;
 use jc_model::{Change, LoadAnswer, WriteAnswer};
-use jc_stripe::First;
 use jc_types::Value;
 
 /// Whether the loader's answer is a failure, or what the store holds.
@@ -34,57 +33,42 @@ pub(crate) fn answer_of(stored: Option<Value>) -> LoadAnswer
     }
 }
 
-fn is_loader(first: &First) -> bool
-    ensures { result ≡ asks_loader first.now }
-{
-    matches!(first, First::Loader)
-}
-
-fn is_writer(first: &First) -> bool
-    ensures { result ≡ asks_writer first.now }
-{
-    matches!(first, First::Writer(_))
-}
-
 /// Whether the loader was asked, and hasn't answered.
-pub(crate) fn is_waiting_for_load(part: Option<&Part>) -> bool
-    ensures { result ≡ waits_for_load (option_copied part.entry) }
+pub(crate) fn is_waiting_for_load(held: Option<&Held>) -> bool
+    ensures { result ≡ waits_for_load (option_copied held.entry) }
 {
-    match part {
-        Some(part) => is_loader(&part.reservation.first) && !part.load.is_given(),
+    match held {
+        Some(held) => held.waits_for_load(),
         None => false,
     }
 }
 
 /// Whether the writer was asked, and hasn't returned.
-pub(crate) fn is_waiting_for_report(part: Option<&Part>) -> bool
-    ensures { result ≡ waits_for_report (option_copied part.entry) }
+pub(crate) fn is_waiting_for_report(held: Option<&Held>) -> bool
+    ensures { result ≡ waits_for_report (option_copied held.entry) }
 {
-    match part {
-        Some(part) => is_writer(&part.reservation.first) && !part.report.is_given(),
+    match held {
+        Some(held) => held.waits_for_report(),
         None => false,
     }
 }
 
 /// Whether all that was asked is answered.
-pub(crate) fn is_all_answered(part: Option<&Part>) -> bool
-    ensures { result ≡ is_answered (option_copied part.entry) }
+pub(crate) fn is_all_answered(held: Option<&Held>) -> bool
+    ensures { result ≡ is_answered (option_copied held.entry) }
 {
-    match part {
-        Some(part) => {
-            (is_loader(&part.reservation.first) && part.load.is_given())
-                || (is_writer(&part.reservation.first) && part.report.is_given())
-        }
+    match held {
+        Some(held) => held.is_answered(),
         None => false,
     }
 }
 
 /// Whether a key is reserved, and nothing was said outside for it and nothing done.
-pub(crate) fn is_never_touched(part: Option<&Part>) -> bool
-    ensures { result ≡ is_untouched (option_copied part.entry) }
+pub(crate) fn is_never_touched(held: Option<&Held>) -> bool
+    ensures { result ≡ is_untouched (option_copied held.entry) }
 {
-    match part {
-        Some(part) => { !part.load.is_given() && !part.is_changed && !part.report.is_given() }
+    match held {
+        Some(held) => held.is_untouched(),
         None => false,
     }
 }
@@ -99,23 +83,17 @@ pub(crate) fn report_with(fault: Option<u32>) -> WriteAnswer
     }
 }
 
-fn is_written(report: WriteAnswer) -> bool
-    ensures { result ≡ is_done report }
-{
-    matches!(report, WriteAnswer::Done)
-}
-
 fn are_alike(was: bool, said: bool) -> bool
     ensures { result ≡ beq was said }
 {
     if was { said } else { !said }
 }
 
-/// Whether a report makes committed exactly what was changed.
-pub(crate) fn is_honest_report(report: WriteAnswer, part: &Part) -> bool
-    ensures { result ≡ is_true_report report part.now }
+/// Whether a report says success exactly if the store was changed.
+pub(crate) fn is_honest_report(reported: &Reported) -> bool
+    ensures { result ≡ beq reported.now.is_changed (is_done (report_of reported.now.fault)) }
 {
-    are_alike(part.is_changed, is_written(report))
+    are_alike(reported.is_changed, reported.fault.is_none())
 }
 
 /// What the store holds at a key once the writer did as it was asked.

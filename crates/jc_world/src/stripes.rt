@@ -1,8 +1,7 @@
 //! The stripes of a world, and the order of all that they append to their histories.
-ghost use Rattle.std.specs.Prelude.{◌≡◌, ◌+◌, ◌-◌, ◌≤◌, ◌<◌, ◌++◌, [], Ok, true, Some, IsSomeAnd, IfOk, OnOk, length, replicate, vec_len, vec_capacity, slice_get};
+ghost use Rattle.std.specs.Prelude.{◌≡◌, false, ◌+◌, ◌-◌, ◌≤◌, ◌<◌, ◌++◌, [], Ok, true, Some, IsSomeAnd, IfOk, OnOk, length, replicate, vec_len, vec_capacity, slice_get};
 ghost use Rattle.jc_types.specs.declared.limits.TheConstants.{STEP_PLACES, JOINERS_MAX, STRIPES_MAX};
 ghost use Rattle.jc_types.specs.Limits.{check};
-ghost use Rattle.jc_model.specs.Cache.{entry_at};
 ghost use Rattle.jc_stripe.specs.State.{IsOut, IsJoined};
 ghost use Rattle.jc_stripe.specs.Refusals.{has_phases};
 ghost use Rattle.jc_stripe.specs.Phases.{MayBegin, Begins, Commits, Withdraws, PicksUp};
@@ -10,11 +9,10 @@ ghost use Rattle.jc_stripe.specs.declared.ticket.Origin.TheVariants.{Played};
 ghost use Rattle.jc_world.specs.World.{out_of, is_answered, empty_stripes};
 ghost use Rattle.jc_stripe.specs.Reached.{IsReached};
 ghost use Rattle.jc_world.specs.Events.{step_of};
-ghost use Rattle.jc_world.specs.Sound.{KindFits};
 ghost use Rattle.jc_world.specs.Turns.{IsPhase, IsQuietPhase, history_at, merge, AreTurns};
 
 use crate::event::{Stepped, Under};
-use crate::slot::Slot;
+use crate::held::Held;
 use jc_model::{Effect, Event, LoadAnswer, Op, Out, ProcessAnswer, Reply, WriteAnswer};
 use jc_stripe::phase_laws::grows;
 use jc_stripe::{Begun, Join, Origin, Picked, StepDone, Stripe};
@@ -84,27 +82,28 @@ impl Stripes {
     }
 
     /// The last phase of a key on its stripe. What it appends is at the end of the order, too.
-    pub(crate) fn commit(&mut self, number: usize, slot: Slot) -> StepDone
-        requires out { IsSomeAnd (slice_get self.old.stripes number) (λ s. IsOut s slot.1.reservation × KindFits slot.1.reservation.first slot.1 (entry_at s.cache slot.0) × (s.origin ≡ Played)) }
-        requires answered { is_answered (Some slot.1) ≡ true }
+    pub(crate) fn commit(&mut self, number: usize, held: Held) -> StepDone
+        requires out { IsSomeAnd (slice_get self.old.stripes number) (λ s. IsOut s held.reservation × (s.origin ≡ Played)) }
+        requires answered { is_answered (Some held) ≡ true }
         requires room { STEP_PLACES + JOINERS_MAX ≤ self.old.room }
-        ensures { IsPhase self.old number (λ from to. Commits from slot.1.reservation (out_of slot.1) result to) self.new }
+        ensures { IsPhase self.old number (λ from to. Commits from held.reservation (out_of held) result to) self.new }
     {
         grows();
         let stripe = &mut self.items[number];
         let before = history_len(stripe);
-        let done = slot.end(stripe);
+        let done = held.commit(stripe);
         give_turns(&mut self.turns, number, stripe, before);
         done
     }
 
     /// Gives a key's reservation back.
-    pub(crate) fn withdraw(&mut self, number: usize, slot: Slot)
-        requires { IsSomeAnd (slice_get self.old.stripes number) (λ s. IsOut s slot.1.reservation) }
-        ensures { IsQuietPhase self.old number (λ from to. Withdraws from slot.1.reservation to) self.new }
+    pub(crate) fn withdraw(&mut self, number: usize, held: Held)
+        requires out { IsSomeAnd (slice_get self.old.stripes number) (λ s. IsOut s held.reservation) }
+        requires open { is_answered (Some held) ≡ false }
+        ensures { IsQuietPhase self.old number (λ from to. Withdraws from held.reservation to) self.new }
     {
         let stripe = &mut self.items[number];
-        slot.withdraw(stripe);
+        held.withdraw(stripe);
     }
 
     /// Asks for the answer of the load that a call has joined.

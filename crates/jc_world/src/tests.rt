@@ -78,7 +78,7 @@ fn asks_for_the_put(rt: &impl Abort, world: &World) {
         is_changed: true,
         report: WriteAnswer::NotAsked,
     };
-    let is_under_way = world.under(2) == Some(&under) && world.part(2, &a) == Some(&part);
+    let is_under_way = world.under(2) == Some(&under) && world.part(2, &a) == Some(part);
     assert!(rt; is_under_way, "call 2 has reserved the key");
     let is_over = world.under(3).is_none() && world.part(3, &a).is_none();
     assert!(rt; is_over, "call 3 is over");

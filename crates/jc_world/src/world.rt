@@ -149,10 +149,13 @@ impl World {
     }
 
     /// What a call has asked and heard for a key that it has reserved.
-    pub fn part(&self, call: u64, key: &Key) -> Option<&Part>
-        ensures { option_copied result ≡ part_of self.now.world call key.now }
+    pub fn part(&self, call: u64, key: &Key) -> Option<Part>
+        ensures { result ≡ part_of self.now.world call key.now }
     {
-        self.machine.part_of(call, key)
+        match self.machine.held_by(call, key) {
+            Some(held) => Some(held.part()),
+            None => None,
+        }
     }
 
     /// Whether a call has joined a load of a key, and hasn't its answer.

@@ -1,5 +1,6 @@
 //! What loaders, writers and others do.
 ghost use Rattle.std.specs.Prelude.{◌≡◌, true, false, Ok, OnOk, OnErr, Option, None, Some};
+ghost use Rattle.jc_model.specs.Table.{is_load_given};
 ghost use Rattle.jc_stripe.specs.declared.ticket.First.TheVariants.{Writer};
 ghost use Rattle.jc_model.specs.declared.event.Change.{Change};
 ghost use Rattle.jc_world.specs.declared.event.WorldEvent.TheVariants as event;
@@ -9,33 +10,26 @@ ghost use Rattle.jc_world.specs.Premises.{report_of};
 ghost use Rattle.jc_world.specs.Events.{fits, answered, reported, Happens};
 ghost use Rattle.jc_world.specs.Coherent.{is_changed};
 
-use crate::event::{Part, Reported, Shown};
+use crate::event::{Reported, Shown};
+use crate::held_keys::{change, report, tell};
 use crate::machine::Machine;
-use crate::outside::{
-    and_now, answer_of, entry_after, is_honest_load, is_honest_report, report_with,
-};
-use crate::slot::set_part;
-use jc_model::{Change, LoadAnswer, WriteAnswer};
-use jc_stripe::First;
+use crate::outside::{and_now, answer_of, is_honest_load, is_honest_report};
+use jc_model::LoadAnswer;
 use jc_types::{Key, Value};
 use std::alloc::AllocError;
 
 impl Machine {
     /// The loader answers.
     fn tell(&mut self, call: u64, key: &Key, answer: LoadAnswer)
-        requires { waits_for_load (part_of self.old call key.now) ≡ true }
+        requires waits { waits_for_load (part_of self.old call key.now) ≡ true }
+        requires given { is_load_given answer ≡ true }
         ensures { (part : Part) × (part_of self.old call key.now ≡ Some part) × (self.new ≡ answered self.old key.now part answer) }
     {
-        match self.part_of(call, key).copied() {
-            Some(part) => {
-                // Copied first: a value counts as moved by the call that takes it.
-                let kept = answer;
-                let honest = is_honest_load(answer, self.stored(key));
-                set_part(&mut self.slots, call, key, with_load(part, kept));
-                self.premises.loaders = and_now(self.premises.loaders, honest);
-            }
-            None => unreachable!(),
-        }
+        // Copied first: a value counts as moved by the call that takes it.
+        let kept = answer;
+        let honest = is_honest_load(answer, self.stored(key));
+        tell(&mut self.held, key, kept);
+        self.premises.loaders = and_now(self.premises.loaders, honest);
     }
 
     /// The loader reads the store, and returns what it has.
@@ -75,18 +69,9 @@ impl Machine {
         ensures ok { OnOk result (Happens self.old (event.Change call key.now) seen.new self.new) }
         ensures err { OnErr result (self.new ≡ self.old) }
     {
-        match self.part_of(call, key).copied() {
-            Some(part) => match change_in(&part) {
-                Some(change) => {
-                    self.store.set(key, entry_after(&change))?;
-                    set_part(&mut self.slots, call, key, with_change(part));
-                    *seen = Shown::Changed;
-                    Ok(())
-                }
-                None => unreachable!(),
-            },
-            None => unreachable!(),
-        }
+        change(&mut self.held, &mut self.store, key)?;
+        *seen = Shown::Changed;
+        Ok(())
     }
 
     /// The writer returns.
@@ -95,26 +80,10 @@ impl Machine {
         ensures { (part : Part) × (change : Change) × (part_of self.old call key.now ≡ Some part) × (part.reservation.first ≡ Writer change)
             × (result ≡ record { change = change; is_changed = part.is_changed; fault = fault }) × (self.new ≡ reported self.old key.now part (report_of fault)) }
     {
-        match self.part_of(call, key).copied() {
-            Some(part) => match change_in(&part) {
-                Some(change) => {
-                    let is_changed = part.is_changed;
-                    let report = report_with(fault);
-                    // Copied first: a value counts as moved by the call that takes it.
-                    let kept = report;
-                    let honest = is_honest_report(report, &part);
-                    set_part(&mut self.slots, call, key, with_report(part, kept));
-                    self.premises.writers = and_now(self.premises.writers, honest);
-                    Reported {
-                        change,
-                        is_changed,
-                        fault,
-                    }
-                }
-                None => unreachable!(),
-            },
-            None => unreachable!(),
-        }
+        let reported = report(&mut self.held, key, fault);
+        let honest = is_honest_report(&reported);
+        self.premises.writers = and_now(self.premises.writers, honest);
+        reported
     }
 
     /// The writer of a single-key call returns.
@@ -145,39 +114,5 @@ impl Machine {
         self.premises.quiet = false;
         *seen = Shown::Written;
         Ok(())
-    }
-}
-
-fn with_load(part: Part, answer: LoadAnswer) -> Part
-    ensures { result ≡ record part { load = answer } }
-{
-    Part {
-        load: answer,
-        ..part
-    }
-}
-
-fn with_change(part: Part) -> Part
-    ensures { result ≡ record part { is_changed = true } }
-{
-    Part {
-        is_changed: true,
-        ..part
-    }
-}
-
-fn with_report(part: Part, report: WriteAnswer) -> Part
-    ensures { result ≡ record part { report = report } }
-{
-    Part { report, ..part }
-}
-
-/// What the writer was asked for.
-fn change_in(part: &Part) -> Option<Change>
-    ensures { (change : Change) → (result ≡ Some change → part.now.reservation.first ≡ Writer change) × (part.now.reservation.first ≡ Writer change → result ≡ Some change) }
-{
-    match part.reservation.first {
-        First::Writer(change) => Some(change),
-        First::Nobody | First::Loader | First::Processor => None,
     }
 }

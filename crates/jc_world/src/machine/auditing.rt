@@ -1,12 +1,12 @@
 //! What there is to see of a machine.
-ghost use Rattle.std.specs.Prelude.{IsTrue, ◌≡◌, ◌&&◌, [], true, false, Ok, IfOk, Option, None, Some};
+ghost use Rattle.std.specs.Prelude.{IsTrue, ◌≡◌, ◌&&◌, [], true, false, Ok, IfOk, option_copied, Option, None, Some};
 ghost use Rattle.jc_model.specs.Table.{holds};
 ghost use Rattle.jc_world.specs.Sound.{IsSoundWorld};
 ghost use Rattle.jc_world.specs.Coherent.{is_changed, all_hold, Coherent};
 ghost use Rattle.jc_world.specs.Audit.{differs, differing, IsAudit};
 
 use crate::audit::{Audit, gather};
-use crate::event::Part;
+use crate::held::Held;
 use crate::machine::Machine;
 use jc_types::{Key, Value};
 use std::alloc::{AllocError, Global};
@@ -65,11 +65,11 @@ fn is_held(held: Option<Value>, value: &Value) -> bool
 }
 
 /// Whether a writer's change waits for its commit.
-fn is_changing(part: Option<Part>) -> bool
-    ensures { result ≡ is_changed part }
+fn is_changing(held: Option<&Held>) -> bool
+    ensures { result ≡ is_changed (option_copied held.entry) }
 {
-    match part {
-        Some(part) => part.is_changed,
+    match held {
+        Some(held) => held.is_changed(),
         None => false,
     }
 }

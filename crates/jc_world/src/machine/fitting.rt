@@ -24,14 +24,14 @@ impl Machine {
                 command,
             } => self.may_call(*call, *session, command),
             WorldEvent::Start { call, key } => self.may_start(*call, key),
-            WorldEvent::Read { call, key } => is_waiting_for_load(self.part_of(*call, key)),
+            WorldEvent::Read { call, key } => is_waiting_for_load(self.held_by(*call, key)),
             WorldEvent::Say { call, key, answer } => {
-                answer.is_given() && is_waiting_for_load(self.part_of(*call, key))
+                answer.is_given() && is_waiting_for_load(self.held_by(*call, key))
             }
-            WorldEvent::Change { call, key } => is_waiting_for_report(self.part_of(*call, key)),
+            WorldEvent::Change { call, key } => is_waiting_for_report(self.held_by(*call, key)),
             WorldEvent::Report { call, fault: _ } => self.may_report(*call),
-            WorldEvent::Commit { call, key } => is_all_answered(self.part_of(*call, key)),
-            WorldEvent::Withdraw { call, key } => is_never_touched(self.part_of(*call, key)),
+            WorldEvent::Commit { call, key } => is_all_answered(self.held_by(*call, key)),
+            WorldEvent::Withdraw { call, key } => is_never_touched(self.held_by(*call, key)),
             WorldEvent::Leave { call } => self.may_leave(*call),
             WorldEvent::PickUp { call, key } => self.is_joined(*call, key),
             WorldEvent::Foreign { key: _, value: _ } => true,
@@ -42,7 +42,7 @@ impl Machine {
     fn is_free(&self, call: u64, key: &Key) -> bool
         ensures { result ≡ is_free self.now call key.now }
     {
-        self.part_of(call, key).is_none() && !self.is_joined(call, key)
+        self.held_by(call, key).is_none() && !self.is_joined(call, key)
     }
 
     fn may_call(&self, call: u64, session: u32, command: &Command) -> bool
@@ -74,7 +74,7 @@ impl Machine {
         ensures { result ≡ may_report self.now call (under self.now call) }
     {
         match self.under(call) {
-            Some(u) => is_waiting_for_report(self.part_of(call, &u.command.key)),
+            Some(u) => is_waiting_for_report(self.held_by(call, &u.command.key)),
             None => false,
         }
     }

@@ -1,15 +1,16 @@
-use Rattle.std.proofs.Common.{vec_len}
-use Rattle.jc_world.specs.Ending.{AreLeft, HasSlots, HasJoins}
+use Rattle.indexmap.specs.IndexMap.{index_map_len}
+use Rattle.jc_world.specs.Ending.{AreLeft, HasHeld, HasJoins}
+use Rattle.jc_world.specs.Held.{parts_of}
 use Rattle.jc_world.proofs.ending.end_all.Given as goal
 
--- what is still out has its slot
+-- what is still out is held
 abbrev pub invariant-ending : goal.invariant-ending
 invariant-ending l = record {
   left : AreLeft l.config l.stripes.items;
-  slots : HasSlots l.config l.stripes.items l.slots.items;
+  held : HasHeld l.config l.stripes.items (parts_of l.held);
   joins : HasJoins l.config l.stripes.items l.joins;
 }
 
--- one slot less each time
+-- one key less each time
 abbrev pub decreases-ending : goal.decreases-ending
-decreases-ending l = vec_len l.slots
+decreases-ending l = index_map_len l.held

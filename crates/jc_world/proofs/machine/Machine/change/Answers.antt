@@ -1,34 +1,26 @@
-use Rattle.std.proofs.Common.{◌≡◌, true, Some, refl, sym, ap, ◌∙◌}
-use Rattle.std.specs.FinMap.{insert}
-use Rattle.jc_model.specs.Cache.{with_entry}
-use Rattle.jc_world.specs.declared.event.Part.{Part}
+use Rattle.std.proofs.Common.{◌≡◌, true, Some, refl, subst, sym, ap, ◌∙◌}
+use Rattle.std.specs.FinMap.{get}
 use Rattle.jc_world.specs.World.{WorldState, part_of, waits_for_report}
 use Rattle.jc_world.specs.Events.{changed}
 use Rattle.jc_world.specs.Inside.{world_of}
-use Rattle.jc_world.proofs.Slotted.{in_slots, may_set, waits_writer}
+use Rattle.jc_world.proofs.Holding.{of_key}
 use Rattle.jc_world.proofs.machine.Machine.change.Goals as goal
 
-pub set_part-requires-clause-there : goal.set_part-requires-clause-there
-set_part-requires-clause-there c =
-    let of_w : part_of c.args.self.now c.args.call c.args.key.now ≡ Some c.in-Some.part = sym c.part_of.ensures ∙ sym c.copied.ensures ∙ c.in-Some.is in
-    may_set _ c.in-Some.part c.with_change.result (in_slots c.self.inside c.args.self.now c.args.call c.args.key.now c.self.invariant c.self.view_is ∙ of_w) (ap (λ (p : Part). p.reservation) c.with_change.ensures)
-
-pub unreachable-requires : goal.unreachable-requires
-unreachable-requires c =
-    let of_w : part_of c.args.self.now c.args.call c.args.key.now ≡ Some c.in-Some.part = sym c.part_of.ensures ∙ sym c.copied.ensures ∙ c.in-Some.is in
-    let asked = waits_writer c.in-Some.part (sym (ap waits_for_report of_w) ∙ c.requires) in
-    let given = (c.change_in.ensures asked.0).1 asked.1 in
-    let none = c.in-None-change_in.is in cc
+pub change-requires : goal.change-requires
+change-requires c =
+    let v : WorldState = world_of c.self.inside in
+    let W : WorldState → Type 0 = λ x. waits_for_report (part_of x c.args.call c.args.key.now) ≡ true in
+    (of_key waits_for_report (get v.parts c.args.key.now) c.args.call (λ h. cc) (subst W (sym c.self.view_is) c.requires)).3
 
 pub returns-clause-ok : goal.returns-clause-ok
 returns-clause-ok c =
     let v : WorldState = world_of c.self.inside in
-    let w = c.args.self.now in
-    let part = c.in-Some.part in
-    let change = c.in-Some-change_in.change in
-    let of_w : part_of w c.args.call c.args.key.now ≡ Some part = sym c.part_of.ensures ∙ sym c.copied.ensures ∙ c.in-Some.is in
-    let next = world_of (record c.self.inside { store = c.set.new.self; slots = c.set_part.new.slots }) in
-    let store : c.set.new.self ≡ (changed v c.args.key.now part change).store = c.in_ok-set-in-Some-change_in.ensures.ok ∙ ap (with_entry c.self.inside.store c.args.key.now) c.entry_after.ensures in
-    let parts : next.parts ≡ insert v.parts c.args.key.now (record part { is_changed = true }) = c.set_part.ensures.parts ∙ ap (insert v.parts c.args.key.now) c.with_change.ensures in
-    let is : next ≡ changed v c.args.key.now part change = λ i. record v { store = store i; parts = parts i } in
-    (part, change, of_w, (c.change_in.ensures change).0 c.in-Some-change_in.is, refl, is ∙ ap (λ (x : WorldState). changed x c.args.key.now part change) c.self.view_is)
+    let key = c.args.key.now in
+    let W : WorldState → Type 0 = λ x. waits_for_report (part_of x c.args.call key) ≡ true in
+    let of = of_key waits_for_report (get v.parts key) c.args.call (λ h. cc) (subst W (sym c.self.view_is) c.requires) in
+    let said = c.in_ok-change.ensures.ok in
+    let part = said.0 in
+    let there : part_of v c.args.call key ≡ Some part = of.1 ∙ sym of.2 ∙ said.2 in
+    let next = world_of (record c.self.inside { store = c.change.new.store; held = c.change.new.held }) in
+    let is : next ≡ changed v key part said.1 = λ i. record v { store = said.5 i; parts = said.4 i } in
+    (part, said.1, sym (ap (λ (x : WorldState). part_of x c.args.call key) c.self.view_is) ∙ there, said.3, refl, is ∙ ap (λ (x : WorldState). changed x key part said.1) c.self.view_is)

@@ -1,19 +1,20 @@
 use Rattle.std.proofs.Common.{List, sym, subst}
 use Rattle.jc_world.specs.Sound.{IsSoundWorld}
-use Rattle.jc_world.specs.Ending.{AreLeft, HasSlots, HasJoins}
+use Rattle.jc_world.specs.Ending.{AreLeft, HasHeld, HasJoins}
 use Rattle.jc_stripe.specs.State.{State}
 use Rattle.jc_world.specs.Inside.{world_of}
-use Rattle.jc_world.proofs.Closing.{all_left, slots_out, joins_out}
+use Rattle.jc_world.specs.Held.{parts_of}
+use Rattle.jc_world.proofs.Closing.{all_left, held_out, joins_out}
 use Rattle.jc_world.proofs.machine.Machine.close.Goals as goal
 
 pub end_all-requires-clause-left : goal.end_all-requires-clause-left
 end_all-requires-clause-left c =
     subst (AreLeft c.self.inside.config) (sym c.into_items-items.ensures) (all_left (world_of c.self.inside) (subst IsSoundWorld (sym c.self.view_is) c.requires))
 
-pub end_all-requires-clause-slots : goal.end_all-requires-clause-slots
-end_all-requires-clause-slots c =
-    let P : List State → Type 0 = λ ss. HasSlots c.self.inside.config ss c.self.inside.slots.items in
-    subst P (sym c.into_items-items.ensures) (slots_out c.self.inside c.self.invariant (subst IsSoundWorld (sym c.self.view_is) c.requires))
+pub end_all-requires-clause-held : goal.end_all-requires-clause-held
+end_all-requires-clause-held c =
+    let P : List State → Type 0 = λ ss. HasHeld c.self.inside.config ss (parts_of c.self.inside.held) in
+    subst P (sym c.into_items-items.ensures) (held_out (world_of c.self.inside) (subst IsSoundWorld (sym c.self.view_is) c.requires))
 
 pub end_all-requires-clause-joins : goal.end_all-requires-clause-joins
 end_all-requires-clause-joins c =

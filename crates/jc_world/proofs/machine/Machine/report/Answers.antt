@@ -1,37 +1,32 @@
-use Rattle.std.proofs.Common.{◌≡◌, ◌&&◌, Some, sym, ap, ◌∙◌, refl}
-use Rattle.std.specs.FinMap.{insert}
-use Rattle.jc_world.specs.declared.event.Part.{Part}
+use Rattle.std.proofs.Common.{◌≡◌, ◌&&◌, true, Some, subst, sym, ap, ◌∙◌}
+use Rattle.std.specs.Bool.{beq}
+use Rattle.std.specs.FinMap.{get}
+use Rattle.jc_world.specs.declared.event.Reported.{Reported}
 use Rattle.jc_world.specs.World.{WorldState, part_of, waits_for_report}
-use Rattle.jc_world.specs.Premises.{report_of, is_true_report}
+use Rattle.jc_world.specs.Premises.{report_of, is_done, is_true_report}
 use Rattle.jc_world.specs.Events.{reported}
 use Rattle.jc_world.specs.Inside.{world_of}
-use Rattle.jc_world.proofs.Slotted.{in_slots, may_set, waits_writer}
+use Rattle.jc_world.proofs.Holding.{of_key}
 use Rattle.jc_world.proofs.machine.Machine.report.Goals as goal
 
-pub set_part-requires-clause-there : goal.set_part-requires-clause-there
-set_part-requires-clause-there c =
-    let of_w : part_of c.args.self.now c.args.call c.args.key.now ≡ Some c.in-Some.part = sym c.part_of.ensures ∙ sym c.copied.ensures ∙ c.in-Some.is in
-    may_set _ c.in-Some.part c.with_report.result (in_slots c.self.inside c.args.self.now c.args.call c.args.key.now c.self.invariant c.self.view_is ∙ of_w) (ap (λ (p : Part). p.reservation) c.with_report.ensures)
-
-pub unreachable-requires : goal.unreachable-requires
-unreachable-requires c =
-    let of_w : part_of c.args.self.now c.args.call c.args.key.now ≡ Some c.in-Some.part = sym c.part_of.ensures ∙ sym c.copied.ensures ∙ c.in-Some.is in
-    let asked = waits_writer c.in-Some.part (sym (ap waits_for_report of_w) ∙ c.requires) in
-    let given = (c.change_in.ensures asked.0).1 asked.1 in
-    let none = c.in-None-change_in.is in cc
+pub report-reported-requires : goal.report-reported-requires
+report-reported-requires c =
+    let v : WorldState = world_of c.self.inside in
+    let W : WorldState → Type 0 = λ x. waits_for_report (part_of x c.args.call c.args.key.now) ≡ true in
+    (of_key waits_for_report (get v.parts c.args.key.now) c.args.call (λ h. cc) (subst W (sym c.self.view_is) c.requires)).3
 
 pub returns : goal.returns
 returns c =
     let v : WorldState = world_of c.self.inside in
-    let w = c.args.self.now in
-    let part = c.in-Some.part in
-    let change = c.in-Some-change_in.change in
+    let key = c.args.key.now in
+    let W : WorldState → Type 0 = λ x. waits_for_report (part_of x c.args.call key) ≡ true in
+    let of = of_key waits_for_report (get v.parts key) c.args.call (λ h. cc) (subst W (sym c.self.view_is) c.requires) in
+    let said = c.report-reported.ensures in
+    let part = said.0 in
+    let there : part_of v c.args.call key ≡ Some part = of.1 ∙ sym of.2 ∙ said.2 in
     let report = report_of c.args.fault in
-    let of_w : part_of w c.args.call c.args.key.now ≡ Some part = sym c.part_of.ensures ∙ sym c.copied.ensures ∙ c.in-Some.is in
-    let next = world_of (record c.self.inside { slots = c.set_part.new.slots; premises = record c.self.inside.premises { writers = c.and_now-self-inside.result } }) in
-    let parts : next.parts ≡ insert v.parts c.args.key.now (record part { report = report }) =
-    c.set_part.ensures.parts ∙ ap (insert v.parts c.args.key.now) (c.with_report.ensures ∙ ap (λ r. record part { report = r }) c.report_with-report.ensures) in
+    let next = world_of (record c.self.inside { held = c.report-reported.new.held; premises = record c.self.inside.premises { writers = c.and_now-self-inside.result } }) in
     let writers : c.and_now-self-inside.result ≡ (c.self.inside.premises.writers && is_true_report report part) =
-    c.and_now-self-inside.ensures ∙ ap (λ b. c.self.inside.premises.writers && b) (c.is_honest_report-honest.ensures ∙ ap (λ r. is_true_report r part) c.report_with-report.ensures) in
-    let is : next ≡ reported v c.args.key.now part report = λ i. record v { parts = parts i; premises = record c.self.inside.premises { writers = writers i } } in
-    (part, change, of_w, (c.change_in.ensures change).0 c.in-Some-change_in.is, refl, is ∙ ap (λ (x : WorldState). reported x c.args.key.now part report) c.self.view_is)
+    c.and_now-self-inside.ensures ∙ ap (λ b. c.self.inside.premises.writers && b) (c.is_honest_report-honest.ensures ∙ ap (λ (r : Reported). beq r.is_changed (is_done (report_of r.fault))) said.4) in
+    let is : next ≡ reported v key part report = λ i. record v { parts = said.5 i; premises = record c.self.inside.premises { writers = writers i } } in
+    (part, said.1, sym (ap (λ (x : WorldState). part_of x c.args.call key) c.self.view_is) ∙ there, said.3, said.4, is ∙ ap (λ (x : WorldState). reported x key part report) c.self.view_is)

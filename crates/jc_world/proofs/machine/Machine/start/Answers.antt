@@ -1,10 +1,10 @@
 use Rattle.std.proofs.Common.{◌≡◌, ◌++◌, ◌∷◌, [], ℕ, Some, IsSomeAnd, slice_get, refl, sym, subst, ap, ◌∙◌, List, Option, find, option_copied}
 use Rattle.jc_types.specs.Stripes.{stripe_of}
+use Rattle.std.specs.FinMap.{get, insert}
 use Rattle.jc_stripe.specs.Phases.{MayBegin}
 use Rattle.jc_stripe.specs.declared.begun.Begun.{Begun}
 use Rattle.jc_stripe.specs.declared.begun.Begun.TheVariants as begun
 use Rattle.jc_world.specs.declared.event.Under.{Under}
-use Rattle.jc_world.specs.declared.event.Part.{Part}
 use Rattle.jc_world.specs.declared.event.Shown.TheVariants as shown
 use Rattle.jc_world.specs.declared.event.WorldEvent.TheVariants as event
 use Rattle.jc_world.specs.World.{WorldState, has_number, under}
@@ -12,8 +12,6 @@ use Rattle.jc_world.specs.Events.{new_part, Happens}
 use Rattle.jc_world.specs.Sound.{IsSoundWorld}
 use Rattle.jc_world.specs.Inside.{world_of}
 use Rattle.jc_world.specs.Turns.{OrderedStripes, IsPhase}
-use Rattle.jc_world.specs.Slots.{parts_of}
-use Rattle.jc_world.proofs.Slotted.{pushed}
 use Rattle.jc_world.proofs.Phased.{may_begin_at, phased_at, Phased, phased_from, BeginsAs, started_done, started_refused, started_loads, started_joins, started_asks, free_load, free_write}
 use Rattle.jc_world.proofs.machine.Machine.start.Goals as goal
 
@@ -42,29 +40,6 @@ begin-begun-requires-clause-phases c =
     let u = c.in-Some.u.now in
     phased_at c.args.self.now c.args.call u (ap (λ (x : WorldState). under x c.args.call) (sym c.self.view_is) ∙ found _ _ c.args.call _ u c.deref.ensures.value c.find_call.ensures (ap option_copied c.in-Some.is)) c.requires.sound
 
-pub invariant_of-self-in-Load : goal.invariant_of-self-in-Load
-invariant_of-self-in-Load c =
-    let v : WorldState = world_of c.self.inside in
-    let u = c.in-Some.u.now in
-    let p = told v c.self.inside.stripes c.reserve.new.self c.begin-begun.new.self c.stripe_of-number.result c.reserve.new.self.room u c.begin-begun.result (begun.Load c.in-Load.ticket) refl refl c.in_ok-reserve.ensures.same c.in-Load.is c.begin-begun.ensures in
-    let free = free_load v u c.stripe_of-number.result c.in-Load.ticket _ _ c.stripe_of-number.ensures p (subst IsSoundWorld (sym c.self.view_is) c.requires.sound) in
-    let slot : c.loading.result ≡ (u.command.key, new_part c.in-Load.ticket.reservation) = c.loading.ensures ∙ ap (λ k. (k, new_part c.in-Load.ticket.reservation)) free.1 in
-    let items : c.push_reserved.new.self.items ≡ c.self.inside.slots.items ++ (u.command.key, new_part c.in-Load.ticket.reservation) ∷ [] =
-    c.push_reserved.ensures.items ∙ (λ i. c.in_ok-try_reserve.ensures.items i ++ slot i ∷ []) in
-    (pushed c.self.inside.slots.items c.push_reserved.new.self.items u.command.key (new_part c.in-Load.ticket.reservation) free.0 items c.self.invariant).1
-
-pub invariant_of-self-in-Write : goal.invariant_of-self-in-Write
-invariant_of-self-in-Write c =
-    let v : WorldState = world_of c.self.inside in
-    let u = c.in-Some.u.now in
-    let p = told v c.self.inside.stripes c.reserve.new.self c.begin-begun.new.self c.stripe_of-number.result c.reserve.new.self.room u c.begin-begun.result (begun.Write c.in-Write.ticket) refl refl c.in_ok-reserve.ensures.same c.in-Write.is c.begin-begun.ensures in
-    let free = free_write v u c.stripe_of-number.result c.in-Write.ticket _ _ c.stripe_of-number.ensures p (subst IsSoundWorld (sym c.self.view_is) c.requires.sound) in
-    let part : Part = new_part c.in-Write.ticket.reservation in
-    let slot : c.writing-slot.result.0 ≡ (u.command.key, part) = c.writing-slot.ensures.slot ∙ ap (λ k. (k, part)) free.1 in
-    let items : c.push_reserved-in-Write.new.self.items ≡ c.self.inside.slots.items ++ (u.command.key, part) ∷ [] =
-    c.push_reserved-in-Write.ensures.items ∙ (λ i. c.in_ok-try_reserve.ensures.items i ++ slot i ∷ []) in
-    (pushed c.self.inside.slots.items c.push_reserved-in-Write.new.self.items u.command.key part free.0 items c.self.invariant).1
-
 pub returns-in-Done-clause-ok : goal.returns-in-Done-clause-ok
 returns-in-Done-clause-ok c =
     let v : WorldState = world_of c.self.inside in
@@ -72,10 +47,10 @@ returns-in-Done-clause-ok c =
     let is : under v c.args.call ≡ Some u = found _ _ c.args.call _ u c.deref.ensures.value c.find_call.ensures (ap option_copied c.in-Some.is) in
     let p = told v c.self.inside.stripes c.reserve.new.self c.begin-begun.new.self c.stripe_of-number.result c.reserve.new.self.room u c.begin-begun.result (begun.Done c.in-Done.done) refl refl c.in_ok-reserve.ensures.same c.in-Done.is c.begin-begun.ensures in
     let number = c.stripe_of-number.result in
-    let next = world_of (record c.self.inside { stripes = c.begin-begun.new.self; calls = c.drop_call.new.calls; slots = c.try_reserve.new.self; joins = c.try_reserve-2.new.self }) in
+    let next = world_of (record c.self.inside { stripes = c.begin-begun.new.self; calls = c.drop_call.new.calls; held = c.make_room.new.held; joins = c.try_reserve.new.self }) in
     let R : WorldState → Type 0 = λ x. Happens x (event.Start c.args.call c.args.key.now) (shown.Stepped c.shown_of.result) next in
     subst R c.self.view_is (started_done v next c.args.call c.args.key.now u number c.in-Done.done c.shown_of.result _ _ is c.stripe_of-number.ensures p c.shown_of.ensures.step c.shown_of.ensures.stripe
-    (λ i. record v { stripes = c.begin-begun.new.self.stripes; order = c.begin-begun.new.self.order; calls = c.drop_call.ensures i; parts = parts_of (c.in_ok-try_reserve.ensures.items i); joins = c.in_ok-try_reserve-2.ensures.items i }))
+    (λ i. record v { stripes = c.begin-begun.new.self.stripes; order = c.begin-begun.new.self.order; calls = c.drop_call.ensures i; parts = c.in_ok-make_room.ensures.parts i; joins = c.in_ok-try_reserve.ensures.items i }))
 
 pub returns-in-Refused-clause-ok : goal.returns-in-Refused-clause-ok
 returns-in-Refused-clause-ok c =
@@ -83,10 +58,26 @@ returns-in-Refused-clause-ok c =
     let u = c.in-Some.u.now in
     let is : under v c.args.call ≡ Some u = found _ _ c.args.call _ u c.deref.ensures.value c.find_call.ensures (ap option_copied c.in-Some.is) in
     let p = told v c.self.inside.stripes c.reserve.new.self c.begin-begun.new.self c.stripe_of-number.result c.reserve.new.self.room u c.begin-begun.result (begun.Refused c.in-Refused.refusal) refl refl c.in_ok-reserve.ensures.same c.in-Refused.is c.begin-begun.ensures in
-    let next = world_of (record c.self.inside { stripes = c.begin-begun.new.self; calls = c.drop_call-in-Refused.new.calls; slots = c.try_reserve.new.self; joins = c.try_reserve-2.new.self }) in
+    let next = world_of (record c.self.inside { stripes = c.begin-begun.new.self; calls = c.drop_call-in-Refused.new.calls; held = c.make_room.new.held; joins = c.try_reserve.new.self }) in
     let R : WorldState → Type 0 = λ x. Happens x (event.Start c.args.call c.args.key.now) (shown.Refused c.in-Refused.refusal) next in
     subst R c.self.view_is (started_refused v next c.args.call c.args.key.now u c.stripe_of-number.result c.in-Refused.refusal _ _ is c.stripe_of-number.ensures p
-    (λ i. record v { stripes = c.begin-begun.new.self.stripes; order = c.begin-begun.new.self.order; calls = c.drop_call-in-Refused.ensures i; parts = parts_of (c.in_ok-try_reserve.ensures.items i); joins = c.in_ok-try_reserve-2.ensures.items i }))
+    (λ i. record v { stripes = c.begin-begun.new.self.stripes; order = c.begin-begun.new.self.order; calls = c.drop_call-in-Refused.ensures i; parts = c.in_ok-make_room.ensures.parts i; joins = c.in_ok-try_reserve.ensures.items i }))
+
+pub hold_load-requires-clause-free : goal.hold_load-requires-clause-free
+hold_load-requires-clause-free c =
+    let v : WorldState = world_of c.self.inside in
+    let u = c.in-Some.u.now in
+    let p = told v c.self.inside.stripes c.reserve.new.self c.begin-begun.new.self c.stripe_of-number.result c.reserve.new.self.room u c.begin-begun.result (begun.Load c.in-Load.ticket) refl refl c.in_ok-reserve.ensures.same c.in-Load.is c.begin-begun.ensures in
+    let free = free_load v u c.stripe_of-number.result c.in-Load.ticket _ _ c.stripe_of-number.ensures p (subst IsSoundWorld (sym c.self.view_is) c.requires.sound) in
+    (λ i. get (c.in_ok-make_room.ensures.parts i) (free.1 i)) ∙ free.0
+
+pub hold_write-requires-clause-free : goal.hold_write-requires-clause-free
+hold_write-requires-clause-free c =
+    let v : WorldState = world_of c.self.inside in
+    let u = c.in-Some.u.now in
+    let p = told v c.self.inside.stripes c.reserve.new.self c.begin-begun.new.self c.stripe_of-number.result c.reserve.new.self.room u c.begin-begun.result (begun.Write c.in-Write.ticket) refl refl c.in_ok-reserve.ensures.same c.in-Write.is c.begin-begun.ensures in
+    let free = free_write v u c.stripe_of-number.result c.in-Write.ticket _ _ c.stripe_of-number.ensures p (subst IsSoundWorld (sym c.self.view_is) c.requires.sound) in
+    (λ i. get (c.in_ok-make_room.ensures.parts i) (free.1 i)) ∙ free.0
 
 pub returns-in-Load-clause-ok : goal.returns-in-Load-clause-ok
 returns-in-Load-clause-ok c =
@@ -95,14 +86,11 @@ returns-in-Load-clause-ok c =
     let is : under v c.args.call ≡ Some u = found _ _ c.args.call _ u c.deref.ensures.value c.find_call.ensures (ap option_copied c.in-Some.is) in
     let p = told v c.self.inside.stripes c.reserve.new.self c.begin-begun.new.self c.stripe_of-number.result c.reserve.new.self.room u c.begin-begun.result (begun.Load c.in-Load.ticket) refl refl c.in_ok-reserve.ensures.same c.in-Load.is c.begin-begun.ensures in
     let free = free_load v u c.stripe_of-number.result c.in-Load.ticket _ _ c.stripe_of-number.ensures p (subst IsSoundWorld (sym c.self.view_is) c.requires.sound) in
-    let slot : c.loading.result ≡ (u.command.key, new_part c.in-Load.ticket.reservation) = c.loading.ensures ∙ ap (λ k. (k, new_part c.in-Load.ticket.reservation)) free.1 in
-    let items : c.push_reserved.new.self.items ≡ c.self.inside.slots.items ++ (u.command.key, new_part c.in-Load.ticket.reservation) ∷ [] =
-    c.push_reserved.ensures.items ∙ (λ i. c.in_ok-try_reserve.ensures.items i ++ slot i ∷ []) in
-    let put = pushed c.self.inside.slots.items c.push_reserved.new.self.items u.command.key (new_part c.in-Load.ticket.reservation) free.0 items c.self.invariant in
-    let next = world_of (record c.self.inside { stripes = c.begin-begun.new.self; slots = c.push_reserved.new.self; joins = c.try_reserve-2.new.self }) in
+    let put = c.hold_load.ensures ∙ (λ i. insert (c.in_ok-make_room.ensures.parts i) (free.1 i) (new_part c.in-Load.ticket.reservation)) in
+    let next = world_of (record c.self.inside { stripes = c.begin-begun.new.self; held = c.hold_load.new.held; joins = c.try_reserve.new.self }) in
     let R : WorldState → Type 0 = λ x. Happens x (event.Start c.args.call c.args.key.now) shown.Loads next in
-    subst R c.self.view_is (started_loads v next c.args.call c.args.key.now u c.stripe_of-number.result c.in-Load.ticket _ _ _ is c.stripe_of-number.ensures p put.0
-    (λ i. record v { stripes = c.begin-begun.new.self.stripes; order = c.begin-begun.new.self.order; parts = next.parts; joins = c.in_ok-try_reserve-2.ensures.items i }))
+    subst R c.self.view_is (started_loads v next c.args.call c.args.key.now u c.stripe_of-number.result c.in-Load.ticket _ _ _ is c.stripe_of-number.ensures p put
+    (λ i. record v { stripes = c.begin-begun.new.self.stripes; order = c.begin-begun.new.self.order; parts = next.parts; joins = c.in_ok-try_reserve.ensures.items i }))
 
 pub returns-in-Write-clause-ok : goal.returns-in-Write-clause-ok
 returns-in-Write-clause-ok c =
@@ -111,15 +99,11 @@ returns-in-Write-clause-ok c =
     let is : under v c.args.call ≡ Some u = found _ _ c.args.call _ u c.deref.ensures.value c.find_call.ensures (ap option_copied c.in-Some.is) in
     let p = told v c.self.inside.stripes c.reserve.new.self c.begin-begun.new.self c.stripe_of-number.result c.reserve.new.self.room u c.begin-begun.result (begun.Write c.in-Write.ticket) refl refl c.in_ok-reserve.ensures.same c.in-Write.is c.begin-begun.ensures in
     let free = free_write v u c.stripe_of-number.result c.in-Write.ticket _ _ c.stripe_of-number.ensures p (subst IsSoundWorld (sym c.self.view_is) c.requires.sound) in
-    let part : Part = new_part c.in-Write.ticket.reservation in
-    let slot : c.writing-slot.result.0 ≡ (u.command.key, part) = c.writing-slot.ensures.slot ∙ ap (λ k. (k, part)) free.1 in
-    let items : c.push_reserved-in-Write.new.self.items ≡ c.self.inside.slots.items ++ (u.command.key, part) ∷ [] =
-    c.push_reserved-in-Write.ensures.items ∙ (λ i. c.in_ok-try_reserve.ensures.items i ++ slot i ∷ []) in
-    let put = pushed c.self.inside.slots.items c.push_reserved-in-Write.new.self.items u.command.key part free.0 items c.self.invariant in
-    let next = world_of (record c.self.inside { stripes = c.begin-begun.new.self; slots = c.push_reserved-in-Write.new.self; joins = c.try_reserve-2.new.self }) in
-    let R : WorldState → Type 0 = λ x. Happens x (event.Start c.args.call c.args.key.now) (shown.Asks c.writing-slot.result.1) next in
-    subst R c.self.view_is (started_asks v next c.args.call c.args.key.now u c.stripe_of-number.result c.in-Write.ticket c.writing-slot.result.1 _ _ _ is c.stripe_of-number.ensures p c.writing-slot.ensures.change put.0
-    (λ i. record v { stripes = c.begin-begun.new.self.stripes; order = c.begin-begun.new.self.order; parts = next.parts; joins = c.in_ok-try_reserve-2.ensures.items i }))
+    let put = c.hold_write.ensures.parts ∙ (λ i. insert (c.in_ok-make_room.ensures.parts i) (free.1 i) (new_part c.in-Write.ticket.reservation)) in
+    let next = world_of (record c.self.inside { stripes = c.begin-begun.new.self; held = c.hold_write.new.held; joins = c.try_reserve.new.self }) in
+    let R : WorldState → Type 0 = λ x. Happens x (event.Start c.args.call c.args.key.now) (shown.Asks c.hold_write.result) next in
+    subst R c.self.view_is (started_asks v next c.args.call c.args.key.now u c.stripe_of-number.result c.in-Write.ticket c.hold_write.result _ _ _ is c.stripe_of-number.ensures p c.hold_write.ensures.change put
+    (λ i. record v { stripes = c.begin-begun.new.self.stripes; order = c.begin-begun.new.self.order; parts = next.parts; joins = c.in_ok-try_reserve.ensures.items i }))
 
 pub returns-in-Joined-clause-ok : goal.returns-in-Joined-clause-ok
 returns-in-Joined-clause-ok c =
@@ -127,8 +111,8 @@ returns-in-Joined-clause-ok c =
     let u = c.in-Some.u.now in
     let is : under v c.args.call ≡ Some u = found _ _ c.args.call _ u c.deref.ensures.value c.find_call.ensures (ap option_copied c.in-Some.is) in
     let p = told v c.self.inside.stripes c.reserve.new.self c.begin-begun.new.self c.stripe_of-number.result c.reserve.new.self.room u c.begin-begun.result (begun.Joined c.in-Joined.join) refl refl c.in_ok-reserve.ensures.same c.in-Joined.is c.begin-begun.ensures in
-    let items : c.push_reserved-in-Joined.new.self.items ≡ c.self.inside.joins.items ++ c.in-Joined.join ∷ [] = c.push_reserved-in-Joined.ensures.items ∙ ap (λ js. js ++ c.in-Joined.join ∷ []) c.in_ok-try_reserve-2.ensures.items in
-    let next = world_of (record c.self.inside { stripes = c.begin-begun.new.self; slots = c.try_reserve.new.self; joins = c.push_reserved-in-Joined.new.self }) in
+    let items : c.push_reserved.new.self.items ≡ c.self.inside.joins.items ++ c.in-Joined.join ∷ [] = c.push_reserved.ensures.items ∙ ap (λ js. js ++ c.in-Joined.join ∷ []) c.in_ok-try_reserve.ensures.items in
+    let next = world_of (record c.self.inside { stripes = c.begin-begun.new.self; held = c.make_room.new.held; joins = c.push_reserved.new.self }) in
     let R : WorldState → Type 0 = λ x. Happens x (event.Start c.args.call c.args.key.now) shown.Joins next in
     subst R c.self.view_is (started_joins v next c.args.call c.args.key.now u c.stripe_of-number.result c.in-Joined.join _ _ _ is c.stripe_of-number.ensures p items
-    (λ i. record v { stripes = c.begin-begun.new.self.stripes; order = c.begin-begun.new.self.order; joins = c.push_reserved-in-Joined.new.self.items; parts = parts_of (c.in_ok-try_reserve.ensures.items i) }))
+    (λ i. record v { stripes = c.begin-begun.new.self.stripes; order = c.begin-begun.new.self.order; joins = c.push_reserved.new.self.items; parts = c.in_ok-make_room.ensures.parts i }))

@@ -1,10 +1,12 @@
-use Rattle.std.proofs.Common.{◌≡◌, Some, sym, ap, ◌∙◌}
-use Rattle.jc_world.specs.declared.event.Part.{Part}
-use Rattle.jc_world.specs.World.{part_of}
-use Rattle.jc_world.proofs.Slotted.{in_slots, may_set}
+use Rattle.std.proofs.Common.{◌≡◌, true, subst, sym}
+use Rattle.std.specs.FinMap.{get}
+use Rattle.jc_world.specs.World.{WorldState, part_of, waits_for_load}
+use Rattle.jc_world.specs.Inside.{world_of}
+use Rattle.jc_world.proofs.Holding.{of_key}
 use Rattle.jc_world.proofs.machine.Machine.tell.Goals as goal
 
-pub set_part-requires-clause-there : goal.set_part-requires-clause-there
-set_part-requires-clause-there c =
-    let of_w : part_of c.args.self.now c.args.call c.args.key.now ≡ Some c.in-Some.part = sym c.part_of.ensures ∙ sym c.copied.ensures ∙ c.in-Some.is in
-    may_set _ c.in-Some.part c.with_load.result (in_slots c.self.inside c.args.self.now c.args.call c.args.key.now c.self.invariant c.self.view_is ∙ of_w) (ap (λ (p : Part). p.reservation) c.with_load.ensures)
+pub tell-requires-clause-waits : goal.tell-requires-clause-waits
+tell-requires-clause-waits c =
+    let v : WorldState = world_of c.self.inside in
+    let W : WorldState → Type 0 = λ x. waits_for_load (part_of x c.args.call c.args.key.now) ≡ true in
+    (of_key waits_for_load (get v.parts c.args.key.now) c.args.call (λ h. cc) (subst W (sym c.self.view_is) c.requires.waits)).3

@@ -1,10 +1,8 @@
 use Rattle.std.proofs.Common.{◌≡◌, slice_set, refl, sym, subst, ap, arith}
-use Rattle.jc_model.specs.Cache.{entry_at}
 use Rattle.jc_stripe.specs.State.{IsOut}
 use Rattle.jc_stripe.specs.Phases.{Commits}
 use Rattle.jc_stripe.specs.declared.ticket.Origin.TheVariants.{Played}
 use Rattle.jc_world.specs.World.{out_of}
-use Rattle.jc_world.specs.Sound.{KindFits}
 use Rattle.jc_world.specs.Turns.{AreTurns}
 use Rattle.jc_world.specs.Turns.{OrderedStripes}
 use Rattle.jc_world.proofs.Lengths.{ended_length, has_room}
@@ -15,18 +13,18 @@ use Rattle.jc_world.proofs.stripes.Stripes.commit.Goals as goal
 pub give_turns-requires-clause-room : goal.give_turns-requires-clause-room
 give_turns-requires-clause-room c =
     let from = c.index_mut-stripe.result.now in
-    let to = c.end-done.new.stripe in
+    let to = c.commit-done.new.stripe in
     let room = ap (λ (v : OrderedStripes). v.room) c.self.view_is in
     let wanted = c.requires.room in
-    has_room _ _ c.history_len-before.result from to (omega arith) c.history_len-before.ensures.len (ended_length from to c.args.slot.1.reservation (out_of c.args.slot.1) _ c.history_len-before.ensures.reached c.end-done.ensures)
+    has_room _ _ c.history_len-before.result from to (omega arith) c.history_len-before.ensures.len (ended_length from to c.args.held.reservation (out_of c.args.held) _ c.history_len-before.ensures.reached c.commit-done.ensures)
 
 pub invariant_of-self : goal.invariant_of-self
 invariant_of-self c =
     let items = c.self.inside.items.items in
     let from = c.index_mut-stripe.result.now in
-    let to = c.end-done.new.stripe in
-    let at = is_at c.self.inside c.args.self.now c.args.number from (λ s. IsOut s c.args.slot.1.reservation × KindFits c.args.slot.1.reservation.first c.args.slot.1 (entry_at s.cache c.args.slot.0) × (s.origin ≡ Played)) c.self.view_is c.requires.out c.index_mut-stripe.ensures.value in
-    let longer = c.grows.ensures.commits from to c.args.slot.1.reservation (out_of c.args.slot.1) c.end-done.result c.end-done.ensures in
+    let to = c.commit-done.new.stripe in
+    let at = is_at c.self.inside c.args.self.now c.args.number from (λ s. IsOut s c.args.held.reservation × (s.origin ≡ Played)) c.self.view_is c.requires.out c.index_mut-stripe.ensures.value in
+    let longer = c.grows.ensures.commits from to c.args.held.reservation (out_of c.args.held) c.commit-done.result c.commit-done.ensures in
     record {
       turns = subst (AreTurns (slice_set items c.args.number to)) (sym c.give_turns.ensures)
           (grows_turns items c.self.inside.turns.items c.args.number c.history_len-before.result from to longer.more c.self.invariant.turns at longer.history c.history_len-before.ensures.len);
@@ -36,7 +34,7 @@ invariant_of-self c =
 pub returns : goal.returns
 returns c =
     let from = c.index_mut-stripe.result.now in
-    let to = c.end-done.new.stripe in
-    let at = is_at c.self.inside c.args.self.now c.args.number from (λ s. IsOut s c.args.slot.1.reservation × KindFits c.args.slot.1.reservation.first c.args.slot.1 (entry_at s.cache c.args.slot.0) × (s.origin ≡ Played)) c.self.view_is c.requires.out c.index_mut-stripe.ensures.value in
-    let longer = c.grows.ensures.commits from to c.args.slot.1.reservation (out_of c.args.slot.1) c.end-done.result c.end-done.ensures in
-    phase_made c.self.inside c.args.self.now c.args.number c.history_len-before.result from to (λ old new. Commits old c.args.slot.1.reservation (out_of c.args.slot.1) c.end-done.result new) c.give_turns.new.turns.items _ c.self.view_is c.self.invariant at longer c.history_len-before.ensures.len c.end-done.ensures c.give_turns.ensures refl refl
+    let to = c.commit-done.new.stripe in
+    let at = is_at c.self.inside c.args.self.now c.args.number from (λ s. IsOut s c.args.held.reservation × (s.origin ≡ Played)) c.self.view_is c.requires.out c.index_mut-stripe.ensures.value in
+    let longer = c.grows.ensures.commits from to c.args.held.reservation (out_of c.args.held) c.commit-done.result c.commit-done.ensures in
+    phase_made c.self.inside c.args.self.now c.args.number c.history_len-before.result from to (λ old new. Commits old c.args.held.reservation (out_of c.args.held) c.commit-done.result new) c.give_turns.new.turns.items _ c.self.view_is c.self.invariant at longer c.history_len-before.ensures.len c.commit-done.ensures c.give_turns.ensures refl refl

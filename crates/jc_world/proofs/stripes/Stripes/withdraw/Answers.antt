@@ -10,7 +10,7 @@ invariant_of-self c =
     let items = c.self.inside.items.items in
     let from = c.index_mut-stripe.result.now in
     let to = c.withdraw.new.stripe in
-    let at = is_at c.self.inside c.args.self.now c.args.number from (λ s. IsOut s c.args.slot.1.reservation) c.self.view_is c.requires c.index_mut-stripe.ensures.value in
+    let at = is_at c.self.inside c.args.self.now c.args.number from (λ s. IsOut s c.args.held.reservation) c.self.view_is c.requires.out c.index_mut-stripe.ensures.value in
     record {
       turns = stays_turns items c.self.inside.turns.items c.args.number from to c.self.invariant.turns at (ap (λ (s : State). s.history) c.withdraw.ensures.1);
       count = let e = length-slice_set items c.args.number to in let k = c.self.invariant.count in omega arith;
@@ -20,5 +20,5 @@ pub returns : goal.returns
 returns c =
     let from = c.index_mut-stripe.result.now in
     let to = c.withdraw.new.stripe in
-    let at = is_at c.self.inside c.args.self.now c.args.number from (λ s. IsOut s c.args.slot.1.reservation) c.self.view_is c.requires c.index_mut-stripe.ensures.value in
-    quiet_made c.self.inside c.args.self.now c.args.number from to (λ old new. Withdraws old c.args.slot.1.reservation new) _ c.self.view_is at (ap (λ (s : State). s.history) c.withdraw.ensures.1) c.withdraw.ensures refl refl
+    let at = is_at c.self.inside c.args.self.now c.args.number from (λ s. IsOut s c.args.held.reservation) c.self.view_is c.requires.out c.index_mut-stripe.ensures.value in
+    quiet_made c.self.inside c.args.self.now c.args.number from to (λ old new. Withdraws old c.args.held.reservation new) _ c.self.view_is at (ap (λ (s : State). s.history) c.withdraw.ensures.1) c.withdraw.ensures refl refl

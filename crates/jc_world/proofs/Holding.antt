@@ -1,0 +1,58 @@
+-- What is known of a held key whose event fits.
+use Rattle.std.proofs.Common.{◌≡◌, ◌==◌, ◌&&◌, ◌||◌, not, Bool, true, false, cond, Option, Some, None, sym, subst, ap, ◌∙◌, refl, ℕ}
+use Rattle.std.specs.FinMap.{get}
+use Rattle.jc_model.specs.Cache.{Bytes}
+use Rattle.jc_model.specs.Table.{is_load_given, is_write_given}
+use Rattle.jc_stripe.specs.Tickets.{asks_loader, asks_writer}
+use Rattle.jc_world.specs.declared.event.Part.{Part}
+use Rattle.jc_world.specs.declared.event.WorldEvent.TheVariants as event
+use Rattle.jc_world.specs.World.{WorldState, of_call, part_of, is_answered, is_untouched}
+use Rattle.jc_world.specs.Events.{fits}
+
+pub is_part : (o : Option Part) (call : ℕ) (part : Part) → of_call call o ≡ Some part → o ≡ Some part
+is_part None call part h = cc
+is_part (Some p) call part h =
+    elim (p.reservation.caller.call == call) as (λ b. cond b (Some p) None ≡ Some part → Some p ≡ Some part) [ true ↦ λ h. h | false ↦ λ h. cc ] h
+
+-- what holds of a call's part, and of none doesn't, holds of the key's: it is the same part
+pub of_key : (test : Option Part → Bool) (o : Option Part) (call : ℕ) → (test None ≡ true → ⊥) → test (of_call call o) ≡ true → (part : Part) × (of_call call o ≡ Some part) × (o ≡ Some part) × (test o ≡ true)
+of_key test o call none h = go (of_call call o) refl h
+  where
+    go : (is : Option Part) → of_call call o ≡ is → test is ≡ true → (part : Part) × (of_call call o ≡ Some part) × (o ≡ Some part) × (test o ≡ true)
+    go None e h = absurd (none h)
+    go (Some part) e h = let there = is_part o call part e in (part, e, there, ap test there ∙ h)
+
+-- what is untouched isn't answered
+pub untouched_open : (part : Part) → is_untouched (Some part) ≡ true → is_answered (Some part) ≡ false
+untouched_open part h = go (asks_loader part.reservation.first) (is_load_given part.load) (asks_writer part.reservation.first) (is_write_given part.report) part.is_changed h
+  where
+    go : (a loaded b reported changed : Bool) → (not loaded && not changed && not reported) ≡ true → ((a && loaded) || (b && reported)) ≡ false
+    go a true b reported changed h = cc
+    go a false b true true h = cc
+    go a false b true false h = cc
+    go true false true false changed h = refl
+    go true false false false changed h = refl
+    go false false true false changed h = refl
+    go false false false false changed h = refl
+
+-- a call whose commit fits has its key, and so what is held of that is its part
+pub fits_commit : (v w : WorldState) (call : ℕ) (key : Bytes) → v ≡ w → fits w (event.Commit call key) ≡ true → (part : Part) × (part_of v call key ≡ Some part) × (get v.parts key ≡ Some part) × (is_answered (get v.parts key) ≡ true)
+fits_commit v w call key same fit =
+    let A : WorldState → Type 0 = λ x. is_answered (part_of x call key) ≡ true in
+    of_key is_answered (get v.parts key) call (λ h. cc) (subst A (sym same) fit)
+
+pub may_commit : (v w : WorldState) (call : ℕ) (key : Bytes) (part : Part) → v ≡ w → fits w (event.Commit call key) ≡ true → get v.parts key ≡ Some part → (part_of v call key ≡ Some part) × (is_answered (Some part) ≡ true)
+may_commit v w call key part same fit there =
+    let one = fits_commit v w call key same fit in
+    (one.1 ∙ sym one.2 ∙ there, ap is_answered (sym there) ∙ one.3)
+
+-- and so has a call that may withdraw
+pub fits_withdrawal : (v w : WorldState) (call : ℕ) (key : Bytes) → v ≡ w → fits w (event.Withdraw call key) ≡ true → (part : Part) × (part_of v call key ≡ Some part) × (get v.parts key ≡ Some part) × (is_untouched (get v.parts key) ≡ true)
+fits_withdrawal v w call key same fit =
+    let A : WorldState → Type 0 = λ x. is_untouched (part_of x call key) ≡ true in
+    of_key is_untouched (get v.parts key) call (λ h. cc) (subst A (sym same) fit)
+
+pub may_withdraw : (v w : WorldState) (call : ℕ) (key : Bytes) (part : Part) → v ≡ w → fits w (event.Withdraw call key) ≡ true → get v.parts key ≡ Some part → (part_of v call key ≡ Some part) × (is_answered (Some part) ≡ false)
+may_withdraw v w call key part same fit there =
+    let one = fits_withdrawal v w call key same fit in
+    (one.1 ∙ sym one.2 ∙ there, untouched_open part (ap is_untouched (sym there) ∙ one.3))

@@ -1,0 +1,412 @@
+//! A key that a call has reserved: its ticket, and what was answered for it.
+ghost use Rattle.std.specs.Prelude.{◌≡◌, ◌⊎◌, true, false, Some, OnOk, OnErr};
+ghost use Rattle.jc_model.specs.declared.event.Out.{Out};
+ghost use Rattle.jc_model.specs.declared.event.Change.{Change};
+ghost use Rattle.jc_model.specs.Cache.{with_entry};
+ghost use Rattle.jc_model.specs.Table.{is_load_given};
+ghost use Rattle.jc_stripe.specs.declared.begun.StepDone.{StepDone};
+ghost use Rattle.jc_stripe.specs.State.{IsOut};
+ghost use Rattle.jc_stripe.specs.Phases.{Commits, Withdraws};
+ghost use Rattle.jc_stripe.specs.Tickets.{asks_loader, asks_writer};
+ghost use Rattle.jc_stripe.specs.declared.ticket.First.TheVariants.{Writer};
+ghost use Rattle.jc_stripe.specs.declared.ticket.Origin.TheVariants.{Played};
+ghost use Rattle.jc_world.specs.Premises.{changed_to, report_of};
+ghost use Rattle.jc_world.specs.World.{out_of, is_answered, is_untouched, waits_for_load, waits_for_report};
+ghost use Rattle.jc_world.specs.Events.{new_part};
+ghost use Rattle.jc_world.specs.Held.{load_in, report_in};
+
+use crate::event::{Part, Reported};
+use crate::outside::{entry_after, report_with};
+use jc_model::{Change, Contents, LoadAnswer, WriteAnswer};
+use jc_stripe::{
+    First, LoadDone, LoadTicket, Reservation, StepDone, Stripe, WriteDone, WriteTicket,
+    played_load, played_write,
+};
+use jc_types::Key;
+use std::alloc::AllocError;
+use std::marker::Model;
+use std::mem;
+
+/// A loader's answer, and the done value that was made of it, which the commit alone can read.
+pub(crate) struct Loaded {
+    done: LoadDone,
+    answer: LoadAnswer,
+}
+
+/// A writer's report, and the done value that was made of it, which the commit alone can read.
+pub(crate) struct Written {
+    done: WriteDone,
+    report: WriteAnswer,
+}
+
+/// Who is asked for a reserved key, with the ticket. The ask is taken when the answer comes: so the ticket was asked exactly if
+/// the answer is there.
+pub(crate) enum Asked {
+    /// The loader.
+    Loader {
+        ticket: LoadTicket,
+        loaded: Option<Loaded>,
+    },
+    /// The writer, which may have changed the store before it returns.
+    Writer {
+        ticket: WriteTicket,
+        is_changed: bool,
+        written: Option<Written>,
+    },
+}
+
+/// A key that a call has reserved, with its ticket. It can't be copied or dropped.
+pub(crate) struct Held {
+    asked: Asked,
+}
+
+impl Model for Held {
+    ghost use Rattle.jc_world.specs.declared.event.Part.{Part};
+
+    ghost Value = { Part };
+
+    ghost use Rattle.jc_world.specs.Held.{part_in, IsAnswerable};
+
+    ghost view = { λ h. part_in h.asked };
+
+    ghost invariant = { λ h. IsAnswerable h.asked };
+}
+
+/// What the writer is asked for.
+pub(crate) fn change_for(ticket: &WriteTicket) -> Change
+    ensures { ticket.now.reservation.first ≡ Writer result }
+{
+    match ticket.reservation().first {
+        First::Writer(change) => change,
+        First::Nobody | First::Loader | First::Processor => unreachable!(),
+    }
+}
+
+/// What the loader answered so far.
+fn load_in(loaded: &Option<Loaded>) -> LoadAnswer
+    ensures { result ≡ load_in loaded.now }
+{
+    match loaded {
+        Some(loaded) => loaded.answer,
+        None => LoadAnswer::NotAsked,
+    }
+}
+
+/// What the writer reported so far.
+fn report_in(written: &Option<Written>) -> WriteAnswer
+    ensures { result ≡ report_in written.now }
+{
+    match written {
+        Some(written) => written.report,
+        None => WriteAnswer::NotAsked,
+    }
+}
+
+impl Held {
+    /// The loader is to be asked.
+    pub(crate) fn loading(ticket: LoadTicket) -> Held
+        requires unasked { ticket.asked ≡ false }
+        requires loader { asks_loader ticket.reservation.first ≡ true }
+        ensures { result ≡ new_part ticket.reservation }
+    {
+        Held {
+            asked: Asked::Loader {
+                ticket,
+                loaded: None,
+            },
+        }
+    }
+
+    /// The writer is to be asked.
+    pub(crate) fn writing(ticket: WriteTicket) -> Held
+        requires unasked { ticket.asked ≡ false }
+        requires writer { asks_writer ticket.reservation.first ≡ true }
+        ensures { result ≡ new_part ticket.reservation }
+    {
+        Held {
+            asked: Asked::Writer {
+                ticket,
+                is_changed: false,
+                written: None,
+            },
+        }
+    }
+
+    /// The reservation.
+    fn reservation(&self) -> &Reservation
+        ensures { result.now ≡ self.now.reservation }
+    {
+        match &self.asked {
+            Asked::Loader { ticket, loaded: _ } => ticket.reservation(),
+            Asked::Writer {
+                ticket,
+                is_changed: _,
+                written: _,
+            } => ticket.reservation(),
+        }
+    }
+
+    /// The key.
+    pub(crate) fn key(&self) -> Key
+        ensures { result ≡ self.now.reservation.key }
+    {
+        self.reservation().key
+    }
+
+    /// The number of the call.
+    pub(crate) fn call(&self) -> u64
+        ensures { result ≡ self.now.reservation.caller.call }
+    {
+        self.reservation().caller.call
+    }
+
+    /// What was asked and answered, as data.
+    pub(crate) fn part(&self) -> Part
+        ensures { result ≡ self.now }
+    {
+        match &self.asked {
+            Asked::Loader { ticket, loaded } => Part {
+                reservation: *ticket.reservation(),
+                load: load_in(loaded),
+                is_changed: false,
+                report: WriteAnswer::NotAsked,
+            },
+            Asked::Writer {
+                ticket,
+                is_changed,
+                written,
+            } => Part {
+                reservation: *ticket.reservation(),
+                load: LoadAnswer::NotAsked,
+                is_changed: *is_changed,
+                report: report_in(written),
+            },
+        }
+    }
+
+    /// Whether the loader was asked, and hasn't answered.
+    pub(crate) fn waits_for_load(&self) -> bool
+        ensures { result ≡ waits_for_load (Some self.now) }
+    {
+        match &self.asked {
+            Asked::Loader { ticket: _, loaded } => loaded.is_none(),
+            Asked::Writer {
+                ticket: _,
+                is_changed: _,
+                written: _,
+            } => false,
+        }
+    }
+
+    /// Whether the writer was asked, and hasn't returned.
+    pub(crate) fn waits_for_report(&self) -> bool
+        ensures { result ≡ waits_for_report (Some self.now) }
+    {
+        match &self.asked {
+            Asked::Loader {
+                ticket: _,
+                loaded: _,
+            } => false,
+            Asked::Writer {
+                ticket: _,
+                is_changed: _,
+                written,
+            } => written.is_none(),
+        }
+    }
+
+    /// Whether the one who was asked has answered.
+    pub(crate) fn is_answered(&self) -> bool
+        ensures { result ≡ is_answered (Some self.now) }
+    {
+        match &self.asked {
+            Asked::Loader { ticket: _, loaded } => loaded.is_some(),
+            Asked::Writer {
+                ticket: _,
+                is_changed: _,
+                written,
+            } => written.is_some(),
+        }
+    }
+
+    /// Whether nothing was said outside for the key, and nothing done.
+    pub(crate) fn is_untouched(&self) -> bool
+        ensures { result ≡ is_untouched (Some self.now) }
+    {
+        match &self.asked {
+            Asked::Loader { ticket: _, loaded } => loaded.is_none(),
+            Asked::Writer {
+                ticket: _,
+                is_changed,
+                written,
+            } => !*is_changed && written.is_none(),
+        }
+    }
+
+    /// Whether the writer has changed the store.
+    pub(crate) fn is_changed(&self) -> bool
+        ensures { result ≡ self.now.is_changed }
+    {
+        match &self.asked {
+            Asked::Loader {
+                ticket: _,
+                loaded: _,
+            } => false,
+            Asked::Writer {
+                ticket: _,
+                is_changed,
+                written: _,
+            } => *is_changed,
+        }
+    }
+
+    /// The loader answers.
+    pub(crate) fn tell(&mut self, answer: LoadAnswer)
+        requires waits { waits_for_load (Some self.old) ≡ true }
+        requires given { is_load_given answer ≡ true }
+        ensures { self.new ≡ record self.old { load = answer } }
+    {
+        match &mut self.asked {
+            Asked::Loader { ticket, loaded } => {
+                let kept = answer;
+                let done = played_load(ticket.ask(), answer);
+                let said = Loaded { done, answer: kept };
+                match mem::replace(loaded, Some(said)) {
+                    None => {}
+                    Some(_former) => unreachable!(),
+                }
+            }
+            Asked::Writer {
+                ticket: _,
+                is_changed: _,
+                written: _,
+            } => unreachable!(),
+        }
+    }
+
+    /// The writer changes the store as it was asked.
+    pub(crate) fn change(&mut self, store: &mut Contents, key: &Key) -> Result<(), AllocError>
+        requires { waits_for_report (Some self.old) ≡ true }
+        ensures ok { OnOk result ((change : Change) × (self.old.reservation.first ≡ Writer change) × (self.new ≡ record self.old { is_changed = true }) × (store.new ≡ with_entry store.old key.now (changed_to change))) }
+        ensures err { OnErr result ((self.new ≡ self.old) × (store.new ≡ store.old)) }
+    {
+        match &mut self.asked {
+            Asked::Loader {
+                ticket: _,
+                loaded: _,
+            } => unreachable!(),
+            Asked::Writer {
+                ticket,
+                is_changed,
+                written: _,
+            } => {
+                let change = change_for(ticket);
+                store.set(key, entry_after(&change))?;
+                *is_changed = true;
+                Ok(())
+            }
+        }
+    }
+
+    /// The writer returns.
+    pub(crate) fn report(&mut self, fault: Option<u32>) -> Reported
+        requires { waits_for_report (Some self.old) ≡ true }
+        ensures change { self.old.reservation.first ≡ Writer result.change }
+        ensures changed { result.is_changed ≡ self.old.is_changed }
+        ensures fault { result.fault ≡ fault }
+        ensures report { self.new ≡ record self.old { report = report_of fault } }
+    {
+        match &mut self.asked {
+            Asked::Loader {
+                ticket: _,
+                loaded: _,
+            } => unreachable!(),
+            Asked::Writer {
+                ticket,
+                is_changed,
+                written,
+            } => {
+                let change = change_for(ticket);
+                let report = report_with(fault);
+                let kept = report;
+                let done = played_write(ticket.ask(), report);
+                let said = Written { done, report: kept };
+                match mem::replace(written, Some(said)) {
+                    None => {}
+                    Some(_former) => unreachable!(),
+                }
+                Reported {
+                    change,
+                    is_changed: *is_changed,
+                    fault,
+                }
+            }
+        }
+    }
+
+    /// The last phase.
+    pub(crate) fn commit(self, stripe: &mut Stripe) -> StepDone
+        requires out { IsOut stripe.old self.reservation }
+        requires answered { is_answered (Some self) ≡ true }
+        requires origin { stripe.old.origin ≡ Played }
+        ensures { Commits stripe.old self.reservation (out_of self) result stripe.new }
+    {
+        let Held { asked } = self;
+        match asked {
+            Asked::Loader { ticket, loaded } => match loaded {
+                Some(loaded) => {
+                    let Loaded { done, answer: _ } = loaded;
+                    stripe.commit_load(ticket, done)
+                }
+                None => unreachable!(),
+            },
+            Asked::Writer {
+                ticket,
+                is_changed: _,
+                written,
+            } => match written {
+                Some(written) => {
+                    let Written { done, report: _ } = written;
+                    stripe.commit_write(ticket, done)
+                }
+                None => unreachable!(),
+            },
+        }
+    }
+
+    /// The reservation is given back.
+    pub(crate) fn withdraw(self, stripe: &mut Stripe)
+        requires out { IsOut stripe.old self.reservation }
+        requires open { is_answered (Some self) ≡ false }
+        ensures { Withdraws stripe.old self.reservation stripe.new }
+    {
+        let Held { asked } = self;
+        match asked {
+            Asked::Loader { ticket, loaded } => match loaded {
+                None => stripe.withdraw_load(ticket),
+                Some(_loaded) => unreachable!(),
+            },
+            Asked::Writer {
+                ticket,
+                is_changed: _,
+                written,
+            } => match written {
+                None => stripe.withdraw_write(ticket),
+                Some(_written) => unreachable!(),
+            },
+        }
+    }
+
+    /// The reservation is over, as its world ends: it is committed if it was answered, and else given back.
+    pub(crate) fn close(self, stripe: &mut Stripe)
+        requires out { IsOut stripe.old self.reservation }
+        requires origin { stripe.old.origin ≡ Played }
+        ensures { ((out : Out) × (done : StepDone) × Commits stripe.old self.reservation out done stripe.new) ⊎ Withdraws stripe.old self.reservation stripe.new }
+    {
+        if self.is_answered() {
+            let _step = self.commit(stripe);
+        } else {
+            self.withdraw(stripe);
+        }
+    }
+}

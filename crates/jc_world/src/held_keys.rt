@@ -1,0 +1,152 @@
+//! The keys that calls have reserved, in a map by key.
+ghost use Rattle.std.specs.Prelude.{◌≡◌, ◌<◌, ◌+◌, true, false, Option, Some, None, is_some, option_copied, [], IsTrue, IfSome, IfNone, OnOk, OnErr};
+ghost use Rattle.std.specs.FinMap as map;
+ghost use Rattle.indexmap.specs.IndexMap.{spare, index_map_len};
+ghost use Rattle.jc_model.specs.declared.event.Change.{Change};
+ghost use Rattle.jc_model.specs.Cache.{Bytes, with_entry};
+ghost use Rattle.jc_model.specs.Table.{is_load_given};
+ghost use Rattle.jc_stripe.specs.declared.ticket.First.TheVariants.{Writer};
+ghost use Rattle.jc_world.specs.declared.event.Part.{Part};
+ghost use Rattle.jc_world.specs.Premises.{changed_to, report_of};
+ghost use Rattle.jc_world.specs.World.{of_call, waits_for_load, waits_for_report};
+ghost use Rattle.jc_world.specs.Events.{new_part};
+ghost use Rattle.jc_world.specs.Held.{parts_of};
+
+use crate::event::Reported;
+use crate::held::{Held, change_for};
+use indexmap::IndexMap;
+use jc_model::{Change, Contents, LoadAnswer};
+use jc_stripe::{LoadTicket, WriteTicket};
+use jc_types::Key;
+use std::alloc::AllocError;
+
+/// The keys that are held, each with its ticket.
+pub(crate) type HeldKeys = IndexMap<Key, Held>;
+
+/// Makes room for one more key.
+pub(crate) fn make_room(held: &mut HeldKeys) -> Result<(), AllocError>
+    ensures room { OnOk result (0 < spare held.new) }
+    ensures parts { parts_of held.new ≡ parts_of held.old }
+{
+    held.reserve(1)
+}
+
+/// Puts a key in that isn't there, where room was made before.
+fn put_reserved(held: &mut HeldKeys, key: &Key, one: Held)
+    requires room { 0 < spare held.old }
+    requires free { map.get (parts_of held.old) key.now ≡ None }
+    ensures { parts_of held.new ≡ map.insert (parts_of held.old) key.now one }
+{
+    match held.insert(*key, one) {
+        Ok(None) => {}
+        Ok(Some(_former)) => unreachable!(),
+        Err(_failed) => unreachable!(),
+    }
+}
+
+/// A call has reserved its key, and the loader is to be asked. It is a function of its own, so that a call that reserves nothing
+/// doesn't clear the room of its values.
+#[inline(never)]
+pub(crate) fn hold_load(held: &mut HeldKeys, ticket: LoadTicket)
+    requires room { 0 < spare held.old }
+    requires unasked { ticket.asked ≡ false }
+    requires free { map.get (parts_of held.old) ticket.reservation.key ≡ None }
+    ensures { parts_of held.new ≡ map.insert (parts_of held.old) ticket.reservation.key (new_part ticket.reservation) }
+{
+    let key = ticket.reservation().key;
+    put_reserved(held, &key, Held::loading(ticket));
+}
+
+/// A call has reserved its key, and the writer is to be asked for this change. It is a function of its own, as `hold_load` is.
+#[inline(never)]
+pub(crate) fn hold_write(held: &mut HeldKeys, ticket: WriteTicket) -> Change
+    requires room { 0 < spare held.old }
+    requires unasked { ticket.asked ≡ false }
+    requires free { map.get (parts_of held.old) ticket.reservation.key ≡ None }
+    ensures change { ticket.reservation.first ≡ Writer result }
+    ensures parts { parts_of held.new ≡ map.insert (parts_of held.old) ticket.reservation.key (new_part ticket.reservation) }
+{
+    let change = change_for(&ticket);
+    let key = ticket.reservation().key;
+    put_reserved(held, &key, Held::writing(ticket));
+    change
+}
+
+/// What is held of a key. An empty map is asked for nothing: to hash a key costs time, and most calls hold none.
+pub(crate) fn held_at<'a>(held: &'a HeldKeys, key: &Key) -> Option<&'a Held>
+    ensures { option_copied result ≡ map.get (parts_of held.now) key.now }
+{
+    if held.is_empty() { None } else { held.get(key) }
+}
+
+/// What a call holds of a key.
+pub(crate) fn held_by<'a>(held: &'a HeldKeys, call: u64, key: &Key) -> Option<&'a Held>
+    ensures { option_copied result ≡ of_call call (map.get (parts_of held.now) key.now) }
+{
+    match held_at(held, key) {
+        Some(one) => { if one.call() == call { Some(one) } else { None } }
+        None => None,
+    }
+}
+
+/// The loader answers for a key.
+pub(crate) fn tell(held: &mut HeldKeys, key: &Key, answer: LoadAnswer)
+    requires waits { waits_for_load (map.get (parts_of held.old) key.now) ≡ true }
+    requires given { is_load_given answer ≡ true }
+    ensures { (part : Part) × (map.get (parts_of held.old) key.now ≡ Some part) × (parts_of held.new ≡ map.insert (parts_of held.old) key.now (record part { load = answer })) }
+{
+    match held.get_mut(key) {
+        Some(one) => one.tell(answer),
+        None => unreachable!(),
+    }
+}
+
+/// The writer changes the store at a key, as it was asked.
+pub(crate) fn change(held: &mut HeldKeys, store: &mut Contents, key: &Key) -> Result<(), AllocError>
+    requires { waits_for_report (map.get (parts_of held.old) key.now) ≡ true }
+    ensures ok { OnOk result ((part : Part) × (change : Change) × (map.get (parts_of held.old) key.now ≡ Some part) × (part.reservation.first ≡ Writer change)
+        × (parts_of held.new ≡ map.insert (parts_of held.old) key.now (record part { is_changed = true })) × (store.new ≡ with_entry store.old key.now (changed_to change))) }
+    ensures err { OnErr result ((parts_of held.new ≡ parts_of held.old) × (store.new ≡ store.old)) }
+{
+    match held.get_mut(key) {
+        Some(one) => one.change(store, key),
+        None => unreachable!(),
+    }
+}
+
+/// The writer returns for a key.
+pub(crate) fn report(held: &mut HeldKeys, key: &Key, fault: Option<u32>) -> Reported
+    requires { waits_for_report (map.get (parts_of held.old) key.now) ≡ true }
+    ensures { (part : Part) × (change : Change) × (map.get (parts_of held.old) key.now ≡ Some part) × (part.reservation.first ≡ Writer change)
+        × (result ≡ record { change = change; is_changed = part.is_changed; fault = fault }) × (parts_of held.new ≡ map.insert (parts_of held.old) key.now (record part { report = report_of fault })) }
+{
+    match held.get_mut(key) {
+        Some(one) => one.report(fault),
+        None => unreachable!(),
+    }
+}
+
+/// Takes a key out. The last one takes its place.
+pub(crate) fn take(held: &mut HeldKeys, key: &Key) -> Held
+    requires { IsTrue (is_some (map.get (parts_of held.old) key.now)) }
+    ensures one { map.get (parts_of held.old) key.now ≡ Some result }
+    ensures parts { parts_of held.new ≡ map.remove (parts_of held.old) key.now }
+{
+    match held.swap_remove(key) {
+        Some(one) => one,
+        None => unreachable!(),
+    }
+}
+
+/// Takes any key out.
+pub(crate) fn take_any(held: &mut HeldKeys) -> Option<Held>
+    ensures some { IfSome result (λ one. (key : Bytes) × (map.get (parts_of held.old) key ≡ Some one) × (parts_of held.new ≡ map.remove (parts_of held.old) key)) }
+    ensures len { IfSome result (λ _. index_map_len held.old ≡ index_map_len held.new + 1) }
+    ensures none { IfNone result (held.new.entries ≡ []) }
+    ensures empty { IfNone result (parts_of held.old ≡ map.empty) }
+{
+    match held.pop() {
+        Some(entry) => Some(entry.1),
+        None => None,
+    }
+}
