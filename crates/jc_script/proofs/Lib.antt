@@ -2,5 +2,8 @@ pub mod Pieces
 pub mod Spelling
 pub mod SpelledWords
 pub mod SpelledLines
+pub mod Given
+pub mod ReadWords
+pub mod ReadLines
 pub mod Callable
 pub mod Fitting

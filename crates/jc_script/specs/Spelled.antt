@@ -15,6 +15,7 @@
 --     SaysWords                  what a line asks for consists of what words can say
 --     IsSpellable                that, and the line isn't too long
 --     LinesReadBack              what a script can say is read from its spelling
+--     LinesAreSpelled            what is read from a line is something that a script can say, and the line is its spelling
 use Rattle.std.specs.Prelude.{◌≡◌, ◌⊎◌, ◌≤◌, ℕ, List, [], ◌∷◌, ◌++◌, map, length, codes, Bool, true, false, Option, None, Some, Ok, decimal}
 use Rattle.std.specs.List.{All, join_with_byte}
 use Rattle.jc_types.specs.declared.limits.TheConstants.{SESSIONS_MAX, KEY_MAX}
@@ -166,3 +167,6 @@ IsSpellable line = SaysWords line × (length (spelling line) ≤ 65536)
 
 abbrev pub LinesReadBack : Type 0
 LinesReadBack = (line : Line) → IsSpellable line → read_line (spelling line) ≡ Ok (Some line)
+
+abbrev pub LinesAreSpelled : Type 0
+LinesAreSpelled = (text : Bytes) (line : Line) → read_line text ≡ Ok (Some line) → IsSpellable line × (text ≡ spelling line)

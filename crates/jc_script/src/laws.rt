@@ -1,5 +1,5 @@
 //! Laws of the script's language: what is spelled reads back.
-ghost use Rattle.jc_script.specs.Spelled.{NumbersReadBack, CallersReadBack, KeysReadBack, ValuesReadBack, LinesReadBack};
+ghost use Rattle.jc_script.specs.Spelled.{NumbersReadBack, CallersReadBack, KeysReadBack, ValuesReadBack, LinesReadBack, LinesAreSpelled};
 
 /// A number, a session, a key and a value are read as what they are spelled as.
 pub fn words_read_back()
@@ -9,7 +9,8 @@ pub fn words_read_back()
     ensures values { ValuesReadBack }
 {}
 
-/// What a script can say is read from the line that says it.
+/// What a script can say is read from the line that says it, and from no other line.
 pub fn lines_read_back()
-    ensures { LinesReadBack }
+    ensures back { LinesReadBack }
+    ensures alone { LinesAreSpelled }
 {}
