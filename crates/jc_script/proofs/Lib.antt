@@ -1,4 +1,9 @@
 pub mod Pieces
 pub mod Spelling
+pub mod SpelledWords
+pub mod SpelledLines
+pub mod Given
+pub mod ReadWords
+pub mod ReadLines
 pub mod Callable
 pub mod Fitting

@@ -1,23 +1,172 @@
--- Words read back: what a value is spelled as is read as that value.
---     NumbersReadBack    a number up to 999999999, in decimal digits
---     CallersReadBack    a session from 1 to 32, behind an s
---     KeysReadBack       a key of letters
---     ValuesReadBack     a value of letters, and the empty one, as both are printed
-use Rattle.std.specs.Prelude.{◌≡◌, ◌⊎◌, ◌≤◌, ℕ, [], ◌∷◌, true, Ok, decimal}
+-- How a script says numbers, keys, values and lines, and that each is read as what it says. A definition whose name ends in
+-- `_words` gives words of a line, and one whose name ends in `_text` one word or a part of it.
+--     IsNumber, IsSession, IsKey, IsValue      what a word can say: a number up to 999999999; a session from 1 to 32; a key of
+--                                              letters; a value of letters, or the empty value
+--     IsValueOrNone, IsPair      the same of a value, or none; of a key with its value
+--     NumbersReadBack, CallersReadBack, KeysReadBack, ValuesReadBack      each of these is read from its word: a number from its
+--                                decimal digits, a session from an s and its number, a key from itself, a value as it is printed
+--     session_text, pair_text    a session; a key, an equals sign and its value
+--     flag_words                 the words for read-through and write-through, of what is on
+--     operation_words            an operation's name, its key and its values; nothing, if it has no name
+--     act_words                  what happens next to a call
+--     line_words                 the words of what a line asks for
+--     spelling                   the line itself: its words, separated by single spaces
+--     IsOperation, IsAct         an operation that has a name, and its values; an act, and its code or its pairs
+--     SaysWords                  what a line asks for consists of what words can say
+--     IsSpellable                that, and the line isn't too long
+--     LinesReadBack              what a script can say is read from its spelling
+--     LinesAreSpelled            what is read from a line is something that a script can say, and the line is its spelling
+use Rattle.std.specs.Prelude.{◌≡◌, ◌⊎◌, ◌≤◌, ℕ, List, [], ◌∷◌, ◌++◌, map, length, codes, Bool, true, false, Option, None, Some, Ok, decimal}
+use Rattle.std.specs.List.{All, join_with_byte}
 use Rattle.jc_types.specs.declared.limits.TheConstants.{SESSIONS_MAX, KEY_MAX}
 use Rattle.jc_types.specs.declared.limits.TheConstants.{SESSIONS_MAX, VALUE_MAX}
 use Rattle.jc_model.specs.Cache.{Bytes}
+use Rattle.jc_model.specs.declared.event.Op.{Op}
+use Rattle.jc_model.specs.declared.event.Op.TheVariants as op
+use Rattle.jc_script.specs.declared.line.Line.{Line}
+use Rattle.jc_script.specs.declared.line.Line.TheVariants.{Open, Set, Begin, OfCall, Foreign, Audit}
+use Rattle.jc_script.specs.declared.line.Act.{Act}
+use Rattle.jc_script.specs.declared.line.Act.TheVariants.{Read, ReadFail, Say, Apply, ApplyFail, ApplyLie, End, Drop, More, Take}
 use Rattle.jc_script.specs.Words.{number_of, caller_of, key_of, value_of, is_text}
-use Rattle.jc_script.specs.Printing.{value_text}
+use Rattle.jc_script.specs.Lines.{read_line}
+use Rattle.jc_script.specs.Printing.{value_text, value_or_none_text}
+
+-- 1. Words.
+
+abbrev pub IsNumber : ℕ → Type 0
+IsNumber n = n ≤ 999999999
+
+abbrev pub IsSession : ℕ → Type 0
+IsSession session = (1 ≤ session) × (session ≤ SESSIONS_MAX)
+
+abbrev pub IsKey : Bytes → Type 0
+IsKey key = is_text KEY_MAX key ≡ true
+
+abbrev pub IsValue : Bytes → Type 0
+IsValue value = (value ≡ []) ⊎ (is_text VALUE_MAX value ≡ true)
+
+abbrev pub IsValueOrNone : Option Bytes → Type 0
+IsValueOrNone None = Unit {0}
+IsValueOrNone (Some value) = IsValue value
+
+abbrev pub IsPair : Bytes × Bytes → Type 0
+IsPair pair = IsKey pair.0 × IsValue pair.1
+
+abbrev pub session_text : ℕ → Bytes
+session_text session = 115 ∷ decimal session
 
 abbrev pub NumbersReadBack : Type 0
-NumbersReadBack = (n : ℕ) → n ≤ 999999999 → number_of (decimal n) ≡ Ok n
+NumbersReadBack = (n : ℕ) → IsNumber n → number_of (decimal n) ≡ Ok n
 
 abbrev pub CallersReadBack : Type 0
-CallersReadBack = (n : ℕ) → 1 ≤ n → n ≤ SESSIONS_MAX → caller_of (115 ∷ decimal n) ≡ Ok n
+CallersReadBack = (session : ℕ) → IsSession session → caller_of (session_text session) ≡ Ok session
 
 abbrev pub KeysReadBack : Type 0
-KeysReadBack = (key : Bytes) → is_text KEY_MAX key ≡ true → key_of key ≡ Ok key
+KeysReadBack = (key : Bytes) → IsKey key → key_of key ≡ Ok key
 
 abbrev pub ValuesReadBack : Type 0
-ValuesReadBack = (value : Bytes) → (value ≡ []) ⊎ (is_text VALUE_MAX value ≡ true) → value_of (value_text value) ≡ Ok value
+ValuesReadBack = (value : Bytes) → IsValue value → value_of (value_text value) ≡ Ok value
+
+-- 2. Lines.
+
+-- a key, an equals sign and its value
+abbrev pub pair_text : Bytes × Bytes → Bytes
+pair_text pair = pair.0 ++ codes "=" ++ value_text pair.1
+
+-- of what is on: read-through, and write-through
+abbrev pub flag_words : Bool → Bool → List Bytes
+flag_words false false = []
+flag_words true false = codes "read" ∷ []
+flag_words false true = codes "write" ∷ []
+flag_words true true = codes "read" ∷ codes "write" ∷ []
+
+-- no script can say an operation of a bulk call, or a processor
+abbrev pub operation_words : Op → Bytes → List Bytes
+operation_words op.Get key = codes "get" ∷ key ∷ []
+operation_words op.ContainsKey key = codes "contains" ∷ key ∷ []
+operation_words (op.Put value) key = codes "put" ∷ key ∷ value_text value ∷ []
+operation_words (op.GetAndPut value) key = codes "getput" ∷ key ∷ value_text value ∷ []
+operation_words (op.PutIfAbsent value) key = codes "putif" ∷ key ∷ value_text value ∷ []
+operation_words op.Remove key = codes "remove" ∷ key ∷ []
+operation_words (op.RemoveIf old) key = codes "removeif" ∷ key ∷ value_text old ∷ []
+operation_words op.GetAndRemove key = codes "getremove" ∷ key ∷ []
+operation_words (op.Replace value) key = codes "replace" ∷ key ∷ value_text value ∷ []
+operation_words (op.ReplaceIf old value) key = codes "replaceif" ∷ key ∷ value_text old ∷ value_text value ∷ []
+operation_words (op.GetAndReplace value) key = codes "getreplace" ∷ key ∷ value_text value ∷ []
+operation_words op.Clear key = []
+operation_words (op.LoadAll replace) key = []
+operation_words op.Invoke key = []
+
+abbrev pub act_words : ℕ → Act → List Bytes
+act_words call Read = codes "read" ∷ decimal call ∷ []
+act_words call (ReadFail code) = codes "readfail" ∷ decimal call ∷ decimal code ∷ []
+act_words call (Say pairs) = codes "say" ∷ decimal call ∷ map pair_text pairs
+act_words call Apply = codes "apply" ∷ decimal call ∷ []
+act_words call (ApplyFail code) = codes "applyfail" ∷ decimal call ∷ decimal code ∷ []
+act_words call (ApplyLie code) = codes "applylie" ∷ decimal call ∷ decimal code ∷ []
+act_words call End = codes "end" ∷ decimal call ∷ []
+act_words call Drop = codes "drop" ∷ decimal call ∷ []
+act_words call More = codes "more" ∷ decimal call ∷ []
+act_words call Take = codes "take" ∷ decimal call ∷ []
+
+abbrev pub line_words : Line → List Bytes
+line_words (Open config) =
+    codes "open" ∷ decimal config.stripes ∷ decimal config.capacity ∷ decimal config.history ∷ flag_words config.read_through config.write_through
+line_words (Set key value) = codes "set" ∷ key ∷ value_text value ∷ []
+line_words (Begin call session command) = codes "begin" ∷ decimal call ∷ session_text session ∷ operation_words command.op command.key
+line_words (OfCall call act) = act_words call act
+line_words (Foreign key value) = codes "foreign" ∷ key ∷ value_or_none_text value ∷ []
+line_words Audit = codes "audit" ∷ []
+
+-- the words, separated by single spaces
+abbrev pub spelling : Line → Bytes
+spelling line = join_with_byte 32 (line_words line)
+
+-- 3. What a script can say.
+
+-- an operation that has a name
+abbrev pub IsOperation : Op → Type 0
+IsOperation op.Get = Unit {0}
+IsOperation op.ContainsKey = Unit {0}
+IsOperation (op.Put value) = IsValue value
+IsOperation (op.GetAndPut value) = IsValue value
+IsOperation (op.PutIfAbsent value) = IsValue value
+IsOperation op.Remove = Unit {0}
+IsOperation (op.RemoveIf old) = IsValue old
+IsOperation op.GetAndRemove = Unit {0}
+IsOperation (op.Replace value) = IsValue value
+IsOperation (op.ReplaceIf old value) = IsValue old × IsValue value
+IsOperation (op.GetAndReplace value) = IsValue value
+IsOperation op.Clear = ⊥
+IsOperation (op.LoadAll replace) = ⊥
+IsOperation op.Invoke = ⊥
+
+abbrev pub IsAct : Act → Type 0
+IsAct Read = Unit {0}
+IsAct (ReadFail code) = IsNumber code
+IsAct (Say pairs) = All IsPair pairs
+IsAct Apply = Unit {0}
+IsAct (ApplyFail code) = IsNumber code
+IsAct (ApplyLie code) = IsNumber code
+IsAct End = Unit {0}
+IsAct Drop = Unit {0}
+IsAct More = Unit {0}
+IsAct Take = Unit {0}
+
+abbrev pub SaysWords : Line → Type 0
+SaysWords (Open config) = IsNumber config.stripes × IsNumber config.capacity × IsNumber config.history
+SaysWords (Set key value) = IsKey key × IsValue value
+SaysWords (Begin call session command) = IsNumber call × IsSession session × IsOperation command.op × IsKey command.key
+SaysWords (OfCall call act) = IsNumber call × IsAct act
+SaysWords (Foreign key value) = IsKey key × IsValueOrNone value
+SaysWords Audit = Unit {0}
+
+-- that, in a line that isn't too long
+abbrev pub IsSpellable : Line → Type 0
+IsSpellable line = SaysWords line × (length (spelling line) ≤ 65536)
+
+abbrev pub LinesReadBack : Type 0
+LinesReadBack = (line : Line) → IsSpellable line → read_line (spelling line) ≡ Ok (Some line)
+
+abbrev pub LinesAreSpelled : Type 0
+LinesAreSpelled = (text : Bytes) (line : Line) → read_line text ≡ Ok (Some line) → IsSpellable line × (text ≡ spelling line)

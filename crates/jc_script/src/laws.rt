@@ -1,5 +1,5 @@
-//! Laws of the words: what is spelled reads back.
-ghost use Rattle.jc_script.specs.Spelled.{NumbersReadBack, CallersReadBack, KeysReadBack, ValuesReadBack};
+//! Laws of the script's language: what is spelled reads back.
+ghost use Rattle.jc_script.specs.Spelled.{NumbersReadBack, CallersReadBack, KeysReadBack, ValuesReadBack, LinesReadBack, LinesAreSpelled};
 
 /// A number, a session, a key and a value are read as what they are spelled as.
 pub fn words_read_back()
@@ -7,4 +7,10 @@ pub fn words_read_back()
     ensures callers { CallersReadBack }
     ensures keys { KeysReadBack }
     ensures values { ValuesReadBack }
+{}
+
+/// What a script can say is read from the line that says it, and from no other line.
+pub fn lines_read_back()
+    ensures back { LinesReadBack }
+    ensures alone { LinesAreSpelled }
 {}

@@ -1,0 +1,233 @@
+-- Lines that are spelled are read as what they say.
+use Rattle.std.proofs.Common.{◌≡◌, ◌∙◌, ◌==◌, ℕ, ◌+◌, ◌≤◌, Bool, true, false, not, List, [], ◌∷◌, ◌++◌, length, map, drop, Option, None, Some, Ok, Err, inl, inr, refl, sym, ap, append_assoc, append-nil, arith}
+use Rattle.std.specs.Prelude.{decimal, codes, ◌&&◌, nat_lt, nat_le}
+use Rattle.std.specs.List.{All, list_all, position_or_len}
+use Rattle.std.specs.Str.{bytes_eq}
+use Rattle.std.proofs.lemmas.Bool.{and_from, and_left, and_parts, cond-true, cond-false, not_from_false}
+use Rattle.std.proofs.lemmas.Grind.{common_steps}
+use Rattle.std.proofs.lemmas.List.{take_at}
+use Rattle.std.proofs.Math.Seq.{drop-append-add}
+use Rattle.std.proofs.lemmas.List.Elements.{All-head, All-tail}
+use Rattle.jc_types.specs.declared.limits.TheConstants.{KEY_MAX, VALUE_MAX}
+use Rattle.jc_model.specs.Cache.{Bytes}
+use Rattle.jc_types.specs.declared.config.Config.{Config}
+use Rattle.jc_world.specs.declared.event.Command.{Command}
+use Rattle.jc_script.specs.declared.commands.Bare.{Bare}
+use Rattle.jc_script.specs.declared.commands.Bare.TheVariants as bare
+use Rattle.jc_script.specs.declared.commands.Valued.{Valued}
+use Rattle.jc_script.specs.declared.commands.Valued.TheVariants as valued
+use Rattle.jc_script.specs.declared.commands.Form.{Form}
+use Rattle.jc_script.specs.declared.grammar.Lone.{Lone}
+use Rattle.jc_script.specs.declared.grammar.Lone.TheVariants as lone
+use Rattle.jc_script.specs.declared.grammar.Coded.{Coded}
+use Rattle.jc_script.specs.declared.grammar.Coded.TheVariants as coded
+use Rattle.jc_model.specs.declared.event.Op.{Op}
+use Rattle.jc_model.specs.declared.event.Op.TheVariants as op
+use Rattle.jc_script.specs.declared.fault.Fault.TheVariants.{BadKey}
+use Rattle.jc_script.specs.declared.line.Line.{Line}
+use Rattle.jc_script.specs.declared.line.Line.TheVariants.{Open, Set, Begin, OfCall, Foreign, Audit}
+use Rattle.jc_script.specs.declared.line.Act.{Act}
+use Rattle.jc_script.specs.declared.line.Act.TheVariants.{Read, ReadFail, Say, Apply, ApplyFail, ApplyLie, End, Drop, More, Take}
+use Rattle.jc_script.specs.Words.{is_letter, is_text, key_of, some_value, value_or_none_of, Pairs, equals_at, pair_onto, pairs_from, pairs_of}
+use Rattle.jc_script.specs.Lines.{form_named, flags_of, takes_words, bare_op, valued_op, bare_of, valued_of, replace_if_of, command_of, open_of, set_of, begin_of, lone_act, lone_of, coded_act, coded_of, say_of, foreign_of, read_line}
+use Rattle.jc_script.specs.Printing.{value_text, value_or_none_text}
+use Rattle.jc_script.specs.Spelled.{IsNumber, IsSession, IsKey, IsValue, IsValueOrNone, IsPair, IsOperation, IsAct, LinesReadBack, spelling, session_text, pair_text, flag_words, operation_words}
+use Rattle.jc_script.proofs.Spelling.{number_back, caller_back, value_back}
+use Rattle.jc_script.proofs.SpelledWords.{AreWords, line_of_words, number_word, session_word, text_word, text_shown, value_word, value_or_none_word, pair_word, pair_parts}
+
+key_back : (key : Bytes) → IsKey key → key_of key ≡ Ok key
+key_back key known = cond-true (is_text KEY_MAX key) (Ok key) (Err BadKey) known
+
+flags_back : (read write : Bool) → flags_of (flag_words read write) ≡ Ok (read, write)
+flags_back false false = refl
+flags_back true false = refl
+flags_back false true = refl
+flags_back true true = refl
+
+flags_are_words : (read write : Bool) → AreWords (flag_words read write)
+flags_are_words false false = refl
+flags_are_words true false = refl
+flags_are_words false true = refl
+flags_are_words true true = refl
+
+dash_is_no_letter : (b : ℕ) → is_letter b ≡ true → (b == 45) ≡ false
+dash_is_no_letter b e = grind (arith, common_steps)
+
+-- no value is printed as a dash
+no_dash : (value : Bytes) → IsValue value → bytes_eq (value_text value) (codes "-") ≡ false
+no_dash value (inl e) = rw e refl
+no_dash [] (inr t) = refl
+no_dash (b ∷ bs) (inr t) =
+    let letters = and_parts (nat_lt 0 (length (b ∷ bs)) && nat_le (length (b ∷ bs)) VALUE_MAX) (list_all is_letter (b ∷ bs)) t in
+    rw (text_shown b bs) (and_left _ _ (dash_is_no_letter b (and_parts (is_letter b) (list_all is_letter bs) letters.1).0))
+
+-- 1. Pairs.
+
+no_equals : (b : ℕ) → is_letter b ≡ true → (b == 61) ≡ false
+no_equals b e = grind (arith, common_steps)
+
+-- the first equals sign is the one behind the key
+sign_after : (key rest : List ℕ) → list_all is_letter key ≡ true → position_or_len (λ b. b == 61) (key ++ (61 ∷ rest)) ≡ length key
+sign_after [] rest e = refl
+sign_after (b ∷ bs) rest e =
+    let both = and_parts (is_letter b) (list_all is_letter bs) e in
+    cond-true (not (b == 61)) _ 0 (not_from_false _ (no_equals b both.0)) ∙ ap (λ n. 1 + n) (sign_after bs rest both.1) ∙ omega arith
+
+sign_at : (key rest : List ℕ) → IsKey key → equals_at (key ++ (61 ∷ rest)) ≡ Some (length key)
+sign_at key rest known =
+    let letters = and_parts (nat_lt 0 (length key) && nat_le (length key) KEY_MAX) (list_all is_letter key) known in
+    rw (sign_after key rest letters.1) (cond-true _ (Some (length key)) None (within key rest))
+  where
+    within : (key rest : List ℕ) → nat_lt (length key) (length (key ++ (61 ∷ rest))) ≡ true
+    within key rest = grind (arith, common_steps)
+
+behind : (key rest : List ℕ) → drop (length key + 1) (key ++ (61 ∷ rest)) ≡ rest
+behind key rest = drop-append-add key (61 ∷ rest) 1
+
+pair_back : (pairs : Pairs) (pair : Bytes × Bytes) → IsPair pair → pair_onto pairs (pair_text pair) ≡ Ok (pairs ++ (pair ∷ []))
+unfolding pair_onto
+pair_back pairs pair known =
+    let value = value_text pair.1 in
+    rw (pair_parts pair) (rw (sign_at pair.0 value known.0) (rw (take_at pair.0 (61 ∷ value) (length pair.0) refl) (rw (key_back pair.0 known.0, behind pair.0 value) (rw (value_back pair.1 known.1) refl))))
+
+pairs_onto : (before pairs : Pairs) → All IsPair pairs → pairs_from before (map pair_text pairs) ≡ Ok (before ++ pairs)
+pairs_onto before [] known = ap Ok (sym (append-nil before))
+pairs_onto before (pair ∷ pairs) known =
+    rw (pair_back before pair (All-head IsPair pair pairs known)) (pairs_onto (before ++ (pair ∷ [])) pairs (All-tail IsPair pair pairs known) ∙ ap Ok (append_assoc before (pair ∷ []) pairs))
+
+pairs_back : (pairs : Pairs) → All IsPair pairs → pairs_of (map pair_text pairs) ≡ Ok pairs
+pairs_back pairs known = pairs_onto [] pairs known
+
+pairs_are_words : (pairs : Pairs) → All IsPair pairs → AreWords (map pair_text pairs)
+pairs_are_words [] known = refl
+pairs_are_words (pair ∷ pairs) known = and_from _ _ (pair_word pair (All-head IsPair pair pairs known)) (pairs_are_words pairs (All-tail IsPair pair pairs known))
+
+-- 2. Lines of fixed words.
+
+open_back : (config : Config) → IsNumber config.stripes → IsNumber config.capacity → IsNumber config.history
+    → open_of (decimal config.stripes ∷ decimal config.capacity ∷ decimal config.history ∷ flag_words config.read_through config.write_through) ≡ Ok (Open config)
+unfolding open_of
+open_back config s c h =
+    rw (flags_back config.read_through config.write_through) (rw (number_back config.stripes s, number_back config.capacity c, number_back config.history h) refl)
+
+set_back : (key value : Bytes) → IsKey key → IsValue value → set_of (key ∷ value_text value ∷ []) ≡ Ok (Set key value)
+unfolding set_of
+set_back key value k v = rw (key_back key k, value_back value v) refl
+
+-- a dash is no value, and no value is printed as a dash
+value_or_none_back : (value : Option Bytes) → IsValueOrNone value → value_or_none_of (value_or_none_text value) ≡ Ok value
+value_or_none_back None known = refl
+value_or_none_back (Some value) known = cond-false _ (Ok None) _ (no_dash value known) ∙ ap some_value (value_back value known)
+
+foreign_back : (key : Bytes) (value : Option Bytes) → IsKey key → IsValueOrNone value → foreign_of (key ∷ value_or_none_text value ∷ []) ≡ Ok (Foreign key value)
+unfolding foreign_of
+foreign_back key value k v = rw (key_back key k, value_or_none_back value v) refl
+
+-- 3. Operations.
+
+bare_back : (b : Bare) (key : Bytes) → IsKey key → bare_of b (key ∷ []) ≡ Ok (record { op = bare_op b; key = key })
+bare_back b key k = rw (key_back key k) refl
+
+valued_back : (o : Valued) (key value : Bytes) → IsKey key → IsValue value → valued_of o (key ∷ value_text value ∷ []) ≡ Ok (record { op = valued_op o value; key = key })
+valued_back o key value k v = rw (key_back key k, value_back value v) refl
+
+replace_if_back : (key old value : Bytes) → IsKey key → IsValue old → IsValue value
+    → replace_if_of (key ∷ value_text old ∷ value_text value ∷ []) ≡ Ok (record { op = op.ReplaceIf old value; key = key })
+unfolding replace_if_of
+replace_if_back key old value k o v = rw (key_back key k, value_back old o, value_back value v) refl
+
+operation_word : (o : Op) (key : Bytes) → IsOperation o → IsKey key → AreWords (operation_words o key)
+operation_word op.Get key o k = and_from _ _ (text_word _ key k) refl
+operation_word op.ContainsKey key o k = and_from _ _ (text_word _ key k) refl
+operation_word (op.Put value) key o k = and_from _ _ (text_word _ key k) (and_from _ _ (value_word value o) refl)
+operation_word (op.GetAndPut value) key o k = and_from _ _ (text_word _ key k) (and_from _ _ (value_word value o) refl)
+operation_word (op.PutIfAbsent value) key o k = and_from _ _ (text_word _ key k) (and_from _ _ (value_word value o) refl)
+operation_word op.Remove key o k = and_from _ _ (text_word _ key k) refl
+operation_word (op.RemoveIf old) key o k = and_from _ _ (text_word _ key k) (and_from _ _ (value_word old o) refl)
+operation_word op.GetAndRemove key o k = and_from _ _ (text_word _ key k) refl
+operation_word (op.Replace value) key o k = and_from _ _ (text_word _ key k) (and_from _ _ (value_word value o) refl)
+operation_word (op.ReplaceIf old value) key o k = and_from _ _ (text_word _ key k) (and_from _ _ (value_word old o.0) (and_from _ _ (value_word value o.1) refl))
+operation_word (op.GetAndReplace value) key o k = and_from _ _ (text_word _ key k) (and_from _ _ (value_word value o) refl)
+operation_word op.Clear key o k = absurd o
+operation_word (op.LoadAll replace) key o k = absurd o
+operation_word op.Invoke key o k = absurd o
+
+-- the begin of a call, from what the words after the session ask for
+begin_asks : (call session : ℕ) (name : List ℕ) (words : List (List ℕ)) (form : Form) (command : Command) → IsNumber call → IsSession session → form_named name ≡ Ok form
+    → takes_words form (length words) ≡ true → command_of form words ≡ Ok command → begin_of (decimal call ∷ session_text session ∷ name ∷ words) ≡ Ok (Begin call session command)
+unfolding begin_of
+begin_asks call session name words form command n s named shaped asks =
+    rw named (rw shaped (rw (number_back call n, caller_back session s.0 s.1) (rw asks refl)))
+
+begin_back : (call session : ℕ) (o : Op) (key : Bytes) → IsNumber call → IsSession session → IsOperation o → IsKey key
+    → begin_of (decimal call ∷ session_text session ∷ operation_words o key) ≡ Ok (Begin call session (record { op = o; key = key }))
+begin_back call session op.Get key n s o k = begin_asks call session (codes "get") (key ∷ []) _ _ n s refl refl (bare_back bare.Get key k)
+begin_back call session op.ContainsKey key n s o k = begin_asks call session (codes "contains") (key ∷ []) _ _ n s refl refl (bare_back bare.Contains key k)
+begin_back call session (op.Put value) key n s o k = begin_asks call session (codes "put") (key ∷ value_text value ∷ []) _ _ n s refl refl (valued_back valued.Put key value k o)
+begin_back call session (op.GetAndPut value) key n s o k = begin_asks call session (codes "getput") (key ∷ value_text value ∷ []) _ _ n s refl refl (valued_back valued.GetPut key value k o)
+begin_back call session (op.PutIfAbsent value) key n s o k = begin_asks call session (codes "putif") (key ∷ value_text value ∷ []) _ _ n s refl refl (valued_back valued.PutIf key value k o)
+begin_back call session op.Remove key n s o k = begin_asks call session (codes "remove") (key ∷ []) _ _ n s refl refl (bare_back bare.Remove key k)
+begin_back call session (op.RemoveIf old) key n s o k = begin_asks call session (codes "removeif") (key ∷ value_text old ∷ []) _ _ n s refl refl (valued_back valued.RemoveIf key old k o)
+begin_back call session op.GetAndRemove key n s o k = begin_asks call session (codes "getremove") (key ∷ []) _ _ n s refl refl (bare_back bare.GetRemove key k)
+begin_back call session (op.Replace value) key n s o k = begin_asks call session (codes "replace") (key ∷ value_text value ∷ []) _ _ n s refl refl (valued_back valued.Replace key value k o)
+begin_back call session (op.ReplaceIf old value) key n s o k =
+    begin_asks call session (codes "replaceif") (key ∷ value_text old ∷ value_text value ∷ []) _ _ n s refl refl (replace_if_back key old value k o.0 o.1)
+begin_back call session (op.GetAndReplace value) key n s o k = begin_asks call session (codes "getreplace") (key ∷ value_text value ∷ []) _ _ n s refl refl (valued_back valued.GetReplace key value k o)
+begin_back call session op.Clear key n s o k = absurd o
+begin_back call session (op.LoadAll replace) key n s o k = absurd o
+begin_back call session op.Invoke key n s o k = absurd o
+
+-- 4. What happens next to a call.
+
+lone_back : (act : Lone) (call : ℕ) → IsNumber call → lone_of act (decimal call ∷ []) ≡ Ok (OfCall call (lone_act act))
+lone_back act call n = rw (number_back call n) refl
+
+coded_back : (act : Coded) (call code : ℕ) → IsNumber call → IsNumber code → coded_of act (decimal call ∷ decimal code ∷ []) ≡ Ok (OfCall call (coded_act act code))
+unfolding coded_of
+coded_back act call code n c = rw (number_back call n, number_back code c) refl
+
+say_back : (call : ℕ) (pairs : Pairs) → IsNumber call → All IsPair pairs → say_of (decimal call ∷ map pair_text pairs) ≡ Ok (OfCall call (Say pairs))
+unfolding say_of
+say_back call pairs n known = rw (number_back call n, pairs_back pairs known) refl
+
+-- 5. Any line.
+
+abbrev IsReadBack : Line → Type 0
+IsReadBack line = length (spelling line) ≤ 65536 → read_line (spelling line) ≡ Ok (Some line)
+
+act_back : (call : ℕ) (act : Act) → IsNumber call → IsAct act → IsReadBack (OfCall call act)
+act_back call Read n a short = line_of_words (codes "read") (decimal call ∷ []) _ refl (and_from _ _ (number_word call n) refl) short (lone_back lone.Read call n)
+act_back call (ReadFail code) n a short =
+    line_of_words (codes "readfail") (decimal call ∷ decimal code ∷ []) _ refl (and_from _ _ (number_word call n) (and_from _ _ (number_word code a) refl)) short
+    (coded_back coded.ReadFail call code n a)
+act_back call (Say pairs) n a short =
+    line_of_words (codes "say") (decimal call ∷ map pair_text pairs) _ refl (and_from _ _ (number_word call n) (pairs_are_words pairs a)) short (say_back call pairs n a)
+act_back call Apply n a short = line_of_words (codes "apply") (decimal call ∷ []) _ refl (and_from _ _ (number_word call n) refl) short (lone_back lone.Apply call n)
+act_back call (ApplyFail code) n a short =
+    line_of_words (codes "applyfail") (decimal call ∷ decimal code ∷ []) _ refl (and_from _ _ (number_word call n) (and_from _ _ (number_word code a) refl)) short
+    (coded_back coded.ApplyFail call code n a)
+act_back call (ApplyLie code) n a short =
+    line_of_words (codes "applylie") (decimal call ∷ decimal code ∷ []) _ refl (and_from _ _ (number_word call n) (and_from _ _ (number_word code a) refl)) short
+    (coded_back coded.ApplyLie call code n a)
+act_back call End n a short = line_of_words (codes "end") (decimal call ∷ []) _ refl (and_from _ _ (number_word call n) refl) short (lone_back lone.End call n)
+act_back call Drop n a short = line_of_words (codes "drop") (decimal call ∷ []) _ refl (and_from _ _ (number_word call n) refl) short (lone_back lone.Drop call n)
+act_back call More n a short = line_of_words (codes "more") (decimal call ∷ []) _ refl (and_from _ _ (number_word call n) refl) short (lone_back lone.More call n)
+act_back call Take n a short = line_of_words (codes "take") (decimal call ∷ []) _ refl (and_from _ _ (number_word call n) refl) short (lone_back lone.Take call n)
+
+pub line_back : LinesReadBack
+line_back (Open config) known =
+    line_of_words (codes "open") (decimal config.stripes ∷ decimal config.capacity ∷ decimal config.history ∷ flag_words config.read_through config.write_through) _ refl
+    (and_from _ _ (number_word config.stripes known.0.0) (and_from _ _ (number_word config.capacity known.0.1) (and_from _ _ (number_word config.history known.0.2) (flags_are_words config.read_through config.write_through)))) known.1
+    (open_back config known.0.0 known.0.1 known.0.2)
+line_back (Set key value) known =
+    line_of_words (codes "set") (key ∷ value_text value ∷ []) (Set key value) refl (and_from _ _ (text_word _ key known.0.0) (and_from _ _ (value_word value known.0.1) refl)) known.1
+    (set_back key value known.0.0 known.0.1)
+line_back (Begin call session command) known =
+    line_of_words (codes "begin") (decimal call ∷ session_text session ∷ operation_words command.op command.key) _ refl
+    (and_from _ _ (number_word call known.0.0) (and_from _ _ (session_word session known.0.1) (operation_word command.op command.key known.0.2 known.0.3))) known.1
+    (begin_back call session command.op command.key known.0.0 known.0.1 known.0.2 known.0.3)
+line_back (OfCall call act) known = act_back call act known.0.0 known.0.1 known.1
+line_back (Foreign key value) known =
+    line_of_words (codes "foreign") (key ∷ value_or_none_text value ∷ []) _ refl (and_from _ _ (text_word _ key known.0.0) (and_from _ _ (value_or_none_word value known.0.1) refl)) known.1
+    (foreign_back key value known.0.0 known.0.1)
+line_back Audit known = line_of_words (codes "audit") [] Audit refl refl known.1 refl
