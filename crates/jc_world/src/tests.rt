@@ -1,55 +1,226 @@
-//! Runs of a world. Each ends with `close`, since a world can't be dropped.
+//! The public face of a world, and what scripts can't say: events that don't fit, a writer's change and its return apart, a
+//! withdrawal whose call isn't over. What scripts can say is tested by scripts, in `jc_tests`.
 //!
-//! They stand in texts, since a check proves a table of rows at a price that grows faster than its length.
-use crate::event::{Command, Part, Under};
+//! Each test ends with `close`, since a world can't be dropped.
+use crate::event::{Command, Part, Reported, Shown, Stepped, Under, WorldEvent};
 use crate::world::World;
 use jc_model::{Change, Event, LoadAnswer, Op, Reply, WriteAnswer, legal};
 use jc_stripe::{First, Reservation};
-use jc_types::{Caller, Field, Refusal, SESSIONS_MAX};
-use script::words::{key_of, value_of};
-use script::{config, goes_on, played, runs};
+use jc_types::{Caller, Config, Field, Key, Refusal, Value};
 use std::alloc::Global;
 use std::process::Abort;
 
+mod fitting;
 mod random;
-mod script;
 
-// 1. A put, up to its commit and behind it.
+/// A cache with read-through and write-through.
+fn config(stripes: usize, capacity: usize, history: usize) -> Config {
+    Config {
+        stripes,
+        capacity,
+        history,
+        read_through: true,
+        write_through: true,
+    }
+}
 
-const PUT_ASKED: &str = "\
-open 1 2 100 read write
-set a 1
-==
-call 1 s1 get a: begun
-start 1 a: load
-read 1 a: reads 1
-end 1 a: is 1 at 0.0
-call 2 s1 put a 2: begun
-start 2 a: asks write 2
-change 2 a: changed
-call 3 s2 get a: begun
-start 3 a: is 1 at 0.1
---
-cache a=1
-store a=2
-coherent
-history 2 legal
-busy s1
-idle s2
-last 3
-";
+fn key_of(rt: &impl Abort, name: &str) -> Key {
+    Key::new(name.as_bytes()).expect(rt, "a key")
+}
 
-const PUT_COMMITTED: &str = "\
-report 2: done write 2
-end 2 a: is ok at 0.2
-call 4 s2 get a: begun
-start 4 a: is 2 at 0.3
---
-cache a=2
-store a=2
-coherent
-history 4 legal
-";
+fn value_of(rt: &impl Abort, name: &str) -> Value {
+    Value::new(name.as_bytes()).expect(rt, "a value")
+}
+
+/// A world of one stripe with two entries, whose store has a=1.
+fn opened(rt: &impl Abort, alloc: Global) -> World {
+    let mut world = World::new(alloc, &config(1, 2, 100)).expect(rt, "a world");
+    assert!(rt; world.is_fresh(), "nothing has happened");
+    let (a, one) = (key_of(rt, "a"), value_of(rt, "1"));
+    world.set(&a, &one).expect(rt, "memory");
+    world
+}
+
+/// Plays one event, which is to show this.
+fn shows(rt: &impl Abort, alloc: Global, world: &mut World, event: WorldEvent, wanted: Shown) {
+    let mut seen = Vec::new(alloc);
+    world.play(&[event], &mut seen).expect(rt, "memory");
+    assert!(rt; world.played() == 1, "the event is played");
+    assert!(rt;
+        seen.as_slice() == [wanted].as_slice(),
+        "{event:?} shows {seen:?}"
+    );
+}
+
+/// An event of a call that is under way.
+fn event_named(rt: &impl Abort, name: &str, call: u64, key: Key) -> WorldEvent {
+    match name {
+        "start" => WorldEvent::Start { call, key },
+        "read" => WorldEvent::Read { call, key },
+        "say" => WorldEvent::Say {
+            call,
+            key,
+            answer: LoadAnswer::Nothing,
+        },
+        "change" => WorldEvent::Change { call, key },
+        "report" => WorldEvent::Report { call, fault: None },
+        "commit" => WorldEvent::Commit { call, key },
+        "withdraw" => WorldEvent::Withdraw { call, key },
+        "leave" => WorldEvent::Leave { call },
+        "pickup" => WorldEvent::PickUp { call, key },
+        _ => panic!(rt; "no event"),
+    }
+}
+
+/// Plays an event by its name.
+fn does(
+    rt: &impl Abort,
+    alloc: Global,
+    world: &mut World,
+    name: &str,
+    call: u64,
+    key: Key,
+    wanted: Shown,
+) {
+    let event = event_named(rt, name, call, key);
+    shows(rt, alloc, world, event, wanted);
+}
+
+/// A call begins. It has no phase yet.
+fn calls(rt: &impl Abort, alloc: Global, world: &mut World, caller: Caller, command: Command) {
+    let Caller { session, call } = caller;
+    let begin = WorldEvent::Call {
+        call,
+        session,
+        command,
+    };
+    shows(rt, alloc, world, begin, Shown::Begun);
+}
+
+/// A session gets a key, and the first phase shows this.
+fn gets(
+    rt: &impl Abort,
+    alloc: Global,
+    world: &mut World,
+    caller: Caller,
+    key: Key,
+    wanted: Shown,
+) {
+    let call = caller.call;
+    let command = Command { op: Op::Get, key };
+    calls(rt, alloc, world, caller, command);
+    does(rt, alloc, world, "start", call, key, wanted);
+}
+
+/// Session 1 puts a value at a, and the writer is asked.
+fn puts(rt: &impl Abort, alloc: Global, world: &mut World, call: u64, name: &str) {
+    let (key, value) = (key_of(rt, "a"), value_of(rt, name));
+    let op = Op::Put(value);
+    calls(
+        rt,
+        alloc,
+        world,
+        Caller { session: 1, call },
+        Command { op, key },
+    );
+    let asks = Shown::Asks(Change::Write(value));
+    does(rt, alloc, world, "start", call, key, asks);
+}
+
+/// A step in the first stripe, without an eviction.
+fn stepped(reply: Reply, place: u32) -> Shown {
+    Shown::Stepped(Stepped {
+        reply,
+        stripe: 0,
+        place,
+        victim: None,
+        evicted: None,
+    })
+}
+
+/// The key of a step, or the key that is evicted.
+fn key_at(event: &Event) -> Key {
+    match event {
+        Event::Step { key, .. } => *key,
+        Event::Evict { key, .. } => *key,
+    }
+}
+
+/// What an audit is to show: these entries, these keys that differ, and so many events.
+fn audits(
+    rt: &impl Abort,
+    alloc: Global,
+    world: &World,
+    cache: &[(Key, Value)],
+    store: &[(Key, Value)],
+    differing: &[Key],
+    events: usize,
+) {
+    let audit = world.audit(alloc).expect(rt, "memory");
+    assert!(rt; audit.cache.as_slice() == cache, "the cache");
+    assert!(rt; audit.store.as_slice() == store, "the store");
+    assert!(rt; audit.differing.as_slice() == differing, "what differs");
+    assert!(rt; audit.events == events && audit.is_legal, "the history");
+}
+
+// 1. Shapes.
+
+/// A world of this shape is refused, and this is blamed.
+fn is_refused(rt: &impl Abort, alloc: Global, config: &Config, field: Field) {
+    match World::new(alloc, config) {
+        Ok(world) => {
+            world.close();
+            panic!(rt; "a world of this shape is made");
+        }
+        Err(refusal) => assert!(rt; refusal == Refusal::BadConfig(field), "{refusal:?}"),
+    }
+}
+
+#[test]
+fn refuses_a_shape_beyond_the_limits(rt: HostRuntime) {
+    let alloc = rt.alloc();
+    is_refused(&rt, alloc, &config(0, 1, 16), Field::Stripes);
+    is_refused(&rt, alloc, &config(65, 1, 16), Field::Stripes);
+    is_refused(&rt, alloc, &config(1, 0, 16), Field::Capacity);
+    is_refused(&rt, alloc, &config(1, 4097, 16), Field::Capacity);
+    is_refused(&rt, alloc, &config(1, 1, 15), Field::History);
+    is_refused(&rt, alloc, &config(1, 1, 65537), Field::History);
+    let world = World::new(alloc, &config(1, 1, 16)).expect(&rt, "a world");
+    world.close();
+}
+
+// 2. A put whose writer has changed the store and hasn't returned.
+
+/// A world in which call 1 has loaded a=1.
+fn loaded(rt: &impl Abort, alloc: Global) -> World {
+    let mut world = opened(rt, alloc);
+    let (a, one) = (key_of(rt, "a"), value_of(rt, "1"));
+    let caller = Caller {
+        session: 1,
+        call: 1,
+    };
+    gets(rt, alloc, &mut world, caller, a, Shown::Loads);
+    let reads = Shown::Reads(LoadAnswer::Found(one));
+    does(rt, alloc, &mut world, "read", 1, a, reads);
+    let is = stepped(Reply::Value(Some(one)), 0);
+    does(rt, alloc, &mut world, "commit", 1, a, is);
+    world
+}
+
+/// Session 2 gets this value of a.
+fn finds(rt: &impl Abort, alloc: Global, world: &mut World, call: u64, name: &str, place: u32) {
+    let (a, value) = (key_of(rt, "a"), value_of(rt, name));
+    let is = stepped(Reply::Value(Some(value)), place);
+    gets(rt, alloc, world, Caller { session: 2, call }, a, is);
+}
+
+/// Call 2 puts a=2. Its writer has changed the store, and call 3 gets the old value.
+fn changes(rt: &impl Abort, alloc: Global, world: &mut World) {
+    puts(rt, alloc, world, 2, "2");
+    let a = key_of(rt, "a");
+    does(rt, alloc, world, "change", 2, a, Shown::Changed);
+    finds(rt, alloc, world, 3, "1", 1);
+}
 
 /// The put is asked, and nobody else is.
 fn asks_for_the_put(rt: &impl Abort, world: &World) {
@@ -82,17 +253,58 @@ fn asks_for_the_put(rt: &impl Abort, world: &World) {
     assert!(rt; is_under_way, "call 2 has reserved the key");
     let is_over = world.under(3).is_none() && world.part(3, &a).is_none();
     assert!(rt; is_over, "call 3 is over");
+    let has_one_busy = world.is_busy(1) && !world.is_busy(2);
+    assert!(rt; has_one_busy, "call 2 is under way");
+    assert!(rt;
+        world.last() == Some(3) && !world.is_fresh(),
+        "calls have begun"
+    );
+}
+
+/// The writer of a put of a returns without a fault, and the put is committed.
+fn succeeds(
+    rt: &impl Abort,
+    alloc: Global,
+    world: &mut World,
+    call: u64,
+    wanted: Reported,
+    place: u32,
+) {
+    let a = key_of(rt, "a");
+    let reported = Shown::Reported(wanted);
+    does(rt, alloc, world, "report", call, a, reported);
+    let is = stepped(Reply::Unit, place);
+    does(rt, alloc, world, "commit", call, a, is);
+}
+
+/// The writer returns, and the put is committed. Then call 4 gets the new value.
+fn returns(rt: &impl Abort, alloc: Global, world: &mut World) {
+    let reported = Reported {
+        change: Change::Write(value_of(rt, "2")),
+        is_changed: true,
+        fault: None,
+    };
+    succeeds(rt, alloc, world, 2, reported, 2);
+    finds(rt, alloc, world, 4, "2", 3);
 }
 
 #[test]
 fn shows_a_put_after_its_commit(rt: HostRuntime) {
-    let mut world = played(&rt, rt.alloc(), PUT_ASKED);
+    let alloc = rt.alloc();
+    let a = key_of(&rt, "a");
+    let (one, two) = (value_of(&rt, "1"), value_of(&rt, "2"));
+    let mut world = loaded(&rt, alloc);
+    changes(&rt, alloc, &mut world);
     asks_for_the_put(&rt, &world);
-    goes_on(&rt, rt.alloc(), &mut world, PUT_COMMITTED);
+    audits(&rt, alloc, &world, &[(a, one)], &[(a, two)], &[], 2);
+    returns(&rt, alloc, &mut world);
+    audits(&rt, alloc, &world, &[(a, two)], &[(a, two)], &[], 4);
     world.close();
 }
 
-/// An event with another reply, where it is a step.
+// 3. The order of all events.
+
+/// An event with another reply, if it is a step.
 fn answered_otherwise(event: Event) -> Event {
     match event {
         Event::Step {
@@ -118,358 +330,79 @@ fn answered_otherwise(event: Event) -> Event {
 #[test]
 fn has_a_legal_order_of_a_put(rt: HostRuntime) {
     let alloc = rt.alloc();
-    let config = config(&rt, "open 1 2 100 read write");
-    let mut world = played(&rt, alloc, PUT_ASKED);
-    goes_on(&rt, alloc, &mut world, PUT_COMMITTED);
+    let config = config(1, 2, 100);
+    let mut world = loaded(&rt, alloc);
+    changes(&rt, alloc, &mut world);
+    returns(&rt, alloc, &mut world);
     let mut events = world.order(alloc).expect(&rt, "memory");
     world.close();
-    assert!(rt;
-        legal(alloc, &config, &[], &events).expect(&rt, "memory"),
-        "the order"
-    );
-    assert_eq!(rt; events.len(), 4);
-    events[3] = answered_otherwise(events[3]);
-    assert!(rt;
-        !legal(alloc, &config, &[], &events).expect(&rt, "memory"),
-        "a wrong reply"
-    );
+    assert!(rt; events.len() == 4);
+    assert!(rt; legal(alloc, &config, &[], &events).expect(&rt, "memory"));
+    let last = events.pop().expect(&rt, "an event");
+    events.push(answered_otherwise(last)).expect(&rt, "memory");
+    let is_legal = legal(alloc, &config, &[], &events).expect(&rt, "memory");
+    assert!(rt; !is_legal, "a wrong reply");
 }
 
-// 2. Other runs.
-
-// First no session has such a number, these operations are no calls by themselves, and no call is under way. Then there is a busy
-// session, a number that doesn't rise, another call's number, another key, what comes before its time, and a call that is over.
-const UNFIT: &str = "\
-open 1 2 100 read write
-set a 1
-==
-call 1 s0 get a: unfit
-call 1 s33 get a: unfit
-call 1 s1 clear a: unfit
-call 1 s1 loadall a: unfit
-call 1 s1 invoke a: unfit
-start 1 a: unfit
-report 1: unfit
---
-fresh
-last -
-==
-call 5 s32 get a: begun
-call 6 s32 get b: unfit
-call 5 s1 get b: unfit
-call 4 s1 get b: unfit
-start 4 a: unfit
-start 5 b: unfit
-read 5 a: unfit
-end 5 a: unfit
-start 5 a: load
-start 5 a: unfit
-end 5 a: unfit
-change 5 a: unfit
-report 5: unfit
-say 5 a unasked: unfit
-read 5 b: unfit
-read 4 a: unfit
-read 5 a: reads 1
-read 5 a: unfit
-say 5 a -: unfit
-end 5 a: is 1 at 0.0
-end 5 a: unfit
-start 5 a: unfit
-call 5 s1 get a: unfit
---
-begun
-last 5
-cache a=1
-store a=1
-coherent
-history 1 legal
-";
-
-#[test]
-fn leaves_out_what_does_not_fit(rt: HostRuntime) {
-    assert_eq!(rt; SESSIONS_MAX, 32);
-    runs(&rt, rt.alloc(), UNFIT);
+/// The keys of events in their order, each with a space after it.
+fn keys_at(rt: &impl Abort, alloc: Global, events: &[Event]) -> Vec<u8> {
+    let mut keys = Vec::new(alloc);
+    for event in events {
+        keys.extend_from_slice(key_at(event).bytes())
+            .expect(rt, "memory");
+        keys.push(b' ').expect(rt, "memory");
+    }
+    keys
 }
 
-// The reservation that is out is given back with the world.
-const RESERVED: &str = "\
-open 1 2 100 read write
-==
-call 1 s1 put a 1: begun
-start 1 a: asks write 1
-call 2 s2 remove a: begun
-start 2 a: refused Busy
---
-idle s2
-cache
-store
-coherent
-history 0 legal
-";
-
-#[test]
-fn refuses_a_key_that_is_reserved(rt: HostRuntime) {
-    runs(&rt, rt.alloc(), RESERVED);
+/// Session 1 puts a key. Both events are played as one list.
+fn puts_at_once(rt: &impl Abort, alloc: Global, world: &mut World, call: u64, name: &str) {
+    let key = key_of(rt, name);
+    let op = Op::Put(value_of(rt, "1"));
+    let begin = WorldEvent::Call {
+        call,
+        session: 1,
+        command: Command { op, key },
+    };
+    let start = WorldEvent::Start { call, key };
+    let mut seen = Vec::new(alloc);
+    world.play(&[begin, start], &mut seen).expect(rt, "memory");
+    assert!(rt; world.played() == 2 && seen.len() == 2, "both are played");
 }
 
-const JOINED: &str = "\
-open 1 2 100 read write
-set a 1
-==
-call 1 s1 get a: begun
-start 1 a: load
-call 2 s2 get a: begun
-take 2 a: unfit
-start 2 a: joined
-start 2 a: unfit
-leave 2: unfit
-call 3 s3 get a: begun
-start 3 a: joined
-take 2 a: waits
-read 1 a: reads 1
-withdraw 1 a: unfit
-end 1 a: is 1 at 0.0
-call 4 s2 get a: unfit
-take 3 a: is 1 at 0.2 shared 0
-take 3 a: unfit
-take 2 a: is 1 at 0.1 shared 0
-call 4 s2 get a: begun
-start 4 a: is 1 at 0.3
---
-cache a=1
-store a=1
-coherent
-history 4 legal
-";
-
-#[test]
-fn shares_a_load_with_those_that_join(rt: HostRuntime) {
-    runs(&rt, rt.alloc(), JOINED);
-}
-
-// In the end a reservation is given back, and a join that is out is told to retry.
-const WITHDRAWN: &str = "\
-open 1 2 100 read write
-set a 1
-==
-call 1 s1 get a: begun
-withdraw 1 a: unfit
-start 1 a: load
-leave 1: unfit
-call 2 s2 get a: begun
-start 2 a: joined
-withdraw 1 a: withdrawn
-end 1 a: unfit
-leave 1: over
-leave 1: unfit
-take 2 a: again
-take 2 a: unfit
-start 2 a: load
-read 2 a: reads 1
-end 2 a: is 1 at 0.0
---
-cache a=1
-store a=1
-coherent
-history 1 legal
-==
-call 5 s1 get b: begun
-start 5 b: load
-call 6 s2 get b: begun
-start 6 b: joined
---
-busy s1
-busy s2
-";
-
-#[test]
-fn retries_where_a_load_is_withdrawn(rt: HostRuntime) {
-    runs(&rt, rt.alloc(), WITHDRAWN);
-}
-
-// The only entry is reserved, so it stays, and what is loaded goes again, behind the step that shares the load.
-const NO_PLACE: &str = "\
-open 1 1 100 read write
-set a 1
-set b 2
-==
-call 1 s1 get a: begun
-start 1 a: load
-read 1 a: reads 1
-end 1 a: is 1 at 0.0
-call 2 s1 put a 2: begun
-start 2 a: asks write 2
-call 3 s2 get b: begun
-start 3 b: load
-call 4 s3 get b: begun
-start 4 b: joined
-read 3 b: reads 2
-end 3 b: is 2 at 0.1 evicted full at 3
-take 4 b: is 2 at 0.2 shared 1
---
-cache a=1
-store a=1 b=2
-coherent
-history 4 legal
-";
-
-#[test]
-fn lets_go_what_finds_no_place(rt: HostRuntime) {
-    runs(&rt, rt.alloc(), NO_PLACE);
-}
-
-const FAILED_WRITE: &str = "\
-open 1 2 100 read write
-set a 1
-==
-call 1 s1 get a: begun
-start 1 a: load
-read 1 a: reads 1
-end 1 a: is 1 at 0.0
-call 2 s1 put a 2: begun
-start 2 a: asks write 2
-report 2 fails 7: left write 2 fails 7
-end 2 a: is WriterFailed 7 at 0.1
---
-cache a=1
-store a=1
-coherent
-history 2 legal
-";
-
-#[test]
-fn keeps_the_entry_of_a_failed_write(rt: HostRuntime) {
-    runs(&rt, rt.alloc(), FAILED_WRITE);
-}
-
-// As long as the call isn't committed, the key isn't listed.
-const LIE: &str = "\
-open 1 2 100 read write
-set a 1
-==
-call 1 s1 get a: begun
-start 1 a: load
-read 1 a: reads 1
-end 1 a: is 1 at 0.0
-call 2 s1 remove a: begun
-start 2 a: asks delete
-change 2 a: changed
-report 2 fails 3: done delete fails 3
---
-cache a=1
-store
-coherent
-history 1 legal
-==
-end 2 a: is WriterFailed 3 at 0.1
---
-cache a=1
-store
-differs a
-history 2 legal
-";
-
-#[test]
-fn differs_after_a_writer_that_lies(rt: HostRuntime) {
-    runs(&rt, rt.alloc(), LIE);
-}
-
-const FALSE_ANSWER: &str = "\
-open 1 4 100 read write
-set a 1
-==
-call 1 s1 get a: begun
-start 1 a: load
-read 1 a: reads 1
-end 1 a: is 1 at 0.0
-foreign a 2: written
-call 2 s1 get b: begun
-start 2 b: load
-say 2 b 2: says 2
-end 2 b: is 2 at 0.1
-call 3 s1 get c: begun
-start 3 c: load
-say 3 c fails 4: says fails 4
-end 3 c: is LoaderFailed 4 at 0.2
---
-cache a=1 b=2
-store a=2
-differs a b
-history 3 legal
-";
-
-#[test]
-fn differs_after_a_foreign_write_and_a_false_answer(rt: HostRuntime) {
-    runs(&rt, rt.alloc(), FALSE_ANSWER);
-}
-
-// The keys are of the stripes 1, 2, 3 and 1. The one that was used least goes before the step.
-const STRIPES: &str = "\
-open 4 1 16
-==
-call 1 s1 put b 1: begun
-call 2 s2 put a 1: begun
-start 2 a: is ok at 1.0
-start 1 b: is ok at 2.0
-call 3 s1 put ab 1: begun
-start 3 ab: is ok at 3.0
-call 4 s2 put e 1: begun
-start 4 e: is ok at 1.2 evicts a
-call 5 s1 get a: begun
-start 5 a: is - at 1.3
---
-order a b ab a e a
-cache ab=1 b=1 e=1
-store
-differs ab b e
-history 6 legal
-";
-
+/// The keys are of the stripes 1, 2, 3 and 1, and the last one evicts the first. Call 1 begins before call 2, and has its step
+/// after it.
 #[test]
 fn has_one_order_over_its_stripes(rt: HostRuntime) {
-    runs(&rt, rt.alloc(), STRIPES);
-}
-
-// 3. Shapes.
-
-const SHAPES: &str = "\
-open 1 1 16: fits
-open 0 1 16: stripes
-open 65 1 16: stripes
-open 1 0 16: capacity
-open 1 4097 16: capacity
-open 1 1 15: history
-open 1 1 65537: history
-";
-
-/// The refusal that blames a field, if one is named.
-fn refusal_of(rt: &impl Abort, name: &str) -> Option<Refusal> {
-    match name {
-        "fits" => None,
-        "stripes" => Some(Refusal::BadConfig(Field::Stripes)),
-        "capacity" => Some(Refusal::BadConfig(Field::Capacity)),
-        "history" => Some(Refusal::BadConfig(Field::History)),
-        _ => panic!(rt; "no field"),
-    }
-}
-
-/// The refusal of a world of this shape, if there is one.
-fn refusal(rt: &impl Abort, alloc: Global, shape: &str) -> Option<Refusal> {
-    match World::new(alloc, &config(rt, shape)) {
-        Ok(world) => {
-            world.close();
-            None
-        }
-        Err(refusal) => Some(refusal),
-    }
-}
-
-#[test]
-fn refuses_a_shape_beyond_the_limits(rt: HostRuntime) {
-    for line in SHAPES.lines() {
-        let (shape, name) = line.split_once(": ").expect(&rt, "a field");
-        let wanted = refusal_of(&rt, name);
-        assert!(rt; refusal(&rt, rt.alloc(), shape) == wanted, "{line}");
-    }
+    let alloc = rt.alloc();
+    let config = Config {
+        write_through: false,
+        ..config(4, 1, 16)
+    };
+    let mut world = World::new(alloc, &config).expect(&rt, "a world");
+    let b = key_of(&rt, "b");
+    let command = Command {
+        op: Op::Remove,
+        key: b,
+    };
+    let caller = Caller {
+        session: 2,
+        call: 1,
+    };
+    calls(&rt, alloc, &mut world, caller, command);
+    puts_at_once(&rt, alloc, &mut world, 2, "a");
+    let is = Shown::Stepped(Stepped {
+        reply: Reply::Flag(false),
+        stripe: 2,
+        place: 0,
+        victim: None,
+        evicted: None,
+    });
+    does(&rt, alloc, &mut world, "start", 1, b, is);
+    puts_at_once(&rt, alloc, &mut world, 3, "ab");
+    puts_at_once(&rt, alloc, &mut world, 4, "e");
+    let order = world.order(alloc).expect(&rt, "memory");
+    world.close();
+    let keys = keys_at(&rt, alloc, &order);
+    assert!(rt; keys.as_slice() == b"a b ab a e ".as_slice(), "the order");
 }
