@@ -1,9 +1,6 @@
-//! How the tests play scripts; cut lines, long lines, long inputs, and streams that fail. The scripts with their
-//! transcripts, and the faults of a line, have files of their own.
-//!
-//! Scripts stand in texts, since a check proves a table of rows at a price that grows faster than its length.
+//! What a line may be, how a run ends, and streams that fail. Scripts with their whole transcripts are in `jc_tests`; the faults
+//! of a line have a file of their own.
 mod faults;
-mod transcripts;
 
 use crate::noted::Noted;
 use crate::run::{RunEnd, RunFault, SCRIPT_MAX, run};
@@ -16,41 +13,6 @@ fn played(alloc: Global, script: &[u8]) -> Result<(Vec<u8>, RunEnd), Fail> {
     let mut out = Vec::new(alloc);
     let end = run(alloc, &mut Noted::new(script), &mut Noted::new(&mut out))?;
     Ok((out, end))
-}
-
-// How a run ends that has this transcript: at the fault of the line that it names last, if it names one.
-fn end_of(transcript: &str) -> Option<RunEnd> {
-    match transcript.split_once("line ") {
-        None => Some(RunEnd::Clean),
-        Some((_, fault)) => {
-            let (number, _) = fault.split_once(':')?;
-            Some(RunEnd::LineFault(number.parse().ok()?))
-        }
-    }
-}
-
-// Plays a script that has this whole transcript.
-fn plays(
-    rt: &impl Abort,
-    alloc: Global,
-    name: &str,
-    script: &[u8],
-    transcript: &str,
-) -> Result<(), Fail> {
-    let (found, end) = played(alloc, script)?;
-    assert_eq!(rt; found.as_slice(), transcript.as_bytes(), "at {name}");
-    assert_eq!(rt; Some(end), end_of(transcript), "at {name}");
-    Ok(())
-}
-
-// Plays rows that are parted by `==`. A row is a name, a script, and behind `--` its transcript.
-fn all_play(rt: &impl Abort, alloc: Global, rows: &str) -> Result<(), Fail> {
-    for row in rows.split("==\n") {
-        let (name, row) = row.split_once('\n').expect(rt, "a name");
-        let (script, transcript) = row.split_once("--\n").expect(rt, "a transcript");
-        plays(rt, alloc, name, script.as_bytes(), transcript)?;
-    }
-    Ok(())
 }
 
 // The lines of a text that parts them by `; `, each with a line feed.
@@ -91,22 +53,20 @@ fn all_end_with_faults(rt: &impl Abort, alloc: Global, parts: &str) -> Result<()
 }
 
 #[test]
-fn tells_cut_lines_and_bad_bytes(rt: HostRuntime) -> Result<(), Fail> {
+fn tells_cut_lines(rt: HostRuntime) -> Result<(), Fail> {
     let alloc = rt.alloc();
-    ends_with_fault(&rt, alloc, b"open 1 2 100\nbegin 1 s1 ge", 2, "cut line")?;
     ends_with_fault(&rt, alloc, b"# comment", 1, "cut line")?;
-    ends_with_fault(&rt, alloc, b"# \t\n", 1, "bad byte")?;
-    ends_with_fault(&rt, alloc, b"frob\x7f\n", 1, "bad byte")?;
-    ends_with_fault(&rt, alloc, b"audit\r\n", 1, "bad byte")?;
-    Ok(())
+    ends_with_fault(&rt, alloc, b"open 1 2 100\nbegin 1 s1 ge", 2, "cut line")
 }
 
 #[test]
-fn tells_spaces_at_the_ends(rt: HostRuntime) -> Result<(), Fail> {
-    let alloc = rt.alloc();
-    ends_with_fault(&rt, alloc, b" \n", 1, "bad line")?;
-    ends_with_fault(&rt, alloc, b" # comment\n", 1, "bad line")?;
-    ends_with_fault(&rt, alloc, b"set a 1 \n", 1, "bad line")?;
+fn tells_bad_bytes_and_spaces(rt: HostRuntime) -> Result<(), Fail> {
+    for script in ["# \t\n", "frob\x7f\n", "audit\r\n"] {
+        ends_with_fault(&rt, rt.alloc(), script.as_bytes(), 1, "bad byte")?;
+    }
+    for script in [" \n", " # comment\n", "set a 1 \n"] {
+        ends_with_fault(&rt, rt.alloc(), script.as_bytes(), 1, "bad line")?;
+    }
     Ok(())
 }
 

@@ -1,98 +1,221 @@
-//! Runs of a world. Each ends with `close`, since a world can't be dropped.
+//! The public face of a world, and what scripts can't say: events that don't fit, a writer's change and its return apart, a
+//! withdrawal whose call isn't over. What scripts can say is tested by scripts, in `jc_tests`.
 //!
-//! They stand in texts, since a check proves a table of rows at a price that grows faster than its length.
-use crate::event::{Command, Part, Under};
+//! Each test ends with `close`, since a world can't be dropped.
+use crate::event::Shown;
 use crate::world::World;
+use courses::{event_of, plays};
 use jc_model::{Change, Event, LoadAnswer, Op, Reply, WriteAnswer, legal};
 use jc_stripe::{First, Reservation};
-use jc_types::{Caller, Field, Refusal, SESSIONS_MAX};
-use script::words::{key_of, value_of};
-use script::{config, goes_on, played, runs};
+use jc_types::{Caller, Config, Field, Key, Refusal, Value};
 use std::alloc::Global;
 use std::process::Abort;
 
+mod courses;
 mod random;
-mod script;
 
-// 1. A put, up to its commit and behind it.
+/// A cache with read-through and write-through.
+fn config(stripes: usize, capacity: usize, history: usize) -> Config {
+    Config {
+        stripes,
+        capacity,
+        history,
+        read_through: true,
+        write_through: true,
+    }
+}
 
-const PUT_ASKED: &str = "\
-open 1 2 100 read write
-set a 1
-==
-call 1 s1 get a: begun
-start 1 a: load
-read 1 a: reads 1
-end 1 a: is 1 at 0.0
-call 2 s1 put a 2: begun
-start 2 a: asks write 2
-change 2 a: changed
-call 3 s2 get a: begun
-start 3 a: is 1 at 0.1
---
-cache a=1
-store a=2
-coherent
-history 2 legal
-busy s1
-idle s2
-last 3
+fn key_of(rt: &impl Abort, name: &str) -> Key {
+    Key::new(name.as_bytes()).expect(rt, "a key")
+}
+
+fn value_of(rt: &impl Abort, name: &str) -> Value {
+    Value::new(name.as_bytes()).expect(rt, "a value")
+}
+
+/// A world of one stripe with two entries, whose store has a=1.
+fn opened(rt: &impl Abort, alloc: Global) -> World {
+    let mut world = World::new(alloc, &config(1, 2, 100)).expect(rt, "a world");
+    let (a, one) = (key_of(rt, "a"), value_of(rt, "1"));
+    assert!(rt; world.is_fresh(), "nothing has happened");
+    world.set(&a, &one).expect(rt, "memory");
+    world
+}
+
+/// The key of a step, or the key that is evicted.
+fn key_at(event: &Event) -> Key {
+    match event {
+        Event::Step { key, .. } => *key,
+        Event::Evict { key, .. } => *key,
+    }
+}
+
+/// These entries are a alone, with this value.
+fn is_a_alone(rt: &impl Abort, entries: &[(Key, Value)], name: &str) -> bool {
+    let wanted = [(key_of(rt, "a"), value_of(rt, name))];
+    entries == wanted.as_slice()
+}
+
+/// An audit is to show these values of a, that it differs or nothing does, and so many events.
+fn audits(
+    rt: &impl Abort,
+    alloc: Global,
+    world: &World,
+    cached: &str,
+    stored: &str,
+    events: usize,
+) {
+    let audit = world.audit(alloc).expect(rt, "memory");
+    assert!(rt; is_a_alone(rt, &audit.cache, cached), "the cache");
+    assert!(rt; is_a_alone(rt, &audit.store, stored), "the store");
+    assert!(rt; audit.events == events && audit.is_legal, "the history");
+}
+
+/// An audit lists these keys, each with a space after it.
+fn differs(rt: &impl Abort, alloc: Global, world: &World, names: &str) {
+    let audit = world.audit(alloc).expect(rt, "memory");
+    let mut listed = Vec::new(alloc);
+    for key in &audit.differing {
+        put_key(rt, &mut listed, key);
+    }
+    assert!(rt; listed.as_slice() == names.as_bytes(), "what differs");
+}
+
+/// Appends a key, and a space.
+fn put_key(rt: &impl Abort, names: &mut Vec<u8>, key: &Key) {
+    names.extend_from_slice(key.bytes()).expect(rt, "memory");
+    names.push(b' ').expect(rt, "memory");
+}
+
+// 1. Shapes.
+
+/// A world of this shape is refused, and this is blamed.
+fn is_refused(rt: &impl Abort, alloc: Global, config: &Config, field: Field) {
+    match World::new(alloc, config) {
+        Ok(world) => {
+            world.close();
+            panic!(rt; "a world of this shape is made");
+        }
+        Err(refusal) => assert!(rt; refusal == Refusal::BadConfig(field), "{refusal:?}"),
+    }
+}
+
+#[test]
+fn refuses_a_shape_beyond_the_limits(rt: HostRuntime) {
+    let alloc = rt.alloc();
+    is_refused(&rt, alloc, &config(0, 1, 16), Field::Stripes);
+    is_refused(&rt, alloc, &config(65, 1, 16), Field::Stripes);
+    is_refused(&rt, alloc, &config(1, 0, 16), Field::Capacity);
+    is_refused(&rt, alloc, &config(1, 4097, 16), Field::Capacity);
+    is_refused(&rt, alloc, &config(1, 1, 15), Field::History);
+    is_refused(&rt, alloc, &config(1, 1, 65537), Field::History);
+    let world = World::new(alloc, &config(1, 1, 16)).expect(&rt, "a world");
+    world.close();
+}
+
+// 2. Lists of events.
+
+/// The last event of the list doesn't fit, and counts as played.
+#[test]
+fn plays_a_list_in_its_order(rt: HostRuntime) {
+    let alloc = rt.alloc();
+    let mut world = opened(&rt, alloc);
+    let a = key_of(&rt, "a");
+    let begin = event_of(&rt, "get", "1", a);
+    let start = event_of(&rt, "start", "1", a);
+    let commit = event_of(&rt, "commit", "1", a);
+    let mut seen = Vec::new(alloc);
+    world
+        .play(&[begin, start, commit], &mut seen)
+        .expect(&rt, "memory");
+    let wanted = [Shown::Begun, Shown::Loads, Shown::Unfit];
+    assert!(rt; seen.as_slice() == wanted.as_slice(), "{seen:?}");
+    assert!(rt; world.played() == 3, "all are played");
+    world.close();
+}
+
+// 3. A put whose writer has changed the store and hasn't returned.
+
+/// Up to that change, behind which session 2 gets the old value.
+const PUT_CHANGED: &str = "\
+get 1 a: begun; start leave
+start 1 a: loads; read say withdraw
+read 1 a: reads; commit
+commit 1 a: stepped; none
+put 101 a: begun; start leave
+start 101 a: asks; change report withdraw
+change 101 a: changed; change report
+get 102 a: begun; start leave
+start 102 a: stepped; none
 ";
 
+/// From the writer's return, up to a get of the new value.
 const PUT_COMMITTED: &str = "\
-report 2: done write 2
-end 2 a: is ok at 0.2
-call 4 s2 get a: begun
-start 4 a: is 2 at 0.3
---
-cache a=2
-store a=2
-coherent
-history 4 legal
+report 101 a: done; commit
+commit 101 a: stepped; none
+get 202 a: begun; start leave
+start 202 a: stepped; none
 ";
 
-/// The put is asked, and nobody else is.
-fn asks_for_the_put(rt: &impl Abort, world: &World) {
+/// Call 101 is under way, and call 102 is over.
+fn is_under_way(rt: &impl Abort, world: &World) {
+    let under = world.under(101).expect(rt, "call 101 is under way");
+    assert!(rt; under.caller.session == 1 && under.caller.call == 101);
+    assert!(rt; under.command.op == Op::Put(value_of(rt, "101")));
+    assert!(rt; under.command.key == key_of(rt, "a"));
+    assert!(rt; world.under(102).is_none(), "call 102 is over");
+}
+
+/// Call 101 has reserved a, and the writer has changed the store and not returned.
+fn is_reserved(rt: &impl Abort, world: &World) {
     let a = key_of(rt, "a");
-    let two = value_of(rt, "2");
-    let caller = Caller {
-        session: 1,
-        call: 2,
-    };
-    let under = Under {
-        caller,
-        command: Command {
-            op: Op::Put(two),
-            key: a,
+    let part = world.part(101, &a).expect(rt, "a is reserved");
+    assert!(rt; is_of_the_put(rt, &part.reservation), "it is the put");
+    assert!(rt; part.load == LoadAnswer::NotAsked && part.is_changed);
+    assert!(rt; part.report == WriteAnswer::NotAsked);
+    assert!(rt; world.part(102, &a).is_none(), "call 102 is over");
+}
+
+/// Whether this is the reservation of the put by call 101.
+fn is_of_the_put(rt: &impl Abort, reservation: &Reservation) -> bool {
+    let value = value_of(rt, "101");
+    let wanted = Reservation {
+        caller: Caller {
+            session: 1,
+            call: 101,
         },
+        key: key_of(rt, "a"),
+        op: Op::Put(value),
+        number: 1,
+        first: First::Writer(Change::Write(value)),
     };
-    let part = Part {
-        reservation: Reservation {
-            caller,
-            key: a,
-            op: Op::Put(two),
-            number: 1,
-            first: First::Writer(Change::Write(two)),
-        },
-        load: LoadAnswer::NotAsked,
-        is_changed: true,
-        report: WriteAnswer::NotAsked,
-    };
-    let is_under_way = world.under(2) == Some(&under) && world.part(2, &a) == Some(part);
-    assert!(rt; is_under_way, "call 2 has reserved the key");
-    let is_over = world.under(3).is_none() && world.part(3, &a).is_none();
-    assert!(rt; is_over, "call 3 is over");
+    *reservation == wanted
+}
+
+/// Session 1 has the last call but one under way.
+fn is_busy_with_the_put(rt: &impl Abort, world: &World) {
+    assert!(rt; world.is_busy(1) && !world.is_busy(2));
+    assert!(rt; world.last() == Some(102) && !world.is_fresh());
 }
 
 #[test]
 fn shows_a_put_after_its_commit(rt: HostRuntime) {
-    let mut world = played(&rt, rt.alloc(), PUT_ASKED);
-    asks_for_the_put(&rt, &world);
-    goes_on(&rt, rt.alloc(), &mut world, PUT_COMMITTED);
+    let alloc = rt.alloc();
+    let mut world = opened(&rt, alloc);
+    plays(&rt, alloc, &mut world, PUT_CHANGED);
+    is_under_way(&rt, &world);
+    is_reserved(&rt, &world);
+    is_busy_with_the_put(&rt, &world);
+    audits(&rt, alloc, &world, "1", "101", 2);
+    differs(&rt, alloc, &world, "");
+    plays(&rt, alloc, &mut world, PUT_COMMITTED);
+    audits(&rt, alloc, &world, "101", "101", 4);
     world.close();
 }
 
-/// An event with another reply, where it is a step.
+// 4. The order of all events.
+
+/// An event with another reply, if it is a step.
 fn answered_otherwise(event: Event) -> Event {
     match event {
         Event::Step {
@@ -114,362 +237,58 @@ fn answered_otherwise(event: Event) -> Event {
     }
 }
 
-/// The order is legal, and with another reply it isn't.
+/// Whether this is a legal history of one stripe.
+fn is_legal(rt: &impl Abort, alloc: Global, events: &[Event]) -> bool {
+    legal(alloc, &config(1, 2, 100), &[], events).expect(rt, "memory")
+}
+
+/// The order is legal, and with another last reply it isn't.
 #[test]
 fn has_a_legal_order_of_a_put(rt: HostRuntime) {
     let alloc = rt.alloc();
-    let config = config(&rt, "open 1 2 100 read write");
-    let mut world = played(&rt, alloc, PUT_ASKED);
-    goes_on(&rt, alloc, &mut world, PUT_COMMITTED);
+    let mut world = opened(&rt, alloc);
+    plays(&rt, alloc, &mut world, PUT_CHANGED);
+    plays(&rt, alloc, &mut world, PUT_COMMITTED);
     let mut events = world.order(alloc).expect(&rt, "memory");
     world.close();
-    assert!(rt;
-        legal(alloc, &config, &[], &events).expect(&rt, "memory"),
-        "the order"
-    );
-    assert_eq!(rt; events.len(), 4);
-    events[3] = answered_otherwise(events[3]);
-    assert!(rt;
-        !legal(alloc, &config, &[], &events).expect(&rt, "memory"),
-        "a wrong reply"
-    );
+    assert!(rt; events.len() == 4 && is_legal(&rt, alloc, &events));
+    let last = events.pop().expect(&rt, "an event");
+    events.push(answered_otherwise(last)).expect(&rt, "memory");
+    assert!(rt; !is_legal(&rt, alloc, &events), "a wrong reply");
 }
 
-// 2. Other runs.
-
-// First no session has such a number, these operations are no calls by themselves, and no call is under way. Then there is a busy
-// session, a number that doesn't rise, another call's number, another key, what comes before its time, and a call that is over.
-const UNFIT: &str = "\
-open 1 2 100 read write
-set a 1
-==
-call 1 s0 get a: unfit
-call 1 s33 get a: unfit
-call 1 s1 clear a: unfit
-call 1 s1 loadall a: unfit
-call 1 s1 invoke a: unfit
-start 1 a: unfit
-report 1: unfit
---
-fresh
-last -
-==
-call 5 s32 get a: begun
-call 6 s32 get b: unfit
-call 5 s1 get b: unfit
-call 4 s1 get b: unfit
-start 4 a: unfit
-start 5 b: unfit
-read 5 a: unfit
-end 5 a: unfit
-start 5 a: load
-start 5 a: unfit
-end 5 a: unfit
-change 5 a: unfit
-report 5: unfit
-say 5 a unasked: unfit
-read 5 b: unfit
-read 4 a: unfit
-read 5 a: reads 1
-read 5 a: unfit
-say 5 a -: unfit
-end 5 a: is 1 at 0.0
-end 5 a: unfit
-start 5 a: unfit
-call 5 s1 get a: unfit
---
-begun
-last 5
-cache a=1
-store a=1
-coherent
-history 1 legal
-";
-
-#[test]
-fn leaves_out_what_does_not_fit(rt: HostRuntime) {
-    assert_eq!(rt; SESSIONS_MAX, 32);
-    runs(&rt, rt.alloc(), UNFIT);
+/// The order has events of these keys, each with a space after it.
+fn is_in_order(rt: &impl Abort, alloc: Global, world: &World, names: &str) {
+    let order = world.order(alloc).expect(rt, "memory");
+    let mut found = Vec::new(alloc);
+    for event in &order {
+        put_key(rt, &mut found, &key_at(event));
+    }
+    assert!(rt; found.as_slice() == names.as_bytes(), "the order");
 }
 
-// The reservation that is out is given back with the world.
-const RESERVED: &str = "\
-open 1 2 100 read write
-==
-call 1 s1 put a 1: begun
-start 1 a: asks write 1
-call 2 s2 remove a: begun
-start 2 a: refused Busy
---
-idle s2
-cache
-store
-coherent
-history 0 legal
-";
-
-#[test]
-fn refuses_a_key_that_is_reserved(rt: HostRuntime) {
-    runs(&rt, rt.alloc(), RESERVED);
-}
-
-const JOINED: &str = "\
-open 1 2 100 read write
-set a 1
-==
-call 1 s1 get a: begun
-start 1 a: load
-call 2 s2 get a: begun
-take 2 a: unfit
-start 2 a: joined
-start 2 a: unfit
-leave 2: unfit
-call 3 s3 get a: begun
-start 3 a: joined
-take 2 a: waits
-read 1 a: reads 1
-withdraw 1 a: unfit
-end 1 a: is 1 at 0.0
-call 4 s2 get a: unfit
-take 3 a: is 1 at 0.2 shared 0
-take 3 a: unfit
-take 2 a: is 1 at 0.1 shared 0
-call 4 s2 get a: begun
-start 4 a: is 1 at 0.3
---
-cache a=1
-store a=1
-coherent
-history 4 legal
-";
-
-#[test]
-fn shares_a_load_with_those_that_join(rt: HostRuntime) {
-    runs(&rt, rt.alloc(), JOINED);
-}
-
-// In the end a reservation is given back, and a join that is out is told to retry.
-const WITHDRAWN: &str = "\
-open 1 2 100 read write
-set a 1
-==
-call 1 s1 get a: begun
-withdraw 1 a: unfit
-start 1 a: load
-leave 1: unfit
-call 2 s2 get a: begun
-start 2 a: joined
-withdraw 1 a: withdrawn
-end 1 a: unfit
-leave 1: over
-leave 1: unfit
-take 2 a: again
-take 2 a: unfit
-start 2 a: load
-read 2 a: reads 1
-end 2 a: is 1 at 0.0
---
-cache a=1
-store a=1
-coherent
-history 1 legal
-==
-call 5 s1 get b: begun
-start 5 b: load
-call 6 s2 get b: begun
-start 6 b: joined
---
-busy s1
-busy s2
-";
-
-#[test]
-fn retries_where_a_load_is_withdrawn(rt: HostRuntime) {
-    runs(&rt, rt.alloc(), WITHDRAWN);
-}
-
-// The only entry is reserved, so it stays, and what is loaded goes again, behind the step that shares the load.
-const NO_PLACE: &str = "\
-open 1 1 100 read write
-set a 1
-set b 2
-==
-call 1 s1 get a: begun
-start 1 a: load
-read 1 a: reads 1
-end 1 a: is 1 at 0.0
-call 2 s1 put a 2: begun
-start 2 a: asks write 2
-call 3 s2 get b: begun
-start 3 b: load
-call 4 s3 get b: begun
-start 4 b: joined
-read 3 b: reads 2
-end 3 b: is 2 at 0.1 evicted full at 3
-take 4 b: is 2 at 0.2 shared 1
---
-cache a=1
-store a=1 b=2
-coherent
-history 4 legal
-";
-
-#[test]
-fn lets_go_what_finds_no_place(rt: HostRuntime) {
-    runs(&rt, rt.alloc(), NO_PLACE);
-}
-
-const FAILED_WRITE: &str = "\
-open 1 2 100 read write
-set a 1
-==
-call 1 s1 get a: begun
-start 1 a: load
-read 1 a: reads 1
-end 1 a: is 1 at 0.0
-call 2 s1 put a 2: begun
-start 2 a: asks write 2
-report 2 fails 7: left write 2 fails 7
-end 2 a: is WriterFailed 7 at 0.1
---
-cache a=1
-store a=1
-coherent
-history 2 legal
-";
-
-#[test]
-fn keeps_the_entry_of_a_failed_write(rt: HostRuntime) {
-    runs(&rt, rt.alloc(), FAILED_WRITE);
-}
-
-// As long as the call isn't committed, the key isn't listed.
-const LIE: &str = "\
-open 1 2 100 read write
-set a 1
-==
-call 1 s1 get a: begun
-start 1 a: load
-read 1 a: reads 1
-end 1 a: is 1 at 0.0
-call 2 s1 remove a: begun
-start 2 a: asks delete
-change 2 a: changed
-report 2 fails 3: done delete fails 3
---
-cache a=1
-store
-coherent
-history 1 legal
-==
-end 2 a: is WriterFailed 3 at 0.1
---
-cache a=1
-store
-differs a
-history 2 legal
-";
-
-#[test]
-fn differs_after_a_writer_that_lies(rt: HostRuntime) {
-    runs(&rt, rt.alloc(), LIE);
-}
-
-const FALSE_ANSWER: &str = "\
-open 1 4 100 read write
-set a 1
-==
-call 1 s1 get a: begun
-start 1 a: load
-read 1 a: reads 1
-end 1 a: is 1 at 0.0
-foreign a 2: written
-call 2 s1 get b: begun
-start 2 b: load
-say 2 b 2: says 2
-end 2 b: is 2 at 0.1
-call 3 s1 get c: begun
-start 3 c: load
-say 3 c fails 4: says fails 4
-end 3 c: is LoaderFailed 4 at 0.2
---
-cache a=1 b=2
-store a=2
-differs a b
-history 3 legal
-";
-
-#[test]
-fn differs_after_a_foreign_write_and_a_false_answer(rt: HostRuntime) {
-    runs(&rt, rt.alloc(), FALSE_ANSWER);
-}
-
-// The keys are of the stripes 1, 2, 3 and 1. The one that was used least goes before the step.
-const STRIPES: &str = "\
-open 4 1 16
-==
-call 1 s1 put b 1: begun
-call 2 s2 put a 1: begun
-start 2 a: is ok at 1.0
-start 1 b: is ok at 2.0
-call 3 s1 put ab 1: begun
-start 3 ab: is ok at 3.0
-call 4 s2 put e 1: begun
-start 4 e: is ok at 1.2 evicts a
-call 5 s1 get a: begun
-start 5 a: is - at 1.3
---
-order a b ab a e a
-cache ab=1 b=1 e=1
-store
-differs ab b e
-history 6 legal
+/// The keys are of the stripes 1, 2, 3 and 1, and the last one evicts the first. Call 1 begins before call 2, and has its step
+/// after it.
+const OVER_STRIPES: &str = "\
+put 1 b: begun; start leave
+put 2 a: begun; start leave
+start 2 a: stepped; none
+start 1 b: stepped; none
+put 3 ab: begun; start leave
+start 3 ab: stepped; none
+put 4 e: begun; start leave
+start 4 e: stepped; none
 ";
 
 #[test]
 fn has_one_order_over_its_stripes(rt: HostRuntime) {
-    runs(&rt, rt.alloc(), STRIPES);
-}
-
-// 3. Shapes.
-
-const SHAPES: &str = "\
-open 1 1 16: fits
-open 0 1 16: stripes
-open 65 1 16: stripes
-open 1 0 16: capacity
-open 1 4097 16: capacity
-open 1 1 15: history
-open 1 1 65537: history
-";
-
-/// The refusal that blames a field, if one is named.
-fn refusal_of(rt: &impl Abort, name: &str) -> Option<Refusal> {
-    match name {
-        "fits" => None,
-        "stripes" => Some(Refusal::BadConfig(Field::Stripes)),
-        "capacity" => Some(Refusal::BadConfig(Field::Capacity)),
-        "history" => Some(Refusal::BadConfig(Field::History)),
-        _ => panic!(rt; "no field"),
-    }
-}
-
-/// The refusal of a world of this shape, if there is one.
-fn refusal(rt: &impl Abort, alloc: Global, shape: &str) -> Option<Refusal> {
-    match World::new(alloc, &config(rt, shape)) {
-        Ok(world) => {
-            world.close();
-            None
-        }
-        Err(refusal) => Some(refusal),
-    }
-}
-
-#[test]
-fn refuses_a_shape_beyond_the_limits(rt: HostRuntime) {
-    for line in SHAPES.lines() {
-        let (shape, name) = line.split_once(": ").expect(&rt, "a field");
-        let wanted = refusal_of(&rt, name);
-        assert!(rt; refusal(&rt, rt.alloc(), shape) == wanted, "{line}");
-    }
+    let alloc = rt.alloc();
+    let config = Config {
+        write_through: false,
+        ..config(4, 1, 16)
+    };
+    let mut world = World::new(alloc, &config).expect(&rt, "a world");
+    plays(&rt, alloc, &mut world, OVER_STRIPES);
+    is_in_order(&rt, alloc, &world, "a b ab a e ");
+    world.close();
 }

@@ -1,44 +1,6 @@
 //! Faults of lines: which comes first, by shape, words and state.
-use super::{all_end_with_faults, all_play};
+use super::all_end_with_faults;
 use std::test::Fail;
-
-const FAULTS: &str = "\
-no such call
-open 1 2 100
-end 9
---
-open
-line 2: no such call
-==
-not now
-open 1 2 100 read
-begin 1 s1 get a
-end 1
---
-open
-1 a load
-line 3: not now
-==
-bad config stripes
-open 0 1 16
---
-line 1: bad config stripes
-==
-bad config capacity
-open 1 0 16
---
-line 1: bad config capacity
-==
-bad config history
-open 1 1 15
---
-line 1: bad config history
-";
-
-#[test]
-fn ends_at_a_fault(rt: HostRuntime) -> Result<(), Fail> {
-    all_play(&rt, rt.alloc(), FAULTS)
-}
 
 const BAD_LINES: &str = "\
 bad line

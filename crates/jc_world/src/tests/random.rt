@@ -1,11 +1,9 @@
 //! Long runs of events drawn by lot, compared with a plain reading of their order.
-use super::script::config;
-use super::script::facts::key_at;
-use super::script::words::{key_of, value_of};
+use super::{config, key_at, key_of, value_of};
 use crate::event::{Command, Shown, WorldEvent};
 use crate::world::World;
 use jc_model::{Event, LoadAnswer, Op, Reply, legal};
-use jc_types::{Config, Key, Value};
+use jc_types::{Config, Key, Value, stripe_of};
 use std::alloc::Global;
 use std::process::Abort;
 
@@ -149,20 +147,23 @@ impl Shelf {
         self.entries.retain(|e| e.0 != *key);
     }
 
-    /// The stripe of a key of one byte.
-    fn stripe(&self, key: &Key) -> Option<usize> {
-        let byte = key.bytes().first().copied()?;
-        (byte as usize).checked_rem(self.stripes)
+    /// The stripe of a key.
+    fn stripe(&self, key: &Key) -> usize {
+        if self.stripes == 0 {
+            return 0;
+        }
+        stripe_of(key, self.stripes)
     }
 
     /// The least recently used in the stripe of a key, but for these keys.
     fn oldest(&self, near: &Key, pinned: &[Key]) -> Option<Key> {
-        for (key, _) in self.entries.iter().rev() {
+        let mut oldest = None;
+        for (key, _) in &self.entries {
             if self.stripe(key) == self.stripe(near) && !pinned.contains(key) {
-                return Some(*key);
+                oldest = Some(*key);
             }
         }
-        None
+        oldest
     }
 
     /// The most recently used of all.
@@ -183,7 +184,7 @@ impl Shelf {
     ) -> Vec<Event> {
         let mut events = Vec::new(alloc);
         for event in order {
-            if self.stripe(&key_at(event)) == Some(stripe) {
+            if self.stripe(&key_at(event)) == stripe {
                 events.push(*event).expect(rt, "memory");
             }
         }
@@ -262,7 +263,7 @@ fn kind(shown: &Shown) -> usize {
 #[derive(Drop)]
 struct Run {
     lot: Lot,
-    calls: [(u64, Key); 5],
+    calls: Vec<(u64, Key)>,
     shelf: Shelf,
     shown: [u32; KINDS],
     fitting: u32,
@@ -363,7 +364,7 @@ fn runs_by_lot(rt: &impl Abort, alloc: Global, config: &Config) {
     let mut world = World::new(alloc, config).expect(rt, "a world");
     let mut run = Run {
         lot: Lot { state: 5 },
-        calls: [(0, key_of(rt, "a")); 5],
+        calls: vec![in alloc; (0, key_of(rt, "a")); 5].expect(rt, "memory"),
         shelf: Shelf {
             stripes: config.stripes,
             entries: Vec::with_capacity(alloc, 8).expect(rt, "memory"),
@@ -385,10 +386,10 @@ fn runs_by_lot(rt: &impl Abort, alloc: Global, config: &Config) {
 
 #[test]
 fn stays_legal_over_a_long_run(rt: HostRuntime) {
-    runs_by_lot(&rt, rt.alloc(), &config(&rt, "open 1 2 16384 read write"));
+    runs_by_lot(&rt, rt.alloc(), &config(1, 2, 16384));
 }
 
 #[test]
 fn stays_legal_over_a_long_run_of_two_stripes(rt: HostRuntime) {
-    runs_by_lot(&rt, rt.alloc(), &config(&rt, "open 2 1 16384 read write"));
+    runs_by_lot(&rt, rt.alloc(), &config(2, 1, 16384));
 }

@@ -1,0 +1,259 @@
+//! Courses of calls, event by event: what each event shows, and which events of the call fit then.
+//!
+//! A course is a text with a line for each event. It has the event's name, the number of its call and a key; after a colon a word
+//! for what it shows; and after a semicolon the names of all events with this call and this key that fit then, or `none`. Each
+//! other one is to be shown as `Unfit`.
+//!
+//! Call N is by session N modulo 100: calls 1 and 101 by session 1, and call 100 by none. A put puts the number of its call.
+use super::{audits, differs, key_of, opened, value_of};
+use crate::event::{Command, Shown, WorldEvent};
+use crate::world::World;
+use jc_model::{LoadAnswer, Op};
+use jc_types::Key;
+use std::alloc::Global;
+use std::process::Abort;
+
+/// The events of a call that is under way.
+const EVENTS: &str = "start read say change report commit withdraw leave pickup";
+
+/// An event by its name, with a call by its number.
+pub fn event_of(rt: &impl Abort, name: &str, number: &str, key: Key) -> WorldEvent {
+    let call: u64 = number.parse().ok().expect(rt, "a number");
+    match name {
+        "start" => WorldEvent::Start { call, key },
+        "read" => WorldEvent::Read { call, key },
+        "say" => WorldEvent::Say {
+            call,
+            key,
+            answer: LoadAnswer::Nothing,
+        },
+        "unsaid" => WorldEvent::Say {
+            call,
+            key,
+            answer: LoadAnswer::NotAsked,
+        },
+        "change" => WorldEvent::Change { call, key },
+        "report" => WorldEvent::Report { call, fault: None },
+        "commit" => WorldEvent::Commit { call, key },
+        "withdraw" => WorldEvent::Withdraw { call, key },
+        "leave" => WorldEvent::Leave { call },
+        "pickup" => WorldEvent::PickUp { call, key },
+        _ => WorldEvent::Call {
+            call,
+            session: (call % 100) as u32,
+            command: Command {
+                op: op_of(rt, name, number),
+                key,
+            },
+        },
+    }
+}
+
+fn op_of(rt: &impl Abort, name: &str, number: &str) -> Op {
+    match name {
+        "get" => Op::Get,
+        "put" => Op::Put(value_of(rt, number)),
+        "clear" => Op::Clear,
+        "loadall" => Op::LoadAll { replace: false },
+        "invoke" => Op::Invoke,
+        _ => panic!(rt; "no event"),
+    }
+}
+
+/// A word for what is shown.
+fn word_of(shown: &Shown) -> &'static str {
+    match shown {
+        Shown::Begun => "begun",
+        Shown::Stepped(_) => "stepped",
+        Shown::Loads => "loads",
+        Shown::Asks(_) => "asks",
+        Shown::Joins => "joins",
+        Shown::Refused(_) => "refused",
+        Shown::Reads(_) => "reads",
+        Shown::Says(_) => "says",
+        Shown::Changed => "changed",
+        Shown::Reported(reported) => {
+            if reported.is_changed {
+                "done"
+            } else {
+                "undone"
+            }
+        }
+        Shown::Withdrawn => "withdrawn",
+        Shown::Left => "left",
+        Shown::PickedUp(_) => "pickedup",
+        Shown::Waits => "waits",
+        Shown::Again => "again",
+        Shown::Written => "written",
+        Shown::Unfit => "unfit",
+    }
+}
+
+/// Plays one event, which is to show this.
+fn shows(
+    rt: &impl Abort,
+    alloc: Global,
+    world: &mut World,
+    event: WorldEvent,
+    word: &str,
+    line: &str,
+) {
+    let mut seen = Vec::new(alloc);
+    world.play(&[event], &mut seen).expect(rt, "memory");
+    let shown = seen.pop().expect(rt, "what is shown");
+    assert!(rt; word_of(&shown) == word, "{line}");
+}
+
+/// Of the events with this call and this key exactly these fit.
+fn fit(
+    rt: &impl Abort,
+    alloc: Global,
+    world: &mut World,
+    number: &str,
+    key: Key,
+    fitting: &str,
+    line: &str,
+) {
+    for name in EVENTS.split(' ') {
+        let event = event_of(rt, name, number, key);
+        let fits = fitting.contains(name);
+        assert!(rt; world.fits(&event) == fits, "{name} after {line}");
+        if !fits {
+            shows(rt, alloc, world, event, "unfit", line);
+        }
+    }
+}
+
+/// Plays a course.
+pub fn plays(rt: &impl Abort, alloc: Global, world: &mut World, course: &str) {
+    for line in course.lines() {
+        let (event, fitting) = line.split_once("; ").expect(rt, "what fits then");
+        let (event, word) = event.split_once(": ").expect(rt, "what is shown");
+        let (name, event) = event.split_once(' ').expect(rt, "a name");
+        let (number, key) = event.split_once(' ').expect(rt, "a number");
+        let key = key_of(rt, key);
+        shows(
+            rt,
+            alloc,
+            world,
+            event_of(rt, name, number, key),
+            word,
+            line,
+        );
+        fit(rt, alloc, world, number, key, fitting, line);
+    }
+}
+
+// At first these operations are no calls by themselves, no session has such a number, and no call is under way. Then there is a
+// busy session, a number that doesn't rise, another key, another call's number, and a call that is over.
+const LOAD: &str = "\
+clear 1 b: unfit; none
+loadall 1 b: unfit; none
+invoke 1 b: unfit; none
+get 100 b: unfit; none
+get 33 b: unfit; none
+start 1 a: unfit; none
+get 32 a: begun; start leave
+get 132 b: unfit; none
+get 32 b: unfit; leave
+get 31 b: unfit; none
+start 32 b: unfit; leave
+start 31 a: unfit; none
+start 32 a: loads; read say withdraw
+unsaid 32 a: unfit; read say withdraw
+read 32 b: unfit; none
+read 31 a: unfit; none
+read 32 a: reads; commit
+commit 32 a: stepped; none
+get 32 a: unfit; none
+get 31 a: unfit; none
+";
+
+#[test]
+fn fits_the_course_of_a_load(rt: HostRuntime) {
+    let alloc = rt.alloc();
+    let mut world = opened(&rt, alloc);
+    plays(&rt, alloc, &mut world, LOAD);
+    audits(&rt, alloc, &world, "1", "1", 1);
+    world.close();
+}
+
+// A call that doesn't fit leaves the world fresh.
+#[test]
+fn stays_fresh_without_a_call(rt: HostRuntime) {
+    let alloc = rt.alloc();
+    let mut world = opened(&rt, alloc);
+    plays(&rt, alloc, &mut world, "get 33 b: unfit; none\n");
+    assert!(rt; world.is_fresh() && world.last().is_none());
+    world.close();
+}
+
+// A writer may change the store twice, and it may report success and have changed nothing. Then the cache differs. The put that
+// is out at the end is given back.
+const WRITE: &str = "\
+put 1 a: begun; start leave
+start 1 a: asks; change report withdraw
+read 1 b: unfit; report
+change 1 a: changed; change report
+get 2 a: begun; start leave
+start 2 a: refused; none
+change 1 a: changed; change report
+report 1 a: done; commit
+commit 1 a: stepped; none
+put 3 a: begun; start leave
+start 3 a: asks; change report withdraw
+report 3 a: undone; commit
+commit 3 a: stepped; none
+put 4 a: begun; start leave
+start 4 a: asks; change report withdraw
+";
+
+#[test]
+fn fits_the_course_of_a_write(rt: HostRuntime) {
+    let alloc = rt.alloc();
+    let mut world = opened(&rt, alloc);
+    plays(&rt, alloc, &mut world, WRITE);
+    audits(&rt, alloc, &world, "3", "1", 2);
+    differs(&rt, alloc, &world, "a ");
+    world.close();
+}
+
+// Call 1 gives its reservation back, and loads after all. Call 2 is told to retry, and joins once more.
+const JOIN: &str = "\
+get 1 a: begun; start leave
+get 2 a: begun; start leave
+start 1 a: loads; read say withdraw
+start 2 a: joins; pickup
+pickup 2 a: waits; pickup
+withdraw 1 a: withdrawn; start leave
+pickup 2 a: again; start leave
+start 1 a: loads; read say withdraw
+start 2 a: joins; pickup
+read 1 a: reads; commit
+commit 1 a: stepped; none
+pickup 2 a: pickedup; none
+";
+
+// Call 3 gives its reservation back and leaves. At the end a load and a call that has joined it are out.
+const LEAVE: &str = "\
+get 3 b: begun; start leave
+start 3 b: loads; read say withdraw
+withdraw 3 b: withdrawn; start leave
+leave 3 b: left; none
+get 5 b: begun; start leave
+start 5 b: loads; read say withdraw
+get 6 b: begun; start leave
+start 6 b: joins; pickup
+";
+
+#[test]
+fn fits_the_course_of_a_join(rt: HostRuntime) {
+    let alloc = rt.alloc();
+    let mut world = opened(&rt, alloc);
+    plays(&rt, alloc, &mut world, JOIN);
+    audits(&rt, alloc, &world, "1", "1", 2);
+    plays(&rt, alloc, &mut world, LEAVE);
+    let b = key_of(&rt, "b");
+    assert!(rt; world.is_joined(6, &b) && !world.is_joined(5, &b));
+    world.close();
+}
