@@ -1,9 +1,9 @@
 //! Runs of a world. Each ends with `close`, since a world can't be dropped.
 //!
 //! They stand in texts, since a check proves a table of rows at a price that grows faster than its length.
-use crate::event::{Command, Part, Under};
+use crate::event::{Command, Part, Progress, Under};
 use crate::world::World;
-use jc_model::{Change, Event, LoadAnswer, Op, Reply, WriteAnswer, legal};
+use jc_model::{Change, Event, Op, Reply, WriteAnswer, legal};
 use jc_stripe::{First, Reservation};
 use jc_types::{Caller, Field, Refusal, SESSIONS_MAX};
 use script::words::{key_of, value_of};
@@ -74,9 +74,10 @@ fn asks_for_the_put(rt: &impl Abort, world: &World) {
             number: 1,
             first: First::Writer(Change::Write(two)),
         },
-        load: LoadAnswer::NotAsked,
-        is_changed: true,
-        report: WriteAnswer::NotAsked,
+        progress: Progress::Writing {
+            is_changed: true,
+            report: WriteAnswer::NotAsked,
+        },
     };
     let is_under_way = world.under(2) == Some(&under) && world.part(2, &a) == Some(part);
     assert!(rt; is_under_way, "call 2 has reserved the key");
