@@ -46,6 +46,7 @@ use Rattle.jc_stripe.specs.Reached.{IsReached}
 use Rattle.jc_stripe.specs.Laws.{StaysReached}
 use Rattle.jc_world.specs.declared.event.Command.{Command}
 use Rattle.jc_world.specs.declared.event.Part.{Part}
+use Rattle.jc_world.specs.declared.event.Progress.{Progress}
 use Rattle.jc_world.specs.declared.event.Premises.{Premises}
 use Rattle.jc_world.specs.declared.event.Shown.{Shown}
 use Rattle.jc_world.specs.declared.event.Shown.TheVariants as shown
@@ -53,7 +54,7 @@ use Rattle.jc_world.specs.declared.event.Under.{Under}
 use Rattle.jc_world.specs.declared.event.WorldEvent.{WorldEvent}
 use Rattle.jc_world.specs.declared.event.WorldEvent.TheVariants as event
 use Rattle.jc_world.specs.World.{WorldState, Parts, home, stripe_for, empty_stripe, empty_stripes, start, has_number, is_busy, under, over, part_of, is_joined, is_join, join_of, unjoined, out_of, with_stored}
-use Rattle.jc_world.specs.Events.{is_single, is_session, is_new, is_free, may_start, may_leave, fits, with_stripe, goes_on, call_over, new_part, with_part, without_part, with_join, without_join, step_of, Starts, Ends, Picks, Happens}
+use Rattle.jc_world.specs.Events.{is_single, is_session, is_new, is_free, may_start, may_leave, fits, with_stripe, goes_on, call_over, load_asked, write_asked, new_part, with_part, without_part, with_join, without_join, step_of, Starts, Ends, Picks, Happens}
 use Rattle.jc_world.specs.Audit.{cache_in, cache_at, IsOrder, HasParts}
 use Rattle.jc_world.specs.Sound.{IsStripe, is_up_to, none_from, has_answer, is_told, is_served_in, is_served, FitsCall, CallsFit, IsHeld, IsOwned, AllOwned, IsCalled, AllCalled, IsSoundWorld}
 use Rattle.jc_world.proofs.Halves.{HasOrder}
@@ -503,21 +504,21 @@ tied : (key : Bytes) → eq_by_cmp key_cmp key key ≡ true
 tied key = (eq_by_cmp_equiv nat_list_cmp_total).refl key
 
 -- the key is reserved, and has a part
-order_reserved : (w : WorldState) (u : Under) (from to : State) (r : Reservation) → stripe_for w u.command.key ≡ Some from → is_reserved from u.command.key ≡ false
+order_reserved : (w : WorldState) (u : Under) (from to : State) (p : Progress) (r : Reservation) → stripe_for w u.command.key ≡ Some from → is_reserved from u.command.key ≡ false
     → r.caller ≡ u.caller → r.key ≡ u.command.key → to ≡ with_reservation from r → IsReached to
-    → MayStart w u → IsSoundWorld w → HasOrder (with_part (with_stripe w u.command.key to) u.command.key (new_part r))
-order_reserved w u from to r there free caller_is key_is is reached may old =
+    → MayStart w u → IsSoundWorld w → HasOrder (with_part (with_stripe w u.command.key to) u.command.key (new_part p r))
+order_reserved w u from to p r there free caller_is key_is is reached may old =
     let key = u.command.key in
-    let new : WorldState = with_part (with_stripe w key to) key (new_part r) in
+    let new : WorldState = with_part (with_stripe w key to) key (new_part p r) in
     let at = old.shape.each (home w key) from there in
     let kept : (rs : List Reservation) → AllOwned w rs → AllOwned new rs = λ rs. each_owned w new rs (λ x h. record {
-      part = owned_part w.parts key x.key (new_part r) x.caller.call h.part (λ e.
+      part = owned_part w.parts key x.key (new_part p r) x.caller.call h.part (λ e.
           let found = some_of (get w.parts x.key) (λ p. p.reservation.caller.call ≡ x.caller.call) h.part in
           absurd (free_part w key from found.0 old there free (ap (get w.parts) (sym e) ∙ found.1)));
       call = h.call;
     }) in
     let one : IsOwned new r = record {
-      part = is_some_and (get new.parts r.key) (λ p. p.reservation.caller.call ≡ r.caller.call) (new_part r) (ap (get new.parts) key_is ∙ get-insert nat_list_cmp_total w.parts key (new_part r) key ∙ ap (λ b. cond b (Some (new_part r)) (get w.parts key)) (tied key)) refl;
+      part = is_some_and (get new.parts r.key) (λ p. p.reservation.caller.call ≡ r.caller.call) (new_part p r) (ap (get new.parts) key_is ∙ get-insert nat_list_cmp_total w.parts key (new_part p r) key ∙ ap (λ b. cond b (Some (new_part p r)) (get w.parts key)) (tied key)) refl;
       call = is_some_and (under new r.caller.call) (λ v. (v.caller.session ≡ r.caller.session) × (v.command.key ≡ r.key)) u (ap (λ (c : Caller). under w c.call) caller_is ∙ may.here) (ap (λ (c : Caller). c.session) (sym caller_is), sym key_is);
     } in
     record {
@@ -575,12 +576,12 @@ starts stays w new u from to shown.Loads there h may old =
     let at = old.shape.each (home w u.command.key) from there in
     let reached = stays.begins from to u.caller u.command.key u.command.op (begun.Load h.0) at.reached (begins_with w u from old there may) (single_phases u.command.op may.fit.single) h.1 in
     let free = was_free from u.caller u.command.key u.command.op Loader h.1.0 h.1.1 h.1.2 refl in
-    subst HasOrder (sym h.2) (order_reserved w u from to h.0.reservation there free (ap (λ (t : Ticket). t.reservation.caller) h.1.3) (ap (λ (t : Ticket). t.reservation.key) h.1.3) h.1.4 reached may old)
+    subst HasOrder (sym h.2) (order_reserved w u from to load_asked h.0.reservation there free (ap (λ (t : Ticket). t.reservation.caller) h.1.3) (ap (λ (t : Ticket). t.reservation.key) h.1.3) h.1.4 reached may old)
 starts stays w new u from to (shown.Asks change) there h may old =
     let at = old.shape.each (home w u.command.key) from there in
     let reached = stays.begins from to u.caller u.command.key u.command.op (begun.Write h.0) at.reached (begins_with w u from old there may) (single_phases u.command.op may.fit.single) h.1 in
     let free = was_free from u.caller u.command.key u.command.op h.0.reservation.first h.1.0 (writer_alone from u.command.key u.command.op h.0.reservation.first h.1.1 h.1.2) h.1.1 (ap reserves h.2) in
-    subst HasOrder (sym h.3) (order_reserved w u from to h.0.reservation there free (ap (λ (t : Ticket). t.reservation.caller) h.1.3) (ap (λ (t : Ticket). t.reservation.key) h.1.3) h.1.4 reached may old)
+    subst HasOrder (sym h.3) (order_reserved w u from to write_asked h.0.reservation there free (ap (λ (t : Ticket). t.reservation.caller) h.1.3) (ap (λ (t : Ticket). t.reservation.key) h.1.3) h.1.4 reached may old)
 starts stays w new u from to shown.Joins there h may old =
     let at = old.shape.each (home w u.command.key) from there in
     let reached = stays.begins from to u.caller u.command.key u.command.op (begun.Joined h.0) at.reached (begins_with w u from old there may) (single_phases u.command.op may.fit.single) h.1 in

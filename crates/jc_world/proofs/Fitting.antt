@@ -15,13 +15,15 @@ use Rattle.jc_world.proofs.Numbered.{some_of}
 use Rattle.jc_model.specs.Cache.{Bytes}
 use Rattle.jc_stripe.specs.State.{State}
 use Rattle.jc_world.specs.declared.event.Part.{Part}
+use Rattle.jc_world.specs.declared.event.Progress.{Progress}
+use Rattle.jc_world.specs.declared.event.Progress.TheVariants.{Loading, Writing}
 use Rattle.jc_world.specs.declared.event.Under.{Under}
 use Rattle.jc_world.specs.declared.event.Shown.{Shown}
 use Rattle.jc_world.specs.declared.event.Shown.TheVariants as shown
 use Rattle.jc_world.specs.declared.event.WorldEvent.{WorldEvent}
 use Rattle.jc_world.specs.declared.event.WorldEvent.TheVariants as event
-use Rattle.jc_world.specs.World.{WorldState, stripe_for, has_number, under, of_call, part_of, waits_for_report, is_join, is_joined, is_untouched}
-use Rattle.jc_world.specs.Events.{fits, is_new, is_free, may_start, may_leave, may_report, changed, with_stripe, without_part, Happens, is_fit, AllFit, StartFits, RestFits}
+use Rattle.jc_world.specs.World.{WorldState, stripe_for, has_number, under, of_call, part_of, report_due, waits_for_report, is_join, is_joined, is_untouched}
+use Rattle.jc_world.specs.Events.{fits, is_new, is_free, may_start, may_leave, may_report, changed, with_stripe, without_part, Happens, is_fit, AllFit, StartFits, RestFits, with_change}
 use Rattle.jc_world.specs.Sound.{is_up_to, IsHeld, IsSoundWorld}
 use Rattle.jc_world.proofs.Entries.{tied}
 use Rattle.jc_world.proofs.Underway.{found_number, fits_found, of_call-at}
@@ -66,10 +68,14 @@ one_fits w e fit = fits_then w e [] fit (λ seen mid happens. none_fit mid)
 -- 2. Two events of a call under way.
 
 -- once the writer has changed the store, it is still waited for
-still_waits : (call : ℕ) (o : Option Part) (part : Part) → of_call call o ≡ Some part → waits_for_report (of_call call o) ≡ true → waits_for_report (of_call call (Some (record part { is_changed = true }))) ≡ true
+still_waits : (call : ℕ) (o : Option Part) (part : Part) → of_call call o ≡ Some part → waits_for_report (of_call call o) ≡ true → waits_for_report (of_call call (Some (record part { progress = with_change part.progress }))) ≡ true
 still_waits call o part is waits =
-    ap (λ b. waits_for_report (cond b (Some (record part { is_changed = true })) None)) (eq-eqb part.reservation.caller.call call (of_call-at call o part is).1)
-    ∙ sym (ap waits_for_report is) ∙ waits
+    ap (λ b. waits_for_report (cond b (Some (record part { progress = with_change part.progress })) None)) (eq-eqb part.reservation.caller.call call (of_call-at call o part is).1)
+    ∙ due part.progress ∙ sym (ap waits_for_report is) ∙ waits
+  where
+    due : (p : Progress) → report_due (with_change p) ≡ report_due p
+    due (Loading answer) = refl
+    due (Writing is_changed report) = refl
 
 -- the writer's return, behind its change of the store
 pub report_fits : (w : WorldState) (call : ℕ) (u : Under) (fault : Option ℕ) → under w call ≡ Some u → fits w (event.Change call u.command.key) ≡ true → AllFit w (event.Change call u.command.key ∷ event.Report call fault ∷ [])
@@ -79,7 +85,7 @@ report_fits w call u fault here fit =
     let part = happens.0 in
     let new = changed w key part happens.1 in
     let P : WorldState → Type 0 = λ m. fits m (event.Report call fault) ≡ true in
-    let there : get new.parts key ≡ Some (record part { is_changed = true }) = get-insert nat_list_cmp_total w.parts key (record part { is_changed = true }) key ∙ ap (λ b. cond b (Some (record part { is_changed = true })) (get w.parts key)) (tied key) in
+    let there : get new.parts key ≡ Some (record part { progress = with_change part.progress }) = get-insert nat_list_cmp_total w.parts key (record part { progress = with_change part.progress }) key ∙ ap (λ b. cond b (Some (record part { progress = with_change part.progress })) (get w.parts key)) (tied key) in
     one_fits mid (event.Report call fault)
     (subst P (sym happens.5) (ap (may_report new call) here ∙ ap (λ o. waits_for_report (of_call call o)) there ∙ still_waits call (get w.parts key) part happens.2 fit)))
 

@@ -1,12 +1,13 @@
 -- What is known of a held key whose event fits.
-use Rattle.std.proofs.Common.{◌≡◌, ◌==◌, ◌&&◌, ◌||◌, not, Bool, true, false, cond, Option, Some, None, sym, subst, ap, ◌∙◌, refl, ℕ}
+use Rattle.std.proofs.Common.{◌≡◌, ◌==◌, ◌&&◌, not, Bool, true, false, cond, Option, Some, None, sym, subst, ap, ◌∙◌, refl, ℕ}
 use Rattle.std.specs.FinMap.{get}
 use Rattle.jc_model.specs.Cache.{Bytes}
 use Rattle.jc_model.specs.Table.{is_load_given, is_write_given}
-use Rattle.jc_stripe.specs.Tickets.{asks_loader, asks_writer}
 use Rattle.jc_world.specs.declared.event.Part.{Part}
+use Rattle.jc_world.specs.declared.event.Progress.{Progress}
+use Rattle.jc_world.specs.declared.event.Progress.TheVariants.{Loading, Writing}
 use Rattle.jc_world.specs.declared.event.WorldEvent.TheVariants as event
-use Rattle.jc_world.specs.World.{WorldState, of_call, part_of, is_answered, is_untouched}
+use Rattle.jc_world.specs.World.{WorldState, of_call, part_of, is_over, is_answered, nothing_done, is_untouched}
 use Rattle.jc_world.specs.Events.{fits}
 
 pub is_part : (o : Option Part) (call : ℕ) (part : Part) → of_call call o ≡ Some part → o ≡ Some part
@@ -23,17 +24,18 @@ of_key test o call none h = go (of_call call o) refl h
     go (Some part) e h = let there = is_part o call part e in (part, e, there, ap test there ∙ h)
 
 -- what is untouched isn't answered
-pub untouched_open : (part : Part) → is_untouched (Some part) ≡ true → is_answered (Some part) ≡ false
-untouched_open part h = go (asks_loader part.reservation.first) (is_load_given part.load) (asks_writer part.reservation.first) (is_write_given part.report) part.is_changed h
+untouched_open : (p : Progress) → nothing_done p ≡ true → is_over p ≡ false
+untouched_open (Loading answer) h = not_given (is_load_given answer) h
   where
-    go : (a loaded b reported changed : Bool) → (not loaded && not changed && not reported) ≡ true → ((a && loaded) || (b && reported)) ≡ false
-    go a true b reported changed h = cc
-    go a false b true true h = cc
-    go a false b true false h = cc
-    go true false true false changed h = refl
-    go true false false false changed h = refl
-    go false false true false changed h = refl
-    go false false false false changed h = refl
+    not_given : (b : Bool) → not b ≡ true → b ≡ false
+    not_given true h = cc
+    not_given false h = refl
+untouched_open (Writing is_changed report) h = not_given is_changed (is_write_given report) h
+  where
+    not_given : (c b : Bool) → (not c && not b) ≡ true → b ≡ false
+    not_given true b h = cc
+    not_given false true h = cc
+    not_given false false h = refl
 
 -- a call whose commit fits has its key, and so what is held of that is its part
 pub fits_commit : (v w : WorldState) (call : ℕ) (key : Bytes) → v ≡ w → fits w (event.Commit call key) ≡ true → (part : Part) × (part_of v call key ≡ Some part) × (get v.parts key ≡ Some part) × (is_answered (get v.parts key) ≡ true)
@@ -55,4 +57,4 @@ fits_withdrawal v w call key same fit =
 pub may_withdraw : (v w : WorldState) (call : ℕ) (key : Bytes) (part : Part) → v ≡ w → fits w (event.Withdraw call key) ≡ true → get v.parts key ≡ Some part → (part_of v call key ≡ Some part) × (is_answered (Some part) ≡ false)
 may_withdraw v w call key part same fit there =
     let one = fits_withdrawal v w call key same fit in
-    (one.1 ∙ sym one.2 ∙ there, untouched_open part (ap is_untouched (sym there) ∙ one.3))
+    (one.1 ∙ sym one.2 ∙ there, untouched_open part.progress (ap is_untouched (sym there) ∙ one.3))

@@ -32,7 +32,7 @@ use Rattle.jc_world.specs.declared.event.Under.{Under}
 use Rattle.jc_world.specs.declared.event.WorldEvent.{WorldEvent}
 use Rattle.jc_world.specs.declared.event.WorldEvent.TheVariants as event
 use Rattle.jc_world.specs.World.{WorldState, Parts, home, stripe_for, start, has_number, under, over, of_call, part_of, is_join, join_of, is_joined, unjoined}
-use Rattle.jc_world.specs.Events.{may_leave, fits, with_stripe, goes_on, call_over, new_part, without_part, with_join, Starts, Ends, Picks, Happens}
+use Rattle.jc_world.specs.Events.{may_leave, fits, with_stripe, goes_on, call_over, load_asked, write_asked, new_part, without_part, with_join, Starts, Ends, Picks, Happens}
 use Rattle.jc_world.specs.Sound.{IsHeld, IsWaitedFor, AllWaitedFor, IsCalled, AllCalled, IsSoundWorld}
 use Rattle.jc_world.proofs.Halves.{HasJoins}
 use Rattle.jc_world.proofs.Places.{at_stripe, stripe_put}
@@ -245,12 +245,12 @@ joins_started w new u from to (shown.Stepped seen) there h may old =
     (λ number session q t k. still_under w u.caller.call u may.here may.alone number session q t k) (λ number q t k. k) old)
 joins_started w new u from to shown.Loads there h may old =
     let same : to.joiners ≡ from.joiners = ap (λ (s : State). s.joiners) h.1.4 in
-    let part = new_part h.0.reservation in
+    let part = new_part load_asked h.0.reservation in
     subst HasJoins (sym h.2)
     (joins_phase w u.command.key from to w.order w.calls (insert w.parts u.command.key part) there (same_joiners from to same) (same_called (home w u.command.key) from to same) (λ number session q t k. k) (none_reserved w u part (ap (λ (t : Ticket). t.reservation.caller.call) h.1.3) may.alone) old)
 joins_started w new u from to (shown.Asks change) there h may old =
     let same : to.joiners ≡ from.joiners = ap (λ (s : State). s.joiners) h.1.4 in
-    let part = new_part h.0.reservation in
+    let part = new_part write_asked h.0.reservation in
     subst HasJoins (sym h.3)
     (joins_phase w u.command.key from to w.order w.calls (insert w.parts u.command.key part) there (same_joiners from to same) (same_called (home w u.command.key) from to same) (λ number session q t k. k) (none_reserved w u part (ap (λ (t : Ticket). t.reservation.caller.call) h.1.3) may.alone) old)
 joins_started w new u from to shown.Joins there h may old = subst HasJoins (sym h.2) (joins_joined w u from to h.0 there h.1.2 h.1.3 may old)

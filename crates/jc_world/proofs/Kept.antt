@@ -1,6 +1,5 @@
 -- Each event keeps what the parts and the store of a world say.
-use Rattle.std.proofs.Common.{◌≡◌, ◌==◌, ◌&&◌, ◌||◌, ◌+◌, ℕ, zero, suc, List, [], ◌∷◌, ◌++◌, Bool, true, false, cond, not, Option, None, Some, IsSomeAnd, Ok, find, refl, sym, ap, ◌∙◌, subst, is_none, slice_get, slice_set}
-use Rattle.std.specs.List.{list_any}
+use Rattle.std.proofs.Common.{◌≡◌, ◌==◌, ◌&&◌, ◌+◌, ℕ, zero, suc, List, [], ◌∷◌, ◌++◌, Bool, true, false, cond, not, Option, None, Some, IsSomeAnd, Ok, find, refl, sym, ap, ◌∙◌, subst, is_none, slice_get, slice_set}
 use Rattle.std.specs.Ordering.{eq_by_cmp}
 use Rattle.std.specs.Cmp.Lexicographic.{texts_ties, pointwise}
 use Rattle.std.proofs.lemmas.Cmp.{nat_list_cmp_total}
@@ -20,7 +19,7 @@ use Rattle.jc_model.specs.declared.event.WriteAnswer.{WriteAnswer}
 use Rattle.jc_model.specs.declared.event.WriteAnswer.TheVariants as write
 use Rattle.jc_model.specs.declared.event.ProcessAnswer.TheVariants as process
 use Rattle.jc_model.specs.Cache.{Bytes, Cache, key_cmp, entry_at, with_entry}
-use Rattle.jc_model.specs.Table.{entry_after, write_ask, holds, is_load_given, is_write_given}
+use Rattle.jc_model.specs.Table.{entry_after, write_ask, holds, is_write_given}
 use Rattle.jc_model.specs.Group.{nothing_said, write_only}
 use Rattle.jc_model.specs.Processor.{found_in}
 use Rattle.jc_model.proofs.CallerLemmas.{same_key, get-with_entry}
@@ -29,25 +28,26 @@ use Rattle.jc_stripe.specs.declared.ticket.Reservation.{Reservation}
 use Rattle.jc_stripe.specs.Tickets.{Ticket, JoinClaim, asks_loader, asks_writer}
 use Rattle.jc_stripe.specs.State.{State, without_key, is_reserved, is_key, new_reservation, IsOut}
 use Rattle.jc_stripe.specs.Phases.{Begins, Commits, Withdraws, Steps, after_commit}
-use Rattle.jc_stripe.specs.Refusals.{reserves}
+use Rattle.jc_stripe.specs.Refusals.{reserves, first_asked}
 use Rattle.jc_stripe.specs.declared.begun.StepDone.{StepDone}
-use Rattle.jc_stripe.specs.Reached.{IsReached}
-use Rattle.jc_stripe.specs.Laws.{KeepsReserved}
+use Rattle.jc_stripe.specs.Reached.{AllAsk}
 use Rattle.jc_stripe.specs.declared.begun.Begun.TheVariants as begun
 use Rattle.jc_stripe.specs.declared.ticket.First.{First}
 use Rattle.jc_stripe.specs.declared.ticket.First.TheVariants.{Nobody, Loader, Writer, Processor}
 use Rattle.jc_world.specs.declared.event.Command.{Command}
 use Rattle.jc_world.specs.declared.event.Under.{Under}
 use Rattle.jc_world.specs.declared.event.Part.{Part}
+use Rattle.jc_world.specs.declared.event.Progress.{Progress}
+use Rattle.jc_world.specs.declared.event.Progress.TheVariants.{Loading, Writing}
 use Rattle.jc_world.specs.declared.event.Premises.{Premises}
 use Rattle.jc_world.specs.declared.event.Shown.{Shown}
 use Rattle.jc_world.specs.declared.event.Shown.TheVariants as shown
 use Rattle.jc_world.specs.declared.event.WorldEvent.TheVariants as event
-use Rattle.jc_world.specs.World.{WorldState, Parts, home, stripe_for, cached, entry_in, empty_stripes, start, under, over, of_call, part_of, waits_for_load, waits_for_report, is_answered, is_untouched, join_of, is_joined, unjoined, out_of, has_number, with_stored}
+use Rattle.jc_world.specs.World.{WorldState, Parts, home, stripe_for, cached, entry_in, empty_stripes, start, under, over, of_call, part_of, load_due, waits_for_load, report_due, waits_for_report, is_over, is_answered, nothing_done, is_untouched, has_changed, out_in, join_of, is_joined, unjoined, out_of, has_number, with_stored}
 use Rattle.jc_world.specs.Premises.{changed_to, is_true_load, is_done, is_true_report, disturbed, premises_hold}
-use Rattle.jc_world.specs.Events.{fits, is_free, may_start, may_leave, answered, changed, reported, new_part, with_stripe, goes_on, call_over, with_part, without_part, step_of, Starts, Ends, Picks}
+use Rattle.jc_world.specs.Events.{fits, is_free, may_start, may_leave, answered, changed, reported, load_asked, write_asked, new_part, with_change, with_report, with_stripe, goes_on, call_over, with_part, without_part, step_of, Starts, Ends, Picks}
 use Rattle.jc_world.specs.Coherent.{Coherent, is_changed, all_hold}
-use Rattle.jc_world.specs.Sound.{KindFits, IsHeld, Agrees, IsTold, KeyTold, WrittenFor, IsSoundWorld}
+use Rattle.jc_world.specs.Sound.{is_asked, IsHeld, Agrees, LoadTold, IsTold, KeyTold, WrittenFor, IsSoundWorld}
 use Rattle.jc_world.proofs.Halves.{HasParts}
 use Rattle.jc_world.proofs.Places.{at_stripe, stripe_put, home_stripe, found_number, under_left, under_more}
 use Rattle.jc_world.proofs.Reservations.{found_more, out_reserved, was_free, writer_alone, new_out, found_left}
@@ -168,7 +168,11 @@ not_true false h k = cc
 -- what a key's part, its entry and the store say, where the entry goes
 told_on : (o : Option Part) (stored entry next : Option Bytes) → (Agrees entry stored → Agrees next stored) → KeyTold o stored entry → KeyTold o stored next
 told_on None stored entry next f h = f h
-told_on (Some part) stored entry next f h = record { loaded = h.loaded; written = h.written; unwritten = λ e. f (h.unwritten e); honest = h.honest }
+told_on (Some part) stored entry next f h = go part.progress h
+  where
+    go : (p : Progress) → IsTold p part.reservation.first stored entry → IsTold p part.reservation.first stored next
+    go (Loading answer) h = record { loaded = h.loaded; unwritten = f h.unwritten }
+    go (Writing is_changed report) h = record { written = h.written; unwritten = λ e. f (h.unwritten e); honest = h.honest }
 
 -- nothing cached and no part say nothing
 told_none : (o : Option Part) (stored entry : Option Bytes) → o ≡ None → entry ≡ None → KeyTold o stored entry
@@ -177,8 +181,13 @@ told_none None stored (Some x) h k = cc
 told_none (Some part) stored entry h k = cc
 
 -- what is known of a key with this part
-told_at : (o : Option Part) (part : Part) (stored entry : Option Bytes) → o ≡ Some part → KeyTold o stored entry → IsTold part stored entry
+told_at : (o : Option Part) (part : Part) (stored entry : Option Bytes) → o ≡ Some part → KeyTold o stored entry → IsTold part.progress part.reservation.first stored entry
 told_at o part stored entry e h = let P : Option Part → Type 0 = λ o. KeyTold o stored entry in subst P e h
+
+-- as long as the writer hasn't changed the store, the entry agrees with it
+unwritten_in : (p : Progress) (first : First) (stored entry : Option Bytes) → has_changed p ≡ false → IsTold p first stored entry → Agrees entry stored
+unwritten_in (Loading answer) first stored entry e h = h.unwritten
+unwritten_in (Writing is_changed report) first stored entry e h = h.unwritten e
 
 -- 2. What is known of a sound world.
 
@@ -229,12 +238,12 @@ held_insert w parts key new all one q part e =
     (sym (get-insert nat_list_cmp_total parts key new q) ∙ e)
 
 -- what is known of a further part, and of all the others
-told_insert : (w : WorldState) (parts : Parts) (store : Cache) (key : Bytes) (new : Part) → AllTold w parts store → IsTold new (entry_at store key) (cached w key) → AllTold w (insert parts key new) store
+told_insert : (w : WorldState) (parts : Parts) (store : Cache) (key : Bytes) (new : Part) → AllTold w parts store → IsTold new.progress new.reservation.first (entry_at store key) (cached w key) → AllTold w (insert parts key new) store
 told_insert w parts store key new all one q =
     let P : Option Part → Type 0 = λ o. KeyTold o (entry_at store q) (cached w q) in
     subst P (sym (get-insert nat_list_cmp_total parts key new q))
     (split q key (λ b. KeyTold (cond b (Some new) (get parts q)) (entry_at store q) (cached w q))
-    (λ same. let Q : Bytes → Type 0 = λ k. IsTold new (entry_at store k) (cached w k) in subst Q (sym same) one)
+    (λ same. let Q : Bytes → Type 0 = λ k. IsTold new.progress new.reservation.first (entry_at store k) (cached w k) in subst Q (sym same) one)
     (λ apart. all q))
 
 -- 4. Answers, changes and reports.
@@ -246,51 +255,55 @@ aside w store fresh parts premises = record w { store = store; fresh = fresh; pa
 -- all parts stay held
 held_aside : (w : WorldState) (store : Cache) (fresh : Bool) (parts : Parts) (premises : Premises) → IsSoundWorld w → AllHeld (aside w store fresh parts premises) w.parts
 held_aside w store fresh parts premises old q p e =
-    some_map (stripe_for w q) (λ s. IsHeld w s q p) (λ s. IsHeld (aside w store fresh parts premises) s q p) (λ s h. record { key_is = h.key_is; out = h.out; kind = h.kind; call = h.call }) (old.held q p e)
+    some_map (stripe_for w q) (λ s. IsHeld w s q p) (λ s. IsHeld (aside w store fresh parts premises) s q p) (λ s h. record { key_is = h.key_is; out = h.out; asked = h.asked; call = h.call }) (old.held q p e)
 
--- an answer of the loader changes nothing of what was asked
-kind_said : (first : First) (part : Part) (entry : Option Bytes) (answer : LoadAnswer) → asks_loader first ≡ true → KindFits first part entry → KindFits first (record part { load = answer }) entry
-kind_said Loader part entry answer h kind = kind
-kind_said (Writer change) part entry answer h kind = cc
-kind_said Nobody part entry answer h kind = cc
-kind_said Processor part entry answer h kind = cc
+-- an answer that was due is of whom was asked, and so is a report
+load_asked_of : (p : Progress) (first : First) (answer : LoadAnswer) → load_due p ≡ true → is_asked p first ≡ true → is_asked (Loading answer) first ≡ true
+load_asked_of (Loading was) first answer due h = h
+load_asked_of (Writing is_changed report) first answer due h = cc
 
--- nor does a report of the writer
-kind_reported : (first : First) (part : Part) (entry : Option Bytes) (report : WriteAnswer) → asks_writer first ≡ true → KindFits first part entry → KindFits first (record part { report = report }) entry
-kind_reported Loader part entry report h kind = cc
-kind_reported (Writer change) part entry report h kind = kind
-kind_reported Nobody part entry report h kind = cc
-kind_reported Processor part entry report h kind = cc
+change_asked_of : (p : Progress) (first : First) → is_asked p first ≡ true → is_asked (with_change p) first ≡ true
+change_asked_of (Loading answer) first h = h
+change_asked_of (Writing is_changed report) first h = h
 
--- nor does its change of the store
-kind_changed : (first : First) (part : Part) (entry : Option Bytes) → asks_writer first ≡ true → KindFits first part entry → KindFits first (record part { is_changed = true }) entry
-kind_changed Loader part entry h kind = cc
-kind_changed (Writer change) part entry h kind = kind
-kind_changed Nobody part entry h kind = cc
-kind_changed Processor part entry h kind = cc
+report_asked_of : (p : Progress) (first : First) (report : WriteAnswer) → is_asked p first ≡ true → is_asked (with_report p report) first ≡ true
+report_asked_of (Loading answer) first report h = h
+report_asked_of (Writing is_changed was) first report h = h
 
--- what the writer was asked was not asked of the loader
-unloaded : (first : First) (part : Part) (entry : Option Bytes) → asks_writer first ≡ true → KindFits first part entry → part.load ≡ load.NotAsked
-unloaded Loader part entry h kind = cc
-unloaded (Writer change) part entry h kind = kind.1
-unloaded Nobody part entry h kind = cc
-unloaded Processor part entry h kind = cc
+-- what is known once the loader has answered
+told_load : (p : Progress) (first : First) (answer : LoadAnswer) (stored entry : Option Bytes) → load_due p ≡ true → Agrees (found_in answer) stored → IsTold p first stored entry → LoadTold answer stored entry
+told_load (Loading was) first answer stored entry due found h = record { loaded = found; unwritten = h.unwritten }
+told_load (Writing is_changed report) first answer stored entry due found h = cc
+
+-- once the writer has changed the store
+told_change : (p : Progress) (first : First) (change : Change) (entry : Option Bytes) → report_due p ≡ true → first ≡ Writer change → IsTold (with_change p) first (changed_to change) entry
+told_change (Loading answer) first change entry due asks = cc
+told_change (Writing is_changed report) first change entry due asks = record {
+  written = λ e. let W : First → Type 0 = λ f. WrittenFor f (changed_to change) in subst W (sym asks) refl;
+  unwritten = λ e. absurd (let t : true ≡ false = e in cc);
+  honest = λ e. absurd (not_true _ due e);
+}
+
+-- and once it has returned
+told_report : (p : Progress) (first : First) (report : WriteAnswer) (stored entry : Option Bytes) → report_due p ≡ true → is_true_report report (has_changed p) ≡ true → IsTold p first stored entry → IsTold (with_report p report) first stored entry
+told_report (Loading answer) first report stored entry due honest h = cc
+told_report (Writing is_changed was) first report stored entry due honest h = record { written = h.written; unwritten = h.unwritten; honest = λ e. same_test is_changed (is_done report) honest }
 
 -- the loader has answered
 pub parts_answered : (w : WorldState) (call : ℕ) (key : Bytes) (part : Part) (answer : LoadAnswer) → part_of w call key ≡ Some part → waits_for_load (part_of w call key) ≡ true → IsSoundWorld w → HasParts (answered w key part answer)
 parts_answered w call key part answer is waits old =
     let n = answered w key part answer in
-    let new : Part = record part { load = answer } in
+    let new : Part = record part { progress = Loading answer } in
     let there = is_there (get w.parts key) call part is in
-    let asked = and_parts (asks_loader part.reservation.first) (not (is_load_given part.load)) (sym (ap waits_for_load is) ∙ waits) in
+    let due : load_due part.progress ≡ true = sym (ap waits_for_load is) ∙ waits in
     record {
       held = held_insert n w.parts key new (held_aside w w.store w.fresh n.parts n.premises old)
-          (some_map (stripe_for w key) (λ s. IsHeld w s key part) (λ s. IsHeld n s key new) (λ s h. record { key_is = h.key_is; out = h.out; kind = kind_said part.reservation.first part (entry_at s.cache key) answer asked.0 h.kind; call = h.call }) (old.held key part there));
+          (some_map (stripe_for w key) (λ s. IsHeld w s key part) (λ s. IsHeld n s key new) (λ s h. record { key_is = h.key_is; out = h.out; asked = load_asked_of part.progress part.reservation.first answer due h.asked; call = h.call }) (old.held key part there));
       told = λ h.
           let hold = hold_loader w.config.write_through w.premises.writers w.premises.loaders (is_true_load answer (entry_at w.store key)) w.premises.quiet h in
           let all = old.told hold.0 in
           let one = told_at (get w.parts key) part (entry_at w.store key) (cached w key) there (all key) in
-          told_insert n w.parts w.store key new all (record { loaded = true_found answer _ hold.1; written = one.written; unwritten = one.unwritten; honest = one.honest });
+          told_insert n w.parts w.store key new all (told_load part.progress part.reservation.first answer (entry_at w.store key) (cached w key) due (true_found answer _ hold.1) one);
       fresh = λ f. absurd (worn w key part there old f);
       idle = λ f. (old.idle f).0;
     }
@@ -299,26 +312,19 @@ parts_answered w call key part answer is waits old =
 pub parts_changed : (w : WorldState) (call : ℕ) (key : Bytes) (part : Part) (change : Change) → part_of w call key ≡ Some part → part.reservation.first ≡ Writer change → waits_for_report (part_of w call key) ≡ true → IsSoundWorld w → HasParts (changed w key part change)
 parts_changed w call key part change is asks waits old =
     let n = changed w key part change in
-    let new : Part = record part { is_changed = true } in
+    let new : Part = record part { progress = with_change part.progress } in
     let there = is_there (get w.parts key) call part is in
-    let asked = and_parts (asks_writer part.reservation.first) (not (is_write_given part.report)) (sym (ap waits_for_report is) ∙ waits) in
-    let at = stripe_at w key old in
-    let held = held_at w key part at.0 there at.1 old in
+    let due : report_due part.progress ≡ true = sym (ap waits_for_report is) ∙ waits in
     record {
       held = held_insert n w.parts key new (held_aside w n.store w.fresh n.parts n.premises old)
-          (some_map (stripe_for w key) (λ s. IsHeld w s key part) (λ s. IsHeld n s key new) (λ s h. record { key_is = h.key_is; out = h.out; kind = kind_changed part.reservation.first part (entry_at s.cache key) asked.0 h.kind; call = h.call }) (old.held key part there));
+          (some_map (stripe_for w key) (λ s. IsHeld w s key part) (λ s. IsHeld n s key new) (λ s h. record { key_is = h.key_is; out = h.out; asked = change_asked_of part.progress part.reservation.first h.asked; call = h.call }) (old.held key part there));
       told = λ h q.
           let P : Option Part → Type 0 = λ o. KeyTold o (entry_at n.store q) (cached w q) in
           let Q : Option Bytes → Type 0 = λ s. KeyTold (cond (eq_by_cmp key_cmp q key) (Some new) (get w.parts q)) s (cached w q) in
           subst P (sym (get-insert nat_list_cmp_total w.parts key new q))
           (subst Q (sym (get-with_entry w.store key (changed_to change) q))
           (split q key (λ b. KeyTold (cond b (Some new) (get w.parts q)) (cond b (changed_to change) (entry_at w.store q)) (cached w q))
-          (λ same. record {
-            loaded = let L : LoadAnswer → Type 0 = λ a. Agrees (found_in a) (changed_to change) in subst L (sym (unloaded part.reservation.first part (entry_at at.0.cache key) asked.0 held.kind)) tt;
-            written = λ e. let W : First → Type 0 = λ f. WrittenFor f (changed_to change) in subst W (sym asks) refl;
-            unwritten = λ e. absurd (let t : true ≡ false = e in cc);
-            honest = λ e. absurd (not_true _ asked.1 e);
-          })
+          (λ same. told_change part.progress part.reservation.first change (cached w q) due asks)
           (λ apart. old.told h q)));
       fresh = λ f. absurd (worn w key part there old f);
       idle = λ f. (old.idle f).0;
@@ -328,17 +334,17 @@ parts_changed w call key part change is asks waits old =
 pub parts_reported : (w : WorldState) (call : ℕ) (key : Bytes) (part : Part) (report : WriteAnswer) → part_of w call key ≡ Some part → waits_for_report (part_of w call key) ≡ true → IsSoundWorld w → HasParts (reported w key part report)
 parts_reported w call key part report is waits old =
     let n = reported w key part report in
-    let new : Part = record part { report = report } in
+    let new : Part = record part { progress = with_report part.progress report } in
     let there = is_there (get w.parts key) call part is in
-    let asked = and_parts (asks_writer part.reservation.first) (not (is_write_given part.report)) (sym (ap waits_for_report is) ∙ waits) in
+    let due : report_due part.progress ≡ true = sym (ap waits_for_report is) ∙ waits in
     record {
       held = held_insert n w.parts key new (held_aside w w.store w.fresh n.parts n.premises old)
-          (some_map (stripe_for w key) (λ s. IsHeld w s key part) (λ s. IsHeld n s key new) (λ s h. record { key_is = h.key_is; out = h.out; kind = kind_reported part.reservation.first part (entry_at s.cache key) report asked.0 h.kind; call = h.call }) (old.held key part there));
+          (some_map (stripe_for w key) (λ s. IsHeld w s key part) (λ s. IsHeld n s key new) (λ s h. record { key_is = h.key_is; out = h.out; asked = report_asked_of part.progress part.reservation.first report h.asked; call = h.call }) (old.held key part there));
       told = λ h.
-          let hold = hold_writer w.config.write_through w.premises.writers (is_true_report report part) w.premises.loaders w.premises.quiet h in
+          let hold = hold_writer w.config.write_through w.premises.writers (is_true_report report (has_changed part.progress)) w.premises.loaders w.premises.quiet h in
           let all = old.told hold.0 in
           let one = told_at (get w.parts key) part (entry_at w.store key) (cached w key) there (all key) in
-          told_insert n w.parts w.store key new all (record { loaded = one.loaded; written = one.written; unwritten = one.unwritten; honest = λ e. same_test part.is_changed (is_done report) hold.1 });
+          told_insert n w.parts w.store key new all (told_report part.progress part.reservation.first report (entry_at w.store key) (cached w key) due hold.1 one);
       fresh = λ f. absurd (worn w key part there old f);
       idle = λ f. (old.idle f).0;
     }
@@ -389,7 +395,7 @@ parts_called w call session command fit old =
     let more : List Under = record { caller = record { session = session; call = call }; command = command } ∷ [] in
     let n : WorldState = record w { last = Some call; fresh = false; calls = w.calls ++ more } in
     record {
-      held = λ q p e. some_map (stripe_for w q) (λ s. IsHeld w s q p) (λ s. IsHeld n s q p) (λ s h. record { key_is = h.key_is; out = h.out; kind = h.kind; call = under_more p.reservation.caller.call (IsOn q) w.calls more h.call }) (old.held q p e);
+      held = λ q p e. some_map (stripe_for w q) (λ s. IsHeld w s q p) (λ s. IsHeld n s q p) (λ s h. record { key_is = h.key_is; out = h.out; asked = h.asked; call = under_more p.reservation.caller.call (IsOn q) w.calls more h.call }) (old.held q p e);
       told = old.told;
       fresh = λ f. absurd (let t : false ≡ true = f in cc);
       idle = λ f. absurd (let t : false ≡ true = f in cc);
@@ -451,14 +457,13 @@ over_ended w call key part is old q p e apart =
 
 -- 7. The first phase.
 
--- a part stays held, where its reservation does, its entry is kept and its call goes on
-held_on : (w n : WorldState) (from next : State) (key : Bytes) (part : Part) → entry_at next.cache key ≡ entry_at from.cache key → IsOut next part.reservation → IsSomeAnd (under n part.reservation.caller.call) (IsOn key)
-    → IsHeld w from key part → IsHeld n next key part
-held_on w n from next key part same out call h = record { key_is = h.key_is; out = out; kind = let P : Option Bytes → Type 0 = λ e. KindFits part.reservation.first part e in subst P (sym same) h.kind; call = call }
+-- a part stays held, where its reservation does and its call goes on
+held_on : (w n : WorldState) (from next : State) (key : Bytes) (part : Part) → IsOut next part.reservation → IsSomeAnd (under n part.reservation.caller.call) (IsOn key) → IsHeld w from key part → IsHeld n next key part
+held_on w n from next key part out call h = record { key_is = h.key_is; out = out; asked = h.asked; call = call }
 
 -- the same, at a stripe that is none or stays
 held_still : (w n : WorldState) (o : Option State) (key : Bytes) (part : Part) → IsSomeAnd (under n part.reservation.caller.call) (IsOn key) → HeldIn w o key part → HeldIn n o key part
-held_still w n o key part call = some_map o (λ s. IsHeld w s key part) (λ s. IsHeld n s key part) (λ s h. record { key_is = h.key_is; out = h.out; kind = h.kind; call = call })
+held_still w n o key part call = some_map o (λ s. IsHeld w s key part) (λ s. IsHeld n s key part) (λ s h. record { key_is = h.key_is; out = h.out; asked = h.asked; call = call })
 
 -- the phase was refused
 parts_refused : (w : WorldState) (call : ℕ) (u : Under) → under w call ≡ Some u → StayUnder w.parts (over u.caller.call w.calls) → IsSoundWorld w → HasParts (call_over w u.caller.call)
@@ -470,13 +475,11 @@ parts_refused w call u is stay old = record {
 }
 
 -- a step was put down
-held_stepped : KeepsReserved → (w n : WorldState) (u : Under) (from next : State) (done : StepDone) (q : Bytes) (p : Part) → IsReached from → Begins from u.caller u.command.key u.command.op (begun.Done done) next
+held_stepped : (w n : WorldState) (u : Under) (from next : State) (done : StepDone) (q : Bytes) (p : Part) → Begins from u.caller u.command.key u.command.op (begun.Done done) next
     → IsSomeAnd (under n p.reservation.caller.call) (IsOn q) → IsHeld w from q p → IsHeld n next q p
-held_stepped kept w n u from next done q p reached begins call h =
+held_stepped w n u from next done q p begins call h =
     let R : List Reservation → Type 0 = λ rs. find (is_key p.reservation.key) rs ≡ Some p.reservation in
-    held_on w n from next q p
-    (kept.begins from next u.caller u.command.key u.command.op (begun.Done done) q reached begins (is_out_reserved w from q p h))
-    (subst R (sym (ap (λ (s : State). s.reservations) begins.2.after)) h.out) call h
+    held_on w n from next q p (subst R (sym (ap (λ (s : State). s.reservations) begins.2.after)) h.out) call h
 
 -- and the entries that agreed with the store do so still
 agrees_begun : (u : Under) (from next : State) (done : StepDone) (q : Bytes) (stored : Option Bytes) → Begins from u.caller u.command.key u.command.op (begun.Done done) next
@@ -490,16 +493,16 @@ agrees_begun u from next done q stored begins on agrees =
     (λ apart. agrees))
 
 -- so the parts and the store say what they said
-parts_stepped : KeepsReserved → (w : WorldState) (call : ℕ) (u : Under) (from next : State) (order : List Event) (done : StepDone) → under w call ≡ Some u → StayUnder w.parts (over u.caller.call w.calls) → stripe_for w u.command.key ≡ Some from
+parts_stepped : (w : WorldState) (call : ℕ) (u : Under) (from next : State) (order : List Event) (done : StepDone) → under w call ≡ Some u → StayUnder w.parts (over u.caller.call w.calls) → stripe_for w u.command.key ≡ Some from
     → Begins from u.caller u.command.key u.command.op (begun.Done done) next → IsSoundWorld w
     → HasParts (record w { stripes = slice_set w.stripes (home w u.command.key) next; order = order; calls = over u.caller.call w.calls })
-parts_stepped kept w call u from next order done is stay at begins old =
+parts_stepped w call u from next order done is stay at begins old =
     let key = u.command.key in
     let n : WorldState = record w { stripes = slice_set w.stripes (home w key) next; order = order; calls = over u.caller.call w.calls } in
     record {
       held = λ q p e.
           at_stripe w.stripes (home w key) (home w q) from next (λ o x. HeldIn w o q p → HeldIn n x q p) at
-          (λ h. held_stepped kept w n u from next done q p (old.shape.each (home w key) from at).reached begins (stay q p e) h)
+          (λ h. held_stepped w n u from next done q p begins (stay q p e) h)
           (held_still w n (stripe_for w q) q p (stay q p e))
           (old.held q p e);
       told = λ hold q.
@@ -512,32 +515,23 @@ parts_stepped kept w call u from next order done is stay at begins old =
       idle = λ f. absurd (begun_before w call u is old f);
     }
 
--- a part that is new: nothing was said yet, and the entry still agrees
-told_new : (part : Part) (stored entry : Option Bytes) → part.load ≡ load.NotAsked → part.is_changed ≡ false → part.report ≡ write.NotAsked → Agrees entry stored → IsTold part stored entry
-told_new part stored entry unloaded unchanged unreported agrees = record {
-  loaded = let L : LoadAnswer → Type 0 = λ a. Agrees (found_in a) stored in subst L (sym unloaded) tt;
-  written = λ e. absurd (let t : true ≡ false = sym e ∙ unchanged in cc);
-  unwritten = λ e. agrees;
-  honest = λ e. absurd (let t : is_write_given write.NotAsked ≡ true = ap is_write_given (sym unreported) ∙ e in cc);
-}
-
 -- a key was reserved: its part is new, and the others are held on
-held_reserving : (w n : WorldState) (from next : State) (r : Reservation) (q : Bytes) (p : Part) → next.reservations ≡ from.reservations ++ r ∷ [] → next.cache ≡ from.cache
-    → IsSomeAnd (under n p.reservation.caller.call) (IsOn q) → IsHeld w from q p → IsHeld n next q p
-held_reserving w n from next r q p reservations cache call h =
+held_reserving : (w n : WorldState) (from next : State) (r : Reservation) (q : Bytes) (p : Part) → next.reservations ≡ from.reservations ++ r ∷ [] → IsSomeAnd (under n p.reservation.caller.call) (IsOn q) → IsHeld w from q p
+    → IsHeld n next q p
+held_reserving w n from next r q p reservations call h =
     let R : List Reservation → Type 0 = λ rs. find (is_key p.reservation.key) rs ≡ Some p.reservation in
-    held_on w n from next q p (ap (λ c. entry_at c q) cache) (subst R (sym reservations) (found_more (is_key p.reservation.key) from.reservations (r ∷ []) p.reservation h.out)) call h
+    held_on w n from next q p (subst R (sym reservations) (found_more (is_key p.reservation.key) from.reservations (r ∷ []) p.reservation h.out)) call h
 
 -- so there is one part more
 parts_reserving : (w : WorldState) (key : Bytes) (from next : State) (r : Reservation) (part : Part) → stripe_for w key ≡ Some from → is_reserved from key ≡ false
     → next.reservations ≡ from.reservations ++ r ∷ [] → next.cache ≡ from.cache → IsHeld (with_part (with_stripe w key next) key part) next key part
-    → part.load ≡ load.NotAsked → part.is_changed ≡ false → part.report ≡ write.NotAsked → (w.fresh ≡ true → ⊥) → IsSoundWorld w
+    → ((stored entry : Option Bytes) → Agrees entry stored → IsTold part.progress part.reservation.first stored entry) → (w.fresh ≡ true → ⊥) → IsSoundWorld w
     → HasParts (with_part (with_stripe w key next) key part)
-parts_reserving w key from next r part at free reservations cache one unloaded unchanged unreported used old =
+parts_reserving w key from next r part at free reservations cache one new used old =
     let n = with_part (with_stripe w key next) key part in
     let on : AllHeld n w.parts = λ q p e.
     at_stripe w.stripes (home w key) (home w q) from next (λ o x. HeldIn w o q p → HeldIn n x q p) at
-    (λ h. held_reserving w n from next r q p reservations cache (under_at w old q p e) h)
+    (λ h. held_reserving w n from next r q p reservations (under_at w old q p e) h)
     (held_still w n (stripe_for w q) q p (under_at w old q p e))
     (old.held q p e)
     in
@@ -551,7 +545,7 @@ parts_reserving w key from next r part at free reservations cache one unloaded u
           (old.told hold q)
           in
           let N : Option Part → Type 0 = λ o. KeyTold o (entry_at w.store key) (cached n key) in
-          told_insert n w.parts w.store key part all (told_new part (entry_at w.store key) (cached n key) unloaded unchanged unreported (subst N (unheld w key from at free old) (all key)));
+          told_insert n w.parts w.store key part all (new (entry_at w.store key) (cached n key) (subst N (unheld w key from at free old) (all key)));
       fresh = λ f. absurd (used f);
       idle = λ f. absurd (used f);
     }
@@ -561,11 +555,11 @@ own_call : (w : WorldState) (call : ℕ) (u : Under) → under w call ≡ Some u
 own_call w call u is = some_at (under w u.caller.call) (IsOn u.command.key) u (ap (under w) (found_number call w.calls u is) ∙ is) refl
 
 -- a reservation is made of a key that was free: its part has it
-held_new : (n : WorldState) (key : Bytes) (from next : State) (r : Reservation) → is_reserved from key ≡ false → r.key ≡ key → next.reservations ≡ from.reservations ++ r ∷ []
-    → KindFits r.first (new_part r) (entry_at next.cache key) → IsSomeAnd (under n r.caller.call) (IsOn key) → IsHeld n next key (new_part r)
-held_new n key from next r free key_is reservations kind call =
+held_new : (n : WorldState) (key : Bytes) (from next : State) (p : Progress) (r : Reservation) → is_reserved from key ≡ false → r.key ≡ key → next.reservations ≡ from.reservations ++ r ∷ []
+    → is_asked p r.first ≡ true → IsSomeAnd (under n r.caller.call) (IsOn key) → IsHeld n next key (new_part p r)
+held_new n key from next p r free key_is reservations asked call =
     let P : List Reservation → Type 0 = λ rs. find (is_key r.key) rs ≡ Some r in
-    record { key_is = key_is; out = subst P (sym reservations) (new_out from r (ap (is_reserved from) key_is ∙ free)); kind = kind; call = call }
+    record { key_is = key_is; out = subst P (sym reservations) (new_out from r (ap (is_reserved from) key_is ∙ free)); asked = asked; call = call }
 
 -- the same, under the caller of its reservation
 its_call : (w : WorldState) (call : ℕ) (u : Under) (r : Reservation) → under w call ≡ Some u → r.caller ≡ u.caller → IsSomeAnd (under w r.caller.call) (IsOn u.command.key)
@@ -573,41 +567,35 @@ its_call w call u r is caller_is = let C : Caller → Type 0 = λ c. IsSomeAnd (
 
 -- the key is reserved, and the loader is asked
 parts_loads : (w : WorldState) (call : ℕ) (u : Under) (from next : State) (ticket : Ticket) → under w call ≡ Some u → stripe_for w u.command.key ≡ Some from
-    → Begins from u.caller u.command.key u.command.op (begun.Load ticket) next → IsSoundWorld w → HasParts (with_part (with_stripe w u.command.key next) u.command.key (new_part ticket.reservation))
+    → Begins from u.caller u.command.key u.command.op (begun.Load ticket) next → IsSoundWorld w → HasParts (with_part (with_stripe w u.command.key next) u.command.key (new_part load_asked ticket.reservation))
 parts_loads w call u from next ticket is at begins old =
     let key = u.command.key in
     let op = u.command.op in
     let r = ticket.reservation in
-    let part = new_part r in
+    let part = new_part load_asked r in
     let n = with_part (with_stripe w key next) key part in
     let r_is : r ≡ new_reservation from u.caller key op Loader = ap (λ (t : Ticket). t.reservation) begins.3 in
     let free = was_free from u.caller key op Loader begins.0 begins.1 begins.2 refl in
     let reservations = ap (λ (s : State). s.reservations) begins.4 in
-    let K : Reservation → Type 0 = λ x. KindFits x.first (new_part x) (entry_at next.cache key) in
     parts_reserving w key from next r part at free reservations (ap (λ (s : State). s.cache) begins.4)
-    (held_new n key from next r free (ap (λ (x : Reservation). x.key) r_is) reservations (subst K (sym r_is) (loads_asked from.config op (entry_at from.cache key) begins.2, refl, refl))
-    (its_call w call u r is (ap (λ (x : Reservation). x.caller) r_is)))
-    refl refl refl (begun_before w call u is old) old
+    (held_new n key from next load_asked r free (ap (λ (x : Reservation). x.key) r_is) reservations (ap (λ (x : Reservation). asks_loader x.first) r_is) (its_call w call u r is (ap (λ (x : Reservation). x.caller) r_is)))
+    (λ stored entry agrees. record { loaded = tt; unwritten = agrees }) (begun_before w call u is old) old
 
 -- the key is reserved, and the writer is asked
 parts_asks : (w : WorldState) (call : ℕ) (u : Under) (from next : State) (ticket : Ticket) (change : Change) → under w call ≡ Some u → stripe_for w u.command.key ≡ Some from
-    → Begins from u.caller u.command.key u.command.op (begun.Write ticket) next → ticket.reservation.first ≡ Writer change → IsSoundWorld w → HasParts (with_part (with_stripe w u.command.key next) u.command.key (new_part ticket.reservation))
+    → Begins from u.caller u.command.key u.command.op (begun.Write ticket) next → ticket.reservation.first ≡ Writer change → IsSoundWorld w → HasParts (with_part (with_stripe w u.command.key next) u.command.key (new_part write_asked ticket.reservation))
 parts_asks w call u from next ticket change is at begins first old =
     let key = u.command.key in
     let op = u.command.op in
     let r = ticket.reservation in
-    let part = new_part r in
+    let part = new_part write_asked r in
     let n = with_part (with_stripe w key next) key part in
     let r_is : r ≡ new_reservation from u.caller key op r.first = ap (λ (t : Ticket). t.reservation) begins.3 in
     let free = was_free from u.caller key op r.first begins.0 (writer_alone from key op r.first begins.1 begins.2) begins.1 (ap reserves first) in
     let reservations = ap (λ (s : State). s.reservations) begins.4 in
-    let cache = ap (λ (s : State). s.cache) begins.4 in
-    let K : First → Type 0 = λ f. KindFits f part (entry_at next.cache key) in
-    parts_reserving w key from next r part at free reservations cache
-    (held_new n key from next r free (ap (λ (x : Reservation). x.key) r_is) reservations
-    (subst K (sym first) ((λ i. write_ask (r_is i).op (entry_at (cache i) key) process.NotAsked) ∙ writes_asked from.config op (entry_at from.cache key) change (begins.1 ∙ first), refl))
-    (its_call w call u r is (ap (λ (x : Reservation). x.caller) r_is)))
-    refl refl refl (begun_before w call u is old) old
+    parts_reserving w key from next r part at free reservations (ap (λ (s : State). s.cache) begins.4)
+    (held_new n key from next write_asked r free (ap (λ (x : Reservation). x.key) r_is) reservations (ap asks_writer first) (its_call w call u r is (ap (λ (x : Reservation). x.caller) r_is)))
+    (λ stored entry agrees. record { written = λ e. absurd (let t : false ≡ true = e in cc); unwritten = λ e. agrees; honest = λ e. absurd (let t : false ≡ true = e in cc) }) (begun_before w call u is old) old
 
 -- a stripe is another, whose entries and reservations are the same
 parts_aside : (w : WorldState) (key : Bytes) (from next : State) (calls : List Under) (joins : List JoinClaim) → stripe_for w key ≡ Some from → next.cache ≡ from.cache → next.reservations ≡ from.reservations → StayUnder w.parts calls → (w.fresh ≡ true → ⊥) → IsSoundWorld w
@@ -617,7 +605,7 @@ parts_aside w key from next calls joins at cache reservations stay used old =
     record {
       held = λ q p e.
           at_stripe w.stripes (home w key) (home w q) from next (λ o x. HeldIn w o q p → HeldIn n x q p) at
-          (λ h. let R : List Reservation → Type 0 = λ rs. find (is_key p.reservation.key) rs ≡ Some p.reservation in held_on w n from next q p (ap (λ c. entry_at c q) cache) (subst R (sym reservations) h.out) (stay q p e) h)
+          (λ h. let R : List Reservation → Type 0 = λ rs. find (is_key p.reservation.key) rs ≡ Some p.reservation in held_on w n from next q p (subst R (sym reservations) h.out) (stay q p e) h)
           (held_still w n (stripe_for w q) q p (stay q p e))
           (old.held q p e);
       told = λ hold q.
@@ -630,17 +618,17 @@ parts_aside w key from next calls joins at cache reservations stay used old =
     }
 
 -- the first phase of a call
-pub parts_started : KeepsReserved → (w new : WorldState) (call : ℕ) (key : Bytes) (u : Under) (from to : State) (seen : Shown) → fits w (event.Start call key) ≡ true → under w call ≡ Some u → stripe_for w u.command.key ≡ Some from
+pub parts_started : (w new : WorldState) (call : ℕ) (key : Bytes) (u : Under) (from to : State) (seen : Shown) → fits w (event.Start call key) ≡ true → under w call ≡ Some u → stripe_for w u.command.key ≡ Some from
     → Starts w u from to seen new → IsSoundWorld w → HasParts new
-parts_started kept w new call key u from to (shown.Refused refusal) fit is at (begins, leaves) old = subst HasParts (sym leaves) (parts_refused w call u is (over_started w call key u fit is old) old)
-parts_started kept w new call key u from to (shown.Stepped seen) fit is at (begins, shows, leaves) old =
-    subst HasParts (sym leaves) (parts_stepped kept w call u from to (goes_on w u.command.key from to).order (step_of seen) is (over_started w call key u fit is old) at begins old)
-parts_started kept w new call key u from to shown.Loads fit is at (ticket, begins, leaves) old = subst HasParts (sym leaves) (parts_loads w call u from to ticket is at begins old)
-parts_started kept w new call key u from to (shown.Asks change) fit is at (ticket, begins, first, leaves) old = subst HasParts (sym leaves) (parts_asks w call u from to ticket change is at begins first old)
-parts_started kept w new call key u from to shown.Joins fit is at (join, begins, leaves) old =
+parts_started w new call key u from to (shown.Refused refusal) fit is at (begins, leaves) old = subst HasParts (sym leaves) (parts_refused w call u is (over_started w call key u fit is old) old)
+parts_started w new call key u from to (shown.Stepped seen) fit is at (begins, shows, leaves) old =
+    subst HasParts (sym leaves) (parts_stepped w call u from to (goes_on w u.command.key from to).order (step_of seen) is (over_started w call key u fit is old) at begins old)
+parts_started w new call key u from to shown.Loads fit is at (ticket, begins, leaves) old = subst HasParts (sym leaves) (parts_loads w call u from to ticket is at begins old)
+parts_started w new call key u from to (shown.Asks change) fit is at (ticket, begins, first, leaves) old = subst HasParts (sym leaves) (parts_asks w call u from to ticket change is at begins first old)
+parts_started w new call key u from to shown.Joins fit is at (join, begins, leaves) old =
     subst HasParts (sym leaves)
     (parts_aside w u.command.key from to w.calls (w.joins ++ join ∷ []) at (ap (λ (s : State). s.cache) begins.3) (ap (λ (s : State). s.reservations) begins.3) (under_at w old) (begun_before w call u is old) old)
-parts_started kept w new call key u from to seen fit is at h old = absurd h
+parts_started w new call key u from to seen fit is at h old = absurd h
 
 -- 8. The last phase.
 
@@ -653,33 +641,38 @@ agrees_written op entry stored change write.Done was asked given written unwritt
     let P : Option Bytes → Type 0 = λ o. Agrees o stored in
     subst P (written (sym honest) ∙ sym (writes op entry change asked)) (agrees_same stored)
 
--- what a commit leaves agrees with the store
-agrees_ended : (first : First) (part : Part) (entry stored : Option Bytes) → part.reservation.first ≡ first → KindFits first part entry → ((asks_loader first && is_load_given part.load) || (asks_writer first && is_write_given part.report)) ≡ true
-    → IsTold part stored entry → Agrees (entry_after part.reservation.op entry (out_of part)) stored
-agrees_ended Nobody part entry stored is kind answered h = absurd kind
-agrees_ended Processor part entry stored is kind answered h = absurd kind
-agrees_ended Loader part entry stored is kind answered h =
-    let P : WriteAnswer → Type 0 = λ r. Agrees (entry_after part.reservation.op entry (record { load = part.load; write = r; process = process.NotAsked })) stored in
-    subst P (sym kind.2) (loads part.reservation.op entry part.load stored kind.0 (h.unwritten kind.1) h.loaded)
-agrees_ended (Writer change) part entry stored is kind answered h =
-    let P : LoadAnswer → Type 0 = λ a. Agrees (entry_after part.reservation.op entry (record { load = a; write = part.report; process = process.NotAsked })) stored in
-    let W : First → Type 0 = λ f. WrittenFor f stored in
-    subst P (sym kind.1) (agrees_written part.reservation.op entry stored change part.report part.is_changed kind.0 answered (λ e. subst W is (h.written e)) h.unwritten (h.honest answered))
+-- what a commit leaves agrees with the store: a reservation still asks what it asked
+agrees_ended : (config : Config) (p : Progress) (op : Op) (first : First) (entry stored : Option Bytes) → first_asked config op entry ≡ first → is_asked p first ≡ true → is_over p ≡ true → IsTold p first stored entry
+    → Agrees (entry_after op entry (out_in p)) stored
+agrees_ended config (Loading answer) op Loader entry stored asks asked over h = loads op entry answer stored (loads_asked config op entry asks) h.unwritten h.loaded
+agrees_ended config (Writing is_changed report) op (Writer change) entry stored asks asked over h =
+    agrees_written op entry stored change report is_changed (writes_asked config op entry change asks) over h.written h.unwritten (h.honest over)
+agrees_ended config (Loading answer) op Nobody entry stored asks asked over h = cc
+agrees_ended config (Loading answer) op (Writer change) entry stored asks asked over h = cc
+agrees_ended config (Loading answer) op Processor entry stored asks asked over h = cc
+agrees_ended config (Writing is_changed report) op Nobody entry stored asks asked over h = cc
+agrees_ended config (Writing is_changed report) op Loader entry stored asks asked over h = cc
+agrees_ended config (Writing is_changed report) op Processor entry stored asks asked over h = cc
+
+-- the reservation that is found asks what it asked
+asks_found : (config : Config) (cache : Cache) (key : Bytes) (rs : List Reservation) (r : Reservation) → find (is_key key) rs ≡ Some r → AllAsk config cache rs → first_asked config r.op (entry_at cache r.key) ≡ r.first
+asks_found config cache key [] r h all = cc
+asks_found config cache key (x ∷ xs) r h all =
+    elim (is_key key x) as (λ b. cond b (Some x) (find (is_key key) xs) ≡ Some r → first_asked config r.op (entry_at cache r.key) ≡ r.first) [
+      | true ↦ λ h. let is : x ≡ r = cc in subst (λ (y : Reservation). first_asked config y.op (entry_at cache y.key) ≡ y.first) is all.0
+      | false ↦ λ h. asks_found config cache key xs r h all.1
+    ] h
 
 -- another key's part keeps its reservation
 others_out : (w : WorldState) (from : State) (key q : Bytes) (p : Part) → eq_by_cmp key_cmp q key ≡ false → IsHeld w from q p → find (is_key p.reservation.key) (without_key key from.reservations) ≡ Some p.reservation
 others_out w from key q p apart h = found_left p.reservation.key key from.reservations (ap (λ k. eq_by_cmp key_cmp k key) h.key_is ∙ apart) ∙ h.out
 
--- a commit keeps the reservations of the other keys, and their entries
-held_ended : KeepsReserved → (w n : WorldState) (key : Bytes) (part : Part) (from next : State) (done : StepDone) (q : Bytes) (p : Part) → part.reservation.key ≡ key → IsReached from → Commits from part.reservation (out_of part) done next
-    → next.reservations ≡ without_key key from.reservations → eq_by_cmp key_cmp q key ≡ false → IsSomeAnd (under n p.reservation.caller.call) (IsOn q) → IsHeld w from q p → IsHeld n next q p
-held_ended kept w n key part from next done q p key_is reached commits left apart call h =
+-- a commit keeps the reservations of the other keys
+held_ended : (w n : WorldState) (key : Bytes) (from next : State) (q : Bytes) (p : Part) → next.reservations ≡ without_key key from.reservations → eq_by_cmp key_cmp q key ≡ false
+    → IsSomeAnd (under n p.reservation.caller.call) (IsOn q) → IsHeld w from q p → IsHeld n next q p
+held_ended w n key from next q p left apart call h =
     let R : List Reservation → Type 0 = λ rs. find (is_key p.reservation.key) rs ≡ Some p.reservation in
-    let out = others_out w from key q p apart h in
-    held_on w n from next q p
-    (kept.commits from next part.reservation (out_of part) done q reached commits
-    ((λ i. list_any (is_key (sym h.key_is i)) (without_key (key_is i) from.reservations)) ∙ out_reserved p.reservation.key p.reservation (without_key key from.reservations) out))
-    (subst R (sym left) out) call h
+    held_on w n from next q p (subst R (sym left) (others_out w from key q p apart h)) call h
 
 -- the step of a commit
 abbrev EndsBy : Bytes → Part → State → State → StepDone → Type 0
@@ -700,10 +693,10 @@ agrees_other key part from next done q stored steps apart h =
     (let P : Bool → Type 0 = λ b. Agrees (cond b (entry_after part.reservation.op (entry_at from.cache key) (out_of part)) (entry_at from.cache q)) stored in subst P (sym apart) h)
 
 -- so there is one part less
-parts_committed : KeepsReserved → (w : WorldState) (call : ℕ) (key : Bytes) (part : Part) (from next : State) (order : List Event) (done : StepDone) → part_of w call key ≡ Some part → is_answered (part_of w call key) ≡ true → stripe_for w key ≡ Some from
+parts_committed : (w : WorldState) (call : ℕ) (key : Bytes) (part : Part) (from next : State) (order : List Event) (done : StepDone) → part_of w call key ≡ Some part → is_answered (part_of w call key) ≡ true → stripe_for w key ≡ Some from
     → Commits from part.reservation (out_of part) done next → IsSoundWorld w
     → HasParts (record w { stripes = slice_set w.stripes (home w key) next; order = order; calls = over call w.calls; parts = remove w.parts key })
-parts_committed kept w call key part from next order done is answered at commits old =
+parts_committed w call key part from next order done is answered at commits old =
     let n : WorldState = record w { stripes = slice_set w.stripes (home w key) next; order = order; calls = over call w.calls; parts = remove w.parts key } in
     let there = is_there (get w.parts key) call part is in
     let one = held_at w key part from there at old in
@@ -719,7 +712,7 @@ parts_committed kept w call key part from next order done is answered at commits
           (λ apart e.
           let call_on = over_ended w call key part is old q p e apart in
           at_stripe w.stripes (home w key) (home w q) from next (λ o x. HeldIn w o q p → HeldIn n x q p) at
-          (λ h. held_ended kept w n key part from next done q p one.key_is reached commits left apart call_on h)
+          (λ h. held_ended w n key from next q p left apart call_on h)
           (held_still w n (stripe_for w q) q p call_on)
           (old.held q p e))
           (sym (get-remove nat_list_cmp_total w.parts key q) ∙ e);
@@ -731,9 +724,10 @@ parts_committed kept w call key part from next order done is answered at commits
           (λ same.
           let B : Bytes → Type 0 = λ k. Agrees (cached n k) (entry_at w.store k) in
           let S : Option State → Type 0 = λ o. Agrees (entry_in o key) (entry_at w.store key) in
-          let T : Option State → Type 0 = λ o. IsTold part (entry_at w.store key) (entry_in o key) in
+          let T : Option State → Type 0 = λ o. IsTold part.progress part.reservation.first (entry_at w.store key) (entry_in o key) in
           let told = subst T at (told_at (get w.parts key) part (entry_at w.store key) (cached w key) there (all key)) in
-          let leaves = agrees_ended part.reservation.first part (entry_at from.cache key) (entry_at w.store key) refl one.kind (sym (ap is_answered is) ∙ answered) told in
+          let asks = ap (λ k. first_asked from.config r.op (entry_at from.cache k)) (sym one.key_is) ∙ asks_found from.config from.cache r.key from.reservations r one.out reached.asks in
+          let leaves = agrees_ended from.config part.progress r.op r.first (entry_at from.cache key) (entry_at w.store key) asks one.asked (sym (ap is_answered is) ∙ answered) told in
           subst B (sym same) (subst S (sym (stripe_put w.stripes (home w key) from next at)) (agrees_own key part from next done (entry_at w.store key) steps leaves)))
           (λ apart.
           at_stripe w.stripes (home w key) (home w q) from next (λ o x. KeyTold (get w.parts q) (entry_at w.store q) (entry_in o q) → KeyTold (get w.parts q) (entry_at w.store q) (entry_in x q)) at
@@ -745,25 +739,19 @@ parts_committed kept w call key part from next order done is answered at commits
     }
 
 -- the last phase of a call
-pub parts_ended : KeepsReserved → (w new : WorldState) (call : ℕ) (key : Bytes) (part : Part) (from to : State) (seen : Shown) → fits w (event.Commit call key) ≡ true → part_of w call key ≡ Some part → stripe_for w key ≡ Some from
+pub parts_ended : (w new : WorldState) (call : ℕ) (key : Bytes) (part : Part) (from to : State) (seen : Shown) → fits w (event.Commit call key) ≡ true → part_of w call key ≡ Some part → stripe_for w key ≡ Some from
     → Ends w call key part from to seen new → IsSoundWorld w → HasParts new
-parts_ended kept w new call key part from to (shown.Stepped seen) fit is at (commits, shows, leaves) old =
-    subst HasParts (sym leaves) (parts_committed kept w call key part from to (goes_on w key from to).order (step_of seen) is fit at commits old)
-parts_ended kept w new call key part from to seen fit is at h old = absurd h
+parts_ended w new call key part from to (shown.Stepped seen) fit is at (commits, shows, leaves) old =
+    subst HasParts (sym leaves) (parts_committed w call key part from to (goes_on w key from to).order (step_of seen) is fit at commits old)
+parts_ended w new call key part from to seen fit is at h old = absurd h
 
 -- 9. A reservation is given back, a call leaves, and an answer is picked up.
 
 -- of what is untouched the store is as it was
-unchanged : (o : Option Part) (part : Part) → o ≡ Some part → is_untouched o ≡ true → part.is_changed ≡ false
-unchanged None part is h = cc
-unchanged (Some p) part is h =
-    let same : p ≡ part = cc in
-    let parts = and_parts (not (is_load_given p.load) && not p.is_changed) (not (is_write_given p.report)) h in
-    ap (λ (x : Part). x.is_changed) (sym same) ∙ go p.is_changed (and_parts (not (is_load_given p.load)) (not p.is_changed) parts.0).1
-  where
-    go : (b : Bool) → not b ≡ true → b ≡ false
-    go true h = cc
-    go false h = refl
+unchanged : (p : Progress) → nothing_done p ≡ true → has_changed p ≡ false
+unchanged (Loading answer) h = refl
+unchanged (Writing true report) h = cc
+unchanged (Writing false report) h = refl
 
 -- a reservation is given back, and with it its part
 pub parts_withdrawn : (w : WorldState) (call : ℕ) (key : Bytes) (part : Part) (from next : State) → is_untouched (part_of w call key) ≡ true → part_of w call key ≡ Some part → stripe_for w key ≡ Some from
@@ -785,8 +773,8 @@ parts_withdrawn w call key part from next fit is at withdraws old =
           at_stripe w.stripes (home w key) (home w q) from next (λ o x. HeldIn w o q p → HeldIn n x q p) at
           (λ h.
           let R : List Reservation → Type 0 = λ rs. find (is_key p.reservation.key) rs ≡ Some p.reservation in
-          held_on w n from next q p (ap (λ c. entry_at c q) cache) (subst R (sym left) (others_out w from key q p apart h)) h.call h)
-          (some_map (stripe_for w q) (λ s. IsHeld w s q p) (λ s. IsHeld n s q p) (λ s h. record { key_is = h.key_is; out = h.out; kind = h.kind; call = h.call }))
+          held_on w n from next q p (subst R (sym left) (others_out w from key q p apart h)) h.call h)
+          (some_map (stripe_for w q) (λ s. IsHeld w s q p) (λ s. IsHeld n s q p) (λ s h. record { key_is = h.key_is; out = h.out; asked = h.asked; call = h.call }))
           (old.held q p e))
           (sym (get-remove nat_list_cmp_total w.parts key q) ∙ e);
       told = λ hold q.
@@ -797,8 +785,7 @@ parts_withdrawn w call key part from next fit is at withdraws old =
           (split q key (λ b. KeyTold (cond b None (get w.parts q)) (entry_at w.store q) (cached w q))
           (λ e.
           let T : Option Part → Type 0 = λ o. KeyTold o (entry_at w.store q) (cached w q) in
-          let told : IsTold part (entry_at w.store q) (cached w q) = subst T (ap (get w.parts) e ∙ there) (old.told hold q) in
-          told.unwritten (unchanged (part_of w call key) part is fit))
+          unwritten_in part.progress part.reservation.first (entry_at w.store q) (cached w q) (unchanged part.progress (sym (ap is_untouched is) ∙ fit)) (subst T (ap (get w.parts) e ∙ there) (old.told hold q)))
           (λ apart. old.told hold q)));
       fresh = λ f. absurd (worn w key part there old f);
       idle = λ f. absurd (worn w key part there old f);
@@ -842,7 +829,7 @@ parts_picks w new call key join from to seen joined at h old = absurd h
 -- a key that no writer has changed agrees with the store
 key_coherent : (o : Option Part) (stored entry : Option Bytes) → KeyTold o stored entry → is_changed o ≡ false → Agrees entry stored
 key_coherent None stored entry h unchanged = h
-key_coherent (Some part) stored entry h unchanged = h.unwritten unchanged
+key_coherent (Some part) stored entry h unchanged = unwritten_in part.progress part.reservation.first stored entry unchanged h
 
 -- the second half of the headline, for one world
 pub coherent : (w : WorldState) → IsSoundWorld w → all_hold w ≡ true → Coherent w

@@ -17,25 +17,28 @@ use Rattle.jc_model.specs.declared.event.Out.{Out}
 use Rattle.jc_model.specs.declared.event.Event.{Event}
 use Rattle.jc_model.specs.declared.event.Cause.{Cause}
 use Rattle.jc_model.specs.declared.event.LoadAnswer.{LoadAnswer}
+use Rattle.jc_model.specs.declared.event.WriteAnswer.{WriteAnswer}
 use Rattle.jc_model.specs.Cache.{Bytes, key_cmp, entry_at}
-use Rattle.jc_model.specs.Table.{is_load_given, is_write_given}
+use Rattle.jc_model.specs.Table.{is_load_given}
 use Rattle.jc_model.specs.Group.{Group, nothing_said, victim_events, step_event, step_place, shared_event, evicted_events, events_of}
 use Rattle.jc_inflight.specs.Joining.{callers_of}
 use Rattle.jc_stripe.specs.declared.ticket.First.TheVariants.{Loader}
-use Rattle.jc_stripe.specs.Tickets.{JoinClaim, asks_loader}
+use Rattle.jc_stripe.specs.Tickets.{JoinClaim}
 use Rattle.jc_stripe.specs.declared.begun.StepDone.{StepDone}
 use Rattle.jc_stripe.specs.Refusals.{reserves}
 use Rattle.jc_stripe.specs.State.{State}
 use Rattle.jc_stripe.specs.Phases.{Steps, new_group, after_commit}
 use Rattle.jc_world.specs.declared.event.Under.{Under}
 use Rattle.jc_world.specs.declared.event.Part.{Part}
+use Rattle.jc_world.specs.declared.event.Progress.{Progress}
+use Rattle.jc_world.specs.declared.event.Progress.TheVariants.{Loading, Writing}
 use Rattle.jc_world.specs.declared.event.Shown.{Shown}
 use Rattle.jc_world.specs.declared.event.Shown.TheVariants as shown
 use Rattle.jc_world.specs.declared.event.WorldEvent.{WorldEvent}
 use Rattle.jc_world.specs.declared.event.WorldEvent.TheVariants as event
-use Rattle.jc_world.specs.World.{WorldState, Parts, stripe_for, part_of, waits_for_load, is_untouched, out_of}
+use Rattle.jc_world.specs.World.{WorldState, Parts, stripe_for, part_of, load_due, waits_for_load, nothing_done, is_untouched, out_in, out_of}
 use Rattle.jc_world.specs.Premises.{read_answer, report_of}
-use Rattle.jc_world.specs.Events.{fits, new_part, step_of, Starts, Ends, Picks, Happens, Step, Run}
+use Rattle.jc_world.specs.Events.{fits, load_asked, write_asked, new_part, with_change, with_report, step_of, Starts, Ends, Picks, Happens, Step, Run}
 use Rattle.jc_world.specs.Sound.{IsSoundWorld}
 use Rattle.jc_world.specs.Headline.{opened, is_answer, is_load, is_loaded}
 use Rattle.jc_world.proofs.Shares.{added}
@@ -111,7 +114,7 @@ and_false true = refl
 and_false false = refl
 
 -- what is kept of a key whose part is put in place
-loaded_inserted : (parts : Parts) (key q : Bytes) (part : Part) → (q ≡ key → is_load_given part.load ≡ is_loaded (get parts q)) → is_loaded (get (insert parts key part) q) ≡ is_loaded (get parts q)
+loaded_inserted : (parts : Parts) (key q : Bytes) (part : Part) → (q ≡ key → is_load_given (out_of part).load ≡ is_loaded (get parts q)) → is_loaded (get (insert parts key part) q) ≡ is_loaded (get parts q)
 loaded_inserted parts key q part same =
     ap is_loaded (get-insert nat_list_cmp_total parts key part q)
     ∙ split q key (λ b. is_loaded (cond b (Some part) (get parts q)) ≡ is_loaded (get parts q)) same (λ apart. refl)
@@ -123,7 +126,7 @@ loaded_removed parts key q none =
     ∙ split q key (λ b. is_loaded (cond b None (get parts q)) ≡ is_loaded (get parts q)) (λ same. sym (none same)) (λ apart. refl)
 
 -- the part of a key has this answer, or none
-loaded_at : (w : WorldState) (key q : Bytes) (part : Part) → get w.parts key ≡ Some part → q ≡ key → is_loaded (get w.parts q) ≡ is_load_given part.load
+loaded_at : (w : WorldState) (key q : Bytes) (part : Part) → get w.parts key ≡ Some part → q ≡ key → is_loaded (get w.parts q) ≡ is_load_given (out_of part).load
 loaded_at w key q part there same = ap is_loaded (ap (get w.parts) same ∙ there)
 
 -- a test whose converse holds
@@ -132,14 +135,29 @@ not_true true h = cc
 not_true false h = refl
 
 -- a loader that is waited for has given no answer
-no_answer : (o : Option Part) (part : Part) → o ≡ Some part → waits_for_load o ≡ true → is_load_given part.load ≡ false
-no_answer o part is waits = not_true (is_load_given part.load) (and_parts (asks_loader part.reservation.first) (not (is_load_given part.load)) (sym (ap waits_for_load is) ∙ waits)).1
+no_answer : (o : Option Part) (part : Part) → o ≡ Some part → waits_for_load o ≡ true → is_load_given (out_of part).load ≡ false
+no_answer o part is waits = go part.progress (sym (ap waits_for_load is) ∙ waits)
+  where
+    go : (p : Progress) → load_due p ≡ true → is_load_given (out_in p).load ≡ false
+    go (Loading answer) h = not_true (is_load_given answer) h
+    go (Writing is_changed report) h = refl
 
 -- what is untouched has none
-no_touch : (o : Option Part) (part : Part) → o ≡ Some part → is_untouched o ≡ true → is_load_given part.load ≡ false
-no_touch o part is untouched =
-    let parts = and_parts (not (is_load_given part.load) && not part.is_changed) (not (is_write_given part.report)) (sym (ap is_untouched is) ∙ untouched) in
-    not_true (is_load_given part.load) (and_parts (not (is_load_given part.load)) (not part.is_changed) parts.0).0
+no_touch : (o : Option Part) (part : Part) → o ≡ Some part → is_untouched o ≡ true → is_load_given (out_of part).load ≡ false
+no_touch o part is untouched = go part.progress (sym (ap is_untouched is) ∙ untouched)
+  where
+    go : (p : Progress) → nothing_done p ≡ true → is_load_given (out_in p).load ≡ false
+    go (Loading answer) h = not_true (is_load_given answer) h
+    go (Writing is_changed report) h = refl
+
+-- what the writer does is no answer of the loader
+change_loads : (p : Progress) → is_load_given (out_in (with_change p)).load ≡ is_load_given (out_in p).load
+change_loads (Loading answer) = refl
+change_loads (Writing is_changed report) = refl
+
+report_loads : (p : Progress) (report : WriteAnswer) → is_load_given (out_in (with_report p report)).load ≡ is_load_given (out_in p).load
+report_loads (Loading answer) report = refl
+report_loads (Writing is_changed was) report = refl
 
 -- a loader that reads the store has answered
 read_given : (stored : Option Bytes) → is_load_given (read_answer stored) ≡ true
@@ -150,12 +168,12 @@ read_given (Some value) = refl
 
 -- an answer is kept
 total_answered : (w : WorldState) (call : ℕ) (key q : Bytes) (part : Part) (answer : LoadAnswer) → part_of w call key ≡ Some part → waits_for_load (part_of w call key) ≡ true → is_load_given answer ≡ true
-    → count_by (is_load q) w.order + one_if (is_loaded (get (insert w.parts key (record part { load = answer })) q)) ≡ one_if (pointwise ◌==◌ q key) + total w q
+    → count_by (is_load q) w.order + one_if (is_loaded (get (insert w.parts key (record part { progress = Loading answer })) q)) ≡ one_if (pointwise ◌==◌ q key) + total w q
 total_answered w call key q part answer is waits given =
     let there = is_there (get w.parts key) call part is in
     let n = count_by (is_load q) w.order in
-    let P : Bool → Type 0 = λ b. n + one_if (is_loaded (cond b (Some (record part { load = answer })) (get w.parts q))) ≡ one_if b + (n + one_if (is_loaded (get w.parts q))) in
-    ap (λ o. n + one_if (is_loaded o)) (get-insert nat_list_cmp_total w.parts key (record part { load = answer }) q)
+    let P : Bool → Type 0 = λ b. n + one_if (is_loaded (cond b (Some (record part { progress = Loading answer })) (get w.parts q))) ≡ one_if b + (n + one_if (is_loaded (get w.parts q))) in
+    ap (λ o. n + one_if (is_loaded o)) (get-insert nat_list_cmp_total w.parts key (record part { progress = Loading answer }) q)
     ∙ split q key P
     (λ same. let was : one_if (is_loaded (get w.parts q)) ≡ 0 = ap one_if (loaded_at w key q part there same ∙ no_answer (part_of w call key) part is waits) in let now : one_if (is_load_given answer) ≡ 1 = ap one_if given in omega arith)
     (λ apart. omega arith)
@@ -175,14 +193,14 @@ total_started w new u from to (shown.Stepped seen) q there h old =
     ap (λ (x : WorldState). total x q) h.2 ∙ grows
 total_started w new u from to shown.Loads q there h old =
     let key = u.command.key in
-    let part = new_part h.0.reservation in
+    let part = new_part load_asked h.0.reservation in
     let free = was_free from u.caller key u.command.op Loader h.1.0 h.1.1 h.1.2 refl in
     let none = unheld w key from there free old in
     ap (λ (x : WorldState). total x q) h.2
     ∙ ap (λ b. count_by (is_load q) w.order + one_if b) (loaded_inserted w.parts key q part (λ same. sym (ap is_loaded (ap (get w.parts) same ∙ none))))
 total_started w new u from to (shown.Asks change) q there h old =
     let key = u.command.key in
-    let part = new_part h.0.reservation in
+    let part = new_part write_asked h.0.reservation in
     let free = was_free from u.caller key u.command.op h.0.reservation.first h.1.0 (writer_alone from key u.command.op h.0.reservation.first h.1.1 h.1.2) h.1.1 (ap reserves h.2) in
     let none = unheld w key from there free old in
     ap (λ (x : WorldState). total x q) h.3
@@ -196,18 +214,18 @@ total_ended w new call key part from to (shown.Stepped seen) q is key_is h =
     let r = part.reservation in
     let there = is_there (get w.parts key) call part is in
     let mid = after_commit from r seen.place in
-    let added_is : count_by (is_load q) (added from to) ≡ one_if (pointwise ◌==◌ q key && is_load_given part.load) =
-    step_loads mid to r.caller r.key r.op (out_of part) (callers_of r.number from.joiners) (step_of seen) q h.0.1 ∙ ap (λ k. one_if (pointwise ◌==◌ q k && is_load_given part.load)) key_is in
-    let tied = ap (λ b. one_if (b && is_load_given part.load)) (texts_ties q key) in
+    let added_is : count_by (is_load q) (added from to) ≡ one_if (pointwise ◌==◌ q key && is_load_given (out_of part).load) =
+    step_loads mid to r.caller r.key r.op (out_of part) (callers_of r.number from.joiners) (step_of seen) q h.0.1 ∙ ap (λ k. one_if (pointwise ◌==◌ q k && is_load_given (out_of part).load)) key_is in
+    let tied = ap (λ b. one_if (b && is_load_given (out_of part).load)) (texts_ties q key) in
     let more = none_append q w.order (added from to) in
     let n = count_by (is_load q) w.order in
-    let grows : count_by (is_load q) (w.order ++ added from to) ≡ n + one_if (eq_by_cmp key_cmp q key && is_load_given part.load) = omega arith in
-    let P : Bool → Type 0 = λ b. (n + one_if (b && is_load_given part.load)) + one_if (is_loaded (cond b None (get w.parts q))) ≡ n + one_if (is_loaded (get w.parts q)) in
+    let grows : count_by (is_load q) (w.order ++ added from to) ≡ n + one_if (eq_by_cmp key_cmp q key && is_load_given (out_of part).load) = omega arith in
+    let P : Bool → Type 0 = λ b. (n + one_if (b && is_load_given (out_of part).load)) + one_if (is_loaded (cond b None (get w.parts q))) ≡ n + one_if (is_loaded (get w.parts q)) in
     ap (λ (x : WorldState). total x q) h.2
     ∙ ap (λ m. m + one_if (is_loaded (get (remove w.parts key) q))) grows
-    ∙ ap (λ o. (n + one_if (eq_by_cmp key_cmp q key && is_load_given part.load)) + one_if (is_loaded o)) (get-remove nat_list_cmp_total w.parts key q)
+    ∙ ap (λ o. (n + one_if (eq_by_cmp key_cmp q key && is_load_given (out_of part).load)) + one_if (is_loaded o)) (get-remove nat_list_cmp_total w.parts key q)
     ∙ split q key P
-    (λ same. let was : one_if (is_loaded (get w.parts q)) ≡ one_if (is_load_given part.load) = ap one_if (loaded_at w key q part there same) in omega arith)
+    (λ same. let was : one_if (is_loaded (get w.parts q)) ≡ one_if (is_load_given (out_of part).load) = ap one_if (loaded_at w key q part there same) in omega arith)
     (λ apart. omega arith)
 total_ended w new call key part from to seen q is key_is h = absurd h
 
@@ -232,12 +250,12 @@ total_happens w new (event.Say call key answer) seen q fit h old =
 total_happens w new (event.Change call key) seen q fit h old =
     let there = is_there (get w.parts key) call h.0 h.2 in
     unanswered false (total new q) (total w q) refl
-    (ap (λ (x : WorldState). total x q) h.5 ∙ ap (λ b. count_by (is_load q) w.order + one_if b) (loaded_inserted w.parts key q (record h.0 { is_changed = true }) (λ same. sym (loaded_at w key q h.0 there same))))
+    (ap (λ (x : WorldState). total x q) h.5 ∙ ap (λ b. count_by (is_load q) w.order + one_if b) (loaded_inserted w.parts key q (record h.0 { progress = with_change h.0.progress }) (λ same. change_loads h.0.progress ∙ sym (loaded_at w key q h.0 there same))))
 total_happens w new (event.Report call fault) seen q fit h old =
     let key = h.0.command.key in
     let there = is_there (get w.parts key) call h.1 h.4 in
     unanswered false (total new q) (total w q) refl
-    (ap (λ (x : WorldState). total x q) h.7 ∙ ap (λ b. count_by (is_load q) w.order + one_if b) (loaded_inserted w.parts key q (record h.1 { report = report_of fault }) (λ same. sym (loaded_at w key q h.1 there same))))
+    (ap (λ (x : WorldState). total x q) h.7 ∙ ap (λ b. count_by (is_load q) w.order + one_if b) (loaded_inserted w.parts key q (record h.1 { progress = with_report h.1.progress (report_of fault) }) (λ same. report_loads h.1.progress (report_of fault) ∙ sym (loaded_at w key q h.1 there same))))
 total_happens w new (event.Commit call key) seen q fit h old = unanswered false (total new q) (total w q) refl (total_ended w new call key h.0 h.2 h.4 seen q h.1 (part_key w call key h.0 h.1 old) h.5)
 total_happens w new (event.Withdraw call key) seen q fit h old =
     let there = is_there (get w.parts key) call h.0 h.1 in

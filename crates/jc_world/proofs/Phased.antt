@@ -24,7 +24,7 @@ use Rattle.jc_world.specs.declared.event.PickedUp.{PickedUp}
 use Rattle.jc_world.specs.declared.event.WorldEvent.TheVariants as event
 use Rattle.jc_world.specs.declared.event.Shown.TheVariants as shown
 use Rattle.jc_world.specs.World.{WorldState, Parts, home, stripe_for, under, over, part_of, join_of, unjoined, out_of}
-use Rattle.jc_world.specs.Events.{fits, Happens, step_of, new_part}
+use Rattle.jc_world.specs.Events.{fits, Happens, step_of, load_asked, write_asked, new_part}
 use Rattle.jc_world.specs.Sound.{IsHeld, IsSoundWorld}
 use Rattle.jc_world.specs.World.{is_join}
 use Rattle.jc_world.specs.Turns.{OrderedStripes, IsPhase, IsQuietPhase}
@@ -128,7 +128,7 @@ started_refused v next call key u number refusal stripes order is home_is p next
     )
 
 pub started_loads : (v next : WorldState) (call : ℕ) (key : Bytes) (u : Under) (number : ℕ) (ticket : Ticket) (stripes : List State) (order : List Event) (parts : Parts) → under v call ≡ Some u → number ≡ home v u.command.key
-    → Phased v number (BeginsAs u (begun.Load ticket)) stripes order → parts ≡ insert v.parts u.command.key (new_part ticket.reservation)
+    → Phased v number (BeginsAs u (begun.Load ticket)) stripes order → parts ≡ insert v.parts u.command.key (new_part load_asked ticket.reservation)
     → next ≡ record v { stripes = stripes; order = order; parts = parts } → Happens v (event.Start call key) shown.Loads next
 started_loads v next call key u number ticket stripes order parts is home_is p parts_are next_is =
     let At : ℕ → Type 0 = λ n. slice_get v.stripes n ≡ Some p.from in (
@@ -171,7 +171,7 @@ started_joins v next call key u number join stripes order joins is home_is p joi
     )
 
 pub started_asks : (v next : WorldState) (call : ℕ) (key : Bytes) (u : Under) (number : ℕ) (ticket : Ticket) (change : Change) (stripes : List State) (order : List Event) (parts : Parts) → under v call ≡ Some u → number ≡ home v u.command.key
-    → Phased v number (BeginsAs u (begun.Write ticket)) stripes order → ticket.reservation.first ≡ Writer change → parts ≡ insert v.parts u.command.key (new_part ticket.reservation)
+    → Phased v number (BeginsAs u (begun.Write ticket)) stripes order → ticket.reservation.first ≡ Writer change → parts ≡ insert v.parts u.command.key (new_part write_asked ticket.reservation)
     → next ≡ record v { stripes = stripes; order = order; parts = parts } → Happens v (event.Start call key) (shown.Asks change) next
 started_asks v next call key u number ticket change stripes order parts is home_is p first parts_are next_is =
     let At : ℕ → Type 0 = λ n. slice_get v.stripes n ≡ Some p.from in (

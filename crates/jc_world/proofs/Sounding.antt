@@ -24,20 +24,20 @@ use Rattle.jc_world.proofs.Kept.{parts_start, parts_called, parts_started, parts
 waits_at : (w : WorldState) (call : ℕ) (u : Under) → under w call ≡ Some u → may_report w call (under w call) ≡ true → waits_for_report (part_of w call u.command.key) ≡ true
 waits_at w call u is h = ap (may_report w call) (sym is) ∙ h
 
-parts_happens : KeepsReserved → (w new : WorldState) (e : WorldEvent) (seen : Shown) → fits w e ≡ true → Happens w e seen new → IsSoundWorld w → HasParts new
-parts_happens kept w new (event.Call call session command) seen fit (shows, is) h = subst HasParts (sym is) (parts_called w call session command fit h)
-parts_happens kept w new (event.Start call key) seen fit (u, there, from, at, to, starts) h = parts_started kept w new call key u from to seen fit there at starts h
-parts_happens kept w new (event.Read call key) seen fit (part, there, shows, is) h = subst HasParts (sym is) (parts_answered w call key part (read_answer (entry_at w.store key)) there fit h)
-parts_happens kept w new (event.Say call key answer) seen fit (part, there, shows, is) h =
+parts_happens : (w new : WorldState) (e : WorldEvent) (seen : Shown) → fits w e ≡ true → Happens w e seen new → IsSoundWorld w → HasParts new
+parts_happens w new (event.Call call session command) seen fit (shows, is) h = subst HasParts (sym is) (parts_called w call session command fit h)
+parts_happens w new (event.Start call key) seen fit (u, there, from, at, to, starts) h = parts_started w new call key u from to seen fit there at starts h
+parts_happens w new (event.Read call key) seen fit (part, there, shows, is) h = subst HasParts (sym is) (parts_answered w call key part (read_answer (entry_at w.store key)) there fit h)
+parts_happens w new (event.Say call key answer) seen fit (part, there, shows, is) h =
     subst HasParts (sym is) (parts_answered w call key part answer there ((and_parts (is_load_given answer) (waits_for_load (part_of w call key)) fit).1) h)
-parts_happens kept w new (event.Change call key) seen fit (part, change, there, asked, shows, is) h = subst HasParts (sym is) (parts_changed w call key part change there asked fit h)
-parts_happens kept w new (event.Report call fault) seen fit (u, part, change, there, at, asked, shows, is) h =
+parts_happens w new (event.Change call key) seen fit (part, change, there, asked, shows, is) h = subst HasParts (sym is) (parts_changed w call key part change there asked fit h)
+parts_happens w new (event.Report call fault) seen fit (u, part, change, there, at, asked, shows, is) h =
     subst HasParts (sym is) (parts_reported w call u.command.key part (report_of fault) at (waits_at w call u there fit) h)
-parts_happens kept w new (event.Commit call key) seen fit (part, there, from, at, to, ends) h = parts_ended kept w new call key part from to seen fit there at ends h
-parts_happens kept w new (event.Withdraw call key) seen fit (part, there, from, at, to, withdraws, shows, is) h = subst HasParts (sym is) (parts_withdrawn w call key part from to fit there at withdraws h)
-parts_happens kept w new (event.Leave call) seen fit (shows, is) h = subst HasParts (sym is) (parts_left w call fit h)
-parts_happens kept w new (event.PickUp call key) seen fit (join, there, from, at, to, picks) h = parts_picks w new call key join from to seen there at picks h
-parts_happens kept w new (event.Foreign key value) seen fit (shows, is) h = subst HasParts (sym is) (parts_disturbed w (with_entry w.store key value) h)
+parts_happens w new (event.Commit call key) seen fit (part, there, from, at, to, ends) h = parts_ended w new call key part from to seen fit there at ends h
+parts_happens w new (event.Withdraw call key) seen fit (part, there, from, at, to, withdraws, shows, is) h = subst HasParts (sym is) (parts_withdrawn w call key part from to fit there at withdraws h)
+parts_happens w new (event.Leave call) seen fit (shows, is) h = subst HasParts (sym is) (parts_left w call fit h)
+parts_happens w new (event.PickUp call key) seen fit (join, there, from, at, to, picks) h = parts_picks w new call key join from to seen there at picks h
+parts_happens w new (event.Foreign key value) seen fit (shows, is) h = subst HasParts (sym is) (parts_disturbed w (with_entry w.store key value) h)
 
 -- what the stripes below keep
 pub record Laws : Type 0 where
@@ -45,7 +45,7 @@ pub record Laws : Type 0 where
   pub kept : KeepsReserved
 
 pub sound_step : Laws → (old : WorldState) (e : WorldEvent) (seen : Shown) (new : WorldState) → Step old e seen new → IsSoundWorld old → IsSoundWorld new
-sound_step laws old e seen new (inl (fit, happens)) h = sound new (order_happens laws.stays old new e seen fit happens h) (parts_happens laws.kept old new e seen fit happens h) (joins_happens old new e seen fit happens h)
+sound_step laws old e seen new (inl (fit, happens)) h = sound new (order_happens laws.stays old new e seen fit happens h) (parts_happens old new e seen fit happens h) (joins_happens old new e seen fit happens h)
 sound_step laws old e seen new (inr (unfit, shows, is)) h = subst IsSoundWorld (sym is) h
 
 pub sound_run : Laws → (old new : WorldState) (es : List WorldEvent) (ss : List Shown) → Run old es ss new → IsSoundWorld old → IsSoundWorld new

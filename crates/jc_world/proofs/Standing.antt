@@ -38,7 +38,7 @@ use Rattle.jc_world.specs.declared.event.Under.{Under}
 use Rattle.jc_world.specs.declared.event.WorldEvent.{WorldEvent}
 use Rattle.jc_world.specs.declared.event.WorldEvent.TheVariants as event
 use Rattle.jc_world.specs.World.{WorldState, Parts, home, stripe_for, has_number, is_join, join_of, part_of, out_of, under}
-use Rattle.jc_world.specs.Events.{fits, is_free, may_start, new_part, step_of, Starts, Ends, Picks, Happens, Step, Run}
+use Rattle.jc_world.specs.Events.{fits, is_free, may_start, load_asked, write_asked, new_part, step_of, Starts, Ends, Picks, Happens, Step, Run}
 use Rattle.jc_world.specs.Sound.{IsSoundWorld}
 use Rattle.jc_world.specs.Headline.{opened}
 use Rattle.jc_world.specs.Replies.{Answered, Stands}
@@ -242,11 +242,11 @@ begun_started shows w new u from to (shown.Refused refusal) h one old =
 begun_started shows w new u from to (shown.Stepped seen) h one old =
     subst (AllBegun shows) (sym h.2) (record { calls = each_filter (IsBegun shows) (λ x. not (has_number u.caller.call x)) w.calls old.calls; parts = old.parts; joins = old.joins })
 begun_started shows w new u from to shown.Loads h one old =
-    let P : Ticket → Type 0 = λ t. PartBegun shows (new_part t.reservation) in
-    subst (AllBegun shows) (sym h.2) (record { calls = old.calls; parts = parts_put shows w.parts u.command.key (new_part h.0.reservation) (subst P (sym h.1.3) one) old.parts; joins = old.joins })
+    let P : Ticket → Type 0 = λ t. PartBegun shows (new_part load_asked t.reservation) in
+    subst (AllBegun shows) (sym h.2) (record { calls = old.calls; parts = parts_put shows w.parts u.command.key (new_part load_asked h.0.reservation) (subst P (sym h.1.3) one) old.parts; joins = old.joins })
 begun_started shows w new u from to (shown.Asks change) h one old =
-    let P : Ticket → Type 0 = λ t. PartBegun shows (new_part t.reservation) in
-    subst (AllBegun shows) (sym h.3) (record { calls = old.calls; parts = parts_put shows w.parts u.command.key (new_part h.0.reservation) (subst P (sym h.1.3) one) old.parts; joins = old.joins })
+    let P : Ticket → Type 0 = λ t. PartBegun shows (new_part write_asked t.reservation) in
+    subst (AllBegun shows) (sym h.3) (record { calls = old.calls; parts = parts_put shows w.parts u.command.key (new_part write_asked h.0.reservation) (subst P (sym h.1.3) one) old.parts; joins = old.joins })
 begun_started shows w new u from to shown.Joins h one old =
     let get_is : u.command.op ≡ Get = joins_get from u.command.key u.command.op h.0.load h.1.1 in
     let P : JoinClaim → Type 0 = JoinBegun shows in

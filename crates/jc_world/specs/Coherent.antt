@@ -6,12 +6,12 @@ use Rattle.std.specs.Prelude.{◌≡◌, Bool, false, ◌&&◌, Option, None, So
 use Rattle.std.specs.FinMap.{get}
 use Rattle.jc_model.specs.Cache.{Bytes, entry_at}
 use Rattle.jc_world.specs.declared.event.Part.{Part}
-use Rattle.jc_world.specs.World.{WorldState, cached}
+use Rattle.jc_world.specs.World.{WorldState, cached, has_changed}
 use Rattle.jc_world.specs.Premises.{premises_hold}
 
 abbrev pub is_changed : Option Part → Bool
 is_changed None = false
-is_changed (Some part) = part.is_changed
+is_changed (Some part) = has_changed part.progress
 
 abbrev pub Coherent : WorldState → Type 0
 Coherent w = (key : Bytes) → is_changed (get w.parts key) ≡ false → IfSome (cached w key) (λ value. entry_at w.store key ≡ Some value)

@@ -11,12 +11,14 @@
 --     goes_on                     the same, and what the stripe appended to its history stands at the end of the order
 --     step_of                     what is shown of a step, but for its stripe
 --     call_over                   the world with a call over
+--     load_asked, write_asked     the progress of a key whose loader, or writer, is to be asked
 --     new_part                    what is kept of a key that was just reserved
 --     with_part, without_part     the world with this part of a key, and with none
 --     with_join, without_join     the world with one join more, and without a call's join of a key
 --     Starts                      a first phase, by what is shown of it
 --     Ends                        a last phase
 --     Picks                       a pick-up, by what is shown of it
+--     with_change, with_report    the progress once the writer has changed the store, and once it has returned
 --     answered                    the world once the loader has answered
 --     changed                     the world once the writer has changed the store
 --     reported                    the world once the writer has returned
@@ -60,7 +62,9 @@ use Rattle.jc_world.specs.declared.event.Shown.TheVariants as shown
 use Rattle.jc_world.specs.declared.event.Stepped.{Stepped}
 use Rattle.jc_world.specs.declared.event.Under.{Under}
 use Rattle.jc_world.specs.declared.event.Part.{Part}
-use Rattle.jc_world.specs.World.{WorldState, home, stripe_for, is_busy, under, over, part_of, waits_for_load, waits_for_report, is_answered, is_untouched, join_of, is_joined, unjoined, out_of}
+use Rattle.jc_world.specs.declared.event.Progress.{Progress}
+use Rattle.jc_world.specs.declared.event.Progress.TheVariants.{Loading, Writing}
+use Rattle.jc_world.specs.World.{WorldState, home, stripe_for, is_busy, under, over, part_of, waits_for_load, waits_for_report, is_answered, is_untouched, has_changed, join_of, is_joined, unjoined, out_of}
 use Rattle.jc_world.specs.Premises.{read_answer, changed_to, report_of, is_true_load, is_true_report, with_loader, with_writer, disturbed}
 
 -- 1. When an event fits.
@@ -141,8 +145,14 @@ abbrev pub call_over : WorldState → ℕ → WorldState
 call_over w call = record w { calls = over call w.calls }
 
 -- what is kept of a key that was reserved
-abbrev pub new_part : Reservation → Part
-new_part r = record { reservation = r; load = load.NotAsked; is_changed = false; report = write.NotAsked }
+abbrev pub load_asked : Progress
+load_asked = Loading load.NotAsked
+
+abbrev pub write_asked : Progress
+write_asked = Writing false write.NotAsked
+
+abbrev pub new_part : Progress → Reservation → Part
+new_part progress r = record { reservation = r; progress = progress }
 
 abbrev pub with_part : WorldState → Bytes → Part → WorldState
 with_part w key part = record w { parts = insert w.parts key part }
@@ -167,10 +177,10 @@ Starts old u from to (shown.Stepped seen) new =
     × (seen.stripe ≡ home old u.command.key) × (new ≡ call_over (goes_on old u.command.key from to) u.caller.call)
 Starts old u from to shown.Loads new =
     (ticket : Ticket) × Begins from u.caller u.command.key u.command.op (begun.Load ticket) to
-    × (new ≡ with_part (with_stripe old u.command.key to) u.command.key (new_part ticket.reservation))
+    × (new ≡ with_part (with_stripe old u.command.key to) u.command.key (new_part load_asked ticket.reservation))
 Starts old u from to (shown.Asks change) new =
     (ticket : Ticket) × Begins from u.caller u.command.key u.command.op (begun.Write ticket) to × (ticket.reservation.first ≡ Writer change)
-    × (new ≡ with_part (with_stripe old u.command.key to) u.command.key (new_part ticket.reservation))
+    × (new ≡ with_part (with_stripe old u.command.key to) u.command.key (new_part write_asked ticket.reservation))
 Starts old u from to shown.Joins new =
     (join : JoinClaim) × Begins from u.caller u.command.key u.command.op (begun.Joined join) to
     × (new ≡ with_join (with_stripe old u.command.key to) join)
@@ -196,15 +206,23 @@ Picks old call key join from to seen new = ⊥
 -- the loader's answer is kept
 abbrev pub answered : WorldState → Bytes → Part → LoadAnswer → WorldState
 answered w key part answer =
-    record (with_part w key (record part { load = answer })) { premises = with_loader w.premises (is_true_load answer (entry_at w.store key)) }
+    record (with_part w key (record part { progress = Loading answer })) { premises = with_loader w.premises (is_true_load answer (entry_at w.store key)) }
+
+abbrev pub with_change : Progress → Progress
+with_change (Loading answer) = Loading answer
+with_change (Writing is_changed report) = Writing true report
 
 -- the store is as the writer was asked
 abbrev pub changed : WorldState → Bytes → Part → Change → WorldState
-changed w key part change = record (with_part w key (record part { is_changed = true })) { store = with_entry w.store key (changed_to change) }
+changed w key part change = record (with_part w key (record part { progress = with_change part.progress })) { store = with_entry w.store key (changed_to change) }
+
+abbrev pub with_report : Progress → WriteAnswer → Progress
+with_report (Loading answer) report = Loading answer
+with_report (Writing is_changed was) report = Writing is_changed report
 
 -- the writer's report is kept
 abbrev pub reported : WorldState → Bytes → Part → WriteAnswer → WorldState
-reported w key part report = record (with_part w key (record part { report = report })) { premises = with_writer w.premises (is_true_report report part) }
+reported w key part report = record (with_part w key (record part { progress = with_report part.progress report })) { premises = with_writer w.premises (is_true_report report (has_changed part.progress)) }
 
 -- 5. What an event that fits shows and leaves.
 
@@ -223,7 +241,7 @@ Happens old (event.Change call key) seen new =
     (part : Part) × (change : Change) × (part_of old call key ≡ Some part) × (part.reservation.first ≡ Writer change) × (seen ≡ shown.Changed) × (new ≡ changed old key part change)
 Happens old (event.Report call fault) seen new =
     (u : Under) × (part : Part) × (change : Change) × (under old call ≡ Some u) × (part_of old call u.command.key ≡ Some part) × (part.reservation.first ≡ Writer change)
-    × (seen ≡ shown.Reported (record { change = change; is_changed = part.is_changed; fault = fault })) × (new ≡ reported old u.command.key part (report_of fault))
+    × (seen ≡ shown.Reported (record { change = change; is_changed = has_changed part.progress; fault = fault })) × (new ≡ reported old u.command.key part (report_of fault))
 Happens old (event.Commit call key) seen new =
     (part : Part) × (part_of old call key ≡ Some part) × (from : State) × (stripe_for old key ≡ Some from) × (to : State) × Ends old call key part from to seen new
 Happens old (event.Withdraw call key) seen new =

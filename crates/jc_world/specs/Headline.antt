@@ -25,7 +25,7 @@ use Rattle.jc_world.specs.declared.event.WorldEvent.{WorldEvent}
 use Rattle.jc_world.specs.declared.event.WorldEvent.TheVariants as event
 use Rattle.jc_world.specs.declared.event.Shown.{Shown}
 use Rattle.jc_world.specs.declared.event.Shown.TheVariants as shown
-use Rattle.jc_world.specs.World.{WorldState, start, with_stored}
+use Rattle.jc_world.specs.World.{WorldState, start, out_of, with_stored}
 use Rattle.jc_world.specs.Events.{Run}
 use Rattle.jc_world.specs.Coherent.{Coherent, all_hold}
 use Rattle.jc_world.specs.Audit.{IsOrder, HasParts}
@@ -63,7 +63,7 @@ is_load key (stripe.Evict k cause) = false
 -- an answer of the loader is kept for the commit
 abbrev pub is_loaded : Option Part → Bool
 is_loaded None = false
-is_loaded (Some part) = is_load_given part.load
+is_loaded (Some part) = is_load_given (out_of part).load
 
 abbrev pub CountsLoads : Type 0
 CountsLoads = (config : Config) (stored : List (Bytes × Bytes)) (events : List WorldEvent) (seen : List Shown) (new : WorldState) (key : Bytes) → check config ≡ Ok tt → Run (opened config stored) events seen new

@@ -19,6 +19,7 @@ use Rattle.jc_stripe.specs.declared.ticket.Origin.TheVariants.{Played}
 use Rattle.jc_stripe.specs.declared.ticket.Reservation.{Reservation}
 use Rattle.jc_stripe.specs.Tickets.{Ticket, asks_loader, asks_writer}
 use Rattle.jc_world.specs.declared.event.Part.{Part}
+use Rattle.jc_world.specs.declared.event.Progress.TheVariants.{Loading, Writing}
 use Rattle.jc_world.specs.World.{Parts}
 use Rattle.jc_world.specs.declared.held.Asked.{Asked}
 use Rattle.jc_world.specs.declared.held.Asked.TheVariants as asked
@@ -36,8 +37,8 @@ report_in None = write.NotAsked
 report_in (Some written) = written.report
 
 abbrev pub part_in : Asked → Part
-part_in (asked.Loader ticket loaded) = record { reservation = ticket.reservation; load = load_in loaded; is_changed = false; report = write.NotAsked }
-part_in (asked.Writer ticket is_changed written) = record { reservation = ticket.reservation; load = load.NotAsked; is_changed = is_changed; report = report_in written }
+part_in (asked.Loader ticket loaded) = record { reservation = ticket.reservation; progress = Loading (load_in loaded) }
+part_in (asked.Writer ticket is_changed written) = record { reservation = ticket.reservation; progress = Writing is_changed (report_in written) }
 
 pub record IsLoadOf (r : Reservation) (loaded : Loaded) : Type 0 where
   pub done_is : loaded.done ≡ record { reservation = r; origin = Played; answer = loaded.answer }

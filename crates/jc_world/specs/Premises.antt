@@ -19,7 +19,6 @@ use Rattle.jc_model.specs.declared.event.WriteAnswer.{WriteAnswer}
 use Rattle.jc_model.specs.declared.event.WriteAnswer.TheVariants as write
 use Rattle.jc_model.specs.Cache.{Bytes}
 use Rattle.jc_model.specs.Table.{holds}
-use Rattle.jc_world.specs.declared.event.Part.{Part}
 use Rattle.jc_world.specs.declared.event.Premises.{Premises}
 
 abbrev pub read_answer : Option Bytes → LoadAnswer
@@ -45,8 +44,8 @@ is_done write.Done = true
 is_done write.NotAsked = false
 is_done (write.Failed code) = false
 
-abbrev pub is_true_report : WriteAnswer → Part → Bool
-is_true_report report part = beq part.is_changed (is_done report)
+abbrev pub is_true_report : WriteAnswer → Bool → Bool
+is_true_report report is_changed = beq is_changed (is_done report)
 
 abbrev pub with_loader : Premises → Bool → Premises
 with_loader p honest = record p { loaders = p.loaders && honest }

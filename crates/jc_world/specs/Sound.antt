@@ -9,8 +9,8 @@
 --     FitsCall                      a call under way: its operation is a call by itself, its number is at most the last, and no
 --                                   step of its session has that number or a higher one, unless it is served
 --     CallsFit                      that is so of all calls under way, and no two are of one session or have one number
---     KindFits                      what was said for a part was said by whom it asked, and a write is still what its operation
---                                   asks for
+--     is_asked                      the progress of a key is that of one who was asked: a load's of the loader, a write's of the
+--                                   writer
 --     IsHeld                        a part has its reservation and its call
 --     IsOwned, AllOwned             a reservation has its part and its call; each does
 --     IsWaitedFor, AllWaitedFor     a join has its joiner and its call, which has no part; each does
@@ -18,7 +18,8 @@
 --     IsCalled, AllCalled           a joiner has its join and its call, and is in the stripe of its key; each is so
 --     Agrees                        an entry that is there is the store's value
 --     WrittenFor                    the store holds what the writer was asked for
---     IsTold                        as long as the premises hold: what is known of a reserved key, by its part
+--     LoadTold, WriteTold           as long as the premises hold: what is known of a key that is loaded, and of one that is written
+--     IsTold                        and so of a reserved key, by its part
 --     KeyTold                       as long as the premises hold: what is known of any key, by its part, the store's value and the
 --                                   cached one
 --     IsSoundWorld                  all of it; and while a world is fresh, nothing is cached, reserved, joined or under way
@@ -29,12 +30,10 @@ use Rattle.jc_types.specs.declared.caller.Caller.{Caller}
 use Rattle.jc_types.specs.Limits.{check}
 use Rattle.jc_model.specs.declared.event.Event.{Event}
 use Rattle.jc_model.specs.declared.event.Event.TheVariants as stripe
-use Rattle.jc_model.specs.declared.event.LoadAnswer.TheVariants as load
-use Rattle.jc_model.specs.declared.event.WriteAnswer.TheVariants as write
-use Rattle.jc_model.specs.declared.event.ProcessAnswer.TheVariants as process
+use Rattle.jc_model.specs.declared.event.LoadAnswer.{LoadAnswer}
+use Rattle.jc_model.specs.declared.event.WriteAnswer.{WriteAnswer}
 use Rattle.jc_model.specs.Cache.{Bytes, entry_at}
-use Rattle.jc_model.specs.Table.{write_ask, is_write_given}
-use Rattle.jc_model.specs.Lawful.{loads_whole}
+use Rattle.jc_model.specs.Table.{is_write_given}
 use Rattle.jc_model.specs.Legal.{in_order, of_stripe}
 use Rattle.jc_model.specs.Processor.{found_in}
 use Rattle.jc_stripe.specs.declared.ticket.First.{First}
@@ -45,12 +44,14 @@ use Rattle.jc_inflight.specs.declared.joiner.JoinState.{JoinState}
 use Rattle.jc_inflight.specs.declared.joiner.JoinState.TheVariants.{Waiting, Answered, Again}
 use Rattle.jc_inflight.specs.Joining.{belongs_to}
 use Rattle.jc_stripe.specs.declared.ticket.Reservation.{Reservation}
-use Rattle.jc_stripe.specs.Tickets.{JoinClaim}
+use Rattle.jc_stripe.specs.Tickets.{JoinClaim, asks_loader, asks_writer}
 use Rattle.jc_stripe.specs.State.{State, IsOut, IsJoined}
 use Rattle.jc_stripe.specs.Reached.{IsReached}
 use Rattle.jc_stripe.specs.OwnSteps.{is_before_call}
 use Rattle.jc_world.specs.declared.event.Under.{Under}
 use Rattle.jc_world.specs.declared.event.Part.{Part}
+use Rattle.jc_world.specs.declared.event.Progress.{Progress}
+use Rattle.jc_world.specs.declared.event.Progress.TheVariants.{Loading, Writing}
 use Rattle.jc_world.specs.World.{WorldState, home, stripe_for, cached, under, part_of, is_join, is_joined}
 use Rattle.jc_world.specs.Premises.{changed_to, is_done}
 use Rattle.jc_world.specs.Events.{is_single}
@@ -118,18 +119,15 @@ CallsFit w (u ∷ us) = FitsCall w u × (list_all (is_apart u) us ≡ true) × C
 
 -- 3. The keys that calls have reserved.
 
--- what was asked of the loader was not asked of the writer; a write is still what its operation asks for
-abbrev pub KindFits : First → Part → Option Bytes → Type 0
-KindFits Nobody part entry = ⊥
-KindFits Loader part entry = (loads_whole part.reservation.op ≡ true) × (part.is_changed ≡ false) × (part.report ≡ write.NotAsked)
-KindFits (Writer change) part entry = (write_ask part.reservation.op entry process.NotAsked ≡ Some change) × (part.load ≡ load.NotAsked)
-KindFits Processor part entry = ⊥
+abbrev pub is_asked : Progress → First → Bool
+is_asked (Loading answer) first = asks_loader first
+is_asked (Writing is_changed report) first = asks_writer first
 
 -- the part of a key whose stripe is `s`
 pub record IsHeld (w : WorldState) (s : State) (key : Bytes) (part : Part) : Type 0 where
   pub key_is : part.reservation.key ≡ key
   pub out : IsOut s part.reservation
-  pub kind : KindFits part.reservation.first part (entry_at s.cache key)
+  pub asked : is_asked part.progress part.reservation.first ≡ true
   pub call : IsSomeAnd (under w part.reservation.caller.call) (λ u. u.command.key ≡ key)
 
 -- the reservation of a call under way, with its part
@@ -180,15 +178,22 @@ WrittenFor Loader stored = ⊥
 WrittenFor (Writer change) stored = stored ≡ changed_to change
 WrittenFor Processor stored = ⊥
 
-pub record IsTold (part : Part) (stored entry : Option Bytes) : Type 0 where
-  pub loaded : Agrees (found_in part.load) stored
-  pub written : part.is_changed ≡ true → WrittenFor part.reservation.first stored
-  pub unwritten : part.is_changed ≡ false → Agrees entry stored
-  pub honest : is_write_given part.report ≡ true → is_done part.report ≡ part.is_changed
+pub record LoadTold (answer : LoadAnswer) (stored entry : Option Bytes) : Type 0 where
+  pub loaded : Agrees (found_in answer) stored
+  pub unwritten : Agrees entry stored
+
+pub record WriteTold (first : First) (is_changed : Bool) (report : WriteAnswer) (stored entry : Option Bytes) : Type 0 where
+  pub written : is_changed ≡ true → WrittenFor first stored
+  pub unwritten : is_changed ≡ false → Agrees entry stored
+  pub honest : is_write_given report ≡ true → is_done report ≡ is_changed
+
+abbrev pub IsTold : Progress → First → Option Bytes → Option Bytes → Type 0
+IsTold (Loading answer) first stored entry = LoadTold answer stored entry
+IsTold (Writing is_changed report) first stored entry = WriteTold first is_changed report stored entry
 
 abbrev pub KeyTold : Option Part → Option Bytes → Option Bytes → Type 0
 KeyTold None stored entry = Agrees entry stored
-KeyTold (Some part) stored entry = IsTold part stored entry
+KeyTold (Some part) stored entry = IsTold part.progress part.reservation.first stored entry
 
 -- 6. The world. While it is fresh, nothing is cached, reserved, joined or under way.
 pub record IsSoundWorld (w : WorldState) : Type 0 where

@@ -13,17 +13,18 @@
 --     over                            the calls without one that is over
 --     of_call                         a part, if it is this call's
 --     part_of                         what a call has asked and heard for a key that it has reserved
---     waits_for_load                  the loader was asked, and hasn't answered
---     waits_for_report                the writer was asked, and hasn't returned
---     is_answered                     all that was asked is answered
---     is_untouched                    the key is reserved, and nothing was said outside for it, and nothing done
---     out_of                          what was said outside for a part
+--     load_due, waits_for_load        the loader was asked, and hasn't answered: by the progress of a key, and by its part
+--     report_due, waits_for_report    the writer was asked, and hasn't returned
+--     is_over, is_answered            the one who was asked has answered
+--     nothing_done, is_untouched      the key is reserved, and nothing was said outside for it, and nothing done
+--     has_changed                     the writer has changed the store
+--     out_in, out_of                  what was said outside
 --     is_join                         a join is of this call and this key
 --     join_of                         a call's join of a key, if it has one
 --     is_joined                       a call has joined a load of a key, and hasn't its answer
 --     unjoined                        the joins of the others
 --     with_stored                     the world with this value in its store
-use Rattle.std.specs.Prelude.{◌==◌, ℕ, zero, suc, ◌+◌, List, [], ◌∷◌, Bool, true, false, not, ◌&&◌, ◌||◌, Option, None, Some, find, filter, slice_get, if◌then◌else◌}
+use Rattle.std.specs.Prelude.{◌==◌, ℕ, zero, suc, ◌+◌, List, [], ◌∷◌, Bool, true, false, not, ◌&&◌, Option, None, Some, find, filter, slice_get, if◌then◌else◌}
 use Rattle.std.specs.List.{list_any}
 use Rattle.std.specs.Cmp.Lexicographic.{pointwise}
 use Rattle.std.specs.FinMap.{FinMap, empty}
@@ -32,14 +33,16 @@ use Rattle.jc_types.specs.declared.config.Config.{Config}
 use Rattle.jc_types.specs.Stripes.{stripe_of}
 use Rattle.jc_model.specs.declared.event.Event.{Event}
 use Rattle.jc_model.specs.declared.event.Out.{Out}
-use Rattle.jc_model.specs.declared.event.ProcessAnswer.TheVariants as process
 use Rattle.jc_model.specs.Cache.{Bytes, Cache, key_cmp, entry_at, with_entry}
 use Rattle.jc_model.specs.Table.{is_load_given, is_write_given}
+use Rattle.jc_model.specs.Group.{load_only, write_only}
 use Rattle.jc_stripe.specs.declared.ticket.Origin.TheVariants.{Played}
-use Rattle.jc_stripe.specs.Tickets.{JoinClaim, asks_loader, asks_writer}
+use Rattle.jc_stripe.specs.Tickets.{JoinClaim}
 use Rattle.jc_stripe.specs.State.{State}
 use Rattle.jc_world.specs.declared.event.Under.{Under}
 use Rattle.jc_world.specs.declared.event.Part.{Part}
+use Rattle.jc_world.specs.declared.event.Progress.{Progress}
+use Rattle.jc_world.specs.declared.event.Progress.TheVariants.{Loading, Writing}
 use Rattle.jc_world.specs.declared.event.Premises.{Premises}
 
 -- by key, what the call that has reserved it asked and heard so far
@@ -128,28 +131,53 @@ abbrev pub part_of : WorldState → ℕ → Bytes → Option Part
 part_of w call key = of_call call (map.get w.parts key)
 
 -- the loader was asked, and hasn't answered
+abbrev pub load_due : Progress → Bool
+load_due (Loading answer) = not (is_load_given answer)
+load_due (Writing is_changed report) = false
+
 abbrev pub waits_for_load : Option Part → Bool
 waits_for_load None = false
-waits_for_load (Some part) = asks_loader part.reservation.first && not (is_load_given part.load)
+waits_for_load (Some part) = load_due part.progress
 
 -- the writer was asked, and hasn't returned
+abbrev pub report_due : Progress → Bool
+report_due (Loading answer) = false
+report_due (Writing is_changed report) = not (is_write_given report)
+
 abbrev pub waits_for_report : Option Part → Bool
 waits_for_report None = false
-waits_for_report (Some part) = asks_writer part.reservation.first && not (is_write_given part.report)
+waits_for_report (Some part) = report_due part.progress
 
--- all that was asked is answered
+-- the one who was asked has answered
+abbrev pub is_over : Progress → Bool
+is_over (Loading answer) = is_load_given answer
+is_over (Writing is_changed report) = is_write_given report
+
 abbrev pub is_answered : Option Part → Bool
 is_answered None = false
-is_answered (Some part) = (asks_loader part.reservation.first && is_load_given part.load) || (asks_writer part.reservation.first && is_write_given part.report)
+is_answered (Some part) = is_over part.progress
 
 -- nothing was said outside, and nothing done
+abbrev pub nothing_done : Progress → Bool
+nothing_done (Loading answer) = not (is_load_given answer)
+nothing_done (Writing is_changed report) = not is_changed && not (is_write_given report)
+
 abbrev pub is_untouched : Option Part → Bool
 is_untouched None = false
-is_untouched (Some part) = not (is_load_given part.load) && not part.is_changed && not (is_write_given part.report)
+is_untouched (Some part) = nothing_done part.progress
+
+-- the writer has changed the store
+abbrev pub has_changed : Progress → Bool
+has_changed (Loading answer) = false
+has_changed (Writing is_changed report) = is_changed
 
 -- what was said outside
+abbrev pub out_in : Progress → Out
+out_in (Loading answer) = load_only answer
+out_in (Writing is_changed report) = write_only report
+
 abbrev pub out_of : Part → Out
-out_of part = record { load = part.load; write = part.report; process = process.NotAsked }
+out_of part = out_in part.progress
 
 -- 4. The calls that have joined a load.
 

@@ -190,17 +190,30 @@ pub struct Under {
     pub command: Command,
 }
 
-/// A key that a call has reserved: whom the call asked, and what was said so far.
+/// A key that a call has reserved: for what, and how far that is.
 #[derive(Clone, Copy, Debug, PartialEq, Eq)]
 pub struct Part {
     /// The reservation: who reserved the key, for what, and whom the call asked. It is the loader, or the writer for a change.
     pub reservation: Reservation,
-    /// What the loader said so far: `NotAsked` until it has answered.
-    pub load: LoadAnswer,
-    /// Whether the writer has changed the store.
-    pub is_changed: bool,
-    /// What the writer reported so far: `NotAsked` until it has returned.
-    pub report: WriteAnswer,
+    /// What the one who was asked has done and answered so far.
+    pub progress: Progress,
+}
+
+/// What was done and answered so far for a reserved key.
+#[derive(Clone, Copy, Debug, PartialEq, Eq)]
+pub enum Progress {
+    /// The loader was asked.
+    Loading {
+        /// Its answer: `NotAsked` until it has come.
+        answer: LoadAnswer,
+    },
+    /// The writer was asked.
+    Writing {
+        /// Whether it has changed the store.
+        is_changed: bool,
+        /// Its report: `NotAsked` until it has returned.
+        report: WriteAnswer,
+    },
 }
 
 /// What has held so far of those outside.

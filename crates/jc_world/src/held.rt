@@ -10,12 +10,13 @@ ghost use Rattle.jc_stripe.specs.Phases.{Commits, Withdraws};
 ghost use Rattle.jc_stripe.specs.Tickets.{asks_loader, asks_writer};
 ghost use Rattle.jc_stripe.specs.declared.ticket.First.TheVariants.{Writer};
 ghost use Rattle.jc_stripe.specs.declared.ticket.Origin.TheVariants.{Played};
+ghost use Rattle.jc_world.specs.declared.event.Progress.TheVariants.{Loading};
 ghost use Rattle.jc_world.specs.Premises.{changed_to, report_of};
-ghost use Rattle.jc_world.specs.World.{out_of, is_answered, is_untouched, waits_for_load, waits_for_report};
-ghost use Rattle.jc_world.specs.Events.{new_part};
+ghost use Rattle.jc_world.specs.World.{has_changed, out_of, is_answered, is_untouched, waits_for_load, waits_for_report};
+ghost use Rattle.jc_world.specs.Events.{load_asked, write_asked, new_part, with_change, with_report};
 ghost use Rattle.jc_world.specs.Held.{load_in, report_in};
 
-use crate::event::{Part, Reported};
+use crate::event::{Part, Progress, Reported};
 use crate::outside::{entry_after, report_with};
 use jc_model::{Change, Contents, LoadAnswer, WriteAnswer};
 use jc_stripe::{
@@ -107,7 +108,7 @@ impl Held {
     pub(crate) fn loading(ticket: LoadTicket) -> Held
         requires unasked { ticket.asked ≡ false }
         requires loader { asks_loader ticket.reservation.first ≡ true }
-        ensures { result ≡ new_part ticket.reservation }
+        ensures { result ≡ new_part load_asked ticket.reservation }
     {
         Held {
             asked: Asked::Loader {
@@ -121,7 +122,7 @@ impl Held {
     pub(crate) fn writing(ticket: WriteTicket) -> Held
         requires unasked { ticket.asked ≡ false }
         requires writer { asks_writer ticket.reservation.first ≡ true }
-        ensures { result ≡ new_part ticket.reservation }
+        ensures { result ≡ new_part write_asked ticket.reservation }
     {
         Held {
             asked: Asked::Writer {
@@ -167,9 +168,9 @@ impl Held {
         match &self.asked {
             Asked::Loader { ticket, loaded } => Part {
                 reservation: *ticket.reservation(),
-                load: load_in(loaded),
-                is_changed: false,
-                report: WriteAnswer::NotAsked,
+                progress: Progress::Loading {
+                    answer: load_in(loaded),
+                },
             },
             Asked::Writer {
                 ticket,
@@ -177,9 +178,10 @@ impl Held {
                 written,
             } => Part {
                 reservation: *ticket.reservation(),
-                load: LoadAnswer::NotAsked,
-                is_changed: *is_changed,
-                report: report_in(written),
+                progress: Progress::Writing {
+                    is_changed: *is_changed,
+                    report: report_in(written),
+                },
             },
         }
     }
@@ -245,7 +247,7 @@ impl Held {
 
     /// Whether the writer has changed the store.
     pub(crate) fn is_changed(&self) -> bool
-        ensures { result ≡ self.now.is_changed }
+        ensures { result ≡ has_changed self.now.progress }
     {
         match &self.asked {
             Asked::Loader {
@@ -264,7 +266,7 @@ impl Held {
     pub(crate) fn tell(&mut self, answer: LoadAnswer)
         requires waits { waits_for_load (Some self.old) ≡ true }
         requires given { is_load_given answer ≡ true }
-        ensures { self.new ≡ record self.old { load = answer } }
+        ensures { self.new ≡ record self.old { progress = Loading answer } }
     {
         match &mut self.asked {
             Asked::Loader { ticket, loaded } => {
@@ -287,7 +289,7 @@ impl Held {
     /// The writer changes the store as it was asked.
     pub(crate) fn change(&mut self, store: &mut Contents, key: &Key) -> Result<(), AllocError>
         requires { waits_for_report (Some self.old) ≡ true }
-        ensures ok { OnOk result ((change : Change) × (self.old.reservation.first ≡ Writer change) × (self.new ≡ record self.old { is_changed = true }) × (store.new ≡ with_entry store.old key.now (changed_to change))) }
+        ensures ok { OnOk result ((change : Change) × (self.old.reservation.first ≡ Writer change) × (self.new ≡ record self.old { progress = with_change self.old.progress }) × (store.new ≡ with_entry store.old key.now (changed_to change))) }
         ensures err { OnErr result ((self.new ≡ self.old) × (store.new ≡ store.old)) }
     {
         match &mut self.asked {
@@ -312,9 +314,9 @@ impl Held {
     pub(crate) fn report(&mut self, fault: Option<u32>) -> Reported
         requires { waits_for_report (Some self.old) ≡ true }
         ensures change { self.old.reservation.first ≡ Writer result.change }
-        ensures changed { result.is_changed ≡ self.old.is_changed }
+        ensures changed { result.is_changed ≡ has_changed self.old.progress }
         ensures fault { result.fault ≡ fault }
-        ensures report { self.new ≡ record self.old { report = report_of fault } }
+        ensures report { self.new ≡ record self.old { progress = with_report self.old.progress (report_of fault) } }
     {
         match &mut self.asked {
             Asked::Loader {

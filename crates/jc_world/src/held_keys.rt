@@ -7,9 +7,10 @@ ghost use Rattle.jc_model.specs.Cache.{Bytes, with_entry};
 ghost use Rattle.jc_model.specs.Table.{is_load_given};
 ghost use Rattle.jc_stripe.specs.declared.ticket.First.TheVariants.{Writer};
 ghost use Rattle.jc_world.specs.declared.event.Part.{Part};
+ghost use Rattle.jc_world.specs.declared.event.Progress.TheVariants.{Loading};
 ghost use Rattle.jc_world.specs.Premises.{changed_to, report_of};
-ghost use Rattle.jc_world.specs.World.{of_call, waits_for_load, waits_for_report};
-ghost use Rattle.jc_world.specs.Events.{new_part};
+ghost use Rattle.jc_world.specs.World.{has_changed, of_call, waits_for_load, waits_for_report};
+ghost use Rattle.jc_world.specs.Events.{load_asked, write_asked, new_part, with_change, with_report};
 ghost use Rattle.jc_world.specs.Held.{parts_of};
 
 use crate::event::Reported;
@@ -51,7 +52,7 @@ pub(crate) fn hold_load(held: &mut HeldKeys, ticket: LoadTicket)
     requires room { 0 < spare held.old }
     requires unasked { ticket.asked ≡ false }
     requires free { map.get (parts_of held.old) ticket.reservation.key ≡ None }
-    ensures { parts_of held.new ≡ map.insert (parts_of held.old) ticket.reservation.key (new_part ticket.reservation) }
+    ensures { parts_of held.new ≡ map.insert (parts_of held.old) ticket.reservation.key (new_part load_asked ticket.reservation) }
 {
     let key = ticket.reservation().key;
     put_reserved(held, &key, Held::loading(ticket));
@@ -64,7 +65,7 @@ pub(crate) fn hold_write(held: &mut HeldKeys, ticket: WriteTicket) -> Change
     requires unasked { ticket.asked ≡ false }
     requires free { map.get (parts_of held.old) ticket.reservation.key ≡ None }
     ensures change { ticket.reservation.first ≡ Writer result }
-    ensures parts { parts_of held.new ≡ map.insert (parts_of held.old) ticket.reservation.key (new_part ticket.reservation) }
+    ensures parts { parts_of held.new ≡ map.insert (parts_of held.old) ticket.reservation.key (new_part write_asked ticket.reservation) }
 {
     let change = change_for(&ticket);
     let key = ticket.reservation().key;
@@ -93,7 +94,7 @@ pub(crate) fn held_by<'a>(held: &'a HeldKeys, call: u64, key: &Key) -> Option<&'
 pub(crate) fn tell(held: &mut HeldKeys, key: &Key, answer: LoadAnswer)
     requires waits { waits_for_load (map.get (parts_of held.old) key.now) ≡ true }
     requires given { is_load_given answer ≡ true }
-    ensures { (part : Part) × (map.get (parts_of held.old) key.now ≡ Some part) × (parts_of held.new ≡ map.insert (parts_of held.old) key.now (record part { load = answer })) }
+    ensures { (part : Part) × (map.get (parts_of held.old) key.now ≡ Some part) × (parts_of held.new ≡ map.insert (parts_of held.old) key.now (record part { progress = Loading answer })) }
 {
     match held.get_mut(key) {
         Some(one) => one.tell(answer),
@@ -105,7 +106,7 @@ pub(crate) fn tell(held: &mut HeldKeys, key: &Key, answer: LoadAnswer)
 pub(crate) fn change(held: &mut HeldKeys, store: &mut Contents, key: &Key) -> Result<(), AllocError>
     requires { waits_for_report (map.get (parts_of held.old) key.now) ≡ true }
     ensures ok { OnOk result ((part : Part) × (change : Change) × (map.get (parts_of held.old) key.now ≡ Some part) × (part.reservation.first ≡ Writer change)
-        × (parts_of held.new ≡ map.insert (parts_of held.old) key.now (record part { is_changed = true })) × (store.new ≡ with_entry store.old key.now (changed_to change))) }
+        × (parts_of held.new ≡ map.insert (parts_of held.old) key.now (record part { progress = with_change part.progress })) × (store.new ≡ with_entry store.old key.now (changed_to change))) }
     ensures err { OnErr result ((parts_of held.new ≡ parts_of held.old) × (store.new ≡ store.old)) }
 {
     match held.get_mut(key) {
@@ -118,7 +119,7 @@ pub(crate) fn change(held: &mut HeldKeys, store: &mut Contents, key: &Key) -> Re
 pub(crate) fn report(held: &mut HeldKeys, key: &Key, fault: Option<u32>) -> Reported
     requires { waits_for_report (map.get (parts_of held.old) key.now) ≡ true }
     ensures { (part : Part) × (change : Change) × (map.get (parts_of held.old) key.now ≡ Some part) × (part.reservation.first ≡ Writer change)
-        × (result ≡ record { change = change; is_changed = part.is_changed; fault = fault }) × (parts_of held.new ≡ map.insert (parts_of held.old) key.now (record part { report = report_of fault })) }
+        × (result ≡ record { change = change; is_changed = has_changed part.progress; fault = fault }) × (parts_of held.new ≡ map.insert (parts_of held.old) key.now (record part { progress = with_report part.progress (report_of fault) })) }
 {
     match held.get_mut(key) {
         Some(one) => one.report(fault),

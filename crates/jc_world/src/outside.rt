@@ -2,7 +2,7 @@
 ghost use Rattle.std.specs.Prelude.{◌≡◌, ◌&&◌, option_copied};
 ghost use Rattle.std.specs.Bool.{beq};
 ghost use Rattle.jc_world.specs.World.{waits_for_load, waits_for_report, is_answered, is_untouched};
-ghost use Rattle.jc_world.specs.Premises.{read_answer, changed_to, report_of, is_true_load, is_done};
+ghost use Rattle.jc_world.specs.Premises.{read_answer, changed_to, report_of, is_true_load, is_true_report};
 
 use crate::event::Reported;
 use crate::held::Held;
@@ -91,7 +91,7 @@ fn are_alike(was: bool, said: bool) -> bool
 
 /// Whether a report says success exactly if the store was changed.
 pub(crate) fn is_honest_report(reported: &Reported) -> bool
-    ensures { result ≡ beq reported.now.is_changed (is_done (report_of reported.now.fault)) }
+    ensures { result ≡ is_true_report (report_of reported.now.fault) reported.now.is_changed }
 {
     are_alike(reported.is_changed, reported.fault.is_none())
 }

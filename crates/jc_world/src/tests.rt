@@ -2,10 +2,10 @@
 //! withdrawal whose call isn't over. What scripts can say is tested by scripts, in `jc_tests`.
 //!
 //! Each test ends with `close`, since a world can't be dropped.
-use crate::event::Shown;
+use crate::event::{Progress, Shown};
 use crate::world::World;
 use courses::{event_of, plays};
-use jc_model::{Change, Event, LoadAnswer, Op, Reply, WriteAnswer, legal};
+use jc_model::{Change, Event, Op, Reply, WriteAnswer, legal};
 use jc_stripe::{First, Reservation};
 use jc_types::{Caller, Config, Field, Key, Refusal, Value};
 use std::alloc::Global;
@@ -171,8 +171,11 @@ fn is_reserved(rt: &impl Abort, world: &World) {
     let a = key_of(rt, "a");
     let part = world.part(101, &a).expect(rt, "a is reserved");
     assert!(rt; is_of_the_put(rt, &part.reservation), "it is the put");
-    assert!(rt; part.load == LoadAnswer::NotAsked && part.is_changed);
-    assert!(rt; part.report == WriteAnswer::NotAsked);
+    let changed = Progress::Writing {
+        is_changed: true,
+        report: WriteAnswer::NotAsked,
+    };
+    assert!(rt; part.progress == changed, "the writer has changed the store");
     assert!(rt; world.part(102, &a).is_none(), "call 102 is over");
 }
 

@@ -5,7 +5,7 @@ ghost use Rattle.jc_stripe.specs.declared.ticket.First.TheVariants.{Writer};
 ghost use Rattle.jc_model.specs.declared.event.Change.{Change};
 ghost use Rattle.jc_world.specs.declared.event.WorldEvent.TheVariants as event;
 ghost use Rattle.jc_world.specs.declared.event.Part.{Part};
-ghost use Rattle.jc_world.specs.World.{under, part_of, waits_for_load, waits_for_report};
+ghost use Rattle.jc_world.specs.World.{has_changed, under, part_of, waits_for_load, waits_for_report};
 ghost use Rattle.jc_world.specs.Premises.{report_of};
 ghost use Rattle.jc_world.specs.Events.{fits, answered, reported, Happens};
 ghost use Rattle.jc_world.specs.Coherent.{is_changed};
@@ -78,7 +78,7 @@ impl Machine {
     fn report(&mut self, call: u64, key: &Key, fault: Option<u32>) -> Reported
         requires { waits_for_report (part_of self.old call key.now) ≡ true }
         ensures { (part : Part) × (change : Change) × (part_of self.old call key.now ≡ Some part) × (part.reservation.first ≡ Writer change)
-            × (result ≡ record { change = change; is_changed = part.is_changed; fault = fault }) × (self.new ≡ reported self.old key.now part (report_of fault)) }
+            × (result ≡ record { change = change; is_changed = has_changed part.progress; fault = fault }) × (self.new ≡ reported self.old key.now part (report_of fault)) }
     {
         let reported = report(&mut self.held, key, fault);
         let honest = is_honest_report(&reported);

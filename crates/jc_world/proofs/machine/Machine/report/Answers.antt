@@ -1,9 +1,8 @@
 use Rattle.std.proofs.Common.{◌≡◌, ◌&&◌, true, Some, subst, sym, ap, ◌∙◌}
-use Rattle.std.specs.Bool.{beq}
 use Rattle.std.specs.FinMap.{get}
 use Rattle.jc_world.specs.declared.event.Reported.{Reported}
-use Rattle.jc_world.specs.World.{WorldState, part_of, waits_for_report}
-use Rattle.jc_world.specs.Premises.{report_of, is_done, is_true_report}
+use Rattle.jc_world.specs.World.{WorldState, has_changed, part_of, waits_for_report}
+use Rattle.jc_world.specs.Premises.{report_of, is_true_report}
 use Rattle.jc_world.specs.Events.{reported}
 use Rattle.jc_world.specs.Inside.{world_of}
 use Rattle.jc_world.proofs.Holding.{of_key}
@@ -26,7 +25,7 @@ returns c =
     let there : part_of v c.args.call key ≡ Some part = of.1 ∙ sym of.2 ∙ said.2 in
     let report = report_of c.args.fault in
     let next = world_of (record c.self.inside { held = c.report-reported.new.held; premises = record c.self.inside.premises { writers = c.and_now-self-inside.result } }) in
-    let writers : c.and_now-self-inside.result ≡ (c.self.inside.premises.writers && is_true_report report part) =
-    c.and_now-self-inside.ensures ∙ ap (λ b. c.self.inside.premises.writers && b) (c.is_honest_report-honest.ensures ∙ ap (λ (r : Reported). beq r.is_changed (is_done (report_of r.fault))) said.4) in
+    let writers : c.and_now-self-inside.result ≡ (c.self.inside.premises.writers && is_true_report report (has_changed part.progress)) =
+    c.and_now-self-inside.ensures ∙ ap (λ b. c.self.inside.premises.writers && b) (c.is_honest_report-honest.ensures ∙ ap (λ (r : Reported). is_true_report (report_of r.fault) r.is_changed) said.4) in
     let is : next ≡ reported v key part report = λ i. record v { parts = said.5 i; premises = record c.self.inside.premises { writers = writers i } } in
     (part, said.1, sym (ap (λ (x : WorldState). part_of x c.args.call key) c.self.view_is) ∙ there, said.3, said.4, is ∙ ap (λ (x : WorldState). reported x key part report) c.self.view_is)

@@ -8,7 +8,7 @@ use Rattle.jc_world.specs.declared.event.Under.{Under}
 use Rattle.jc_world.specs.declared.event.Shown.TheVariants as shown
 use Rattle.jc_world.specs.declared.event.WorldEvent.TheVariants as event
 use Rattle.jc_world.specs.World.{WorldState, has_number, under}
-use Rattle.jc_world.specs.Events.{new_part, Happens}
+use Rattle.jc_world.specs.Events.{load_asked, write_asked, new_part, Happens}
 use Rattle.jc_world.specs.Sound.{IsSoundWorld}
 use Rattle.jc_world.specs.Inside.{world_of}
 use Rattle.jc_world.specs.Turns.{OrderedStripes, IsPhase}
@@ -86,7 +86,7 @@ returns-in-Load-clause-ok c =
     let is : under v c.args.call ≡ Some u = found _ _ c.args.call _ u c.deref.ensures.value c.find_call.ensures (ap option_copied c.in-Some.is) in
     let p = told v c.self.inside.stripes c.reserve.new.self c.begin-begun.new.self c.stripe_of-number.result c.reserve.new.self.room u c.begin-begun.result (begun.Load c.in-Load.ticket) refl refl c.in_ok-reserve.ensures.same c.in-Load.is c.begin-begun.ensures in
     let free = free_load v u c.stripe_of-number.result c.in-Load.ticket _ _ c.stripe_of-number.ensures p (subst IsSoundWorld (sym c.self.view_is) c.requires.sound) in
-    let put = c.hold_load.ensures ∙ (λ i. insert (c.in_ok-make_room.ensures.parts i) (free.1 i) (new_part c.in-Load.ticket.reservation)) in
+    let put = c.hold_load.ensures ∙ (λ i. insert (c.in_ok-make_room.ensures.parts i) (free.1 i) (new_part load_asked c.in-Load.ticket.reservation)) in
     let next = world_of (record c.self.inside { stripes = c.begin-begun.new.self; held = c.hold_load.new.held; joins = c.try_reserve.new.self }) in
     let R : WorldState → Type 0 = λ x. Happens x (event.Start c.args.call c.args.key.now) shown.Loads next in
     subst R c.self.view_is (started_loads v next c.args.call c.args.key.now u c.stripe_of-number.result c.in-Load.ticket _ _ _ is c.stripe_of-number.ensures p put
@@ -99,7 +99,7 @@ returns-in-Write-clause-ok c =
     let is : under v c.args.call ≡ Some u = found _ _ c.args.call _ u c.deref.ensures.value c.find_call.ensures (ap option_copied c.in-Some.is) in
     let p = told v c.self.inside.stripes c.reserve.new.self c.begin-begun.new.self c.stripe_of-number.result c.reserve.new.self.room u c.begin-begun.result (begun.Write c.in-Write.ticket) refl refl c.in_ok-reserve.ensures.same c.in-Write.is c.begin-begun.ensures in
     let free = free_write v u c.stripe_of-number.result c.in-Write.ticket _ _ c.stripe_of-number.ensures p (subst IsSoundWorld (sym c.self.view_is) c.requires.sound) in
-    let put = c.hold_write.ensures.parts ∙ (λ i. insert (c.in_ok-make_room.ensures.parts i) (free.1 i) (new_part c.in-Write.ticket.reservation)) in
+    let put = c.hold_write.ensures.parts ∙ (λ i. insert (c.in_ok-make_room.ensures.parts i) (free.1 i) (new_part write_asked c.in-Write.ticket.reservation)) in
     let next = world_of (record c.self.inside { stripes = c.begin-begun.new.self; held = c.hold_write.new.held; joins = c.try_reserve.new.self }) in
     let R : WorldState → Type 0 = λ x. Happens x (event.Start c.args.call c.args.key.now) (shown.Asks c.hold_write.result) next in
     subst R c.self.view_is (started_asks v next c.args.call c.args.key.now u c.stripe_of-number.result c.in-Write.ticket c.hold_write.result _ _ _ is c.stripe_of-number.ensures p c.hold_write.ensures.change put
