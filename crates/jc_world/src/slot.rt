@@ -7,7 +7,7 @@ ghost use Rattle.jc_stripe.specs.declared.begun.StepDone.{StepDone};
 ghost use Rattle.jc_stripe.specs.State.{IsOut};
 ghost use Rattle.jc_stripe.specs.Phases.{Commits, Withdraws};
 ghost use Rattle.jc_stripe.specs.declared.ticket.First.TheVariants.{Writer};
-ghost use Rattle.jc_stripe.specs.declared.ticket.Origin.TheVariants.{Played};
+ghost use Rattle.jc_outside.specs.declared.done.Origin.TheVariants.{Played};
 ghost use Rattle.jc_world.specs.World.{out_of, is_answered};
 ghost use Rattle.jc_world.specs.Events.{new_part};
 ghost use Rattle.jc_world.specs.Sound.{KindFits};

@@ -2,7 +2,7 @@ use Rattle.std.proofs.Common.{◌≡◌, Some, IsSomeAnd, true, is_some, slice_g
 use Rattle.jc_model.specs.Cache.{entry_at}
 use Rattle.jc_stripe.specs.State.{IsOut}
 use Rattle.jc_stripe.specs.Phases.{Commits}
-use Rattle.jc_stripe.specs.declared.ticket.Origin.TheVariants.{Played}
+use Rattle.jc_outside.specs.declared.done.Origin.TheVariants.{Played}
 use Rattle.jc_world.specs.declared.event.Shown.TheVariants as shown
 use Rattle.jc_world.specs.declared.event.WorldEvent.TheVariants as event
 use Rattle.jc_world.specs.World.{WorldState, out_of, is_answered}
