@@ -25,7 +25,7 @@ use Rattle.jc_model.specs.declared.event.Event.{Event}
 use Rattle.jc_model.specs.Cache.{Bytes, Cache}
 use Rattle.jc_inflight.specs.declared.joiner.Joiner.{Joiner}
 use Rattle.jc_inflight.specs.Joining.{is_waiting, belongs_to}
-use Rattle.jc_stripe.specs.declared.ticket.Origin.{Origin}
+use Rattle.jc_outside.specs.declared.done.Origin.{Origin}
 use Rattle.jc_stripe.specs.declared.ticket.First.{First}
 use Rattle.jc_stripe.specs.declared.ticket.Reservation.{Reservation}
 use Rattle.jc_stripe.specs.Tickets.{JoinClaim}

@@ -1,18 +1,13 @@
--- What tickets, joins and done values are, as data.
+-- What tickets and joins are, as data.
 --     Ticket        the ticket of a reservation: the whole reservation, and whether its loader or writer was asked
 --     asks_loader   the one whom a reservation asks first is the loader
 --     asks_writer   the one whom a reservation asks first is the writer
 --     change_asked  the change of the store that the writer is asked for, if it is the writer who is asked
 --     JoinClaim     a call that has joined the load of its key
---     LoadSaid      what a loader answered for a reservation, and where that comes from
---     WriteSaid     what a writer reported for a reservation, and where that comes from
 use Rattle.std.specs.Prelude.{ℕ, Bool, true, false, Option, None, Some}
 use Rattle.jc_types.specs.declared.caller.Caller.{Caller}
 use Rattle.jc_model.specs.Cache.{Bytes}
 use Rattle.jc_model.specs.declared.event.Change.{Change}
-use Rattle.jc_model.specs.declared.event.LoadAnswer.{LoadAnswer}
-use Rattle.jc_model.specs.declared.event.WriteAnswer.{WriteAnswer}
-use Rattle.jc_stripe.specs.declared.ticket.Origin.{Origin}
 use Rattle.jc_stripe.specs.declared.ticket.First.{First}
 use Rattle.jc_stripe.specs.declared.ticket.First.TheVariants.{Nobody, Loader, Writer, Processor}
 use Rattle.jc_stripe.specs.declared.ticket.Reservation.{Reservation}
@@ -44,13 +39,3 @@ pub record JoinClaim : Type 0 where
   pub caller : Caller
   pub key : Bytes
   pub load : ℕ
-
-pub record LoadSaid : Type 0 where
-  pub reservation : Reservation
-  pub origin : Origin
-  pub answer : LoadAnswer
-
-pub record WriteSaid : Type 0 where
-  pub reservation : Reservation
-  pub origin : Origin
-  pub answer : WriteAnswer

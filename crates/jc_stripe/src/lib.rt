@@ -12,7 +12,7 @@ mod ticket;
 
 pub use begun::{Begun, Eviction, Picked, StepDone};
 pub use stripe::Stripe;
+pub use jc_outside::{LoadDone, Origin, WriteDone, played_load, played_write};
 pub use ticket::{
-    First, Join, LoadAsk, LoadDone, LoadTicket, Origin, Reservation, WriteAsk, WriteDone,
-    WriteTicket, played_load, played_write,
+    First, Join, LoadAsk, LoadTicket, Receipt, Reservation, WriteAsk, WriteTicket,
 };

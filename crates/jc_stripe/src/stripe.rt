@@ -29,12 +29,13 @@ use crate::appending::{append_group, make_step, touching_step};
 use crate::begun::{Begun, Picked, StepDone};
 use crate::needs::{Found, places_needed};
 use crate::ticket::{
-    First, Join, LoadDone, LoadTicket, Note, Origin, Reservation, WriteDone, WriteTicket,
+    First, Join, LoadAsk, LoadTicket, Note, Reservation, WriteAsk, WriteTicket,
 };
 use jc_entries::Entries;
 use jc_history::History;
 use jc_inflight::{JoinState, Joiners};
 use jc_model::{Change, Event, Op, Out};
+use jc_outside::{LoadDone, Origin, WriteDone};
 use jc_reserve::Reservations;
 use jc_types::{Caller, Config, HIT_PLACES, Key, STEP_PLACES, Value};
 use std::alloc::{AllocError, Global};
@@ -133,14 +134,16 @@ impl Stripe {
     ///
     /// Conditions: the ticket's reservation is out here: it is this stripe's of its key. `done` was made of this ticket's ask,
     /// and has this stripe's origin.
-    pub fn commit_load(&mut self, ticket: LoadTicket, done: LoadDone) -> StepDone
+    pub fn commit_load(&mut self, ticket: LoadTicket, done: LoadDone<LoadAsk>) -> StepDone
         requires out { IsOut self.old ticket.reservation }
-        requires claim { done.reservation ≡ ticket.reservation }
+        requires claim { done.ask ≡ ticket.reservation }
         requires origin { done.origin ≡ self.old.origin }
         ensures commits { Commits self.old ticket.reservation (load_only done.answer) result self.new }
         ensures phase { IsPhaseOf ticket.reservation.caller.session self.old self.new }
     {
-        self.commit(&ticket.spend(), &Out::load_only(done.into_answer()))
+        let (receipt, answer) = done.into_parts();
+        receipt.spend();
+        self.commit(&ticket.spend(), &Out::load_only(answer))
     }
 
     /// The last phase of a call whose writer was asked: its reservation ends, and its step is appended with the writer's report.
@@ -148,14 +151,16 @@ impl Stripe {
     ///
     /// Conditions: the ticket's reservation is out here: it is this stripe's of its key. `done` was made of this ticket's ask,
     /// and has this stripe's origin.
-    pub fn commit_write(&mut self, ticket: WriteTicket, done: WriteDone) -> StepDone
+    pub fn commit_write(&mut self, ticket: WriteTicket, done: WriteDone<WriteAsk>) -> StepDone
         requires out { IsOut self.old ticket.reservation }
-        requires claim { done.reservation ≡ ticket.reservation }
+        requires claim { done.ask ≡ ticket.reservation }
         requires origin { done.origin ≡ self.old.origin }
         ensures commits { Commits self.old ticket.reservation (write_only done.answer) result self.new }
         ensures phase { IsPhaseOf ticket.reservation.caller.session self.old self.new }
     {
-        self.commit(&ticket.spend(), &Out::write_only(done.into_answer()))
+        let (receipt, answer) = done.into_parts();
+        receipt.spend();
+        self.commit(&ticket.spend(), &Out::write_only(answer))
     }
 
     /// Gives a loader's ticket back that was not asked: nothing is appended, and the entry stays. Each call that has joined the

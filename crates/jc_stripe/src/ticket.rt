@@ -1,27 +1,17 @@
-//! Reservations, the tickets that stand for them, and what is asked and answered outside for them.
+//! Reservations, the tickets that stand for them, and what is asked outside for them.
 //!
 //! A ticket is the caller's part of a reservation. It can't be dropped or copied: one commit or one withdrawal spends
-//! it. It asks the loader or the writer at most once, by an ask that can't be copied either; a done value is made of
-//! that ask and says what was answered, and the commit spends both. A join stands for a call that shares another
-//! call's load; picking up its answer spends it.
-ghost use Rattle.std.specs.Prelude.{◌≡◌, true, false, Option, Some};
-ghost use Rattle.jc_model.specs.Table.{is_load_given, is_write_given};
-ghost use Rattle.jc_stripe.specs.declared.ticket.Origin.TheVariants.{Played};
+//! it. It asks the loader or the writer at most once, by an ask that can't be copied either; a done value of
+//! `jc_outside` is made of that ask and says what was answered, and the commit spends both. A join stands for a call that
+//! shares another call's load; picking up its answer spends it.
+ghost use Rattle.std.specs.Prelude.{◌≡◌, true, false};
 ghost use Rattle.jc_stripe.specs.declared.ticket.First.TheVariants.{Nobody};
-ghost use Rattle.jc_stripe.specs.Tickets.{asks_loader, asks_writer, change_asked};
+ghost use Rattle.jc_stripe.specs.Tickets.{asks_loader, asks_writer};
 
-use jc_model::{Change, LoadAnswer, Op, WriteAnswer};
+use jc_model::{Change, Op};
+use jc_outside::{Ask, AskWrite};
 use jc_types::{Caller, Key};
 use std::marker::Model;
-
-/// Where a stripe, and the outside answers for it, come from.
-#[derive(Clone, Copy, Debug, PartialEq, Eq)]
-pub enum Origin {
-    /// A running cache, which asks real loaders and writers.
-    Live,
-    /// A script or a test, which says what they answered.
-    Played,
-}
 
 /// Whom a call asks first.
 #[derive(Clone, Copy, Debug, PartialEq, Eq)]
@@ -212,19 +202,20 @@ impl Model for LoadAsk {
     ghost view = { λ a. a.reservation };
 }
 
-impl LoadAsk {
-    /// The key to load.
-    pub fn key(&self) -> &Key
-        ensures { result.now ≡ self.now.key }
-    {
+impl Ask for LoadAsk {
+    type Receipt = Receipt;
+
+    ghost key = { λ a. a.key };
+
+    ghost receipt = { λ a. a };
+
+    fn key(&self) -> &Key {
         &self.reservation.key
     }
 
-    fn into_reservation(self) -> Reservation
-        ensures { result ≡ self }
-    {
+    fn into_receipt(self) -> Receipt {
         let LoadAsk { reservation } = self;
-        reservation
+        Receipt { reservation }
     }
 }
 
@@ -245,125 +236,53 @@ impl Model for WriteAsk {
     ghost invariant = { λ a. asks_writer a.reservation.first ≡ true };
 }
 
-impl WriteAsk {
-    /// The key whose value in the store changes.
-    pub fn key(&self) -> &Key
-        ensures { result.now ≡ self.now.key }
-    {
+impl Ask for WriteAsk {
+    type Receipt = Receipt;
+
+    ghost key = { λ a. a.key };
+
+    ghost receipt = { λ a. a };
+
+    fn key(&self) -> &Key {
         &self.reservation.key
     }
 
-    /// What is to be written, or that it is to be deleted.
-    pub fn change(&self) -> Change
-        ensures { change_asked self.now.first ≡ Some result }
-    {
+    fn into_receipt(self) -> Receipt {
+        let WriteAsk { reservation } = self;
+        Receipt { reservation }
+    }
+}
+
+impl AskWrite for WriteAsk {
+    ghost use Rattle.jc_stripe.specs.Tickets.{change_asked};
+
+    ghost change = { λ a. change_asked a.first };
+
+    fn change(&self) -> Change {
         match self.reservation.first {
             First::Writer(change) => change,
             First::Nobody | First::Loader | First::Processor => unreachable!(),
         }
     }
-
-    fn into_reservation(self) -> Reservation
-        ensures { result ≡ self }
-    {
-        let WriteAsk { reservation } = self;
-        reservation
-    }
 }
 
-/// What a loader answered for one reservation: a value, nothing, or a failure. It is made of the reservation's ask.
-pub struct LoadDone {
+/// What is left of an ask that was answered. Its reservation's commit spends it.
+pub struct Receipt {
     reservation: Reservation,
-    origin: Origin,
-    answer: LoadAnswer,
 }
 
-impl Model for LoadDone {
-    ghost use Rattle.std.specs.Prelude.{◌≡◌, true};
-    ghost use Rattle.jc_model.specs.Table.{is_load_given};
-    ghost use Rattle.jc_stripe.specs.Tickets.{LoadSaid};
+impl Model for Receipt {
+    ghost use Rattle.jc_stripe.specs.declared.ticket.Reservation.{Reservation};
 
-    ghost Value = { LoadSaid };
+    ghost Value = { Reservation };
 
-    ghost view = { λ d. record { reservation = d.reservation; origin = d.origin; answer = d.answer } };
-
-    ghost invariant = { λ d. is_load_given d.answer ≡ true };
+    ghost view = { λ r. r.reservation };
 }
 
-impl LoadDone {
-    /// What it holds. The value is spent.
-    pub(crate) fn into_answer(self) -> LoadAnswer
-        ensures answer { result ≡ self.answer }
-        ensures given { is_load_given self.answer ≡ true }
-    {
-        let LoadDone {
-            reservation: _,
-            origin: _,
-            answer,
-        } = self;
-        answer
-    }
-}
-
-/// What a writer reported for one reservation: success or a failure. It is made of the reservation's ask.
-pub struct WriteDone {
-    reservation: Reservation,
-    origin: Origin,
-    answer: WriteAnswer,
-}
-
-impl Model for WriteDone {
-    ghost use Rattle.std.specs.Prelude.{◌≡◌, true};
-    ghost use Rattle.jc_model.specs.Table.{is_write_given};
-    ghost use Rattle.jc_stripe.specs.Tickets.{WriteSaid};
-
-    ghost Value = { WriteSaid };
-
-    ghost view = { λ d. record { reservation = d.reservation; origin = d.origin; answer = d.answer } };
-
-    ghost invariant = { λ d. is_write_given d.answer ≡ true };
-}
-
-impl WriteDone {
-    /// What it holds. The value is spent.
-    pub(crate) fn into_answer(self) -> WriteAnswer
-        ensures answer { result ≡ self.answer }
-        ensures given { is_write_given self.answer ≡ true }
-    {
-        let WriteDone {
-            reservation: _,
-            origin: _,
-            answer,
-        } = self;
-        answer
-    }
-}
-
-/// A loader's answer that is played: what a script or a test has it say.
-///
-/// Condition: the answer is one; it isn't `NotAsked`.
-pub fn played_load(ask: LoadAsk, answer: LoadAnswer) -> LoadDone
-    requires { is_load_given answer ≡ true }
-    ensures { result ≡ record { reservation = ask; origin = Played; answer = answer } }
-{
-    LoadDone {
-        reservation: ask.into_reservation(),
-        origin: Origin::Played,
-        answer,
-    }
-}
-
-/// A writer's report that is played: what a script or a test has it say.
-///
-/// Condition: the answer is one; it isn't `NotAsked`.
-pub fn played_write(ask: WriteAsk, answer: WriteAnswer) -> WriteDone
-    requires { is_write_given answer ≡ true }
-    ensures { result ≡ record { reservation = ask; origin = Played; answer = answer } }
-{
-    WriteDone {
-        reservation: ask.into_reservation(),
-        origin: Origin::Played,
-        answer,
+impl Receipt {
+    /// The receipt is spent.
+    pub(crate) fn spend(self) {
+        let Receipt { reservation: _ } = self;
     }
 }
 

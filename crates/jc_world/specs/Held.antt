@@ -15,7 +15,7 @@ use Rattle.jc_model.specs.declared.event.WriteAnswer.{WriteAnswer}
 use Rattle.jc_model.specs.declared.event.WriteAnswer.TheVariants as write
 use Rattle.jc_model.specs.Cache.{Bytes}
 use Rattle.jc_model.specs.Table.{is_load_given, is_write_given}
-use Rattle.jc_stripe.specs.declared.ticket.Origin.TheVariants.{Played}
+use Rattle.jc_outside.specs.declared.done.Origin.TheVariants.{Played}
 use Rattle.jc_stripe.specs.declared.ticket.Reservation.{Reservation}
 use Rattle.jc_stripe.specs.Tickets.{Ticket, asks_loader, asks_writer}
 use Rattle.jc_world.specs.declared.event.Part.{Part}

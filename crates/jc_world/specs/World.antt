@@ -36,7 +36,7 @@ use Rattle.jc_model.specs.declared.event.Out.{Out}
 use Rattle.jc_model.specs.Cache.{Bytes, Cache, key_cmp, entry_at, with_entry}
 use Rattle.jc_model.specs.Table.{is_load_given, is_write_given}
 use Rattle.jc_model.specs.Group.{load_only, write_only}
-use Rattle.jc_stripe.specs.declared.ticket.Origin.TheVariants.{Played}
+use Rattle.jc_outside.specs.declared.done.Origin.TheVariants.{Played}
 use Rattle.jc_stripe.specs.Tickets.{JoinClaim}
 use Rattle.jc_stripe.specs.State.{State}
 use Rattle.jc_world.specs.declared.event.Under.{Under}

@@ -9,7 +9,7 @@ ghost use Rattle.jc_stripe.specs.State.{IsOut};
 ghost use Rattle.jc_stripe.specs.Phases.{Commits, Withdraws};
 ghost use Rattle.jc_stripe.specs.Tickets.{asks_loader, asks_writer};
 ghost use Rattle.jc_stripe.specs.declared.ticket.First.TheVariants.{Writer};
-ghost use Rattle.jc_stripe.specs.declared.ticket.Origin.TheVariants.{Played};
+ghost use Rattle.jc_outside.specs.declared.done.Origin.TheVariants.{Played};
 ghost use Rattle.jc_world.specs.declared.event.Progress.TheVariants.{Loading};
 ghost use Rattle.jc_world.specs.Premises.{changed_to, report_of};
 ghost use Rattle.jc_world.specs.World.{has_changed, out_of, is_answered, is_untouched, waits_for_load, waits_for_report};

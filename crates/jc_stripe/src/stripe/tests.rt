@@ -1,12 +1,12 @@
 //! Each phase once, and the limits. What a phase requires is asserted before it, in a helper that is proved once.
 ghost use Rattle.std.specs.Prelude.{◌≡◌, false, IsTrue};
-ghost use Rattle.jc_stripe.specs.declared.ticket.Origin.TheVariants.{Played};
+ghost use Rattle.jc_outside.specs.declared.done.Origin.TheVariants.{Played};
 ghost use Rattle.jc_stripe.specs.declared.begun.Begun.TheVariants.{Load, Write};
 ghost use Rattle.jc_stripe.specs.Tickets.{Ticket};
 
 use super::*;
-use crate::ticket::{played_load, played_write};
 use jc_model::{LoadAnswer, Reply, WriteAnswer};
+use jc_outside::{played_load, played_write};
 use jc_types::Refusal;
 use std::fmt::Debug;
 use std::process::Abort;

@@ -1,6 +1,6 @@
 use Rattle.std.proofs.Common.{◌≡◌, IsSomeAnd, is_some, slice_get, sym, subst, ap}
 use Rattle.jc_stripe.specs.State.{IsOut}
-use Rattle.jc_stripe.specs.declared.ticket.Origin.TheVariants.{Played}
+use Rattle.jc_outside.specs.declared.done.Origin.TheVariants.{Played}
 use Rattle.jc_world.specs.declared.event.Shown.TheVariants as shown
 use Rattle.jc_world.specs.declared.event.WorldEvent.TheVariants as event
 use Rattle.jc_world.specs.World.{WorldState}

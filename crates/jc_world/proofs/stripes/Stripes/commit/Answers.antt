@@ -1,7 +1,7 @@
 use Rattle.std.proofs.Common.{◌≡◌, slice_set, refl, sym, subst, ap, arith}
 use Rattle.jc_stripe.specs.State.{IsOut}
 use Rattle.jc_stripe.specs.Phases.{Commits}
-use Rattle.jc_stripe.specs.declared.ticket.Origin.TheVariants.{Played}
+use Rattle.jc_outside.specs.declared.done.Origin.TheVariants.{Played}
 use Rattle.jc_world.specs.World.{out_of}
 use Rattle.jc_world.specs.Turns.{AreTurns}
 use Rattle.jc_world.specs.Turns.{OrderedStripes}

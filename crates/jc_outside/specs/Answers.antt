@@ -1,0 +1,30 @@
+-- The answers of a `loadAll`, by key (`CacheLoader.loadAll`).
+--     Answered         the answers: each key that was asked, with its value or none
+--     answered_code    a code for answers, which their type needs
+--     unanswered       no answers yet, of these keys
+--     is_asked         whether a key was asked
+--     with_answer      the answers with this value at a key; of a key that wasn't asked nothing is kept
+--     answer_of        the answer at a key, or none
+use Rattle.std.specs.Prelude.{Bool, List, map, Option, None, Some, is_some, if◌then◌else◌}
+use Rattle.std.specs.Coded.{Coded, coded_list, coded_option, coded_ℕ}
+use Rattle.std.specs.FinMap.{FinMap, get, insert, from_entries, code}
+use Rattle.std.specs.Option.{option_map_or}
+use Rattle.jc_model.specs.Cache.{Bytes, key_cmp}
+
+abbrev pub Answered : Type 0
+Answered = FinMap key_cmp (Option Bytes)
+
+abbrev pub answered_code : Coded Answered
+answered_code = code (coded_list coded_ℕ) (coded_option (coded_list coded_ℕ))
+
+abbrev pub unanswered : List Bytes → Answered
+unanswered keys = from_entries (map (λ key. (key, None)) keys)
+
+abbrev pub is_asked : Answered → Bytes → Bool
+is_asked answers key = is_some (get answers key)
+
+abbrev pub with_answer : Answered → Bytes → Bytes → Answered
+with_answer answers key value = if is_asked answers key then insert answers key (Some value) else answers
+
+abbrev pub answer_of : Answered → Bytes → Option Bytes
+answer_of answers key = option_map_or (λ answer. answer) (get answers key) None

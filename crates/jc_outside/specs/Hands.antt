@@ -1,0 +1,7 @@
+-- A session's hands, as data.
+--     HandsState    how many stripes the session has taken and not given back, and what it reaches for outside
+use Rattle.std.specs.Prelude.{ℕ}
+
+pub record HandsState (T : Type 0) : Type 0 where
+  pub held : ℕ
+  pub outside : T

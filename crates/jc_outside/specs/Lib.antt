@@ -1,0 +1,4 @@
+pub mod Said
+pub mod Hands
+pub mod Answers
+pub mod Calling

@@ -1,0 +1,134 @@
+//! What was answered outside, and where that comes from.
+//!
+//! A done value holds the ask that it answers, and its type says who makes such asks. It can't be dropped or copied: the commit
+//! that ends the ask's reservation spends it.
+ghost use Rattle.std.specs.Prelude.{◌≡◌, true};
+ghost use Rattle.jc_model.specs.Table.{is_load_given, is_write_given};
+ghost use Rattle.jc_outside.specs.declared.done.Origin.TheVariants.{Played};
+
+use crate::ask::{Ask, AskWrite};
+use jc_model::{LoadAnswer, WriteAnswer};
+use std::marker::Model;
+
+/// Where a stripe, and the outside answers for it, come from.
+#[derive(Clone, Copy, Debug, PartialEq, Eq)]
+pub enum Origin {
+    /// A running cache, which asks real loaders and writers.
+    Live,
+    /// A script or a test, which says what they answered.
+    Played,
+}
+
+/// What a loader answered to one ask: a value, nothing, or a failure.
+pub struct LoadDone<A> {
+    ask: A,
+    origin: Origin,
+    answer: LoadAnswer,
+}
+
+impl<A> Model for LoadDone<A> {
+    ghost use Rattle.std.specs.Prelude.{◌≡◌, true};
+    ghost use Rattle.jc_model.specs.Table.{is_load_given};
+    ghost use Rattle.jc_outside.specs.Said.{LoadSaid};
+
+    ghost Value = { LoadSaid A };
+
+    ghost view = { λ d. record { ask = d.ask; origin = d.origin; answer = d.answer } };
+
+    ghost invariant = { λ d. is_load_given d.answer ≡ true };
+}
+
+impl<A: Ask> LoadDone<A> {
+    /// The receipt of the ask, and what was answered. The value is spent.
+    pub fn into_parts(self) -> (A::Receipt, LoadAnswer)
+        ensures receipt { result.0 ≡ A.receipt self.ask }
+        ensures answer { result.1 ≡ self.answer }
+        ensures given { is_load_given self.answer ≡ true }
+    {
+        let LoadDone {
+            ask,
+            origin: _,
+            answer,
+        } = self;
+        (ask.into_receipt(), answer)
+    }
+
+    /// The done value of an ask.
+    pub(crate) fn new(ask: A, origin: Origin, answer: LoadAnswer) -> Self
+        requires { is_load_given answer ≡ true }
+        ensures { result ≡ record { ask = ask; origin = origin; answer = answer } }
+    {
+        LoadDone {
+            ask,
+            origin,
+            answer,
+        }
+    }
+}
+
+/// What a writer reported of one ask: success or a failure.
+pub struct WriteDone<A> {
+    ask: A,
+    origin: Origin,
+    answer: WriteAnswer,
+}
+
+impl<A> Model for WriteDone<A> {
+    ghost use Rattle.std.specs.Prelude.{◌≡◌, true};
+    ghost use Rattle.jc_model.specs.Table.{is_write_given};
+    ghost use Rattle.jc_outside.specs.Said.{WriteSaid};
+
+    ghost Value = { WriteSaid A };
+
+    ghost view = { λ d. record { ask = d.ask; origin = d.origin; answer = d.answer } };
+
+    ghost invariant = { λ d. is_write_given d.answer ≡ true };
+}
+
+impl<A: AskWrite> WriteDone<A> {
+    /// The receipt of the ask, and what was reported. The value is spent.
+    pub fn into_parts(self) -> (A::Receipt, WriteAnswer)
+        ensures receipt { result.0 ≡ A.receipt self.ask }
+        ensures answer { result.1 ≡ self.answer }
+        ensures given { is_write_given self.answer ≡ true }
+    {
+        let WriteDone {
+            ask,
+            origin: _,
+            answer,
+        } = self;
+        (ask.into_receipt(), answer)
+    }
+
+    /// The done value of an ask.
+    pub(crate) fn new(ask: A, origin: Origin, answer: WriteAnswer) -> Self
+        requires { is_write_given answer ≡ true }
+        ensures { result ≡ record { ask = ask; origin = origin; answer = answer } }
+    {
+        WriteDone {
+            ask,
+            origin,
+            answer,
+        }
+    }
+}
+
+/// A loader's answer that is played: what a script or a test has it say.
+///
+/// Condition: the answer is one; it isn't `NotAsked`.
+pub fn played_load<A: Ask>(ask: A, answer: LoadAnswer) -> LoadDone<A>
+    requires { is_load_given answer ≡ true }
+    ensures { result ≡ record { ask = ask; origin = Played; answer = answer } }
+{
+    LoadDone::new(ask, Origin::Played, answer)
+}
+
+/// A writer's report that is played: what a script or a test has it say.
+///
+/// Condition: the answer is one; it isn't `NotAsked`.
+pub fn played_write<A: AskWrite>(ask: A, answer: WriteAnswer) -> WriteDone<A>
+    requires { is_write_given answer ≡ true }
+    ensures { result ≡ record { ask = ask; origin = Played; answer = answer } }
+{
+    WriteDone::new(ask, Origin::Played, answer)
+}

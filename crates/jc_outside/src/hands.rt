@@ -1,0 +1,73 @@
+//! How many stripes a session holds, and what it brings for calls outside.
+ghost use Rattle.std.specs.Prelude.{◌≡◌, ◌+◌, ◌-◌, ◌<◌, ◌^◌};
+
+use crate::loader::CacheLoader;
+use crate::writer::CacheWriter;
+use std::marker::Model;
+
+/// What a session brings for calls outside.
+#[derive(Drop)]
+pub struct Outside {
+    /// The loader, if it brings one. Without one nothing is found.
+    pub loader: Option<Box<dyn CacheLoader + Send + Drop>>,
+    /// The writer, if it brings one.
+    pub writer: Option<Box<dyn CacheWriter + Send + Drop>>,
+}
+
+/// The hands of a session: how many stripes it has taken and not given back, and what it reaches for outside.
+///
+/// Hands are made of what they reach for, and give it back only if they hold nothing. So nobody who holds a stripe can ask the
+/// session's loader or writer by hands that were made meanwhile: those don't reach them.
+#[derive(Drop)]
+pub struct Hands<T> {
+    pub(crate) held: u32,
+    pub(crate) outside: T,
+}
+
+impl<T> Model for Hands<T> {
+    ghost use Rattle.jc_outside.specs.Hands.{HandsState};
+
+    ghost Value = { HandsState T };
+
+    ghost view = { λ h. record { held = h.held; outside = h.outside } };
+}
+
+impl<T> Hands<T> {
+    /// Hands that hold nothing, and reach for this.
+    pub fn new(outside: T) -> Self
+        ensures { result ≡ record { held = 0; outside = outside } }
+    {
+        Hands { held: 0, outside }
+    }
+
+    /// A stripe was taken.
+    ///
+    /// Condition: fewer than `u32::MAX` are held.
+    pub fn hold(&mut self)
+        requires { self.old.held + 1 < 2 ^ 32 }
+        ensures { self.new ≡ record self.old { held = self.old.held + 1 } }
+    {
+        self.held += 1;
+    }
+
+    /// A stripe was given back.
+    ///
+    /// Condition: at least one is held.
+    pub fn let_go(&mut self)
+        requires { 0 < self.old.held }
+        ensures { self.new ≡ record self.old { held = self.old.held - 1 } }
+    {
+        self.held -= 1;
+    }
+
+    /// What they reach for.
+    ///
+    /// Condition: they hold nothing.
+    pub fn into_outside(self) -> T
+        requires { self.held ≡ 0 }
+        ensures { result ≡ self.outside }
+    {
+        let Hands { held: _, outside } = self;
+        outside
+    }
+}

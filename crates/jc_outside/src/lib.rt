@@ -1,0 +1,26 @@
+//! What is outside a cache: loaders, writers and completion listeners that a caller brings, and what they answered.
+//!
+//! A call outside is made while the session holds no stripe, and takes an ask, which only the ticket of a reservation gives.
+//! It returns a done value, which only the commit of that reservation spends. So each answer that comes into a cache was given
+//! once, for one reservation (JSR 107, "Integration").
+#![tactic(auto)]
+
+mod answers;
+mod ask;
+mod calls;
+mod done;
+mod hands;
+mod listener;
+mod loader;
+#[cfg(test)]
+mod tests;
+mod writer;
+
+pub use answers::Answers;
+pub use ask::{Ask, AskWrite};
+pub use calls::{call_loader, call_writer};
+pub use done::{LoadDone, Origin, WriteDone, played_load, played_write};
+pub use hands::{Hands, Outside};
+pub use listener::CompletionListener;
+pub use loader::CacheLoader;
+pub use writer::CacheWriter;

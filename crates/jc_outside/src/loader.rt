@@ -1,0 +1,35 @@
+//! Loaders.
+use crate::answers::Answers;
+use jc_types::{Key, Value};
+
+/// Loads what a cache misses (`javax.cache.integration.CacheLoader`; JSR 107, "Integration").
+///
+/// A call is a relation of the loader before, what it is given, its answer, and the loader's state afterwards as plain data. So a
+/// contract can say that a loader was called once, with this key and this answer, and a loader says by its relations what it
+/// answers. A loader that waits, as for a lock, holds its own runtime.
+pub trait CacheLoader {
+    ghost use Rattle.std.specs.Prelude.{◌≡◌, ℕ, List, Option, Result};
+    ghost use Rattle.jc_model.specs.Cache.{Bytes};
+    ghost use Rattle.jc_outside.specs.Answers.{Answered, unanswered};
+
+    /// The loader's state, as plain data.
+    ghost load_state: { Self → List ℕ };
+
+    /// One call of `load`: the key, the answer.
+    ghost loads: { Self → Bytes → Result (Option Bytes) ℕ → List ℕ → Type 0 };
+
+    /// One call of `load_all`: the keys, whether it failed, the answers.
+    ghost loads_all: { Self → List Bytes → Result (Unit {0}) ℕ → Answered → List ℕ → Type 0 };
+
+    /// The value at a key, or none (`load`). An `Err` has a code of the loader's own.
+    fn load(&mut self, key: &Key) -> Result<Option<Value>, u32>
+        ensures { loads self.old key.now result (load_state self.new) };
+
+    /// Puts the value at each of the keys that has one into `answers` (`loadAll`). A key that is left out has none. An `Err`
+    /// has a code of the loader's own, and stands for each of the keys.
+    ///
+    /// Conditions: `answers` are of these keys, and have no answer yet.
+    fn load_all(&mut self, keys: &[Key], answers: &mut Answers) -> Result<(), u32>
+        requires { answers.old ≡ unanswered keys.now }
+        ensures { loads_all self.old keys.now result answers.new (load_state self.new) };
+}
