@@ -16,6 +16,4 @@ mod print_audit;
 mod print_shown;
 mod printing;
 pub mod run;
-#[cfg(test)]
-mod tests;
 mod words;

@@ -11,7 +11,9 @@ mod joins;
 mod limits;
 mod loading;
 mod operations;
+mod script;
 mod withdrawals;
+mod world;
 mod writing;
 
 use jc_script::noted::Noted;

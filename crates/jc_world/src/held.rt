@@ -20,7 +20,8 @@ use crate::event::{Part, Progress, Reported};
 use crate::outside::{entry_after, report_with};
 use jc_model::{Change, Contents, LoadAnswer, WriteAnswer};
 use jc_stripe::{
-    First, LoadDone, LoadTicket, Reservation, StepDone, Stripe, WriteDone, WriteTicket,
+    First, LoadAsk, LoadDone, LoadTicket, Reservation, StepDone, Stripe, WriteAsk, WriteDone,
+    WriteTicket,
     played_load, played_write,
 };
 use jc_types::Key;
@@ -30,13 +31,13 @@ use std::mem;
 
 /// A loader's answer, and the done value that was made of it, which the commit alone can read.
 pub(crate) struct Loaded {
-    done: LoadDone,
+    done: LoadDone<LoadAsk>,
     answer: LoadAnswer,
 }
 
 /// A writer's report, and the done value that was made of it, which the commit alone can read.
 pub(crate) struct Written {
-    done: WriteDone,
+    done: WriteDone<WriteAsk>,
     report: WriteAnswer,
 }
 

@@ -15,6 +15,4 @@ pub mod pick_ups;
 pub mod replies;
 pub mod reserved;
 mod stripes;
-#[cfg(test)]
-mod tests;
 pub mod world;

@@ -1,7 +1,7 @@
 //! Long runs of events drawn by lot, compared with a plain reading of their order.
 use super::{config, key_at, key_of, value_of};
-use crate::event::{Command, Shown, WorldEvent};
-use crate::world::World;
+use jc_world::event::{Command, Shown, WorldEvent};
+use jc_world::world::World;
 use jc_model::{Event, LoadAnswer, Op, Reply, legal};
 use jc_types::{Config, Key, Value, stripe_of};
 use std::alloc::Global;

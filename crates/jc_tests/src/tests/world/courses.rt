@@ -6,8 +6,8 @@
 //!
 //! Call N is by session N modulo 100: calls 1 and 101 by session 1, and call 100 by none. A put puts the number of its call.
 use super::{audits, differs, key_of, opened, value_of};
-use crate::event::{Command, Shown, WorldEvent};
-use crate::world::World;
+use jc_world::event::{Command, Shown, WorldEvent};
+use jc_world::world::World;
 use jc_model::{LoadAnswer, Op};
 use jc_types::Key;
 use std::alloc::Global;

@@ -1,9 +1,9 @@
 //! The public face of a world, and what scripts can't say: events that don't fit, a writer's change and its return apart, a
-//! withdrawal whose call isn't over. What scripts can say is tested by scripts, in `jc_tests`.
+//! withdrawal whose call isn't over. What scripts can say is tested by scripts, beside this file.
 //!
 //! Each test ends with `close`, since a world can't be dropped.
-use crate::event::{Progress, Shown};
-use crate::world::World;
+use jc_world::event::{Progress, Shown};
+use jc_world::world::World;
 use courses::{event_of, plays};
 use jc_model::{Change, Event, Op, Reply, WriteAnswer, legal};
 use jc_stripe::{First, Reservation};

@@ -1,9 +1,9 @@
-//! What a line may be, how a run ends, and streams that fail. Scripts with their whole transcripts are in `jc_tests`; the faults
+//! What a line may be, how a run ends, and streams that fail. Scripts with their whole transcripts are beside this file; the faults
 //! of a line have a file of their own.
 mod faults;
 
-use crate::noted::Noted;
-use crate::run::{RunEnd, RunFault, SCRIPT_MAX, run};
+use jc_script::noted::Noted;
+use jc_script::run::{RunEnd, RunFault, SCRIPT_MAX, run};
 use std::alloc::{AllocError, Global};
 use std::io;
 use std::process::Abort;
