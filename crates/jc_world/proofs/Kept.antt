@@ -38,6 +38,7 @@ use Rattle.jc_world.specs.declared.event.Under.{Under}
 use Rattle.jc_world.specs.declared.event.Part.{Part}
 use Rattle.jc_world.specs.declared.event.Progress.{Progress}
 use Rattle.jc_world.specs.declared.event.Progress.TheVariants.{Loading, Writing}
+use Rattle.jc_world.specs.declared.event.Premises.{Premises}
 use Rattle.jc_world.specs.declared.event.Shown.{Shown}
 use Rattle.jc_world.specs.declared.event.Shown.TheVariants as shown
 use Rattle.jc_world.specs.declared.event.WorldEvent.TheVariants as event
@@ -264,65 +265,61 @@ told_report : (p : Progress) (first : First) (report : WriteAnswer) (stored entr
 told_report (Loading answer) first report stored entry due honest h = cc
 told_report (Writing is_changed was) first report stored entry due honest h = record { written = h.written; unwritten = h.unwritten; honest = λ e. same_test is_changed (is_done report) honest }
 
--- the loader has answered
-pub parts_answered : (w : WorldState) (call : ℕ) (key : Bytes) (part : Part) (answer : LoadAnswer) → part_of w call key ≡ Some part → waits_for_load (part_of w call key) ≡ true → IsSoundWorld w → HasParts (answered w key part answer)
-parts_answered w call key part answer is waits old =
-    let n = answered w key part answer in
-    let new : Part = record part { progress = Loading answer } in
+-- a held key goes on: whom it asked stays, and what is then known of all keys holds
+parts_progressed : (w : WorldState) (call : ℕ) (key : Bytes) (part : Part) (p : Progress) (store : Cache) (premises : Premises) → part_of w call key ≡ Some part
+    → (is_asked part.progress part.reservation.first ≡ true → is_asked p part.reservation.first ≡ true)
+    → (all_hold (record w { premises = premises }) ≡ true → AllTold w (insert w.parts key (record part { progress = p })) store) → IsSoundWorld w
+    → HasParts (record w { store = store; parts = insert w.parts key (record part { progress = p }); premises = premises })
+parts_progressed w call key part p store premises is asks told old =
+    let new : Part = record part { progress = p } in
     let there = is_there (get w.parts key) call part is in
-    let due : load_due part.progress ≡ true = sym (ap waits_for_load is) ∙ waits in
     record {
-      held = held_insert n w.parts key new old.held
-          (some_map (stripe_for w key) (λ s. IsHeld s key part) (λ s. IsHeld s key new) (λ s h. record { key_is = h.key_is; out = h.out; asked = load_asked_of part.progress part.reservation.first answer due h.asked }) (old.held key part there));
-      told = λ h.
-          let hold = hold_loader w.config.write_through w.premises.writers w.premises.loaders (is_true_load answer (entry_at w.store key)) w.premises.quiet h in
-          let all = old.told hold.0 in
-          let one = told_at (get w.parts key) part (entry_at w.store key) (cached w key) there (all key) in
-          told_insert n w.parts w.store key new all (told_load part.progress part.reservation.first answer (entry_at w.store key) (cached w key) due (true_found answer _ hold.1) one);
+      held = held_insert w w.parts key new old.held
+          (some_map (stripe_for w key) (λ s. IsHeld s key part) (λ s. IsHeld s key new) (λ s h. record { key_is = h.key_is; out = h.out; asked = asks h.asked }) (old.held key part there));
+      told = told;
       fresh = λ f. absurd (worn w key part there old f);
       idle = old.idle;
     }
+
+-- the loader has answered
+pub parts_answered : (w : WorldState) (call : ℕ) (key : Bytes) (part : Part) (answer : LoadAnswer) → part_of w call key ≡ Some part → waits_for_load (part_of w call key) ≡ true → IsSoundWorld w → HasParts (answered w key part answer)
+parts_answered w call key part answer is waits old =
+    let there = is_there (get w.parts key) call part is in
+    let due : load_due part.progress ≡ true = sym (ap waits_for_load is) ∙ waits in
+    parts_progressed w call key part (Loading answer) w.store (answered w key part answer).premises is (load_asked_of part.progress part.reservation.first answer due)
+    (λ h.
+    let hold = hold_loader w.config.write_through w.premises.writers w.premises.loaders (is_true_load answer (entry_at w.store key)) w.premises.quiet h in
+    let one = told_at (get w.parts key) part (entry_at w.store key) (cached w key) there (old.told hold.0 key) in
+    told_insert w w.parts w.store key (record part { progress = Loading answer }) (old.told hold.0)
+    (told_load part.progress part.reservation.first answer (entry_at w.store key) (cached w key) due (true_found answer _ hold.1) one)) old
 
 -- the writer has changed the store
 pub parts_changed : (w : WorldState) (call : ℕ) (key : Bytes) (part : Part) (change : Change) → part_of w call key ≡ Some part → part.reservation.first ≡ Writer change → waits_for_report (part_of w call key) ≡ true → IsSoundWorld w → HasParts (changed w key part change)
 parts_changed w call key part change is asks waits old =
-    let n = changed w key part change in
     let new : Part = record part { progress = with_change part.progress } in
-    let there = is_there (get w.parts key) call part is in
+    let store = (changed w key part change).store in
     let due : report_due part.progress ≡ true = sym (ap waits_for_report is) ∙ waits in
-    record {
-      held = held_insert n w.parts key new old.held
-          (some_map (stripe_for w key) (λ s. IsHeld s key part) (λ s. IsHeld s key new) (λ s h. record { key_is = h.key_is; out = h.out; asked = change_asked_of part.progress part.reservation.first h.asked }) (old.held key part there));
-      told = λ h q.
-          let P : Option Part → Type 0 = λ o. KeyTold o (entry_at n.store q) (cached w q) in
-          let Q : Option Bytes → Type 0 = λ s. KeyTold (cond (eq_by_cmp key_cmp q key) (Some new) (get w.parts q)) s (cached w q) in
-          subst P (sym (get-insert nat_list_cmp_total w.parts key new q))
-          (subst Q (sym (get-with_entry w.store key (changed_to change) q))
-          (split q key (λ b. KeyTold (cond b (Some new) (get w.parts q)) (cond b (changed_to change) (entry_at w.store q)) (cached w q))
-          (λ same. told_change part.progress part.reservation.first change (cached w q) due asks)
-          (λ apart. old.told h q)));
-      fresh = λ f. absurd (worn w key part there old f);
-      idle = old.idle;
-    }
+    parts_progressed w call key part new.progress store w.premises is (change_asked_of part.progress part.reservation.first)
+    (λ h q.
+    let P : Option Part → Type 0 = λ o. KeyTold o (entry_at store q) (cached w q) in
+    let Q : Option Bytes → Type 0 = λ s. KeyTold (cond (eq_by_cmp key_cmp q key) (Some new) (get w.parts q)) s (cached w q) in
+    subst P (sym (get-insert nat_list_cmp_total w.parts key new q))
+    (subst Q (sym (get-with_entry w.store key (changed_to change) q))
+    (split q key (λ b. KeyTold (cond b (Some new) (get w.parts q)) (cond b (changed_to change) (entry_at w.store q)) (cached w q))
+    (λ same. told_change part.progress part.reservation.first change (cached w q) due asks)
+    (λ apart. old.told h q)))) old
 
 -- the writer has returned
 pub parts_reported : (w : WorldState) (call : ℕ) (key : Bytes) (part : Part) (report : WriteAnswer) → part_of w call key ≡ Some part → waits_for_report (part_of w call key) ≡ true → IsSoundWorld w → HasParts (reported w key part report)
 parts_reported w call key part report is waits old =
-    let n = reported w key part report in
-    let new : Part = record part { progress = with_report part.progress report } in
     let there = is_there (get w.parts key) call part is in
     let due : report_due part.progress ≡ true = sym (ap waits_for_report is) ∙ waits in
-    record {
-      held = held_insert n w.parts key new old.held
-          (some_map (stripe_for w key) (λ s. IsHeld s key part) (λ s. IsHeld s key new) (λ s h. record { key_is = h.key_is; out = h.out; asked = report_asked_of part.progress part.reservation.first report h.asked }) (old.held key part there));
-      told = λ h.
-          let hold = hold_writer w.config.write_through w.premises.writers (is_true_report report (has_changed part.progress)) w.premises.loaders w.premises.quiet h in
-          let all = old.told hold.0 in
-          let one = told_at (get w.parts key) part (entry_at w.store key) (cached w key) there (all key) in
-          told_insert n w.parts w.store key new all (told_report part.progress part.reservation.first report (entry_at w.store key) (cached w key) due hold.1 one);
-      fresh = λ f. absurd (worn w key part there old f);
-      idle = old.idle;
-    }
+    parts_progressed w call key part (with_report part.progress report) w.store (reported w key part report).premises is (report_asked_of part.progress part.reservation.first report)
+    (λ h.
+    let hold = hold_writer w.config.write_through w.premises.writers (is_true_report report (has_changed part.progress)) w.premises.loaders w.premises.quiet h in
+    let one = told_at (get w.parts key) part (entry_at w.store key) (cached w key) there (old.told hold.0 key) in
+    told_insert w w.parts w.store key (record part { progress = with_report part.progress report }) (old.told hold.0)
+    (told_report part.progress part.reservation.first report (entry_at w.store key) (cached w key) due hold.1 one)) old
 
 -- somebody else has written the store
 pub parts_disturbed : (w : WorldState) (store : Cache) → IsSoundWorld w → HasParts (record w { store = store; fresh = false; premises = disturbed w.premises })
