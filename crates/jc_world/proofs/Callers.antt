@@ -494,7 +494,7 @@ order_done stays w u from to done there begins may old =
 -- a key that no reservation has, has no part
 free_part : (w : WorldState) (key : Bytes) (from : State) (part : Part) → IsSoundWorld w → stripe_for w key ≡ Some from → is_reserved from key ≡ false → get w.parts key ≡ Some part → ⊥
 free_part w key from part old there free is =
-    let held = some_of (stripe_for w key) (λ s. IsHeld w s key part) (old.held key part is) in
+    let held = some_of (stripe_for w key) (λ s. IsHeld s key part) (old.held key part is) in
     let same : held.0 ≡ from = let t : Some held.0 ≡ Some from = sym held.1 ∙ there in cc in
     let busy : is_reserved held.0 key ≡ true = ap (is_reserved held.0) (sym held.2.key_is) ∙ out_reserved part.reservation.key part.reservation held.0.reservations held.2.out in
     let t : true ≡ false = sym busy ∙ ap (λ s. is_reserved s key) same ∙ free in cc
@@ -704,7 +704,7 @@ pub ending_at : (w : WorldState) (call : ℕ) (key : Bytes) (part : Part) (from 
     → Commits from part.reservation (out_of part) done to → IsSoundWorld w → Ending w call key from to
 ending_at w call key part from to done is there commits old =
     let at = of_call-at call (get w.parts key) part is in
-    let held = some_of (stripe_for w key) (λ s. IsHeld w s key part) (old.held key part at.0) in
+    let held = some_of (stripe_for w key) (λ s. IsHeld s key part) (old.held key part at.0) in
     ending w call key part from to done is at.1 held.2.key_is there commits.1
     (owned_found w (is_key part.reservation.key) from.reservations part.reservation commits.0 (old.owned (home w key) from there)) old
 
@@ -894,7 +894,7 @@ order_part w call key old part premises store is same was = order_parted w key o
 
 -- the reservation of a part is of its key
 pub part_key : (w : WorldState) (call : ℕ) (key : Bytes) (part : Part) → part_of w call key ≡ Some part → IsSoundWorld w → part.reservation.key ≡ key
-part_key w call key part is old = (some_of (stripe_for w key) (λ s. IsHeld w s key part) (old.held key part (of_call-at call (get w.parts key) part is).0)).2.key_is
+part_key w call key part is old = (some_of (stripe_for w key) (λ s. IsHeld s key part) (old.held key part (of_call-at call (get w.parts key) part is).0)).2.key_is
 
 -- by the kind of the event
 pub order_happens : StaysReached → (w new : WorldState) (e : WorldEvent) (seen : Shown) → fits w e ≡ true → Happens w e seen new → IsSoundWorld w → HasOrder new

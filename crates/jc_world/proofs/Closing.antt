@@ -292,7 +292,7 @@ home_of_join config ss joins xs join from is left h = home_of config ss join.key
 -- 4. What is out in a world that is sound.
 
 -- a part has its reservation
-part_out : (w : WorldState) (key : Bytes) (part : Part) (o : Option State) → IsSomeAnd o (λ s. IsHeld w s key part) → IsSomeAnd o (λ s. (part.reservation.key ≡ key) × IsOut s part.reservation)
+part_out : (w : WorldState) (key : Bytes) (part : Part) (o : Option State) → IsSomeAnd o (λ s. IsHeld s key part) → IsSomeAnd o (λ s. (part.reservation.key ≡ key) × IsOut s part.reservation)
 part_out w key part None h = h
 part_out w key part (Some s) h = (h.key_is, h.out)
 

@@ -11,9 +11,7 @@ use Rattle.std.proofs.lemmas.Bool.{eq-eqb, and_parts, and_from}
 use Rattle.std.proofs.lemmas.Bool.Decides.{nat_tests}
 use Rattle.std.proofs.lemmas.Cmp.{nat_list_cmp_total, nat_eq_equiv, nat_list_eq_equiv}
 use Rattle.std.proofs.lemmas.List.Folds.{find-append}
-use Rattle.jc_world.proofs.Numbered.{some_of}
 use Rattle.jc_model.specs.Cache.{Bytes}
-use Rattle.jc_stripe.specs.State.{State}
 use Rattle.jc_world.specs.declared.event.Part.{Part}
 use Rattle.jc_world.specs.declared.event.Progress.{Progress}
 use Rattle.jc_world.specs.declared.event.Progress.TheVariants.{Loading, Writing}
@@ -22,9 +20,10 @@ use Rattle.jc_world.specs.declared.event.Shown.{Shown}
 use Rattle.jc_world.specs.declared.event.Shown.TheVariants as shown
 use Rattle.jc_world.specs.declared.event.WorldEvent.{WorldEvent}
 use Rattle.jc_world.specs.declared.event.WorldEvent.TheVariants as event
-use Rattle.jc_world.specs.World.{WorldState, stripe_for, has_number, under, of_call, part_of, report_due, waits_for_report, is_join, is_joined, is_untouched}
+use Rattle.jc_world.specs.World.{WorldState, has_number, under, of_call, part_of, report_due, waits_for_report, is_join, is_joined, is_untouched}
 use Rattle.jc_world.specs.Events.{fits, is_new, is_free, may_start, may_leave, may_report, changed, with_stripe, without_part, Happens, is_fit, AllFit, StartFits, RestFits, with_change}
-use Rattle.jc_world.specs.Sound.{is_up_to, IsHeld, IsSoundWorld}
+use Rattle.jc_world.specs.Sound.{is_up_to, IsSoundWorld}
+use Rattle.jc_world.proofs.Holding.{call_on}
 use Rattle.jc_world.proofs.Entries.{tied}
 use Rattle.jc_world.proofs.Underway.{found_number, fits_found, of_call-at}
 use Rattle.jc_world.proofs.Joiners.{join_any, join_is}
@@ -127,8 +126,7 @@ new_free w call key new old =
     and_from _ _
     (ap is_none (missing (part_of w call key) (λ part is.
     let at = of_call-at call (get w.parts key) part is in
-    let held = some_of (stripe_for w key) (λ (s : State). IsHeld w s key part) (old.held key part at.0) in
-    nobody w call part.reservation.caller.call (λ u. u.command.key ≡ key) none at.1 held.2.call)))
+    nobody w call part.reservation.caller.call (λ u. u.command.key ≡ key) none at.1 (call_on w key part at.0 old))))
     (ap not (refuted (is_joined w call key) (λ joined.
     let j = join_any w (is_join call key) w.joins joined old.joins in
     nobody w call j.0.caller.call (λ u. (u.caller.session ≡ j.0.caller.session) × (u.command.key ≡ j.0.key)) none (join_is call key j.0 j.2).0 j.3.call)))

@@ -18,16 +18,15 @@ pub record HasOrder (w : WorldState) : Type 0 where
   pub owned : (number : ℕ) (s : State) → slice_get w.stripes number ≡ Some s → AllOwned w s.reservations
 
 pub record HasParts (w : WorldState) : Type 0 where
-  pub held : (key : Bytes) (part : Part) → get w.parts key ≡ Some part → IsSomeAnd (stripe_for w key) (λ s. IsHeld w s key part)
+  pub held : (key : Bytes) (part : Part) → get w.parts key ≡ Some part → IsSomeAnd (stripe_for w key) (λ s. IsHeld s key part)
   pub told : all_hold w ≡ true → (key : Bytes) → KeyTold (get w.parts key) (entry_at w.store key) (cached w key)
-  pub fresh : w.fresh ≡ true → (key : Bytes) → (cached w key ≡ None) × (get w.parts key ≡ None)
+  pub fresh : w.fresh ≡ true → (key : Bytes) → cached w key ≡ None
   pub idle : w.fresh ≡ true → w.calls ≡ []
 
 pub record HasJoins (w : WorldState) : Type 0 where
   pub joins : AllWaitedFor w w.joins
   pub once : joined_once w.joins ≡ true
   pub called : (number : ℕ) (s : State) → slice_get w.stripes number ≡ Some s → AllCalled w number s.joiners
-  pub alone : w.fresh ≡ true → w.joins ≡ []
 
 pub sound : (w : WorldState) → HasOrder w → HasParts w → HasJoins w → IsSoundWorld w
 sound w o p j = record {
@@ -42,5 +41,5 @@ sound w o p j = record {
   called = j.called;
   told = p.told;
   fresh = p.fresh;
-  idle = λ f. (p.idle f, j.alone f);
+  idle = p.idle;
 }

@@ -1,14 +1,19 @@
 -- What is known of a held key whose event fits.
-use Rattle.std.proofs.Common.{◌≡◌, ◌==◌, ◌&&◌, not, Bool, true, false, cond, Option, Some, None, sym, subst, ap, ◌∙◌, refl, ℕ}
+use Rattle.std.proofs.Common.{◌≡◌, ◌==◌, ◌&&◌, not, Bool, true, false, cond, Option, Some, None, IsSomeAnd, sym, subst, ap, ◌∙◌, refl, ℕ}
 use Rattle.std.specs.FinMap.{get}
 use Rattle.jc_model.specs.Cache.{Bytes}
 use Rattle.jc_model.specs.Table.{is_load_given, is_write_given}
+use Rattle.jc_stripe.specs.State.{is_key}
+use Rattle.jc_world.specs.declared.event.Under.{Under}
 use Rattle.jc_world.specs.declared.event.Part.{Part}
 use Rattle.jc_world.specs.declared.event.Progress.{Progress}
 use Rattle.jc_world.specs.declared.event.Progress.TheVariants.{Loading, Writing}
 use Rattle.jc_world.specs.declared.event.WorldEvent.TheVariants as event
-use Rattle.jc_world.specs.World.{WorldState, of_call, part_of, is_over, is_answered, nothing_done, is_untouched}
+use Rattle.jc_world.specs.World.{WorldState, home, stripe_for, under, of_call, part_of, is_complete, is_answered, nothing_done, is_untouched}
 use Rattle.jc_world.specs.Events.{fits}
+use Rattle.jc_world.specs.Sound.{IsHeld, IsSoundWorld}
+use Rattle.jc_world.proofs.Numbered.{some_of}
+use Rattle.jc_world.proofs.Underway.{owned_found}
 
 pub is_part : (o : Option Part) (call : ℕ) (part : Part) → of_call call o ≡ Some part → o ≡ Some part
 is_part None call part h = cc
@@ -24,7 +29,7 @@ of_key test o call none h = go (of_call call o) refl h
     go (Some part) e h = let there = is_part o call part e in (part, e, there, ap test there ∙ h)
 
 -- what is untouched isn't answered
-untouched_open : (p : Progress) → nothing_done p ≡ true → is_over p ≡ false
+untouched_open : (p : Progress) → nothing_done p ≡ true → is_complete p ≡ false
 untouched_open (Loading answer) h = not_given (is_load_given answer) h
   where
     not_given : (b : Bool) → not b ≡ true → b ≡ false
@@ -58,3 +63,13 @@ pub may_withdraw : (v w : WorldState) (call : ℕ) (key : Bytes) (part : Part) �
 may_withdraw v w call key part same fit there =
     let one = fits_withdrawal v w call key same fit in
     (one.1 ∙ sym one.2 ∙ there, untouched_open part.progress (ap is_untouched (sym there) ∙ one.3))
+
+-- the call of a held key is under way, on that key: its reservation says so
+pub call_on : (w : WorldState) (key : Bytes) (part : Part) → get w.parts key ≡ Some part → IsSoundWorld w → IsSomeAnd (under w part.reservation.caller.call) (λ u. u.command.key ≡ key)
+call_on w key part there old =
+    let r = part.reservation in
+    let held = some_of (stripe_for w key) (λ s. IsHeld s key part) (old.held key part there) in
+    let own = owned_found w (is_key r.key) held.0.reservations r held.2.out (old.owned (home w key) held.0 held.1) in
+    let call = some_of (under w r.caller.call) (λ u. (u.caller.session ≡ r.caller.session) × (u.command.key ≡ r.key)) own.call in
+    let P : Option Under → Type 0 = λ o. IsSomeAnd o (λ u. u.command.key ≡ key) in
+    subst P (sym call.1) (call.2.1 ∙ held.2.key_is)

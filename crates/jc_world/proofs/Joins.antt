@@ -33,7 +33,8 @@ use Rattle.jc_world.specs.declared.event.WorldEvent.{WorldEvent}
 use Rattle.jc_world.specs.declared.event.WorldEvent.TheVariants as event
 use Rattle.jc_world.specs.World.{WorldState, Parts, home, stripe_for, start, has_number, under, over, of_call, part_of, is_join, join_of, is_joined, unjoined}
 use Rattle.jc_world.specs.Events.{may_leave, fits, with_stripe, goes_on, call_over, load_asked, write_asked, new_part, without_part, with_join, Starts, Ends, Picks, Happens}
-use Rattle.jc_world.specs.Sound.{IsHeld, IsWaitedFor, AllWaitedFor, IsCalled, AllCalled, IsSoundWorld}
+use Rattle.jc_world.specs.Sound.{IsWaitedFor, AllWaitedFor, IsCalled, AllCalled, IsSoundWorld}
+use Rattle.jc_world.proofs.Holding.{call_on}
 use Rattle.jc_world.proofs.Halves.{HasJoins}
 use Rattle.jc_world.proofs.Places.{at_stripe, stripe_put}
 use Rattle.jc_world.proofs.Shares.{is_some_and, set_cases, turned_eq, found_test}
@@ -77,14 +78,13 @@ called_set w n key from to there here rest old m s =
 -- 2. What leaves the stripes.
 
 -- the store changes
-pub joins_stored : (w : WorldState) (store : Cache) (premises : Premises) (fresh : Bool) → (fresh ≡ true → w.fresh ≡ true) → IsSoundWorld w → HasJoins (record w { store = store; fresh = fresh; premises = premises })
-joins_stored w store premises fresh goes old =
+pub joins_stored : (w : WorldState) (store : Cache) (premises : Premises) (fresh : Bool) → IsSoundWorld w → HasJoins (record w { store = store; fresh = fresh; premises = premises })
+joins_stored w store premises fresh old =
     let new : WorldState = record w { store = store; fresh = fresh; premises = premises } in
     record {
       joins = kept_joins w new (λ j t h. record { out = h.out; call = h.call; no_part = h.no_part }) old;
       called = λ m s at. called_all w new m s.joiners (λ j h. record { home_is = h.home_is; join = h.join; call = h.call }) (old.called m s at);
       once = old.once;
-      alone = λ f. (old.idle (goes f)).1;
     }
 
 -- a key's part goes on
@@ -102,7 +102,6 @@ joins_parted w call key was part premises store is same old =
           }) old;
       called = λ m s at. called_all w new m s.joiners (λ j h. record { home_is = h.home_is; join = h.join; call = h.call }) (old.called m s at);
       once = old.once;
-      alone = λ f. (old.idle f).1;
     }
 
 -- a call begins
@@ -114,7 +113,6 @@ joins_called w call session command old =
       joins = kept_joins w new (λ j t h. record { out = h.out; call = find_pushed (has_number j.caller.call) w.calls more (IsOf j.caller.session j.key) h.call; no_part = h.no_part }) old;
       called = λ m s at. called_all w new m s.joiners (λ j h. record { home_is = h.home_is; join = h.join; call = find_pushed (has_number j.caller.call) w.calls more (IsOf j.caller.session j.key) h.call }) (old.called m s at);
       once = old.once;
-      alone = λ f. let t : false ≡ true = f in cc;
     }
 
 -- a call that has joined goes on where one that hasn't is over
@@ -132,7 +130,6 @@ joins_over w call u is free old =
       joins = kept_joins w new (λ j t h. record { out = h.out; call = still_under w call u is free j.caller.call j.caller.session j.key t h.call; no_part = h.no_part }) old;
       called = λ m s at. called_all w new m s.joiners (λ j h. record { home_is = h.home_is; join = h.join; call = still_under w call u is free j.caller.call j.caller.session j.key h.join h.call }) (old.called m s at);
       once = old.once;
-      alone = λ f. (old.idle f).1;
     }
 
 -- 3. A phase that changes no join.
@@ -160,12 +157,7 @@ joins_phase w key from to order calls parts there keeps here still none old =
           }) old;
       called = called_set w new key from to there (λ h. here new (called_all w new (home w key) from.joiners (on (home w key)) h)) (λ m js apart h. called_all w new m js (on m) h) old;
       once = old.once;
-      alone = λ f. (old.idle f).1;
     }
-
--- a call is under way, so the world is not fresh
-begun_before : (w : WorldState) (u : Under) → under w u.caller.call ≡ Some u → w.fresh ≡ true → IsSoundWorld w → ⊥
-begun_before w u here f old = let t : None ≡ Some u = ap (find (has_number u.caller.call)) (sym (old.idle f).0) ∙ here in cc
 
 -- joiners that stay
 same_joiners : (from to : State) → to.joiners ≡ from.joiners → (j : JoinClaim) → IsJoined from j → IsJoined to j
@@ -232,7 +224,6 @@ joins_joined w u from to join there join_is to_is may old =
           (λ h. subst (AllCalled new (home w key)) (sym joiners) (called_pushed new (home w key) from.joiners next (called_all w new (home w key) from.joiners (on (home w key)) h) one))
           (λ m js apart h. called_all w new m js (on m) h) old;
       once = once_pushed w.joins join (ap not ((λ i. list_any (is_join (call_is i) (key_is i)) w.joins) ∙ may.alone)) old.once;
-      alone = λ f. absurd (begun_before w u may.here f old);
     }
 
 -- by what is shown of the first phase
@@ -266,9 +257,8 @@ unjoined_part w call key part is old = refuted (is_joined w call key) (λ t. let
 part_under : (w : WorldState) (call : ℕ) (key : Bytes) (part : Part) → part_of w call key ≡ Some part → IsSoundWorld w → IsSomeAnd (under w call) (λ u. u.command.key ≡ key)
 part_under w call key part is old =
     let at = of_call-at call (get w.parts key) part is in
-    let held = some_of (stripe_for w key) (λ s. IsHeld w s key part) (old.held key part at.0) in
     let P : ℕ → Type 0 = λ n. IsSomeAnd (under w n) (λ u. u.command.key ≡ key) in
-    subst P at.1 held.2.call
+    subst P at.1 (call_on w key part at.0 old)
 
 -- by what is shown of the last phase
 joins_ended : (w new : WorldState) (call : ℕ) (key : Bytes) (part : Part) (from to : State) (seen : Shown) → part_of w call key ≡ Some part → stripe_for w key ≡ Some from → Ends w call key part from to seen new → IsSoundWorld w → HasJoins new
@@ -366,14 +356,13 @@ joins_picked w call key join from to calls joined there is go old =
           (λ j other k. on (home w key) j (λ e f g. denied (its j) other (and_from _ _ (and_from _ _ (eq-eqb j.caller.session join.caller.session g) (eq-eqb j.caller.call join.caller.call (f ∙ sym p.call_is))) (ap (pointwise ◌==◌ join.key) (e ∙ sym p.join_key) ∙ nat_list_eq_equiv.refl join.key))) k) h))
           (λ m js apart h. called_all w new m js (λ j k. on m j (λ e f g. apart (ap (home w) (sym e) ∙ k.home_is)) k) h) old;
       once = once_filter (λ j. not (is_join call key j)) w.joins old.once;
-      alone = λ f. absurd (let t : None ≡ Some p.u = ap (find (has_number call)) (sym (old.idle f).0) ∙ p.here in cc);
     }
 
 -- by what is shown of a pick-up
 joins_picks : (w new : WorldState) (call : ℕ) (key : Bytes) (join : JoinClaim) (from to : State) (seen : Shown) → join_of w call key ≡ Some join → stripe_for w key ≡ Some from → Picks w call key join from to seen new → IsSoundWorld w → HasJoins new
 joins_picks w new call key join from to (shown.PickedUp seen) joined there h old = subst HasJoins (sym h.2) (joins_picked w call key join from to (over call w.calls) joined there h.0.3 (others_go_on w call) old)
 joins_picks w new call key join from to shown.Again joined there h old = subst HasJoins (sym h.1) (joins_picked w call key join from to w.calls joined there h.0.2 (all_go_on w call) old)
-joins_picks w new call key join from to shown.Waits joined there h old = subst HasJoins (sym h.1) (record { joins = old.joins; once = old.once; called = old.called; alone = λ f. (old.idle f).1 })
+joins_picks w new call key join from to shown.Waits joined there h old = subst HasJoins (sym h.1) (record { joins = old.joins; once = old.once; called = old.called })
 joins_picks w new call key join from to seen joined there h old = absurd h
 
 -- 7. Before anything has happened, and any event that fits.
@@ -384,7 +373,6 @@ joins_start config fits = record {
   joins = tt;
   called = λ n s here. let P : State → Type 0 = λ s. AllCalled (start config) n s.joiners in subst P (sym (start_is config n s here)) tt;
   once = refl;
-  alone = λ f. refl;
 }
 
 -- a call leaves
@@ -409,4 +397,4 @@ joins_happens w new (event.Commit call key) seen fit h old = joins_ended w new c
 joins_happens w new (event.Withdraw call key) seen fit h old = subst HasJoins (sym h.7) (joins_withdrawn w key h.0.reservation h.2 h.4 h.3 h.5 old)
 joins_happens w new (event.Leave call) seen fit h old = subst HasJoins (sym h.1) (joins_left w call fit old)
 joins_happens w new (event.PickUp call key) seen fit h old = joins_picks w new call key h.0 h.2 h.4 seen h.1 h.3 h.5 old
-joins_happens w new (event.Foreign key value) seen fit h old = subst HasJoins (sym h.1) (joins_stored w _ _ false (λ f. let t : false ≡ true = f in cc) old)
+joins_happens w new (event.Foreign key value) seen fit h old = subst HasJoins (sym h.1) (joins_stored w _ _ false old)

@@ -1,13 +1,12 @@
 -- Each event keeps what the parts and the store of a world say.
-use Rattle.std.proofs.Common.{◌≡◌, ◌==◌, ◌&&◌, ◌+◌, ℕ, zero, suc, List, [], ◌∷◌, ◌++◌, Bool, true, false, cond, not, Option, None, Some, IsSomeAnd, Ok, find, refl, sym, ap, ◌∙◌, subst, is_none, slice_get, slice_set}
+use Rattle.std.proofs.Common.{◌≡◌, ◌==◌, ◌&&◌, ◌+◌, ℕ, zero, suc, List, [], ◌∷◌, ◌++◌, Bool, true, false, cond, not, Option, None, Some, IsSomeAnd, Ok, find, refl, sym, ap, ◌∙◌, subst, slice_get, slice_set}
 use Rattle.std.specs.Ordering.{eq_by_cmp}
-use Rattle.std.specs.Cmp.Lexicographic.{texts_ties, pointwise}
+use Rattle.std.specs.Cmp.Lexicographic.{texts_ties}
 use Rattle.std.proofs.lemmas.Cmp.{nat_list_cmp_total}
-use Rattle.std.proofs.lemmas.Bool.{eqb-true, and_parts, and_from}
+use Rattle.std.proofs.lemmas.Bool.{and_parts, and_from}
 use Rattle.std.specs.FinMap.{get, insert, remove, get-empty, get-insert, get-remove}
 use Rattle.std.specs.Bool.{beq}
 use Rattle.jc_world.proofs.Numbered.{some_of}
-use Rattle.jc_types.specs.declared.caller.Caller.{Caller}
 use Rattle.jc_types.specs.declared.config.Config.{Config}
 use Rattle.jc_types.specs.Limits.{check}
 use Rattle.jc_model.specs.declared.event.Op.{Op}
@@ -43,13 +42,14 @@ use Rattle.jc_world.specs.declared.event.Premises.{Premises}
 use Rattle.jc_world.specs.declared.event.Shown.{Shown}
 use Rattle.jc_world.specs.declared.event.Shown.TheVariants as shown
 use Rattle.jc_world.specs.declared.event.WorldEvent.TheVariants as event
-use Rattle.jc_world.specs.World.{WorldState, Parts, home, stripe_for, cached, entry_in, empty_stripes, start, under, over, of_call, part_of, load_due, waits_for_load, report_due, waits_for_report, is_over, is_answered, nothing_done, is_untouched, has_changed, out_in, join_of, is_joined, unjoined, out_of, has_number, with_stored}
+use Rattle.jc_world.specs.World.{WorldState, Parts, home, stripe_for, cached, entry_in, empty_stripes, start, under, over, of_call, part_of, load_due, waits_for_load, report_due, waits_for_report, is_complete, is_answered, nothing_done, is_untouched, has_changed, out_in, join_of, unjoined, out_of, has_number, with_stored}
 use Rattle.jc_world.specs.Premises.{changed_to, is_true_load, is_done, is_true_report, disturbed, premises_hold}
-use Rattle.jc_world.specs.Events.{fits, is_free, may_start, may_leave, answered, changed, reported, load_asked, write_asked, new_part, with_change, with_report, with_stripe, goes_on, call_over, with_part, without_part, step_of, Starts, Ends, Picks}
+use Rattle.jc_world.specs.Events.{fits, may_leave, answered, changed, reported, load_asked, write_asked, new_part, with_change, with_report, with_stripe, goes_on, call_over, with_part, without_part, step_of, Starts, Ends, Picks}
 use Rattle.jc_world.specs.Coherent.{Coherent, is_changed, all_hold}
 use Rattle.jc_world.specs.Sound.{is_asked, IsHeld, Agrees, LoadTold, IsTold, KeyTold, WrittenFor, IsSoundWorld}
+use Rattle.jc_world.proofs.Holding.{call_on}
 use Rattle.jc_world.proofs.Halves.{HasParts}
-use Rattle.jc_world.proofs.Places.{at_stripe, stripe_put, home_stripe, found_number, under_left, under_more}
+use Rattle.jc_world.proofs.Places.{at_stripe, stripe_put, home_stripe, found_number}
 use Rattle.jc_world.proofs.Reservations.{found_more, out_reserved, was_free, writer_alone, new_out, found_left}
 use Rattle.jc_world.proofs.Entries.{split, tied, agrees_stepped, writes, loads_asked, writes_asked, loads, asks_nobody}
 use Rattle.jc_world.proofs.Callers.{picking}
@@ -61,12 +61,12 @@ abbrev IsOn : Bytes → Under → Type 0
 IsOn key u = u.command.key ≡ key
 
 -- a part is held by a stripe, which is there
-abbrev HeldIn : WorldState → Option State → Bytes → Part → Type 0
-HeldIn w o key part = IsSomeAnd o (λ s. IsHeld w s key part)
+abbrev HeldIn : Option State → Bytes → Part → Type 0
+HeldIn o key part = IsSomeAnd o (λ s. IsHeld s key part)
 
 -- these parts are held in a world
 abbrev AllHeld : WorldState → Parts → Type 0
-AllHeld w parts = (key : Bytes) (part : Part) → get parts key ≡ Some part → HeldIn w (stripe_for w key) key part
+AllHeld w parts = (key : Bytes) (part : Part) → get parts key ≡ Some part → HeldIn (stripe_for w key) key part
 
 -- and what is known of them, with this store
 abbrev AllTold : WorldState → Parts → Cache → Type 0
@@ -100,23 +100,6 @@ pub is_there : (o : Option Part) (call : ℕ) (part : Part) → of_call call o �
 is_there None call part h = cc
 is_there (Some p) call part h =
     elim (p.reservation.caller.call == call) as (λ b. cond b (Some p) None ≡ Some part → Some p ≡ Some part) [ true ↦ λ h. h | false ↦ λ h. cc ] h
-
--- and has the call's number
-is_of_call : (o : Option Part) (call : ℕ) (part : Part) → of_call call o ≡ Some part → part.reservation.caller.call ≡ call
-is_of_call None call part h = cc
-is_of_call (Some p) call part h =
-    elim (p.reservation.caller.call == call) as (λ b. (p.reservation.caller.call == call) ≡ b → cond b (Some p) None ≡ Some part → part.reservation.caller.call ≡ call) [
-      | true ↦ λ e h. let is : p ≡ part = cc in ap (λ (x : Part). x.reservation.caller.call) (sym is) ∙ eqb-true p.reservation.caller.call call e
-      | false ↦ λ e h. cc
-    ] refl h
-
--- a part that is there, where the call has none, is another call's
-other_call : (o : Option Part) (call : ℕ) (part : Part) → o ≡ Some part → is_none (of_call call o) ≡ true → (part.reservation.caller.call == call) ≡ false
-other_call None call part is none = cc
-other_call (Some p) call part is none =
-    let same : p ≡ part = cc in
-    let P : Part → Type 0 = λ x. (x.reservation.caller.call == call) ≡ false in
-    subst P same (elim (p.reservation.caller.call == call) as (λ b. is_none (cond b (Some p) None) ≡ true → b ≡ false) [ true ↦ λ h. cc | false ↦ λ h. refl ] none)
 
 -- what holds of what is there goes on to what follows from it
 pub some_map : {A : Type 0} (o : Option A) (P Q : A → Type 0) → ((x : A) → P x → Q x) → IsSomeAnd o P → IsSomeAnd o Q
@@ -196,24 +179,20 @@ pub stripe_at : (w : WorldState) (key : Bytes) → IsSoundWorld w → (s : State
 stripe_at w key old = home_stripe w key old.shape
 
 -- a key's part is held by its stripe
-held_at : (w : WorldState) (key : Bytes) (part : Part) (s : State) → get w.parts key ≡ Some part → stripe_for w key ≡ Some s → IsSoundWorld w → IsHeld w s key part
-held_at w key part s there at old = of_some (stripe_for w key) (λ s. IsHeld w s key part) s at (old.held key part there)
+held_at : (w : WorldState) (key : Bytes) (part : Part) (s : State) → get w.parts key ≡ Some part → stripe_for w key ≡ Some s → IsSoundWorld w → IsHeld s key part
+held_at w key part s there at old = of_some (stripe_for w key) (λ s. IsHeld s key part) s at (old.held key part there)
 
 -- the key of a part that is held is reserved
-is_out_reserved : (w : WorldState) (s : State) (key : Bytes) (part : Part) → IsHeld w s key part → is_reserved s key ≡ true
-is_out_reserved w s key part h = ap (is_reserved s) (sym h.key_is) ∙ out_reserved part.reservation.key part.reservation s.reservations h.out
+is_out_reserved : (s : State) (key : Bytes) (part : Part) → IsHeld s key part → is_reserved s key ≡ true
+is_out_reserved s key part h = ap (is_reserved s) (sym h.key_is) ∙ out_reserved part.reservation.key part.reservation s.reservations h.out
 
 -- a key that is not reserved has no part
 pub unheld : (w : WorldState) (key : Bytes) (s : State) → stripe_for w key ≡ Some s → is_reserved s key ≡ false → IsSoundWorld w → get w.parts key ≡ None
-unheld w key s at free old = missing (get w.parts key) (λ p e. let t = is_out_reserved w s key p (held_at w key p s e at old) in cc)
+unheld w key s at free old = missing (get w.parts key) (λ p e. let t = is_out_reserved s key p (held_at w key p s e at old) in cc)
 
 -- a part's ticket is out
 pub out_at : (w : WorldState) (call : ℕ) (key : Bytes) (part : Part) (from : State) → part_of w call key ≡ Some part → stripe_for w key ≡ Some from → IsSoundWorld w → IsOut from part.reservation
 out_at w call key part from is at old = (held_at w key part from (is_there (get w.parts key) call part is) at old).out
-
--- a key's part has been reserved, so the world is not fresh
-worn : (w : WorldState) (key : Bytes) (part : Part) → get w.parts key ≡ Some part → IsSoundWorld w → w.fresh ≡ true → ⊥
-worn w key part there old fresh = let e : Some part ≡ None = sym there ∙ (old.fresh fresh key).1 in cc
 
 -- where no call is under way, none is found
 none_under : (call : ℕ) (calls : List Under) (u : Under) → calls ≡ [] → find (has_number call) calls ≡ Some u → ⊥
@@ -221,7 +200,13 @@ none_under call calls u none h = let e : None ≡ Some u = ap (find (has_number 
 
 -- a call is under way, so the world is not fresh
 begun_before : (w : WorldState) (call : ℕ) (u : Under) → under w call ≡ Some u → IsSoundWorld w → w.fresh ≡ true → ⊥
-begun_before w call u is old fresh = none_under call w.calls u (old.idle fresh).0 is
+begun_before w call u is old fresh = none_under call w.calls u (old.idle fresh) is
+
+-- nor is it where a key has a part
+worn : (w : WorldState) (key : Bytes) (part : Part) → get w.parts key ≡ Some part → IsSoundWorld w → w.fresh ≡ true → ⊥
+worn w key part there old fresh =
+    let on = some_of (under w part.reservation.caller.call) (IsOn key) (call_on w key part there old) in
+    begun_before w part.reservation.caller.call on.0 on.1 old fresh
 
 -- all stripes have the configuration of the world
 config_at : (w : WorldState) (number : ℕ) (s : State) → slice_get w.stripes number ≡ Some s → IsSoundWorld w → s.config ≡ w.config
@@ -230,10 +215,10 @@ config_at w number s at old = (old.shape.each number s at).config_is
 -- 3. A part is put in place.
 
 -- a further part is held, and all the others
-held_insert : (w : WorldState) (parts : Parts) (key : Bytes) (new : Part) → AllHeld w parts → HeldIn w (stripe_for w key) key new → AllHeld w (insert parts key new)
+held_insert : (w : WorldState) (parts : Parts) (key : Bytes) (new : Part) → AllHeld w parts → HeldIn (stripe_for w key) key new → AllHeld w (insert parts key new)
 held_insert w parts key new all one q part e =
-    split q key (λ b. cond b (Some new) (get parts q) ≡ Some part → HeldIn w (stripe_for w q) q part)
-    (λ same e. let is : new ≡ part = cc in let P : Bytes → Type 0 = λ k. HeldIn w (stripe_for w k) k part in let Q : Part → Type 0 = λ p. HeldIn w (stripe_for w key) key p in subst P (sym same) (subst Q is one))
+    split q key (λ b. cond b (Some new) (get parts q) ≡ Some part → HeldIn (stripe_for w q) q part)
+    (λ same e. let is : new ≡ part = cc in let P : Bytes → Type 0 = λ k. HeldIn (stripe_for w k) k part in let Q : Part → Type 0 = λ p. HeldIn (stripe_for w key) key p in subst P (sym same) (subst Q is one))
     (λ apart e. all q part e)
     (sym (get-insert nat_list_cmp_total parts key new q) ∙ e)
 
@@ -247,15 +232,6 @@ told_insert w parts store key new all one q =
     (λ apart. all q))
 
 -- 4. Answers, changes and reports.
-
--- the same stripes and calls, with another store and other parts
-abbrev aside : WorldState → Cache → Bool → Parts → Premises → WorldState
-aside w store fresh parts premises = record w { store = store; fresh = fresh; parts = parts; premises = premises }
-
--- all parts stay held
-held_aside : (w : WorldState) (store : Cache) (fresh : Bool) (parts : Parts) (premises : Premises) → IsSoundWorld w → AllHeld (aside w store fresh parts premises) w.parts
-held_aside w store fresh parts premises old q p e =
-    some_map (stripe_for w q) (λ s. IsHeld w s q p) (λ s. IsHeld (aside w store fresh parts premises) s q p) (λ s h. record { key_is = h.key_is; out = h.out; asked = h.asked; call = h.call }) (old.held q p e)
 
 -- an answer that was due is of whom was asked, and so is a report
 load_asked_of : (p : Progress) (first : First) (answer : LoadAnswer) → load_due p ≡ true → is_asked p first ≡ true → is_asked (Loading answer) first ≡ true
@@ -289,70 +265,66 @@ told_report : (p : Progress) (first : First) (report : WriteAnswer) (stored entr
 told_report (Loading answer) first report stored entry due honest h = cc
 told_report (Writing is_changed was) first report stored entry due honest h = record { written = h.written; unwritten = h.unwritten; honest = λ e. same_test is_changed (is_done report) honest }
 
+-- a held key goes on: whom it asked stays, and what is then known of all keys holds
+parts_progressed : (w : WorldState) (call : ℕ) (key : Bytes) (part : Part) (p : Progress) (store : Cache) (premises : Premises) → part_of w call key ≡ Some part
+    → (is_asked part.progress part.reservation.first ≡ true → is_asked p part.reservation.first ≡ true)
+    → (all_hold (record w { premises = premises }) ≡ true → AllTold w (insert w.parts key (record part { progress = p })) store) → IsSoundWorld w
+    → HasParts (record w { store = store; parts = insert w.parts key (record part { progress = p }); premises = premises })
+parts_progressed w call key part p store premises is asks told old =
+    let new : Part = record part { progress = p } in
+    let there = is_there (get w.parts key) call part is in
+    record {
+      held = held_insert w w.parts key new old.held
+          (some_map (stripe_for w key) (λ s. IsHeld s key part) (λ s. IsHeld s key new) (λ s h. record { key_is = h.key_is; out = h.out; asked = asks h.asked }) (old.held key part there));
+      told = told;
+      fresh = λ f. absurd (worn w key part there old f);
+      idle = old.idle;
+    }
+
 -- the loader has answered
 pub parts_answered : (w : WorldState) (call : ℕ) (key : Bytes) (part : Part) (answer : LoadAnswer) → part_of w call key ≡ Some part → waits_for_load (part_of w call key) ≡ true → IsSoundWorld w → HasParts (answered w key part answer)
 parts_answered w call key part answer is waits old =
-    let n = answered w key part answer in
-    let new : Part = record part { progress = Loading answer } in
     let there = is_there (get w.parts key) call part is in
     let due : load_due part.progress ≡ true = sym (ap waits_for_load is) ∙ waits in
-    record {
-      held = held_insert n w.parts key new (held_aside w w.store w.fresh n.parts n.premises old)
-          (some_map (stripe_for w key) (λ s. IsHeld w s key part) (λ s. IsHeld n s key new) (λ s h. record { key_is = h.key_is; out = h.out; asked = load_asked_of part.progress part.reservation.first answer due h.asked; call = h.call }) (old.held key part there));
-      told = λ h.
-          let hold = hold_loader w.config.write_through w.premises.writers w.premises.loaders (is_true_load answer (entry_at w.store key)) w.premises.quiet h in
-          let all = old.told hold.0 in
-          let one = told_at (get w.parts key) part (entry_at w.store key) (cached w key) there (all key) in
-          told_insert n w.parts w.store key new all (told_load part.progress part.reservation.first answer (entry_at w.store key) (cached w key) due (true_found answer _ hold.1) one);
-      fresh = λ f. absurd (worn w key part there old f);
-      idle = λ f. (old.idle f).0;
-    }
+    parts_progressed w call key part (Loading answer) w.store (answered w key part answer).premises is (load_asked_of part.progress part.reservation.first answer due)
+    (λ h.
+    let hold = hold_loader w.config.write_through w.premises.writers w.premises.loaders (is_true_load answer (entry_at w.store key)) w.premises.quiet h in
+    let one = told_at (get w.parts key) part (entry_at w.store key) (cached w key) there (old.told hold.0 key) in
+    told_insert w w.parts w.store key (record part { progress = Loading answer }) (old.told hold.0)
+    (told_load part.progress part.reservation.first answer (entry_at w.store key) (cached w key) due (true_found answer _ hold.1) one)) old
 
 -- the writer has changed the store
 pub parts_changed : (w : WorldState) (call : ℕ) (key : Bytes) (part : Part) (change : Change) → part_of w call key ≡ Some part → part.reservation.first ≡ Writer change → waits_for_report (part_of w call key) ≡ true → IsSoundWorld w → HasParts (changed w key part change)
 parts_changed w call key part change is asks waits old =
-    let n = changed w key part change in
     let new : Part = record part { progress = with_change part.progress } in
-    let there = is_there (get w.parts key) call part is in
+    let store = (changed w key part change).store in
     let due : report_due part.progress ≡ true = sym (ap waits_for_report is) ∙ waits in
-    record {
-      held = held_insert n w.parts key new (held_aside w n.store w.fresh n.parts n.premises old)
-          (some_map (stripe_for w key) (λ s. IsHeld w s key part) (λ s. IsHeld n s key new) (λ s h. record { key_is = h.key_is; out = h.out; asked = change_asked_of part.progress part.reservation.first h.asked; call = h.call }) (old.held key part there));
-      told = λ h q.
-          let P : Option Part → Type 0 = λ o. KeyTold o (entry_at n.store q) (cached w q) in
-          let Q : Option Bytes → Type 0 = λ s. KeyTold (cond (eq_by_cmp key_cmp q key) (Some new) (get w.parts q)) s (cached w q) in
-          subst P (sym (get-insert nat_list_cmp_total w.parts key new q))
-          (subst Q (sym (get-with_entry w.store key (changed_to change) q))
-          (split q key (λ b. KeyTold (cond b (Some new) (get w.parts q)) (cond b (changed_to change) (entry_at w.store q)) (cached w q))
-          (λ same. told_change part.progress part.reservation.first change (cached w q) due asks)
-          (λ apart. old.told h q)));
-      fresh = λ f. absurd (worn w key part there old f);
-      idle = λ f. (old.idle f).0;
-    }
+    parts_progressed w call key part new.progress store w.premises is (change_asked_of part.progress part.reservation.first)
+    (λ h q.
+    let P : Option Part → Type 0 = λ o. KeyTold o (entry_at store q) (cached w q) in
+    let Q : Option Bytes → Type 0 = λ s. KeyTold (cond (eq_by_cmp key_cmp q key) (Some new) (get w.parts q)) s (cached w q) in
+    subst P (sym (get-insert nat_list_cmp_total w.parts key new q))
+    (subst Q (sym (get-with_entry w.store key (changed_to change) q))
+    (split q key (λ b. KeyTold (cond b (Some new) (get w.parts q)) (cond b (changed_to change) (entry_at w.store q)) (cached w q))
+    (λ same. told_change part.progress part.reservation.first change (cached w q) due asks)
+    (λ apart. old.told h q)))) old
 
 -- the writer has returned
 pub parts_reported : (w : WorldState) (call : ℕ) (key : Bytes) (part : Part) (report : WriteAnswer) → part_of w call key ≡ Some part → waits_for_report (part_of w call key) ≡ true → IsSoundWorld w → HasParts (reported w key part report)
 parts_reported w call key part report is waits old =
-    let n = reported w key part report in
-    let new : Part = record part { progress = with_report part.progress report } in
     let there = is_there (get w.parts key) call part is in
     let due : report_due part.progress ≡ true = sym (ap waits_for_report is) ∙ waits in
-    record {
-      held = held_insert n w.parts key new (held_aside w w.store w.fresh n.parts n.premises old)
-          (some_map (stripe_for w key) (λ s. IsHeld w s key part) (λ s. IsHeld n s key new) (λ s h. record { key_is = h.key_is; out = h.out; asked = report_asked_of part.progress part.reservation.first report h.asked; call = h.call }) (old.held key part there));
-      told = λ h.
-          let hold = hold_writer w.config.write_through w.premises.writers (is_true_report report (has_changed part.progress)) w.premises.loaders w.premises.quiet h in
-          let all = old.told hold.0 in
-          let one = told_at (get w.parts key) part (entry_at w.store key) (cached w key) there (all key) in
-          told_insert n w.parts w.store key new all (told_report part.progress part.reservation.first report (entry_at w.store key) (cached w key) due hold.1 one);
-      fresh = λ f. absurd (worn w key part there old f);
-      idle = λ f. (old.idle f).0;
-    }
+    parts_progressed w call key part (with_report part.progress report) w.store (reported w key part report).premises is (report_asked_of part.progress part.reservation.first report)
+    (λ h.
+    let hold = hold_writer w.config.write_through w.premises.writers (is_true_report report (has_changed part.progress)) w.premises.loaders w.premises.quiet h in
+    let one = told_at (get w.parts key) part (entry_at w.store key) (cached w key) there (old.told hold.0 key) in
+    told_insert w w.parts w.store key (record part { progress = with_report part.progress report }) (old.told hold.0)
+    (told_report part.progress part.reservation.first report (entry_at w.store key) (cached w key) due hold.1 one)) old
 
 -- somebody else has written the store
 pub parts_disturbed : (w : WorldState) (store : Cache) → IsSoundWorld w → HasParts (record w { store = store; fresh = false; premises = disturbed w.premises })
 parts_disturbed w store old = record {
-  held = held_aside w store false w.parts (disturbed w.premises) old;
+  held = old.held;
   told = λ h. absurd (undisturbed w.config.write_through w.premises.writers w.premises.loaders h);
   fresh = λ f. absurd (let t : false ≡ true = f in cc);
   idle = λ f. absurd (let t : false ≡ true = f in cc);
@@ -361,10 +333,10 @@ parts_disturbed w store old = record {
 -- a value is stored before anything has happened
 pub parts_stored : (w : WorldState) (key value : Bytes) → w.fresh ≡ true → IsSoundWorld w → HasParts (with_stored w key value)
 parts_stored w key value new old = record {
-  held = held_aside w (with_entry w.store key (Some value)) w.fresh w.parts w.premises old;
-  told = λ h q. told_none (get w.parts q) (entry_at (with_entry w.store key (Some value)) q) (cached w q) (old.fresh new q).1 (old.fresh new q).0;
+  held = old.held;
+  told = λ h q. told_none (get w.parts q) (entry_at (with_entry w.store key (Some value)) q) (cached w q) (missing (get w.parts q) (λ p there. worn w q p there old new)) (old.fresh new q);
   fresh = old.fresh;
-  idle = λ f. (old.idle f).0;
+  idle = old.idle;
 }
 
 -- 5. A world that begins, and a call that does.
@@ -384,7 +356,7 @@ parts_start config fits =
     record {
       held = λ key part there. absurd (let e : Some part ≡ None = sym there ∙ free key in cc);
       told = λ hold key. told_none (get w.parts key) (entry_at w.store key) (cached w key) (free key) (none key);
-      fresh = λ f key. (none key, free key);
+      fresh = λ f key. none key;
       idle = λ f. refl;
     }
 
@@ -395,91 +367,32 @@ parts_called w call session command fit old =
     let more : List Under = record { caller = record { session = session; call = call }; command = command } ∷ [] in
     let n : WorldState = record w { last = Some call; fresh = false; calls = w.calls ++ more } in
     record {
-      held = λ q p e. some_map (stripe_for w q) (λ s. IsHeld w s q p) (λ s. IsHeld n s q p) (λ s h. record { key_is = h.key_is; out = h.out; asked = h.asked; call = under_more p.reservation.caller.call (IsOn q) w.calls more h.call }) (old.held q p e);
+      held = old.held;
       told = old.told;
       fresh = λ f. absurd (let t : false ≡ true = f in cc);
       idle = λ f. absurd (let t : false ≡ true = f in cc);
     }
 
--- 6. A call that is over leaves the others under way.
+-- 6. The first phase.
 
--- the calls of these parts are under way
-abbrev StayUnder : Parts → List Under → Type 0
-StayUnder parts calls = (key : Bytes) (part : Part) → get parts key ≡ Some part → IsSomeAnd (find (has_number part.reservation.caller.call) calls) (IsOn key)
+-- a part stays held, where its reservation does
+held_on : (from next : State) (key : Bytes) (part : Part) → IsOut next part.reservation → IsHeld from key part → IsHeld next key part
+held_on from next key part out h = record { key_is = h.key_is; out = out; asked = h.asked }
 
--- the calls of all parts are under way
-under_at : (w : WorldState) → IsSoundWorld w → StayUnder w.parts w.calls
-under_at w old q p e =
-    let at = some_of (stripe_for w q) (λ s. IsHeld w s q p) (old.held q p e) in
-    at.2.call
-
--- the call of a number is one
-same_under : (u v : Under) (o : Option Under) → o ≡ Some u → o ≡ Some v → u ≡ v
-same_under u v o h k = let e : Some u ≡ Some v = sym h ∙ k in cc
-
--- a part that stands at its call's key, and is no part of this call's key, is another call's
-apart_from : (w : WorldState) (call : ℕ) (u : Under) (q : Bytes) (p : Part) → under w call ≡ Some u → get w.parts q ≡ Some p → IsSoundWorld w → (q ≡ u.command.key → (p.reservation.caller.call == call) ≡ false) → (p.reservation.caller.call == call) ≡ false
-apart_from w call u q p is e old own =
-    let at = some_of (under w p.reservation.caller.call) (IsOn q) (under_at w old q p e) in
-    elim (p.reservation.caller.call == call) as (λ b. (p.reservation.caller.call == call) ≡ b → b ≡ false) [
-      | true ↦ λ t. sym t ∙ own (sym at.2 ∙ ap (λ (v : Under). v.command.key) (same_under at.0 u (under w call) (ap (under w) (sym (eqb-true p.reservation.caller.call call t)) ∙ at.1) is))
-      | false ↦ λ t. refl
-    ] refl
-
--- so it is still under way when this one is over
-left_under : (w : WorldState) (call : ℕ) (u : Under) (q : Bytes) (p : Part) → under w call ≡ Some u → get w.parts q ≡ Some p → IsSoundWorld w → (q ≡ u.command.key → (p.reservation.caller.call == call) ≡ false) → IsSomeAnd (find (has_number p.reservation.caller.call) (over call w.calls)) (IsOn q)
-left_under w call u q p is e old own = under_left p.reservation.caller.call call (IsOn q) w.calls (apart_from w call u q p is e old own) (under_at w old q p e)
-
--- the call has no part at its key before its first phase
-none_before : (w : WorldState) (call : ℕ) (key : Bytes) (u : Under) → fits w (event.Start call key) ≡ true → under w call ≡ Some u → is_none (part_of w call u.command.key) ≡ true
-none_before w call key u fit is =
-    let parts = and_parts (pointwise ◌==◌ key u.command.key) (is_free w call key) (sym (ap (may_start w call key) is) ∙ fit) in
-    ap (λ k. is_none (part_of w call k)) (sym (same_key key u.command.key (sym (texts_ties key u.command.key) ∙ parts.0))) ∙ (and_parts (is_none (part_of w call key)) (not (is_joined w call key)) parts.1).0
-
--- all parts stay, where a call without a part is over
-over_free : (w : WorldState) (call : ℕ) (u : Under) → under w call ≡ Some u → is_none (part_of w call u.command.key) ≡ true → IsSoundWorld w → StayUnder w.parts (over call w.calls)
-over_free w call u is none old q p e = left_under w call u q p is e old (λ same. other_call (get w.parts q) call p e (ap (λ k. is_none (part_of w call k)) same ∙ none))
-
--- so where the first phase is the last
-over_started : (w : WorldState) (call : ℕ) (key : Bytes) (u : Under) → fits w (event.Start call key) ≡ true → under w call ≡ Some u → IsSoundWorld w → StayUnder w.parts (over u.caller.call w.calls)
-over_started w call key u fit is old =
-    let P : ℕ → Type 0 = λ n. StayUnder w.parts (over n w.calls) in
-    subst P (sym (found_number call w.calls u is)) (over_free w call u is (none_before w call key u fit is) old)
-
--- a commit's call has no part but the one that goes
-over_ended : (w : WorldState) (call : ℕ) (key : Bytes) (part : Part) → part_of w call key ≡ Some part → IsSoundWorld w
-    → (q : Bytes) (p : Part) → get w.parts q ≡ Some p → eq_by_cmp key_cmp q key ≡ false → IsSomeAnd (find (has_number p.reservation.caller.call) (over call w.calls)) (IsOn q)
-over_ended w call key part is old q p e apart =
-    let there = is_there (get w.parts key) call part is in
-    let at = some_of (under w part.reservation.caller.call) (IsOn key) (under_at w old key part there) in
-    left_under w call at.0 q p (ap (under w) (sym (is_of_call (get w.parts key) call part is)) ∙ at.1) e old
-    (λ same. absurd (let t : true ≡ false = sym (tied key) ∙ ap (λ k. eq_by_cmp key_cmp k key) (sym (same ∙ at.2)) ∙ apart in cc))
-
--- 7. The first phase.
-
--- a part stays held, where its reservation does and its call goes on
-held_on : (w n : WorldState) (from next : State) (key : Bytes) (part : Part) → IsOut next part.reservation → IsSomeAnd (under n part.reservation.caller.call) (IsOn key) → IsHeld w from key part → IsHeld n next key part
-held_on w n from next key part out call h = record { key_is = h.key_is; out = out; asked = h.asked; call = call }
-
--- the same, at a stripe that is none or stays
-held_still : (w n : WorldState) (o : Option State) (key : Bytes) (part : Part) → IsSomeAnd (under n part.reservation.caller.call) (IsOn key) → HeldIn w o key part → HeldIn n o key part
-held_still w n o key part call = some_map o (λ s. IsHeld w s key part) (λ s. IsHeld n s key part) (λ s h. record { key_is = h.key_is; out = h.out; asked = h.asked; call = call })
-
--- the phase was refused
-parts_refused : (w : WorldState) (call : ℕ) (u : Under) → under w call ≡ Some u → StayUnder w.parts (over u.caller.call w.calls) → IsSoundWorld w → HasParts (call_over w u.caller.call)
-parts_refused w call u is stay old = record {
-  held = λ q p e. held_still w (call_over w u.caller.call) (stripe_for w q) q p (stay q p e) (old.held q p e);
+-- a call is over
+parts_over : (w : WorldState) (call : ℕ) (u : Under) → under w call ≡ Some u → IsSoundWorld w → HasParts (call_over w u.caller.call)
+parts_over w call u is old = record {
+  held = old.held;
   told = old.told;
   fresh = old.fresh;
   idle = λ f. absurd (begun_before w call u is old f);
 }
 
 -- a step was put down
-held_stepped : (w n : WorldState) (u : Under) (from next : State) (done : StepDone) (q : Bytes) (p : Part) → Begins from u.caller u.command.key u.command.op (begun.Done done) next
-    → IsSomeAnd (under n p.reservation.caller.call) (IsOn q) → IsHeld w from q p → IsHeld n next q p
-held_stepped w n u from next done q p begins call h =
+held_stepped : (u : Under) (from next : State) (done : StepDone) (q : Bytes) (p : Part) → Begins from u.caller u.command.key u.command.op (begun.Done done) next → IsHeld from q p → IsHeld next q p
+held_stepped u from next done q p begins h =
     let R : List Reservation → Type 0 = λ rs. find (is_key p.reservation.key) rs ≡ Some p.reservation in
-    held_on w n from next q p (subst R (sym (ap (λ (s : State). s.reservations) begins.2.after)) h.out) call h
+    held_on from next q p (subst R (sym (ap (λ (s : State). s.reservations) begins.2.after)) h.out) h
 
 -- and the entries that agreed with the store do so still
 agrees_begun : (u : Under) (from next : State) (done : StepDone) (q : Bytes) (stored : Option Bytes) → Begins from u.caller u.command.key u.command.op (begun.Done done) next
@@ -493,17 +406,17 @@ agrees_begun u from next done q stored begins on agrees =
     (λ apart. agrees))
 
 -- so the parts and the store say what they said
-parts_stepped : (w : WorldState) (call : ℕ) (u : Under) (from next : State) (order : List Event) (done : StepDone) → under w call ≡ Some u → StayUnder w.parts (over u.caller.call w.calls) → stripe_for w u.command.key ≡ Some from
+parts_stepped : (w : WorldState) (call : ℕ) (u : Under) (from next : State) (order : List Event) (done : StepDone) → under w call ≡ Some u → stripe_for w u.command.key ≡ Some from
     → Begins from u.caller u.command.key u.command.op (begun.Done done) next → IsSoundWorld w
     → HasParts (record w { stripes = slice_set w.stripes (home w u.command.key) next; order = order; calls = over u.caller.call w.calls })
-parts_stepped w call u from next order done is stay at begins old =
+parts_stepped w call u from next order done is at begins old =
     let key = u.command.key in
     let n : WorldState = record w { stripes = slice_set w.stripes (home w key) next; order = order; calls = over u.caller.call w.calls } in
     record {
       held = λ q p e.
-          at_stripe w.stripes (home w key) (home w q) from next (λ o x. HeldIn w o q p → HeldIn n x q p) at
-          (λ h. held_stepped w n u from next done q p begins (stay q p e) h)
-          (held_still w n (stripe_for w q) q p (stay q p e))
+          at_stripe w.stripes (home w key) (home w q) from next (λ o x. HeldIn o q p → HeldIn x q p) at
+          (held_stepped u from next done q p begins)
+          (λ h. h)
           (old.held q p e);
       told = λ hold q.
           let on : from.config.write_through ≡ true = ap (λ (c : Config). c.write_through) (config_at w (home w key) from at old) ∙ (and_parts w.config.write_through (premises_hold w.premises) hold).0 in
@@ -516,27 +429,26 @@ parts_stepped w call u from next order done is stay at begins old =
     }
 
 -- a key was reserved: its part is new, and the others are held on
-held_reserving : (w n : WorldState) (from next : State) (r : Reservation) (q : Bytes) (p : Part) → next.reservations ≡ from.reservations ++ r ∷ [] → IsSomeAnd (under n p.reservation.caller.call) (IsOn q) → IsHeld w from q p
-    → IsHeld n next q p
-held_reserving w n from next r q p reservations call h =
+held_reserving : (from next : State) (r : Reservation) (q : Bytes) (p : Part) → next.reservations ≡ from.reservations ++ r ∷ [] → IsHeld from q p → IsHeld next q p
+held_reserving from next r q p reservations h =
     let R : List Reservation → Type 0 = λ rs. find (is_key p.reservation.key) rs ≡ Some p.reservation in
-    held_on w n from next q p (subst R (sym reservations) (found_more (is_key p.reservation.key) from.reservations (r ∷ []) p.reservation h.out)) call h
+    held_on from next q p (subst R (sym reservations) (found_more (is_key p.reservation.key) from.reservations (r ∷ []) p.reservation h.out)) h
 
 -- so there is one part more
 parts_reserving : (w : WorldState) (key : Bytes) (from next : State) (r : Reservation) (part : Part) → stripe_for w key ≡ Some from → is_reserved from key ≡ false
-    → next.reservations ≡ from.reservations ++ r ∷ [] → next.cache ≡ from.cache → IsHeld (with_part (with_stripe w key next) key part) next key part
+    → next.reservations ≡ from.reservations ++ r ∷ [] → next.cache ≡ from.cache → IsHeld next key part
     → ((stored entry : Option Bytes) → Agrees entry stored → IsTold part.progress part.reservation.first stored entry) → (w.fresh ≡ true → ⊥) → IsSoundWorld w
     → HasParts (with_part (with_stripe w key next) key part)
 parts_reserving w key from next r part at free reservations cache one new used old =
     let n = with_part (with_stripe w key next) key part in
     let on : AllHeld n w.parts = λ q p e.
-    at_stripe w.stripes (home w key) (home w q) from next (λ o x. HeldIn w o q p → HeldIn n x q p) at
-    (λ h. held_reserving w n from next r q p reservations (under_at w old q p e) h)
-    (held_still w n (stripe_for w q) q p (under_at w old q p e))
+    at_stripe w.stripes (home w key) (home w q) from next (λ o x. HeldIn o q p → HeldIn x q p) at
+    (held_reserving from next r q p reservations)
+    (λ h. h)
     (old.held q p e)
     in
     record {
-      held = held_insert n w.parts key part on (some_at (stripe_for n key) (λ s. IsHeld n s key part) next (stripe_put w.stripes (home w key) from next at) one);
+      held = held_insert n w.parts key part on (some_at (stripe_for n key) (λ s. IsHeld s key part) next (stripe_put w.stripes (home w key) from next at) one);
       told = λ hold.
           let all : AllTold n w.parts w.store = λ q.
           at_stripe w.stripes (home w key) (home w q) from next (λ o x. KeyTold (get w.parts q) (entry_at w.store q) (entry_in o q) → KeyTold (get w.parts q) (entry_at w.store q) (entry_in x q)) at
@@ -550,20 +462,12 @@ parts_reserving w key from next r part at free reservations cache one new used o
       idle = λ f. absurd (used f);
     }
 
--- the call's own key, under its number
-own_call : (w : WorldState) (call : ℕ) (u : Under) → under w call ≡ Some u → IsSomeAnd (under w u.caller.call) (IsOn u.command.key)
-own_call w call u is = some_at (under w u.caller.call) (IsOn u.command.key) u (ap (under w) (found_number call w.calls u is) ∙ is) refl
-
 -- a reservation is made of a key that was free: its part has it
-held_new : (n : WorldState) (key : Bytes) (from next : State) (p : Progress) (r : Reservation) → is_reserved from key ≡ false → r.key ≡ key → next.reservations ≡ from.reservations ++ r ∷ []
-    → is_asked p r.first ≡ true → IsSomeAnd (under n r.caller.call) (IsOn key) → IsHeld n next key (new_part p r)
-held_new n key from next p r free key_is reservations asked call =
+held_new : (key : Bytes) (from next : State) (p : Progress) (r : Reservation) → is_reserved from key ≡ false → r.key ≡ key → next.reservations ≡ from.reservations ++ r ∷ [] → is_asked p r.first ≡ true
+    → IsHeld next key (new_part p r)
+held_new key from next p r free key_is reservations asked =
     let P : List Reservation → Type 0 = λ rs. find (is_key r.key) rs ≡ Some r in
-    record { key_is = key_is; out = subst P (sym reservations) (new_out from r (ap (is_reserved from) key_is ∙ free)); asked = asked; call = call }
-
--- the same, under the caller of its reservation
-its_call : (w : WorldState) (call : ℕ) (u : Under) (r : Reservation) → under w call ≡ Some u → r.caller ≡ u.caller → IsSomeAnd (under w r.caller.call) (IsOn u.command.key)
-its_call w call u r is caller_is = let C : Caller → Type 0 = λ c. IsSomeAnd (under w c.call) (IsOn u.command.key) in subst C (sym caller_is) (own_call w call u is)
+    record { key_is = key_is; out = subst P (sym reservations) (new_out from r (ap (is_reserved from) key_is ∙ free)); asked = asked }
 
 -- the key is reserved, and the loader is asked
 parts_loads : (w : WorldState) (call : ℕ) (u : Under) (from next : State) (ticket : Ticket) → under w call ≡ Some u → stripe_for w u.command.key ≡ Some from
@@ -578,7 +482,7 @@ parts_loads w call u from next ticket is at begins old =
     let free = was_free from u.caller key op Loader begins.0 begins.1 begins.2 refl in
     let reservations = ap (λ (s : State). s.reservations) begins.4 in
     parts_reserving w key from next r part at free reservations (ap (λ (s : State). s.cache) begins.4)
-    (held_new n key from next load_asked r free (ap (λ (x : Reservation). x.key) r_is) reservations (ap (λ (x : Reservation). asks_loader x.first) r_is) (its_call w call u r is (ap (λ (x : Reservation). x.caller) r_is)))
+    (held_new key from next load_asked r free (ap (λ (x : Reservation). x.key) r_is) reservations (ap (λ (x : Reservation). asks_loader x.first) r_is))
     (λ stored entry agrees. record { loaded = tt; unwritten = agrees }) (begun_before w call u is old) old
 
 -- the key is reserved, and the writer is asked
@@ -594,19 +498,19 @@ parts_asks w call u from next ticket change is at begins first old =
     let free = was_free from u.caller key op r.first begins.0 (writer_alone from key op r.first begins.1 begins.2) begins.1 (ap reserves first) in
     let reservations = ap (λ (s : State). s.reservations) begins.4 in
     parts_reserving w key from next r part at free reservations (ap (λ (s : State). s.cache) begins.4)
-    (held_new n key from next write_asked r free (ap (λ (x : Reservation). x.key) r_is) reservations (ap asks_writer first) (its_call w call u r is (ap (λ (x : Reservation). x.caller) r_is)))
+    (held_new key from next write_asked r free (ap (λ (x : Reservation). x.key) r_is) reservations (ap asks_writer first))
     (λ stored entry agrees. record { written = λ e. absurd (let t : false ≡ true = e in cc); unwritten = λ e. agrees; honest = λ e. absurd (let t : false ≡ true = e in cc) }) (begun_before w call u is old) old
 
 -- a stripe is another, whose entries and reservations are the same
-parts_aside : (w : WorldState) (key : Bytes) (from next : State) (calls : List Under) (joins : List JoinClaim) → stripe_for w key ≡ Some from → next.cache ≡ from.cache → next.reservations ≡ from.reservations → StayUnder w.parts calls → (w.fresh ≡ true → ⊥) → IsSoundWorld w
+parts_aside : (w : WorldState) (key : Bytes) (from next : State) (calls : List Under) (joins : List JoinClaim) → stripe_for w key ≡ Some from → next.cache ≡ from.cache → next.reservations ≡ from.reservations → (w.fresh ≡ true → ⊥) → IsSoundWorld w
     → HasParts (record w { stripes = slice_set w.stripes (home w key) next; calls = calls; joins = joins })
-parts_aside w key from next calls joins at cache reservations stay used old =
+parts_aside w key from next calls joins at cache reservations used old =
     let n : WorldState = record w { stripes = slice_set w.stripes (home w key) next; calls = calls; joins = joins } in
     record {
       held = λ q p e.
-          at_stripe w.stripes (home w key) (home w q) from next (λ o x. HeldIn w o q p → HeldIn n x q p) at
-          (λ h. let R : List Reservation → Type 0 = λ rs. find (is_key p.reservation.key) rs ≡ Some p.reservation in held_on w n from next q p (subst R (sym reservations) h.out) (stay q p e) h)
-          (held_still w n (stripe_for w q) q p (stay q p e))
+          at_stripe w.stripes (home w key) (home w q) from next (λ o x. HeldIn o q p → HeldIn x q p) at
+          (λ h. let R : List Reservation → Type 0 = λ rs. find (is_key p.reservation.key) rs ≡ Some p.reservation in held_on from next q p (subst R (sym reservations) h.out) h)
+          (λ h. h)
           (old.held q p e);
       told = λ hold q.
           at_stripe w.stripes (home w key) (home w q) from next (λ o x. KeyTold (get w.parts q) (entry_at w.store q) (entry_in o q) → KeyTold (get w.parts q) (entry_at w.store q) (entry_in x q)) at
@@ -620,17 +524,17 @@ parts_aside w key from next calls joins at cache reservations stay used old =
 -- the first phase of a call
 pub parts_started : (w new : WorldState) (call : ℕ) (key : Bytes) (u : Under) (from to : State) (seen : Shown) → fits w (event.Start call key) ≡ true → under w call ≡ Some u → stripe_for w u.command.key ≡ Some from
     → Starts w u from to seen new → IsSoundWorld w → HasParts new
-parts_started w new call key u from to (shown.Refused refusal) fit is at (begins, leaves) old = subst HasParts (sym leaves) (parts_refused w call u is (over_started w call key u fit is old) old)
+parts_started w new call key u from to (shown.Refused refusal) fit is at (begins, leaves) old = subst HasParts (sym leaves) (parts_over w call u is old)
 parts_started w new call key u from to (shown.Stepped seen) fit is at (begins, shows, leaves) old =
-    subst HasParts (sym leaves) (parts_stepped w call u from to (goes_on w u.command.key from to).order (step_of seen) is (over_started w call key u fit is old) at begins old)
+    subst HasParts (sym leaves) (parts_stepped w call u from to (goes_on w u.command.key from to).order (step_of seen) is at begins old)
 parts_started w new call key u from to shown.Loads fit is at (ticket, begins, leaves) old = subst HasParts (sym leaves) (parts_loads w call u from to ticket is at begins old)
 parts_started w new call key u from to (shown.Asks change) fit is at (ticket, begins, first, leaves) old = subst HasParts (sym leaves) (parts_asks w call u from to ticket change is at begins first old)
 parts_started w new call key u from to shown.Joins fit is at (join, begins, leaves) old =
     subst HasParts (sym leaves)
-    (parts_aside w u.command.key from to w.calls (w.joins ++ join ∷ []) at (ap (λ (s : State). s.cache) begins.3) (ap (λ (s : State). s.reservations) begins.3) (under_at w old) (begun_before w call u is old) old)
+    (parts_aside w u.command.key from to w.calls (w.joins ++ join ∷ []) at (ap (λ (s : State). s.cache) begins.3) (ap (λ (s : State). s.reservations) begins.3) (begun_before w call u is old) old)
 parts_started w new call key u from to seen fit is at h old = absurd h
 
--- 8. The last phase.
+-- 7. The last phase.
 
 -- a writer's report, once it is true, leaves the entry in agreement
 agrees_written : (op : Op) (entry stored : Option Bytes) (change : Change) (report : WriteAnswer) (was : Bool) → write_ask op entry process.NotAsked ≡ Some change → is_write_given report ≡ true
@@ -642,7 +546,7 @@ agrees_written op entry stored change write.Done was asked given written unwritt
     subst P (written (sym honest) ∙ sym (writes op entry change asked)) (agrees_same stored)
 
 -- what a commit leaves agrees with the store: a reservation still asks what it asked
-agrees_ended : (config : Config) (p : Progress) (op : Op) (first : First) (entry stored : Option Bytes) → first_asked config op entry ≡ first → is_asked p first ≡ true → is_over p ≡ true → IsTold p first stored entry
+agrees_ended : (config : Config) (p : Progress) (op : Op) (first : First) (entry stored : Option Bytes) → first_asked config op entry ≡ first → is_asked p first ≡ true → is_complete p ≡ true → IsTold p first stored entry
     → Agrees (entry_after op entry (out_in p)) stored
 agrees_ended config (Loading answer) op Loader entry stored asks asked over h = loads op entry answer stored (loads_asked config op entry asks) h.unwritten h.loaded
 agrees_ended config (Writing is_changed report) op (Writer change) entry stored asks asked over h =
@@ -664,15 +568,14 @@ asks_found config cache key (x ∷ xs) r h all =
     ] h
 
 -- another key's part keeps its reservation
-others_out : (w : WorldState) (from : State) (key q : Bytes) (p : Part) → eq_by_cmp key_cmp q key ≡ false → IsHeld w from q p → find (is_key p.reservation.key) (without_key key from.reservations) ≡ Some p.reservation
-others_out w from key q p apart h = found_left p.reservation.key key from.reservations (ap (λ k. eq_by_cmp key_cmp k key) h.key_is ∙ apart) ∙ h.out
+others_out : (from : State) (key q : Bytes) (p : Part) → eq_by_cmp key_cmp q key ≡ false → IsHeld from q p → find (is_key p.reservation.key) (without_key key from.reservations) ≡ Some p.reservation
+others_out from key q p apart h = found_left p.reservation.key key from.reservations (ap (λ k. eq_by_cmp key_cmp k key) h.key_is ∙ apart) ∙ h.out
 
 -- a commit keeps the reservations of the other keys
-held_ended : (w n : WorldState) (key : Bytes) (from next : State) (q : Bytes) (p : Part) → next.reservations ≡ without_key key from.reservations → eq_by_cmp key_cmp q key ≡ false
-    → IsSomeAnd (under n p.reservation.caller.call) (IsOn q) → IsHeld w from q p → IsHeld n next q p
-held_ended w n key from next q p left apart call h =
+held_ended : (key : Bytes) (from next : State) (q : Bytes) (p : Part) → next.reservations ≡ without_key key from.reservations → eq_by_cmp key_cmp q key ≡ false → IsHeld from q p → IsHeld next q p
+held_ended key from next q p left apart h =
     let R : List Reservation → Type 0 = λ rs. find (is_key p.reservation.key) rs ≡ Some p.reservation in
-    held_on w n from next q p (subst R (sym left) (others_out w from key q p apart h)) call h
+    held_on from next q p (subst R (sym left) (others_out from key q p apart h)) h
 
 -- the step of a commit
 abbrev EndsBy : Bytes → Part → State → State → StepDone → Type 0
@@ -707,13 +610,12 @@ parts_committed w call key part from next order done is answered at commits old 
     let reached = (old.shape.each (home w key) from at).reached in
     record {
       held = λ q p e.
-          split q key (λ b. cond b None (get w.parts q) ≡ Some p → HeldIn n (stripe_for n q) q p)
+          split q key (λ b. cond b None (get w.parts q) ≡ Some p → HeldIn (stripe_for n q) q p)
           (λ same e. cc)
           (λ apart e.
-          let call_on = over_ended w call key part is old q p e apart in
-          at_stripe w.stripes (home w key) (home w q) from next (λ o x. HeldIn w o q p → HeldIn n x q p) at
-          (λ h. held_ended w n key from next q p left apart call_on h)
-          (held_still w n (stripe_for w q) q p call_on)
+          at_stripe w.stripes (home w key) (home w q) from next (λ o x. HeldIn o q p → HeldIn x q p) at
+          (held_ended key from next q p left apart)
+          (λ h. h)
           (old.held q p e))
           (sym (get-remove nat_list_cmp_total w.parts key q) ∙ e);
       told = λ hold q.
@@ -745,7 +647,7 @@ parts_ended w new call key part from to (shown.Stepped seen) fit is at (commits,
     subst HasParts (sym leaves) (parts_committed w call key part from to (goes_on w key from to).order (step_of seen) is fit at commits old)
 parts_ended w new call key part from to seen fit is at h old = absurd h
 
--- 9. A reservation is given back, a call leaves, and an answer is picked up.
+-- 8. A reservation is given back, a call leaves, and an answer is picked up.
 
 -- of what is untouched the store is as it was
 unchanged : (p : Progress) → nothing_done p ≡ true → has_changed p ≡ false
@@ -767,14 +669,12 @@ parts_withdrawn w call key part from next fit is at withdraws old =
     in
     record {
       held = λ q p e.
-          split q key (λ b. cond b None (get w.parts q) ≡ Some p → HeldIn n (stripe_for n q) q p)
+          split q key (λ b. cond b None (get w.parts q) ≡ Some p → HeldIn (stripe_for n q) q p)
           (λ same e. cc)
           (λ apart e.
-          at_stripe w.stripes (home w key) (home w q) from next (λ o x. HeldIn w o q p → HeldIn n x q p) at
-          (λ h.
-          let R : List Reservation → Type 0 = λ rs. find (is_key p.reservation.key) rs ≡ Some p.reservation in
-          held_on w n from next q p (subst R (sym left) (others_out w from key q p apart h)) h.call h)
-          (some_map (stripe_for w q) (λ s. IsHeld w s q p) (λ s. IsHeld n s q p) (λ s h. record { key_is = h.key_is; out = h.out; asked = h.asked; call = h.call }))
+          at_stripe w.stripes (home w key) (home w q) from next (λ o x. HeldIn o q p → HeldIn x q p) at
+          (held_ended key from next q p left apart)
+          (λ h. h)
           (old.held q p e))
           (sym (get-remove nat_list_cmp_total w.parts key q) ∙ e);
       told = λ hold q.
@@ -797,17 +697,11 @@ parts_left w call fit old = go (under w call) refl
   where
     go : (o : Option Under) → under w call ≡ o → HasParts (call_over w call)
     go None e = let t : false ≡ true = ap (may_leave w call) (sym e) ∙ fit in cc
-    go (Some u) e =
-        let free : is_free w call u.command.key ≡ true = ap (may_leave w call) (sym e) ∙ fit in
-        let P : ℕ → Type 0 = λ n. HasParts (call_over w n) in
-        let Q : ℕ → Type 0 = λ n. StayUnder w.parts (over n w.calls) in
-        let number = found_number call w.calls u e in
-        subst P number
-        (parts_refused w call u e (subst Q (sym number) (over_free w call u e (and_parts (is_none (part_of w call u.command.key)) (not (is_joined w call u.command.key)) free).0 old)) old)
+    go (Some u) e = let P : ℕ → Type 0 = λ n. HasParts (call_over w n) in subst P (found_number call w.calls u e) (parts_over w call u e old)
 
 -- the half of a sound world
 parts_of_sound : (w : WorldState) → IsSoundWorld w → HasParts w
-parts_of_sound w h = record { held = h.held; told = h.told; fresh = h.fresh; idle = λ f. (h.idle f).0 }
+parts_of_sound w h = record { held = h.held; told = h.told; fresh = h.fresh; idle = h.idle }
 
 -- by what is shown of a pick-up
 pub parts_picks : (w new : WorldState) (call : ℕ) (key : Bytes) (join : JoinClaim) (from to : State) (seen : Shown) → join_of w call key ≡ Some join → stripe_for w key ≡ Some from → Picks w call key join from to seen new → IsSoundWorld w → HasParts new
@@ -815,16 +709,16 @@ parts_picks w new call key join from to (shown.PickedUp seen) joined at h old =
     let p = picking w call key join joined old in
     let is = h.0.3 in
     subst HasParts (sym h.2)
-    (parts_aside w key from to (over call w.calls) (unjoined call key w.joins) at (ap (λ (s : State). s.cache) is) (ap (λ (s : State). s.reservations) is) (over_free w call p.u p.here (ap is_none p.none) old) (begun_before w call p.u p.here old) old)
+    (parts_aside w key from to (over call w.calls) (unjoined call key w.joins) at (ap (λ (s : State). s.cache) is) (ap (λ (s : State). s.reservations) is) (begun_before w call p.u p.here old) old)
 parts_picks w new call key join from to shown.Again joined at h old =
     let p = picking w call key join joined old in
     let is = h.0.2 in
     subst HasParts (sym h.1)
-    (parts_aside w key from to w.calls (unjoined call key w.joins) at (ap (λ (s : State). s.cache) is) (ap (λ (s : State). s.reservations) is) (under_at w old) (begun_before w call p.u p.here old) old)
+    (parts_aside w key from to w.calls (unjoined call key w.joins) at (ap (λ (s : State). s.cache) is) (ap (λ (s : State). s.reservations) is) (begun_before w call p.u p.here old) old)
 parts_picks w new call key join from to shown.Waits joined at h old = subst HasParts (sym h.1) (parts_of_sound w old)
 parts_picks w new call key join from to seen joined at h old = absurd h
 
--- 10. A sound world is coherent, as long as the premises held.
+-- 9. A sound world is coherent, as long as the premises held.
 
 -- a key that no writer has changed agrees with the store
 key_coherent : (o : Option Part) (stored entry : Option Bytes) → KeyTold o stored entry → is_changed o ≡ false → Agrees entry stored

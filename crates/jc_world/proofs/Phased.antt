@@ -246,7 +246,7 @@ ended v next call key part number done seen stripes order parts is home_is p sho
 pub may_end_at : (v : WorldState) (call : ℕ) (key : Bytes) (part : Part) (number : ℕ) → part_of v call key ≡ Some part → number ≡ home v key → IsSoundWorld v
     → IsSomeAnd (slice_get v.stripes number) (λ s. IsOut s part.reservation × (s.origin ≡ Played))
 may_end_at v call key part number is home_is sound =
-    let found = some_of (stripe_for v key) (λ s. IsHeld v s key part) (sound.held key part (is_part (get v.parts key) call part is)) in
+    let found = some_of (stripe_for v key) (λ s. IsHeld s key part) (sound.held key part (is_part (get v.parts key) call part is)) in
     let s = found.0 in
     let held = found.2 in
     let P : State → Type 0 = λ s. IsOut s part.reservation × (s.origin ≡ Played) in

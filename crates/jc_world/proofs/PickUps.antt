@@ -244,7 +244,7 @@ pub part_of_out : (w : WorldState) (key : Bytes) (s : State) (r : Reservation) �
 part_of_out w key s r there key_is out old =
     let owned = owned_found w (is_key r.key) s.reservations r out (old.owned (home w key) s there) in
     let part = some_of (get w.parts r.key) (λ p. p.reservation.caller.call ≡ r.caller.call) owned.part in
-    let held = some_of (stripe_for w r.key) (λ x. IsHeld w x r.key part.0) (old.held r.key part.0 part.1) in
+    let held = some_of (stripe_for w r.key) (λ x. IsHeld x r.key part.0) (old.held r.key part.0 part.1) in
     let e : Some held.0 ≡ Some s = sym held.1 ∙ ap (stripe_for w) key_is ∙ there in
     let here : held.0 ≡ s = cc in
     let O : State → Type 0 = λ x. IsOut x part.0.reservation in

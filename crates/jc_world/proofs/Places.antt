@@ -1,5 +1,5 @@
 -- The stripes of a world, where one is set, and the calls, where one is over.
-use Rattle.std.proofs.Common.{◌≡◌, ◌==◌, ◌<◌, ◌≤◌, ◌%◌, ℕ, zero, suc, length, List, [], ◌∷◌, ◌++◌, sum, Bool, true, false, cond, not, Option, Some, IsSomeAnd, Ok, find, refl, sym, ap, ◌∙◌, subst, arith, slice_get, slice_set, nat_le, get_or, Result, Err}
+use Rattle.std.proofs.Common.{◌≡◌, ◌==◌, ◌<◌, ◌≤◌, ◌%◌, ℕ, zero, suc, length, List, [], ◌∷◌, sum, Bool, true, false, cond, Option, Some, Ok, find, refl, sym, ap, ◌∙◌, subst, arith, slice_get, slice_set, nat_le, get_or, Result, Err}
 use Rattle.std.proofs.lemmas.Bool.Decides.{nat_tests}
 use Rattle.std.proofs.lemmas.Bool.{eqb-true, and_parts}
 use Rattle.std.proofs.lemmas.Option.{slice_get-get_or}
@@ -10,7 +10,7 @@ use Rattle.jc_types.specs.declared.limits.TheConstants.{STRIPES_MAX}
 use Rattle.jc_model.specs.Cache.{Bytes}
 use Rattle.jc_stripe.specs.State.{State}
 use Rattle.jc_world.specs.declared.event.Under.{Under}
-use Rattle.jc_world.specs.World.{WorldState, home, stripe_for, empty_stripe, has_number, over}
+use Rattle.jc_world.specs.World.{WorldState, home, stripe_for, empty_stripe, has_number}
 use Rattle.jc_world.specs.Sound.{IsShaped}
 
 -- 1. The stripes.
@@ -76,28 +76,3 @@ found_number n (x ∷ xs) u h =
       | true ↦ λ e h. let is : x ≡ u = cc in ap (λ (v : Under). v.caller.call) (sym is) ∙ eqb-true x.caller.call n e
       | false ↦ λ e h. found_number n xs u h
     ] refl h
-
--- two numbers that are one are the same
-number_clash : (a n m : ℕ) → (a == n) ≡ true → (a == m) ≡ true → (n == m) ≡ true
-number_clash a n m h k = grind (arith, nat_tests)
-
--- another call stays under way
-pub under_left : (n m : ℕ) (P : Under → Type 0) (calls : List Under) → (n == m) ≡ false → IsSomeAnd (find (has_number n) calls) P → IsSomeAnd (find (has_number n) (over m calls)) P
-under_left n m P [] apart h = absurd h
-under_left n m P (x ∷ xs) apart h =
-    elim (x.caller.call == n) as (λ b. (x.caller.call == n) ≡ b → IsSomeAnd (cond b (Some x) (find (has_number n) xs)) P → IsSomeAnd (find (has_number n) (cond (not (x.caller.call == m)) (x ∷ over m xs) (over m xs))) P) [
-      | true ↦ λ e h. elim (x.caller.call == m) as (λ b. (x.caller.call == m) ≡ b → IsSomeAnd (find (has_number n) (cond (not b) (x ∷ over m xs) (over m xs))) P) [
-        | true ↦ λ f. absurd (let t = number_clash x.caller.call n m e f in cc)
-        | false ↦ λ f. let Q : Bool → Type 0 = λ b. IsSomeAnd (cond b (Some x) (find (has_number n) (over m xs))) P in subst Q (sym e) h
-      ] refl
-      | false ↦ λ e h. elim (x.caller.call == m) as (λ b. IsSomeAnd (find (has_number n) (cond (not b) (x ∷ over m xs) (over m xs))) P) [
-        | true ↦ under_left n m P xs apart h
-        | false ↦ let Q : Bool → Type 0 = λ b. IsSomeAnd (cond b (Some x) (find (has_number n) (over m xs))) P in subst Q (sym e) (under_left n m P xs apart h)
-      ]
-    ] refl h
-
--- a call more keeps those that are found
-pub under_more : (n : ℕ) (P : Under → Type 0) (calls more : List Under) → IsSomeAnd (find (has_number n) calls) P → IsSomeAnd (find (has_number n) (calls ++ more)) P
-under_more n P [] more h = absurd h
-under_more n P (x ∷ xs) more h =
-    elim (x.caller.call == n) as (λ b. IsSomeAnd (cond b (Some x) (find (has_number n) xs)) P → IsSomeAnd (cond b (Some x) (find (has_number n) (xs ++ more))) P) [ true ↦ λ h. h | false ↦ λ h. under_more n P xs more h ] h

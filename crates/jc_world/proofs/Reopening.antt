@@ -20,10 +20,10 @@ parts_reopened w none coherent old = record {
       let P : Option Part → Type 0 = λ o. KeyTold o (entry_at w.store key) (cached w key) in
       subst P (sym (none key)) (coherent key (ap is_changed (none key)));
   fresh = old.fresh;
-  idle = λ f. (old.idle f).0;
+  idle = old.idle;
 }
 
 pub sound_reopened : (w : WorldState) → ((key : Bytes) → get w.parts key ≡ None) → Coherent w → IsSoundWorld w → IsSoundWorld (reopened w)
 sound_reopened w none coherent old =
     let premises : Premises = (reopened w).premises in
-    sound (reopened w) (order_stored w w.store premises w.fresh old) (parts_reopened w none coherent old) (joins_stored w w.store premises w.fresh (λ f. f) old)
+    sound (reopened w) (order_stored w w.store premises w.fresh old) (parts_reopened w none coherent old) (joins_stored w w.store premises w.fresh old)

@@ -265,8 +265,8 @@ stay_run laws w new (e ∷ es) (s ∷ ss) (mid, step, rest) old =
 
 pub stays_held : (w n : WorldState) (key : Bytes) (was is : Part) → get w.parts key ≡ Some was → get n.parts key ≡ Some is → is.reservation ≡ was.reservation → IsSoundWorld w → IsSoundWorld n → StayOut w n → cached n key ≡ cached w key
 stays_held w n key was is before after same old new stay =
-    let then = some_of (stripe_for w key) (λ s. IsHeld w s key was) (old.held key was before) in
-    let now = some_of (stripe_for n key) (λ s. IsHeld n s key is) (new.held key is after) in
+    let then = some_of (stripe_for w key) (λ s. IsHeld s key was) (old.held key was before) in
+    let now = some_of (stripe_for n key) (λ s. IsHeld s key is) (new.held key is after) in
     let at : slice_get n.stripes (home w key) ≡ Some now.0 = ap (λ (c : Config). slice_get n.stripes (stripe_of key c.stripes)) (sym stay.config_is) ∙ now.1 in
     let from = stay.stripes (home w key) now.0 at in
     let r = was.reservation in

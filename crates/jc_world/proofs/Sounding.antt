@@ -58,7 +58,7 @@ pub sound_start : (config : Config) → check config ≡ Ok tt → IsSoundWorld 
 sound_start config fits = sound (start config) (order_start config fits) (parts_start config fits) (joins_start config fits)
 
 pub sound_stored : (w : WorldState) (key value : Bytes) → w.fresh ≡ true → IsSoundWorld w → IsSoundWorld (with_stored w key value)
-sound_stored w key value fresh h = sound (with_stored w key value) (order_opened w key value h) (parts_stored w key value fresh h) (joins_stored w (with_stored w key value).store w.premises w.fresh (λ f. f) h)
+sound_stored w key value fresh h = sound (with_stored w key value) (order_opened w key value h) (parts_stored w key value fresh h) (joins_stored w (with_stored w key value).store w.premises w.fresh h)
 
 pub sound_set : {A E : Type 0} (r : Result A E) (old new : WorldState) (key value : Bytes) → OnOk r (new ≡ with_stored old key value) → OnErr r (new ≡ old) → old.fresh ≡ true → IsSoundWorld old → IsSoundWorld new
 sound_set (Ok x) old new key value ok err fresh h = subst IsSoundWorld (sym ok) (sound_stored old key value fresh h)

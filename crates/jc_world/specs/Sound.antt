@@ -11,7 +11,7 @@
 --     CallsFit                      that is so of all calls under way, and no two are of one session or have one number
 --     is_asked                      the progress of a key is that of one who was asked: a load's of the loader, a write's of the
 --                                   writer
---     IsHeld                        a part has its reservation and its call
+--     IsHeld                        a part has its reservation, whose call is then under way
 --     IsOwned, AllOwned             a reservation has its part and its call; each does
 --     IsWaitedFor, AllWaitedFor     a join has its joiner and its call, which has no part; each does
 --     joined_once                   no two joins are of one call and one key
@@ -124,11 +124,10 @@ is_asked (Loading answer) first = asks_loader first
 is_asked (Writing is_changed report) first = asks_writer first
 
 -- the part of a key whose stripe is `s`
-pub record IsHeld (w : WorldState) (s : State) (key : Bytes) (part : Part) : Type 0 where
+pub record IsHeld (s : State) (key : Bytes) (part : Part) : Type 0 where
   pub key_is : part.reservation.key ≡ key
   pub out : IsOut s part.reservation
   pub asked : is_asked part.progress part.reservation.first ≡ true
-  pub call : IsSomeAnd (under w part.reservation.caller.call) (λ u. u.command.key ≡ key)
 
 -- the reservation of a call under way, with its part
 pub record IsOwned (w : WorldState) (r : Reservation) : Type 0 where
@@ -201,11 +200,11 @@ pub record IsSoundWorld (w : WorldState) : Type 0 where
   pub order : in_order w.order ≡ true
   pub numbers : list_all (number_up_to w.last) w.order ≡ true
   pub calls : CallsFit w w.calls
-  pub held : (key : Bytes) (part : Part) → get w.parts key ≡ Some part → IsSomeAnd (stripe_for w key) (λ s. IsHeld w s key part)
+  pub held : (key : Bytes) (part : Part) → get w.parts key ≡ Some part → IsSomeAnd (stripe_for w key) (λ s. IsHeld s key part)
   pub owned : (number : ℕ) (s : State) → slice_get w.stripes number ≡ Some s → AllOwned w s.reservations
   pub joins : AllWaitedFor w w.joins
   pub once : joined_once w.joins ≡ true
   pub called : (number : ℕ) (s : State) → slice_get w.stripes number ≡ Some s → AllCalled w number s.joiners
   pub told : all_hold w ≡ true → (key : Bytes) → KeyTold (get w.parts key) (entry_at w.store key) (cached w key)
-  pub fresh : w.fresh ≡ true → (key : Bytes) → (cached w key ≡ None) × (get w.parts key ≡ None)
-  pub idle : w.fresh ≡ true → (w.calls ≡ []) × (w.joins ≡ [])
+  pub fresh : w.fresh ≡ true → (key : Bytes) → cached w key ≡ None
+  pub idle : w.fresh ≡ true → w.calls ≡ []

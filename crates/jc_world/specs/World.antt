@@ -15,7 +15,7 @@
 --     part_of                         what a call has asked and heard for a key that it has reserved
 --     load_due, waits_for_load        the loader was asked, and hasn't answered: by the progress of a key, and by its part
 --     report_due, waits_for_report    the writer was asked, and hasn't returned
---     is_over, is_answered            the one who was asked has answered
+--     is_complete, is_answered        the one who was asked has answered
 --     nothing_done, is_untouched      the key is reserved, and nothing was said outside for it, and nothing done
 --     has_changed                     the writer has changed the store
 --     out_in, out_of                  what was said outside
@@ -149,13 +149,13 @@ waits_for_report None = false
 waits_for_report (Some part) = report_due part.progress
 
 -- the one who was asked has answered
-abbrev pub is_over : Progress → Bool
-is_over (Loading answer) = is_load_given answer
-is_over (Writing is_changed report) = is_write_given report
+abbrev pub is_complete : Progress → Bool
+is_complete (Loading answer) = is_load_given answer
+is_complete (Writing is_changed report) = is_write_given report
 
 abbrev pub is_answered : Option Part → Bool
 is_answered None = false
-is_answered (Some part) = is_over part.progress
+is_answered (Some part) = is_complete part.progress
 
 -- nothing was said outside, and nothing done
 abbrev pub nothing_done : Progress → Bool

@@ -290,7 +290,9 @@ impl Held {
     /// The writer changes the store as it was asked.
     pub(crate) fn change(&mut self, store: &mut Contents, key: &Key) -> Result<(), AllocError>
         requires { waits_for_report (Some self.old) ≡ true }
-        ensures ok { OnOk result ((change : Change) × (self.old.reservation.first ≡ Writer change) × (self.new ≡ record self.old { progress = with_change self.old.progress }) × (store.new ≡ with_entry store.old key.now (changed_to change))) }
+        ensures ok { OnOk result ((change : Change) × (self.old.reservation.first ≡ Writer change)
+            × (self.new ≡ record self.old { progress = with_change self.old.progress })
+            × (store.new ≡ with_entry store.old key.now (changed_to change))) }
         ensures err { OnErr result ((self.new ≡ self.old) × (store.new ≡ store.old)) }
     {
         match &mut self.asked {

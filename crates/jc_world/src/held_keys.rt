@@ -94,7 +94,8 @@ pub(crate) fn held_by<'a>(held: &'a HeldKeys, call: u64, key: &Key) -> Option<&'
 pub(crate) fn tell(held: &mut HeldKeys, key: &Key, answer: LoadAnswer)
     requires waits { waits_for_load (map.get (parts_of held.old) key.now) ≡ true }
     requires given { is_load_given answer ≡ true }
-    ensures { (part : Part) × (map.get (parts_of held.old) key.now ≡ Some part) × (parts_of held.new ≡ map.insert (parts_of held.old) key.now (record part { progress = Loading answer })) }
+    ensures { (part : Part) × (map.get (parts_of held.old) key.now ≡ Some part)
+        × (parts_of held.new ≡ map.insert (parts_of held.old) key.now (record part { progress = Loading answer })) }
 {
     match held.get_mut(key) {
         Some(one) => one.tell(answer),
@@ -105,8 +106,10 @@ pub(crate) fn tell(held: &mut HeldKeys, key: &Key, answer: LoadAnswer)
 /// The writer changes the store at a key, as it was asked.
 pub(crate) fn change(held: &mut HeldKeys, store: &mut Contents, key: &Key) -> Result<(), AllocError>
     requires { waits_for_report (map.get (parts_of held.old) key.now) ≡ true }
-    ensures ok { OnOk result ((part : Part) × (change : Change) × (map.get (parts_of held.old) key.now ≡ Some part) × (part.reservation.first ≡ Writer change)
-        × (parts_of held.new ≡ map.insert (parts_of held.old) key.now (record part { progress = with_change part.progress })) × (store.new ≡ with_entry store.old key.now (changed_to change))) }
+    ensures ok { OnOk result ((part : Part) × (change : Change) × (map.get (parts_of held.old) key.now ≡ Some part)
+        × (part.reservation.first ≡ Writer change)
+        × (parts_of held.new ≡ map.insert (parts_of held.old) key.now (record part { progress = with_change part.progress }))
+        × (store.new ≡ with_entry store.old key.now (changed_to change))) }
     ensures err { OnErr result ((parts_of held.new ≡ parts_of held.old) × (store.new ≡ store.old)) }
 {
     match held.get_mut(key) {
@@ -118,8 +121,10 @@ pub(crate) fn change(held: &mut HeldKeys, store: &mut Contents, key: &Key) -> Re
 /// The writer returns for a key.
 pub(crate) fn report(held: &mut HeldKeys, key: &Key, fault: Option<u32>) -> Reported
     requires { waits_for_report (map.get (parts_of held.old) key.now) ≡ true }
-    ensures { (part : Part) × (change : Change) × (map.get (parts_of held.old) key.now ≡ Some part) × (part.reservation.first ≡ Writer change)
-        × (result ≡ record { change = change; is_changed = has_changed part.progress; fault = fault }) × (parts_of held.new ≡ map.insert (parts_of held.old) key.now (record part { progress = with_report part.progress (report_of fault) })) }
+    ensures { (part : Part) × (change : Change) × (map.get (parts_of held.old) key.now ≡ Some part)
+        × (part.reservation.first ≡ Writer change)
+        × (result ≡ record { change = change; is_changed = has_changed part.progress; fault = fault })
+        × (parts_of held.new ≡ map.insert (parts_of held.old) key.now (record part { progress = with_report part.progress (report_of fault) })) }
 {
     match held.get_mut(key) {
         Some(one) => one.report(fault),
@@ -141,7 +146,8 @@ pub(crate) fn take(held: &mut HeldKeys, key: &Key) -> Held
 
 /// Takes any key out.
 pub(crate) fn take_any(held: &mut HeldKeys) -> Option<Held>
-    ensures some { IfSome result (λ one. (key : Bytes) × (map.get (parts_of held.old) key ≡ Some one) × (parts_of held.new ≡ map.remove (parts_of held.old) key)) }
+    ensures some { IfSome result (λ one. (key : Bytes) × (map.get (parts_of held.old) key ≡ Some one)
+        × (parts_of held.new ≡ map.remove (parts_of held.old) key)) }
     ensures len { IfSome result (λ _. index_map_len held.old ≡ index_map_len held.new + 1) }
     ensures none { IfNone result (held.new.entries ≡ []) }
     ensures empty { IfNone result (parts_of held.old ≡ map.empty) }
