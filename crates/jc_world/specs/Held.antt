@@ -41,11 +41,11 @@ part_in (asked.Loader ticket loaded) = record { reservation = ticket.reservation
 part_in (asked.Writer ticket is_changed written) = record { reservation = ticket.reservation; progress = Writing is_changed (report_in written) }
 
 pub record IsLoadOf (r : Reservation) (loaded : Loaded) : Type 0 where
-  pub done_is : loaded.done ≡ record { reservation = r; origin = Played; answer = loaded.answer }
+  pub done_is : loaded.done ≡ record { ask = r; origin = Played; answer = loaded.answer }
   pub given : is_load_given loaded.answer ≡ true
 
 pub record IsReportOf (r : Reservation) (written : Written) : Type 0 where
-  pub done_is : written.done ≡ record { reservation = r; origin = Played; answer = written.report }
+  pub done_is : written.done ≡ record { ask = r; origin = Played; answer = written.report }
   pub given : is_write_given written.report ≡ true
 
 abbrev pub IsLoad : Ticket → Option Loaded → Type 0
