@@ -16,8 +16,9 @@ pub struct Outside {
 
 /// The hands of a session: how many stripes it has taken and not given back, and what it reaches for outside.
 ///
-/// Hands are made of what they reach for, and give it back only if they hold nothing. So nobody who holds a stripe can ask the
-/// session's loader or writer by hands that were made meanwhile: those don't reach them.
+/// Hands are made of what they reach for, and give it back only if they hold nothing. So hands that are made while a stripe is
+/// held don't reach the session's loader or writer. A session keeps its hands private: who could put others in their place could
+/// hold a stripe with these and ask by those.
 #[derive(Drop)]
 pub struct Hands<T> {
     pub(crate) held: u32,

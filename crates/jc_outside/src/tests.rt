@@ -5,6 +5,7 @@ use super::*;
 use indexmap::{IndexMap, IndexSet};
 use jc_model::{Change, LoadAnswer, WriteAnswer};
 use jc_types::{Key, Refusal, Value};
+use std::fmt::Debug;
 use std::process::Abort;
 use std::sync::Wait;
 use std::test::Fail;
@@ -121,6 +122,10 @@ impl AskWrite for Question {
     }
 }
 
+fn is<T: Copy + Debug + PartialEq>(rt: &impl Abort, found: T, want: T) {
+    assert_eq!(rt; found, want);
+}
+
 fn key(rt: &impl Abort, byte: u8) -> Key {
     Key::new(&[byte]).expect(rt, "a key")
 }
@@ -142,8 +147,8 @@ fn load<R: Abort + Wait>(rt: &R, hands: &mut Hands<Outside>, byte: u8, want: Loa
 {
     let ask = about(rt, byte, Change::Delete);
     let (receipt, answer) = call_loader(rt, hands, ask).into_parts();
-    assert_eq!(rt; receipt, key(rt, byte));
-    assert_eq!(rt; answer, want);
+    is(rt, receipt, key(rt, byte));
+    is(rt, answer, want);
 }
 
 fn write<R: Abort + Wait>(
@@ -160,8 +165,8 @@ fn write<R: Abort + Wait>(
 {
     let ask = about(rt, byte, change);
     let (receipt, answer) = call_writer(rt, hands, ask).into_parts();
-    assert_eq!(rt; receipt, key(rt, byte));
-    assert_eq!(rt; answer, want);
+    is(rt, receipt, key(rt, byte));
+    is(rt, answer, want);
 }
 
 #[test]
@@ -208,13 +213,13 @@ fn calls_the_writer_once(rt: HostRuntime) -> Result<(), Fail> {
 fn keeps_the_last_answer_of_each_asked_key(rt: HostRuntime) -> Result<(), Fail> {
     let (a, b, c) = (key(&rt, b'a'), key(&rt, b'b'), key(&rt, b'c'));
     let mut answers = Answers::new(rt.alloc(), &[a, b, a])?;
-    assert_eq!(rt; answers.get(&a), None);
+    is(&rt, answers.get(&a), None);
     assert!(rt; answers.put(&a, &value(&rt, 1)));
     assert!(rt; answers.put(&a, &value(&rt, 2)));
     assert!(rt; !answers.put(&c, &value(&rt, 3)));
-    assert_eq!(rt; answers.get(&a), Some(value(&rt, 2)));
-    assert_eq!(rt; answers.get(&b), None);
-    assert_eq!(rt; answers.get(&c), None);
+    is(&rt, answers.get(&a), Some(value(&rt, 2)));
+    is(&rt, answers.get(&b), None);
+    is(&rt, answers.get(&c), None);
     let mut none = Answers::new(rt.alloc(), &[])?;
     assert!(rt; !none.put(&a, &value(&rt, 1)));
     Ok(())
@@ -227,19 +232,19 @@ fn counts_what_is_held(rt: HostRuntime) {
     hands.hold();
     hands.let_go();
     hands.let_go();
-    assert_eq!(rt; hands.into_outside(), 7);
+    is(&rt, hands.into_outside(), 7);
 }
 
 #[test]
 fn plays_what_it_is_given(rt: HostRuntime) {
     let ask = about(&rt, b'a', Change::Delete);
     let (receipt, answer) = played_load(ask, LoadAnswer::Failed(u32::MAX)).into_parts();
-    assert_eq!(rt; receipt, key(&rt, b'a'));
-    assert_eq!(rt; answer, LoadAnswer::Failed(u32::MAX));
+    is(&rt, receipt, key(&rt, b'a'));
+    is(&rt, answer, LoadAnswer::Failed(u32::MAX));
     let ask = about(&rt, b'b', Change::Delete);
     let (receipt, answer) = played_write(ask, WriteAnswer::Done).into_parts();
-    assert_eq!(rt; receipt, key(&rt, b'b'));
-    assert_eq!(rt; answer, WriteAnswer::Done);
+    is(&rt, receipt, key(&rt, b'b'));
+    is(&rt, answer, WriteAnswer::Done);
 }
 
 /// Hears the calls of a loader and a writer for many keys, and keeps the last refusal.
@@ -278,12 +283,12 @@ fn asks_for_many_keys_at_once(rt: HostRuntime) -> Result<(), Fail> {
     let mut listener = Keeping { heard: None };
     let mut answers = Answers::new(rt.alloc(), &[nothing, a])?;
     tell(&mut listener, store.load_all(&[nothing, a], &mut answers));
-    assert_eq!(rt; listener.heard, None);
-    assert_eq!(rt; answers.get(&a), Some(value(&rt, 2)));
-    assert_eq!(rt; answers.get(&nothing), None);
+    is(&rt, listener.heard, None);
+    is(&rt, answers.get(&a), Some(value(&rt, 2)));
+    is(&rt, answers.get(&nothing), None);
     let mut answers = Answers::new(rt.alloc(), &[fails])?;
     tell(&mut listener, store.load_all(&[fails], &mut answers));
-    assert_eq!(rt; listener.heard, Some(Refusal::LoaderFailed(3)));
+    is(&rt, listener.heard, Some(Refusal::LoaderFailed(3)));
     Ok(())
 }
 
@@ -292,13 +297,13 @@ fn leaves_what_was_not_changed(rt: HostRuntime) -> Result<(), Fail> {
     let mut store = Counting { calls: 0 };
     let mut entries = IndexMap::new(rt.alloc());
     entries.insert(key(&rt, b'a'), value(&rt, 9))?;
-    assert_eq!(rt; store.write_all(&mut entries), Ok(()));
-    assert_eq!(rt; entries.len(), 0);
-    assert_eq!(rt; store.write_all(&mut entries), Err(2));
+    is(&rt, store.write_all(&mut entries), Ok(()));
+    is(&rt, entries.len(), 0);
+    is(&rt, store.write_all(&mut entries), Err(2));
     let mut keys = IndexSet::new(rt.alloc());
     keys.insert(key(&rt, b'a'))?;
-    assert_eq!(rt; store.delete_all(&mut keys), Ok(()));
-    assert_eq!(rt; keys.len(), 0);
-    assert_eq!(rt; store.delete_all(&mut keys), Err(4));
+    is(&rt, store.delete_all(&mut keys), Ok(()));
+    is(&rt, keys.len(), 0);
+    is(&rt, store.delete_all(&mut keys), Err(4));
     Ok(())
 }

@@ -11,8 +11,6 @@ mod stripe;
 mod ticket;
 
 pub use begun::{Begun, Eviction, Picked, StepDone};
-pub use stripe::Stripe;
 pub use jc_outside::{LoadDone, Origin, WriteDone, played_load, played_write};
-pub use ticket::{
-    First, Join, LoadAsk, LoadTicket, Receipt, Reservation, WriteAsk, WriteTicket,
-};
+pub use stripe::Stripe;
+pub use ticket::{First, Join, LoadAsk, LoadTicket, Receipt, Reservation, WriteAsk, WriteTicket};

@@ -28,9 +28,7 @@ mod tests;
 use crate::appending::{append_group, make_step, touching_step};
 use crate::begun::{Begun, Picked, StepDone};
 use crate::needs::{Found, places_needed};
-use crate::ticket::{
-    First, Join, LoadAsk, LoadTicket, Note, Reservation, WriteAsk, WriteTicket,
-};
+use crate::ticket::{First, Join, LoadAsk, LoadTicket, Note, Reservation, WriteAsk, WriteTicket};
 use jc_entries::Entries;
 use jc_history::History;
 use jc_inflight::{JoinState, Joiners};

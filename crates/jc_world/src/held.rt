@@ -21,8 +21,7 @@ use crate::outside::{entry_after, report_with};
 use jc_model::{Change, Contents, LoadAnswer, WriteAnswer};
 use jc_stripe::{
     First, LoadAsk, LoadDone, LoadTicket, Reservation, StepDone, Stripe, WriteAsk, WriteDone,
-    WriteTicket,
-    played_load, played_write,
+    WriteTicket, played_load, played_write,
 };
 use jc_types::Key;
 use std::alloc::AllocError;

@@ -2,12 +2,12 @@
 //! withdrawal whose call isn't over. What scripts can say is tested by scripts, beside this file.
 //!
 //! Each test ends with `close`, since a world can't be dropped.
-use jc_world::event::{Progress, Shown};
-use jc_world::world::World;
 use courses::{event_of, plays};
 use jc_model::{Change, Event, Op, Reply, WriteAnswer, legal};
 use jc_stripe::{First, Reservation};
 use jc_types::{Caller, Config, Field, Key, Refusal, Value};
+use jc_world::event::{Progress, Shown};
+use jc_world::world::World;
 use std::alloc::Global;
 use std::process::Abort;
 
@@ -175,7 +175,10 @@ fn is_reserved(rt: &impl Abort, world: &World) {
         is_changed: true,
         report: WriteAnswer::NotAsked,
     };
-    assert!(rt; part.progress == changed, "the writer has changed the store");
+    assert!(rt;
+        part.progress == changed,
+        "the writer has changed the store"
+    );
     assert!(rt; world.part(102, &a).is_none(), "call 102 is over");
 }
 

@@ -35,6 +35,7 @@ enum Call {
     Remove,
     Touch,
     Peek,
+    Get,
 }
 
 /// Makes a call, and gives what it finds.
@@ -51,11 +52,12 @@ fn made(rt: &impl Abort, entries: &mut Entries, key: &Key, call: Call) -> Option
             None
         }
         Call::Peek => entries.peek(key),
+        Call::Get => entries.get(key),
     }
 }
 
 // A call on a key, the value that it finds, and the keys after it.
-const CALLS: [(Call, u8, Option<&str>, &[u8]); 12] = [
+const CALLS: [(Call, u8, Option<&str>, &[u8]); 14] = [
     (Call::Remove, b'a', None, b""),
     (Call::Put("1"), b'a', None, b"a"),
     (Call::Put("2"), b'b', None, b"ba"),
@@ -64,7 +66,9 @@ const CALLS: [(Call, u8, Option<&str>, &[u8]); 12] = [
     (Call::Peek, b'd', None, b"cba"),
     (Call::Touch, b'a', None, b"acb"),
     (Call::Touch, b'd', None, b"acb"),
-    (Call::Put("4"), b'b', None, b"bac"),
+    (Call::Get, b'c', Some("3"), b"cab"),
+    (Call::Get, b'd', None, b"cab"),
+    (Call::Put("4"), b'b', None, b"bca"),
     (Call::Remove, b'a', Some("1"), b"bc"),
     (Call::Remove, b'a', None, b"bc"),
     (Call::Peek, b'b', Some("4"), b"bc"),

@@ -6,10 +6,10 @@
 //!
 //! Call N is by session N modulo 100: calls 1 and 101 by session 1, and call 100 by none. A put puts the number of its call.
 use super::{audits, differs, key_of, opened, value_of};
-use jc_world::event::{Command, Shown, WorldEvent};
-use jc_world::world::World;
 use jc_model::{LoadAnswer, Op};
 use jc_types::Key;
+use jc_world::event::{Command, Shown, WorldEvent};
+use jc_world::world::World;
 use std::alloc::Global;
 use std::process::Abort;
 

@@ -1,9 +1,9 @@
 //! Long runs of events drawn by lot, compared with a plain reading of their order.
 use super::{config, key_at, key_of, value_of};
-use jc_world::event::{Command, Shown, WorldEvent};
-use jc_world::world::World;
 use jc_model::{Event, LoadAnswer, Op, Reply, legal};
 use jc_types::{Config, Key, Value, stripe_of};
+use jc_world::event::{Command, Shown, WorldEvent};
+use jc_world::world::World;
 use std::alloc::Global;
 use std::process::Abort;
 

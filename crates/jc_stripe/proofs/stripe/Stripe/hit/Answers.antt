@@ -84,11 +84,11 @@ is_done c =
 begins : (c : goal.After-append_group) → Begins (state_of c.self.inside) c.args.caller c.args.key.now Get (begun.Done c.append_group.result) (state_of (done_at c.self.inside c.get.new.self c.append_group.new.history))
 begins c =
     let i = c.self.inside in
-    let asks = hit_asks (state_of i) c.args.key.now c.in-Some.value (in_cache c) in
-    ( hit_refusal (state_of i) c.args.caller c.args.key.now c.in-Some.value (in_cache c) (room c)
-    , asks
-    , done_steps i c.args.caller c.args.key.now Get c.get.new.self c.promise.new.self c.append_group.new.history (keys_of i.reservations.held) c.touching_step-group.result c.append_group.result HIT_PLACES (is_done c)
-        (nobody_fits i.config Get (entry_at (state_of i).cache c.args.key.now) asks refl)
+    let asks = hit_asks (state_of i) c.args.key.now c.in-Some.value (in_cache c) in (
+      hit_refusal (state_of i) c.args.caller c.args.key.now c.in-Some.value (in_cache c) (room c),
+      asks,
+      done_steps i c.args.caller c.args.key.now Get c.get.new.self c.promise.new.self c.append_group.new.history (keys_of i.reservations.held) c.touching_step-group.result c.append_group.result HIT_PLACES (is_done c)
+          (nobody_fits i.config Get (entry_at (state_of i).cache c.args.key.now) asks refl),
     )
 
 pub invariant_of-self-2 : goal.invariant_of-self-2
