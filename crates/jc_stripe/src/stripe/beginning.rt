@@ -1,0 +1,178 @@
+//! The first phase of a call: a hit, and what it is otherwise.
+ghost use Rattle.std.specs.Prelude.{◌≡◌, [], true, IsTrue, None, Some, MatchOption};
+ghost use Rattle.jc_types.specs.declared.limits.TheConstants.{HIT_PLACES};
+ghost use Rattle.jc_model.specs.declared.event.Op.TheVariants.{Get};
+ghost use Rattle.jc_model.specs.Cache.{entry_at};
+ghost use Rattle.jc_model.specs.Group.{nothing_said};
+ghost use Rattle.jc_stripe.specs.State.{new_reservation, with_reservation};
+ghost use Rattle.jc_stripe.specs.Refusals.{has_phases, has_room, first_refusal, first_asked, load_joined, needs_reservation};
+ghost use Rattle.jc_stripe.specs.Finding.{found_at};
+ghost use Rattle.jc_stripe.specs.Phases.{MayBegin, Steps, Begins, with_joiner};
+ghost use Rattle.jc_stripe.specs.declared.ticket.First.TheVariants.{Nobody, Loader, Writer};
+ghost use Rattle.jc_stripe.specs.declared.begun.Begun.TheVariants.{Done};
+
+use super::Stripe;
+use crate::appending::{append_group, make_step, touching_step};
+use crate::begun::{Begun, StepDone};
+use crate::needs::{Found, places_needed};
+use crate::ticket::{First, Join, LoadTicket, Note, Reservation, WriteTicket};
+use jc_model::{Change, Op, Out};
+use jc_types::{Caller, HIT_PLACES, Key, STEP_PLACES, Value};
+
+impl Stripe {
+    /// What a first phase gives, and what it leaves.
+    pub(super) fn first_phase(&mut self, caller: Caller, key: &Key, op: &Op) -> Begun
+        requires op { IsTrue (has_phases op.now) }
+        requires begins { MayBegin self.old caller key.now }
+        ensures { Begins self.old caller key.now op.now result self.new }
+    {
+        if matches!(op, Op::Get) && self.has_room(caller.call, HIT_PLACES) {
+            return match self.hit(caller, key) {
+                Some(done) => Begun::Done(done),
+                None => self.begin_on(caller, key, op, None),
+            };
+        }
+        let entry = self.entry(key);
+        self.begin_on(caller, key, op, entry)
+    }
+
+    /// What a first phase gives on a key that has this entry, and what it leaves.
+    fn begin_on(&mut self, caller: Caller, key: &Key, op: &Op, entry: Option<Value>) -> Begun
+        requires op { IsTrue (has_phases op.now) }
+        requires begins { MayBegin self.old caller key.now }
+        requires entry { entry ≡ entry_at self.old.cache key.now }
+        ensures { Begins self.old caller key.now op.now result self.new }
+    {
+        let found = self.find(key, op, entry);
+        if let Some(refusal) = self.refusal(caller, &found) {
+            return Begun::Refused(refusal);
+        }
+        if let Some(load) = found.load {
+            return Begun::Joined(self.join(caller, key, op, load));
+        }
+        match found.first {
+            First::Nobody => Begun::Done(self.finish(caller, key, op, &found)),
+            First::Loader => self.begin_load(caller, key, op),
+            First::Writer(change) => self.begin_write(caller, key, op, change),
+            First::Processor => unreachable!(),
+        }
+    }
+
+    /// A `get` that finds its entry: the one look-up also makes the entry the most recently used. If the entry is missing, nothing
+    /// is done.
+    #[inline(never)]
+    fn hit(&mut self, caller: Caller, key: &Key) -> Option<StepDone>
+        requires room { has_room self.old caller.call HIT_PLACES ≡ true }
+        requires begins { MayBegin self.old caller key.now }
+        ensures { MatchOption result
+            ((self.new ≡ self.old) × (entry_at self.old.cache key.now ≡ None))
+            (λ done. Begins self.old caller key.now Get (Done done) self.new) }
+    {
+        let Some(value) = self.entries.get(key) else {
+            return None;
+        };
+        let _ = self.history.promise(HIT_PLACES);
+        let op = Op::Get;
+        let out = Out::nothing_said();
+        let group = touching_step(caller, key, value, &op, &out);
+        Some(append_group(&mut self.history, &self.joiners, None, &group, HIT_PLACES))
+    }
+
+    /// Reserves a key, and gives the ticket with which the loader is asked.
+    #[inline(never)]
+    fn begin_load(&mut self, caller: Caller, key: &Key, op: &Op) -> Begun
+        requires free { first_refusal self.old caller key.now op.now ≡ None }
+        requires alone { load_joined self.old key.now op.now ≡ None }
+        requires asks { first_asked self.old.config op.now (entry_at self.old.cache key.now) ≡ Loader }
+        requires begins { MayBegin self.old caller key.now }
+        ensures { Begins self.old caller key.now op.now result self.new }
+    {
+        let reservation = self.reserve(caller, key, op, First::Loader);
+        Begun::Load(LoadTicket::new(reservation))
+    }
+
+    /// Reserves a key, and gives the ticket with which the writer is asked for this change.
+    #[inline(never)]
+    fn begin_write(&mut self, caller: Caller, key: &Key, op: &Op, change: Change) -> Begun
+        requires free { first_refusal self.old caller key.now op.now ≡ None }
+        requires alone { load_joined self.old key.now op.now ≡ None }
+        requires asks { first_asked self.old.config op.now (entry_at self.old.cache key.now) ≡ Writer change }
+        requires begins { MayBegin self.old caller key.now }
+        ensures { Begins self.old caller key.now op.now result self.new }
+    {
+        let reservation = self.reserve(caller, key, op, First::Writer(change));
+        Begun::Write(WriteTicket::new(reservation))
+    }
+
+    /// Reserves a key, and keeps room in the history for its commit.
+    fn reserve(&mut self, caller: Caller, key: &Key, op: &Op, first: First) -> Reservation
+        requires free { first_refusal self.old caller key.now op.now ≡ None }
+        requires alone { load_joined self.old key.now op.now ≡ None }
+        requires needs { needs_reservation self.old key.now op.now ≡ true }
+        requires asks { first_asked self.old.config op.now (entry_at self.old.cache key.now) ≡ first }
+        requires begins { MayBegin self.old caller key.now }
+        ensures reservation { result ≡ new_reservation self.old caller key.now op.now first }
+        ensures reserved { self.new ≡ with_reservation self.old (new_reservation self.old caller key.now op.now first) }
+    {
+        // Names the types of the values that a generic call moves here: the prover looks for their models in the types that a
+        // function names. So do the others of this name below.
+        let _types: Option<Change> = None;
+        // Copied first: a value counts as moved by the call that takes it.
+        let asked = first;
+        let note = Note {
+            caller,
+            op: *op,
+            first: asked,
+        };
+        let _ = self.history.promise(STEP_PLACES);
+        match self.reservations.reserve(key, note) {
+            Some(number) => Reservation {
+                caller,
+                key: *key,
+                op: *op,
+                number,
+                first,
+            },
+            None => unreachable!(),
+        }
+    }
+
+    /// Joins a load, and keeps room in the history for the shared step.
+    #[inline(never)]
+    fn join(&mut self, caller: Caller, key: &Key, op: &Op, load: u64) -> Join
+        requires free { first_refusal self.old caller key.now op.now ≡ None }
+        requires load { load_joined self.old key.now op.now ≡ Some load }
+        requires begins { MayBegin self.old caller key.now }
+        ensures join { result ≡ record { caller = caller; key = key.now; load = load } }
+        ensures joined { self.new ≡ with_joiner self.old (record { caller = caller; key = key.now; load = load }) }
+    {
+        let _ = self.history.promise(HIT_PLACES);
+        let _ = self.joiners.join(caller, key, load);
+        Join::new(caller, key, load)
+    }
+
+    /// Does a call at once that asks nobody.
+    fn finish(&mut self, caller: Caller, key: &Key, op: &Op, found: &Found) -> StepDone
+        requires found { found.now ≡ found_at self.old key.now op.now }
+        requires free { first_refusal self.old caller key.now op.now ≡ None }
+        requires asks { first_asked self.old.config op.now (entry_at self.old.cache key.now) ≡ Nobody }
+        requires op { IsTrue (has_phases op.now) }
+        requires begins { MayBegin self.old caller key.now }
+        ensures { Steps self.old caller key.now op.now nothing_said [] result self.new }
+    {
+        let kept = places_needed(found.needs_free_key);
+        let _ = self.history.promise(kept);
+        let pinned = self.reservations.keys();
+        let out = Out::nothing_said();
+        let group = make_step(
+            &mut self.entries,
+            pinned,
+            caller,
+            key,
+            found.entry,
+            op,
+            &out,
+        );
+        append_group(&mut self.history, &self.joiners, None, &group, kept)
+    }
+}
