@@ -5,6 +5,7 @@ ghost use Rattle.jc_stripe.specs.declared.begun.Begun.TheVariants.{Load, Write};
 ghost use Rattle.jc_stripe.specs.Tickets.{Ticket};
 
 use super::*;
+use crate::ticket::First;
 use jc_model::{LoadAnswer, Reply, WriteAnswer};
 use jc_outside::{played_load, played_write};
 use jc_types::Refusal;
