@@ -1,7 +1,7 @@
 -- The answers of a `loadAll`, by key (`CacheLoader.loadAll`).
---     Answered         the answers: each key that was asked, with its value or none
---     answered_code    a code for answers, which their type needs
---     unanswered       no answers yet, of these keys
+--     AnswersByKey         the answers: each key that was asked, with its value or none
+--     answers_code    a code for answers, which their type needs
+--     no_answers       no answers yet, of these keys
 --     is_asked         whether a key was asked
 --     with_answer      the answers with this value at a key; of a key that wasn't asked nothing is kept
 --     answer_of        the answer at a key, or none
@@ -11,20 +11,20 @@ use Rattle.std.specs.FinMap.{FinMap, get, insert, from_entries, code}
 use Rattle.std.specs.Option.{option_map_or}
 use Rattle.jc_model.specs.Cache.{Bytes, key_cmp}
 
-abbrev pub Answered : Type 0
-Answered = FinMap key_cmp (Option Bytes)
+abbrev pub AnswersByKey : Type 0
+AnswersByKey = FinMap key_cmp (Option Bytes)
 
-abbrev pub answered_code : Coded Answered
-answered_code = code (coded_list coded_ℕ) (coded_option (coded_list coded_ℕ))
+abbrev pub answers_code : Coded AnswersByKey
+answers_code = code (coded_list coded_ℕ) (coded_option (coded_list coded_ℕ))
 
-abbrev pub unanswered : List Bytes → Answered
-unanswered keys = from_entries (map (λ key. (key, None)) keys)
+abbrev pub no_answers : List Bytes → AnswersByKey
+no_answers keys = from_entries (map (λ key. (key, None)) keys)
 
-abbrev pub is_asked : Answered → Bytes → Bool
+abbrev pub is_asked : AnswersByKey → Bytes → Bool
 is_asked answers key = is_some (get answers key)
 
-abbrev pub with_answer : Answered → Bytes → Bytes → Answered
+abbrev pub with_answer : AnswersByKey → Bytes → Bytes → AnswersByKey
 with_answer answers key value = if is_asked answers key then insert answers key (Some value) else answers
 
-abbrev pub answer_of : Answered → Bytes → Option Bytes
+abbrev pub answer_of : AnswersByKey → Bytes → Option Bytes
 answer_of answers key = option_map_or (λ answer. answer) (get answers key) None

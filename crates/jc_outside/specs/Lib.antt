@@ -1,4 +1,4 @@
-pub mod Said
+pub mod Done
 pub mod Hands
 pub mod Answers
 pub mod Calling

@@ -2,7 +2,7 @@
 ghost use Rattle.std.specs.Prelude.{◌≡◌, [], IfOk, OnOk};
 ghost use Rattle.std.specs.FinMap.{from_entries};
 ghost use Rattle.jc_model.specs.Cache.{key_cmp};
-ghost use Rattle.jc_outside.specs.Answers.{unanswered, is_asked, with_answer, answer_of};
+ghost use Rattle.jc_outside.specs.Answers.{no_answers, is_asked, with_answer, answer_of};
 
 use indexmap::IndexMap;
 use jc_types::{Key, Value};
@@ -21,11 +21,11 @@ impl Model for Answers {
     ghost use Rattle.std.specs.Coded.{codes};
     ghost use Rattle.std.specs.FinMap.{from_entries};
     ghost use Rattle.jc_model.specs.Cache.{key_cmp};
-    ghost use Rattle.jc_outside.specs.Answers.{Answered, answered_code};
+    ghost use Rattle.jc_outside.specs.Answers.{AnswersByKey, answers_code};
 
-    ghost Value = { Answered };
+    ghost Value = { AnswersByKey };
 
-    ghost coded = { Prim.hlevel (codes, answered_code) };
+    ghost coded = { Prim.hlevel (codes, answers_code) };
 
     ghost view = { λ a. from_entries {R = key_cmp} a.answers.entries };
 }
@@ -33,7 +33,7 @@ impl Model for Answers {
 impl Answers {
     /// No answers yet, of these keys. It makes all the room that answers take; an `Err` says that an allocation failed.
     pub fn new(alloc: Global, keys: &[Key]) -> Result<Self, AllocError>
-        ensures { IfOk result (λ a. a ≡ unanswered keys.now) }
+        ensures { IfOk result (λ a. a ≡ no_answers keys.now) }
     {
         let mut answers = IndexMap::with_capacity(alloc, keys.len())?;
         ask_all(&mut answers, keys)?;
@@ -67,7 +67,7 @@ impl Answers {
 /// Puts each of the keys in, with no answer. It takes no memory if there is room.
 fn ask_all(answers: &mut IndexMap<Key, Option<Value>>, keys: &[Key]) -> Result<(), AllocError>
     requires { answers.old.entries ≡ [] }
-    ensures { OnOk result (from_entries {R = key_cmp} answers.new.entries ≡ unanswered keys.now) }
+    ensures { OnOk result (from_entries {R = key_cmp} answers.new.entries ≡ no_answers keys.now) }
 {
     for key in keys {
         answers.insert(*key, None)?;

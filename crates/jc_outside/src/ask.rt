@@ -4,8 +4,8 @@ use jc_types::Key;
 
 /// A permission to ask a loader or a writer once, about one key.
 ///
-/// An ask can be neither copied nor dropped. Who makes asks gives one to each reservation; a call outside takes it, and what is
-/// left of it, the receipt, comes back with the answer. A receipt asks nothing.
+/// An ask can be neither copied nor dropped. A stripe makes one for each of its reservations. A call outside takes it, and what
+/// is left of it, the receipt, comes back with the answer. A receipt asks nothing.
 pub trait Ask {
     ghost use Rattle.std.specs.Prelude.{◌≡◌};
     ghost use Rattle.jc_model.specs.Cache.{Bytes};

@@ -2,7 +2,7 @@
 ghost use Rattle.std.specs.Prelude.{◌≡◌, true, IsSome, Some};
 ghost use Rattle.jc_model.specs.Table.{is_load_given, is_write_given};
 ghost use Rattle.jc_outside.specs.declared.done.Origin.TheVariants.{Live};
-ghost use Rattle.jc_outside.specs.Calling.{load_said, write_said, LoadsOnce, WritesOnce};
+ghost use Rattle.jc_outside.specs.Calling.{load_answer, write_answer, LoadsOnce, WritesOnce};
 
 use crate::ask::{Ask, AskWrite};
 use crate::done::{LoadDone, Origin, WriteDone};
@@ -82,22 +82,22 @@ fn ask_writer(
     }
 }
 
-fn load_answer(said: Result<Option<Value>, u32>) -> LoadAnswer
-    ensures said { result ≡ load_said said }
+fn load_answer(returned: Result<Option<Value>, u32>) -> LoadAnswer
+    ensures answer { result ≡ load_answer returned }
     ensures given { is_load_given result ≡ true }
 {
-    match said {
+    match returned {
         Ok(Some(value)) => LoadAnswer::Found(value),
         Ok(None) => LoadAnswer::Nothing,
         Err(code) => LoadAnswer::Failed(code),
     }
 }
 
-fn write_answer(said: Result<(), u32>) -> WriteAnswer
-    ensures said { result ≡ write_said said }
+fn write_answer(returned: Result<(), u32>) -> WriteAnswer
+    ensures answer { result ≡ write_answer returned }
     ensures given { is_write_given result ≡ true }
 {
-    match said {
+    match returned {
         Ok(()) => WriteAnswer::Done,
         Err(code) => WriteAnswer::Failed(code),
     }

@@ -29,9 +29,9 @@ pub struct LoadDone<A> {
 impl<A> Model for LoadDone<A> {
     ghost use Rattle.std.specs.Prelude.{◌≡◌, true};
     ghost use Rattle.jc_model.specs.Table.{is_load_given};
-    ghost use Rattle.jc_outside.specs.Said.{LoadSaid};
+    ghost use Rattle.jc_outside.specs.Done.{LoadResult};
 
-    ghost Value = { LoadSaid A };
+    ghost Value = { LoadResult A };
 
     ghost view = { λ d. record { ask = d.ask; origin = d.origin; answer = d.answer } };
 
@@ -76,9 +76,9 @@ pub struct WriteDone<A> {
 impl<A> Model for WriteDone<A> {
     ghost use Rattle.std.specs.Prelude.{◌≡◌, true};
     ghost use Rattle.jc_model.specs.Table.{is_write_given};
-    ghost use Rattle.jc_outside.specs.Said.{WriteSaid};
+    ghost use Rattle.jc_outside.specs.Done.{WriteResult};
 
-    ghost Value = { WriteSaid A };
+    ghost Value = { WriteResult A };
 
     ghost view = { λ d. record { ask = d.ask; origin = d.origin; answer = d.answer } };
 

@@ -10,7 +10,7 @@ use jc_types::{Key, Value};
 pub trait CacheLoader {
     ghost use Rattle.std.specs.Prelude.{◌≡◌, ℕ, List, Option, Result};
     ghost use Rattle.jc_model.specs.Cache.{Bytes};
-    ghost use Rattle.jc_outside.specs.Answers.{Answered, unanswered};
+    ghost use Rattle.jc_outside.specs.Answers.{AnswersByKey, no_answers};
 
     /// The loader's state, as plain data.
     ghost load_state: { Self → List ℕ };
@@ -19,7 +19,7 @@ pub trait CacheLoader {
     ghost loads: { Self → Bytes → Result (Option Bytes) ℕ → List ℕ → Type 0 };
 
     /// One call of `load_all`: the keys, whether it failed, the answers.
-    ghost loads_all: { Self → List Bytes → Result (Unit {0}) ℕ → Answered → List ℕ → Type 0 };
+    ghost loads_all: { Self → List Bytes → Result (Unit {0}) ℕ → AnswersByKey → List ℕ → Type 0 };
 
     /// The value at a key, or none (`load`). An `Err` has a code of the loader's own.
     fn load(&mut self, key: &Key) -> Result<Option<Value>, u32>
@@ -30,6 +30,6 @@ pub trait CacheLoader {
     ///
     /// Conditions: `answers` are of these keys, and have no answer yet.
     fn load_all(&mut self, keys: &[Key], answers: &mut Answers) -> Result<(), u32>
-        requires { answers.old ≡ unanswered keys.now }
+        requires { answers.old ≡ no_answers keys.now }
         ensures { loads_all self.old keys.now result answers.new (load_state self.new) };
 }

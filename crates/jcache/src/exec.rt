@@ -2,7 +2,7 @@
 ghost use Rattle.std.specs.Prelude.{◌≡◌, ◌⊎◌, ◌↔◌, map, string_bytes, true, false};
 ghost use Rattle.std.specs.Io.KnownBytes.{Appends};
 ghost use Rattle.jcache.specs.CommandLine.{faults_at};
-ghost use Rattle.jcache.specs.Answered.{Answered, FailsByStreams, Played};
+ghost use Rattle.jcache.specs.Exit.{Exit, ExitOfPlay, FailsByStreams};
 
 use crate::commands::{Task, read_task};
 use clap::error::ErrorKind;
@@ -34,7 +34,7 @@ fn play<R: Read, W: Write, E: Write>(
     out: &mut Noted<W>,
     err: &mut E,
 ) -> u8
-    ensures played { Played result (R.remaining reader.old.inner) (R.remaining reader.new.inner) (W.contents out.old.inner) (W.contents out.new.inner) (out.new ≡ out.old) }
+    ensures played { ExitOfPlay result (R.remaining reader.old.inner) (R.remaining reader.new.inner) (W.contents out.old.inner) (W.contents out.new.inner) (out.new ≡ out.old) }
     ensures streams { reader.old.failed ≡ false → out.old.failed ≡ false → FailsByStreams result reader.new.failed out.new.failed (R.remaining reader.old.inner) (out.new ≡ out.old) }
 {
     match run(alloc, reader, out) {
@@ -86,8 +86,8 @@ pub fn exec<R: Read, W: Write, E: Write>(
     err: &mut E,
 ) -> u8
     // Right words are played. Others are told so, or the text that they ask for; then nothing is read.
-    ensures answered { Answered (faults_at (map string_bytes words.now)) result
-        (Played result (R.remaining reader.old.inner) (R.remaining reader.new.inner) (W.contents out.old.inner) (W.contents out.new.inner) (out.new ≡ out.old))
+    ensures answered { Exit (faults_at (map string_bytes words.now)) result
+        (ExitOfPlay result (R.remaining reader.old.inner) (R.remaining reader.new.inner) (W.contents out.old.inner) (W.contents out.new.inner) (out.new ≡ out.old))
         (reader.new ≡ reader.old) (out.new ≡ out.old) }
     // Status 3 comes if a stream failed in this call, and only then or if the script is too long.
     ensures streams { reader.old.failed ≡ false → out.old.failed ≡ false → FailsByStreams result reader.new.failed out.new.failed (R.remaining reader.old.inner) (out.new ≡ out.old) }

@@ -2,14 +2,14 @@ use Rattle.std.proofs.Common.{◌≡◌, Bool, Option, Some, true, false, is_som
 use Rattle.std.specs.FinMap as finite
 use Rattle.std.specs.FinMap.{from_entries}
 use Rattle.jc_model.specs.Cache.{Bytes, key_cmp}
-use Rattle.jc_outside.specs.Answers.{Answered, is_asked}
-use Rattle.jc_outside.proofs.Answering.{read, inserted}
+use Rattle.jc_outside.specs.Answers.{AnswersByKey, is_asked}
+use Rattle.jc_outside.proofs.CallerLemmas.{get-entries, insert-entries}
 use Rattle.jc_outside.proofs.answers.Answers.put.Goals as goal
 
 pub returns-clause-asked : goal.returns-clause-asked
 returns-clause-asked c =
-    ap (λ (o : Option (Option Bytes)). is_some o) (c.in-Some.ensures.value ∙ read c.self.inside.answers c.args.key.now)
-    ∙ ap (λ (m : Answered). is_asked m c.args.key.now) c.self.view_is
+    ap (λ (o : Option (Option Bytes)). is_some o) (c.in-Some.ensures.value ∙ get-entries c.self.inside.answers c.args.key.now)
+    ∙ ap (λ (m : AnswersByKey). is_asked m c.args.key.now) c.self.view_is
 
 pub returns-clause-answers : goal.returns-clause-answers
 returns-clause-answers c =
@@ -18,14 +18,14 @@ returns-clause-answers c =
     let v = Some c.args.value.now in
     let there = sym (ap (λ (o : Option (Option Bytes)). is_some o) c.in-Some.ensures.value) in
     let asked : true ≡ is_asked c.args.self.now k = returns-clause-asked c in
-    inserted m (c.get_mut.follows.lender v) k v ((c.get_mut.follows.holds v).3 there)
-    ∙ ap (λ (n : Answered). finite.insert n k v) c.self.view_is
+    insert-entries m (c.get_mut.follows.lender v) k v ((c.get_mut.follows.holds v).3 there)
+    ∙ ap (λ (n : AnswersByKey). finite.insert n k v) c.self.view_is
     ∙ ap (λ (b : Bool). cond b (finite.insert c.args.self.now k v) c.args.self.now) asked
 
 pub returns-in-None-clause-asked : goal.returns-in-None-clause-asked
 returns-in-None-clause-asked c =
-    ap (λ (o : Option (Option Bytes)). is_some o) (c.in-None.ensures.value ∙ read c.self.inside.answers c.args.key.now)
-    ∙ ap (λ (m : Answered). is_asked m c.args.key.now) c.self.view_is
+    ap (λ (o : Option (Option Bytes)). is_some o) (c.in-None.ensures.value ∙ get-entries c.self.inside.answers c.args.key.now)
+    ∙ ap (λ (m : AnswersByKey). is_asked m c.args.key.now) c.self.view_is
 
 pub returns-in-None-clause-answers : goal.returns-in-None-clause-answers
 returns-in-None-clause-answers c =

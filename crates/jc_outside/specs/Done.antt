@@ -1,16 +1,16 @@
 -- Done values, as data.
---     LoadSaid      what a loader answered to an ask, and where that comes from
---     WriteSaid     what a writer reported of an ask, and where that comes from
+--     LoadResult      what a loader answered to an ask, and where that comes from
+--     WriteResult     what a writer reported of an ask, and where that comes from
 use Rattle.jc_model.specs.declared.event.LoadAnswer.{LoadAnswer}
 use Rattle.jc_model.specs.declared.event.WriteAnswer.{WriteAnswer}
 use Rattle.jc_outside.specs.declared.done.Origin.{Origin}
 
-pub record LoadSaid (A : Type 0) : Type 0 where
+pub record LoadResult (A : Type 0) : Type 0 where
   pub ask : A
   pub origin : Origin
   pub answer : LoadAnswer
 
-pub record WriteSaid (A : Type 0) : Type 0 where
+pub record WriteResult (A : Type 0) : Type 0 where
   pub ask : A
   pub origin : Origin
   pub answer : WriteAnswer

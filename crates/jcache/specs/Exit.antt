@@ -1,7 +1,7 @@
 -- What the program answers, by its words and its streams.
---     Played            the script was played, and this status says how that ended
---     Told              what these words with an error of this kind are told: a text that they asked for on standard output, or what is wrong with them on standard error
---     Answered          right words are played; wrong ones are told so, and nothing is read; or an allocation failed, and nothing was read or written
+--     ExitOfPlay        the script was played, and this status says how that ended
+--     ExitOfFault       what these words with an error of this kind are told: a text that they asked for on standard output, or what is wrong with them on standard error
+--     Exit              right words are played; wrong ones are told so, and nothing is read; or an allocation failed, and nothing was read or written
 --     FailsByStreams    status 3 comes if a stream failed, and only then or if the script is too long; after a failed read nothing is on standard output
 use Rattle.std.specs.Prelude.{◌≡◌, ◌⊎◌, ◌<◌, ℕ, List, [], Bool, true, Option, IfSome, length}
 use Rattle.clap.specs.Words.{IsAmong, Kinds}
@@ -12,23 +12,23 @@ use Rattle.jc_script.specs.declared.run.RunEnd.TheVariants.{Clean, LineFault}
 use Rattle.jc_script.specs.declared.run.TheConstants.{SCRIPT_MAX}
 
 -- before and after: what the reader has left; old and new: what standard output holds; silent: that nothing was written to it
-abbrev pub Played : (status : ℕ) (before after old new : Option (List ℕ)) (silent : Type 0) → Type 0
-Played status before after old new silent =
+abbrev pub ExitOfPlay : (status : ℕ) (before after old new : Option (List ℕ)) (silent : Type 0) → Type 0
+ExitOfPlay status before after old new silent =
     ((status ≡ 0) × Ran before after old new Clean)
     ⊎ (((status ≡ 1) × ((line : ℕ) × Ran before after old new (LineFault line)))
     ⊎ (((status ≡ 3) × (Broke before after old new ⊎ silent))
     ⊎ ((status ≡ 4) × silent)))
 
-abbrev pub Told : ErrorKind → (status : ℕ) (silent : Type 0) → Type 0
-Told kind.DisplayHelp status silent = (status ≡ 0) ⊎ (status ≡ 3)
-Told kind.DisplayVersion status silent = (status ≡ 0) ⊎ (status ≡ 3)
-Told k status silent = (status ≡ 2) × silent
+abbrev pub ExitOfFault : ErrorKind → (status : ℕ) (silent : Type 0) → Type 0
+ExitOfFault kind.DisplayHelp status silent = (status ≡ 0) ⊎ (status ≡ 3)
+ExitOfFault kind.DisplayVersion status silent = (status ≡ 0) ⊎ (status ≡ 3)
+ExitOfFault k status silent = (status ≡ 2) × silent
 
 -- unread: that nothing was read
-abbrev pub Answered : Kinds → (status : ℕ) (played unread silent : Type 0) → Type 0
-Answered kinds status played unread silent =
+abbrev pub Exit : Kinds → (status : ℕ) (played unread silent : Type 0) → Type 0
+Exit kinds status played unread silent =
     ((kinds ≡ []) × played)
-    ⊎ (((k : ErrorKind) × IsAmong k kinds × Told k status silent × unread)
+    ⊎ (((k : ErrorKind) × IsAmong k kinds × ExitOfFault k status silent × unread)
     ⊎ ((status ≡ 4) × unread × silent))
 
 abbrev pub FailsByStreams : (status : ℕ) (read_failed write_failed : Bool) (before : Option (List ℕ)) (silent : Type 0) → Type 0
