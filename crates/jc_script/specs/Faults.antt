@@ -2,17 +2,17 @@
 --     text_of          the words of a fault
 --     field_fault      the fault of a refused shape: it names the field
 --     config_fault     the fault of a world's shape: the first number out of its limits
---     is_rising        a call's number is above all before it
 --     begin_fault      the fault of a `begin`: first the number, then the caller
 --     act_fault        the fault of an act: there is no such call, or the first event that the act stands for doesn't fit
 --     state_fault      the fault that the state of the world gives a line, the first one in order
-use Rattle.std.specs.Prelude.{ℕ, List, codes, Bool, true, nat_lt, Option, None, Some, Result, Ok, Err, if◌then◌else◌}
+use Rattle.std.specs.Prelude.{ℕ, List, codes, Bool, Option, None, Some, Result, Ok, Err, if◌then◌else◌}
 use Rattle.jc_types.specs.declared.refusal.Refusal.{Refusal}
 use Rattle.jc_types.specs.declared.refusal.Refusal.TheVariants as refusal
 use Rattle.jc_types.specs.declared.config.Field.TheVariants.{Stripes, Capacity, History}
 use Rattle.jc_types.specs.Limits.{check}
-use Rattle.jc_world.specs.declared.event.Under.{Under}
-use Rattle.jc_world.specs.World.{WorldState, under, part_of, is_busy}
+use Rattle.jc_world.specs.declared.event.OpenCall.{OpenCall}
+use Rattle.jc_world.specs.World.{WorldState, open_call, part_of, is_busy}
+use Rattle.jc_world.specs.Events.{is_new}
 use Rattle.jc_script.specs.LineEvents.{events_of, first_fits}
 use Rattle.jc_script.specs.declared.fault.Fault.{Fault}
 use Rattle.jc_script.specs.declared.fault.Fault.TheVariants.{CutLine, LineTooLong, BadByte, BadLine, BadNumber, BadCaller, BadKey, BadValue, NotOpen, OpenTwice, BadConfig, SetTooLate, NotRising, CallerBusy, NoSuchCall, NotNow}
@@ -49,17 +49,13 @@ abbrev pub config_fault : Result (Unit {0}) Refusal → Option Fault
 config_fault (Ok u) = None
 config_fault (Err why) = field_fault why
 
-abbrev pub is_rising : Option ℕ → ℕ → Bool
-is_rising None number = true
-is_rising (Some last) number = nat_lt last number
-
 -- first the number, then the caller
 abbrev pub begin_fault : WorldState → ℕ → ℕ → Option Fault
 begin_fault w number session =
-    if is_rising w.last number then (if is_busy w session then Some CallerBusy else None) else Some NotRising
+    if is_new w.last number then (if is_busy w session then Some CallerBusy else None) else Some NotRising
 
 -- it isn't the time for an act if the first event that it stands for doesn't fit
-abbrev pub act_fault : WorldState → ℕ → Act → Option Under → Option Fault
+abbrev pub act_fault : WorldState → ℕ → Act → Option OpenCall → Option Fault
 act_fault w number act None = Some NoSuchCall
 act_fault w number act (Some u) =
     if first_fits w (events_of number u.command.key (part_of w number u.command.key) act) then None else Some NotNow
@@ -74,6 +70,6 @@ state_fault None Audit = Some NotOpen
 state_fault (Some w) (Open config) = Some OpenTwice
 state_fault (Some w) (Set key value) = if w.fresh then None else Some SetTooLate
 state_fault (Some w) (Begin number session command) = begin_fault w number session
-state_fault (Some w) (OfCall number act) = act_fault w number act (under w number)
+state_fault (Some w) (OfCall number act) = act_fault w number act (open_call w number)
 state_fault (Some w) (Foreign key value) = None
 state_fault (Some w) Audit = None

@@ -16,12 +16,12 @@
 use Rattle.std.specs.Prelude.{◌≡◌, ◌==◌, ◌⊎◌, ℕ, ◌+◌, List, [], ◌∷◌, ◌++◌, Bool, true, IsTrue, Option, None, Some, Result, Ok, Err, codes}
 use Rattle.std.specs.List.{slice_split}
 use Rattle.jc_model.specs.Cache.{Bytes}
-use Rattle.jc_world.specs.declared.event.Under.{Under}
+use Rattle.jc_world.specs.declared.event.OpenCall.{OpenCall}
 use Rattle.jc_world.specs.declared.event.Shown.{Shown}
 use Rattle.jc_world.specs.declared.event.WorldEvent.{WorldEvent}
 use Rattle.jc_world.specs.declared.event.WorldEvent.TheVariants as event
-use Rattle.jc_world.specs.World.{WorldState, start, under, part_of, with_stored}
-use Rattle.jc_world.specs.Played.{Played}
+use Rattle.jc_world.specs.World.{WorldState, start, open_call, part_of, with_stored}
+use Rattle.jc_world.specs.PlayedWorld.{PlayedWorld}
 use Rattle.jc_world.specs.Events.{Run, all_fit}
 use Rattle.jc_world.specs.Audit.{IsAudit}
 use Rattle.jc_world.specs.Coherent.{all_hold}
@@ -41,7 +41,7 @@ use Rattle.jc_script.specs.Printing.{texts, audit_text, fault_line}
 abbrev pub State : Type 0
 State = Option WorldState
 
-abbrev pub state_of : Option Played → State
+abbrev pub state_of : Option PlayedWorld → State
 state_of None = None
 state_of (Some played) = Some played.world
 
@@ -57,7 +57,7 @@ pub record PlaysEvents (w : WorldState) (key : Bytes) (events : List WorldEvent)
   pub new_is : new ≡ Some after
 
 -- the call's own key
-abbrev pub PlaysAct : WorldState → ℕ → Act → Option Under → List ℕ → State → Type 0
+abbrev pub PlaysAct : WorldState → ℕ → Act → Option OpenCall → List ℕ → State → Type 0
 PlaysAct w number act None text new = ⊥
 PlaysAct w number act (Some u) text new =
     PlaysEvents w u.command.key (events_of number u.command.key (part_of w number u.command.key) act) text new
@@ -78,7 +78,7 @@ abbrev pub Plays : State → Line → List ℕ → State → Type 0
 Plays None (Open config) text new = (text ≡ codes "open\n") × (new ≡ Some (start config))
 Plays (Some w) (Set key value) text new = (text ≡ []) × (new ≡ Some (with_stored w key value))
 Plays (Some w) (Begin number session command) text new = PlaysEvents w command.key (begin_events number session command) text new
-Plays (Some w) (OfCall number act) text new = PlaysAct w number act (under w number) text new
+Plays (Some w) (OfCall number act) text new = PlaysAct w number act (open_call w number) text new
 Plays (Some w) (Foreign key value) text new = PlaysEvents w key (event.Foreign key value ∷ []) text new
 Plays (Some w) Audit text new = Audited w text × (new ≡ Some w)
 Plays None (Set key value) text new = ⊥

@@ -6,7 +6,7 @@ ghost use Rattle.jc_world.specs.World.{start};
 ghost use Rattle.jc_world.specs.Events.{fits, AllFit};
 ghost use Rattle.jc_script.specs.declared.line.Line.TheVariants as lines;
 ghost use Rattle.jc_script.specs.Lines.{is_callable};
-ghost use Rattle.jc_script.specs.Faults.{config_fault, is_rising, begin_fault};
+ghost use Rattle.jc_script.specs.Faults.{config_fault, begin_fault};
 ghost use Rattle.jc_script.specs.LineEvents.{begin_events, drop_events, events_of, first_fits};
 ghost use Rattle.jc_script.specs.Transcript.{state_of, PlaysEvents, Audited, PlaysLine, Prints, fault_of};
 
@@ -187,19 +187,10 @@ fn open(
     Ok(None)
 }
 
-fn rises(last: Option<u64>, number: u64) -> bool
-    ensures { result ≡ is_rising last number }
-{
-    match last {
-        None => true,
-        Some(last) => last < number,
-    }
-}
-
 fn fault_of_begin(world: &World, number: u32, session: u32) -> Option<Fault>
     ensures { result ≡ begin_fault world.now.world number session }
 {
-    if !rises(world.last(), number as u64) {
+    if !world.is_new(number as u64) {
         return Some(Fault::NotRising);
     }
     if world.is_busy(session) {
@@ -280,10 +271,10 @@ fn act_on(
     ensures { IfOk result (λ r. PlaysLine (Some world.old.world) (lines.OfCall number act.now) r out.old.items out.new.items (Some world.new.world)) }
 {
     let call = number as u64;
-    match world.under(call) {
+    match world.open_call(call) {
         None => Ok(Some(Fault::NoSuchCall)),
-        Some(under) => {
-            let key = under.command.key;
+        Some(open_call) => {
+            let key = open_call.command.key;
             let part = world.part(call, &key);
             put_events(&mut buffers.events, call, &key, &part, act)?;
             if !first_fits(world, &buffers.events) {

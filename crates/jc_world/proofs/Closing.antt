@@ -32,15 +32,15 @@ use Rattle.jc_stripe.specs.Reached.{JoinFits, AllJoin, IsReached}
 use Rattle.jc_stripe.specs.Laws.{StaysReached}
 use Rattle.jc_world.specs.declared.event.Part.{Part}
 use Rattle.jc_world.specs.World.{WorldState, Parts, stripe_for, is_join}
-use Rattle.jc_world.specs.Sound.{IsSoundWorld, IsHeld, AllWaitedFor, joined_once}
+use Rattle.jc_world.specs.Sound.{IsSoundWorld, IsHeld, AllWaitedFor, is_joined_once, IsOwned}
 use Rattle.jc_world.specs.Ending.{IsLeft, AreLeft, out_at, IsPartOut, HasHeld, IsJoinOut, AllJoinsOut, HasJoins, NoneReserved}
 use Rattle.jc_world.proofs.Numbered.{within, at_index, some_of}
 use Rattle.jc_world.proofs.Places.{at_stripe}
-use Rattle.jc_world.proofs.Shares.{set_cases, length-slice_set}
-use Rattle.jc_world.proofs.Underway.{others_left, same_bytes, test_owned}
+use Rattle.jc_world.proofs.Shares.{set_cases, length-slice_set, each_test}
+use Rattle.jc_world.proofs.Underway.{others_left, same_bytes}
 use Rattle.jc_world.proofs.Reservations.{found_left}
 use Rattle.jc_world.proofs.Joiners.{joiner_of, find_kept, joined_resolved, joined_dissolved}
-use Rattle.jc_world.proofs.Callers.{refuted}
+use Rattle.jc_world.proofs.Beginning.{refuted}
 
 -- 1. A reservation that is over.
 
@@ -230,16 +230,16 @@ picked_up config ss from to js join at is h = record { once_is = singles js h.on
     n : ℕ
     n = stripe_of join.key config.stripes
 
-    singles : (js : List JoinClaim) → joined_once (js ++ join ∷ []) ≡ true → joined_once js ≡ true
+    singles : (js : List JoinClaim) → is_joined_once (js ++ join ∷ []) ≡ true → is_joined_once js ≡ true
     singles [] o = refl
     singles (x ∷ xs) o =
-        let parts = and_parts (not (list_any (is_join x.caller.call x.key) (xs ++ join ∷ []))) (joined_once (xs ++ join ∷ [])) o in
+        let parts = and_parts (not (list_any (is_join x.caller.call x.key) (xs ++ join ∷ []))) (is_joined_once (xs ++ join ∷ [])) o in
         and_from _ _ (none_of (is_join x.caller.call x.key) xs join parts.0).0 (singles xs parts.1)
 
-    each : (js : List JoinClaim) → joined_once (js ++ join ∷ []) ≡ true → AllJoinsOut config ss (js ++ join ∷ []) → AllJoinsOut config (slice_set ss n to) js
+    each : (js : List JoinClaim) → is_joined_once (js ++ join ∷ []) ≡ true → AllJoinsOut config ss (js ++ join ∷ []) → AllJoinsOut config (slice_set ss n to) js
     each [] o h = tt
     each (x ∷ xs) o h =
-        let parts = and_parts (not (list_any (is_join x.caller.call x.key) (xs ++ join ∷ []))) (joined_once (xs ++ join ∷ [])) o in
+        let parts = and_parts (not (list_any (is_join x.caller.call x.key) (xs ++ join ∷ []))) (is_joined_once (xs ++ join ∷ [])) o in
         let F : State → Type 0 = λ s. IsJoined s x in (
           at_stripe ss n (stripe_of x.key config.stripes) from to (λ o y. IsSomeAnd o F → IsSomeAnd y F) at
               (λ h. subst F (sym is) (other_joined from join x (none_of (is_join x.caller.call x.key) xs join parts.0).1 h)) (λ h. h) h.0,
@@ -307,7 +307,7 @@ all_left w sound = record {
 pub held_out : (w : WorldState) → IsSoundWorld w → HasHeld w.config w.stripes w.parts
 held_out w sound = record {
   out = λ key part there. part_out w key part (stripe_for w key) (sound.held key part there);
-  back = λ n s at. test_owned w (λ r. is_some (get w.parts r.key)) s.reservations (λ r h. ap is_some (some_of (get w.parts r.key) (λ part. part.reservation.caller.call ≡ r.caller.call) h.part).1) (sound.owned n s at);
+  back = λ n s at. each_test (IsOwned w) (λ r. is_some (get w.parts r.key)) s.reservations (λ r h. ap is_some (some_of (get w.parts r.key) (λ part. part.reservation.caller.call ≡ r.caller.call) h.part).1) (sound.owned n s at);
 }
 
 -- each join is joined

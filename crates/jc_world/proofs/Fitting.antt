@@ -15,19 +15,19 @@ use Rattle.jc_model.specs.Cache.{Bytes}
 use Rattle.jc_world.specs.declared.event.Part.{Part}
 use Rattle.jc_world.specs.declared.event.Progress.{Progress}
 use Rattle.jc_world.specs.declared.event.Progress.TheVariants.{Loading, Writing}
-use Rattle.jc_world.specs.declared.event.Under.{Under}
+use Rattle.jc_world.specs.declared.event.OpenCall.{OpenCall}
 use Rattle.jc_world.specs.declared.event.Shown.{Shown}
 use Rattle.jc_world.specs.declared.event.Shown.TheVariants as shown
 use Rattle.jc_world.specs.declared.event.WorldEvent.{WorldEvent}
 use Rattle.jc_world.specs.declared.event.WorldEvent.TheVariants as event
-use Rattle.jc_world.specs.World.{WorldState, has_number, under, of_call, part_of, report_due, waits_for_report, is_join, is_joined, is_untouched}
-use Rattle.jc_world.specs.Events.{fits, is_new, is_free, may_start, may_leave, may_report, changed, with_stripe, without_part, Happens, is_fit, AllFit, StartFits, RestFits, with_change}
+use Rattle.jc_world.specs.World.{WorldState, has_number, open_call, of_call, part_of, waits_for_report, is_join, is_joined, is_untouched, has_progress}
+use Rattle.jc_world.specs.Events.{fits, is_new, is_free, may_start, may_leave, may_report, after_change, with_stripe, without_part, Happens, is_fit, AllFit, StartFits, RestFits, with_change}
 use Rattle.jc_world.specs.Sound.{is_up_to, IsSoundWorld}
 use Rattle.jc_world.proofs.Holding.{call_on}
 use Rattle.jc_world.proofs.Entries.{tied}
 use Rattle.jc_world.proofs.Underway.{found_number, fits_found, of_call-at}
 use Rattle.jc_world.proofs.Joiners.{join_any, join_is}
-use Rattle.jc_world.proofs.Callers.{refuted}
+use Rattle.jc_world.proofs.Beginning.{refuted}
 use Rattle.jc_world.proofs.Kept.{missing}
 
 -- 1. What fits is shown as no fault.
@@ -67,29 +67,29 @@ one_fits w e fit = fits_then w e [] fit (λ seen mid happens. none_fit mid)
 -- 2. Two events of a call under way.
 
 -- once the writer has changed the store, it is still waited for
-still_waits : (call : ℕ) (o : Option Part) (part : Part) → of_call call o ≡ Some part → waits_for_report (of_call call o) ≡ true → waits_for_report (of_call call (Some (record part { progress = with_change part.progress }))) ≡ true
+still_waits : (call : ℕ) (o : Option Part) (part : Part) → of_call call o ≡ Some part → has_progress waits_for_report (of_call call o) ≡ true → has_progress waits_for_report (of_call call (Some (record part { progress = with_change part.progress }))) ≡ true
 still_waits call o part is waits =
-    ap (λ b. waits_for_report (cond b (Some (record part { progress = with_change part.progress })) None)) (eq-eqb part.reservation.caller.call call (of_call-at call o part is).1)
-    ∙ due part.progress ∙ sym (ap waits_for_report is) ∙ waits
+    ap (λ b. has_progress waits_for_report (cond b (Some (record part { progress = with_change part.progress })) None)) (eq-eqb part.reservation.caller.call call (of_call-at call o part is).1)
+    ∙ due part.progress ∙ sym (ap (has_progress waits_for_report) is) ∙ waits
   where
-    due : (p : Progress) → report_due (with_change p) ≡ report_due p
+    due : (p : Progress) → waits_for_report (with_change p) ≡ waits_for_report p
     due (Loading answer) = refl
     due (Writing is_changed report) = refl
 
 -- the writer's return, behind its change of the store
-pub report_fits : (w : WorldState) (call : ℕ) (u : Under) (fault : Option ℕ) → under w call ≡ Some u → fits w (event.Change call u.command.key) ≡ true → AllFit w (event.Change call u.command.key ∷ event.Report call fault ∷ [])
+pub report_fits : (w : WorldState) (call : ℕ) (u : OpenCall) (fault : Option ℕ) → open_call w call ≡ Some u → fits w (event.Change call u.command.key) ≡ true → AllFit w (event.Change call u.command.key ∷ event.Report call fault ∷ [])
 report_fits w call u fault here fit =
     let key = u.command.key in
     fits_then w (event.Change call key) (event.Report call fault ∷ []) fit (λ seen mid happens.
     let part = happens.0 in
-    let new = changed w key part happens.1 in
+    let new = after_change w key part happens.1 in
     let P : WorldState → Type 0 = λ m. fits m (event.Report call fault) ≡ true in
     let there : get new.parts key ≡ Some (record part { progress = with_change part.progress }) = get-insert nat_list_cmp_total w.parts key (record part { progress = with_change part.progress }) key ∙ ap (λ b. cond b (Some (record part { progress = with_change part.progress })) (get w.parts key)) (tied key) in
     one_fits mid (event.Report call fault)
-    (subst P (sym happens.5) (ap (may_report new call) here ∙ ap (λ o. waits_for_report (of_call call o)) there ∙ still_waits call (get w.parts key) part happens.2 fit)))
+    (subst P (sym happens.5) (ap (may_report new call) here ∙ ap (λ o. has_progress waits_for_report (of_call call o)) there ∙ still_waits call (get w.parts key) part happens.2 fit)))
 
 -- a call's leaving, behind its withdrawal
-pub leave_fits : (w : WorldState) (call : ℕ) (u : Under) → under w call ≡ Some u → is_joined w call u.command.key ≡ false → fits w (event.Withdraw call u.command.key) ≡ true
+pub leave_fits : (w : WorldState) (call : ℕ) (u : OpenCall) → open_call w call ≡ Some u → is_joined w call u.command.key ≡ false → fits w (event.Withdraw call u.command.key) ≡ true
     → AllFit w (event.Withdraw call u.command.key ∷ event.Leave call ∷ [])
 leave_fits w call u here free fit =
     let key = u.command.key in
@@ -111,13 +111,13 @@ above (Some last) call new up = go last call new up
     go last call new up = grind (arith, nat_tests)
 
 -- no call under way has a new number
-new_under : (w : WorldState) (call : ℕ) → is_new w.last call ≡ true → IsSoundWorld w → under w call ≡ None
-new_under w call new old = missing (under w call) (λ u here.
+new_under : (w : WorldState) (call : ℕ) → is_new w.last call ≡ true → IsSoundWorld w → open_call w call ≡ None
+new_under w call new old = missing (open_call w call) (λ u here.
     above w.last call new (ap (is_up_to w.last) (sym (found_number call w.calls u here)) ∙ (fits_found w (has_number call) w.calls u here old.calls).number))
 
 -- and what is of a call under way isn't of one that isn't
-nobody : (w : WorldState) (call other : ℕ) (P : Under → Type 0) → under w call ≡ None → other ≡ call → IsSomeAnd (under w other) P → ⊥
-nobody w call other P none same h = let Q : Option Under → Type 0 = λ o. IsSomeAnd o P in subst Q (ap (under w) same ∙ none) h
+nobody : (w : WorldState) (call other : ℕ) (P : OpenCall → Type 0) → open_call w call ≡ None → other ≡ call → IsSomeAnd (open_call w other) P → ⊥
+nobody w call other P none same h = let Q : Option OpenCall → Type 0 = λ o. IsSomeAnd o P in subst Q (ap (open_call w) same ∙ none) h
 
 -- nor has a new number a part or a join
 new_free : (w : WorldState) (call : ℕ) (key : Bytes) → is_new w.last call ≡ true → IsSoundWorld w → is_free w call key ≡ true
@@ -134,7 +134,7 @@ new_free w call key new old =
 -- a call's first phase, behind its beginning
 pub start_fits : (w : WorldState) → IsSoundWorld w → StartFits w
 start_fits w old call session command fit =
-    let u : Under = record { caller = record { session = session; call = call }; command = command } in
+    let u : OpenCall = record { caller = record { session = session; call = call }; command = command } in
     let new : is_new w.last call ≡ true = (and_parts _ _ (and_parts _ _ fit).0).1 in
     let here : find (has_number call) (w.calls ++ u ∷ []) ≡ Some u =
     find-append (has_number call) w.calls (u ∷ []) ∙ ap (λ o. option_or o (find (has_number call) (u ∷ []))) (new_under w call new old) ∙ ap (λ b. cond b (Some u) None) (nat_eq_equiv.refl call)
@@ -148,12 +148,12 @@ start_fits w old call session command fit =
 -- 4. What follows in a line.
 
 -- a call that has reserved its key has not joined a load of it
-unjoined_held : (w : WorldState) (call : ℕ) (key : Bytes) → is_untouched (part_of w call key) ≡ true → IsSoundWorld w → is_joined w call key ≡ false
+unjoined_held : (w : WorldState) (call : ℕ) (key : Bytes) → has_progress is_untouched (part_of w call key) ≡ true → IsSoundWorld w → is_joined w call key ≡ false
 unjoined_held w call key held old = refuted (is_joined w call key) (λ joined.
     let j = join_any w (is_join call key) w.joins joined old.joins in
     let same = join_is call key j.0 j.2 in
     let none : part_of w call key ≡ None = subst (λ n. part_of w n key ≡ None) same.0 (subst (λ k. part_of w j.0.caller.call k ≡ None) same.1 j.3.no_part) in
-    let no : true ≡ false = sym held ∙ ap is_untouched none in cc)
+    let no : true ≡ false = sym held ∙ ap (has_progress is_untouched) none in cc)
 
 pub rest_fits : (w : WorldState) → IsSoundWorld w → RestFits w
 rest_fits w old = record {

@@ -6,9 +6,9 @@ use Rattle.jc_model.specs.Cache.{Bytes, entry_at}
 use Rattle.jc_model.specs.Legal.{in_order}
 use Rattle.jc_stripe.specs.State.{State}
 use Rattle.jc_world.specs.declared.event.Part.{Part}
-use Rattle.jc_world.specs.World.{WorldState, stripe_for, cached}
+use Rattle.jc_world.specs.World.{WorldState, stripe_for, cached_entry}
 use Rattle.jc_world.specs.Coherent.{all_hold}
-use Rattle.jc_world.specs.Sound.{IsShaped, number_up_to, CallsFit, IsHeld, AllOwned, AllWaitedFor, joined_once, AllCalled, KeyTold, IsSoundWorld}
+use Rattle.jc_world.specs.Sound.{IsShaped, number_up_to, CallsFit, IsHeld, AllOwned, AllWaitedFor, is_joined_once, AllCalled, KeyAgrees, IsSoundWorld}
 
 pub record HasOrder (w : WorldState) : Type 0 where
   pub shape : IsShaped w
@@ -19,13 +19,13 @@ pub record HasOrder (w : WorldState) : Type 0 where
 
 pub record HasParts (w : WorldState) : Type 0 where
   pub held : (key : Bytes) (part : Part) → get w.parts key ≡ Some part → IsSomeAnd (stripe_for w key) (λ s. IsHeld s key part)
-  pub told : all_hold w ≡ true → (key : Bytes) → KeyTold (get w.parts key) (entry_at w.store key) (cached w key)
-  pub fresh : w.fresh ≡ true → (key : Bytes) → cached w key ≡ None
+  pub told : all_hold w ≡ true → (key : Bytes) → KeyAgrees (get w.parts key) (entry_at w.store key) (cached_entry w key)
+  pub fresh : w.fresh ≡ true → (key : Bytes) → cached_entry w key ≡ None
   pub idle : w.fresh ≡ true → w.calls ≡ []
 
 pub record HasJoins (w : WorldState) : Type 0 where
   pub joins : AllWaitedFor w w.joins
-  pub once : joined_once w.joins ≡ true
+  pub once : is_joined_once w.joins ≡ true
   pub called : (number : ℕ) (s : State) → slice_get w.stripes number ≡ Some s → AllCalled w number s.joiners
 
 pub sound : (w : WorldState) → HasOrder w → HasParts w → HasJoins w → IsSoundWorld w

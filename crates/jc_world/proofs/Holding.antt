@@ -4,16 +4,16 @@ use Rattle.std.specs.FinMap.{get}
 use Rattle.jc_model.specs.Cache.{Bytes}
 use Rattle.jc_model.specs.Table.{is_load_given, is_write_given}
 use Rattle.jc_stripe.specs.State.{is_key}
-use Rattle.jc_world.specs.declared.event.Under.{Under}
+use Rattle.jc_world.specs.declared.event.OpenCall.{OpenCall}
 use Rattle.jc_world.specs.declared.event.Part.{Part}
 use Rattle.jc_world.specs.declared.event.Progress.{Progress}
 use Rattle.jc_world.specs.declared.event.Progress.TheVariants.{Loading, Writing}
 use Rattle.jc_world.specs.declared.event.WorldEvent.TheVariants as event
-use Rattle.jc_world.specs.World.{WorldState, home, stripe_for, under, of_call, part_of, is_complete, is_answered, nothing_done, is_untouched}
+use Rattle.jc_world.specs.World.{WorldState, home, stripe_for, open_call, of_call, part_of, is_answered, is_untouched, has_progress}
 use Rattle.jc_world.specs.Events.{fits}
-use Rattle.jc_world.specs.Sound.{IsHeld, IsSoundWorld}
+use Rattle.jc_world.specs.Sound.{IsHeld, IsSoundWorld, IsOwned}
 use Rattle.jc_world.proofs.Numbered.{some_of}
-use Rattle.jc_world.proofs.Underway.{owned_found}
+use Rattle.jc_world.proofs.Shares.{fact_found}
 
 pub is_part : (o : Option Part) (call : ℕ) (part : Part) → of_call call o ≡ Some part → o ≡ Some part
 is_part None call part h = cc
@@ -29,7 +29,7 @@ of_key test o call none h = go (of_call call o) refl h
     go (Some part) e h = let there = is_part o call part e in (part, e, there, ap test there ∙ h)
 
 -- what is untouched isn't answered
-untouched_open : (p : Progress) → nothing_done p ≡ true → is_complete p ≡ false
+untouched_open : (p : Progress) → is_untouched p ≡ true → is_answered p ≡ false
 untouched_open (Loading answer) h = not_given (is_load_given answer) h
   where
     not_given : (b : Bool) → not b ≡ true → b ≡ false
@@ -43,33 +43,33 @@ untouched_open (Writing is_changed report) h = not_given is_changed (is_write_gi
     not_given false false h = refl
 
 -- a call whose commit fits has its key, and so what is held of that is its part
-pub fits_commit : (v w : WorldState) (call : ℕ) (key : Bytes) → v ≡ w → fits w (event.Commit call key) ≡ true → (part : Part) × (part_of v call key ≡ Some part) × (get v.parts key ≡ Some part) × (is_answered (get v.parts key) ≡ true)
+pub fits_commit : (v w : WorldState) (call : ℕ) (key : Bytes) → v ≡ w → fits w (event.Commit call key) ≡ true → (part : Part) × (part_of v call key ≡ Some part) × (get v.parts key ≡ Some part) × (has_progress is_answered (get v.parts key) ≡ true)
 fits_commit v w call key same fit =
-    let A : WorldState → Type 0 = λ x. is_answered (part_of x call key) ≡ true in
-    of_key is_answered (get v.parts key) call (λ h. cc) (subst A (sym same) fit)
+    let A : WorldState → Type 0 = λ x. has_progress is_answered (part_of x call key) ≡ true in
+    of_key (has_progress is_answered) (get v.parts key) call (λ h. cc) (subst A (sym same) fit)
 
-pub may_commit : (v w : WorldState) (call : ℕ) (key : Bytes) (part : Part) → v ≡ w → fits w (event.Commit call key) ≡ true → get v.parts key ≡ Some part → (part_of v call key ≡ Some part) × (is_answered (Some part) ≡ true)
+pub may_commit : (v w : WorldState) (call : ℕ) (key : Bytes) (part : Part) → v ≡ w → fits w (event.Commit call key) ≡ true → get v.parts key ≡ Some part → (part_of v call key ≡ Some part) × (has_progress is_answered (Some part) ≡ true)
 may_commit v w call key part same fit there =
     let one = fits_commit v w call key same fit in
-    (one.1 ∙ sym one.2 ∙ there, ap is_answered (sym there) ∙ one.3)
+    (one.1 ∙ sym one.2 ∙ there, ap (has_progress is_answered) (sym there) ∙ one.3)
 
 -- and so has a call that may withdraw
-pub fits_withdrawal : (v w : WorldState) (call : ℕ) (key : Bytes) → v ≡ w → fits w (event.Withdraw call key) ≡ true → (part : Part) × (part_of v call key ≡ Some part) × (get v.parts key ≡ Some part) × (is_untouched (get v.parts key) ≡ true)
+pub fits_withdrawal : (v w : WorldState) (call : ℕ) (key : Bytes) → v ≡ w → fits w (event.Withdraw call key) ≡ true → (part : Part) × (part_of v call key ≡ Some part) × (get v.parts key ≡ Some part) × (has_progress is_untouched (get v.parts key) ≡ true)
 fits_withdrawal v w call key same fit =
-    let A : WorldState → Type 0 = λ x. is_untouched (part_of x call key) ≡ true in
-    of_key is_untouched (get v.parts key) call (λ h. cc) (subst A (sym same) fit)
+    let A : WorldState → Type 0 = λ x. has_progress is_untouched (part_of x call key) ≡ true in
+    of_key (has_progress is_untouched) (get v.parts key) call (λ h. cc) (subst A (sym same) fit)
 
-pub may_withdraw : (v w : WorldState) (call : ℕ) (key : Bytes) (part : Part) → v ≡ w → fits w (event.Withdraw call key) ≡ true → get v.parts key ≡ Some part → (part_of v call key ≡ Some part) × (is_answered (Some part) ≡ false)
+pub may_withdraw : (v w : WorldState) (call : ℕ) (key : Bytes) (part : Part) → v ≡ w → fits w (event.Withdraw call key) ≡ true → get v.parts key ≡ Some part → (part_of v call key ≡ Some part) × (has_progress is_answered (Some part) ≡ false)
 may_withdraw v w call key part same fit there =
     let one = fits_withdrawal v w call key same fit in
-    (one.1 ∙ sym one.2 ∙ there, untouched_open part.progress (ap is_untouched (sym there) ∙ one.3))
+    (one.1 ∙ sym one.2 ∙ there, untouched_open part.progress (ap (has_progress is_untouched) (sym there) ∙ one.3))
 
 -- the call of a held key is under way, on that key: its reservation says so
-pub call_on : (w : WorldState) (key : Bytes) (part : Part) → get w.parts key ≡ Some part → IsSoundWorld w → IsSomeAnd (under w part.reservation.caller.call) (λ u. u.command.key ≡ key)
+pub call_on : (w : WorldState) (key : Bytes) (part : Part) → get w.parts key ≡ Some part → IsSoundWorld w → IsSomeAnd (open_call w part.reservation.caller.call) (λ u. u.command.key ≡ key)
 call_on w key part there old =
     let r = part.reservation in
     let held = some_of (stripe_for w key) (λ s. IsHeld s key part) (old.held key part there) in
-    let own = owned_found w (is_key r.key) held.0.reservations r held.2.out (old.owned (home w key) held.0 held.1) in
-    let call = some_of (under w r.caller.call) (λ u. (u.caller.session ≡ r.caller.session) × (u.command.key ≡ r.key)) own.call in
-    let P : Option Under → Type 0 = λ o. IsSomeAnd o (λ u. u.command.key ≡ key) in
+    let own = fact_found (IsOwned w) (is_key r.key) held.0.reservations r held.2.out (old.owned (home w key) held.0 held.1) in
+    let call = some_of (open_call w r.caller.call) (λ u. (u.caller.session ≡ r.caller.session) × (u.command.key ≡ r.key)) own.call in
+    let P : Option OpenCall → Type 0 = λ o. IsSomeAnd o (λ u. u.command.key ≡ key) in
     subst P (sym call.1) (call.2.1 ∙ held.2.key_is)

@@ -28,9 +28,9 @@ use Rattle.jc_model.specs.Legal.{event_key}
 use Rattle.jc_model.proofs.CallerLemmas.{same_key, get-with_entry}
 use Rattle.jc_stripe.specs.State.{State, is_of}
 use Rattle.jc_stripe.specs.Reached.{IsReached, is_own}
-use Rattle.jc_world.specs.World.{WorldState, home, cached, entry_in}
+use Rattle.jc_world.specs.World.{WorldState, home, cached_entry, entry_in, has_changed, has_progress}
 use Rattle.jc_world.specs.Sound.{IsSoundWorld}
-use Rattle.jc_world.specs.Coherent.{Coherent, is_changed}
+use Rattle.jc_world.specs.Coherent.{Coherent}
 use Rattle.jc_world.specs.Audit.{IsCache, differs, differing}
 use Rattle.jc_world.specs.Gathered.{or_else, found_after}
 
@@ -123,12 +123,12 @@ or_none None = refl
 or_none (Some x) = refl
 
 -- so the stripes cache together what the world does
-pub gathered : (w : WorldState) (key : Bytes) → IsSoundWorld w → found_after None w.stripes key ≡ cached w key
+pub gathered : (w : WorldState) (key : Bytes) → IsSoundWorld w → found_after None w.stripes key ≡ cached_entry w key
 gathered w key old =
     found_one None w.stripes key (home w key) (λ i s at apart.
     let h = old.shape.each i s at in
     homes s key h.reached (ap (λ (c : Config). stripe_of key c.stripes == s.stripe) h.config_is ∙ ap (λ n. home w key == n) h.number_is ∙ ne_eqb (home w key) i apart))
-    ∙ or_none (cached w key)
+    ∙ or_none (cached_entry w key)
 
 -- the entries of a further stripe
 pub found_next : (stripes : List State) (n : ℕ) (s : State) (here next : Option Bytes) (listed : List (Bytes × Bytes)) (key : Bytes) → n < length stripes → s ≡ get_or stripes n s → from_entries {R = key_cmp} listed ≡ s.cache
@@ -189,10 +189,10 @@ held_apart stored value true h = never (not (holds stored value))
 held_apart stored value false h = ap (λ b. not b && true) (held_true stored value (h refl))
 
 -- an entry that a coherent world caches doesn't differ
-pub agrees : (w : WorldState) (key value : Bytes) → Coherent w → cached w key ≡ Some value → differs w (key, value) ≡ false
+pub agrees : (w : WorldState) (key value : Bytes) → Coherent w → cached_entry w key ≡ Some value → differs w (key, value) ≡ false
 agrees w key value coherent is =
     let P : Option Bytes → Type 0 = λ o. IfSome o (λ v. entry_at w.store key ≡ Some v) in
-    held_apart (entry_at w.store key) value (is_changed (get w.parts key)) (λ unchanged. subst P is (coherent key unchanged))
+    held_apart (entry_at w.store key) value (has_progress has_changed (get w.parts key)) (λ unchanged. subst P is (coherent key unchanged))
 
 -- so none of them does
 pub none_differ : (w : WorldState) (cache : Cache) → IsCache w cache → Coherent w → differing w (entries cache) ≡ []

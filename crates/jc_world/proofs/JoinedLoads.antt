@@ -32,7 +32,7 @@ use Rattle.jc_world.specs.declared.event.WorldEvent.TheVariants as event
 use Rattle.jc_world.specs.Events.{is_fit}
 use Rattle.jc_world.specs.PickUps.{ends_load, IsEnd}
 use Rattle.jc_world.proofs.Underway.{same_bytes}
-use Rattle.jc_world.proofs.Callers.{refuted}
+use Rattle.jc_world.proofs.Beginning.{refuted}
 use Rattle.jc_world.proofs.Joiners.{joiner_of, joined_front}
 use Rattle.jc_world.proofs.Reservations.{found_left}
 use Rattle.jc_world.proofs.Entries.{split}

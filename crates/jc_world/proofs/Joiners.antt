@@ -1,9 +1,9 @@
 -- The calls that have joined a load, and the joiners that they have.
 --     told_resolved, told_dissolved, told_pushed      what is parked for a call stays parked
 --     told_waiting      a commit parks an answer for each that waits for its load
---     called_on, waited_on      each joiner, and each join, in another world
+--     waited_on                 each join in another world
 --     once_filter, once_pushed      no two joins are of one call and one key
---     join_any, waited_found        a join, with what is true of it
+--     join_any                  a join, with what is true of it
 --     other_call        a call that is over has no join, so no joiner and no join of another call is its
 --     stands_at         where a join stands in the list
 use Rattle.std.proofs.Common.{◌≡◌, ◌==◌, ◌&&◌, ◌||◌, ◌+◌, ℕ, zero, suc, List, [], ◌∷◌, ◌++◌, Bool, true, false, cond, not, Option, None, Some, IsSomeAnd, find, filter, map, position, slice_get, refl, sym, ap, ◌∙◌, subst, arith, is_some}
@@ -28,11 +28,11 @@ use Rattle.jc_inflight.specs.Dissolving.{after_dissolve as dissolved}
 use Rattle.jc_stripe.specs.Tickets.{JoinClaim}
 use Rattle.jc_stripe.specs.Phases.{is_other_join}
 use Rattle.jc_stripe.specs.Reached.{are_apart}
-use Rattle.jc_world.specs.declared.event.Under.{Under}
+use Rattle.jc_world.specs.declared.event.OpenCall.{OpenCall}
 use Rattle.jc_world.specs.declared.event.Part.{Part}
-use Rattle.jc_world.specs.World.{WorldState, Parts, under, of_call, part_of, is_join, is_joined, unjoined}
-use Rattle.jc_world.specs.Sound.{has_answer, is_told, IsWaitedFor, AllWaitedFor, joined_once, IsCalled, AllCalled}
-use Rattle.jc_world.proofs.Shares.{turned_eq, Each, each_map}
+use Rattle.jc_world.specs.World.{WorldState, Parts, open_call, of_call, part_of, is_join, is_joined, joins_without}
+use Rattle.jc_world.specs.Sound.{has_answer, has_parked_answer, IsWaitedFor, AllWaitedFor, is_joined_once, AllCalled, Each}
+use Rattle.jc_world.proofs.Shares.{turned_eq, each_map}
 use Rattle.jc_world.proofs.Underway.{same_bytes}
 
 -- the joiner of a caller at a key
@@ -48,59 +48,59 @@ unanswered (Answered place shared) h k = cc
 unanswered Again h k = cc
 
 -- an answer that is parked stays where others are parked
-pub told_resolved : (load step place : ℕ) (caller : Caller) (key : Bytes) (js : List Joiner) → is_told (joiner_of caller key js) ≡ true → is_told (joiner_of caller key (answered_from load step place js)) ≡ true
+pub told_resolved : (load step place : ℕ) (caller : Caller) (key : Bytes) (js : List Joiner) → has_parked_answer (joiner_of caller key js) ≡ true → has_parked_answer (joiner_of caller key (answered_from load step place js)) ≡ true
 told_resolved load step place caller key [] h = h
 told_resolved load step place caller key (x ∷ xs) h =
     let p = belongs_to caller key in
-    elim (waits_for load x) as (λ b. is_told (find p (cond b (with_answer place step x ∷ answered_from load step (place + 1) xs) (x ∷ answered_from load step place xs))) ≡ true) [
-      | true ↦ elim (p x) as (λ b. is_told (cond b (Some x) (find p xs)) ≡ true → is_told (cond b (Some (with_answer place step x)) (find p (answered_from load step (place + 1) xs))) ≡ true) [
+    elim (waits_for load x) as (λ b. has_parked_answer (find p (cond b (with_answer place step x ∷ answered_from load step (place + 1) xs) (x ∷ answered_from load step place xs))) ≡ true) [
+      | true ↦ elim (p x) as (λ b. has_parked_answer (cond b (Some x) (find p xs)) ≡ true → has_parked_answer (cond b (Some (with_answer place step x)) (find p (answered_from load step (place + 1) xs))) ≡ true) [
         | true ↦ λ h. refl
         | false ↦ λ h. told_resolved load step (place + 1) caller key xs h
       ] h
-      | false ↦ elim (p x) as (λ b. is_told (cond b (Some x) (find p xs)) ≡ true → is_told (cond b (Some x) (find p (answered_from load step place xs))) ≡ true) [
+      | false ↦ elim (p x) as (λ b. has_parked_answer (cond b (Some x) (find p xs)) ≡ true → has_parked_answer (cond b (Some x) (find p (answered_from load step place xs))) ≡ true) [
         | true ↦ λ h. h
         | false ↦ λ h. told_resolved load step place caller key xs h
       ] h
     ]
 
 -- one that is found and waits for the load gets its answer
-pub told_waiting : (load step place : ℕ) (caller : Caller) (key : Bytes) (js : List Joiner) (j : Joiner) → joiner_of caller key js ≡ Some j → waits_for load j ≡ true → is_told (joiner_of caller key (answered_from load step place js)) ≡ true
+pub told_waiting : (load step place : ℕ) (caller : Caller) (key : Bytes) (js : List Joiner) (j : Joiner) → joiner_of caller key js ≡ Some j → waits_for load j ≡ true → has_parked_answer (joiner_of caller key (answered_from load step place js)) ≡ true
 told_waiting load step place caller key [] j h waits = cc
 told_waiting load step place caller key (x ∷ xs) j h waits =
     let p = belongs_to caller key in
-    elim (waits_for load x) as (λ b. waits_for load x ≡ b → is_told (find p (cond b (with_answer place step x ∷ answered_from load step (place + 1) xs) (x ∷ answered_from load step place xs))) ≡ true) [
-      | true ↦ λ e. elim (p x) as (λ b. cond b (Some x) (find p xs) ≡ Some j → is_told (cond b (Some (with_answer place step x)) (find p (answered_from load step (place + 1) xs))) ≡ true) [
+    elim (waits_for load x) as (λ b. waits_for load x ≡ b → has_parked_answer (find p (cond b (with_answer place step x ∷ answered_from load step (place + 1) xs) (x ∷ answered_from load step place xs))) ≡ true) [
+      | true ↦ λ e. elim (p x) as (λ b. cond b (Some x) (find p xs) ≡ Some j → has_parked_answer (cond b (Some (with_answer place step x)) (find p (answered_from load step (place + 1) xs))) ≡ true) [
         | true ↦ λ h. refl
         | false ↦ λ h. told_waiting load step (place + 1) caller key xs j h waits
       ] h
-      | false ↦ λ e. elim (p x) as (λ b. cond b (Some x) (find p xs) ≡ Some j → is_told (cond b (Some x) (find p (answered_from load step place xs))) ≡ true) [
+      | false ↦ λ e. elim (p x) as (λ b. cond b (Some x) (find p xs) ≡ Some j → has_parked_answer (cond b (Some x) (find p (answered_from load step place xs))) ≡ true) [
         | true ↦ λ h. let is : x ≡ j = cc in let t : true ≡ false = sym waits ∙ ap (waits_for load) (sym is) ∙ e in cc
         | false ↦ λ h. told_waiting load step place caller key xs j h waits
       ] h
     ] refl
 
 -- an answer that is parked stays where a load is withdrawn
-pub told_dissolved : (load : ℕ) (caller : Caller) (key : Bytes) (js : List Joiner) → is_told (joiner_of caller key js) ≡ true → is_told (joiner_of caller key (dissolved load js)) ≡ true
+pub told_dissolved : (load : ℕ) (caller : Caller) (key : Bytes) (js : List Joiner) → has_parked_answer (joiner_of caller key js) ≡ true → has_parked_answer (joiner_of caller key (dissolved load js)) ≡ true
 told_dissolved load caller key [] h = h
 told_dissolved load caller key (x ∷ xs) h =
     let p = belongs_to caller key in
-    elim (waits_for load x) as (λ b. waits_for load x ≡ b → is_told (find p (cond b (record x { state = Again }) x ∷ dissolved load xs)) ≡ true) [
-      | true ↦ λ e. elim (p x) as (λ b. is_told (cond b (Some x) (find p xs)) ≡ true → is_told (cond b (Some (record x { state = Again })) (find p (dissolved load xs))) ≡ true) [
+    elim (waits_for load x) as (λ b. waits_for load x ≡ b → has_parked_answer (find p (cond b (record x { state = Again }) x ∷ dissolved load xs)) ≡ true) [
+      | true ↦ λ e. elim (p x) as (λ b. has_parked_answer (cond b (Some x) (find p xs)) ≡ true → has_parked_answer (cond b (Some (record x { state = Again })) (find p (dissolved load xs))) ≡ true) [
         | true ↦ λ h. absurd (unanswered x.state (and_parts (x.load == load) (is_waiting x.state) e).1 h)
         | false ↦ λ h. told_dissolved load caller key xs h
       ] h
-      | false ↦ λ e. elim (p x) as (λ b. is_told (cond b (Some x) (find p xs)) ≡ true → is_told (cond b (Some x) (find p (dissolved load xs))) ≡ true) [
+      | false ↦ λ e. elim (p x) as (λ b. has_parked_answer (cond b (Some x) (find p xs)) ≡ true → has_parked_answer (cond b (Some x) (find p (dissolved load xs))) ≡ true) [
         | true ↦ λ h. h
         | false ↦ λ h. told_dissolved load caller key xs h
       ] h
     ] refl
 
 -- and where one more joins
-pub told_pushed : (caller : Caller) (key : Bytes) (js more : List Joiner) → is_told (joiner_of caller key js) ≡ true → is_told (joiner_of caller key (js ++ more)) ≡ true
+pub told_pushed : (caller : Caller) (key : Bytes) (js more : List Joiner) → has_parked_answer (joiner_of caller key js) ≡ true → has_parked_answer (joiner_of caller key (js ++ more)) ≡ true
 told_pushed caller key [] more h = cc
 told_pushed caller key (x ∷ xs) more h =
     let p = belongs_to caller key in
-    elim (p x) as (λ b. is_told (cond b (Some x) (find p xs)) ≡ true → is_told (cond b (Some x) (find p (xs ++ more))) ≡ true) [
+    elim (p x) as (λ b. has_parked_answer (cond b (Some x) (find p xs)) ≡ true → has_parked_answer (cond b (Some x) (find p (xs ++ more))) ≡ true) [
       | true ↦ λ h. h
       | false ↦ λ h. told_pushed caller key xs more h
     ] h
@@ -225,20 +225,6 @@ any_last p (x ∷ xs) y h = elim (p x) as (λ b. (b || list_any p (xs ++ y ∷ [
 
 -- 4. Each joiner has its join and its call.
 
--- each that passes a test, in another world
-pub called_on : (w n : WorldState) (m : ℕ) (p : Joiner → Bool) (js : List Joiner) → ((j : Joiner) → p j ≡ true → IsCalled w m j → IsCalled n m j) → AllCalled w m js → AllCalled n m (filter p js)
-called_on w n m p [] f h = tt
-called_on w n m p (x ∷ xs) f h =
-    elim (p x) as (λ b. p x ≡ b → AllCalled n m (cond b (x ∷ filter p xs) (filter p xs))) [
-      | true ↦ λ e. (f x e h.0, called_on w n m p xs f h.1)
-      | false ↦ λ e. called_on w n m p xs f h.1
-    ] refl
-
--- each
-pub called_all : (w n : WorldState) (m : ℕ) (js : List Joiner) → ((j : Joiner) → IsCalled w m j → IsCalled n m j) → AllCalled w m js → AllCalled n m js
-called_all w n m [] f h = tt
-called_all w n m (x ∷ xs) f h = (f x h.0, called_all w n m xs f h.1)
-
 -- those that were answered
 pub called_resolved : (w : WorldState) (m load step place : ℕ) (js : List Joiner) → AllCalled w m js → AllCalled w m (answered_from load step place js)
 called_resolved w m load step place [] h = tt
@@ -257,30 +243,6 @@ called_dissolved w m load (x ∷ xs) h =
       | false ↦ (h.0, called_dissolved w m load xs h.1)
     ]
 
--- one more
-pub called_pushed : (w : WorldState) (m : ℕ) (js : List Joiner) (j : Joiner) → AllCalled w m js → IsCalled w m j → AllCalled w m (js ++ j ∷ [])
-called_pushed w m [] j h one = (one, tt)
-called_pushed w m (x ∷ xs) j h one = (h.0, called_pushed w m xs j h.1 one)
-
--- one that is found
-pub called_found : (w : WorldState) (m : ℕ) (p : Joiner → Bool) (js : List Joiner) (j : Joiner) → find p js ≡ Some j → AllCalled w m js → IsCalled w m j
-called_found w m p [] j h called = cc
-called_found w m p (x ∷ xs) j h called =
-    elim (p x) as (λ b. cond b (Some x) (find p xs) ≡ Some j → IsCalled w m j) [
-      | true ↦ λ h. let is : x ≡ j = cc in subst (IsCalled w m) is called.0
-      | false ↦ λ h. called_found w m p xs j h called.1
-    ] h
-
--- what holds of each
-pub called_each : (w : WorldState) (m : ℕ) (P : Joiner → Type 0) (js : List Joiner) → ((j : Joiner) → IsCalled w m j → P j) → AllCalled w m js → Each P js
-called_each w m P [] f h = tt
-called_each w m P (x ∷ xs) f h = (f x h.0, called_each w m P xs f h.1)
-
--- a test of each
-pub called_test : (w : WorldState) (m : ℕ) (p : Joiner → Bool) (js : List Joiner) → ((j : Joiner) → IsCalled w m j → p j ≡ true) → AllCalled w m js → list_all p js ≡ true
-called_test w m p [] f h = refl
-called_test w m p (x ∷ xs) f h = and_from _ _ (f x h.0) (called_test w m p xs f h.1)
-
 -- two facts of each
 pub each_both : {A : Type 0} (P Q R : A → Type 0) (xs : List A) → ((x : A) → P x → Q x → R x) → Each P xs → Each Q xs → Each R xs
 each_both P Q R [] f h k = tt
@@ -296,16 +258,6 @@ waited_on w n p P (x ∷ xs) f each h =
       | true ↦ λ e. (f x e each.0 h.0, waited_on w n p P xs f each.1 h.1)
       | false ↦ λ e. waited_on w n p P xs f each.1 h.1
     ] refl
-
--- each
-pub waited_all : (w n : WorldState) (P : JoinClaim → Type 0) (js : List JoinClaim) → ((j : JoinClaim) → P j → IsWaitedFor w j → IsWaitedFor n j) → Each P js → AllWaitedFor w js → AllWaitedFor n js
-waited_all w n P [] f each h = tt
-waited_all w n P (x ∷ xs) f each h = (f x each.0 h.0, waited_all w n P xs f each.1 h.1)
-
--- one more
-pub waited_pushed : (w : WorldState) (js : List JoinClaim) (j : JoinClaim) → AllWaitedFor w js → IsWaitedFor w j → AllWaitedFor w (js ++ j ∷ [])
-waited_pushed w [] j h one = (one, tt)
-waited_pushed w (x ∷ xs) j h one = (h.0, waited_pushed w xs j h.1 one)
 
 -- each join is there, by its call and its key
 pub each_joined : (js : List JoinClaim) → Each (λ (j : JoinClaim). list_any (is_join j.caller.call j.key) js ≡ true) js
@@ -329,15 +281,6 @@ join_any w p (x ∷ xs) h waited =
       | false ↦ λ e h. join_any w p xs h waited.1
     ] refl h
 
--- one that is found
-pub waited_found : (w : WorldState) (p : JoinClaim → Bool) (js : List JoinClaim) (j : JoinClaim) → find p js ≡ Some j → AllWaitedFor w js → IsWaitedFor w j
-waited_found w p [] j h waited = cc
-waited_found w p (x ∷ xs) j h waited =
-    elim (p x) as (λ b. cond b (Some x) (find p xs) ≡ Some j → IsWaitedFor w j) [
-      | true ↦ λ h. let is : x ≡ j = cc in subst (IsWaitedFor w) is waited.0
-      | false ↦ λ h. waited_found w p xs j h waited.1
-    ] h
-
 -- a join is of its call and its key
 pub join_is : (call : ℕ) (key : Bytes) (j : JoinClaim) → is_join call key j ≡ true → (j.caller.call ≡ call) × (j.key ≡ key)
 join_is call key j h = let parts = and_parts (j.caller.call == call) (pointwise ◌==◌ key j.key) h in (eqb-true j.caller.call call parts.0, sym (same_bytes key j.key parts.1))
@@ -350,15 +293,15 @@ joined_no_part w call key h waited =
     (λ i. part_of w (sym is.0 i) (sym is.1 i)) ∙ j.3.no_part
 
 -- a call without a join of its key is none that has joined
-pub other_call : (w : WorldState) (call : ℕ) (u : Under) → under w call ≡ Some u → is_joined w call u.command.key ≡ false → (number session : ℕ) (key : Bytes) → is_joined w number key ≡ true
-    → IsSomeAnd (under w number) (λ v. (v.caller.session ≡ session) × (v.command.key ≡ key)) → (number == call) ≡ false
+pub other_call : (w : WorldState) (call : ℕ) (u : OpenCall) → open_call w call ≡ Some u → is_joined w call u.command.key ≡ false → (number session : ℕ) (key : Bytes) → is_joined w number key ≡ true
+    → IsSomeAnd (open_call w number) (λ v. (v.caller.session ≡ session) × (v.command.key ≡ key)) → (number == call) ≡ false
 other_call w call u is free number session key joined h =
-    let v = some_of (under w number) (λ v. (v.caller.session ≡ session) × (v.command.key ≡ key)) h in
+    let v = some_of (open_call w number) (λ v. (v.caller.session ≡ session) × (v.command.key ≡ key)) h in
     refuted (number == call) (λ same.
     let one : number ≡ call = eqb-true number call same in
-    let t : Some v.0 ≡ Some u = sym v.1 ∙ ap (under w) one ∙ is in
+    let t : Some v.0 ≡ Some u = sym v.1 ∙ ap (open_call w) one ∙ is in
     let same_call : v.0 ≡ u = cc in
-    let key_is : key ≡ u.command.key = sym v.2.1 ∙ ap (λ (x : Under). x.command.key) same_call in
+    let key_is : key ≡ u.command.key = sym v.2.1 ∙ ap (λ (x : OpenCall). x.command.key) same_call in
     let t : true ≡ false = sym joined ∙ (λ i. is_joined w (one i) (key_is i)) ∙ free in cc)
   where
     refuted : (b : Bool) → (b ≡ true → ⊥) → b ≡ false
@@ -378,11 +321,11 @@ none_left p q (x ∷ xs) h =
     ] refl h
 
 -- no two of those that are left are of one call and one key
-pub once_filter : (q : JoinClaim → Bool) (js : List JoinClaim) → joined_once js ≡ true → joined_once (filter q js) ≡ true
+pub once_filter : (q : JoinClaim → Bool) (js : List JoinClaim) → is_joined_once js ≡ true → is_joined_once (filter q js) ≡ true
 once_filter q [] h = h
 once_filter q (x ∷ xs) h =
-    let parts = and_parts (not (list_any (is_join x.caller.call x.key) xs)) (joined_once xs) h in
-    elim (q x) as (λ b. joined_once (cond b (x ∷ filter q xs) (filter q xs)) ≡ true) [
+    let parts = and_parts (not (list_any (is_join x.caller.call x.key) xs)) (is_joined_once xs) h in
+    elim (q x) as (λ b. is_joined_once (cond b (x ∷ filter q xs) (filter q xs)) ≡ true) [
       | true ↦ and_from _ _ (none_left (is_join x.caller.call x.key) q xs parts.0) (once_filter q xs parts.1)
       | false ↦ once_filter q xs parts.1
     ]
@@ -395,11 +338,11 @@ not_joined j x h = (λ i. turned_eq j.caller.call x.caller.call i && turned_key 
     turned_key a b = nat_list_eq_equiv.symm a b
 
 -- nor with one more, which is of another
-pub once_pushed : (js : List JoinClaim) (j : JoinClaim) → not (list_any (is_join j.caller.call j.key) js) ≡ true → joined_once js ≡ true → joined_once (js ++ j ∷ []) ≡ true
+pub once_pushed : (js : List JoinClaim) (j : JoinClaim) → not (list_any (is_join j.caller.call j.key) js) ≡ true → is_joined_once js ≡ true → is_joined_once (js ++ j ∷ []) ≡ true
 once_pushed [] j h o = refl
 once_pushed (x ∷ xs) j h o =
-    let parts = and_parts (not (list_any (is_join x.caller.call x.key) xs)) (joined_once xs) o in
-    elim (is_join j.caller.call j.key x) as (λ b. is_join j.caller.call j.key x ≡ b → not (b || list_any (is_join j.caller.call j.key) xs) ≡ true → (not (list_any (is_join x.caller.call x.key) (xs ++ j ∷ [])) && joined_once (xs ++ j ∷ [])) ≡ true) [
+    let parts = and_parts (not (list_any (is_join x.caller.call x.key) xs)) (is_joined_once xs) o in
+    elim (is_join j.caller.call j.key x) as (λ b. is_join j.caller.call j.key x ≡ b → not (b || list_any (is_join j.caller.call j.key) xs) ≡ true → (not (list_any (is_join x.caller.call x.key) (xs ++ j ∷ [])) && is_joined_once (xs ++ j ∷ [])) ≡ true) [
       | true ↦ λ e h. cc
       | false ↦ λ e h. and_from _ _ (none_more (is_join x.caller.call x.key) xs j parts.0 (not_joined j x e)) (once_pushed xs j h parts.1)
     ] refl h
@@ -439,7 +382,7 @@ pub record Stands (call : ℕ) (key : Bytes) (js : List JoinClaim) (place : ℕ)
   pub join : JoinClaim
   pub here : slice_get js place ≡ Some join
   pub first : find (is_join call key) js ≡ Some join
-  pub others : remove_at js place ≡ unjoined call key js
+  pub others : remove_at js place ≡ joins_without call key js
 
 -- all are kept that are of another call or key
 all_others : (p : JoinClaim → Bool) (js : List JoinClaim) → not (list_any p js) ≡ true → filter (λ j. not (p j)) js ≡ js
@@ -447,11 +390,11 @@ all_others p [] h = refl
 all_others p (x ∷ xs) h = elim (p x) as (λ b. not (b || list_any p xs) ≡ true → cond (not b) (x ∷ filter (λ j. not (p j)) xs) (filter (λ j. not (p j)) xs) ≡ x ∷ xs) [ true ↦ λ h. cc | false ↦ λ h. ap (λ ys. x ∷ ys) (all_others p xs h) ] h
 
 -- by the place from a number on
-stands_from : (call : ℕ) (key : Bytes) (js : List JoinClaim) (k i : ℕ) → position_from (is_join call key) k js ≡ Some i → joined_once js ≡ true → (j : ℕ) × (i ≡ k + j) × Stands call key js j
+stands_from : (call : ℕ) (key : Bytes) (js : List JoinClaim) (k i : ℕ) → position_from (is_join call key) k js ≡ Some i → is_joined_once js ≡ true → (j : ℕ) × (i ≡ k + j) × Stands call key js j
 stands_from call key [] k i h o = cc
 stands_from call key (x ∷ xs) k i h o =
     let p = is_join call key in
-    let parts = and_parts (not (list_any (is_join x.caller.call x.key) xs)) (joined_once xs) o in
+    let parts = and_parts (not (list_any (is_join x.caller.call x.key) xs)) (is_joined_once xs) o in
     elim (p x) as (λ b. p x ≡ b → cond b (Some k) (position_from p (k + 1) xs) ≡ Some i → (j : ℕ) × (i ≡ k + j) × Stands call key (x ∷ xs) j) [
       | true ↦ λ e h.
           let is : k ≡ i = cc in
@@ -463,7 +406,7 @@ stands_from call key (x ∷ xs) k i h o =
               join = x;
               here = refl;
               first = ap (λ b. cond b (Some x) (find p xs)) e;
-              others = sym (ap (λ b. cond (not b) (x ∷ unjoined call key xs) (unjoined call key xs)) e ∙ all_others p xs alone);
+              others = sym (ap (λ b. cond (not b) (x ∷ joins_without call key xs) (joins_without call key xs)) e ∙ all_others p xs alone);
             },
           )
       | false ↦ λ e h.
@@ -474,13 +417,13 @@ stands_from call key (x ∷ xs) k i h o =
               join = rest.2.join;
               here = rest.2.here;
               first = ap (λ b. cond b (Some x) (find p xs)) e ∙ rest.2.first;
-              others = ap (λ ys. x ∷ ys) rest.2.others ∙ sym (ap (λ b. cond (not b) (x ∷ unjoined call key xs) (unjoined call key xs)) e);
+              others = ap (λ ys. x ∷ ys) rest.2.others ∙ sym (ap (λ b. cond (not b) (x ∷ joins_without call key xs) (joins_without call key xs)) e);
             },
           )
     ] refl h
 
 -- by the place in the whole list
-pub stands_at : (call : ℕ) (key : Bytes) (js : List JoinClaim) (i : ℕ) → position (is_join call key) js ≡ Some i → joined_once js ≡ true → Stands call key js i
+pub stands_at : (call : ℕ) (key : Bytes) (js : List JoinClaim) (i : ℕ) → position (is_join call key) js ≡ Some i → is_joined_once js ≡ true → Stands call key js i
 stands_at call key js i h o =
     let found = stands_from call key js 0 i (sym (position_from-zero (is_join call key) js) ∙ h) o in
     let is : found.0 ≡ i = omega arith in

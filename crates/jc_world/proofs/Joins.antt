@@ -28,19 +28,20 @@ use Rattle.jc_world.specs.declared.event.Part.{Part}
 use Rattle.jc_world.specs.declared.event.Premises.{Premises}
 use Rattle.jc_world.specs.declared.event.Shown.{Shown}
 use Rattle.jc_world.specs.declared.event.Shown.TheVariants as shown
-use Rattle.jc_world.specs.declared.event.Under.{Under}
+use Rattle.jc_world.specs.declared.event.OpenCall.{OpenCall}
 use Rattle.jc_world.specs.declared.event.WorldEvent.{WorldEvent}
 use Rattle.jc_world.specs.declared.event.WorldEvent.TheVariants as event
-use Rattle.jc_world.specs.World.{WorldState, Parts, home, stripe_for, start, has_number, under, over, of_call, part_of, is_join, join_of, is_joined, unjoined}
-use Rattle.jc_world.specs.Events.{may_leave, fits, with_stripe, goes_on, call_over, load_asked, write_asked, new_part, without_part, with_join, Starts, Ends, Picks, Happens}
-use Rattle.jc_world.specs.Sound.{IsWaitedFor, AllWaitedFor, IsCalled, AllCalled, IsSoundWorld}
+use Rattle.jc_world.specs.World.{WorldState, Parts, home, stripe_for, start, has_number, open_call, drop_call, of_call, part_of, is_join, join_of, is_joined, joins_without}
+use Rattle.jc_world.specs.Events.{may_leave, fits, with_stripe, with_phase, without_call, new_load, new_write, new_part, without_part, with_join, Starts, Ends, Picks, Happens}
+use Rattle.jc_world.specs.Sound.{IsWaitedFor, AllWaitedFor, IsCalled, AllCalled, IsSoundWorld, IsCallOf}
 use Rattle.jc_world.proofs.Holding.{call_on}
 use Rattle.jc_world.proofs.Halves.{HasJoins}
 use Rattle.jc_world.proofs.Places.{at_stripe, stripe_put}
-use Rattle.jc_world.proofs.Shares.{is_some_and, set_cases, turned_eq, found_test}
+use Rattle.jc_world.proofs.Shares.{is_some_and, set_cases, turned_eq, found_test, fact_found, each_kept, each_map, each_pushed}
 use Rattle.jc_world.proofs.Underway.{found_number, find_over, find_pushed, of_call-at, same_bytes}
-use Rattle.jc_world.proofs.Joiners.{joiner_of, any_kept, any_front, any_last, joined_resolved, joined_dissolved, joined_front, joined_last, find_kept, called_found, called_on, called_all, called_resolved, called_dissolved, called_pushed, once_pushed, once_filter, waited_on, waited_all, waited_pushed, each_joined, join_is, joined_no_part, other_call, none_inserted, none_removed, part_other}
-use Rattle.jc_world.proofs.Callers.{MayStart, may_start_at, may_leave_at, start_is, refuted, Picking, picking}
+use Rattle.jc_world.proofs.Joiners.{joiner_of, any_kept, any_front, any_last, joined_resolved, joined_dissolved, joined_front, joined_last, find_kept, called_resolved, called_dissolved, once_pushed, once_filter, waited_on, each_joined, join_is, joined_no_part, other_call, none_inserted, none_removed, part_other, each_both}
+use Rattle.jc_world.proofs.Beginning.{MayStart, may_start_at, may_leave_at, start_is, refuted}
+use Rattle.jc_world.proofs.Callers.{Picking, picking}
 
 -- 1. What goes on.
 
@@ -51,13 +52,9 @@ joiner_is caller key j h =
     let pair = and_parts (j.caller.session == caller.session) (j.caller.call == caller.call) parts.0 in
     (eqb-true j.caller.session caller.session pair.0, eqb-true j.caller.call caller.call pair.1, sym (same_bytes key j.key parts.1))
 
--- a call of this session on this key
-abbrev IsOf : ℕ → Bytes → Under → Type 0
-IsOf session key u = (u.caller.session ≡ session) × (u.command.key ≡ key)
-
 -- each join goes on to another world, with the same joins
 kept_joins : (w n : WorldState) → ((j : JoinClaim) → is_joined w j.caller.call j.key ≡ true → IsWaitedFor w j → IsWaitedFor n j) → IsSoundWorld w → AllWaitedFor n w.joins
-kept_joins w n f old = waited_all w n (λ (j : JoinClaim). is_joined w j.caller.call j.key ≡ true) w.joins f (each_joined w.joins) old.joins
+kept_joins w n f old = each_both (λ (j : JoinClaim). is_joined w j.caller.call j.key ≡ true) (IsWaitedFor w) (IsWaitedFor n) w.joins f (each_joined w.joins) old.joins
 
 -- what is there stays there where the stripe of a key is another
 out_on : (w : WorldState) (key : Bytes) (from to : State) (j : JoinClaim) → stripe_for w key ≡ Some from → (IsJoined from j → IsJoined to j)
@@ -83,7 +80,7 @@ joins_stored w store premises fresh old =
     let new : WorldState = record w { store = store; fresh = fresh; premises = premises } in
     record {
       joins = kept_joins w new (λ j t h. record { out = h.out; call = h.call; no_part = h.no_part }) old;
-      called = λ m s at. called_all w new m s.joiners (λ j h. record { home_is = h.home_is; join = h.join; call = h.call }) (old.called m s at);
+      called = λ m s at. each_map (IsCalled w m) (IsCalled new m) s.joiners (λ j h. record { home_is = h.home_is; join = h.join; call = h.call }) (old.called m s at);
       once = old.once;
     }
 
@@ -100,49 +97,49 @@ joins_parted w call key was part premises store is same old =
             call = h.call;
             no_part = none_inserted w.parts key j.key part j.caller.call h.no_part (λ e. ap (λ c. c == j.caller.call) same ∙ part_other (get w.parts key) was j.caller.call there (ap (λ k. of_call j.caller.call (get w.parts k)) (sym e) ∙ h.no_part));
           }) old;
-      called = λ m s at. called_all w new m s.joiners (λ j h. record { home_is = h.home_is; join = h.join; call = h.call }) (old.called m s at);
+      called = λ m s at. each_map (IsCalled w m) (IsCalled new m) s.joiners (λ j h. record { home_is = h.home_is; join = h.join; call = h.call }) (old.called m s at);
       once = old.once;
     }
 
 -- a call begins
 joins_called : (w : WorldState) (call session : ℕ) (command : Command) → IsSoundWorld w → HasJoins (record w { last = Some call; fresh = false; calls = w.calls ++ record { caller = record { session = session; call = call }; command = command } ∷ [] })
 joins_called w call session command old =
-    let more : List Under = record { caller = record { session = session; call = call }; command = command } ∷ [] in
+    let more : List OpenCall = record { caller = record { session = session; call = call }; command = command } ∷ [] in
     let new : WorldState = record w { last = Some call; fresh = false; calls = w.calls ++ more } in
     record {
-      joins = kept_joins w new (λ j t h. record { out = h.out; call = find_pushed (has_number j.caller.call) w.calls more (IsOf j.caller.session j.key) h.call; no_part = h.no_part }) old;
-      called = λ m s at. called_all w new m s.joiners (λ j h. record { home_is = h.home_is; join = h.join; call = find_pushed (has_number j.caller.call) w.calls more (IsOf j.caller.session j.key) h.call }) (old.called m s at);
+      joins = kept_joins w new (λ j t h. record { out = h.out; call = find_pushed (has_number j.caller.call) w.calls more (IsCallOf j.caller.session j.key) h.call; no_part = h.no_part }) old;
+      called = λ m s at. each_map (IsCalled w m) (IsCalled new m) s.joiners (λ j h. record { home_is = h.home_is; join = h.join; call = find_pushed (has_number j.caller.call) w.calls more (IsCallOf j.caller.session j.key) h.call }) (old.called m s at);
       once = old.once;
     }
 
 -- a call that has joined goes on where one that hasn't is over
-still_under : (w : WorldState) (call : ℕ) (u : Under) → under w call ≡ Some u → is_joined w call u.command.key ≡ false → (number session : ℕ) (key : Bytes) → is_joined w number key ≡ true
-    → IsSomeAnd (under w number) (IsOf session key) → IsSomeAnd (find (has_number number) (over call w.calls)) (IsOf session key)
+still_under : (w : WorldState) (call : ℕ) (u : OpenCall) → open_call w call ≡ Some u → is_joined w call u.command.key ≡ false → (number session : ℕ) (key : Bytes) → is_joined w number key ≡ true
+    → IsSomeAnd (open_call w number) (IsCallOf session key) → IsSomeAnd (find (has_number number) (drop_call call w.calls)) (IsCallOf session key)
 still_under w call u is free number session key joined h =
-    let P : Option Under → Type 0 = λ o. IsSomeAnd o (IsOf session key) in
+    let P : Option OpenCall → Type 0 = λ o. IsSomeAnd o (IsCallOf session key) in
     subst P (sym (find_over call number w.calls (turned_eq call number ∙ other_call w call u is free number session key joined h))) h
 
 -- a call without a join is over
-pub joins_over : (w : WorldState) (call : ℕ) (u : Under) → under w call ≡ Some u → is_joined w call u.command.key ≡ false → IsSoundWorld w → HasJoins (call_over w call)
+pub joins_over : (w : WorldState) (call : ℕ) (u : OpenCall) → open_call w call ≡ Some u → is_joined w call u.command.key ≡ false → IsSoundWorld w → HasJoins (without_call w call)
 joins_over w call u is free old =
-    let new = call_over w call in
+    let new = without_call w call in
     record {
       joins = kept_joins w new (λ j t h. record { out = h.out; call = still_under w call u is free j.caller.call j.caller.session j.key t h.call; no_part = h.no_part }) old;
-      called = λ m s at. called_all w new m s.joiners (λ j h. record { home_is = h.home_is; join = h.join; call = still_under w call u is free j.caller.call j.caller.session j.key h.join h.call }) (old.called m s at);
+      called = λ m s at. each_map (IsCalled w m) (IsCalled new m) s.joiners (λ j h. record { home_is = h.home_is; join = h.join; call = still_under w call u is free j.caller.call j.caller.session j.key h.join h.call }) (old.called m s at);
       once = old.once;
     }
 
 -- 3. A phase that changes no join.
 
 -- the world with a stripe, an order, calls and parts that are others
-abbrev phase_world : WorldState → Bytes → State → List Event → List Under → Parts → WorldState
+abbrev phase_world : WorldState → Bytes → State → List Event → List OpenCall → Parts → WorldState
 phase_world w key to order calls parts = record w { stripes = slice_set w.stripes (home w key) to; order = order; calls = calls; parts = parts }
 
 -- the stripe keeps its joiners, and the calls that have joined go on without a part
-joins_phase : (w : WorldState) (key : Bytes) (from to : State) (order : List Event) (calls : List Under) (parts : Parts) → stripe_for w key ≡ Some from
+joins_phase : (w : WorldState) (key : Bytes) (from to : State) (order : List Event) (calls : List OpenCall) (parts : Parts) → stripe_for w key ≡ Some from
     → ((j : JoinClaim) → IsJoined from j → IsJoined to j)
     → ((n : WorldState) → AllCalled n (home w key) from.joiners → AllCalled n (home w key) to.joiners)
-    → ((number session : ℕ) (q : Bytes) → is_joined w number q ≡ true → IsSomeAnd (under w number) (IsOf session q) → IsSomeAnd (find (has_number number) calls) (IsOf session q))
+    → ((number session : ℕ) (q : Bytes) → is_joined w number q ≡ true → IsSomeAnd (open_call w number) (IsCallOf session q) → IsSomeAnd (find (has_number number) calls) (IsCallOf session q))
     → ((number : ℕ) (q : Bytes) → is_joined w number q ≡ true → part_of w number q ≡ None → of_call number (get parts q) ≡ None)
     → IsSoundWorld w → HasJoins (phase_world w key to order calls parts)
 joins_phase w key from to order calls parts there keeps here still none old =
@@ -155,7 +152,7 @@ joins_phase w key from to order calls parts there keeps here still none old =
             call = still j.caller.call j.caller.session j.key t h.call;
             no_part = none j.caller.call j.key t h.no_part;
           }) old;
-      called = called_set w new key from to there (λ h. here new (called_all w new (home w key) from.joiners (on (home w key)) h)) (λ m js apart h. called_all w new m js (on m) h) old;
+      called = called_set w new key from to there (λ h. here new (each_map (IsCalled w (home w key)) (IsCalled new (home w key)) from.joiners (on (home w key)) h)) (λ m js apart h. each_map (IsCalled w m) (IsCalled new m) js (on m) h) old;
       once = old.once;
     }
 
@@ -168,7 +165,7 @@ same_called : (m : ℕ) (from to : State) → to.joiners ≡ from.joiners → (n
 same_called m from to same n h = subst (AllCalled n m) (sym same) h
 
 -- the part of a call that hasn't joined is another's
-none_reserved : (w : WorldState) (u : Under) (part : Part) → part.reservation.caller.call ≡ u.caller.call → is_joined w u.caller.call u.command.key ≡ false → (number : ℕ) (q : Bytes) → is_joined w number q ≡ true → part_of w number q ≡ None
+none_reserved : (w : WorldState) (u : OpenCall) (part : Part) → part.reservation.caller.call ≡ u.caller.call → is_joined w u.caller.call u.command.key ≡ false → (number : ℕ) (q : Bytes) → is_joined w number q ≡ true → part_of w number q ≡ None
     → of_call number (get (insert w.parts u.command.key part) q) ≡ None
 none_reserved w u part call_is free number q joined none =
     none_inserted w.parts u.command.key q part number none (λ same. ap (λ c. c == number) call_is ∙ refuted (u.caller.call == number) (λ e.
@@ -185,11 +182,11 @@ not_there (Some x) h = absurd (h x refl)
 pub no_joiner : (w : WorldState) (key : Bytes) (from : State) (join : JoinClaim) → stripe_for w key ≡ Some from → is_joined w join.caller.call join.key ≡ false → IsSoundWorld w → joiner_of join.caller join.key from.joiners ≡ None
 no_joiner w key from join there free old = not_there (joiner_of join.caller join.key from.joiners) (λ x e.
     let its = joiner_is join.caller join.key x (found_test (is_joiner_of join.caller join.key) from.joiners x e) in
-    let had = (called_found w (home w key) (is_joiner_of join.caller join.key) from.joiners x e (old.called (home w key) from there)).join in
+    let had = (fact_found (IsCalled w (home w key)) (is_joiner_of join.caller join.key) from.joiners x e (old.called (home w key) from there)).join in
     let t : true ≡ false = sym had ∙ (λ i. is_joined w (its.1 i) (its.2 i)) ∙ free in cc)
 
 -- the call has joined a load
-joins_joined : (w : WorldState) (u : Under) (from to : State) (join : JoinClaim) → stripe_for w u.command.key ≡ Some from → join ≡ record { caller = u.caller; key = u.command.key; load = join.load } → to ≡ with_joiner from join
+joins_joined : (w : WorldState) (u : OpenCall) (from to : State) (join : JoinClaim) → stripe_for w u.command.key ≡ Some from → join ≡ record { caller = u.caller; key = u.command.key; load = join.load } → to ≡ with_joiner from join
     → MayStart w u → IsSoundWorld w → HasJoins (with_join (with_stripe w u.command.key to) join)
 joins_joined w u from to join there join_is to_is may old =
     let key = u.command.key in
@@ -202,7 +199,7 @@ joins_joined w u from to join there join_is to_is may old =
     let call_is : join.caller.call ≡ u.caller.call = ap (λ (j : JoinClaim). j.caller.call) join_is in
     let key_is : join.key ≡ key = ap (λ (j : JoinClaim). j.key) join_is in
     let on : (m : ℕ) (j : Joiner) → IsCalled w m j → IsCalled new m j = λ m j h. record { home_is = h.home_is; join = any_front (is_join j.caller.call j.key) w.joins (join ∷ []) h.join; call = h.call } in
-    let its_call : IsSomeAnd (under w join.caller.call) (IsOf join.caller.session join.key) = is_some_and (under w join.caller.call) (IsOf join.caller.session join.key) u (ap (under w) call_is ∙ may.here) (sym session_is, sym key_is) in
+    let its_call : IsSomeAnd (open_call w join.caller.call) (IsCallOf join.caller.session join.key) = is_some_and (open_call w join.caller.call) (IsCallOf join.caller.session join.key) u (ap (open_call w) call_is ∙ may.here) (sym session_is, sym key_is) in
     let one : IsCalled new (home w key) next = record {
       home_is = ap (home w) key_is;
       join = any_last (is_join join.caller.call join.key) w.joins join (and_from _ _ (nat_eq_equiv.refl join.caller.call) (nat_list_eq_equiv.refl join.key));
@@ -219,29 +216,29 @@ joins_joined w u from to join there join_is to_is may old =
       no_part = (λ i. part_of w (call_is i) (key_is i)) ∙ none_is (part_of w u.caller.call key) may.none;
     } in
     record {
-      joins = waited_pushed new w.joins join (kept_joins w new (λ j t h. record { out = out_on w key from to j there (keeps j) h.out; call = h.call; no_part = h.no_part }) old) waits;
+      joins = each_pushed (IsWaitedFor new) w.joins join (kept_joins w new (λ j t h. record { out = out_on w key from to j there (keeps j) h.out; call = h.call; no_part = h.no_part }) old) waits;
       called = called_set w new key from to there
-          (λ h. subst (AllCalled new (home w key)) (sym joiners) (called_pushed new (home w key) from.joiners next (called_all w new (home w key) from.joiners (on (home w key)) h) one))
-          (λ m js apart h. called_all w new m js (on m) h) old;
+          (λ h. subst (AllCalled new (home w key)) (sym joiners) (each_pushed (IsCalled new (home w key)) from.joiners next (each_map (IsCalled w (home w key)) (IsCalled new (home w key)) from.joiners (on (home w key)) h) one))
+          (λ m js apart h. each_map (IsCalled w m) (IsCalled new m) js (on m) h) old;
       once = once_pushed w.joins join (ap not ((λ i. list_any (is_join (call_is i) (key_is i)) w.joins) ∙ may.alone)) old.once;
     }
 
 -- by what is shown of the first phase
-joins_started : (w new : WorldState) (u : Under) (from to : State) (seen : Shown) → stripe_for w u.command.key ≡ Some from → Starts w u from to seen new → MayStart w u → IsSoundWorld w → HasJoins new
+joins_started : (w new : WorldState) (u : OpenCall) (from to : State) (seen : Shown) → stripe_for w u.command.key ≡ Some from → Starts w u from to seen new → MayStart w u → IsSoundWorld w → HasJoins new
 joins_started w new u from to (shown.Refused refusal) there h may old = subst HasJoins (sym h.1) (joins_over w u.caller.call u may.here may.alone old)
 joins_started w new u from to (shown.Stepped seen) there h may old =
     let same : to.joiners ≡ from.joiners = ap (λ (s : State). s.joiners) h.0.2.after in
     subst HasJoins (sym h.2)
-    (joins_phase w u.command.key from to (goes_on w u.command.key from to).order (over u.caller.call w.calls) w.parts there (same_joiners from to same) (same_called (home w u.command.key) from to same)
+    (joins_phase w u.command.key from to (with_phase w u.command.key from to).order (drop_call u.caller.call w.calls) w.parts there (same_joiners from to same) (same_called (home w u.command.key) from to same)
     (λ number session q t k. still_under w u.caller.call u may.here may.alone number session q t k) (λ number q t k. k) old)
 joins_started w new u from to shown.Loads there h may old =
     let same : to.joiners ≡ from.joiners = ap (λ (s : State). s.joiners) h.1.4 in
-    let part = new_part load_asked h.0.reservation in
+    let part = new_part new_load h.0.reservation in
     subst HasJoins (sym h.2)
     (joins_phase w u.command.key from to w.order w.calls (insert w.parts u.command.key part) there (same_joiners from to same) (same_called (home w u.command.key) from to same) (λ number session q t k. k) (none_reserved w u part (ap (λ (t : Ticket). t.reservation.caller.call) h.1.3) may.alone) old)
 joins_started w new u from to (shown.Asks change) there h may old =
     let same : to.joiners ≡ from.joiners = ap (λ (s : State). s.joiners) h.1.4 in
-    let part = new_part write_asked h.0.reservation in
+    let part = new_part new_write h.0.reservation in
     subst HasJoins (sym h.3)
     (joins_phase w u.command.key from to w.order w.calls (insert w.parts u.command.key part) there (same_joiners from to same) (same_called (home w u.command.key) from to same) (λ number session q t k. k) (none_reserved w u part (ap (λ (t : Ticket). t.reservation.caller.call) h.1.3) may.alone) old)
 joins_started w new u from to shown.Joins there h may old = subst HasJoins (sym h.2) (joins_joined w u from to h.0 there h.1.2 h.1.3 may old)
@@ -254,20 +251,20 @@ unjoined_part : (w : WorldState) (call : ℕ) (key : Bytes) (part : Part) → pa
 unjoined_part w call key part is old = refuted (is_joined w call key) (λ t. let e : Some part ≡ None = sym is ∙ joined_no_part w call key t old.joins in cc)
 
 -- the call of a part is on its key
-part_under : (w : WorldState) (call : ℕ) (key : Bytes) (part : Part) → part_of w call key ≡ Some part → IsSoundWorld w → IsSomeAnd (under w call) (λ u. u.command.key ≡ key)
+part_under : (w : WorldState) (call : ℕ) (key : Bytes) (part : Part) → part_of w call key ≡ Some part → IsSoundWorld w → IsSomeAnd (open_call w call) (λ u. u.command.key ≡ key)
 part_under w call key part is old =
     let at = of_call-at call (get w.parts key) part is in
-    let P : ℕ → Type 0 = λ n. IsSomeAnd (under w n) (λ u. u.command.key ≡ key) in
+    let P : ℕ → Type 0 = λ n. IsSomeAnd (open_call w n) (λ u. u.command.key ≡ key) in
     subst P at.1 (call_on w key part at.0 old)
 
 -- by what is shown of the last phase
 joins_ended : (w new : WorldState) (call : ℕ) (key : Bytes) (part : Part) (from to : State) (seen : Shown) → part_of w call key ≡ Some part → stripe_for w key ≡ Some from → Ends w call key part from to seen new → IsSoundWorld w → HasJoins new
 joins_ended w new call key part from to (shown.Stepped seen) is there h old =
     let joiners : to.joiners ≡ resolved part.reservation.number seen.place from.joiners = ap (λ (s : State). s.joiners) h.0.1.after in
-    let u = some_of (under w call) (λ u. u.command.key ≡ key) (part_under w call key part is old) in
+    let u = some_of (open_call w call) (λ u. u.command.key ≡ key) (part_under w call key part is old) in
     let free : is_joined w call u.0.command.key ≡ false = ap (is_joined w call) u.2 ∙ unjoined_part w call key part is old in
     subst HasJoins (sym h.2)
-    (joins_phase w key from to (goes_on w key from to).order (over call w.calls) (remove w.parts key) there
+    (joins_phase w key from to (with_phase w key from to).order (drop_call call w.calls) (remove w.parts key) there
     (λ j t. let J : List Joiner → Type 0 = λ js. IsSomeAnd (joiner_of j.caller j.key js) (λ x. x.load ≡ j.load) in subst J (sym joiners) (joined_resolved (λ x. x.load ≡ j.load) part.reservation.number seen.place (seen.place + 1) j.caller j.key from.joiners (λ place x k. k) t))
     (λ n t. subst (AllCalled n (home w key)) (sym joiners) (called_resolved n (home w key) part.reservation.number seen.place (seen.place + 1) from.joiners t))
     (λ number session q t k. still_under w call u.0 u.1 free number session q t k) (λ number q t k. none_removed w.parts key q number k) old)
@@ -285,29 +282,29 @@ joins_withdrawn w key claim from to there h old =
 -- 6. An answer is picked up.
 
 -- the calls that go on: all of them, or those of other numbers
-record GoOn (w : WorldState) (call : ℕ) (calls : List Under) : Type 0 where
-  keeps : (number session : ℕ) (key : Bytes) → (number == call) ≡ false → IsSomeAnd (under w number) (IsOf session key) → IsSomeAnd (find (has_number number) calls) (IsOf session key)
+record GoOn (w : WorldState) (call : ℕ) (calls : List OpenCall) : Type 0 where
+  keeps : (number session : ℕ) (key : Bytes) → (number == call) ≡ false → IsSomeAnd (open_call w number) (IsCallOf session key) → IsSomeAnd (find (has_number number) calls) (IsCallOf session key)
 
 -- all do
 all_go_on : (w : WorldState) (call : ℕ) → GoOn w call w.calls
 all_go_on w call = record { keeps = λ number session key apart h. h }
 
 -- the others do, where the call is over
-others_go_on : (w : WorldState) (call : ℕ) → GoOn w call (over call w.calls)
+others_go_on : (w : WorldState) (call : ℕ) → GoOn w call (drop_call call w.calls)
 others_go_on w call = record {
   keeps = λ number session key apart h.
-      let P : Option Under → Type 0 = λ o. IsSomeAnd o (IsOf session key) in
+      let P : Option OpenCall → Type 0 = λ o. IsSomeAnd o (IsCallOf session key) in
       subst P (sym (find_over call number w.calls (turned_eq call number ∙ apart))) h;
 }
 
 -- a call that has joined, and isn't on this key, is another
-apart_from : (w : WorldState) (call : ℕ) (key : Bytes) (join : JoinClaim) → Picking w call key join → (number session : ℕ) (q : Bytes) → (q ≡ key → number ≡ call → session ≡ join.caller.session → ⊥) → IsSomeAnd (under w number) (IsOf session q) → (number == call) ≡ false
+apart_from : (w : WorldState) (call : ℕ) (key : Bytes) (join : JoinClaim) → Picking w call key join → (number session : ℕ) (q : Bytes) → (q ≡ key → number ≡ call → session ≡ join.caller.session → ⊥) → IsSomeAnd (open_call w number) (IsCallOf session q) → (number == call) ≡ false
 apart_from w call key join p number session q other h = refuted (number == call) (λ e.
-    let v = some_of (under w number) (IsOf session q) h in
+    let v = some_of (open_call w number) (IsCallOf session q) h in
     let same : number ≡ call = eqb-true number call e in
-    let t : Some v.0 ≡ Some p.u = sym v.1 ∙ ap (under w) same ∙ p.here in
+    let t : Some v.0 ≡ Some p.u = sym v.1 ∙ ap (open_call w) same ∙ p.here in
     let is : v.0 ≡ p.u = cc in
-    other (sym v.2.1 ∙ ap (λ (x : Under). x.command.key) is ∙ p.key_is) same (sym v.2.0 ∙ ap (λ (x : Under). x.caller.session) is ∙ p.session_is))
+    other (sym v.2.1 ∙ ap (λ (x : OpenCall). x.command.key) is ∙ p.key_is) same (sym v.2.0 ∙ ap (λ (x : OpenCall). x.caller.session) is ∙ p.session_is))
 
 -- a test that is passed by what is so
 join_of_is : (call number : ℕ) (key q : Bytes) → q ≡ key → number ≡ call → ((number == call) && pointwise ◌==◌ key q) ≡ true
@@ -319,10 +316,10 @@ denied true h k = cc
 denied false h k = cc
 
 -- the join is gone, and its joiner
-joins_picked : (w : WorldState) (call : ℕ) (key : Bytes) (join : JoinClaim) (from to : State) (calls : List Under) → join_of w call key ≡ Some join → stripe_for w key ≡ Some from → to ≡ without_joiner from join → GoOn w call calls → IsSoundWorld w
-    → HasJoins (record w { stripes = slice_set w.stripes (home w key) to; joins = unjoined call key w.joins; calls = calls })
+joins_picked : (w : WorldState) (call : ℕ) (key : Bytes) (join : JoinClaim) (from to : State) (calls : List OpenCall) → join_of w call key ≡ Some join → stripe_for w key ≡ Some from → to ≡ without_joiner from join → GoOn w call calls → IsSoundWorld w
+    → HasJoins (record w { stripes = slice_set w.stripes (home w key) to; joins = joins_without call key w.joins; calls = calls })
 joins_picked w call key join from to calls joined there is go old =
-    let new : WorldState = record w { stripes = slice_set w.stripes (home w key) to; joins = unjoined call key w.joins; calls = calls } in
+    let new : WorldState = record w { stripes = slice_set w.stripes (home w key) to; joins = joins_without call key w.joins; calls = calls } in
     let p = picking w call key join joined old in
     let its : Joiner → Bool = is_joiner_of join.caller join.key in
     let joiners : to.joiners ≡ without join.caller join.key from.joiners = ap (λ (s : State). s.joiners) is in
@@ -352,15 +349,15 @@ joins_picked w call key join from to calls joined there is go old =
             no_part = h.no_part;
           }) (each_joined w.joins) old.joins;
       called = called_set w new key from to there
-          (λ h. subst (AllCalled new (home w key)) (sym joiners) (called_on w new (home w key) (λ j. not (its j)) from.joiners
+          (λ h. subst (AllCalled new (home w key)) (sym joiners) (each_kept (IsCalled w (home w key)) (IsCalled new (home w key)) (λ j. not (its j)) from.joiners
           (λ j other k. on (home w key) j (λ e f g. denied (its j) other (and_from _ _ (and_from _ _ (eq-eqb j.caller.session join.caller.session g) (eq-eqb j.caller.call join.caller.call (f ∙ sym p.call_is))) (ap (pointwise ◌==◌ join.key) (e ∙ sym p.join_key) ∙ nat_list_eq_equiv.refl join.key))) k) h))
-          (λ m js apart h. called_all w new m js (λ j k. on m j (λ e f g. apart (ap (home w) (sym e) ∙ k.home_is)) k) h) old;
+          (λ m js apart h. each_map (IsCalled w m) (IsCalled new m) js (λ j k. on m j (λ e f g. apart (ap (home w) (sym e) ∙ k.home_is)) k) h) old;
       once = once_filter (λ j. not (is_join call key j)) w.joins old.once;
     }
 
 -- by what is shown of a pick-up
 joins_picks : (w new : WorldState) (call : ℕ) (key : Bytes) (join : JoinClaim) (from to : State) (seen : Shown) → join_of w call key ≡ Some join → stripe_for w key ≡ Some from → Picks w call key join from to seen new → IsSoundWorld w → HasJoins new
-joins_picks w new call key join from to (shown.PickedUp seen) joined there h old = subst HasJoins (sym h.2) (joins_picked w call key join from to (over call w.calls) joined there h.0.3 (others_go_on w call) old)
+joins_picks w new call key join from to (shown.PickedUp seen) joined there h old = subst HasJoins (sym h.2) (joins_picked w call key join from to (drop_call call w.calls) joined there h.0.3 (others_go_on w call) old)
 joins_picks w new call key join from to shown.Again joined there h old = subst HasJoins (sym h.1) (joins_picked w call key join from to w.calls joined there h.0.2 (all_go_on w call) old)
 joins_picks w new call key join from to shown.Waits joined there h old = subst HasJoins (sym h.1) (record { joins = old.joins; once = old.once; called = old.called })
 joins_picks w new call key join from to seen joined there h old = absurd h
@@ -376,10 +373,10 @@ joins_start config fits = record {
 }
 
 -- a call leaves
-joins_left : (w : WorldState) (call : ℕ) → may_leave w call (under w call) ≡ true → IsSoundWorld w → HasJoins (call_over w call)
-joins_left w call fit old = go (under w call) refl
+joins_left : (w : WorldState) (call : ℕ) → may_leave w call (open_call w call) ≡ true → IsSoundWorld w → HasJoins (without_call w call)
+joins_left w call fit old = go (open_call w call) refl
   where
-    go : (o : Option Under) → under w call ≡ o → HasJoins (call_over w call)
+    go : (o : Option OpenCall) → open_call w call ≡ o → HasJoins (without_call w call)
     go None e = let t : false ≡ true = ap (may_leave w call) (sym e) ∙ fit in cc
     go (Some u) e =
         let may = may_leave_at w call u fit e old in

@@ -34,7 +34,7 @@ use Rattle.jc_stripe.specs.declared.begun.Begun.TheVariants as begun
 use Rattle.jc_stripe.specs.declared.ticket.First.{First}
 use Rattle.jc_stripe.specs.declared.ticket.First.TheVariants.{Nobody, Loader, Writer, Processor}
 use Rattle.jc_world.specs.declared.event.Command.{Command}
-use Rattle.jc_world.specs.declared.event.Under.{Under}
+use Rattle.jc_world.specs.declared.event.OpenCall.{OpenCall}
 use Rattle.jc_world.specs.declared.event.Part.{Part}
 use Rattle.jc_world.specs.declared.event.Progress.{Progress}
 use Rattle.jc_world.specs.declared.event.Progress.TheVariants.{Loading, Writing}
@@ -42,11 +42,11 @@ use Rattle.jc_world.specs.declared.event.Premises.{Premises}
 use Rattle.jc_world.specs.declared.event.Shown.{Shown}
 use Rattle.jc_world.specs.declared.event.Shown.TheVariants as shown
 use Rattle.jc_world.specs.declared.event.WorldEvent.TheVariants as event
-use Rattle.jc_world.specs.World.{WorldState, Parts, home, stripe_for, cached, entry_in, empty_stripes, start, under, over, of_call, part_of, load_due, waits_for_load, report_due, waits_for_report, is_complete, is_answered, nothing_done, is_untouched, has_changed, out_in, join_of, unjoined, out_of, has_number, with_stored}
-use Rattle.jc_world.specs.Premises.{changed_to, is_true_load, is_done, is_true_report, disturbed, premises_hold}
-use Rattle.jc_world.specs.Events.{fits, may_leave, answered, changed, reported, load_asked, write_asked, new_part, with_change, with_report, with_stripe, goes_on, call_over, with_part, without_part, step_of, Starts, Ends, Picks}
-use Rattle.jc_world.specs.Coherent.{Coherent, is_changed, all_hold}
-use Rattle.jc_world.specs.Sound.{is_asked, IsHeld, Agrees, LoadTold, IsTold, KeyTold, WrittenFor, IsSoundWorld}
+use Rattle.jc_world.specs.World.{WorldState, Parts, home, stripe_for, cached_entry, entry_in, empty_stripes, start, open_call, drop_call, of_call, part_of, waits_for_load, waits_for_report, is_answered, is_untouched, has_changed, out_in, join_of, joins_without, out_of, has_number, with_stored, has_progress}
+use Rattle.jc_world.specs.Premises.{changed_to, is_true_load, is_done, is_true_report, with_foreign_write, premises_hold}
+use Rattle.jc_world.specs.Events.{fits, may_leave, after_answer, after_change, after_report, new_load, new_write, new_part, with_change, with_report, with_stripe, with_phase, without_call, with_part, without_part, step_of, Starts, Ends, Picks}
+use Rattle.jc_world.specs.Coherent.{Coherent, all_hold}
+use Rattle.jc_world.specs.Sound.{is_asked, IsHeld, Agrees, LoadAgrees, ProgressAgrees, KeyAgrees, IsWrittenFor, IsSoundWorld}
 use Rattle.jc_world.proofs.Holding.{call_on}
 use Rattle.jc_world.proofs.Halves.{HasParts}
 use Rattle.jc_world.proofs.Places.{at_stripe, stripe_put, home_stripe, found_number}
@@ -57,7 +57,7 @@ use Rattle.jc_world.proofs.Callers.{picking}
 -- 1. Small facts.
 
 -- a call is on this key
-abbrev IsOn : Bytes → Under → Type 0
+abbrev IsOn : Bytes → OpenCall → Type 0
 IsOn key u = u.command.key ≡ key
 
 -- a part is held by a stripe, which is there
@@ -70,7 +70,7 @@ AllHeld w parts = (key : Bytes) (part : Part) → get parts key ≡ Some part �
 
 -- and what is known of them, with this store
 abbrev AllTold : WorldState → Parts → Cache → Type 0
-AllTold w parts store = (key : Bytes) → KeyTold (get parts key) (entry_at store key) (cached w key)
+AllTold w parts store = (key : Bytes) → KeyAgrees (get parts key) (entry_at store key) (cached_entry w key)
 
 -- two tests that both pass
 -- a further premise held, and and_from the former ones
@@ -149,26 +149,26 @@ not_true true h k = cc
 not_true false h k = cc
 
 -- what a key's part, its entry and the store say, where the entry goes
-told_on : (o : Option Part) (stored entry next : Option Bytes) → (Agrees entry stored → Agrees next stored) → KeyTold o stored entry → KeyTold o stored next
+told_on : (o : Option Part) (stored entry next : Option Bytes) → (Agrees entry stored → Agrees next stored) → KeyAgrees o stored entry → KeyAgrees o stored next
 told_on None stored entry next f h = f h
 told_on (Some part) stored entry next f h = go part.progress h
   where
-    go : (p : Progress) → IsTold p part.reservation.first stored entry → IsTold p part.reservation.first stored next
+    go : (p : Progress) → ProgressAgrees p part.reservation.first stored entry → ProgressAgrees p part.reservation.first stored next
     go (Loading answer) h = record { loaded = h.loaded; unwritten = f h.unwritten }
     go (Writing is_changed report) h = record { written = h.written; unwritten = λ e. f (h.unwritten e); honest = h.honest }
 
 -- nothing cached and no part say nothing
-told_none : (o : Option Part) (stored entry : Option Bytes) → o ≡ None → entry ≡ None → KeyTold o stored entry
+told_none : (o : Option Part) (stored entry : Option Bytes) → o ≡ None → entry ≡ None → KeyAgrees o stored entry
 told_none None stored None h k = tt
 told_none None stored (Some x) h k = cc
 told_none (Some part) stored entry h k = cc
 
 -- what is known of a key with this part
-told_at : (o : Option Part) (part : Part) (stored entry : Option Bytes) → o ≡ Some part → KeyTold o stored entry → IsTold part.progress part.reservation.first stored entry
-told_at o part stored entry e h = let P : Option Part → Type 0 = λ o. KeyTold o stored entry in subst P e h
+told_at : (o : Option Part) (part : Part) (stored entry : Option Bytes) → o ≡ Some part → KeyAgrees o stored entry → ProgressAgrees part.progress part.reservation.first stored entry
+told_at o part stored entry e h = let P : Option Part → Type 0 = λ o. KeyAgrees o stored entry in subst P e h
 
 -- as long as the writer hasn't changed the store, the entry agrees with it
-unwritten_in : (p : Progress) (first : First) (stored entry : Option Bytes) → has_changed p ≡ false → IsTold p first stored entry → Agrees entry stored
+unwritten_in : (p : Progress) (first : First) (stored entry : Option Bytes) → has_changed p ≡ false → ProgressAgrees p first stored entry → Agrees entry stored
 unwritten_in (Loading answer) first stored entry e h = h.unwritten
 unwritten_in (Writing is_changed report) first stored entry e h = h.unwritten e
 
@@ -195,17 +195,17 @@ pub out_at : (w : WorldState) (call : ℕ) (key : Bytes) (part : Part) (from : S
 out_at w call key part from is at old = (held_at w key part from (is_there (get w.parts key) call part is) at old).out
 
 -- where no call is under way, none is found
-none_under : (call : ℕ) (calls : List Under) (u : Under) → calls ≡ [] → find (has_number call) calls ≡ Some u → ⊥
+none_under : (call : ℕ) (calls : List OpenCall) (u : OpenCall) → calls ≡ [] → find (has_number call) calls ≡ Some u → ⊥
 none_under call calls u none h = let e : None ≡ Some u = ap (find (has_number call)) (sym none) ∙ h in cc
 
 -- a call is under way, so the world is not fresh
-begun_before : (w : WorldState) (call : ℕ) (u : Under) → under w call ≡ Some u → IsSoundWorld w → w.fresh ≡ true → ⊥
+begun_before : (w : WorldState) (call : ℕ) (u : OpenCall) → open_call w call ≡ Some u → IsSoundWorld w → w.fresh ≡ true → ⊥
 begun_before w call u is old fresh = none_under call w.calls u (old.idle fresh) is
 
 -- nor is it where a key has a part
 worn : (w : WorldState) (key : Bytes) (part : Part) → get w.parts key ≡ Some part → IsSoundWorld w → w.fresh ≡ true → ⊥
 worn w key part there old fresh =
-    let on = some_of (under w part.reservation.caller.call) (IsOn key) (call_on w key part there old) in
+    let on = some_of (open_call w part.reservation.caller.call) (IsOn key) (call_on w key part there old) in
     begun_before w part.reservation.caller.call on.0 on.1 old fresh
 
 -- all stripes have the configuration of the world
@@ -223,18 +223,18 @@ held_insert w parts key new all one q part e =
     (sym (get-insert nat_list_cmp_total parts key new q) ∙ e)
 
 -- what is known of a further part, and of all the others
-told_insert : (w : WorldState) (parts : Parts) (store : Cache) (key : Bytes) (new : Part) → AllTold w parts store → IsTold new.progress new.reservation.first (entry_at store key) (cached w key) → AllTold w (insert parts key new) store
+told_insert : (w : WorldState) (parts : Parts) (store : Cache) (key : Bytes) (new : Part) → AllTold w parts store → ProgressAgrees new.progress new.reservation.first (entry_at store key) (cached_entry w key) → AllTold w (insert parts key new) store
 told_insert w parts store key new all one q =
-    let P : Option Part → Type 0 = λ o. KeyTold o (entry_at store q) (cached w q) in
+    let P : Option Part → Type 0 = λ o. KeyAgrees o (entry_at store q) (cached_entry w q) in
     subst P (sym (get-insert nat_list_cmp_total parts key new q))
-    (split q key (λ b. KeyTold (cond b (Some new) (get parts q)) (entry_at store q) (cached w q))
-    (λ same. let Q : Bytes → Type 0 = λ k. IsTold new.progress new.reservation.first (entry_at store k) (cached w k) in subst Q (sym same) one)
+    (split q key (λ b. KeyAgrees (cond b (Some new) (get parts q)) (entry_at store q) (cached_entry w q))
+    (λ same. let Q : Bytes → Type 0 = λ k. ProgressAgrees new.progress new.reservation.first (entry_at store k) (cached_entry w k) in subst Q (sym same) one)
     (λ apart. all q))
 
 -- 4. Answers, changes and reports.
 
 -- an answer that was due is of whom was asked, and so is a report
-load_asked_of : (p : Progress) (first : First) (answer : LoadAnswer) → load_due p ≡ true → is_asked p first ≡ true → is_asked (Loading answer) first ≡ true
+load_asked_of : (p : Progress) (first : First) (answer : LoadAnswer) → waits_for_load p ≡ true → is_asked p first ≡ true → is_asked (Loading answer) first ≡ true
 load_asked_of (Loading was) first answer due h = h
 load_asked_of (Writing is_changed report) first answer due h = cc
 
@@ -247,21 +247,21 @@ report_asked_of (Loading answer) first report h = h
 report_asked_of (Writing is_changed was) first report h = h
 
 -- what is known once the loader has answered
-told_load : (p : Progress) (first : First) (answer : LoadAnswer) (stored entry : Option Bytes) → load_due p ≡ true → Agrees (found_in answer) stored → IsTold p first stored entry → LoadTold answer stored entry
+told_load : (p : Progress) (first : First) (answer : LoadAnswer) (stored entry : Option Bytes) → waits_for_load p ≡ true → Agrees (found_in answer) stored → ProgressAgrees p first stored entry → LoadAgrees answer stored entry
 told_load (Loading was) first answer stored entry due found h = record { loaded = found; unwritten = h.unwritten }
 told_load (Writing is_changed report) first answer stored entry due found h = cc
 
 -- once the writer has changed the store
-told_change : (p : Progress) (first : First) (change : Change) (entry : Option Bytes) → report_due p ≡ true → first ≡ Writer change → IsTold (with_change p) first (changed_to change) entry
+told_change : (p : Progress) (first : First) (change : Change) (entry : Option Bytes) → waits_for_report p ≡ true → first ≡ Writer change → ProgressAgrees (with_change p) first (changed_to change) entry
 told_change (Loading answer) first change entry due asks = cc
 told_change (Writing is_changed report) first change entry due asks = record {
-  written = λ e. let W : First → Type 0 = λ f. WrittenFor f (changed_to change) in subst W (sym asks) refl;
+  written = λ e. let W : First → Type 0 = λ f. IsWrittenFor f (changed_to change) in subst W (sym asks) refl;
   unwritten = λ e. absurd (let t : true ≡ false = e in cc);
   honest = λ e. absurd (not_true _ due e);
 }
 
 -- and once it has returned
-told_report : (p : Progress) (first : First) (report : WriteAnswer) (stored entry : Option Bytes) → report_due p ≡ true → is_true_report report (has_changed p) ≡ true → IsTold p first stored entry → IsTold (with_report p report) first stored entry
+told_report : (p : Progress) (first : First) (report : WriteAnswer) (stored entry : Option Bytes) → waits_for_report p ≡ true → is_true_report report (has_changed p) ≡ true → ProgressAgrees p first stored entry → ProgressAgrees (with_report p report) first stored entry
 told_report (Loading answer) first report stored entry due honest h = cc
 told_report (Writing is_changed was) first report stored entry due honest h = record { written = h.written; unwritten = h.unwritten; honest = λ e. same_test is_changed (is_done report) honest }
 
@@ -282,47 +282,47 @@ parts_progressed w call key part p store premises is asks told old =
     }
 
 -- the loader has answered
-pub parts_answered : (w : WorldState) (call : ℕ) (key : Bytes) (part : Part) (answer : LoadAnswer) → part_of w call key ≡ Some part → waits_for_load (part_of w call key) ≡ true → IsSoundWorld w → HasParts (answered w key part answer)
+pub parts_answered : (w : WorldState) (call : ℕ) (key : Bytes) (part : Part) (answer : LoadAnswer) → part_of w call key ≡ Some part → has_progress waits_for_load (part_of w call key) ≡ true → IsSoundWorld w → HasParts (after_answer w key part answer)
 parts_answered w call key part answer is waits old =
     let there = is_there (get w.parts key) call part is in
-    let due : load_due part.progress ≡ true = sym (ap waits_for_load is) ∙ waits in
-    parts_progressed w call key part (Loading answer) w.store (answered w key part answer).premises is (load_asked_of part.progress part.reservation.first answer due)
+    let due : waits_for_load part.progress ≡ true = sym (ap (has_progress waits_for_load) is) ∙ waits in
+    parts_progressed w call key part (Loading answer) w.store (after_answer w key part answer).premises is (load_asked_of part.progress part.reservation.first answer due)
     (λ h.
     let hold = hold_loader w.config.write_through w.premises.writers w.premises.loaders (is_true_load answer (entry_at w.store key)) w.premises.quiet h in
-    let one = told_at (get w.parts key) part (entry_at w.store key) (cached w key) there (old.told hold.0 key) in
+    let one = told_at (get w.parts key) part (entry_at w.store key) (cached_entry w key) there (old.told hold.0 key) in
     told_insert w w.parts w.store key (record part { progress = Loading answer }) (old.told hold.0)
-    (told_load part.progress part.reservation.first answer (entry_at w.store key) (cached w key) due (true_found answer _ hold.1) one)) old
+    (told_load part.progress part.reservation.first answer (entry_at w.store key) (cached_entry w key) due (true_found answer _ hold.1) one)) old
 
 -- the writer has changed the store
-pub parts_changed : (w : WorldState) (call : ℕ) (key : Bytes) (part : Part) (change : Change) → part_of w call key ≡ Some part → part.reservation.first ≡ Writer change → waits_for_report (part_of w call key) ≡ true → IsSoundWorld w → HasParts (changed w key part change)
+pub parts_changed : (w : WorldState) (call : ℕ) (key : Bytes) (part : Part) (change : Change) → part_of w call key ≡ Some part → part.reservation.first ≡ Writer change → has_progress waits_for_report (part_of w call key) ≡ true → IsSoundWorld w → HasParts (after_change w key part change)
 parts_changed w call key part change is asks waits old =
     let new : Part = record part { progress = with_change part.progress } in
-    let store = (changed w key part change).store in
-    let due : report_due part.progress ≡ true = sym (ap waits_for_report is) ∙ waits in
+    let store = (after_change w key part change).store in
+    let due : waits_for_report part.progress ≡ true = sym (ap (has_progress waits_for_report) is) ∙ waits in
     parts_progressed w call key part new.progress store w.premises is (change_asked_of part.progress part.reservation.first)
     (λ h q.
-    let P : Option Part → Type 0 = λ o. KeyTold o (entry_at store q) (cached w q) in
-    let Q : Option Bytes → Type 0 = λ s. KeyTold (cond (eq_by_cmp key_cmp q key) (Some new) (get w.parts q)) s (cached w q) in
+    let P : Option Part → Type 0 = λ o. KeyAgrees o (entry_at store q) (cached_entry w q) in
+    let Q : Option Bytes → Type 0 = λ s. KeyAgrees (cond (eq_by_cmp key_cmp q key) (Some new) (get w.parts q)) s (cached_entry w q) in
     subst P (sym (get-insert nat_list_cmp_total w.parts key new q))
     (subst Q (sym (get-with_entry w.store key (changed_to change) q))
-    (split q key (λ b. KeyTold (cond b (Some new) (get w.parts q)) (cond b (changed_to change) (entry_at w.store q)) (cached w q))
-    (λ same. told_change part.progress part.reservation.first change (cached w q) due asks)
+    (split q key (λ b. KeyAgrees (cond b (Some new) (get w.parts q)) (cond b (changed_to change) (entry_at w.store q)) (cached_entry w q))
+    (λ same. told_change part.progress part.reservation.first change (cached_entry w q) due asks)
     (λ apart. old.told h q)))) old
 
 -- the writer has returned
-pub parts_reported : (w : WorldState) (call : ℕ) (key : Bytes) (part : Part) (report : WriteAnswer) → part_of w call key ≡ Some part → waits_for_report (part_of w call key) ≡ true → IsSoundWorld w → HasParts (reported w key part report)
+pub parts_reported : (w : WorldState) (call : ℕ) (key : Bytes) (part : Part) (report : WriteAnswer) → part_of w call key ≡ Some part → has_progress waits_for_report (part_of w call key) ≡ true → IsSoundWorld w → HasParts (after_report w key part report)
 parts_reported w call key part report is waits old =
     let there = is_there (get w.parts key) call part is in
-    let due : report_due part.progress ≡ true = sym (ap waits_for_report is) ∙ waits in
-    parts_progressed w call key part (with_report part.progress report) w.store (reported w key part report).premises is (report_asked_of part.progress part.reservation.first report)
+    let due : waits_for_report part.progress ≡ true = sym (ap (has_progress waits_for_report) is) ∙ waits in
+    parts_progressed w call key part (with_report part.progress report) w.store (after_report w key part report).premises is (report_asked_of part.progress part.reservation.first report)
     (λ h.
     let hold = hold_writer w.config.write_through w.premises.writers (is_true_report report (has_changed part.progress)) w.premises.loaders w.premises.quiet h in
-    let one = told_at (get w.parts key) part (entry_at w.store key) (cached w key) there (old.told hold.0 key) in
+    let one = told_at (get w.parts key) part (entry_at w.store key) (cached_entry w key) there (old.told hold.0 key) in
     told_insert w w.parts w.store key (record part { progress = with_report part.progress report }) (old.told hold.0)
-    (told_report part.progress part.reservation.first report (entry_at w.store key) (cached w key) due hold.1 one)) old
+    (told_report part.progress part.reservation.first report (entry_at w.store key) (cached_entry w key) due hold.1 one)) old
 
 -- somebody else has written the store
-pub parts_disturbed : (w : WorldState) (store : Cache) → IsSoundWorld w → HasParts (record w { store = store; fresh = false; premises = disturbed w.premises })
+pub parts_disturbed : (w : WorldState) (store : Cache) → IsSoundWorld w → HasParts (record w { store = store; fresh = false; premises = with_foreign_write w.premises })
 parts_disturbed w store old = record {
   held = old.held;
   told = λ h. absurd (undisturbed w.config.write_through w.premises.writers w.premises.loaders h);
@@ -334,7 +334,7 @@ parts_disturbed w store old = record {
 pub parts_stored : (w : WorldState) (key value : Bytes) → w.fresh ≡ true → IsSoundWorld w → HasParts (with_stored w key value)
 parts_stored w key value new old = record {
   held = old.held;
-  told = λ h q. told_none (get w.parts q) (entry_at (with_entry w.store key (Some value)) q) (cached w q) (missing (get w.parts q) (λ p there. worn w q p there old new)) (old.fresh new q);
+  told = λ h q. told_none (get w.parts q) (entry_at (with_entry w.store key (Some value)) q) (cached_entry w q) (missing (get w.parts q) (λ p there. worn w q p there old new)) (old.fresh new q);
   fresh = old.fresh;
   idle = old.idle;
 }
@@ -351,11 +351,11 @@ cached_none config first (suc count) (suc number) key = cached_none config (firs
 pub parts_start : (config : Config) → check config ≡ Ok tt → HasParts (start config)
 parts_start config fits =
     let w = start config in
-    let none : (key : Bytes) → cached w key ≡ None = λ key. cached_none config 0 config.stripes (home w key) key in
+    let none : (key : Bytes) → cached_entry w key ≡ None = λ key. cached_none config 0 config.stripes (home w key) key in
     let free : (key : Bytes) → get w.parts key ≡ None = λ key. get-empty key_cmp key in
     record {
       held = λ key part there. absurd (let e : Some part ≡ None = sym there ∙ free key in cc);
-      told = λ hold key. told_none (get w.parts key) (entry_at w.store key) (cached w key) (free key) (none key);
+      told = λ hold key. told_none (get w.parts key) (entry_at w.store key) (cached_entry w key) (free key) (none key);
       fresh = λ f key. none key;
       idle = λ f. refl;
     }
@@ -364,7 +364,7 @@ parts_start config fits =
 pub parts_called : (w : WorldState) (call session : ℕ) (command : Command) → fits w (event.Call call session command) ≡ true → IsSoundWorld w
     → HasParts (record w { last = Some call; fresh = false; calls = w.calls ++ record { caller = record { session = session; call = call }; command = command } ∷ [] })
 parts_called w call session command fit old =
-    let more : List Under = record { caller = record { session = session; call = call }; command = command } ∷ [] in
+    let more : List OpenCall = record { caller = record { session = session; call = call }; command = command } ∷ [] in
     let n : WorldState = record w { last = Some call; fresh = false; calls = w.calls ++ more } in
     record {
       held = old.held;
@@ -380,7 +380,7 @@ held_on : (from next : State) (key : Bytes) (part : Part) → IsOut next part.re
 held_on from next key part out h = record { key_is = h.key_is; out = out; asked = h.asked }
 
 -- a call is over
-parts_over : (w : WorldState) (call : ℕ) (u : Under) → under w call ≡ Some u → IsSoundWorld w → HasParts (call_over w u.caller.call)
+parts_over : (w : WorldState) (call : ℕ) (u : OpenCall) → open_call w call ≡ Some u → IsSoundWorld w → HasParts (without_call w u.caller.call)
 parts_over w call u is old = record {
   held = old.held;
   told = old.told;
@@ -389,13 +389,13 @@ parts_over w call u is old = record {
 }
 
 -- a step was put down
-held_stepped : (u : Under) (from next : State) (done : StepDone) (q : Bytes) (p : Part) → Begins from u.caller u.command.key u.command.op (begun.Done done) next → IsHeld from q p → IsHeld next q p
+held_stepped : (u : OpenCall) (from next : State) (done : StepDone) (q : Bytes) (p : Part) → Begins from u.caller u.command.key u.command.op (begun.Done done) next → IsHeld from q p → IsHeld next q p
 held_stepped u from next done q p begins h =
     let R : List Reservation → Type 0 = λ rs. find (is_key p.reservation.key) rs ≡ Some p.reservation in
     held_on from next q p (subst R (sym (ap (λ (s : State). s.reservations) begins.2.after)) h.out) h
 
 -- and the entries that agreed with the store do so still
-agrees_begun : (u : Under) (from next : State) (done : StepDone) (q : Bytes) (stored : Option Bytes) → Begins from u.caller u.command.key u.command.op (begun.Done done) next
+agrees_begun : (u : OpenCall) (from next : State) (done : StepDone) (q : Bytes) (stored : Option Bytes) → Begins from u.caller u.command.key u.command.op (begun.Done done) next
     → from.config.write_through ≡ true → Agrees (entry_at from.cache q) stored → Agrees (entry_at next.cache q) stored
 agrees_begun u from next done q stored begins on agrees =
     let key = u.command.key in
@@ -406,12 +406,12 @@ agrees_begun u from next done q stored begins on agrees =
     (λ apart. agrees))
 
 -- so the parts and the store say what they said
-parts_stepped : (w : WorldState) (call : ℕ) (u : Under) (from next : State) (order : List Event) (done : StepDone) → under w call ≡ Some u → stripe_for w u.command.key ≡ Some from
+parts_stepped : (w : WorldState) (call : ℕ) (u : OpenCall) (from next : State) (order : List Event) (done : StepDone) → open_call w call ≡ Some u → stripe_for w u.command.key ≡ Some from
     → Begins from u.caller u.command.key u.command.op (begun.Done done) next → IsSoundWorld w
-    → HasParts (record w { stripes = slice_set w.stripes (home w u.command.key) next; order = order; calls = over u.caller.call w.calls })
+    → HasParts (record w { stripes = slice_set w.stripes (home w u.command.key) next; order = order; calls = drop_call u.caller.call w.calls })
 parts_stepped w call u from next order done is at begins old =
     let key = u.command.key in
-    let n : WorldState = record w { stripes = slice_set w.stripes (home w key) next; order = order; calls = over u.caller.call w.calls } in
+    let n : WorldState = record w { stripes = slice_set w.stripes (home w key) next; order = order; calls = drop_call u.caller.call w.calls } in
     record {
       held = λ q p e.
           at_stripe w.stripes (home w key) (home w q) from next (λ o x. HeldIn o q p → HeldIn x q p) at
@@ -420,7 +420,7 @@ parts_stepped w call u from next order done is at begins old =
           (old.held q p e);
       told = λ hold q.
           let on : from.config.write_through ≡ true = ap (λ (c : Config). c.write_through) (config_at w (home w key) from at old) ∙ (and_parts w.config.write_through (premises_hold w.premises) hold).0 in
-          at_stripe w.stripes (home w key) (home w q) from next (λ o x. KeyTold (get w.parts q) (entry_at w.store q) (entry_in o q) → KeyTold (get w.parts q) (entry_at w.store q) (entry_in x q)) at
+          at_stripe w.stripes (home w key) (home w q) from next (λ o x. KeyAgrees (get w.parts q) (entry_at w.store q) (entry_in o q) → KeyAgrees (get w.parts q) (entry_at w.store q) (entry_in x q)) at
           (told_on (get w.parts q) (entry_at w.store q) (entry_at from.cache q) (entry_at next.cache q) (agrees_begun u from next done q (entry_at w.store q) begins on))
           (λ h. h)
           (old.told hold q);
@@ -437,7 +437,7 @@ held_reserving from next r q p reservations h =
 -- so there is one part more
 parts_reserving : (w : WorldState) (key : Bytes) (from next : State) (r : Reservation) (part : Part) → stripe_for w key ≡ Some from → is_reserved from key ≡ false
     → next.reservations ≡ from.reservations ++ r ∷ [] → next.cache ≡ from.cache → IsHeld next key part
-    → ((stored entry : Option Bytes) → Agrees entry stored → IsTold part.progress part.reservation.first stored entry) → (w.fresh ≡ true → ⊥) → IsSoundWorld w
+    → ((stored entry : Option Bytes) → Agrees entry stored → ProgressAgrees part.progress part.reservation.first stored entry) → (w.fresh ≡ true → ⊥) → IsSoundWorld w
     → HasParts (with_part (with_stripe w key next) key part)
 parts_reserving w key from next r part at free reservations cache one new used old =
     let n = with_part (with_stripe w key next) key part in
@@ -451,13 +451,13 @@ parts_reserving w key from next r part at free reservations cache one new used o
       held = held_insert n w.parts key part on (some_at (stripe_for n key) (λ s. IsHeld s key part) next (stripe_put w.stripes (home w key) from next at) one);
       told = λ hold.
           let all : AllTold n w.parts w.store = λ q.
-          at_stripe w.stripes (home w key) (home w q) from next (λ o x. KeyTold (get w.parts q) (entry_at w.store q) (entry_in o q) → KeyTold (get w.parts q) (entry_at w.store q) (entry_in x q)) at
-          (let C : Cache → Type 0 = λ c. KeyTold (get w.parts q) (entry_at w.store q) (entry_at c q) in λ h. subst C (sym cache) h)
+          at_stripe w.stripes (home w key) (home w q) from next (λ o x. KeyAgrees (get w.parts q) (entry_at w.store q) (entry_in o q) → KeyAgrees (get w.parts q) (entry_at w.store q) (entry_in x q)) at
+          (let C : Cache → Type 0 = λ c. KeyAgrees (get w.parts q) (entry_at w.store q) (entry_at c q) in λ h. subst C (sym cache) h)
           (λ h. h)
           (old.told hold q)
           in
-          let N : Option Part → Type 0 = λ o. KeyTold o (entry_at w.store key) (cached n key) in
-          told_insert n w.parts w.store key part all (new (entry_at w.store key) (cached n key) (subst N (unheld w key from at free old) (all key)));
+          let N : Option Part → Type 0 = λ o. KeyAgrees o (entry_at w.store key) (cached_entry n key) in
+          told_insert n w.parts w.store key part all (new (entry_at w.store key) (cached_entry n key) (subst N (unheld w key from at free old) (all key)));
       fresh = λ f. absurd (used f);
       idle = λ f. absurd (used f);
     }
@@ -470,39 +470,39 @@ held_new key from next p r free key_is reservations asked =
     record { key_is = key_is; out = subst P (sym reservations) (new_out from r (ap (is_reserved from) key_is ∙ free)); asked = asked }
 
 -- the key is reserved, and the loader is asked
-parts_loads : (w : WorldState) (call : ℕ) (u : Under) (from next : State) (ticket : Ticket) → under w call ≡ Some u → stripe_for w u.command.key ≡ Some from
-    → Begins from u.caller u.command.key u.command.op (begun.Load ticket) next → IsSoundWorld w → HasParts (with_part (with_stripe w u.command.key next) u.command.key (new_part load_asked ticket.reservation))
+parts_loads : (w : WorldState) (call : ℕ) (u : OpenCall) (from next : State) (ticket : Ticket) → open_call w call ≡ Some u → stripe_for w u.command.key ≡ Some from
+    → Begins from u.caller u.command.key u.command.op (begun.Load ticket) next → IsSoundWorld w → HasParts (with_part (with_stripe w u.command.key next) u.command.key (new_part new_load ticket.reservation))
 parts_loads w call u from next ticket is at begins old =
     let key = u.command.key in
     let op = u.command.op in
     let r = ticket.reservation in
-    let part = new_part load_asked r in
+    let part = new_part new_load r in
     let n = with_part (with_stripe w key next) key part in
     let r_is : r ≡ new_reservation from u.caller key op Loader = ap (λ (t : Ticket). t.reservation) begins.3 in
     let free = was_free from u.caller key op Loader begins.0 begins.1 begins.2 refl in
     let reservations = ap (λ (s : State). s.reservations) begins.4 in
     parts_reserving w key from next r part at free reservations (ap (λ (s : State). s.cache) begins.4)
-    (held_new key from next load_asked r free (ap (λ (x : Reservation). x.key) r_is) reservations (ap (λ (x : Reservation). asks_loader x.first) r_is))
+    (held_new key from next new_load r free (ap (λ (x : Reservation). x.key) r_is) reservations (ap (λ (x : Reservation). asks_loader x.first) r_is))
     (λ stored entry agrees. record { loaded = tt; unwritten = agrees }) (begun_before w call u is old) old
 
 -- the key is reserved, and the writer is asked
-parts_asks : (w : WorldState) (call : ℕ) (u : Under) (from next : State) (ticket : Ticket) (change : Change) → under w call ≡ Some u → stripe_for w u.command.key ≡ Some from
-    → Begins from u.caller u.command.key u.command.op (begun.Write ticket) next → ticket.reservation.first ≡ Writer change → IsSoundWorld w → HasParts (with_part (with_stripe w u.command.key next) u.command.key (new_part write_asked ticket.reservation))
+parts_asks : (w : WorldState) (call : ℕ) (u : OpenCall) (from next : State) (ticket : Ticket) (change : Change) → open_call w call ≡ Some u → stripe_for w u.command.key ≡ Some from
+    → Begins from u.caller u.command.key u.command.op (begun.Write ticket) next → ticket.reservation.first ≡ Writer change → IsSoundWorld w → HasParts (with_part (with_stripe w u.command.key next) u.command.key (new_part new_write ticket.reservation))
 parts_asks w call u from next ticket change is at begins first old =
     let key = u.command.key in
     let op = u.command.op in
     let r = ticket.reservation in
-    let part = new_part write_asked r in
+    let part = new_part new_write r in
     let n = with_part (with_stripe w key next) key part in
     let r_is : r ≡ new_reservation from u.caller key op r.first = ap (λ (t : Ticket). t.reservation) begins.3 in
     let free = was_free from u.caller key op r.first begins.0 (writer_alone from key op r.first begins.1 begins.2) begins.1 (ap reserves first) in
     let reservations = ap (λ (s : State). s.reservations) begins.4 in
     parts_reserving w key from next r part at free reservations (ap (λ (s : State). s.cache) begins.4)
-    (held_new key from next write_asked r free (ap (λ (x : Reservation). x.key) r_is) reservations (ap asks_writer first))
+    (held_new key from next new_write r free (ap (λ (x : Reservation). x.key) r_is) reservations (ap asks_writer first))
     (λ stored entry agrees. record { written = λ e. absurd (let t : false ≡ true = e in cc); unwritten = λ e. agrees; honest = λ e. absurd (let t : false ≡ true = e in cc) }) (begun_before w call u is old) old
 
 -- a stripe is another, whose entries and reservations are the same
-parts_aside : (w : WorldState) (key : Bytes) (from next : State) (calls : List Under) (joins : List JoinClaim) → stripe_for w key ≡ Some from → next.cache ≡ from.cache → next.reservations ≡ from.reservations → (w.fresh ≡ true → ⊥) → IsSoundWorld w
+parts_aside : (w : WorldState) (key : Bytes) (from next : State) (calls : List OpenCall) (joins : List JoinClaim) → stripe_for w key ≡ Some from → next.cache ≡ from.cache → next.reservations ≡ from.reservations → (w.fresh ≡ true → ⊥) → IsSoundWorld w
     → HasParts (record w { stripes = slice_set w.stripes (home w key) next; calls = calls; joins = joins })
 parts_aside w key from next calls joins at cache reservations used old =
     let n : WorldState = record w { stripes = slice_set w.stripes (home w key) next; calls = calls; joins = joins } in
@@ -513,8 +513,8 @@ parts_aside w key from next calls joins at cache reservations used old =
           (λ h. h)
           (old.held q p e);
       told = λ hold q.
-          at_stripe w.stripes (home w key) (home w q) from next (λ o x. KeyTold (get w.parts q) (entry_at w.store q) (entry_in o q) → KeyTold (get w.parts q) (entry_at w.store q) (entry_in x q)) at
-          (let C : Cache → Type 0 = λ c. KeyTold (get w.parts q) (entry_at w.store q) (entry_at c q) in λ h. subst C (sym cache) h)
+          at_stripe w.stripes (home w key) (home w q) from next (λ o x. KeyAgrees (get w.parts q) (entry_at w.store q) (entry_in o q) → KeyAgrees (get w.parts q) (entry_at w.store q) (entry_in x q)) at
+          (let C : Cache → Type 0 = λ c. KeyAgrees (get w.parts q) (entry_at w.store q) (entry_at c q) in λ h. subst C (sym cache) h)
           (λ h. h)
           (old.told hold q);
       fresh = λ f. absurd (used f);
@@ -522,11 +522,11 @@ parts_aside w key from next calls joins at cache reservations used old =
     }
 
 -- the first phase of a call
-pub parts_started : (w new : WorldState) (call : ℕ) (key : Bytes) (u : Under) (from to : State) (seen : Shown) → fits w (event.Start call key) ≡ true → under w call ≡ Some u → stripe_for w u.command.key ≡ Some from
+pub parts_started : (w new : WorldState) (call : ℕ) (key : Bytes) (u : OpenCall) (from to : State) (seen : Shown) → fits w (event.Start call key) ≡ true → open_call w call ≡ Some u → stripe_for w u.command.key ≡ Some from
     → Starts w u from to seen new → IsSoundWorld w → HasParts new
 parts_started w new call key u from to (shown.Refused refusal) fit is at (begins, leaves) old = subst HasParts (sym leaves) (parts_over w call u is old)
 parts_started w new call key u from to (shown.Stepped seen) fit is at (begins, shows, leaves) old =
-    subst HasParts (sym leaves) (parts_stepped w call u from to (goes_on w u.command.key from to).order (step_of seen) is at begins old)
+    subst HasParts (sym leaves) (parts_stepped w call u from to (with_phase w u.command.key from to).order (step_of seen) is at begins old)
 parts_started w new call key u from to shown.Loads fit is at (ticket, begins, leaves) old = subst HasParts (sym leaves) (parts_loads w call u from to ticket is at begins old)
 parts_started w new call key u from to (shown.Asks change) fit is at (ticket, begins, first, leaves) old = subst HasParts (sym leaves) (parts_asks w call u from to ticket change is at begins first old)
 parts_started w new call key u from to shown.Joins fit is at (join, begins, leaves) old =
@@ -546,7 +546,7 @@ agrees_written op entry stored change write.Done was asked given written unwritt
     subst P (written (sym honest) ∙ sym (writes op entry change asked)) (agrees_same stored)
 
 -- what a commit leaves agrees with the store: a reservation still asks what it asked
-agrees_ended : (config : Config) (p : Progress) (op : Op) (first : First) (entry stored : Option Bytes) → first_asked config op entry ≡ first → is_asked p first ≡ true → is_complete p ≡ true → IsTold p first stored entry
+agrees_ended : (config : Config) (p : Progress) (op : Op) (first : First) (entry stored : Option Bytes) → first_asked config op entry ≡ first → is_asked p first ≡ true → is_answered p ≡ true → ProgressAgrees p first stored entry
     → Agrees (entry_after op entry (out_in p)) stored
 agrees_ended config (Loading answer) op Loader entry stored asks asked over h = loads op entry answer stored (loads_asked config op entry asks) h.unwritten h.loaded
 agrees_ended config (Writing is_changed report) op (Writer change) entry stored asks asked over h =
@@ -596,11 +596,11 @@ agrees_other key part from next done q stored steps apart h =
     (let P : Bool → Type 0 = λ b. Agrees (cond b (entry_after part.reservation.op (entry_at from.cache key) (out_of part)) (entry_at from.cache q)) stored in subst P (sym apart) h)
 
 -- so there is one part less
-parts_committed : (w : WorldState) (call : ℕ) (key : Bytes) (part : Part) (from next : State) (order : List Event) (done : StepDone) → part_of w call key ≡ Some part → is_answered (part_of w call key) ≡ true → stripe_for w key ≡ Some from
+parts_committed : (w : WorldState) (call : ℕ) (key : Bytes) (part : Part) (from next : State) (order : List Event) (done : StepDone) → part_of w call key ≡ Some part → has_progress is_answered (part_of w call key) ≡ true → stripe_for w key ≡ Some from
     → Commits from part.reservation (out_of part) done next → IsSoundWorld w
-    → HasParts (record w { stripes = slice_set w.stripes (home w key) next; order = order; calls = over call w.calls; parts = remove w.parts key })
+    → HasParts (record w { stripes = slice_set w.stripes (home w key) next; order = order; calls = drop_call call w.calls; parts = remove w.parts key })
 parts_committed w call key part from next order done is answered at commits old =
-    let n : WorldState = record w { stripes = slice_set w.stripes (home w key) next; order = order; calls = over call w.calls; parts = remove w.parts key } in
+    let n : WorldState = record w { stripes = slice_set w.stripes (home w key) next; order = order; calls = drop_call call w.calls; parts = remove w.parts key } in
     let there = is_there (get w.parts key) call part is in
     let one = held_at w key part from there at old in
     let r = part.reservation in
@@ -620,19 +620,19 @@ parts_committed w call key part from next order done is answered at commits old 
           (sym (get-remove nat_list_cmp_total w.parts key q) ∙ e);
       told = λ hold q.
           let all = old.told hold in
-          let P : Option Part → Type 0 = λ o. KeyTold o (entry_at w.store q) (cached n q) in
+          let P : Option Part → Type 0 = λ o. KeyAgrees o (entry_at w.store q) (cached_entry n q) in
           subst P (sym (get-remove nat_list_cmp_total w.parts key q))
-          (split q key (λ b. KeyTold (cond b None (get w.parts q)) (entry_at w.store q) (cached n q))
+          (split q key (λ b. KeyAgrees (cond b None (get w.parts q)) (entry_at w.store q) (cached_entry n q))
           (λ same.
-          let B : Bytes → Type 0 = λ k. Agrees (cached n k) (entry_at w.store k) in
+          let B : Bytes → Type 0 = λ k. Agrees (cached_entry n k) (entry_at w.store k) in
           let S : Option State → Type 0 = λ o. Agrees (entry_in o key) (entry_at w.store key) in
-          let T : Option State → Type 0 = λ o. IsTold part.progress part.reservation.first (entry_at w.store key) (entry_in o key) in
-          let told = subst T at (told_at (get w.parts key) part (entry_at w.store key) (cached w key) there (all key)) in
+          let T : Option State → Type 0 = λ o. ProgressAgrees part.progress part.reservation.first (entry_at w.store key) (entry_in o key) in
+          let told = subst T at (told_at (get w.parts key) part (entry_at w.store key) (cached_entry w key) there (all key)) in
           let asks = ap (λ k. first_asked from.config r.op (entry_at from.cache k)) (sym one.key_is) ∙ asks_found from.config from.cache r.key from.reservations r one.out reached.asks in
-          let leaves = agrees_ended from.config part.progress r.op r.first (entry_at from.cache key) (entry_at w.store key) asks one.asked (sym (ap is_answered is) ∙ answered) told in
+          let leaves = agrees_ended from.config part.progress r.op r.first (entry_at from.cache key) (entry_at w.store key) asks one.asked (sym (ap (has_progress is_answered) is) ∙ answered) told in
           subst B (sym same) (subst S (sym (stripe_put w.stripes (home w key) from next at)) (agrees_own key part from next done (entry_at w.store key) steps leaves)))
           (λ apart.
-          at_stripe w.stripes (home w key) (home w q) from next (λ o x. KeyTold (get w.parts q) (entry_at w.store q) (entry_in o q) → KeyTold (get w.parts q) (entry_at w.store q) (entry_in x q)) at
+          at_stripe w.stripes (home w key) (home w q) from next (λ o x. KeyAgrees (get w.parts q) (entry_at w.store q) (entry_in o q) → KeyAgrees (get w.parts q) (entry_at w.store q) (entry_in x q)) at
           (told_on (get w.parts q) (entry_at w.store q) (entry_at from.cache q) (entry_at next.cache q) (agrees_other key part from next done q (entry_at w.store q) steps apart))
           (λ h. h)
           (all q)));
@@ -644,19 +644,19 @@ parts_committed w call key part from next order done is answered at commits old 
 pub parts_ended : (w new : WorldState) (call : ℕ) (key : Bytes) (part : Part) (from to : State) (seen : Shown) → fits w (event.Commit call key) ≡ true → part_of w call key ≡ Some part → stripe_for w key ≡ Some from
     → Ends w call key part from to seen new → IsSoundWorld w → HasParts new
 parts_ended w new call key part from to (shown.Stepped seen) fit is at (commits, shows, leaves) old =
-    subst HasParts (sym leaves) (parts_committed w call key part from to (goes_on w key from to).order (step_of seen) is fit at commits old)
+    subst HasParts (sym leaves) (parts_committed w call key part from to (with_phase w key from to).order (step_of seen) is fit at commits old)
 parts_ended w new call key part from to seen fit is at h old = absurd h
 
 -- 8. A reservation is given back, a call leaves, and an answer is picked up.
 
 -- of what is untouched the store is as it was
-unchanged : (p : Progress) → nothing_done p ≡ true → has_changed p ≡ false
+unchanged : (p : Progress) → is_untouched p ≡ true → has_changed p ≡ false
 unchanged (Loading answer) h = refl
 unchanged (Writing true report) h = cc
 unchanged (Writing false report) h = refl
 
 -- a reservation is given back, and with it its part
-pub parts_withdrawn : (w : WorldState) (call : ℕ) (key : Bytes) (part : Part) (from next : State) → is_untouched (part_of w call key) ≡ true → part_of w call key ≡ Some part → stripe_for w key ≡ Some from
+pub parts_withdrawn : (w : WorldState) (call : ℕ) (key : Bytes) (part : Part) (from next : State) → has_progress is_untouched (part_of w call key) ≡ true → part_of w call key ≡ Some part → stripe_for w key ≡ Some from
     → Withdraws from part.reservation next → IsSoundWorld w → HasParts (without_part (with_stripe w key next) key)
 parts_withdrawn w call key part from next fit is at withdraws old =
     let n : WorldState = without_part (with_stripe w key next) key in
@@ -664,7 +664,7 @@ parts_withdrawn w call key part from next fit is at withdraws old =
     let one = held_at w key part from there at old in
     let left : next.reservations ≡ without_key key from.reservations = ap (λ (s : State). s.reservations) withdraws.1 ∙ ap (λ k. without_key k from.reservations) one.key_is in
     let cache : next.cache ≡ from.cache = ap (λ (s : State). s.cache) withdraws.1 in
-    let same : (q : Bytes) → cached n q ≡ cached w q = λ q.
+    let same : (q : Bytes) → cached_entry n q ≡ cached_entry w q = λ q.
     at_stripe w.stripes (home w key) (home w q) from next (λ o x. entry_in x q ≡ entry_in o q) at (ap (λ c. entry_at c q) cache) refl
     in
     record {
@@ -678,26 +678,26 @@ parts_withdrawn w call key part from next fit is at withdraws old =
           (old.held q p e))
           (sym (get-remove nat_list_cmp_total w.parts key q) ∙ e);
       told = λ hold q.
-          let P : Option Part → Type 0 = λ o. KeyTold o (entry_at w.store q) (cached n q) in
-          let C : Option Bytes → Type 0 = λ c. KeyTold (cond (eq_by_cmp key_cmp q key) None (get w.parts q)) (entry_at w.store q) c in
+          let P : Option Part → Type 0 = λ o. KeyAgrees o (entry_at w.store q) (cached_entry n q) in
+          let C : Option Bytes → Type 0 = λ c. KeyAgrees (cond (eq_by_cmp key_cmp q key) None (get w.parts q)) (entry_at w.store q) c in
           subst P (sym (get-remove nat_list_cmp_total w.parts key q))
           (subst C (sym (same q))
-          (split q key (λ b. KeyTold (cond b None (get w.parts q)) (entry_at w.store q) (cached w q))
+          (split q key (λ b. KeyAgrees (cond b None (get w.parts q)) (entry_at w.store q) (cached_entry w q))
           (λ e.
-          let T : Option Part → Type 0 = λ o. KeyTold o (entry_at w.store q) (cached w q) in
-          unwritten_in part.progress part.reservation.first (entry_at w.store q) (cached w q) (unchanged part.progress (sym (ap is_untouched is) ∙ fit)) (subst T (ap (get w.parts) e ∙ there) (old.told hold q)))
+          let T : Option Part → Type 0 = λ o. KeyAgrees o (entry_at w.store q) (cached_entry w q) in
+          unwritten_in part.progress part.reservation.first (entry_at w.store q) (cached_entry w q) (unchanged part.progress (sym (ap (has_progress is_untouched) is) ∙ fit)) (subst T (ap (get w.parts) e ∙ there) (old.told hold q)))
           (λ apart. old.told hold q)));
       fresh = λ f. absurd (worn w key part there old f);
       idle = λ f. absurd (worn w key part there old f);
     }
 
 -- a call leaves
-pub parts_left : (w : WorldState) (call : ℕ) → may_leave w call (under w call) ≡ true → IsSoundWorld w → HasParts (call_over w call)
-parts_left w call fit old = go (under w call) refl
+pub parts_left : (w : WorldState) (call : ℕ) → may_leave w call (open_call w call) ≡ true → IsSoundWorld w → HasParts (without_call w call)
+parts_left w call fit old = go (open_call w call) refl
   where
-    go : (o : Option Under) → under w call ≡ o → HasParts (call_over w call)
+    go : (o : Option OpenCall) → open_call w call ≡ o → HasParts (without_call w call)
     go None e = let t : false ≡ true = ap (may_leave w call) (sym e) ∙ fit in cc
-    go (Some u) e = let P : ℕ → Type 0 = λ n. HasParts (call_over w n) in subst P (found_number call w.calls u e) (parts_over w call u e old)
+    go (Some u) e = let P : ℕ → Type 0 = λ n. HasParts (without_call w n) in subst P (found_number call w.calls u e) (parts_over w call u e old)
 
 -- the half of a sound world
 parts_of_sound : (w : WorldState) → IsSoundWorld w → HasParts w
@@ -709,22 +709,22 @@ parts_picks w new call key join from to (shown.PickedUp seen) joined at h old =
     let p = picking w call key join joined old in
     let is = h.0.3 in
     subst HasParts (sym h.2)
-    (parts_aside w key from to (over call w.calls) (unjoined call key w.joins) at (ap (λ (s : State). s.cache) is) (ap (λ (s : State). s.reservations) is) (begun_before w call p.u p.here old) old)
+    (parts_aside w key from to (drop_call call w.calls) (joins_without call key w.joins) at (ap (λ (s : State). s.cache) is) (ap (λ (s : State). s.reservations) is) (begun_before w call p.u p.here old) old)
 parts_picks w new call key join from to shown.Again joined at h old =
     let p = picking w call key join joined old in
     let is = h.0.2 in
     subst HasParts (sym h.1)
-    (parts_aside w key from to w.calls (unjoined call key w.joins) at (ap (λ (s : State). s.cache) is) (ap (λ (s : State). s.reservations) is) (begun_before w call p.u p.here old) old)
+    (parts_aside w key from to w.calls (joins_without call key w.joins) at (ap (λ (s : State). s.cache) is) (ap (λ (s : State). s.reservations) is) (begun_before w call p.u p.here old) old)
 parts_picks w new call key join from to shown.Waits joined at h old = subst HasParts (sym h.1) (parts_of_sound w old)
 parts_picks w new call key join from to seen joined at h old = absurd h
 
 -- 9. A sound world is coherent, as long as the premises held.
 
 -- a key that no writer has changed agrees with the store
-key_coherent : (o : Option Part) (stored entry : Option Bytes) → KeyTold o stored entry → is_changed o ≡ false → Agrees entry stored
+key_coherent : (o : Option Part) (stored entry : Option Bytes) → KeyAgrees o stored entry → has_progress has_changed o ≡ false → Agrees entry stored
 key_coherent None stored entry h unchanged = h
 key_coherent (Some part) stored entry h unchanged = unwritten_in part.progress part.reservation.first stored entry unchanged h
 
 -- the second half of the headline, for one world
 pub coherent : (w : WorldState) → IsSoundWorld w → all_hold w ≡ true → Coherent w
-coherent w h hold key unchanged = key_coherent (get w.parts key) (entry_at w.store key) (cached w key) (h.told hold key) unchanged
+coherent w h hold key unchanged = key_coherent (get w.parts key) (entry_at w.store key) (cached_entry w key) (h.told hold key) unchanged

@@ -2,6 +2,7 @@ pub mod Halves
 pub mod Shares
 pub mod Underway
 pub mod Joiners
+pub mod Beginning
 pub mod Callers
 pub mod Joins
 pub mod Places

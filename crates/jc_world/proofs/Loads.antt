@@ -28,7 +28,7 @@ use Rattle.jc_stripe.specs.declared.begun.StepDone.{StepDone}
 use Rattle.jc_stripe.specs.Refusals.{reserves}
 use Rattle.jc_stripe.specs.State.{State}
 use Rattle.jc_stripe.specs.Phases.{Steps, new_group, after_commit}
-use Rattle.jc_world.specs.declared.event.Under.{Under}
+use Rattle.jc_world.specs.declared.event.OpenCall.{OpenCall}
 use Rattle.jc_world.specs.declared.event.Part.{Part}
 use Rattle.jc_world.specs.declared.event.Progress.{Progress}
 use Rattle.jc_world.specs.declared.event.Progress.TheVariants.{Loading, Writing}
@@ -36,11 +36,11 @@ use Rattle.jc_world.specs.declared.event.Shown.{Shown}
 use Rattle.jc_world.specs.declared.event.Shown.TheVariants as shown
 use Rattle.jc_world.specs.declared.event.WorldEvent.{WorldEvent}
 use Rattle.jc_world.specs.declared.event.WorldEvent.TheVariants as event
-use Rattle.jc_world.specs.World.{WorldState, Parts, stripe_for, part_of, load_due, waits_for_load, nothing_done, is_untouched, out_in, out_of}
+use Rattle.jc_world.specs.World.{WorldState, Parts, stripe_for, part_of, waits_for_load, is_untouched, out_in, out_of, has_progress}
 use Rattle.jc_world.specs.Premises.{read_answer, report_of}
-use Rattle.jc_world.specs.Events.{fits, load_asked, write_asked, new_part, with_change, with_report, step_of, Starts, Ends, Picks, Happens, Step, Run}
+use Rattle.jc_world.specs.Events.{fits, new_load, new_write, new_part, with_change, with_report, step_of, Starts, Ends, Picks, Happens, Step, Run}
 use Rattle.jc_world.specs.Sound.{IsSoundWorld}
-use Rattle.jc_world.specs.Headline.{opened, is_answer, is_load, is_loaded}
+use Rattle.jc_world.specs.Headline.{start_with, is_answer, is_load, is_loaded}
 use Rattle.jc_world.proofs.Shares.{added}
 use Rattle.jc_world.proofs.Reservations.{was_free, writer_alone}
 use Rattle.jc_world.proofs.Callers.{part_key}
@@ -135,18 +135,18 @@ not_true true h = cc
 not_true false h = refl
 
 -- a loader that is waited for has given no answer
-no_answer : (o : Option Part) (part : Part) → o ≡ Some part → waits_for_load o ≡ true → is_load_given (out_of part).load ≡ false
-no_answer o part is waits = go part.progress (sym (ap waits_for_load is) ∙ waits)
+no_answer : (o : Option Part) (part : Part) → o ≡ Some part → has_progress waits_for_load o ≡ true → is_load_given (out_of part).load ≡ false
+no_answer o part is waits = go part.progress (sym (ap (has_progress waits_for_load) is) ∙ waits)
   where
-    go : (p : Progress) → load_due p ≡ true → is_load_given (out_in p).load ≡ false
+    go : (p : Progress) → waits_for_load p ≡ true → is_load_given (out_in p).load ≡ false
     go (Loading answer) h = not_true (is_load_given answer) h
     go (Writing is_changed report) h = refl
 
 -- what is untouched has none
-no_touch : (o : Option Part) (part : Part) → o ≡ Some part → is_untouched o ≡ true → is_load_given (out_of part).load ≡ false
-no_touch o part is untouched = go part.progress (sym (ap is_untouched is) ∙ untouched)
+no_touch : (o : Option Part) (part : Part) → o ≡ Some part → has_progress is_untouched o ≡ true → is_load_given (out_of part).load ≡ false
+no_touch o part is untouched = go part.progress (sym (ap (has_progress is_untouched) is) ∙ untouched)
   where
-    go : (p : Progress) → nothing_done p ≡ true → is_load_given (out_in p).load ≡ false
+    go : (p : Progress) → is_untouched p ≡ true → is_load_given (out_in p).load ≡ false
     go (Loading answer) h = not_true (is_load_given answer) h
     go (Writing is_changed report) h = refl
 
@@ -167,7 +167,7 @@ read_given (Some value) = refl
 -- 3. Each event.
 
 -- an answer is kept
-total_answered : (w : WorldState) (call : ℕ) (key q : Bytes) (part : Part) (answer : LoadAnswer) → part_of w call key ≡ Some part → waits_for_load (part_of w call key) ≡ true → is_load_given answer ≡ true
+total_answered : (w : WorldState) (call : ℕ) (key q : Bytes) (part : Part) (answer : LoadAnswer) → part_of w call key ≡ Some part → has_progress waits_for_load (part_of w call key) ≡ true → is_load_given answer ≡ true
     → count_by (is_load q) w.order + one_if (is_loaded (get (insert w.parts key (record part { progress = Loading answer })) q)) ≡ one_if (pointwise ◌==◌ q key) + total w q
 total_answered w call key q part answer is waits given =
     let there = is_there (get w.parts key) call part is in
@@ -180,7 +180,7 @@ total_answered w call key q part answer is waits given =
     ∙ ap (λ b. one_if b + total w q) (sym (texts_ties q key))
 
 -- the first phase
-total_started : (w new : WorldState) (u : Under) (from to : State) (seen : Shown) (q : Bytes) → stripe_for w u.command.key ≡ Some from → Starts w u from to seen new → IsSoundWorld w → total new q ≡ total w q
+total_started : (w new : WorldState) (u : OpenCall) (from to : State) (seen : Shown) (q : Bytes) → stripe_for w u.command.key ≡ Some from → Starts w u from to seen new → IsSoundWorld w → total new q ≡ total w q
 total_started w new u from to (shown.Refused refusal) q there h old = ap (λ (x : WorldState). total x q) h.1
 total_started w new u from to (shown.Stepped seen) q there h old =
     let key = u.command.key in
@@ -193,14 +193,14 @@ total_started w new u from to (shown.Stepped seen) q there h old =
     ap (λ (x : WorldState). total x q) h.2 ∙ grows
 total_started w new u from to shown.Loads q there h old =
     let key = u.command.key in
-    let part = new_part load_asked h.0.reservation in
+    let part = new_part new_load h.0.reservation in
     let free = was_free from u.caller key u.command.op Loader h.1.0 h.1.1 h.1.2 refl in
     let none = unheld w key from there free old in
     ap (λ (x : WorldState). total x q) h.2
     ∙ ap (λ b. count_by (is_load q) w.order + one_if b) (loaded_inserted w.parts key q part (λ same. sym (ap is_loaded (ap (get w.parts) same ∙ none))))
 total_started w new u from to (shown.Asks change) q there h old =
     let key = u.command.key in
-    let part = new_part write_asked h.0.reservation in
+    let part = new_part new_write h.0.reservation in
     let free = was_free from u.caller key u.command.op h.0.reservation.first h.1.0 (writer_alone from key u.command.op h.0.reservation.first h.1.1 h.1.2) h.1.1 (ap reserves h.2) in
     let none = unheld w key from there free old in
     ap (λ (x : WorldState). total x q) h.3
@@ -244,7 +244,7 @@ total_happens w new (event.Read call key) seen q fit h old =
     ap (λ (x : WorldState). total x q) h.3 ∙ total_answered w call key q h.0 (read_answer (entry_at w.store key)) h.1 fit (read_given (entry_at w.store key))
     ∙ ap (λ s. one_if (is_answer q (event.Read call key) s) + total w q) (sym h.2)
 total_happens w new (event.Say call key answer) seen q fit h old =
-    let ok = and_parts (is_load_given answer) (waits_for_load (part_of w call key)) fit in
+    let ok = and_parts (is_load_given answer) (has_progress waits_for_load (part_of w call key)) fit in
     ap (λ (x : WorldState). total x q) h.3 ∙ total_answered w call key q h.0 answer h.1 ok.1 ok.0
     ∙ ap (λ s. one_if (is_answer q (event.Say call key answer) s) + total w q) (sym h.2)
 total_happens w new (event.Change call key) seen q fit h old =
@@ -295,6 +295,6 @@ total_run laws w new (e ∷ es) (s ∷ ss) q (mid, step, rest) old =
     omega arith
 
 -- nothing was counted before anything has happened
-pub total_opened : (config : Config) (stored : List (Bytes × Bytes)) (q : Bytes) → total (opened config stored) q ≡ 0
+pub total_opened : (config : Config) (stored : List (Bytes × Bytes)) (q : Bytes) → total (start_with config stored) q ≡ 0
 total_opened config [] q = ap (λ o. 0 + one_if (is_loaded o)) (get-empty key_cmp q)
 total_opened config (e ∷ es) q = total_opened config es q

@@ -1,39 +1,23 @@
--- An index map by keys, and the finite map that it means.
+-- An index map by keys, and the finite map that it means: a removal, a map with no entry, and what was popped.
 use Rattle.std.proofs.Common.{◌≡◌, ◌==◌, List, [], ◌∷◌, ◌++◌, length, arith, Option, None, Some, Bool, true, false, cond, refl, sym, ap, ◌∙◌}
 use Rattle.std.specs.Ordering.{eq_by_cmp}
 use Rattle.std.specs.Cmp.{eq_by_cmp_equiv}
-use Rattle.std.specs.Cmp.Lexicographic.{texts_ties, pointwise}
+use Rattle.std.specs.Cmp.Lexicographic.{pointwise}
 use Rattle.std.proofs.lemmas.Cmp.{nat_list_cmp_total}
 use Rattle.std.proofs.lemmas.Map.Lookups.{exact_bytes}
 use Rattle.std.specs.Map.{lookup}
 use Rattle.std.specs.FinMap as map
 use Rattle.std.specs.FinMap.{find, same_map, from_entries, get-from_entries, get-insert, get-remove}
-use Rattle.indexmap.specs.IndexMap.{IndexMap, get, index_map_len, Updates}
+use Rattle.indexmap.specs.IndexMap.{IndexMap, index_map_len, Updates}
 use Rattle.jc_model.specs.Cache.{Bytes, key_cmp}
 use Rattle.jc_model.proofs.CallerLemmas.{same_key}
-
-looks : {X : Type 0} (es : List (Bytes × X)) (q : Bytes) → lookup (pointwise ◌==◌ q) es ≡ find key_cmp q es
-looks [] q = refl
-looks (e ∷ es) q = λ i. cond (texts_ties q e.0 i) (Some e.1) (looks es q i)
-
-turned : (k q : Bytes) → pointwise ◌==◌ k q ≡ eq_by_cmp key_cmp q k
-turned k q = texts_ties k q ∙ (eq_by_cmp_equiv nat_list_cmp_total).symm k q
+use Rattle.jc_outside.proofs.CallerLemmas.{get-entries, same_key-turned}
 
 module _ {X S : Type 0} where
-  -- a look-up
-  pub read : (m : IndexMap Bytes X S) (q : Bytes) → get (pointwise ◌==◌) m q ≡ map.get (from_entries {R = key_cmp} m.entries) q
-  read m q = looks m.entries q ∙ sym (get-from_entries nat_list_cmp_total m.entries q)
-
-  -- an insertion, or a write through a lent value
-  pub inserted : (m n : IndexMap Bytes X S) (k : Bytes) (v : X) → Updates (pointwise ◌==◌) m n k (Some v) → from_entries {R = key_cmp} n.entries ≡ map.insert (from_entries m.entries) k v
-  inserted m n k v u = same_map nat_list_cmp_total exact_bytes _ _ (λ q.
-      sym (read n q) ∙ u.0 q ∙ (λ i. cond (turned k q i) (Some v) (read m q i))
-      ∙ sym (get-insert nat_list_cmp_total (from_entries m.entries) k v q))
-
   -- a removal
-  pub removed : (m n : IndexMap Bytes X S) (k : Bytes) → Updates (pointwise ◌==◌) m n k None → from_entries {R = key_cmp} n.entries ≡ map.remove (from_entries m.entries) k
-  removed m n k u = same_map nat_list_cmp_total exact_bytes _ _ (λ q.
-      sym (read n q) ∙ u.0 q ∙ (λ i. cond (turned k q i) None (read m q i))
+  pub remove-entries : (m n : IndexMap Bytes X S) (k : Bytes) → Updates (pointwise ◌==◌) m n k None → from_entries {R = key_cmp} n.entries ≡ map.remove (from_entries m.entries) k
+  remove-entries m n k u = same_map nat_list_cmp_total exact_bytes _ _ (λ q.
+      sym (get-entries n q) ∙ u.0 q ∙ (λ i. cond (same_key-turned k q i) None (get-entries m q i))
       ∙ sym (get-remove nat_list_cmp_total (from_entries m.entries) k q))
 
 module _ {S : Type 0} where
@@ -56,8 +40,8 @@ module _ {X S : Type 0} where
   -- what was popped was there
   pub popped : (m n : IndexMap Bytes X S) (k : Bytes) (v : X) → m.entries ≡ n.entries ++ (k, v) ∷ [] → Updates (pointwise ◌==◌) m n k None → map.get (from_entries {R = key_cmp} m.entries) k ≡ Some v
   popped m n k v is u =
-      sym (read m k) ∙ ap (lookup (pointwise ◌==◌ k)) is
-      ∙ lookup-push (pointwise ◌==◌ k) n.entries k v u.1 (turned k k ∙ (eq_by_cmp_equiv nat_list_cmp_total).refl k)
+      sym (get-entries m k) ∙ ap (lookup (pointwise ◌==◌ k)) is
+      ∙ lookup-push (pointwise ◌==◌ k) n.entries k v u.1 (same_key-turned k k ∙ (eq_by_cmp_equiv nat_list_cmp_total).refl k)
 
 module _ {X : Type 0} where
   -- what is there, inserted once more, changes nothing

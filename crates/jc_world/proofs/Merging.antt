@@ -19,7 +19,7 @@ use Rattle.jc_types.specs.declared.config.Config.{Config}
 use Rattle.jc_types.specs.Limits.{check}
 use Rattle.jc_world.specs.World.{empty_stripes}
 use Rattle.jc_world.proofs.Places.{few_stripes, stripe_put}
-use Rattle.jc_world.proofs.Callers.{empty_count}
+use Rattle.jc_world.proofs.Beginning.{empty_count}
 use Rattle.jc_stripe.specs.Laws.{Extends}
 use Rattle.jc_stripe.specs.Phases.{PicksUp}
 use Rattle.jc_stripe.specs.Tickets.{JoinClaim}

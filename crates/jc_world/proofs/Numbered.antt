@@ -1,5 +1,5 @@
 -- Stripes in a list, by their numbers.
-use Rattle.std.proofs.Common.{◌≡◌, ◌∙◌, ℕ, suc, ◌+◌, ◌-◌, ◌<◌, List, [], ◌∷◌, ◌++◌, length, get_or, Option, Some, None, IsSomeAnd, slice_get, refl, sym, ap, arith, append_assoc, append-nil}
+use Rattle.std.proofs.Common.{◌≡◌, ◌∙◌, ℕ, suc, ◌+◌, ◌-◌, ◌<◌, List, [], ◌∷◌, ◌++◌, length, get_or, Option, Some, None, IsSomeAnd, slice_get, refl, sym, ap, arith, append_assoc}
 use Rattle.std.proofs.lemmas.Option.{slice_get_read, slice_get_within}
 use Rattle.jc_types.specs.declared.config.Config.{Config}
 use Rattle.jc_stripe.specs.State.{State}
@@ -30,6 +30,3 @@ made_more config made s number end h is =
     append_assoc made (s ∷ []) (empty_stripes config (number + 1) (end - (number + 1)))
     ∙ ap (λ x. made ++ x ∷ empty_stripes config (number + 1) (end - (number + 1))) is
     ∙ ap (λ xs. made ++ xs) (sym (next_empty config number end h))
-
-pub made_all : (config : Config) (made : List State) (number end : ℕ) → end - number ≡ 0 → made ++ empty_stripes config number (end - number) ≡ empty_stripes config 0 end → made ≡ empty_stripes config 0 end
-made_all config made number end e h = sym (append-nil made) ∙ ap (λ xs. made ++ xs) (sym (none_left config number (end - number) e)) ∙ h

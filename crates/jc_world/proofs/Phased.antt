@@ -10,42 +10,41 @@ use Rattle.jc_stripe.specs.Refusals.{has_phases, reserves}
 use Rattle.jc_stripe.specs.Phases.{MayBegin, Begins, Commits, Withdraws, PicksUp}
 use Rattle.jc_stripe.specs.declared.begun.Picked.{Picked}
 use Rattle.jc_stripe.specs.declared.begun.Picked.TheVariants as picked
-use Rattle.jc_stripe.specs.declared.begun.Begun.{Begun}
 use Rattle.jc_stripe.specs.declared.begun.Begun.TheVariants as begun
 use Rattle.jc_stripe.specs.declared.begun.StepDone.{StepDone}
 use Rattle.jc_stripe.specs.declared.ticket.First.{First}
 use Rattle.jc_stripe.specs.declared.ticket.First.TheVariants.{Nobody, Loader, Writer, Processor}
 use Rattle.jc_outside.specs.declared.done.Origin.TheVariants.{Played}
 use Rattle.jc_types.specs.declared.refusal.Refusal.{Refusal}
-use Rattle.jc_world.specs.declared.event.Under.{Under}
+use Rattle.jc_world.specs.declared.event.OpenCall.{OpenCall}
 use Rattle.jc_world.specs.declared.event.Part.{Part}
 use Rattle.jc_world.specs.declared.event.Stepped.{Stepped}
 use Rattle.jc_world.specs.declared.event.PickedUp.{PickedUp}
 use Rattle.jc_world.specs.declared.event.WorldEvent.TheVariants as event
 use Rattle.jc_world.specs.declared.event.Shown.TheVariants as shown
-use Rattle.jc_world.specs.World.{WorldState, Parts, home, stripe_for, under, over, part_of, join_of, unjoined, out_of}
-use Rattle.jc_world.specs.Events.{fits, Happens, step_of, load_asked, write_asked, new_part}
-use Rattle.jc_world.specs.Sound.{IsHeld, IsSoundWorld}
+use Rattle.jc_world.specs.World.{WorldState, Parts, home, stripe_for, open_call, drop_call, part_of, join_of, joins_without, out_of}
+use Rattle.jc_world.specs.Events.{fits, Happens, step_of, new_load, new_write, new_part, BeginsAs}
+use Rattle.jc_world.specs.Sound.{IsHeld, IsSoundWorld, IsWaitedFor}
 use Rattle.jc_world.specs.World.{is_join}
 use Rattle.jc_world.specs.Turns.{OrderedStripes, IsPhase, IsQuietPhase}
 use Rattle.jc_world.proofs.Numbered.{some_of}
 use Rattle.jc_world.proofs.Holding.{is_part}
 use Rattle.jc_world.proofs.Reservations.{was_free, writer_alone}
-use Rattle.jc_world.proofs.Joiners.{waited_found, join_is}
-use Rattle.jc_world.proofs.Shares.{found_test}
-use Rattle.jc_world.proofs.Callers.{begins_at, single_phases, under_single}
+use Rattle.jc_world.proofs.Joiners.{join_is}
+use Rattle.jc_world.proofs.Shares.{found_test, fact_found}
+use Rattle.jc_world.proofs.Beginning.{begins_at, single_phases, under_single}
 use Rattle.jc_world.proofs.Kept.{unheld, stripe_at}
 
 -- 1. Before the first phase.
 
-pub may_begin_at : (w : WorldState) (call : ℕ) (key : Bytes) (u : Under) → fits w (event.Start call key) ≡ true → under w call ≡ Some u → IsSoundWorld w → IsSomeAnd (stripe_for w u.command.key) (λ s. MayBegin s u.caller u.command.key)
+pub may_begin_at : (w : WorldState) (call : ℕ) (key : Bytes) (u : OpenCall) → fits w (event.Start call key) ≡ true → open_call w call ≡ Some u → IsSoundWorld w → IsSomeAnd (stripe_for w u.command.key) (λ s. MayBegin s u.caller u.command.key)
 may_begin_at w call key u fit is sound =
     let s = stripe_at w u.command.key sound in
     let P : Option State → Type 0 = λ o. IsSomeAnd o (λ s. MayBegin s u.caller u.command.key) in
     subst P (sym s.1) (begins_at w call key u s.0 fit is s.1 sound)
 
 -- a call under way has phases
-pub phased_at : (w : WorldState) (call : ℕ) (u : Under) → under w call ≡ Some u → IsSoundWorld w → has_phases u.command.op ≡ true
+pub phased_at : (w : WorldState) (call : ℕ) (u : OpenCall) → open_call w call ≡ Some u → IsSoundWorld w → has_phases u.command.op ≡ true
 phased_at w call u is sound = single_phases u.command.op (under_single w call u is sound)
 
 -- 2. The stripe that a phase has changed.
@@ -72,12 +71,9 @@ phased_from v old new number phase stripes order p = record {
 
 -- 3. A first phase.
 
-abbrev pub BeginsAs : Under → Begun → State → State → Type 0
-BeginsAs u b from to = Begins from u.caller u.command.key u.command.op b to
-
-pub started_done : (v next : WorldState) (call : ℕ) (key : Bytes) (u : Under) (number : ℕ) (done : StepDone) (seen : Stepped) (stripes : List State) (order : List Event) → under v call ≡ Some u → number ≡ home v u.command.key
+pub started_done : (v next : WorldState) (call : ℕ) (key : Bytes) (u : OpenCall) (number : ℕ) (done : StepDone) (seen : Stepped) (stripes : List State) (order : List Event) → open_call v call ≡ Some u → number ≡ home v u.command.key
     → Phased v number (BeginsAs u (begun.Done done)) stripes order → step_of seen ≡ done → seen.stripe ≡ number
-    → next ≡ record v { stripes = stripes; order = order; calls = over u.caller.call v.calls } → Happens v (event.Start call key) (shown.Stepped seen) next
+    → next ≡ record v { stripes = stripes; order = order; calls = drop_call u.caller.call v.calls } → Happens v (event.Start call key) (shown.Stepped seen) next
 started_done v next call key u number done seen stripes order is home_is p shows stripe_is next_is =
     let At : ℕ → Type 0 = λ n. slice_get v.stripes n ≡ Some p.from in
     let B : StepDone → Type 0 = λ d. Begins p.from u.caller u.command.key u.command.op (begun.Done d) p.to in (
@@ -89,7 +85,7 @@ started_done v next call key u number done seen stripes order is home_is p shows
       (
         subst B (sym shows) p.made,
         stripe_is ∙ home_is,
-        next_is ∙ (λ i. record v { stripes = (p.stripes_are ∙ ap (λ n. slice_set v.stripes n p.to) home_is) i; order = p.order_is i; calls = over u.caller.call v.calls }),
+        next_is ∙ (λ i. record v { stripes = (p.stripes_are ∙ ap (λ n. slice_set v.stripes n p.to) home_is) i; order = p.order_is i; calls = drop_call u.caller.call v.calls }),
       ),
     )
 
@@ -107,9 +103,9 @@ none_new order xs ys e = ap (λ zs. order ++ drop (length ys) zs) e ∙ ap (λ z
     gone [] = refl
     gone (z ∷ zs) = gone zs
 
-pub started_refused : (v next : WorldState) (call : ℕ) (key : Bytes) (u : Under) (number : ℕ) (refusal : Refusal) (stripes : List State) (order : List Event) → under v call ≡ Some u → number ≡ home v u.command.key
+pub started_refused : (v next : WorldState) (call : ℕ) (key : Bytes) (u : OpenCall) (number : ℕ) (refusal : Refusal) (stripes : List State) (order : List Event) → open_call v call ≡ Some u → number ≡ home v u.command.key
     → Phased v number (BeginsAs u (begun.Refused refusal)) stripes order
-    → next ≡ record v { stripes = stripes; order = order; calls = over u.caller.call v.calls } → Happens v (event.Start call key) (shown.Refused refusal) next
+    → next ≡ record v { stripes = stripes; order = order; calls = drop_call u.caller.call v.calls } → Happens v (event.Start call key) (shown.Refused refusal) next
 started_refused v next call key u number refusal stripes order is home_is p next_is =
     let At : ℕ → Type 0 = λ n. slice_get v.stripes n ≡ Some p.from in (
       u,
@@ -122,13 +118,13 @@ started_refused v next call key u number refusal stripes order is home_is p next
         next_is ∙ (λ i. record v {
           stripes = (p.stripes_are ∙ same_set v.stripes number p.from p.to p.at p.made.1) i;
           order = (p.order_is ∙ none_new v.order p.to.history p.from.history (ap (λ (s : State). s.history) p.made.1)) i;
-          calls = over u.caller.call v.calls;
+          calls = drop_call u.caller.call v.calls;
         }),
       ),
     )
 
-pub started_loads : (v next : WorldState) (call : ℕ) (key : Bytes) (u : Under) (number : ℕ) (ticket : Ticket) (stripes : List State) (order : List Event) (parts : Parts) → under v call ≡ Some u → number ≡ home v u.command.key
-    → Phased v number (BeginsAs u (begun.Load ticket)) stripes order → parts ≡ insert v.parts u.command.key (new_part load_asked ticket.reservation)
+pub started_loads : (v next : WorldState) (call : ℕ) (key : Bytes) (u : OpenCall) (number : ℕ) (ticket : Ticket) (stripes : List State) (order : List Event) (parts : Parts) → open_call v call ≡ Some u → number ≡ home v u.command.key
+    → Phased v number (BeginsAs u (begun.Load ticket)) stripes order → parts ≡ insert v.parts u.command.key (new_part new_load ticket.reservation)
     → next ≡ record v { stripes = stripes; order = order; parts = parts } → Happens v (event.Start call key) shown.Loads next
 started_loads v next call key u number ticket stripes order parts is home_is p parts_are next_is =
     let At : ℕ → Type 0 = λ n. slice_get v.stripes n ≡ Some p.from in (
@@ -149,7 +145,7 @@ started_loads v next call key u number ticket stripes order parts is home_is p p
     )
 
 -- a call has joined a load
-pub started_joins : (v next : WorldState) (call : ℕ) (key : Bytes) (u : Under) (number : ℕ) (join : JoinClaim) (stripes : List State) (order : List Event) (joins : List JoinClaim) → under v call ≡ Some u → number ≡ home v u.command.key
+pub started_joins : (v next : WorldState) (call : ℕ) (key : Bytes) (u : OpenCall) (number : ℕ) (join : JoinClaim) (stripes : List State) (order : List Event) (joins : List JoinClaim) → open_call v call ≡ Some u → number ≡ home v u.command.key
     → Phased v number (BeginsAs u (begun.Joined join)) stripes order → joins ≡ v.joins ++ join ∷ []
     → next ≡ record v { stripes = stripes; order = order; joins = joins } → Happens v (event.Start call key) shown.Joins next
 started_joins v next call key u number join stripes order joins is home_is p joins_are next_is =
@@ -170,8 +166,8 @@ started_joins v next call key u number join stripes order joins is home_is p joi
       ),
     )
 
-pub started_asks : (v next : WorldState) (call : ℕ) (key : Bytes) (u : Under) (number : ℕ) (ticket : Ticket) (change : Change) (stripes : List State) (order : List Event) (parts : Parts) → under v call ≡ Some u → number ≡ home v u.command.key
-    → Phased v number (BeginsAs u (begun.Write ticket)) stripes order → ticket.reservation.first ≡ Writer change → parts ≡ insert v.parts u.command.key (new_part write_asked ticket.reservation)
+pub started_asks : (v next : WorldState) (call : ℕ) (key : Bytes) (u : OpenCall) (number : ℕ) (ticket : Ticket) (change : Change) (stripes : List State) (order : List Event) (parts : Parts) → open_call v call ≡ Some u → number ≡ home v u.command.key
+    → Phased v number (BeginsAs u (begun.Write ticket)) stripes order → ticket.reservation.first ≡ Writer change → parts ≡ insert v.parts u.command.key (new_part new_write ticket.reservation)
     → next ≡ record v { stripes = stripes; order = order; parts = parts } → Happens v (event.Start call key) (shown.Asks change) next
 started_asks v next call key u number ticket change stripes order parts is home_is p first parts_are next_is =
     let At : ℕ → Type 0 = λ n. slice_get v.stripes n ≡ Some p.from in (
@@ -193,7 +189,7 @@ started_asks v next call key u number ticket change stripes order parts is home_
     )
 
 -- a key for which a ticket is given has no part yet
-pub free_load : (v : WorldState) (u : Under) (number : ℕ) (ticket : Ticket) (stripes : List State) (order : List Event) → number ≡ home v u.command.key → Phased v number (BeginsAs u (begun.Load ticket)) stripes order → IsSoundWorld v
+pub free_load : (v : WorldState) (u : OpenCall) (number : ℕ) (ticket : Ticket) (stripes : List State) (order : List Event) → number ≡ home v u.command.key → Phased v number (BeginsAs u (begun.Load ticket)) stripes order → IsSoundWorld v
     → (get v.parts u.command.key ≡ None) × (ticket.reservation.key ≡ u.command.key) × (ticket.asked ≡ false)
 free_load v u number ticket stripes order home_is p sound =
     let At : ℕ → Type 0 = λ n. slice_get v.stripes n ≡ Some p.from in (
@@ -202,7 +198,7 @@ free_load v u number ticket stripes order home_is p sound =
       ap (λ (t : Ticket). t.asked) p.made.3,
     )
 
-pub free_write : (v : WorldState) (u : Under) (number : ℕ) (ticket : Ticket) (stripes : List State) (order : List Event) → number ≡ home v u.command.key → Phased v number (BeginsAs u (begun.Write ticket)) stripes order → IsSoundWorld v
+pub free_write : (v : WorldState) (u : OpenCall) (number : ℕ) (ticket : Ticket) (stripes : List State) (order : List Event) → number ≡ home v u.command.key → Phased v number (BeginsAs u (begun.Write ticket)) stripes order → IsSoundWorld v
     → (get v.parts u.command.key ≡ None) × (ticket.reservation.key ≡ u.command.key) × (ticket.asked ≡ false)
 free_write v u number ticket stripes order home_is p sound =
     let At : ℕ → Type 0 = λ n. slice_get v.stripes n ≡ Some p.from in
@@ -226,7 +222,7 @@ CommitsAs part done from to = Commits from part.reservation (out_of part) done t
 
 pub ended : (v next : WorldState) (call : ℕ) (key : Bytes) (part : Part) (number : ℕ) (done : StepDone) (seen : Stepped) (stripes : List State) (order : List Event) (parts : Parts) → part_of v call key ≡ Some part → number ≡ home v key
     → Phased v number (CommitsAs part done) stripes order → step_of seen ≡ done → seen.stripe ≡ number → parts ≡ remove v.parts key
-    → next ≡ record v { stripes = stripes; order = order; calls = over call v.calls; parts = parts } → Happens v (event.Commit call key) (shown.Stepped seen) next
+    → next ≡ record v { stripes = stripes; order = order; calls = drop_call call v.calls; parts = parts } → Happens v (event.Commit call key) (shown.Stepped seen) next
 ended v next call key part number done seen stripes order parts is home_is p shows stripe_is parts_are next_is =
     let At : ℕ → Type 0 = λ n. slice_get v.stripes n ≡ Some p.from in
     let B : StepDone → Type 0 = λ d. Commits p.from part.reservation (out_of part) d p.to in (
@@ -238,7 +234,7 @@ ended v next call key part number done seen stripes order parts is home_is p sho
       (
         subst B (sym shows) p.made,
         stripe_is ∙ home_is,
-        next_is ∙ (λ i. record v { stripes = (p.stripes_are ∙ ap (λ n. slice_set v.stripes n p.to) home_is) i; order = p.order_is i; calls = over call v.calls; parts = parts_are i }),
+        next_is ∙ (λ i. record v { stripes = (p.stripes_are ∙ ap (λ n. slice_set v.stripes n p.to) home_is) i; order = p.order_is i; calls = drop_call call v.calls; parts = parts_are i }),
       ),
     )
 
@@ -304,7 +300,7 @@ withdrawn_at v next call key part number stripes parts is home_is p parts_are ne
 -- the joiner of a join is in the stripe of its key
 pub joiner_at : (v : WorldState) (call : ℕ) (key : Bytes) (join : JoinClaim) (number : ℕ) → join_of v call key ≡ Some join → number ≡ home v key → IsSoundWorld v → IsSomeAnd (slice_get v.stripes number) (λ s. IsJoined s join)
 joiner_at v call key join number is home_is sound =
-    let h = waited_found v (is_join call key) v.joins join is sound.joins in
+    let h = fact_found (IsWaitedFor v) (is_join call key) v.joins join is sound.joins in
     let key_is = (join_is call key join (found_test (is_join call key) v.joins join is)).1 in
     let P : ℕ → Type 0 = λ n. IsSomeAnd (slice_get v.stripes n) (λ s. IsJoined s join) in
     subst P (ap (home v) key_is ∙ sym home_is) h.out
@@ -316,7 +312,7 @@ PicksAs join p from to = PicksUp from join p to
 -- the answer was there
 pub picked_answer : (v next : WorldState) (call : ℕ) (key : Bytes) (join : JoinClaim) (number : ℕ) (seen : PickedUp) (stripes : List State) → join_of v call key ≡ Some join → number ≡ home v key → seen.stripe ≡ number
     → Changed v number (PicksAs join (picked.Answer seen.reply seen.place seen.shared)) stripes
-    → next ≡ record v { stripes = stripes; joins = unjoined call key v.joins; calls = over call v.calls } → Happens v (event.PickUp call key) (shown.PickedUp seen) next
+    → next ≡ record v { stripes = stripes; joins = joins_without call key v.joins; calls = drop_call call v.calls } → Happens v (event.PickUp call key) (shown.PickedUp seen) next
 picked_answer v next call key join number seen stripes is home_is stripe_is p next_is =
     let At : ℕ → Type 0 = λ n. slice_get v.stripes n ≡ Some p.from in (
       join,
@@ -327,14 +323,14 @@ picked_answer v next call key join number seen stripes is home_is stripe_is p ne
       (
         p.made,
         stripe_is ∙ home_is,
-        next_is ∙ (λ i. record v { stripes = (p.stripes_are ∙ ap (λ n. slice_set v.stripes n p.to) home_is) i; joins = unjoined call key v.joins; calls = over call v.calls }),
+        next_is ∙ (λ i. record v { stripes = (p.stripes_are ∙ ap (λ n. slice_set v.stripes n p.to) home_is) i; joins = joins_without call key v.joins; calls = drop_call call v.calls }),
       ),
     )
 
 -- the load was withdrawn
 pub picked_again : (v next : WorldState) (call : ℕ) (key : Bytes) (join : JoinClaim) (number : ℕ) (stripes : List State) → join_of v call key ≡ Some join → number ≡ home v key
     → Changed v number (PicksAs join picked.Again) stripes
-    → next ≡ record v { stripes = stripes; joins = unjoined call key v.joins } → Happens v (event.PickUp call key) shown.Again next
+    → next ≡ record v { stripes = stripes; joins = joins_without call key v.joins } → Happens v (event.PickUp call key) shown.Again next
 picked_again v next call key join number stripes is home_is p next_is =
     let At : ℕ → Type 0 = λ n. slice_get v.stripes n ≡ Some p.from in (
       join,
@@ -342,7 +338,7 @@ picked_again v next call key join number stripes is home_is p next_is =
       p.from,
       subst At home_is p.at,
       p.to,
-      (p.made, next_is ∙ (λ i. record v { stripes = (p.stripes_are ∙ ap (λ n. slice_set v.stripes n p.to) home_is) i; joins = unjoined call key v.joins })),
+      (p.made, next_is ∙ (λ i. record v { stripes = (p.stripes_are ∙ ap (λ n. slice_set v.stripes n p.to) home_is) i; joins = joins_without call key v.joins })),
     )
 
 -- the load isn't over

@@ -29,23 +29,24 @@ use Rattle.jc_stripe.specs.State.{State, is_key, reservation_of, IsOut}
 use Rattle.jc_stripe.specs.Refusals.{load_of, load_at}
 use Rattle.jc_stripe.specs.Phases.{with_joiner, without_joiner, told_to}
 use Rattle.jc_world.specs.declared.event.Part.{Part}
-use Rattle.jc_world.specs.declared.event.Under.{Under}
+use Rattle.jc_world.specs.declared.event.OpenCall.{OpenCall}
 use Rattle.jc_world.specs.declared.event.Shown.{Shown}
 use Rattle.jc_world.specs.declared.event.Shown.TheVariants as shown
 use Rattle.jc_world.specs.declared.event.WorldEvent.{WorldEvent}
 use Rattle.jc_world.specs.declared.event.WorldEvent.TheVariants as event
-use Rattle.jc_world.specs.World.{WorldState, home, stripe_for, under, of_call, part_of, is_join, join_of, is_joined, unjoined}
+use Rattle.jc_world.specs.World.{WorldState, home, stripe_for, open_call, of_call, part_of, is_join, join_of, is_joined, joins_without}
 use Rattle.jc_world.specs.Events.{fits, is_free, may_start, with_stripe, with_join, Starts, Ends, Picks, Happens, Step, Run}
 use Rattle.jc_world.specs.PickUps.{ends_join, is_last_pick_up, ends_load, Resolves}
-use Rattle.jc_world.specs.Sound.{IsHeld, IsSoundWorld}
+use Rattle.jc_world.specs.Sound.{IsHeld, IsSoundWorld, IsOwned}
 use Rattle.jc_world.proofs.Numbered.{some_of}
 use Rattle.jc_world.proofs.Places.{at_stripe_apart, stripe_put}
-use Rattle.jc_world.proofs.Shares.{is_some_and, found_test}
-use Rattle.jc_world.proofs.Underway.{found_number, of_call-at, owned_found, same_bytes}
+use Rattle.jc_world.proofs.Shares.{is_some_and, found_test, fact_found}
+use Rattle.jc_world.proofs.Underway.{found_number, of_call-at, same_bytes}
 use Rattle.jc_world.proofs.Joiners.{joiner_of, find_kept, joined_last, join_is}
 use Rattle.jc_world.proofs.Reservations.{found_more, found_last}
 use Rattle.jc_world.proofs.Kept.{some_map}
-use Rattle.jc_world.proofs.Callers.{MayStart, may_start_at, refuted, part_key}
+use Rattle.jc_world.proofs.Beginning.{MayStart, may_start_at, refuted}
+use Rattle.jc_world.proofs.Callers.{part_key}
 use Rattle.jc_world.proofs.Joins.{no_joiner}
 use Rattle.jc_world.proofs.JoinedLoads.{Shows, Tells, TellsOf, TellsIn, none_of_key, tells_on, tells_kept, tells_committed, tells_withdrawn}
 use Rattle.jc_world.proofs.Sounding.{Laws, sound_step, sound_run}
@@ -96,7 +97,7 @@ follows_beside w n m shows more join r h is config stripes joins none =
     subst P (sym is) (follows_same w m shows more join r h config stripes joins none)
 
 -- the first phase of a call
-follows_started : (w new : WorldState) (u : Under) (from to : State) (seen : Shown) (shows more : Shows) (join : JoinClaim) (r : Reservation) → stripe_for w u.command.key ≡ Some from → Starts w u from to seen new → list_any (ends_load r) more ≡ false
+follows_started : (w new : WorldState) (u : OpenCall) (from to : State) (seen : Shown) (shows more : Shows) (join : JoinClaim) (r : Reservation) → stripe_for w u.command.key ≡ Some from → Starts w u from to seen new → list_any (ends_load r) more ≡ false
     → Follows w shows join r → Follows new (shows ++ more) join r
 follows_started w new u from to (shown.Refused refusal) shows more join r there h none f = follows_beside w new _ shows more join r f h.1 refl refl refl none
 follows_started w new u from to (shown.Stepped seen) shows more join r there h none f =
@@ -140,7 +141,7 @@ follows_ended w new call key part from to seen shows join r is there h old f = a
 
 -- a pick-up of another join leaves this one, and its joiner
 follows_others : (w new : WorldState) (call : ℕ) (key : Bytes) (other : JoinClaim) (from to : State) (shows more : Shows) (join : JoinClaim) (r : Reservation) → join_of w call key ≡ Some other → stripe_for w key ≡ Some from → to ≡ without_joiner from other
-    → (call ≡ join.caller.call → key ≡ join.key → ⊥) → new.config ≡ w.config → new.stripes ≡ slice_set w.stripes (home w key) to → new.joins ≡ unjoined call key w.joins
+    → (call ≡ join.caller.call → key ≡ join.key → ⊥) → new.config ≡ w.config → new.stripes ≡ slice_set w.stripes (home w key) to → new.joins ≡ joins_without call key w.joins
     → list_any (ends_load r) more ≡ false → Follows w shows join r → Follows new (shows ++ more) join r
 follows_others w new call key other from to shows more join r found there after apart config stripes joins none f =
     let is = join_is call key other (found_test (is_join call key) w.joins other found) in
@@ -242,7 +243,7 @@ follows_run laws w new (e ∷ es) (s ∷ ss) shows join r (mid, step, rest) none
 
 pub part_of_out : (w : WorldState) (key : Bytes) (s : State) (r : Reservation) → stripe_for w key ≡ Some s → r.key ≡ key → IsOut s r → IsSoundWorld w → (part : Part) × (part_of w r.caller.call r.key ≡ Some part) × (part.reservation ≡ r)
 part_of_out w key s r there key_is out old =
-    let owned = owned_found w (is_key r.key) s.reservations r out (old.owned (home w key) s there) in
+    let owned = fact_found (IsOwned w) (is_key r.key) s.reservations r out (old.owned (home w key) s there) in
     let part = some_of (get w.parts r.key) (λ p. p.reservation.caller.call ≡ r.caller.call) owned.part in
     let held = some_of (stripe_for w r.key) (λ x. IsHeld x r.key part.0) (old.held r.key part.0 part.1) in
     let e : Some held.0 ≡ Some s = sym held.1 ∙ ap (stripe_for w) key_is ∙ there in
@@ -257,7 +258,7 @@ part_of_out w key s r there key_is out old =
 -- 3. The join, and the pick-up.
 
 -- a first phase is of the call's key
-start_key : (w : WorldState) (call : ℕ) (key : Bytes) (u : Under) → fits w (event.Start call key) ≡ true → under w call ≡ Some u → u.command.key ≡ key
+start_key : (w : WorldState) (call : ℕ) (key : Bytes) (u : OpenCall) → fits w (event.Start call key) ≡ true → open_call w call ≡ Some u → u.command.key ≡ key
 start_key w call key u fit is = sym (same_bytes key u.command.key (and_parts (pointwise ◌==◌ key u.command.key) (is_free w call key) (sym (ap (may_start w call key) is) ∙ fit)).0)
 
 -- one is there where one is found
@@ -282,7 +283,7 @@ can_join true o load h = h
 can_join false o load h = cc
 
 -- what has just been joined is followed
-follows_joined : (w : WorldState) (u : Under) (from to : State) (join : JoinClaim) (r : Reservation) → stripe_for w u.command.key ≡ Some from → join ≡ record { caller = u.caller; key = u.command.key; load = join.load } → to ≡ with_joiner from join
+follows_joined : (w : WorldState) (u : OpenCall) (from to : State) (join : JoinClaim) (r : Reservation) → stripe_for w u.command.key ≡ Some from → join ≡ record { caller = u.caller; key = u.command.key; load = join.load } → to ≡ with_joiner from join
     → r.key ≡ u.command.key → r.number ≡ join.load → IsOut from r → MayStart w u → IsSoundWorld w → Follows (with_join (with_stripe w u.command.key to) join) [] join r
 follows_joined w u from to join r there join_is_of to_is r_key r_number out may old =
     let key = u.command.key in
@@ -349,7 +350,7 @@ IsAnswered old new key shows seen =
     (load : Part) × (part_of old load.reservation.caller.call key ≡ Some load) × (asks_loader load.reservation.first ≡ true) × (load.reservation.key ≡ key) × Resolves new shows load.reservation seen
 
 -- by what is shown of the first phase
-answers_started : Laws → (old joined new newer : WorldState) (call : ℕ) (key : Bytes) (u : Under) (from to : State) (es : List WorldEvent) (ss : List Shown) (seen : Shown) → under old call ≡ Some u → fits old (event.Start call key) ≡ true
+answers_started : Laws → (old joined new newer : WorldState) (call : ℕ) (key : Bytes) (u : OpenCall) (from to : State) (es : List WorldEvent) (ss : List Shown) (seen : Shown) → open_call old call ≡ Some u → fits old (event.Start call key) ≡ true
     → stripe_for old u.command.key ≡ Some from → Starts old u from to shown.Joins joined → IsSoundWorld old → IsSoundWorld joined → Run joined es ss new → list_any (is_last_pick_up call key) (zip es ss) ≡ false
     → Step new (event.PickUp call key) seen newer → IsAnswered old new key (zip es ss) seen
 answers_started laws old joined new newer call key u from to es ss seen here fit there (join, begins, is) sound_old sound_joined run none step =

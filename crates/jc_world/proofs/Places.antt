@@ -9,7 +9,7 @@ use Rattle.jc_types.specs.Limits.{check, is_between}
 use Rattle.jc_types.specs.declared.limits.TheConstants.{STRIPES_MAX}
 use Rattle.jc_model.specs.Cache.{Bytes}
 use Rattle.jc_stripe.specs.State.{State}
-use Rattle.jc_world.specs.declared.event.Under.{Under}
+use Rattle.jc_world.specs.declared.event.OpenCall.{OpenCall}
 use Rattle.jc_world.specs.World.{WorldState, home, stripe_for, empty_stripe, has_number}
 use Rattle.jc_world.specs.Sound.{IsShaped}
 
@@ -69,10 +69,10 @@ home_stripe w key shape = (
 -- 2. The calls.
 
 -- a call that is found has the number
-pub found_number : (n : ℕ) (calls : List Under) (u : Under) → find (has_number n) calls ≡ Some u → u.caller.call ≡ n
+pub found_number : (n : ℕ) (calls : List OpenCall) (u : OpenCall) → find (has_number n) calls ≡ Some u → u.caller.call ≡ n
 found_number n [] u h = cc
 found_number n (x ∷ xs) u h =
     elim (x.caller.call == n) as (λ b. (x.caller.call == n) ≡ b → cond b (Some x) (find (has_number n) xs) ≡ Some u → u.caller.call ≡ n) [
-      | true ↦ λ e h. let is : x ≡ u = cc in ap (λ (v : Under). v.caller.call) (sym is) ∙ eqb-true x.caller.call n e
+      | true ↦ λ e h. let is : x ≡ u = cc in ap (λ (v : OpenCall). v.caller.call) (sym is) ∙ eqb-true x.caller.call n e
       | false ↦ λ e h. found_number n xs u h
     ] refl h

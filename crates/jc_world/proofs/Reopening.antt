@@ -4,26 +4,26 @@ use Rattle.std.specs.FinMap.{get}
 use Rattle.jc_model.specs.Cache.{Bytes, entry_at}
 use Rattle.jc_world.specs.declared.event.Part.{Part}
 use Rattle.jc_world.specs.declared.event.Premises.{Premises}
-use Rattle.jc_world.specs.World.{WorldState, cached}
-use Rattle.jc_world.specs.Coherent.{is_changed, Coherent}
-use Rattle.jc_world.specs.Headline.{reopened}
-use Rattle.jc_world.specs.Sound.{KeyTold, IsSoundWorld}
+use Rattle.jc_world.specs.World.{WorldState, cached_entry, has_changed, has_progress}
+use Rattle.jc_world.specs.Coherent.{Coherent}
+use Rattle.jc_world.specs.Headline.{with_all_premises}
+use Rattle.jc_world.specs.Sound.{KeyAgrees, IsSoundWorld}
 use Rattle.jc_world.proofs.Halves.{HasParts, sound}
-use Rattle.jc_world.proofs.Callers.{order_stored}
+use Rattle.jc_world.proofs.Beginning.{order_stored}
 use Rattle.jc_world.proofs.Joins.{joins_stored}
 
 -- without a part each cached value is the store's
-parts_reopened : (w : WorldState) → ((key : Bytes) → get w.parts key ≡ None) → Coherent w → IsSoundWorld w → HasParts (reopened w)
+parts_reopened : (w : WorldState) → ((key : Bytes) → get w.parts key ≡ None) → Coherent w → IsSoundWorld w → HasParts (with_all_premises w)
 parts_reopened w none coherent old = record {
   held = λ key part there. absurd (let e : Some part ≡ None = sym there ∙ none key in cc);
   told = λ hold key.
-      let P : Option Part → Type 0 = λ o. KeyTold o (entry_at w.store key) (cached w key) in
-      subst P (sym (none key)) (coherent key (ap is_changed (none key)));
+      let P : Option Part → Type 0 = λ o. KeyAgrees o (entry_at w.store key) (cached_entry w key) in
+      subst P (sym (none key)) (coherent key (ap (has_progress has_changed) (none key)));
   fresh = old.fresh;
   idle = old.idle;
 }
 
-pub sound_reopened : (w : WorldState) → ((key : Bytes) → get w.parts key ≡ None) → Coherent w → IsSoundWorld w → IsSoundWorld (reopened w)
+pub sound_reopened : (w : WorldState) → ((key : Bytes) → get w.parts key ≡ None) → Coherent w → IsSoundWorld w → IsSoundWorld (with_all_premises w)
 sound_reopened w none coherent old =
-    let premises : Premises = (reopened w).premises in
-    sound (reopened w) (order_stored w w.store premises w.fresh old) (parts_reopened w none coherent old) (joins_stored w w.store premises w.fresh old)
+    let premises : Premises = (with_all_premises w).premises in
+    sound (with_all_premises w) (order_stored w w.store premises w.fresh old) (parts_reopened w none coherent old) (joins_stored w w.store premises w.fresh old)

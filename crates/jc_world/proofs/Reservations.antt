@@ -44,8 +44,8 @@ pick true true false other h e = refl
 pick true true true other h e = cc
 
 -- a call that is not refused at a reserved key needs no free key
-goes_on : (s : State) (caller : Caller) (key : Bytes) (op : Op) → first_refusal s caller key op ≡ None → is_reserved s key ≡ true → needs_free_key s key op ≡ false
-goes_on s caller key op none there = pick (has_room s caller.call (places_needed (needs_free_key s key op))) (is_reserved s key) (needs_free_key s key op) _ none there
+needs_none : (s : State) (caller : Caller) (key : Bytes) (op : Op) → first_refusal s caller key op ≡ None → is_reserved s key ≡ true → needs_free_key s key op ≡ false
+needs_none s caller key op none there = pick (has_room s caller.call (places_needed (needs_free_key s key op))) (is_reserved s key) (needs_free_key s key op) _ none there
 
 -- where there is nothing to write, nobody is asked
 asks_none : (b : Bool) → writer_for (cond b None None) ≡ Nobody
@@ -78,7 +78,7 @@ only_answers false load h none = let t : not (is_some {T = ℕ} None) ≡ false 
 pub was_free : (s : State) (caller : Caller) (key : Bytes) (op : Op) (first : First) → first_refusal s caller key op ≡ None → load_joined s key op ≡ None → first_asked s.config op (entry_at s.cache key) ≡ first → reserves first ≡ true → is_reserved s key ≡ false
 was_free s caller key op first none alone asks due =
     refuted (is_reserved s key) (λ there.
-    let answering = only_answers (answers_at_once s.config op (entry_at s.cache key)) (load_joined s key op) (goes_on s caller key op none there) alone in
+    let answering = only_answers (answers_at_once s.config op (entry_at s.cache key)) (load_joined s key op) (needs_none s caller key op none there) alone in
     let e = answering_asks s.config op (entry_at s.cache key) answering in
     let f : reserves Nobody ≡ true = ap reserves (sym e ∙ asks) ∙ due in cc)
 

@@ -19,13 +19,13 @@ use Rattle.jc_stripe.specs.Tickets.{Ticket, JoinClaim}
 use Rattle.jc_stripe.specs.State.{State, is_key, is_reserved, without_key, with_reservation, without_reservation, IsOut}
 use Rattle.jc_stripe.specs.Reached.{IsReached}
 use Rattle.jc_stripe.specs.Laws.{KeepsReserved}
-use Rattle.jc_world.specs.declared.event.Under.{Under}
+use Rattle.jc_world.specs.declared.event.OpenCall.{OpenCall}
 use Rattle.jc_world.specs.declared.event.Part.{Part}
 use Rattle.jc_world.specs.declared.event.Shown.{Shown}
 use Rattle.jc_world.specs.declared.event.Shown.TheVariants as shown
 use Rattle.jc_world.specs.declared.event.WorldEvent.{WorldEvent}
 use Rattle.jc_world.specs.declared.event.WorldEvent.TheVariants as event
-use Rattle.jc_world.specs.World.{WorldState, home, stripe_for, entry_in, cached, out_of}
+use Rattle.jc_world.specs.World.{WorldState, home, stripe_for, entry_in, cached_entry, out_of}
 use Rattle.jc_world.specs.Events.{step_of, Starts, Ends, Picks, Happens, Step, Run}
 use Rattle.jc_world.specs.Reserved.{is_appended}
 use Rattle.jc_world.specs.Sound.{IsHeld, IsSoundWorld}
@@ -38,14 +38,14 @@ use Rattle.jc_world.proofs.Sounding.{Laws, sound_step}
 -- 1. Events that append no step.
 
 abbrev pub IsUnmoved : WorldState → WorldState → Type 0
-IsUnmoved old new = (new.order ≡ old.order) × ((key : Bytes) → cached new key ≡ cached old key)
+IsUnmoved old new = (new.order ≡ old.order) × ((key : Bytes) → cached_entry new key ≡ cached_entry old key)
 
 -- a stripe whose cache is the same
-cached_set : (w : WorldState) (key q : Bytes) (from to : State) → stripe_for w key ≡ Some from → to.cache ≡ from.cache → entry_in (slice_get (slice_set w.stripes (home w key) to) (home w q)) q ≡ cached w q
+cached_set : (w : WorldState) (key q : Bytes) (from to : State) → stripe_for w key ≡ Some from → to.cache ≡ from.cache → entry_in (slice_get (slice_set w.stripes (home w key) to) (home w q)) q ≡ cached_entry w q
 cached_set w key q from to there same = at_stripe w.stripes (home w key) (home w q) from to (λ o x. entry_in x q ≡ entry_in o q) there (ap (λ c. entry_at c q) same) refl
 
 -- the first phase
-unmoved_started : (w new : WorldState) (u : Under) (from to : State) (seen : Shown) → stripe_for w u.command.key ≡ Some from → Starts w u from to seen new → is_appended seen ≡ false → IsUnmoved w new
+unmoved_started : (w new : WorldState) (u : OpenCall) (from to : State) (seen : Shown) → stripe_for w u.command.key ≡ Some from → Starts w u from to seen new → is_appended seen ≡ false → IsUnmoved w new
 unmoved_started w new u from to (shown.Refused refusal) there h none = subst (IsUnmoved w) (sym h.1) (refl, λ q. refl)
 unmoved_started w new u from to (shown.Stepped seen) there h none = absurd (let t : true ≡ false = none in cc)
 unmoved_started w new u from to shown.Loads there h none = subst (IsUnmoved w) (sym h.2) (refl, λ q. cached_set w u.command.key q from to there (ap (λ (s : State). s.cache) h.1.4))
@@ -196,7 +196,7 @@ stay_set w n key from to config stripes there stays = record {
 }
 
 -- the first phase
-stay_started : KeepsReserved → (w new : WorldState) (u : Under) (from to : State) (seen : Shown) → stripe_for w u.command.key ≡ Some from → IsReached from → Starts w u from to seen new → StayOut w new
+stay_started : KeepsReserved → (w new : WorldState) (u : OpenCall) (from to : State) (seen : Shown) → stripe_for w u.command.key ≡ Some from → IsReached from → Starts w u from to seen new → StayOut w new
 stay_started kept w new u from to (shown.Refused refusal) there reached h = stay_beside w new _ h.1 refl refl
 stay_started kept w new u from to (shown.Stepped seen) there reached h =
     let key = u.command.key in
@@ -263,7 +263,7 @@ stay_run laws w new (e ∷ es) (s ∷ ss) (mid, step, rest) old =
 
 -- 4. A key whose part is of the same reservation.
 
-pub stays_held : (w n : WorldState) (key : Bytes) (was is : Part) → get w.parts key ≡ Some was → get n.parts key ≡ Some is → is.reservation ≡ was.reservation → IsSoundWorld w → IsSoundWorld n → StayOut w n → cached n key ≡ cached w key
+pub stays_held : (w n : WorldState) (key : Bytes) (was is : Part) → get w.parts key ≡ Some was → get n.parts key ≡ Some is → is.reservation ≡ was.reservation → IsSoundWorld w → IsSoundWorld n → StayOut w n → cached_entry n key ≡ cached_entry w key
 stays_held w n key was is before after same old new stay =
     let then = some_of (stripe_for w key) (λ s. IsHeld s key was) (old.held key was before) in
     let now = some_of (stripe_for n key) (λ s. IsHeld s key is) (new.held key is after) in

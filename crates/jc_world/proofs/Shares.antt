@@ -29,7 +29,7 @@ use Rattle.jc_stripe.specs.Reached.{IsReached}
 use Rattle.jc_stripe.specs.Laws.{Extends}
 use Rattle.jc_world.specs.World.{WorldState, home, stripe_for}
 use Rattle.jc_stripe.specs.OwnSteps.{is_before_call}
-use Rattle.jc_world.specs.Sound.{IsStripe, IsShaped, is_up_to, number_up_to, none_from}
+use Rattle.jc_world.specs.Sound.{IsStripe, IsShaped, is_up_to, number_up_to, none_from, Each}
 
 -- 1. Small facts.
 
@@ -65,15 +65,38 @@ found_test p (y ∷ ys) x h =
       | false ↦ λ e h. found_test p ys x h
     ] refl h
 
--- a fact of each of a list
-abbrev pub Each : {A : Type 0} → (A → Type 0) → List A → Type 0
-Each P [] = Unit {0}
-Each P (x ∷ xs) = P x × Each P xs
-
--- and another that follows from it
+-- what is true of each gives another fact
 pub each_map : {A : Type 0} (P Q : A → Type 0) (xs : List A) → ((x : A) → P x → Q x) → Each P xs → Each Q xs
 each_map P Q [] f h = tt
 each_map P Q (x ∷ xs) f h = (f x h.0, each_map P Q xs f h.1)
+
+-- so it is of one that is found
+pub fact_found : {A : Type 0} (P : A → Type 0) (p : A → Bool) (xs : List A) (x : A) → find p xs ≡ Some x → Each P xs → P x
+fact_found P p [] x h each = cc
+fact_found P p (y ∷ ys) x h each =
+    elim (p y) as (λ b. cond b (Some y) (find p ys) ≡ Some x → P x) [
+      | true ↦ λ h. let is : y ≡ x = cc in subst P is each.0
+      | false ↦ λ h. fact_found P p ys x h each.1
+    ] h
+
+-- and with one more at the end
+pub each_pushed : {A : Type 0} (P : A → Type 0) (xs : List A) (x : A) → Each P xs → P x → Each P (xs ++ x ∷ [])
+each_pushed P [] x each one = (one, tt)
+each_pushed P (y ∷ ys) x each one = (each.0, each_pushed P ys x each.1 one)
+
+-- a test that follows from it
+pub each_test : {A : Type 0} (P : A → Type 0) (p : A → Bool) (xs : List A) → ((x : A) → P x → p x ≡ true) → Each P xs → list_all p xs ≡ true
+each_test P p [] f each = refl
+each_test P p (x ∷ xs) f each = and_from _ _ (f x each.0) (each_test P p xs f each.1)
+
+-- a fact of those that pass a test
+pub each_kept : {A : Type 0} (P Q : A → Type 0) (p : A → Bool) (xs : List A) → ((x : A) → p x ≡ true → P x → Q x) → Each P xs → Each Q (filter p xs)
+each_kept P Q p [] f each = tt
+each_kept P Q p (x ∷ xs) f each =
+    elim (p x) as (λ b. p x ≡ b → Each Q (cond b (x ∷ filter p xs) (filter p xs))) [
+      | true ↦ λ e. (f x e each.0, each_kept P Q p xs f each.1)
+      | false ↦ λ e. each_kept P Q p xs f each.1
+    ] refl
 
 -- 2. What a stripe puts down.
 

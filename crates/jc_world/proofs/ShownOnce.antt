@@ -39,19 +39,19 @@ use Rattle.jc_stripe.specs.Laws.{Extends, Grows}
 use Rattle.jc_world.specs.declared.event.Part.{Part}
 use Rattle.jc_world.specs.declared.event.Shown.{Shown}
 use Rattle.jc_world.specs.declared.event.Shown.TheVariants as shown
-use Rattle.jc_world.specs.declared.event.Under.{Under}
+use Rattle.jc_world.specs.declared.event.OpenCall.{OpenCall}
 use Rattle.jc_world.specs.declared.event.WorldEvent.{WorldEvent}
 use Rattle.jc_world.specs.declared.event.WorldEvent.TheVariants as event
 use Rattle.jc_world.specs.World.{WorldState, home, stripe_for, out_of}
 use Rattle.jc_world.specs.Events.{fits, step_of, Starts, Ends, Picks, Happens, Step, Run}
 use Rattle.jc_world.specs.Sound.{IsSoundWorld}
-use Rattle.jc_world.specs.Headline.{opened}
+use Rattle.jc_world.specs.Headline.{start_with}
 use Rattle.jc_world.specs.Replies.{is_answer_at, joiners_in, joiners_at, times_shown}
 use Rattle.jc_world.proofs.Shares.{added, share_stays}
 use Rattle.jc_world.proofs.Places.{stripe_put}
 use Rattle.jc_world.proofs.Merging.{other_set}
 use Rattle.jc_world.proofs.Loads.{one_if}
-use Rattle.jc_world.proofs.Callers.{begins_at}
+use Rattle.jc_world.proofs.Beginning.{begins_at}
 use Rattle.jc_world.proofs.Sounding.{Laws, sound_step}
 use Rattle.jc_world.proofs.Standing.{config_run, config_opened}
 
@@ -217,7 +217,7 @@ due_still : (w new : WorldState) (seen : Shown) (number place : ℕ) → is_answ
 due_still w new seen number place none same = let e : one_if (is_answer_at number place seen) ≡ 0 = ap one_if none in omega arith
 
 -- by what is shown of a first phase
-due_started : Grows → (w new : WorldState) (u : Under) (from to : State) (seen : Shown) (number place : ℕ) → stripe_for w u.command.key ≡ Some from → Starts w u from to seen new → MayBegin from u.caller u.command.key → IsSoundWorld w → IsSoundWorld new
+due_started : Grows → (w new : WorldState) (u : OpenCall) (from to : State) (seen : Shown) (number place : ℕ) → stripe_for w u.command.key ≡ Some from → Starts w u from to seen new → MayBegin from u.caller u.command.key → IsSoundWorld w → IsSoundWorld new
     → due new number place ≡ one_if (is_answer_at number place seen) + due w number place
 due_started grows w new u from to (shown.Refused refusal) number place there h may old sound = due_still w new (shown.Refused refusal) number place refl (ap (λ (x : WorldState). due x number place) h.1)
 due_started grows w new u from to (shown.Stepped x) number place there h may old sound =
@@ -299,18 +299,18 @@ due_run laws grows w new (e ∷ es) (s ∷ ss) number place (mid, step, rest) ol
     omega arith
 
 -- nothing is due before anything has happened
-due_opened : (config : Config) (stored : List (Bytes × Bytes)) (number place : ℕ) → due (opened config stored) number place ≡ 0
+due_opened : (config : Config) (stored : List (Bytes × Bytes)) (number place : ℕ) → due (start_with config stored) number place ≡ 0
 due_opened config [] number place = refl
 due_opened config (e ∷ es) number place = due_opened config es number place
 
 -- so what is due was shown
 pub shown_once : Laws → Grows → (config : Config) (stored : List (Bytes × Bytes)) (new : WorldState) (es : List WorldEvent) (ss : List Shown) (number place : ℕ) (caller : Caller) (op : Op) (key : Bytes) (out : Out) (shared : Option ℕ) (reply : Reply)
-    → Run (opened config stored) es ss new → IsSoundWorld (opened config stored) → slice_get (of_stripe config.stripes number new.order) place ≡ Some (stripe.Step caller op key out shared reply)
+    → Run (start_with config stored) es ss new → IsSoundWorld (start_with config stored) → slice_get (of_stripe config.stripes number new.order) place ≡ Some (stripe.Step caller op key out shared reply)
     → count_by (is_answer_at number place) ss ≡ times_shown (is_parked (joiners_at new number) caller key)
 shown_once laws grows config stored new es ss number place caller op key out shared reply run sound there =
-    let total = due_run laws grows (opened config stored) new es ss number place run sound in
+    let total = due_run laws grows (start_with config stored) new es ss number place run sound in
     let none = due_opened config stored number place in
     let is : due new number place ≡ times_shown (is_parked (joiners_at new number) caller key) =
-    ap (λ (c : Config). times_due (joiners_at new number) (slice_get (of_stripe c.stripes number new.order) place)) (config_run (opened config stored) new es ss run ∙ config_opened config stored)
+    ap (λ (c : Config). times_due (joiners_at new number) (slice_get (of_stripe c.stripes number new.order) place)) (config_run (start_with config stored) new es ss run ∙ config_opened config stored)
     ∙ ap (times_due (joiners_at new number)) there in
     omega arith

@@ -5,23 +5,24 @@ use Rattle.jc_types.specs.declared.config.Config.{Config}
 use Rattle.jc_types.specs.Limits.{check}
 use Rattle.jc_model.specs.Cache.{Bytes, entry_at, with_entry}
 use Rattle.jc_model.specs.Table.{is_load_given}
-use Rattle.jc_world.specs.declared.event.Under.{Under}
+use Rattle.jc_world.specs.declared.event.OpenCall.{OpenCall}
 use Rattle.jc_world.specs.declared.event.Shown.{Shown}
 use Rattle.jc_world.specs.declared.event.WorldEvent.{WorldEvent}
 use Rattle.jc_world.specs.declared.event.WorldEvent.TheVariants as event
 use Rattle.jc_stripe.specs.Laws.{StaysReached, KeepsReserved}
-use Rattle.jc_world.specs.World.{WorldState, start, under, part_of, waits_for_load, waits_for_report, with_stored}
+use Rattle.jc_world.specs.World.{WorldState, start, open_call, part_of, waits_for_load, waits_for_report, with_stored, has_progress}
 use Rattle.jc_world.specs.Premises.{read_answer, report_of}
 use Rattle.jc_world.specs.Events.{fits, may_report, Happens, Step, Run}
 use Rattle.jc_world.specs.Sound.{IsSoundWorld}
-use Rattle.jc_world.specs.Headline.{opened}
+use Rattle.jc_world.specs.Headline.{start_with}
 use Rattle.jc_world.proofs.Halves.{HasParts, sound}
-use Rattle.jc_world.proofs.Callers.{order_start, order_happens, order_opened}
+use Rattle.jc_world.proofs.Beginning.{order_start}
+use Rattle.jc_world.proofs.Callers.{order_happens, order_opened}
 use Rattle.jc_world.proofs.Joins.{joins_start, joins_happens, joins_stored}
 use Rattle.jc_world.proofs.Kept.{parts_start, parts_called, parts_started, parts_ended, parts_answered, parts_changed, parts_reported, parts_disturbed, parts_stored, parts_withdrawn, parts_left, parts_picks}
 
 -- the writer that may report is waited for at the call's key
-waits_at : (w : WorldState) (call : ℕ) (u : Under) → under w call ≡ Some u → may_report w call (under w call) ≡ true → waits_for_report (part_of w call u.command.key) ≡ true
+waits_at : (w : WorldState) (call : ℕ) (u : OpenCall) → open_call w call ≡ Some u → may_report w call (open_call w call) ≡ true → has_progress waits_for_report (part_of w call u.command.key) ≡ true
 waits_at w call u is h = ap (may_report w call) (sym is) ∙ h
 
 parts_happens : (w new : WorldState) (e : WorldEvent) (seen : Shown) → fits w e ≡ true → Happens w e seen new → IsSoundWorld w → HasParts new
@@ -29,7 +30,7 @@ parts_happens w new (event.Call call session command) seen fit (shows, is) h = s
 parts_happens w new (event.Start call key) seen fit (u, there, from, at, to, starts) h = parts_started w new call key u from to seen fit there at starts h
 parts_happens w new (event.Read call key) seen fit (part, there, shows, is) h = subst HasParts (sym is) (parts_answered w call key part (read_answer (entry_at w.store key)) there fit h)
 parts_happens w new (event.Say call key answer) seen fit (part, there, shows, is) h =
-    subst HasParts (sym is) (parts_answered w call key part answer there ((and_parts (is_load_given answer) (waits_for_load (part_of w call key)) fit).1) h)
+    subst HasParts (sym is) (parts_answered w call key part answer there ((and_parts (is_load_given answer) (has_progress waits_for_load (part_of w call key)) fit).1) h)
 parts_happens w new (event.Change call key) seen fit (part, change, there, asked, shows, is) h = subst HasParts (sym is) (parts_changed w call key part change there asked fit h)
 parts_happens w new (event.Report call fault) seen fit (u, part, change, there, at, asked, shows, is) h =
     subst HasParts (sym is) (parts_reported w call u.command.key part (report_of fault) at (waits_at w call u there fit) h)
@@ -65,6 +66,6 @@ sound_set (Ok x) old new key value ok err fresh h = subst IsSoundWorld (sym ok) 
 sound_set (Err e) old new key value ok err fresh h = subst IsSoundWorld (sym err) h
 
 -- an opening is sound, and nothing has happened in it
-pub sound_opened : (config : Config) (stored : List (Bytes × Bytes)) → check config ≡ Ok tt → IsSoundWorld (opened config stored) × ((opened config stored).fresh ≡ true)
+pub sound_opened : (config : Config) (stored : List (Bytes × Bytes)) → check config ≡ Ok tt → IsSoundWorld (start_with config stored) × ((start_with config stored).fresh ≡ true)
 sound_opened config [] fits = (sound_start config fits, refl)
-sound_opened config (e ∷ es) fits = let rest = sound_opened config es fits in (sound_stored (opened config es) e.0 e.1 rest.1 rest.0, rest.1)
+sound_opened config (e ∷ es) fits = let rest = sound_opened config es fits in (sound_stored (start_with config es) e.0 e.1 rest.1 rest.0, rest.1)

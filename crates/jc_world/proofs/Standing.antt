@@ -34,15 +34,15 @@ use Rattle.jc_stripe.proofs.CallerLemmas.{step_at}
 use Rattle.jc_world.specs.declared.event.Part.{Part}
 use Rattle.jc_world.specs.declared.event.Shown.{Shown}
 use Rattle.jc_world.specs.declared.event.Shown.TheVariants as shown
-use Rattle.jc_world.specs.declared.event.Under.{Under}
+use Rattle.jc_world.specs.declared.event.OpenCall.{OpenCall}
 use Rattle.jc_world.specs.declared.event.WorldEvent.{WorldEvent}
 use Rattle.jc_world.specs.declared.event.WorldEvent.TheVariants as event
-use Rattle.jc_world.specs.World.{WorldState, Parts, home, stripe_for, has_number, is_join, join_of, part_of, out_of, under}
-use Rattle.jc_world.specs.Events.{fits, is_free, may_start, load_asked, write_asked, new_part, step_of, Starts, Ends, Picks, Happens, Step, Run}
-use Rattle.jc_world.specs.Sound.{IsSoundWorld}
-use Rattle.jc_world.specs.Headline.{opened}
-use Rattle.jc_world.specs.Replies.{Answered, Stands}
-use Rattle.jc_world.proofs.Shares.{found_test, Each, each_map, added}
+use Rattle.jc_world.specs.World.{WorldState, Parts, home, stripe_for, has_number, is_join, join_of, part_of, out_of, open_call}
+use Rattle.jc_world.specs.Events.{fits, is_free, may_start, new_load, new_write, new_part, step_of, Starts, Ends, Picks, Happens, Step, Run}
+use Rattle.jc_world.specs.Sound.{IsSoundWorld, Each}
+use Rattle.jc_world.specs.Headline.{start_with}
+use Rattle.jc_world.specs.Replies.{IsReplyOfStep, Stands}
+use Rattle.jc_world.proofs.Shares.{found_test, each_map, added}
 use Rattle.jc_world.proofs.Underway.{found_number, same_bytes, of_call-at}
 use Rattle.jc_world.proofs.Joiners.{join_is}
 use Rattle.jc_world.proofs.Places.{stripe_put}
@@ -99,7 +99,7 @@ later_same : (old new : WorldState) → new.config ≡ old.config → new.order 
 later_same old new config order = record { config = config; more = []; order = order ∙ sym (append-nil old.order) }
 
 -- by what is shown of a first phase
-later_started : (w new : WorldState) (u : Under) (from to : State) (seen : Shown) → Starts w u from to seen new → IsLater w new
+later_started : (w new : WorldState) (u : OpenCall) (from to : State) (seen : Shown) → Starts w u from to seen new → IsLater w new
 later_started w new u from to (shown.Refused refusal) h = later_same w new (ap (λ (x : WorldState). x.config) h.1) (ap (λ (x : WorldState). x.order) h.1)
 later_started w new u from to (shown.Stepped seen) h = record { config = ap (λ (x : WorldState). x.config) h.2; more = added from to; order = ap (λ (x : WorldState). x.order) h.2 }
 later_started w new u from to shown.Loads h = later_same w new (ap (λ (x : WorldState). x.config) h.2) (ap (λ (x : WorldState). x.order) h.2)
@@ -145,14 +145,14 @@ config_run w new [] (s ∷ ss) run = absurd run
 config_run w new (e ∷ es) [] run = absurd run
 config_run w new (e ∷ es) (s ∷ ss) (mid, step, rest) = config_run mid new es ss rest ∙ (later_step w mid e s step).config
 
-pub config_opened : (config : Config) (stored : List (Bytes × Bytes)) → (opened config stored).config ≡ config
+pub config_opened : (config : Config) (stored : List (Bytes × Bytes)) → (start_with config stored).config ≡ config
 config_opened config [] = refl
 config_opened config (e ∷ es) = config_opened config es
 
 -- 3. What was shown stays true.
 
 answered_on : (w n : WorldState) (shows : List (WorldEvent × Shown)) (call : ℕ) (key : Bytes) (reply : Reply) (number place : ℕ) (shared : Option ℕ) → IsLater w n
-    → Answered w shows call key reply number place shared → Answered n shows call key reply number place shared
+    → IsReplyOfStep w shows call key reply number place shared → IsReplyOfStep n shows call key reply number place shared
 answered_on w n shows call key reply number place shared later h =
     let mine = is_of_stripe w.config.stripes number in
     record {
@@ -181,7 +181,7 @@ stands_on w n shows e seen later h = tt
 abbrev pub BegunAs : List (WorldEvent × Shown) → Caller → Bytes → Op → Type 0
 BegunAs shows caller key op = (at : ℕ) × (slice_get shows at ≡ Some (event.Call caller.call caller.session (record { op = op; key = key }), shown.Begun))
 
-abbrev IsBegun : List (WorldEvent × Shown) → Under → Type 0
+abbrev IsBegun : List (WorldEvent × Shown) → OpenCall → Type 0
 IsBegun shows u = BegunAs shows u.caller u.command.key u.command.op
 
 abbrev PartBegun : List (WorldEvent × Shown) → Part → Type 0
@@ -211,7 +211,7 @@ all_begun_on shows more w h = record {
 }
 
 -- the call that is found under way has begun
-begun_under : (shows : List (WorldEvent × Shown)) (w : WorldState) (call : ℕ) (u : Under) → under w call ≡ Some u → AllBegun shows w → IsBegun shows u
+begun_under : (shows : List (WorldEvent × Shown)) (w : WorldState) (call : ℕ) (u : OpenCall) → open_call w call ≡ Some u → AllBegun shows w → IsBegun shows u
 begun_under shows w call u here h = each_here (IsBegun shows) (has_number call) w.calls u here h.calls
 
 -- a part is put in place, or taken away
@@ -236,17 +236,17 @@ joins_get s key Get load h = refl
 joins_get s key op load h = cc
 
 -- by what is shown of a first phase
-begun_started : (shows : List (WorldEvent × Shown)) (w new : WorldState) (u : Under) (from to : State) (seen : Shown) → Starts w u from to seen new → IsBegun shows u → AllBegun shows w → AllBegun shows new
+begun_started : (shows : List (WorldEvent × Shown)) (w new : WorldState) (u : OpenCall) (from to : State) (seen : Shown) → Starts w u from to seen new → IsBegun shows u → AllBegun shows w → AllBegun shows new
 begun_started shows w new u from to (shown.Refused refusal) h one old =
     subst (AllBegun shows) (sym h.1) (record { calls = each_filter (IsBegun shows) (λ x. not (has_number u.caller.call x)) w.calls old.calls; parts = old.parts; joins = old.joins })
 begun_started shows w new u from to (shown.Stepped seen) h one old =
     subst (AllBegun shows) (sym h.2) (record { calls = each_filter (IsBegun shows) (λ x. not (has_number u.caller.call x)) w.calls old.calls; parts = old.parts; joins = old.joins })
 begun_started shows w new u from to shown.Loads h one old =
-    let P : Ticket → Type 0 = λ t. PartBegun shows (new_part load_asked t.reservation) in
-    subst (AllBegun shows) (sym h.2) (record { calls = old.calls; parts = parts_put shows w.parts u.command.key (new_part load_asked h.0.reservation) (subst P (sym h.1.3) one) old.parts; joins = old.joins })
+    let P : Ticket → Type 0 = λ t. PartBegun shows (new_part new_load t.reservation) in
+    subst (AllBegun shows) (sym h.2) (record { calls = old.calls; parts = parts_put shows w.parts u.command.key (new_part new_load h.0.reservation) (subst P (sym h.1.3) one) old.parts; joins = old.joins })
 begun_started shows w new u from to (shown.Asks change) h one old =
-    let P : Ticket → Type 0 = λ t. PartBegun shows (new_part write_asked t.reservation) in
-    subst (AllBegun shows) (sym h.3) (record { calls = old.calls; parts = parts_put shows w.parts u.command.key (new_part write_asked h.0.reservation) (subst P (sym h.1.3) one) old.parts; joins = old.joins })
+    let P : Ticket → Type 0 = λ t. PartBegun shows (new_part new_write t.reservation) in
+    subst (AllBegun shows) (sym h.3) (record { calls = old.calls; parts = parts_put shows w.parts u.command.key (new_part new_write h.0.reservation) (subst P (sym h.1.3) one) old.parts; joins = old.joins })
 begun_started shows w new u from to shown.Joins h one old =
     let get_is : u.command.op ≡ Get = joins_get from u.command.key u.command.op h.0.load h.1.1 in
     let P : JoinClaim → Type 0 = JoinBegun shows in
@@ -277,7 +277,7 @@ begun_picks shows w new call key join from to seen h old = absurd h
 -- of any event that fits, if it is among what has happened
 begun_happens : (shows : List (WorldEvent × Shown)) (w new : WorldState) (e : WorldEvent) (seen : Shown) → (at : ℕ) × (slice_get shows at ≡ Some (e, seen)) → Happens w e seen new → AllBegun shows w → AllBegun shows new
 begun_happens shows w new (event.Call call session command) seen last h old =
-    let one : Under = record { caller = record { session = session; call = call }; command = command } in
+    let one : OpenCall = record { caller = record { session = session; call = call }; command = command } in
     let begun : IsBegun shows one = (last.0, last.1 ∙ ap (λ s. Some (event.Call call session command, s)) h.0) in
     subst (AllBegun shows) (sym h.1) (record { calls = each_pushed (IsBegun shows) w.calls one old.calls begun; parts = old.parts; joins = old.joins })
 begun_happens shows w new (event.Start call key) seen last h old = begun_started shows w new h.0 h.2 h.4 seen h.5 (begun_under shows w call h.0 h.1 old) old
@@ -303,7 +303,7 @@ begun_step shows w new e seen last (inl (fit, happens)) old = begun_happens show
 begun_step shows w new e seen last (inr (unfit, shows_it, is)) old = subst (AllBegun shows) (sym is) old
 
 -- nothing is under way at the start
-begun_opened : (shows : List (WorldEvent × Shown)) (config : Config) (stored : List (Bytes × Bytes)) → AllBegun shows (opened config stored)
+begun_opened : (shows : List (WorldEvent × Shown)) (config : Config) (stored : List (Bytes × Bytes)) → AllBegun shows (start_with config stored)
 begun_opened shows config [] = record { calls = tt; parts = λ key part is. let t : None ≡ Some part = sym (get-empty key_cmp key) ∙ is in cc; joins = tt }
 begun_opened shows config (e ∷ es) = let rest = begun_opened shows config es in record { calls = rest.calls; parts = rest.parts; joins = rest.joins }
 
@@ -312,7 +312,7 @@ begun_opened shows config (e ∷ es) = let rest = begun_opened shows config es i
 -- the answer of a call that has begun, with its step in the stripe of its key
 answered_at : (w new : WorldState) (shows : List (WorldEvent × Shown)) (caller : Caller) (key : Bytes) (op : Op) (out : Out) (shared : Option ℕ) (reply : Reply) (number place : ℕ) (to : State) → number ≡ home w key → IsLater w new
     → slice_get new.stripes (home w key) ≡ Some to → IsSoundWorld new → slice_get to.history place ≡ Some (stripe.Step caller op key out shared reply) → BegunAs shows caller key op
-    → Answered new shows caller.call key reply number place shared
+    → IsReplyOfStep new shows caller.call key reply number place shared
 answered_at w new shows caller key op out shared reply number place to home_is later here sound step begun = record {
   session = caller.session;
   op = op;
@@ -324,14 +324,14 @@ answered_at w new shows caller key op out shared reply number place to home_is l
 }
 
 -- of another call and key that are the same
-answered_for : (w : WorldState) (shows : List (WorldEvent × Shown)) (call n : ℕ) (key k : Bytes) (reply : Reply) (number place : ℕ) (shared : Option ℕ) → call ≡ n → key ≡ k → Answered w shows call key reply number place shared → Answered w shows n k reply number place shared
+answered_for : (w : WorldState) (shows : List (WorldEvent × Shown)) (call n : ℕ) (key k : Bytes) (reply : Reply) (number place : ℕ) (shared : Option ℕ) → call ≡ n → key ≡ k → IsReplyOfStep w shows call key reply number place shared → IsReplyOfStep w shows n k reply number place shared
 answered_for w shows call n key k reply number place shared calls keys h =
-    let P : ℕ → Type 0 = λ m. Answered w shows m k reply number place shared in
-    let Q : Bytes → Type 0 = λ q. Answered w shows call q reply number place shared in
+    let P : ℕ → Type 0 = λ m. IsReplyOfStep w shows m k reply number place shared in
+    let Q : Bytes → Type 0 = λ q. IsReplyOfStep w shows call q reply number place shared in
     subst P calls (subst Q keys h)
 
 -- by what is shown of a first phase
-stands_started : (shows : List (WorldEvent × Shown)) (w new : WorldState) (call : ℕ) (key : Bytes) (u : Under) (from to : State) (seen : Shown) → fits w (event.Start call key) ≡ true → under w call ≡ Some u → stripe_for w u.command.key ≡ Some from
+stands_started : (shows : List (WorldEvent × Shown)) (w new : WorldState) (call : ℕ) (key : Bytes) (u : OpenCall) (from to : State) (seen : Shown) → fits w (event.Start call key) ≡ true → open_call w call ≡ Some u → stripe_for w u.command.key ≡ Some from
     → Starts w u from to seen new → IsBegun shows u → IsSoundWorld new → Stands new shows (event.Start call key) seen
 stands_started shows w new call key u from to (shown.Refused refusal) fit here there h begun sound = tt
 stands_started shows w new call key u from to (shown.Stepped x) fit here there h begun sound =
@@ -438,5 +438,5 @@ stands_run laws shows w new (e ∷ es) (s ∷ ss) (mid, step, rest) old begun st
     (stands_run laws now mid new es ss rest sound more (stands_more shows w mid e s (later_step w mid e s step) stand (stands_step shows w mid e s step old sound begun)))
 
 -- from the start
-pub stands_opened : Laws → (config : Config) (stored : List (Bytes × Bytes)) (new : WorldState) (es : List WorldEvent) (ss : List Shown) → Run (opened config stored) es ss new → IsSoundWorld (opened config stored) → AllStand new (zip es ss)
-stands_opened laws config stored new es ss run sound = stands_run laws [] (opened config stored) new es ss run sound (begun_opened [] config stored) (λ at e seen is. cc)
+pub stands_opened : Laws → (config : Config) (stored : List (Bytes × Bytes)) (new : WorldState) (es : List WorldEvent) (ss : List Shown) → Run (start_with config stored) es ss new → IsSoundWorld (start_with config stored) → AllStand new (zip es ss)
+stands_opened laws config stored new es ss run sound = stands_run laws [] (start_with config stored) new es ss run sound (begun_opened [] config stored) (λ at e seen is. cc)

@@ -19,18 +19,18 @@ use Rattle.jc_model.specs.Cache.{Bytes}
 use Rattle.jc_model.proofs.CallerLemmas.{same_key}
 use Rattle.jc_stripe.specs.declared.ticket.Reservation.{Reservation}
 use Rattle.jc_stripe.specs.State.{is_key, without_key}
-use Rattle.jc_world.specs.declared.event.Under.{Under}
+use Rattle.jc_world.specs.declared.event.OpenCall.{OpenCall}
 use Rattle.jc_world.specs.declared.event.Part.{Part}
-use Rattle.jc_world.specs.World.{WorldState, has_number, is_of, over, of_call}
+use Rattle.jc_world.specs.World.{WorldState, has_number, is_of_session, drop_call, of_call}
 use Rattle.jc_world.specs.Events.{is_new}
 use Rattle.jc_stripe.specs.OwnSteps.{is_before_call}
-use Rattle.jc_world.specs.Sound.{is_up_to, number_up_to, none_from, is_apart, FitsCall, CallsFit, IsOwned, AllOwned}
-use Rattle.jc_world.proofs.Shares.{turned_eq, found_test, Each}
+use Rattle.jc_world.specs.Sound.{is_up_to, number_up_to, none_from, is_apart, FitsCall, CallsFit, IsOwned, AllOwned, Each}
+use Rattle.jc_world.proofs.Shares.{turned_eq, found_test}
 
 -- 1. A call that is over.
 
 -- a call that is found has the number
-pub found_number : (call : ℕ) (calls : List Under) (u : Under) → find (has_number call) calls ≡ Some u → u.caller.call ≡ call
+pub found_number : (call : ℕ) (calls : List OpenCall) (u : OpenCall) → find (has_number call) calls ≡ Some u → u.caller.call ≡ call
 found_number call calls u h = eqb-true u.caller.call call (found_test (has_number call) calls u h)
 
 -- a number is not two others
@@ -38,16 +38,16 @@ clash : (a b n : ℕ) → (a == b) ≡ false → (n == a) ≡ true → (n == b) 
 clash a b n h k = grind (arith, nat_tests)
 
 -- the other calls are found as before
-pub find_over : (call other : ℕ) (calls : List Under) → (call == other) ≡ false → find (has_number other) (over call calls) ≡ find (has_number other) calls
+pub find_over : (call other : ℕ) (calls : List OpenCall) → (call == other) ≡ false → find (has_number other) (drop_call call calls) ≡ find (has_number other) calls
 find_over call other [] apart = refl
 find_over call other (x ∷ xs) apart =
-    elim (has_number call x) as (λ b. has_number call x ≡ b → find (has_number other) (cond (not b) (x ∷ over call xs) (over call xs)) ≡ cond (has_number other x) (Some x) (find (has_number other) xs)) [
+    elim (has_number call x) as (λ b. has_number call x ≡ b → find (has_number other) (cond (not b) (x ∷ drop_call call xs) (drop_call call xs)) ≡ cond (has_number other x) (Some x) (find (has_number other) xs)) [
       | true ↦ λ e. find_over call other xs apart ∙ sym (ap (λ b. cond b (Some x) (find (has_number other) xs)) (clash call other x.caller.call apart e))
       | false ↦ λ e. ap (λ r. cond (has_number other x) (Some x) r) (find_over call other xs apart)
     ] refl
 
 -- a call under way fits
-pub fits_found : (w : WorldState) (p : Under → Bool) (calls : List Under) (u : Under) → find p calls ≡ Some u → CallsFit w calls → FitsCall w u
+pub fits_found : (w : WorldState) (p : OpenCall → Bool) (calls : List OpenCall) (u : OpenCall) → find p calls ≡ Some u → CallsFit w calls → FitsCall w u
 fits_found w p [] u h fit = cc
 fits_found w p (x ∷ xs) u h fit =
     elim (p x) as (λ b. cond b (Some x) (find p xs) ≡ Some u → FitsCall w u) [
@@ -56,7 +56,7 @@ fits_found w p (x ∷ xs) u h fit =
     ] h
 
 -- the calls that pass a test fit another world
-pub calls_filter : (w n : WorldState) (p : Under → Bool) (P : Under → Type 0) (calls : List Under) → ((u : Under) → p u ≡ true → P u → FitsCall w u → FitsCall n u) → Each P calls → CallsFit w calls → CallsFit n (filter p calls)
+pub calls_filter : (w n : WorldState) (p : OpenCall → Bool) (P : OpenCall → Type 0) (calls : List OpenCall) → ((u : OpenCall) → p u ≡ true → P u → FitsCall w u → FitsCall n u) → Each P calls → CallsFit w calls → CallsFit n (filter p calls)
 calls_filter w n p P [] f each fit = tt
 calls_filter w n p P (x ∷ xs) f each fit =
     elim (p x) as (λ b. p x ≡ b → CallsFit n (cond b (x ∷ filter p xs) (filter p xs))) [
@@ -65,12 +65,12 @@ calls_filter w n p P (x ∷ xs) f each fit =
     ] refl
 
 -- all calls fit another world
-pub calls_on : (w n : WorldState) (P : Under → Type 0) (calls : List Under) → ((u : Under) → P u → FitsCall w u → FitsCall n u) → Each P calls → CallsFit w calls → CallsFit n calls
+pub calls_on : (w n : WorldState) (P : OpenCall → Type 0) (calls : List OpenCall) → ((u : OpenCall) → P u → FitsCall w u → FitsCall n u) → Each P calls → CallsFit w calls → CallsFit n calls
 calls_on w n P [] f each fit = tt
 calls_on w n P (x ∷ xs) f each fit = (f x each.0 fit.0, fit.1, calls_on w n P xs f each.1 fit.2)
 
 -- a call of another number is not found
-number_apart : (x u : Under) → is_apart x u ≡ true → has_number u.caller.call x ≡ false
+number_apart : (x u : OpenCall) → is_apart x u ≡ true → has_number u.caller.call x ≡ false
 number_apart x u h = go (x.caller.call == u.caller.call) (ap not (turned_eq x.caller.call u.caller.call) ∙ (and_parts (not (u.caller.session == x.caller.session)) (not (u.caller.call == x.caller.call)) h).1)
   where
     go : (b : Bool) → not b ≡ true → b ≡ false
@@ -78,46 +78,46 @@ number_apart x u h = go (x.caller.call == u.caller.call) (ap not (turned_eq x.ca
     go false h = refl
 
 -- each call is found by its number
-pub each_found : (w : WorldState) (calls : List Under) → CallsFit w calls → Each (λ (u : Under). find (has_number u.caller.call) calls ≡ Some u) calls
+pub each_found : (w : WorldState) (calls : List OpenCall) → CallsFit w calls → Each (λ (u : OpenCall). find (has_number u.caller.call) calls ≡ Some u) calls
 each_found w [] fit = tt
 each_found w (x ∷ xs) fit = (
   ap (λ b. cond b (Some x) (find (has_number x.caller.call) xs)) (nat_eq_equiv.refl x.caller.call),
   behind xs (each_found w xs fit.2) fit.1,
 )
   where
-    behind : (ys : List Under) → Each (λ (u : Under). find (has_number u.caller.call) xs ≡ Some u) ys → list_all (is_apart x) ys ≡ true → Each (λ (u : Under). find (has_number u.caller.call) (x ∷ xs) ≡ Some u) ys
+    behind : (ys : List OpenCall) → Each (λ (u : OpenCall). find (has_number u.caller.call) xs ≡ Some u) ys → list_all (is_apart x) ys ≡ true → Each (λ (u : OpenCall). find (has_number u.caller.call) (x ∷ xs) ≡ Some u) ys
     behind [] h apart = tt
     behind (y ∷ ys) h apart =
         let parts = and_parts (is_apart x y) (list_all (is_apart x) ys) apart in
         (ap (λ b. cond b (Some x) (find (has_number y.caller.call) xs)) (number_apart x y parts.0) ∙ h.0, behind ys h.1 parts.1)
 
 -- of another session
-abbrev pub is_elsewhere : ℕ → Under → Bool
+abbrev pub is_elsewhere : ℕ → OpenCall → Bool
 is_elsewhere session u = not (u.caller.session == session)
 
 -- calls that are apart are of two sessions
-elsewhere : (x u : Under) → is_apart x u ≡ true → is_elsewhere x.caller.session u ≡ true
+elsewhere : (x u : OpenCall) → is_apart x u ≡ true → is_elsewhere x.caller.session u ≡ true
 elsewhere x u h = (and_parts (not (u.caller.session == x.caller.session)) (not (u.caller.call == x.caller.call)) h).0
 
 -- the calls beside one under way are of other sessions
-pub apart_over : (w : WorldState) (call : ℕ) (calls : List Under) (u : Under) → find (has_number call) calls ≡ Some u → CallsFit w calls → list_all (is_elsewhere u.caller.session) (over call calls) ≡ true
+pub apart_over : (w : WorldState) (call : ℕ) (calls : List OpenCall) (u : OpenCall) → find (has_number call) calls ≡ Some u → CallsFit w calls → list_all (is_elsewhere u.caller.session) (drop_call call calls) ≡ true
 apart_over w call [] u h fit = cc
 apart_over w call (x ∷ xs) u h fit =
-    elim (has_number call x) as (λ b. cond b (Some x) (find (has_number call) xs) ≡ Some u → list_all (is_elsewhere u.caller.session) (cond (not b) (x ∷ over call xs) (over call xs)) ≡ true) [
+    elim (has_number call x) as (λ b. cond b (Some x) (find (has_number call) xs) ≡ Some u → list_all (is_elsewhere u.caller.session) (cond (not b) (x ∷ drop_call call xs) (drop_call call xs)) ≡ true) [
       | true ↦ λ h.
           let is : x ≡ u = cc in
           let here = all_filter (is_elsewhere x.caller.session) (λ o. not (has_number call o)) xs (all_imply (is_apart x) (is_elsewhere x.caller.session) xs (elsewhere x) fit.1) in
-          ap (λ (y : Under). list_all (is_elsewhere y.caller.session) (over call xs)) (sym is) ∙ here
+          ap (λ (y : OpenCall). list_all (is_elsewhere y.caller.session) (drop_call call xs)) (sym is) ∙ here
       | false ↦ λ h.
           let away = elsewhere x u (all_found (has_number call) (is_apart x) xs u h fit.1) in
           and_from _ _ (ap not (turned_eq x.caller.session u.caller.session) ∙ away) (apart_over w call xs u h fit.2)
     ] h
 
 -- a call under way of another number is of another session
-pub elsewhere_found : (w : WorldState) (call other : ℕ) (calls : List Under) (u v : Under) → CallsFit w calls → find (has_number call) calls ≡ Some u → find (has_number other) calls ≡ Some v
+pub elsewhere_found : (w : WorldState) (call other : ℕ) (calls : List OpenCall) (u v : OpenCall) → CallsFit w calls → find (has_number call) calls ≡ Some u → find (has_number other) calls ≡ Some v
     → (call == other) ≡ false → is_elsewhere u.caller.session v ≡ true
 elsewhere_found w call other calls u v fit one two apart =
-    all_found (has_number other) (is_elsewhere u.caller.session) (over call calls) v (find_over call other calls apart ∙ two) (apart_over w call calls u one fit)
+    all_found (has_number other) (is_elsewhere u.caller.session) (drop_call call calls) v (find_over call other calls apart ∙ two) (apart_over w call calls u one fit)
 
 -- 3. A new call.
 
@@ -172,21 +172,21 @@ pub none_new : (last : Option ℕ) (caller : Caller) (order : List Event) → is
 none_new last caller order new h = all_imply (number_up_to last) (is_before_call caller.session caller.call) order (λ e. event_before last caller e new) h
 
 -- a session that is not busy has no call of these
-not_busy : (session : ℕ) (x : Under) (xs : List Under) → not (list_any (is_of session) (x ∷ xs)) ≡ true → (not (session == x.caller.session) ≡ true) × (not (list_any (is_of session) xs) ≡ true)
-not_busy session x xs h = let parts = neither (is_of session x) (list_any (is_of session) xs) h in (ap not (turned_eq session x.caller.session) ∙ parts.0, parts.1)
+not_busy : (session : ℕ) (x : OpenCall) (xs : List OpenCall) → not (list_any (is_of_session session) (x ∷ xs)) ≡ true → (not (session == x.caller.session) ≡ true) × (not (list_any (is_of_session session) xs) ≡ true)
+not_busy session x xs h = let parts = neither (is_of_session session x) (list_any (is_of_session session) xs) h in (ap not (turned_eq session x.caller.session) ∙ parts.0, parts.1)
   where
     neither : (a b : Bool) → not (a || b) ≡ true → (not a ≡ true) × (not b ≡ true)
     neither true b h = cc
     neither false b h = (refl, h)
 
 -- a test of each, and of one more
-pushed_apart : (p : Under → Bool) (xs : List Under) (u : Under) → list_all p xs ≡ true → p u ≡ true → list_all p (xs ++ u ∷ []) ≡ true
+pushed_apart : (p : OpenCall → Bool) (xs : List OpenCall) (u : OpenCall) → list_all p xs ≡ true → p u ≡ true → list_all p (xs ++ u ∷ []) ≡ true
 pushed_apart p [] u h one = and_from _ _ one refl
 pushed_apart p (x ∷ xs) u h one = let parts = and_parts (p x) (list_all p xs) h in and_from _ _ parts.0 (pushed_apart p xs u parts.1 one)
 
 -- the calls fit with a new one
-pub calls_pushed : (w n : WorldState) (u : Under) (calls : List Under) → is_new w.last u.caller.call ≡ true → not (list_any (is_of u.caller.session) calls) ≡ true
-    → ((x : Under) → FitsCall w x → FitsCall n x) → FitsCall n u → CallsFit w calls → CallsFit n (calls ++ u ∷ [])
+pub calls_pushed : (w n : WorldState) (u : OpenCall) (calls : List OpenCall) → is_new w.last u.caller.call ≡ true → not (list_any (is_of_session u.caller.session) calls) ≡ true
+    → ((x : OpenCall) → FitsCall w x → FitsCall n x) → FitsCall n u → CallsFit w calls → CallsFit n (calls ++ u ∷ [])
 calls_pushed w n u [] new free f fit rest = (fit, refl, tt)
 calls_pushed w n u (x ∷ xs) new free f fit rest =
     let away = not_busy u.caller.session x xs free in (
@@ -196,7 +196,7 @@ calls_pushed w n u (x ∷ xs) new free f fit rest =
     )
 
 -- a call is found among more
-pub find_pushed : (p : Under → Bool) (calls more : List Under) (P : Under → Type 0) → IsSomeAnd (find p calls) P → IsSomeAnd (find p (calls ++ more)) P
+pub find_pushed : (p : OpenCall → Bool) (calls more : List OpenCall) (P : OpenCall → Type 0) → IsSomeAnd (find p calls) P → IsSomeAnd (find p (calls ++ more)) P
 find_pushed p [] more P h = absurd h
 find_pushed p (x ∷ xs) more P h =
     elim (p x) as (λ b. IsSomeAnd (cond b (Some x) (find p xs)) P → IsSomeAnd (cond b (Some x) (find p (xs ++ more))) P) [ true ↦ λ h. h | false ↦ λ h. find_pushed p xs more P h ] h
@@ -208,31 +208,6 @@ pub all_owned : (w new : WorldState) (p : Reservation → Bool) (rs : List Reser
 all_owned w new p [] f h owned = tt
 all_owned w new p (r ∷ rs) f h owned = let parts = and_parts (p r) (list_all p rs) h in (f r parts.0 owned.0, all_owned w new p rs f parts.1 owned.1)
 
--- each reservation is owned in another world
-pub each_owned : (w new : WorldState) (rs : List Reservation) → ((r : Reservation) → IsOwned w r → IsOwned new r) → AllOwned w rs → AllOwned new rs
-each_owned w new [] f owned = tt
-each_owned w new (r ∷ rs) f owned = (f r owned.0, each_owned w new rs f owned.1)
-
--- one more is owned
-pub owned_pushed : (w : WorldState) (rs : List Reservation) (r : Reservation) → AllOwned w rs → IsOwned w r → AllOwned w (rs ++ r ∷ [])
-owned_pushed w [] r owned one = (one, tt)
-owned_pushed w (x ∷ xs) r owned one = (owned.0, owned_pushed w xs r owned.1 one)
-
--- those left are owned
-pub owned_left : (w : WorldState) (key : Bytes) (rs : List Reservation) → AllOwned w rs → AllOwned w (without_key key rs)
-owned_left w key [] owned = tt
-owned_left w key (x ∷ xs) owned =
-    elim (not (is_key key x)) as (λ b. AllOwned w (cond b (x ∷ without_key key xs) (without_key key xs))) [ true ↦ (owned.0, owned_left w key xs owned.1) | false ↦ owned_left w key xs owned.1 ]
-
--- one that is found is owned
-pub owned_found : (w : WorldState) (p : Reservation → Bool) (rs : List Reservation) (r : Reservation) → find p rs ≡ Some r → AllOwned w rs → IsOwned w r
-owned_found w p [] r h owned = cc
-owned_found w p (x ∷ xs) r h owned =
-    elim (p x) as (λ b. cond b (Some x) (find p xs) ≡ Some r → IsOwned w r) [
-      | true ↦ λ h. let is : x ≡ r = cc in subst (IsOwned w) is owned.0
-      | false ↦ λ h. owned_found w p xs r h owned.1
-    ] h
-
 -- the reservations that are left are of other keys
 pub others_left : (key : Bytes) (rs : List Reservation) → list_all (λ r. not (is_key key r)) (without_key key rs) ≡ true
 others_left key [] = refl
@@ -241,11 +216,6 @@ others_left key (x ∷ xs) =
       | true ↦ λ e. others_left key xs
       | false ↦ λ e. and_from _ _ (ap not e) (others_left key xs)
     ] refl
-
--- a condition on each reservation from what it owns
-pub test_owned : (w : WorldState) (p : Reservation → Bool) (rs : List Reservation) → ((r : Reservation) → IsOwned w r → p r ≡ true) → AllOwned w rs → list_all p rs ≡ true
-test_owned w p [] f owned = refl
-test_owned w p (r ∷ rs) f owned = and_from _ _ (f r owned.0) (test_owned w p rs f owned.1)
 
 -- keys that are equal by test are one
 pub same_bytes : (a b : Bytes) → pointwise ◌==◌ a b ≡ true → a ≡ b

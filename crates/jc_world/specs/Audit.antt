@@ -5,7 +5,7 @@
 --     cache_in      what a stripe caches, and nothing where there is no stripe
 --     cache_at      what the stripe with a number caches
 --     IsOrder       the order is one legal history over all stripes from empty ones, and what is cached is what it leaves
---     HasParts      each stripe's history is its part of the order: a place in a stripe counts the events of that stripe alone
+--     HasShares      each stripe's history is its part of the order: a place in a stripe counts the events of that stripe alone
 --     IsAudit       what an audit says
 use Rattle.std.specs.Prelude.{◌≡◌, ◌↔◌, ℕ, List, Bool, not, ◌&&◌, IsTrue, Option, None, Some, length, map, filter, slice_get}
 use Rattle.std.specs.FinMap.{get, entries, empty}
@@ -13,14 +13,15 @@ use Rattle.jc_model.specs.Cache.{Bytes, Cache, entry_at}
 use Rattle.jc_model.specs.Table.{holds}
 use Rattle.jc_model.specs.Legal.{IsWholeHistory, of_stripe}
 use Rattle.jc_stripe.specs.State.{State}
-use Rattle.jc_world.specs.World.{WorldState, cached}
-use Rattle.jc_world.specs.Coherent.{is_changed}
+use Rattle.jc_world.specs.World.{WorldState, cached_entry, has_progress, has_changed}
 
 abbrev pub IsCache : WorldState → Cache → Type 0
-IsCache w cache = (key : Bytes) → entry_at cache key ≡ cached w key
+IsCache w cache = (key : Bytes) → entry_at cache key ≡ cached_entry w key
 
 abbrev pub differs : WorldState → Bytes × Bytes → Bool
-differs w entry = not (holds (entry_at w.store entry.0) entry.1) && not (is_changed (get w.parts entry.0))
+differs w entry =
+    not (holds (entry_at w.store entry.0) entry.1)
+    && not (has_progress has_changed (get w.parts entry.0))
 
 abbrev pub differing : WorldState → List (Bytes × Bytes) → List Bytes
 differing w entries = map (λ e. e.0) (filter (differs w) entries)
@@ -35,11 +36,14 @@ cache_at w number = cache_in (slice_get w.stripes number)
 abbrev pub IsOrder : WorldState → Type 0
 IsOrder w = IsWholeHistory w.config (λ number. empty) w.order (cache_at w)
 
-abbrev pub HasParts : WorldState → Type 0
-HasParts w = (number : ℕ) (s : State) → slice_get w.stripes number ≡ Some s → s.history ≡ of_stripe w.config.stripes number w.order
+abbrev pub HasShares : WorldState → Type 0
+HasShares w =
+    (number : ℕ) (s : State) → slice_get w.stripes number ≡ Some s
+    → s.history ≡ of_stripe w.config.stripes number w.order
 
 -- the entries stand in the byte order of their keys
-pub record IsAudit (w : WorldState) (cached_entries stored_entries : List (Bytes × Bytes)) (keys : List Bytes) (events : ℕ) (legal : Bool) : Type 0 where
+pub record IsAudit (w : WorldState) (cached_entries stored_entries : List (Bytes × Bytes))
+    (keys : List Bytes) (events : ℕ) (legal : Bool) : Type 0 where
   pub cache : Cache
   pub cache_is : IsCache w cache
   pub entries_are : cached_entries ≡ entries cache

@@ -8,7 +8,7 @@
 --     AllJoinsOut    each join has
 --     HasJoins       that is so, and no two joins are of one call and one key
 --     NoneReserved   no key of any stripe is reserved
-use Rattle.std.specs.Prelude.{◌≡◌, ℕ, List, [], ◌∷◌, length, true, Option, Some, IsSomeAnd, is_some, slice_get}
+use Rattle.std.specs.Prelude.{◌≡◌, ℕ, List, [], length, true, Option, Some, IsSomeAnd, is_some, slice_get}
 use Rattle.std.specs.List.{list_all}
 use Rattle.std.specs.FinMap.{get}
 use Rattle.jc_types.specs.declared.config.Config.{Config}
@@ -20,7 +20,7 @@ use Rattle.jc_stripe.specs.State.{State, IsOut, IsJoined}
 use Rattle.jc_stripe.specs.Reached.{IsReached}
 use Rattle.jc_world.specs.declared.event.Part.{Part}
 use Rattle.jc_world.specs.World.{Parts}
-use Rattle.jc_world.specs.Sound.{joined_once}
+use Rattle.jc_world.specs.Sound.{Each, is_joined_once}
 
 pub record IsLeft (config : Config) (number : ℕ) (s : State) : Type 0 where
   pub config_is : s.config ≡ config
@@ -36,22 +36,26 @@ abbrev pub out_at : Config → List State → Bytes → Option State
 out_at config stripes key = slice_get stripes (stripe_of key config.stripes)
 
 abbrev pub IsPartOut : Config → List State → Bytes → Part → Type 0
-IsPartOut config stripes key part = IsSomeAnd (out_at config stripes key) (λ s. (part.reservation.key ≡ key) × IsOut s part.reservation)
+IsPartOut config stripes key part =
+    IsSomeAnd (out_at config stripes key) (λ s. (part.reservation.key ≡ key)
+    × IsOut s part.reservation)
 
 pub record HasHeld (config : Config) (stripes : List State) (parts : Parts) : Type 0 where
-  pub out : (key : Bytes) (part : Part) → get parts key ≡ Some part → IsPartOut config stripes key part
-  pub back : (number : ℕ) (s : State) → slice_get stripes number ≡ Some s → list_all (λ r. is_some (get parts r.key)) s.reservations ≡ true
+  pub out : (key : Bytes) (part : Part) → get parts key ≡ Some part
+      → IsPartOut config stripes key part
+  pub back : (number : ℕ) (s : State) → slice_get stripes number ≡ Some s
+      → list_all (λ r. is_some (get parts r.key)) s.reservations ≡ true
 
 abbrev pub IsJoinOut : Config → List State → JoinClaim → Type 0
 IsJoinOut config stripes join = IsSomeAnd (out_at config stripes join.key) (λ s. IsJoined s join)
 
 abbrev pub AllJoinsOut : Config → List State → List JoinClaim → Type 0
-AllJoinsOut config stripes [] = Unit {0}
-AllJoinsOut config stripes (join ∷ joins) = IsJoinOut config stripes join × AllJoinsOut config stripes joins
+AllJoinsOut config stripes joins = Each (IsJoinOut config stripes) joins
 
 pub record HasJoins (config : Config) (stripes : List State) (joins : List JoinClaim) : Type 0 where
-  pub once_is : joined_once joins ≡ true
+  pub once_is : is_joined_once joins ≡ true
   pub out : AllJoinsOut config stripes joins
 
 abbrev pub NoneReserved : List State → Type 0
-NoneReserved stripes = (number : ℕ) (s : State) → slice_get stripes number ≡ Some s → s.reservations ≡ []
+NoneReserved stripes =
+    (number : ℕ) (s : State) → slice_get stripes number ≡ Some s → s.reservations ≡ []

@@ -8,20 +8,26 @@
 --     may_report                  the writer was asked for the call's key, and hasn't returned
 --     fits                        whether an event fits
 --     with_stripe                 the world with a key's stripe at another state
---     goes_on                     the same, and what the stripe appended to its history stands at the end of the order
+--     with_phase                  the same, and what the stripe appended to its history stands at the end of the order
 --     step_of                     what is shown of a step, but for its stripe
---     call_over                   the world with a call over
---     load_asked, write_asked     the progress of a key whose loader, or writer, is to be asked
+--     new_call                    a call under way
+--     with_call                   the world with a call that has begun
+--     without_call                the world with a call over
+--     new_load, new_write     the progress of a key whose loader, or writer, is to be asked
 --     new_part                    what is kept of a key that was just reserved
 --     with_part, without_part     the world with this part of a key, and with none
+--     with_new_part            the world in which a call has reserved its key
 --     with_join, without_join     the world with one join more, and without a call's join of a key
+--     BeginsAs                    the first phase of a call, by what it returns
 --     Starts                      a first phase, by what is shown of it
 --     Ends                        a last phase
 --     Picks                       a pick-up, by what is shown of it
+--     with_progress               the world with another progress of a reserved key
 --     with_change, with_report    the progress once the writer has changed the store, and once it has returned
---     answered                    the world once the loader has answered
---     changed                     the world once the writer has changed the store
---     reported                    the world once the writer has returned
+--     after_answer                the world once the loader has answered
+--     after_change                the world once the writer has changed the store
+--     after_report                the world once the writer has returned
+--     shown_report                what the writer's return shows
 --     Happens                     what an event that fits may show and leave
 --     Step                        one event: one that doesn't fit is shown as a fault and changes nothing
 --     Run                         events one after another
@@ -47,6 +53,7 @@ use Rattle.jc_model.specs.declared.event.WriteAnswer.TheVariants as write
 use Rattle.jc_model.specs.Cache.{Bytes, entry_at, with_entry}
 use Rattle.jc_model.specs.Table.{is_load_given}
 use Rattle.jc_stripe.specs.declared.begun.StepDone.{StepDone}
+use Rattle.jc_stripe.specs.declared.begun.Begun.{Begun}
 use Rattle.jc_stripe.specs.declared.begun.Begun.TheVariants as begun
 use Rattle.jc_stripe.specs.declared.ticket.First.TheVariants.{Writer}
 use Rattle.jc_stripe.specs.declared.ticket.Reservation.{Reservation}
@@ -60,12 +67,13 @@ use Rattle.jc_world.specs.declared.event.WorldEvent.TheVariants as event
 use Rattle.jc_world.specs.declared.event.Shown.{Shown}
 use Rattle.jc_world.specs.declared.event.Shown.TheVariants as shown
 use Rattle.jc_world.specs.declared.event.Stepped.{Stepped}
-use Rattle.jc_world.specs.declared.event.Under.{Under}
+use Rattle.jc_world.specs.declared.event.Reported.{Reported}
+use Rattle.jc_world.specs.declared.event.OpenCall.{OpenCall}
 use Rattle.jc_world.specs.declared.event.Part.{Part}
 use Rattle.jc_world.specs.declared.event.Progress.{Progress}
 use Rattle.jc_world.specs.declared.event.Progress.TheVariants.{Loading, Writing}
-use Rattle.jc_world.specs.World.{WorldState, home, stripe_for, is_busy, under, over, part_of, waits_for_load, waits_for_report, is_answered, is_untouched, has_changed, join_of, is_joined, unjoined, out_of}
-use Rattle.jc_world.specs.Premises.{read_answer, changed_to, report_of, is_true_load, is_true_report, with_loader, with_writer, disturbed}
+use Rattle.jc_world.specs.World.{WorldState, home, stripe_for, is_busy, open_call, drop_call, part_of, waits_for_load, waits_for_report, is_answered, is_untouched, has_changed, join_of, is_joined, joins_without, out_of, has_progress}
+use Rattle.jc_world.specs.Premises.{read_answer, changed_to, report_of, is_true_load, is_true_report, with_loader, with_writer, with_foreign_write}
 
 -- 1. When an event fits.
 
@@ -100,30 +108,32 @@ abbrev pub is_free : WorldState → ℕ → Bytes → Bool
 is_free w call key = is_none (part_of w call key) && not (is_joined w call key)
 
 -- the key is the call's, and it has neither a reservation nor a join
-abbrev pub may_start : WorldState → ℕ → Bytes → Option Under → Bool
+abbrev pub may_start : WorldState → ℕ → Bytes → Option OpenCall → Bool
 may_start w call key None = false
 may_start w call key (Some u) = pointwise ◌==◌ key u.command.key && is_free w call key
 
 -- the call has neither a reservation nor a join
-abbrev pub may_leave : WorldState → ℕ → Option Under → Bool
+abbrev pub may_leave : WorldState → ℕ → Option OpenCall → Bool
 may_leave w call None = false
 may_leave w call (Some u) = is_free w call u.command.key
 
 -- the call's key is asked of the writer, which hasn't returned
-abbrev pub may_report : WorldState → ℕ → Option Under → Bool
+abbrev pub may_report : WorldState → ℕ → Option OpenCall → Bool
 may_report w call None = false
-may_report w call (Some u) = waits_for_report (part_of w call u.command.key)
+may_report w call (Some u) = has_progress waits_for_report (part_of w call u.command.key)
 
 abbrev pub fits : WorldState → WorldEvent → Bool
-fits w (event.Call call session command) = is_single command.op && is_session session && is_new w.last call && not (is_busy w session)
-fits w (event.Start call key) = may_start w call key (under w call)
-fits w (event.Read call key) = waits_for_load (part_of w call key)
-fits w (event.Say call key answer) = is_load_given answer && waits_for_load (part_of w call key)
-fits w (event.Change call key) = waits_for_report (part_of w call key)
-fits w (event.Report call fault) = may_report w call (under w call)
-fits w (event.Commit call key) = is_answered (part_of w call key)
-fits w (event.Withdraw call key) = is_untouched (part_of w call key)
-fits w (event.Leave call) = may_leave w call (under w call)
+fits w (event.Call call session command) =
+    is_single command.op && is_session session && is_new w.last call && not (is_busy w session)
+fits w (event.Start call key) = may_start w call key (open_call w call)
+fits w (event.Read call key) = has_progress waits_for_load (part_of w call key)
+fits w (event.Say call key answer) =
+    is_load_given answer && has_progress waits_for_load (part_of w call key)
+fits w (event.Change call key) = has_progress waits_for_report (part_of w call key)
+fits w (event.Report call fault) = may_report w call (open_call w call)
+fits w (event.Commit call key) = has_progress is_answered (part_of w call key)
+fits w (event.Withdraw call key) = has_progress is_untouched (part_of w call key)
+fits w (event.Leave call) = may_leave w call (open_call w call)
 fits w (event.PickUp call key) = is_joined w call key
 fits w (event.Foreign key value) = true
 
@@ -134,28 +144,46 @@ abbrev pub with_stripe : WorldState → Bytes → State → WorldState
 with_stripe w key to = record w { stripes = slice_set w.stripes (home w key) to }
 
 -- the same, and what it appended to its history stands at the end of the order
-abbrev pub goes_on : WorldState → Bytes → State → State → WorldState
-goes_on w key from to = record w { stripes = slice_set w.stripes (home w key) to; order = w.order ++ drop (length from.history) to.history }
+abbrev pub with_phase : WorldState → Bytes → State → State → WorldState
+with_phase w key from to =
+    record w {
+      stripes = slice_set w.stripes (home w key) to;
+      order = w.order ++ drop (length from.history) to.history;
+    }
 
 -- what is shown of a step, but for its stripe: its reply, its place, and the evictions that were made with it
 abbrev pub step_of : Stepped → StepDone
-step_of seen = record { reply = seen.reply; place = seen.place; victim = seen.victim; evicted = seen.evicted }
+step_of seen =
+    record { reply = seen.reply; place = seen.place; victim = seen.victim; evicted = seen.evicted }
 
-abbrev pub call_over : WorldState → ℕ → WorldState
-call_over w call = record w { calls = over call w.calls }
+-- a call under way
+abbrev pub new_call : ℕ → ℕ → Command → OpenCall
+new_call call session command =
+    record { caller = record { session = session; call = call }; command = command }
+
+abbrev pub with_call : WorldState → OpenCall → WorldState
+with_call w u = record w { last = Some u.caller.call; fresh = false; calls = w.calls ++ u ∷ [] }
+
+abbrev pub without_call : WorldState → ℕ → WorldState
+without_call w call = record w { calls = drop_call call w.calls }
 
 -- what is kept of a key that was reserved
-abbrev pub load_asked : Progress
-load_asked = Loading load.NotAsked
+abbrev pub new_load : Progress
+new_load = Loading load.NotAsked
 
-abbrev pub write_asked : Progress
-write_asked = Writing false write.NotAsked
+abbrev pub new_write : Progress
+new_write = Writing false write.NotAsked
 
 abbrev pub new_part : Progress → Reservation → Part
 new_part progress r = record { reservation = r; progress = progress }
 
 abbrev pub with_part : WorldState → Bytes → Part → WorldState
 with_part w key part = record w { parts = insert w.parts key part }
+
+-- a call has reserved its key, whose stripe is then at another state
+abbrev pub with_new_part : WorldState → OpenCall → State → Progress → Reservation → WorldState
+with_new_part w u to progress r =
+    with_part (with_stripe w u.command.key to) u.command.key (new_part progress r)
 
 abbrev pub without_part : WorldState → Bytes → WorldState
 without_part w key = record w { parts = remove w.parts key }
@@ -164,99 +192,141 @@ abbrev pub with_join : WorldState → JoinClaim → WorldState
 with_join w join = record w { joins = w.joins ++ join ∷ [] }
 
 abbrev pub without_join : WorldState → ℕ → Bytes → WorldState
-without_join w call key = record w { joins = unjoined call key w.joins }
+without_join w call key = record w { joins = joins_without call key w.joins }
 
 -- 3. The first phase, and the last.
 
+-- the first phase of a call, by what it returns
+abbrev pub BeginsAs : OpenCall → Begun → State → State → Type 0
+BeginsAs u b from to = Begins from u.caller u.command.key u.command.op b to
+
 -- of a call whose stripe is at `from`, and is then at `to`
-abbrev pub Starts : WorldState → Under → State → State → Shown → WorldState → Type 0
+abbrev pub Starts : WorldState → OpenCall → State → State → Shown → WorldState → Type 0
 Starts old u from to (shown.Refused refusal) new =
-    Begins from u.caller u.command.key u.command.op (begun.Refused refusal) to × (new ≡ call_over old u.caller.call)
+    BeginsAs u (begun.Refused refusal) from to × (new ≡ without_call old u.caller.call)
 Starts old u from to (shown.Stepped seen) new =
-    Begins from u.caller u.command.key u.command.op (begun.Done (step_of seen)) to
-    × (seen.stripe ≡ home old u.command.key) × (new ≡ call_over (goes_on old u.command.key from to) u.caller.call)
+    BeginsAs u (begun.Done (step_of seen)) from to × (seen.stripe ≡ home old u.command.key)
+    × (new ≡ without_call (with_phase old u.command.key from to) u.caller.call)
 Starts old u from to shown.Loads new =
-    (ticket : Ticket) × Begins from u.caller u.command.key u.command.op (begun.Load ticket) to
-    × (new ≡ with_part (with_stripe old u.command.key to) u.command.key (new_part load_asked ticket.reservation))
+    (ticket : Ticket) × BeginsAs u (begun.Load ticket) from to
+    × (new ≡ with_new_part old u to new_load ticket.reservation)
 Starts old u from to (shown.Asks change) new =
-    (ticket : Ticket) × Begins from u.caller u.command.key u.command.op (begun.Write ticket) to × (ticket.reservation.first ≡ Writer change)
-    × (new ≡ with_part (with_stripe old u.command.key to) u.command.key (new_part write_asked ticket.reservation))
+    (ticket : Ticket) × BeginsAs u (begun.Write ticket) from to
+    × (ticket.reservation.first ≡ Writer change)
+    × (new ≡ with_new_part old u to new_write ticket.reservation)
 Starts old u from to shown.Joins new =
-    (join : JoinClaim) × Begins from u.caller u.command.key u.command.op (begun.Joined join) to
+    (join : JoinClaim) × BeginsAs u (begun.Joined join) from to
     × (new ≡ with_join (with_stripe old u.command.key to) join)
 Starts old u from to seen new = ⊥
 
 abbrev pub Ends : WorldState → ℕ → Bytes → Part → State → State → Shown → WorldState → Type 0
 Ends old call key part from to (shown.Stepped seen) new =
     Commits from part.reservation (out_of part) (step_of seen) to
-    × (seen.stripe ≡ home old key) × (new ≡ without_part (call_over (goes_on old key from to) call) key)
+    × (seen.stripe ≡ home old key)
+    × (new ≡ without_part (without_call (with_phase old key from to) call) key)
 Ends old call key part from to seen new = ⊥
 
 -- of a call that has joined the load of a key: its answer, with which the call is over, or that it is to retry, or nothing yet
 abbrev pub Picks : WorldState → ℕ → Bytes → JoinClaim → State → State → Shown → WorldState → Type 0
 Picks old call key join from to (shown.PickedUp seen) new =
-    PicksUp from join (picked.Answer seen.reply seen.place seen.shared) to × (seen.stripe ≡ home old key)
-    × (new ≡ call_over (without_join (with_stripe old key to) call key) call)
-Picks old call key join from to shown.Again new = PicksUp from join picked.Again to × (new ≡ without_join (with_stripe old key to) call key)
-Picks old call key join from to shown.Waits new = PicksUp from join (picked.NotYet join) to × (new ≡ old)
+    PicksUp from join (picked.Answer seen.reply seen.place seen.shared) to
+    × (seen.stripe ≡ home old key)
+    × (new ≡ without_call (without_join (with_stripe old key to) call key) call)
+Picks old call key join from to shown.Again new =
+    PicksUp from join picked.Again to × (new ≡ without_join (with_stripe old key to) call key)
+Picks old call key join from to shown.Waits new =
+    PicksUp from join (picked.NotYet join) to × (new ≡ old)
 Picks old call key join from to seen new = ⊥
 
 -- 4. What was said outside.
 
+-- the world with this progress of a reserved key
+abbrev pub with_progress : WorldState → Bytes → Part → Progress → WorldState
+with_progress w key part progress = with_part w key (record part { progress = progress })
+
 -- the loader's answer is kept
-abbrev pub answered : WorldState → Bytes → Part → LoadAnswer → WorldState
-answered w key part answer =
-    record (with_part w key (record part { progress = Loading answer })) { premises = with_loader w.premises (is_true_load answer (entry_at w.store key)) }
+abbrev pub after_answer : WorldState → Bytes → Part → LoadAnswer → WorldState
+after_answer w key part answer =
+    let honest = is_true_load answer (entry_at w.store key) in
+    record (with_progress w key part (Loading answer)) { premises = with_loader w.premises honest }
 
 abbrev pub with_change : Progress → Progress
 with_change (Loading answer) = Loading answer
 with_change (Writing is_changed report) = Writing true report
 
 -- the store is as the writer was asked
-abbrev pub changed : WorldState → Bytes → Part → Change → WorldState
-changed w key part change = record (with_part w key (record part { progress = with_change part.progress })) { store = with_entry w.store key (changed_to change) }
+abbrev pub after_change : WorldState → Bytes → Part → Change → WorldState
+after_change w key part change =
+    let progress = with_change part.progress in
+    record (with_progress w key part progress) { store = with_entry w.store key (changed_to change) }
 
 abbrev pub with_report : Progress → WriteAnswer → Progress
 with_report (Loading answer) report = Loading answer
 with_report (Writing is_changed was) report = Writing is_changed report
 
 -- the writer's report is kept
-abbrev pub reported : WorldState → Bytes → Part → WriteAnswer → WorldState
-reported w key part report = record (with_part w key (record part { progress = with_report part.progress report })) { premises = with_writer w.premises (is_true_report report (has_changed part.progress)) }
+abbrev pub after_report : WorldState → Bytes → Part → WriteAnswer → WorldState
+after_report w key part report =
+    let progress = with_report part.progress report in
+    let honest = is_true_report report (has_changed part.progress) in
+    record (with_progress w key part progress) { premises = with_writer w.premises honest }
+
+-- what the writer's return shows
+abbrev pub shown_report : Change → Progress → Option ℕ → Reported
+shown_report change progress fault =
+    record { change = change; is_changed = has_changed progress; fault = fault }
 
 -- 5. What an event that fits shows and leaves.
 
 abbrev pub Happens : WorldState → WorldEvent → Shown → WorldState → Type 0
 Happens old (event.Call call session command) seen new =
     (seen ≡ shown.Begun)
-    × (new ≡ record old { last = Some call; fresh = false; calls = old.calls ++ record { caller = record { session = session; call = call }; command = command } ∷ [] })
+    × (new ≡ with_call old (new_call call session command))
 Happens old (event.Start call key) seen new =
-    (u : Under) × (under old call ≡ Some u) × (from : State) × (stripe_for old u.command.key ≡ Some from) × (to : State) × Starts old u from to seen new
+    (u : OpenCall) × (open_call old call ≡ Some u)
+    × (from : State) × (stripe_for old u.command.key ≡ Some from) × (to : State)
+    × Starts old u from to seen new
 Happens old (event.Read call key) seen new =
     let answer = read_answer (entry_at old.store key) in
-    (part : Part) × (part_of old call key ≡ Some part) × (seen ≡ shown.Reads answer) × (new ≡ answered old key part answer)
+    (part : Part) × (part_of old call key ≡ Some part) × (seen ≡ shown.Reads answer)
+    × (new ≡ after_answer old key part answer)
 Happens old (event.Say call key answer) seen new =
-    (part : Part) × (part_of old call key ≡ Some part) × (seen ≡ shown.Says answer) × (new ≡ answered old key part answer)
+    (part : Part) × (part_of old call key ≡ Some part) × (seen ≡ shown.Says answer)
+    × (new ≡ after_answer old key part answer)
 Happens old (event.Change call key) seen new =
-    (part : Part) × (change : Change) × (part_of old call key ≡ Some part) × (part.reservation.first ≡ Writer change) × (seen ≡ shown.Changed) × (new ≡ changed old key part change)
+    (part : Part) × (change : Change) × (part_of old call key ≡ Some part)
+    × (part.reservation.first ≡ Writer change) × (seen ≡ shown.Changed)
+    × (new ≡ after_change old key part change)
 Happens old (event.Report call fault) seen new =
-    (u : Under) × (part : Part) × (change : Change) × (under old call ≡ Some u) × (part_of old call u.command.key ≡ Some part) × (part.reservation.first ≡ Writer change)
-    × (seen ≡ shown.Reported (record { change = change; is_changed = has_changed part.progress; fault = fault })) × (new ≡ reported old u.command.key part (report_of fault))
+    (u : OpenCall) × (part : Part) × (change : Change) × (open_call old call ≡ Some u)
+    × (part_of old call u.command.key ≡ Some part) × (part.reservation.first ≡ Writer change)
+    × (seen ≡ shown.Reported (shown_report change part.progress fault))
+    × (new ≡ after_report old u.command.key part (report_of fault))
 Happens old (event.Commit call key) seen new =
-    (part : Part) × (part_of old call key ≡ Some part) × (from : State) × (stripe_for old key ≡ Some from) × (to : State) × Ends old call key part from to seen new
+    (part : Part) × (part_of old call key ≡ Some part)
+    × (from : State) × (stripe_for old key ≡ Some from) × (to : State)
+    × Ends old call key part from to seen new
 Happens old (event.Withdraw call key) seen new =
-    (part : Part) × (part_of old call key ≡ Some part) × (from : State) × (stripe_for old key ≡ Some from) × (to : State) × Withdraws from part.reservation to
-    × (seen ≡ shown.Withdrawn) × (new ≡ without_part (with_stripe old key to) key)
-Happens old (event.Leave call) seen new = (seen ≡ shown.Left) × (new ≡ call_over old call)
+    (part : Part) × (part_of old call key ≡ Some part)
+    × (from : State) × (stripe_for old key ≡ Some from) × (to : State)
+    × Withdraws from part.reservation to × (seen ≡ shown.Withdrawn)
+    × (new ≡ without_part (with_stripe old key to) key)
+Happens old (event.Leave call) seen new = (seen ≡ shown.Left) × (new ≡ without_call old call)
 Happens old (event.PickUp call key) seen new =
-    (join : JoinClaim) × (join_of old call key ≡ Some join) × (from : State) × (stripe_for old key ≡ Some from) × (to : State) × Picks old call key join from to seen new
+    (join : JoinClaim) × (join_of old call key ≡ Some join)
+    × (from : State) × (stripe_for old key ≡ Some from) × (to : State)
+    × Picks old call key join from to seen new
 Happens old (event.Foreign key value) seen new =
-    (seen ≡ shown.Written) × (new ≡ record old { store = with_entry old.store key value; fresh = false; premises = disturbed old.premises })
+    let store = with_entry old.store key value in
+    (seen ≡ shown.Written)
+    × (new ≡ record old { store = store; fresh = false; premises = with_foreign_write old.premises })
 
 -- 6. Steps and runs.
 
 abbrev pub Step : WorldState → WorldEvent → Shown → WorldState → Type 0
-Step old e seen new = ((fits old e ≡ true) × Happens old e seen new) ⊎ ((fits old e ≡ false) × (seen ≡ shown.Unfit) × (new ≡ old))
+Step old e seen new =
+    ((fits old e ≡ true) × Happens old e seen new)
+    ⊎ ((fits old e ≡ false) × (seen ≡ shown.Unfit) × (new ≡ old))
 
 abbrev pub Run : WorldState → List WorldEvent → List Shown → WorldState → Type 0
 Run old [] [] new = new ≡ old
@@ -264,8 +334,10 @@ Run old (e ∷ es) (s ∷ ss) new = (mid : WorldState) × Step old e s mid × Ru
 Run old [] (s ∷ ss) new = ⊥
 Run old (e ∷ es) [] new = ⊥
 
-abbrev pub RunAppending : WorldState → List WorldEvent → List Shown → List Shown → WorldState → Type 0
-RunAppending old events before after new = (seen : List Shown) × Run old events seen new × (after ≡ before ++ seen)
+abbrev pub RunAppending : WorldState → List WorldEvent → List Shown → List Shown → WorldState
+    → Type 0
+RunAppending old events before after new =
+    (seen : List Shown) × Run old events seen new × (after ≡ before ++ seen)
 
 -- 7. Events that fit.
 
@@ -277,16 +349,21 @@ abbrev pub all_fit : List Shown → Bool
 all_fit seen = list_all is_fit seen
 
 abbrev pub AllFit : WorldState → List WorldEvent → Type 0
-AllFit old events = (seen : List Shown) (new : WorldState) → Run old events seen new → all_fit seen ≡ true
+AllFit old events =
+    (seen : List Shown) (new : WorldState) → Run old events seen new → all_fit seen ≡ true
 
 -- it does so in every world that is reached
 abbrev pub StartFits : WorldState → Type 0
-StartFits w = (call session : ℕ) (command : Command) → fits w (event.Call call session command) ≡ true → AllFit w (event.Call call session command ∷ event.Start call command.key ∷ [])
+StartFits w =
+    (call session : ℕ) (command : Command) → fits w (event.Call call session command) ≡ true
+    → AllFit w (event.Call call session command ∷ event.Start call command.key ∷ [])
 
 -- so is this, of the call's own key
 pub record RestFits (w : WorldState) : Type 0 where
   pub alone : (e : WorldEvent) → fits w e ≡ true → AllFit w (e ∷ [])
-  pub report : (call : ℕ) (u : Under) (fault : Option ℕ) → under w call ≡ Some u → fits w (event.Change call u.command.key) ≡ true
+  pub report : (call : ℕ) (u : OpenCall) (fault : Option ℕ) → open_call w call ≡ Some u
+      → fits w (event.Change call u.command.key) ≡ true
       → AllFit w (event.Change call u.command.key ∷ event.Report call fault ∷ [])
-  pub leave : (call : ℕ) (u : Under) → under w call ≡ Some u → fits w (event.Withdraw call u.command.key) ≡ true
+  pub leave : (call : ℕ) (u : OpenCall) → open_call w call ≡ Some u
+      → fits w (event.Withdraw call u.command.key) ≡ true
       → AllFit w (event.Withdraw call u.command.key ∷ event.Leave call ∷ [])

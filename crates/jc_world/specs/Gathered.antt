@@ -11,4 +11,5 @@ or_else None other = other
 
 abbrev pub found_after : Option Bytes → List State → Bytes → Option Bytes
 found_after before [] key = before
-found_after before (stripe ∷ stripes) key = found_after (or_else (entry_at stripe.cache key) before) stripes key
+found_after before (stripe ∷ stripes) key =
+    found_after (or_else (entry_at stripe.cache key) before) stripes key

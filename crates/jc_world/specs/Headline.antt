@@ -1,9 +1,10 @@
 -- The headline, over every run.
---     opened            a world at its start, with these values in its store
+--     start_with        a world at its start, with these values in its store
+--     Reaches           after a list of events, which showed a list, a world that began so is at this state
 --     StaysLegal        after every list of events the order is one legal history, what is cached is what it leaves, and each
 --                       stripe's history is its part of the order
 --     StaysCoherent     after every list of events, as long as the premises held, the world is coherent
---     reopened          a world in which the premises have held so far, whatever came before
+--     with_all_premises  a world in which the premises have held so far, whatever came before
 --     StaysCoherentFrom from any world that is reached and coherent, in which no key is reserved: after every list of events, as long
 --                       as the premises held since then, the world is coherent
 --     is_answer         an event is an answer of the loader for a key, and was taken
@@ -28,25 +29,42 @@ use Rattle.jc_world.specs.declared.event.Shown.TheVariants as shown
 use Rattle.jc_world.specs.World.{WorldState, start, out_of, with_stored}
 use Rattle.jc_world.specs.Events.{Run}
 use Rattle.jc_world.specs.Coherent.{Coherent, all_hold}
-use Rattle.jc_world.specs.Audit.{IsOrder, HasParts}
+use Rattle.jc_world.specs.Audit.{IsOrder, HasShares}
 
 -- a world at its start, with these values in its store
-abbrev pub opened : Config → List (Bytes × Bytes) → WorldState
-opened config [] = start config
-opened config (entry ∷ entries) = with_stored (opened config entries) entry.0 entry.1
+abbrev pub start_with : Config → List (Bytes × Bytes) → WorldState
+start_with config [] = start config
+start_with config (entry ∷ entries) = with_stored (start_with config entries) entry.0 entry.1
+
+-- after these events, which showed this, such a world is at `new`
+abbrev pub Reaches : Config → List (Bytes × Bytes) → List WorldEvent → List Shown → WorldState
+    → Type 0
+Reaches config stored events seen new =
+    (check config ≡ Ok tt) × Run (start_with config stored) events seen new
 
 abbrev pub StaysLegal : Type 0
-StaysLegal = (config : Config) (stored : List (Bytes × Bytes)) (events : List WorldEvent) (seen : List Shown) (new : WorldState) → check config ≡ Ok tt → Run (opened config stored) events seen new → IsOrder new × HasParts new
+StaysLegal =
+    (config : Config) (stored : List (Bytes × Bytes)) (events : List WorldEvent) (seen : List Shown)
+    (new : WorldState)
+    → Reaches config stored events seen new → IsOrder new × HasShares new
 
 abbrev pub StaysCoherent : Type 0
-StaysCoherent = (config : Config) (stored : List (Bytes × Bytes)) (events : List WorldEvent) (seen : List Shown) (new : WorldState) → check config ≡ Ok tt → Run (opened config stored) events seen new → all_hold new ≡ true → Coherent new
+StaysCoherent =
+    (config : Config) (stored : List (Bytes × Bytes)) (events : List WorldEvent) (seen : List Shown)
+    (new : WorldState)
+    → Reaches config stored events seen new → all_hold new ≡ true → Coherent new
 
-abbrev pub reopened : WorldState → WorldState
-reopened w = record w { premises = record { writers = true; loaders = true; quiet = true } }
+abbrev pub with_all_premises : WorldState → WorldState
+with_all_premises w =
+    record w { premises = record { writers = true; loaders = true; quiet = true } }
 
 abbrev pub StaysCoherentFrom : Type 0
-StaysCoherentFrom = (config : Config) (stored : List (Bytes × Bytes)) (before events : List WorldEvent) (seen_before seen : List Shown) (opening new : WorldState) → check config ≡ Ok tt → Run (opened config stored) before seen_before opening
-    → ((key : Bytes) → get opening.parts key ≡ None) → Coherent opening → Run (reopened opening) events seen new → all_hold new ≡ true → Coherent new
+StaysCoherentFrom =
+    (config : Config) (stored : List (Bytes × Bytes)) (before events : List WorldEvent)
+    (seen_before seen : List Shown) (opening new : WorldState)
+    → Reaches config stored before seen_before opening
+    → ((key : Bytes) → get opening.parts key ≡ None) → Coherent opening
+    → Run (with_all_premises opening) events seen new → all_hold new ≡ true → Coherent new
 
 -- an answer of the loader for a key, which was taken
 abbrev pub is_answer : Bytes → WorldEvent → Shown → Bool
@@ -56,7 +74,8 @@ is_answer key e seen = false
 
 -- a step of a key that has an answer of the loader, which it shares with no step before it
 abbrev pub is_load : Bytes → Event → Bool
-is_load key (stripe.Step caller op k out None reply) = pointwise ◌==◌ key k && is_load_given out.load
+is_load key (stripe.Step caller op k out None reply) =
+    pointwise ◌==◌ key k && is_load_given out.load
 is_load key (stripe.Step caller op k out (Some place) reply) = false
 is_load key (stripe.Evict k cause) = false
 
@@ -66,5 +85,9 @@ is_loaded None = false
 is_loaded (Some part) = is_load_given (out_of part).load
 
 abbrev pub CountsLoads : Type 0
-CountsLoads = (config : Config) (stored : List (Bytes × Bytes)) (events : List WorldEvent) (seen : List Shown) (new : WorldState) (key : Bytes) → check config ≡ Ok tt → Run (opened config stored) events seen new
-    → count_by (λ e. is_answer key e.0 e.1) (zip events seen) ≡ count_by (is_load key) new.order + (if is_loaded (get new.parts key) then 1 else 0)
+CountsLoads =
+    (config : Config) (stored : List (Bytes × Bytes)) (events : List WorldEvent) (seen : List Shown)
+    (new : WorldState) (key : Bytes)
+    → Reaches config stored events seen new
+    → count_by (λ e. is_answer key e.0 e.1) (zip events seen)
+    ≡ count_by (is_load key) new.order + (if is_loaded (get new.parts key) then 1 else 0)

@@ -37,8 +37,10 @@ report_in None = write.NotAsked
 report_in (Some written) = written.report
 
 abbrev pub part_in : Asked → Part
-part_in (asked.Loader ticket loaded) = record { reservation = ticket.reservation; progress = Loading (load_in loaded) }
-part_in (asked.Writer ticket is_changed written) = record { reservation = ticket.reservation; progress = Writing is_changed (report_in written) }
+part_in (asked.Loader ticket loaded) =
+    record { reservation = ticket.reservation; progress = Loading (load_in loaded) }
+part_in (asked.Writer ticket is_changed written) =
+    record { reservation = ticket.reservation; progress = Writing is_changed (report_in written) }
 
 pub record IsLoadOf (r : Reservation) (loaded : Loaded) : Type 0 where
   pub done_is : loaded.done ≡ record { ask = r; origin = Played; answer = loaded.answer }
@@ -50,11 +52,13 @@ pub record IsReportOf (r : Reservation) (written : Written) : Type 0 where
 
 abbrev pub IsLoad : Ticket → Option Loaded → Type 0
 IsLoad ticket None = (asks_loader ticket.reservation.first ≡ true) × (ticket.asked ≡ false)
-IsLoad ticket (Some loaded) = (asks_loader ticket.reservation.first ≡ true) × IsLoadOf ticket.reservation loaded
+IsLoad ticket (Some loaded) =
+    (asks_loader ticket.reservation.first ≡ true) × IsLoadOf ticket.reservation loaded
 
 abbrev pub IsWrite : Ticket → Option Written → Type 0
 IsWrite ticket None = (asks_writer ticket.reservation.first ≡ true) × (ticket.asked ≡ false)
-IsWrite ticket (Some written) = (asks_writer ticket.reservation.first ≡ true) × IsReportOf ticket.reservation written
+IsWrite ticket (Some written) =
+    (asks_writer ticket.reservation.first ≡ true) × IsReportOf ticket.reservation written
 
 abbrev pub IsAnswerable : Asked → Type 0
 IsAnswerable (asked.Loader ticket loaded) = IsLoad ticket loaded

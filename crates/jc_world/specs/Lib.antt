@@ -3,7 +3,7 @@ pub mod Premises
 pub mod Events
 pub mod Coherent
 pub mod Audit
-pub mod Played
+pub mod PlayedWorld
 pub mod Sound
 pub mod Held
 pub mod Turns

@@ -7,11 +7,10 @@
 --                       withdrawn, or that it is still out
 --     AnswersJoins      after every list of events, each pick-up is so of the load that the call joined, which asked the loader for
 --                       the key
-use Rattle.std.specs.Prelude.{◌≡◌, ◌==◌, ◌&&◌, ℕ, List, zip, take, slice_get, Bool, true, false, Some, Ok}
+use Rattle.std.specs.Prelude.{◌≡◌, ◌==◌, ◌&&◌, ℕ, List, zip, take, slice_get, Bool, true, false, Some}
 use Rattle.std.specs.List.{list_any}
 use Rattle.std.specs.Cmp.Lexicographic.{pointwise}
 use Rattle.jc_types.specs.declared.config.Config.{Config}
-use Rattle.jc_types.specs.Limits.{check}
 use Rattle.jc_model.specs.Cache.{Bytes}
 use Rattle.jc_stripe.specs.Tickets.{asks_loader}
 use Rattle.jc_stripe.specs.declared.ticket.Reservation.{Reservation}
@@ -23,7 +22,7 @@ use Rattle.jc_world.specs.declared.event.Shown.{Shown}
 use Rattle.jc_world.specs.declared.event.Shown.TheVariants as shown
 use Rattle.jc_world.specs.World.{WorldState, part_of}
 use Rattle.jc_world.specs.Events.{is_fit, Step, Run}
-use Rattle.jc_world.specs.Headline.{opened}
+use Rattle.jc_world.specs.Headline.{Reaches}
 
 abbrev pub ends_join : Shown → Bool
 ends_join (shown.PickedUp x) = true
@@ -31,31 +30,45 @@ ends_join shown.Again = true
 ends_join seen = false
 
 abbrev pub is_last_pick_up : ℕ → Bytes → WorldEvent × Shown → Bool
-is_last_pick_up call key (event.PickUp c k, seen) = (c == call) && pointwise ◌==◌ key k && ends_join seen
+is_last_pick_up call key (event.PickUp c k, seen) =
+    (c == call) && pointwise ◌==◌ key k && ends_join seen
 is_last_pick_up call key (e, seen) = false
 
 -- `shows` are the events since the call joined, each with what it showed, and `load` is the reservation of the load that it joined
 abbrev pub ends_load : Reservation → WorldEvent × Shown → Bool
-ends_load load (event.Commit call key, seen) = is_fit seen && (call == load.caller.call) && pointwise ◌==◌ load.key key
-ends_load load (event.Withdraw call key, seen) = is_fit seen && (call == load.caller.call) && pointwise ◌==◌ load.key key
+ends_load load (event.Commit call key, seen) =
+    is_fit seen && (call == load.caller.call) && pointwise ◌==◌ load.key key
+ends_load load (event.Withdraw call key, seen) =
+    is_fit seen && (call == load.caller.call) && pointwise ◌==◌ load.key key
 ends_load load (e, seen) = false
 
-pub record IsEnd (shows : List (WorldEvent × Shown)) (load : Reservation) (at : ℕ) (e : WorldEvent) (seen : Shown) : Type 0 where
+pub record IsEnd (shows : List (WorldEvent × Shown)) (load : Reservation) (at : ℕ)
+    (e : WorldEvent) (seen : Shown) : Type 0 where
   pub there : slice_get shows at ≡ Some (e, seen)
   pub first : list_any (ends_load load) (take at shows) ≡ false
 
 abbrev pub Resolves : WorldState → List (WorldEvent × Shown) → Reservation → Shown → Type 0
 Resolves w shows load (shown.PickedUp x) =
-    (at : ℕ) × (step : Stepped) × IsEnd shows load at (event.Commit load.caller.call load.key) (shown.Stepped step) × (step.stripe ≡ x.stripe) × (step.place ≡ x.shared)
-Resolves w shows load shown.Again = (at : ℕ) × IsEnd shows load at (event.Withdraw load.caller.call load.key) shown.Withdrawn
+    (at : ℕ) × (step : Stepped)
+    × IsEnd shows load at (event.Commit load.caller.call load.key) (shown.Stepped step)
+    × (step.stripe ≡ x.stripe) × (step.place ≡ x.shared)
+Resolves w shows load shown.Again =
+    (at : ℕ) × IsEnd shows load at (event.Withdraw load.caller.call load.key) shown.Withdrawn
 Resolves w shows load shown.Waits =
-    (part : Part) × (part_of w load.caller.call load.key ≡ Some part) × (part.reservation ≡ load) × (list_any (ends_load load) shows ≡ false)
+    (part : Part) × (part_of w load.caller.call load.key ≡ Some part) × (part.reservation ≡ load)
+    × (list_any (ends_load load) shows ≡ false)
 Resolves w shows load seen = ⊥
 
 abbrev pub AnswersJoins : Type 0
-AnswersJoins = (config : Config) (stored : List (Bytes × Bytes)) (before between : List WorldEvent) (seen_before seen_between : List Shown) (old joined new newer : WorldState) (call : ℕ) (key : Bytes) (s : Shown) → check config ≡ Ok tt
-    → Run (opened config stored) before seen_before old → Step old (event.Start call key) shown.Joins joined
-    → Run joined between seen_between new → list_any (is_last_pick_up call key) (zip between seen_between) ≡ false
+AnswersJoins =
+    (config : Config) (stored : List (Bytes × Bytes)) (before between : List WorldEvent)
+    (seen_before seen_between : List Shown) (old joined new newer : WorldState)
+    (call : ℕ) (key : Bytes) (s : Shown)
+    → Reaches config stored before seen_before old
+    → Step old (event.Start call key) shown.Joins joined
+    → Run joined between seen_between new
+    → list_any (is_last_pick_up call key) (zip between seen_between) ≡ false
     → Step new (event.PickUp call key) s newer
-    → (load : Part) × (part_of old load.reservation.caller.call key ≡ Some load) × (asks_loader load.reservation.first ≡ true) × (load.reservation.key ≡ key)
+    → (load : Part) × (part_of old load.reservation.caller.call key ≡ Some load)
+    × (asks_loader load.reservation.first ≡ true) × (load.reservation.key ≡ key)
     × Resolves new (zip between seen_between) load.reservation s

@@ -7,7 +7,7 @@
 --     is_true_report               honest writers: a report says done exactly where the store was changed
 --     with_loader, with_writer     the premises behind an answer of a loader, and behind a report of a writer, by whether it was
 --                                  honest
---     disturbed                    the premises once somebody else has written the store
+--     with_foreign_write           the premises once somebody else has written the store
 --     premises_hold                all of them have held so far: loaders and writers were honest, and the store was quiet
 use Rattle.std.specs.Prelude.{ℕ, Bool, true, false, ◌&&◌, Option, None, Some, is_none}
 use Rattle.std.specs.Bool.{beq}
@@ -53,8 +53,8 @@ with_loader p honest = record p { loaders = p.loaders && honest }
 abbrev pub with_writer : Premises → Bool → Premises
 with_writer p honest = record p { writers = p.writers && honest }
 
-abbrev pub disturbed : Premises → Premises
-disturbed p = record p { quiet = false }
+abbrev pub with_foreign_write : Premises → Premises
+with_foreign_write p = record p { quiet = false }
 
 abbrev pub premises_hold : Premises → Bool
 premises_hold p = p.writers && p.loaders && p.quiet

@@ -1,5 +1,5 @@
 -- What callers were shown, over every run: each answer is the reply of a step of the order, and each step was answered once.
---     Answered        the event at a place of the order is a step of a call that has begun before, with this reply
+--     IsReplyOfStep  the event at a place of the order is a step of a call that has begun before, with this reply
 --     Stands          what an event showed, if it is an answer, is that of its call's step
 --     RepliesStand    after every list of events, each answer that was shown is that of the step at its place
 --     is_answer_at    what was shown is the answer of the step at a place
@@ -7,10 +7,9 @@
 --                     the joiners of a stripe, and of the one with a number; none if there is no such stripe
 --     times_shown     once, or not yet if the answer is still parked
 --     StepsShownOnce  after every list of events, each step of the order was shown exactly once, or its answer is parked
-use Rattle.std.specs.Prelude.{◌≡◌, ◌==◌, ◌&&◌, ℕ, List, [], take, zip, count_by, slice_get, Bool, false, Option, None, Some, Ok, if◌then◌else◌}
+use Rattle.std.specs.Prelude.{◌≡◌, ◌==◌, ◌&&◌, ℕ, List, [], take, zip, count_by, slice_get, Bool, false, Option, None, Some, if◌then◌else◌}
 use Rattle.jc_types.specs.declared.caller.Caller.{Caller}
 use Rattle.jc_types.specs.declared.config.Config.{Config}
-use Rattle.jc_types.specs.Limits.{check}
 use Rattle.jc_model.specs.declared.event.Op.{Op}
 use Rattle.jc_model.specs.declared.event.Out.{Out}
 use Rattle.jc_model.specs.declared.event.Reply.{Reply}
@@ -25,33 +24,43 @@ use Rattle.jc_world.specs.declared.event.WorldEvent.TheVariants as event
 use Rattle.jc_world.specs.declared.event.Shown.{Shown}
 use Rattle.jc_world.specs.declared.event.Shown.TheVariants as shown
 use Rattle.jc_world.specs.World.{WorldState, home}
-use Rattle.jc_world.specs.Events.{Run}
-use Rattle.jc_world.specs.Headline.{opened}
+use Rattle.jc_world.specs.Headline.{Reaches}
 
 -- 1. Each answer is that of a step.
 
 -- `shows` are the events before the answer, each with what it showed; `stripe` and `place` are those that were shown; `shared` is
 -- the place of the step whose load this one shares
-pub record Answered (w : WorldState) (shows : List (WorldEvent × Shown)) (call : ℕ) (key : Bytes) (reply : Reply) (stripe place : ℕ) (shared : Option ℕ) : Type 0 where
+pub record IsReplyOfStep (w : WorldState) (shows : List (WorldEvent × Shown)) (call : ℕ)
+    (key : Bytes)
+    (reply : Reply) (stripe place : ℕ) (shared : Option ℕ) : Type 0 where
   pub session : ℕ
   pub op : Op
   pub at : ℕ
-  pub begun : slice_get shows at ≡ Some (event.Call call session (record { op = op; key = key }), shown.Begun)
+  pub begun : slice_get shows at
+      ≡ Some (event.Call call session (record { op = op; key = key }), shown.Begun)
   pub home_is : stripe ≡ home w key
   pub out : Out
-  pub step : slice_get (of_stripe w.config.stripes stripe w.order) place ≡ Some (Step (record { session = session; call = call }) op key out shared reply)
+  pub step : slice_get (of_stripe w.config.stripes stripe w.order) place
+      ≡ Some (Step (record { session = session; call = call }) op key out shared reply)
 
 abbrev pub Stands : WorldState → List (WorldEvent × Shown) → WorldEvent → Shown → Type 0
-Stands w shows (event.Start call key) (shown.Stepped x) = Answered w shows call key x.reply x.stripe x.place None
-Stands w shows (event.Commit call key) (shown.Stepped x) = Answered w shows call key x.reply x.stripe x.place None
-Stands w shows (event.PickUp call key) (shown.PickedUp x) = Answered w shows call key x.reply x.stripe x.place (Some x.shared)
+Stands w shows (event.Start call key) (shown.Stepped x) =
+    IsReplyOfStep w shows call key x.reply x.stripe x.place None
+Stands w shows (event.Commit call key) (shown.Stepped x) =
+    IsReplyOfStep w shows call key x.reply x.stripe x.place None
+Stands w shows (event.PickUp call key) (shown.PickedUp x) =
+    IsReplyOfStep w shows call key x.reply x.stripe x.place (Some x.shared)
 Stands w shows e (shown.Stepped x) = ⊥
 Stands w shows e (shown.PickedUp x) = ⊥
 Stands w shows e seen = Unit {0}
 
 abbrev pub RepliesStand : Type 0
-RepliesStand = (config : Config) (stored : List (Bytes × Bytes)) (events : List WorldEvent) (seen : List Shown) (new : WorldState) → check config ≡ Ok tt → Run (opened config stored) events seen new
-    → (at : ℕ) (e : WorldEvent) (s : Shown) → slice_get (zip events seen) at ≡ Some (e, s) → Stands new (take at (zip events seen)) e s
+RepliesStand =
+    (config : Config) (stored : List (Bytes × Bytes)) (events : List WorldEvent) (seen : List Shown)
+    (new : WorldState)
+    → Reaches config stored events seen new
+    → (at : ℕ) (e : WorldEvent) (s : Shown) → slice_get (zip events seen) at ≡ Some (e, s)
+    → Stands new (take at (zip events seen)) e s
 
 -- 2. Each step was answered once.
 
@@ -71,7 +80,13 @@ abbrev pub times_shown : Bool → ℕ
 times_shown parked = if parked then 0 else 1
 
 abbrev pub StepsShownOnce : Type 0
-StepsShownOnce = (config : Config) (stored : List (Bytes × Bytes)) (events : List WorldEvent) (seen : List Shown) (new : WorldState) → check config ≡ Ok tt → Run (opened config stored) events seen new
-    → (stripe place : ℕ) (caller : Caller) (op : Op) (key : Bytes) (out : Out) (shared : Option ℕ) (reply : Reply)
-    → slice_get (of_stripe config.stripes stripe new.order) place ≡ Some (Step caller op key out shared reply)
-    → count_by (is_answer_at stripe place) seen ≡ times_shown (is_parked (joiners_at new stripe) caller key)
+StepsShownOnce =
+    (config : Config) (stored : List (Bytes × Bytes)) (events : List WorldEvent) (seen : List Shown)
+    (new : WorldState)
+    → Reaches config stored events seen new
+    → (stripe place : ℕ) (caller : Caller) (op : Op) (key : Bytes) (out : Out) (shared : Option ℕ)
+    (reply : Reply)
+    → slice_get (of_stripe config.stripes stripe new.order) place
+    ≡ Some (Step caller op key out shared reply)
+    → count_by (is_answer_at stripe place) seen
+    ≡ times_shown (is_parked (joiners_at new stripe) caller key)

@@ -3,29 +3,34 @@
 --     OnlyStepsChange   an event that doesn't append a step leaves the order, and all that is cached: so do a reservation, an outside
 --                       answer, a withdrawal and a pick-up
 --     EntryStays        the cached entry of a reserved key stays as long as the reservation is out, whatever happens meanwhile
-use Rattle.std.specs.Prelude.{◌≡◌, List, Bool, true, false, Some, Ok}
+use Rattle.std.specs.Prelude.{◌≡◌, List, Bool, true, false, Some}
 use Rattle.std.specs.FinMap.{get}
 use Rattle.jc_types.specs.declared.config.Config.{Config}
-use Rattle.jc_types.specs.Limits.{check}
 use Rattle.jc_model.specs.Cache.{Bytes}
 use Rattle.jc_world.specs.declared.event.Part.{Part}
 use Rattle.jc_world.specs.declared.event.WorldEvent.{WorldEvent}
 use Rattle.jc_world.specs.declared.event.Shown.{Shown}
 use Rattle.jc_world.specs.declared.event.Shown.TheVariants as shown
-use Rattle.jc_world.specs.World.{WorldState, cached}
+use Rattle.jc_world.specs.World.{WorldState, cached_entry}
 use Rattle.jc_world.specs.Events.{Step, Run}
-use Rattle.jc_world.specs.Headline.{opened}
+use Rattle.jc_world.specs.Headline.{Reaches}
 
 abbrev pub is_appended : Shown → Bool
 is_appended (shown.Stepped x) = true
 is_appended seen = false
 
 abbrev pub OnlyStepsChange : Type 0
-OnlyStepsChange = (config : Config) (stored : List (Bytes × Bytes)) (events : List WorldEvent) (seen : List Shown) (old new : WorldState) (e : WorldEvent) (s : Shown) → check config ≡ Ok tt → Run (opened config stored) events seen old
-    → Step old e s new → is_appended s ≡ false → (new.order ≡ old.order) × ((key : Bytes) → cached new key ≡ cached old key)
+OnlyStepsChange =
+    (config : Config) (stored : List (Bytes × Bytes)) (events : List WorldEvent) (seen : List Shown)
+    (old new : WorldState) (e : WorldEvent) (s : Shown)
+    → Reaches config stored events seen old → Step old e s new → is_appended s ≡ false
+    → (new.order ≡ old.order) × ((key : Bytes) → cached_entry new key ≡ cached_entry old key)
 
 -- the part of a key names its reservation: it is out in both worlds
 abbrev pub EntryStays : Type 0
-EntryStays = (config : Config) (stored : List (Bytes × Bytes)) (before after : List WorldEvent) (seen_before seen_after : List Shown) (old new : WorldState) (key : Bytes) (was is : Part) → check config ≡ Ok tt
-    → Run (opened config stored) before seen_before old → Run old after seen_after new
-    → get old.parts key ≡ Some was → get new.parts key ≡ Some is → is.reservation ≡ was.reservation → cached new key ≡ cached old key
+EntryStays =
+    (config : Config) (stored : List (Bytes × Bytes)) (before after : List WorldEvent)
+    (seen_before seen_after : List Shown) (old new : WorldState) (key : Bytes) (was is : Part)
+    → Reaches config stored before seen_before old → Run old after seen_after new
+    → get old.parts key ≡ Some was → get new.parts key ≡ Some is → is.reservation ≡ was.reservation
+    → cached_entry new key ≡ cached_entry old key

@@ -3,24 +3,26 @@
 --     IsShaped                      there is a stripe for each number
 --     is_up_to, number_up_to        a number is at most the last call's, and so is the number of an event's step
 --     none_from                     no step of a caller's session has its call number or a higher one
---     has_answer, is_told           an answer is parked for a joiner in this state, and for a joiner that is there
+--     has_answer, has_parked_answer  an answer is parked for a joiner in this state, and for a joiner that is there
 --     is_served_in, is_served       the answer of a load that it has joined is parked for a call, in a stripe and in the world
 --     is_apart                      two calls are of different sessions, and have different numbers
 --     FitsCall                      a call under way: its operation is a call by itself, its number is at most the last, and no
 --                                   step of its session has that number or a higher one, unless it is served
 --     CallsFit                      that is so of all calls under way, and no two are of one session or have one number
+--     Each                          a fact is true of each of a list
 --     is_asked                      the progress of a key is that of one who was asked: a load's of the loader, a write's of the
 --                                   writer
 --     IsHeld                        a part has its reservation, whose call is then under way
+--     IsCallOf                      a call is of a session, and its key is this
 --     IsOwned, AllOwned             a reservation has its part and its call; each does
 --     IsWaitedFor, AllWaitedFor     a join has its joiner and its call, which has no part; each does
---     joined_once                   no two joins are of one call and one key
+--     is_joined_once                no two joins are of one call and one key
 --     IsCalled, AllCalled           a joiner has its join and its call, and is in the stripe of its key; each is so
 --     Agrees                        an entry that is there is the store's value
---     WrittenFor                    the store holds what the writer was asked for
---     LoadTold, WriteTold           as long as the premises hold: what is known of a key that is loaded, and of one that is written
---     IsTold                        and so of a reserved key, by its part
---     KeyTold                       as long as the premises hold: what is known of any key, by its part, the store's value and the
+--     IsWrittenFor                  the store holds what the writer was asked for
+--     LoadAgrees, WriteAgrees       as long as the premises hold: what is known of a key that is loaded, and of one that is written
+--     ProgressAgrees                and so of a reserved key, by its part
+--     KeyAgrees                     as long as the premises hold: what is known of any key, by its part, the store's value and the
 --                                   cached one
 --     IsSoundWorld                  all of it; and while a world is fresh, nothing is cached, reserved, joined or under way
 use Rattle.std.specs.Prelude.{◌≡◌, ◌==◌, ℕ, List, [], ◌∷◌, length, Ok, Bool, true, false, not, ◌&&◌, Option, None, Some, IfSome, IsSomeAnd, find, slice_get, nat_le}
@@ -48,11 +50,11 @@ use Rattle.jc_stripe.specs.Tickets.{JoinClaim, asks_loader, asks_writer}
 use Rattle.jc_stripe.specs.State.{State, IsOut, IsJoined}
 use Rattle.jc_stripe.specs.Reached.{IsReached}
 use Rattle.jc_stripe.specs.OwnSteps.{is_before_call}
-use Rattle.jc_world.specs.declared.event.Under.{Under}
+use Rattle.jc_world.specs.declared.event.OpenCall.{OpenCall}
 use Rattle.jc_world.specs.declared.event.Part.{Part}
 use Rattle.jc_world.specs.declared.event.Progress.{Progress}
 use Rattle.jc_world.specs.declared.event.Progress.TheVariants.{Loading, Writing}
-use Rattle.jc_world.specs.World.{WorldState, home, stripe_for, cached, under, part_of, is_join, is_joined}
+use Rattle.jc_world.specs.World.{WorldState, home, stripe_for, cached_entry, open_call, part_of, is_join, is_joined}
 use Rattle.jc_world.specs.Premises.{changed_to, is_done}
 use Rattle.jc_world.specs.Events.{is_single}
 use Rattle.jc_world.specs.Coherent.{all_hold}
@@ -91,33 +93,39 @@ has_answer Waiting = false
 has_answer (Answered place shared_with) = true
 has_answer Again = false
 
-abbrev pub is_told : Option Joiner → Bool
-is_told None = false
-is_told (Some j) = has_answer j.state
+abbrev pub has_parked_answer : Option Joiner → Bool
+has_parked_answer None = false
+has_parked_answer (Some j) = has_answer j.state
 
 -- at the stripe of its key
-abbrev pub is_served_in : Option State → Under → Bool
+abbrev pub is_served_in : Option State → OpenCall → Bool
 is_served_in None u = false
-is_served_in (Some s) u = is_told (find (belongs_to u.caller u.command.key) s.joiners)
+is_served_in (Some s) u = has_parked_answer (find (belongs_to u.caller u.command.key) s.joiners)
 
-abbrev pub is_served : WorldState → Under → Bool
+abbrev pub is_served : WorldState → OpenCall → Bool
 is_served w u = is_served_in (stripe_for w u.command.key) u
 
 -- another session's call, with another number
-abbrev pub is_apart : Under → Under → Bool
-is_apart u other = not (other.caller.session == u.caller.session) && not (other.caller.call == u.caller.call)
+abbrev pub is_apart : OpenCall → OpenCall → Bool
+is_apart u other =
+    not (other.caller.session == u.caller.session) && not (other.caller.call == u.caller.call)
 
 -- a call that is served has its step in the order
-pub record FitsCall (w : WorldState) (u : Under) : Type 0 where
+pub record FitsCall (w : WorldState) (u : OpenCall) : Type 0 where
   pub single : is_single u.command.op ≡ true
   pub number : is_up_to w.last u.caller.call ≡ true
   pub none : is_served w u ≡ false → none_from w.order u.caller ≡ true
 
-abbrev pub CallsFit : WorldState → List Under → Type 0
+abbrev pub CallsFit : WorldState → List OpenCall → Type 0
 CallsFit w [] = Unit {0}
 CallsFit w (u ∷ us) = FitsCall w u × (list_all (is_apart u) us ≡ true) × CallsFit w us
 
 -- 3. The keys that calls have reserved.
+
+-- a fact of each of a list
+abbrev pub Each : {A : Type 0} → (A → Type 0) → List A → Type 0
+Each P [] = Unit {0}
+Each P (x ∷ xs) = P x × Each P xs
 
 abbrev pub is_asked : Progress → First → Bool
 is_asked (Loading answer) first = asks_loader first
@@ -129,41 +137,42 @@ pub record IsHeld (s : State) (key : Bytes) (part : Part) : Type 0 where
   pub out : IsOut s part.reservation
   pub asked : is_asked part.progress part.reservation.first ≡ true
 
+-- a call is of this session, and its key is this
+abbrev pub IsCallOf : ℕ → Bytes → OpenCall → Type 0
+IsCallOf session key u = (u.caller.session ≡ session) × (u.command.key ≡ key)
+
 -- the reservation of a call under way, with its part
 pub record IsOwned (w : WorldState) (r : Reservation) : Type 0 where
   pub part : IsSomeAnd (get w.parts r.key) (λ part. part.reservation.caller.call ≡ r.caller.call)
-  pub call : IsSomeAnd (under w r.caller.call) (λ u. (u.caller.session ≡ r.caller.session) × (u.command.key ≡ r.key))
+  pub call : IsSomeAnd (open_call w r.caller.call) (IsCallOf r.caller.session r.key)
 
 abbrev pub AllOwned : WorldState → List Reservation → Type 0
-AllOwned w [] = Unit {0}
-AllOwned w (r ∷ rs) = IsOwned w r × AllOwned w rs
+AllOwned w rs = Each (IsOwned w) rs
 
 -- 4. The calls that have joined a load.
 
 -- the joiner is in the stripe of its key, and the call is under way with no part
 pub record IsWaitedFor (w : WorldState) (join : JoinClaim) : Type 0 where
   pub out : IsSomeAnd (stripe_for w join.key) (λ s. IsJoined s join)
-  pub call : IsSomeAnd (under w join.caller.call) (λ u. (u.caller.session ≡ join.caller.session) × (u.command.key ≡ join.key))
+  pub call : IsSomeAnd (open_call w join.caller.call) (IsCallOf join.caller.session join.key)
   pub no_part : part_of w join.caller.call join.key ≡ None
 
 abbrev pub AllWaitedFor : WorldState → List JoinClaim → Type 0
-AllWaitedFor w [] = Unit {0}
-AllWaitedFor w (j ∷ js) = IsWaitedFor w j × AllWaitedFor w js
+AllWaitedFor w js = Each (IsWaitedFor w) js
 
 -- no two joins are of one call and one key
-abbrev pub joined_once : List JoinClaim → Bool
-joined_once [] = true
-joined_once (j ∷ js) = not (list_any (is_join j.caller.call j.key) js) && joined_once js
+abbrev pub is_joined_once : List JoinClaim → Bool
+is_joined_once [] = true
+is_joined_once (j ∷ js) = not (list_any (is_join j.caller.call j.key) js) && is_joined_once js
 
 -- the joiner of a call under way, with its join, in the stripe of its key
 pub record IsCalled (w : WorldState) (number : ℕ) (j : Joiner) : Type 0 where
   pub home_is : home w j.key ≡ number
   pub join : is_joined w j.caller.call j.key ≡ true
-  pub call : IsSomeAnd (under w j.caller.call) (λ u. (u.caller.session ≡ j.caller.session) × (u.command.key ≡ j.key))
+  pub call : IsSomeAnd (open_call w j.caller.call) (IsCallOf j.caller.session j.key)
 
 abbrev pub AllCalled : WorldState → ℕ → List Joiner → Type 0
-AllCalled w number [] = Unit {0}
-AllCalled w number (j ∷ js) = IsCalled w number j × AllCalled w number js
+AllCalled w number js = Each (IsCalled w number) js
 
 -- 5. As long as the premises hold.
 
@@ -171,28 +180,31 @@ abbrev pub Agrees : Option Bytes → Option Bytes → Type 0
 Agrees entry stored = IfSome entry (λ value. stored ≡ Some value)
 
 -- what the store holds once the writer that this key was reserved for did as it was asked
-abbrev pub WrittenFor : First → Option Bytes → Type 0
-WrittenFor Nobody stored = ⊥
-WrittenFor Loader stored = ⊥
-WrittenFor (Writer change) stored = stored ≡ changed_to change
-WrittenFor Processor stored = ⊥
+abbrev pub IsWrittenFor : First → Option Bytes → Type 0
+IsWrittenFor Nobody stored = ⊥
+IsWrittenFor Loader stored = ⊥
+IsWrittenFor (Writer change) stored = stored ≡ changed_to change
+IsWrittenFor Processor stored = ⊥
 
-pub record LoadTold (answer : LoadAnswer) (stored entry : Option Bytes) : Type 0 where
+pub record LoadAgrees (answer : LoadAnswer) (stored entry : Option Bytes) : Type 0 where
   pub loaded : Agrees (found_in answer) stored
   pub unwritten : Agrees entry stored
 
-pub record WriteTold (first : First) (is_changed : Bool) (report : WriteAnswer) (stored entry : Option Bytes) : Type 0 where
-  pub written : is_changed ≡ true → WrittenFor first stored
+pub record WriteAgrees (first : First) (is_changed : Bool) (report : WriteAnswer)
+    (stored entry : Option Bytes) : Type 0 where
+  pub written : is_changed ≡ true → IsWrittenFor first stored
   pub unwritten : is_changed ≡ false → Agrees entry stored
   pub honest : is_write_given report ≡ true → is_done report ≡ is_changed
 
-abbrev pub IsTold : Progress → First → Option Bytes → Option Bytes → Type 0
-IsTold (Loading answer) first stored entry = LoadTold answer stored entry
-IsTold (Writing is_changed report) first stored entry = WriteTold first is_changed report stored entry
+abbrev pub ProgressAgrees : Progress → First → Option Bytes → Option Bytes → Type 0
+ProgressAgrees (Loading answer) first stored entry = LoadAgrees answer stored entry
+ProgressAgrees (Writing is_changed report) first stored entry =
+    WriteAgrees first is_changed report stored entry
 
-abbrev pub KeyTold : Option Part → Option Bytes → Option Bytes → Type 0
-KeyTold None stored entry = Agrees entry stored
-KeyTold (Some part) stored entry = IsTold part.progress part.reservation.first stored entry
+abbrev pub KeyAgrees : Option Part → Option Bytes → Option Bytes → Type 0
+KeyAgrees None stored entry = Agrees entry stored
+KeyAgrees (Some part) stored entry =
+    ProgressAgrees part.progress part.reservation.first stored entry
 
 -- 6. The world. While it is fresh, nothing is cached, reserved, joined or under way.
 pub record IsSoundWorld (w : WorldState) : Type 0 where
@@ -200,11 +212,15 @@ pub record IsSoundWorld (w : WorldState) : Type 0 where
   pub order : in_order w.order ≡ true
   pub numbers : list_all (number_up_to w.last) w.order ≡ true
   pub calls : CallsFit w w.calls
-  pub held : (key : Bytes) (part : Part) → get w.parts key ≡ Some part → IsSomeAnd (stripe_for w key) (λ s. IsHeld s key part)
-  pub owned : (number : ℕ) (s : State) → slice_get w.stripes number ≡ Some s → AllOwned w s.reservations
+  pub held : (key : Bytes) (part : Part) → get w.parts key ≡ Some part
+      → IsSomeAnd (stripe_for w key) (λ s. IsHeld s key part)
+  pub owned : (number : ℕ) (s : State) → slice_get w.stripes number ≡ Some s
+      → AllOwned w s.reservations
   pub joins : AllWaitedFor w w.joins
-  pub once : joined_once w.joins ≡ true
-  pub called : (number : ℕ) (s : State) → slice_get w.stripes number ≡ Some s → AllCalled w number s.joiners
-  pub told : all_hold w ≡ true → (key : Bytes) → KeyTold (get w.parts key) (entry_at w.store key) (cached w key)
-  pub fresh : w.fresh ≡ true → (key : Bytes) → cached w key ≡ None
+  pub once : is_joined_once w.joins ≡ true
+  pub called : (number : ℕ) (s : State) → slice_get w.stripes number ≡ Some s
+      → AllCalled w number s.joiners
+  pub told : all_hold w ≡ true → (key : Bytes)
+      → KeyAgrees (get w.parts key) (entry_at w.store key) (cached_entry w key)
+  pub fresh : w.fresh ≡ true → (key : Bytes) → cached_entry w key ≡ None
   pub idle : w.fresh ≡ true → w.calls ≡ []

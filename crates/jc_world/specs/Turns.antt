@@ -38,7 +38,8 @@ pub record OrderedStripes : Type 0 where
   pub order : List Event
   pub room : ℕ
 
-pub record IsPhase (old : OrderedStripes) (number : ℕ) (phase : State → State → Type 0) (new : OrderedStripes) : Type 0 where
+pub record IsPhase (old : OrderedStripes) (number : ℕ) (phase : State → State → Type 0)
+    (new : OrderedStripes) : Type 0 where
   pub from : State
   pub at : slice_get old.stripes number ≡ Some from
   pub to : State
@@ -46,7 +47,8 @@ pub record IsPhase (old : OrderedStripes) (number : ℕ) (phase : State → Stat
   pub stripes_are : new.stripes ≡ slice_set old.stripes number to
   pub order_is : new.order ≡ old.order ++ drop (length from.history) to.history
 
-pub record IsQuietPhase (old : OrderedStripes) (number : ℕ) (phase : State → State → Type 0) (new : OrderedStripes) : Type 0 where
+pub record IsQuietPhase (old : OrderedStripes) (number : ℕ) (phase : State → State → Type 0)
+    (new : OrderedStripes) : Type 0 where
   pub from : State
   pub at : slice_get old.stripes number ≡ Some from
   pub to : State

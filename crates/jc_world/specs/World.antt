@@ -4,25 +4,26 @@
 --     home                            the number of the stripe that a key belongs to
 --     stripe_for                      the stripe of a key
 --     entry_in                        what a stripe caches for a key, if there is a stripe
---     cached                          what is cached for a key
+--     cached_entry                    what is cached for a key
 --     empty_stripe, empty_stripes     a stripe in which nothing has happened, and as many as are asked for, from a number on
 --     start                           a world before anything has happened
---     has_number, is_of               a call has this number, and is of this session
+--     has_number, is_of_session               a call has this number, and is of this session
 --     is_busy                         a session has a call under way
---     under                           the call with this number, if it is under way
---     over                            the calls without one that is over
+--     open_call                       the call with this number, if it is under way
+--     drop_call                       the calls without one that is over
 --     of_call                         a part, if it is this call's
 --     part_of                         what a call has asked and heard for a key that it has reserved
---     load_due, waits_for_load        the loader was asked, and hasn't answered: by the progress of a key, and by its part
---     report_due, waits_for_report    the writer was asked, and hasn't returned
---     is_complete, is_answered        the one who was asked has answered
---     nothing_done, is_untouched      the key is reserved, and nothing was said outside for it, and nothing done
+--     has_progress                    a key is reserved, and its progress passes a test
+--     waits_for_load                  the loader was asked, and hasn't answered
+--     waits_for_report                the writer was asked, and hasn't returned
+--     is_answered                     the one who was asked has answered
+--     is_untouched                    nothing was said outside for the key, and nothing done
 --     has_changed                     the writer has changed the store
 --     out_in, out_of                  what was said outside
 --     is_join                         a join is of this call and this key
 --     join_of                         a call's join of a key, if it has one
 --     is_joined                       a call has joined a load of a key, and hasn't its answer
---     unjoined                        the joins of the others
+--     joins_without                   the joins of the others
 --     with_stored                     the world with this value in its store
 use Rattle.std.specs.Prelude.{◌==◌, ℕ, zero, suc, ◌+◌, List, [], ◌∷◌, Bool, true, false, not, ◌&&◌, Option, None, Some, find, filter, slice_get, if◌then◌else◌}
 use Rattle.std.specs.List.{list_any}
@@ -39,7 +40,7 @@ use Rattle.jc_model.specs.Group.{load_only, write_only}
 use Rattle.jc_outside.specs.declared.done.Origin.TheVariants.{Played}
 use Rattle.jc_stripe.specs.Tickets.{JoinClaim}
 use Rattle.jc_stripe.specs.State.{State}
-use Rattle.jc_world.specs.declared.event.Under.{Under}
+use Rattle.jc_world.specs.declared.event.OpenCall.{OpenCall}
 use Rattle.jc_world.specs.declared.event.Part.{Part}
 use Rattle.jc_world.specs.declared.event.Progress.{Progress}
 use Rattle.jc_world.specs.declared.event.Progress.TheVariants.{Loading, Writing}
@@ -56,9 +57,9 @@ pub record WorldState : Type 0 where
   pub store : Cache
   pub fresh : Bool  -- no call has begun, and nobody else has written the store
   pub last : Option ℕ  -- the highest number of a call so far
-  pub calls : List Under  -- the calls under way, in the order in which they began
+  pub calls : List OpenCall  -- the calls under way, in the order in which they began
   pub parts : Parts
-  pub joins : List JoinClaim  -- the calls that have joined a load and haven't its answer, in the order in which they joined
+  pub joins : List JoinClaim  -- the calls that have joined a load and haven't its answer, in this order
   pub premises : Premises  -- what has held so far of those outside
 
 -- 1. Stripes.
@@ -74,18 +75,29 @@ abbrev pub entry_in : Option State → Bytes → Option Bytes
 entry_in None key = None
 entry_in (Some stripe) key = entry_at stripe.cache key
 
-abbrev pub cached : WorldState → Bytes → Option Bytes
-cached w key = entry_in (stripe_for w key) key
+abbrev pub cached_entry : WorldState → Bytes → Option Bytes
+cached_entry w key = entry_in (stripe_for w key) key
 
 -- an empty stripe
 abbrev pub empty_stripe : Config → ℕ → State
 empty_stripe config number =
-    record { config = config; stripe = number; origin = Played; opening = []; cache = empty; reservations = []; joiners = []; history = []; next = 0 }
+    record {
+      config = config;
+      stripe = number;
+      origin = Played;
+      opening = [];
+      cache = empty;
+      reservations = [];
+      joiners = [];
+      history = [];
+      next = 0;
+    }
 
 -- as many, from a number on
 abbrev pub empty_stripes : Config → ℕ → ℕ → List State
 empty_stripes config number zero = []
-empty_stripes config number (suc count) = empty_stripe config number ∷ empty_stripes config (number + 1) count
+empty_stripes config number (suc count) =
+    empty_stripe config number ∷ empty_stripes config (number + 1) count
 
 abbrev pub start : Config → WorldState
 start config =
@@ -104,22 +116,22 @@ start config =
 
 -- 2. Calls.
 
-abbrev pub has_number : ℕ → Under → Bool
+abbrev pub has_number : ℕ → OpenCall → Bool
 has_number call u = u.caller.call == call
 
-abbrev pub is_of : ℕ → Under → Bool
-is_of session u = u.caller.session == session
+abbrev pub is_of_session : ℕ → OpenCall → Bool
+is_of_session session u = u.caller.session == session
 
 -- the session has a call under way
 abbrev pub is_busy : WorldState → ℕ → Bool
-is_busy w session = list_any (is_of session) w.calls
+is_busy w session = list_any (is_of_session session) w.calls
 
-abbrev pub under : WorldState → ℕ → Option Under
-under w call = find (has_number call) w.calls
+abbrev pub open_call : WorldState → ℕ → Option OpenCall
+open_call w call = find (has_number call) w.calls
 
 -- the calls without one that is over
-abbrev pub over : ℕ → List Under → List Under
-over call calls = filter (λ u. not (has_number call u)) calls
+abbrev pub drop_call : ℕ → List OpenCall → List OpenCall
+drop_call call calls = filter (λ u. not (has_number call u)) calls
 
 -- 3. The keys that calls have reserved.
 
@@ -130,41 +142,30 @@ of_call call (Some part) = if part.reservation.caller.call == call then Some par
 abbrev pub part_of : WorldState → ℕ → Bytes → Option Part
 part_of w call key = of_call call (map.get w.parts key)
 
--- the loader was asked, and hasn't answered
-abbrev pub load_due : Progress → Bool
-load_due (Loading answer) = not (is_load_given answer)
-load_due (Writing is_changed report) = false
+-- a key is reserved, and its progress passes this test
+abbrev pub has_progress : (Progress → Bool) → Option Part → Bool
+has_progress test None = false
+has_progress test (Some part) = test part.progress
 
-abbrev pub waits_for_load : Option Part → Bool
-waits_for_load None = false
-waits_for_load (Some part) = load_due part.progress
+-- the loader was asked, and hasn't answered
+abbrev pub waits_for_load : Progress → Bool
+waits_for_load (Loading answer) = not (is_load_given answer)
+waits_for_load (Writing is_changed report) = false
 
 -- the writer was asked, and hasn't returned
-abbrev pub report_due : Progress → Bool
-report_due (Loading answer) = false
-report_due (Writing is_changed report) = not (is_write_given report)
-
-abbrev pub waits_for_report : Option Part → Bool
-waits_for_report None = false
-waits_for_report (Some part) = report_due part.progress
+abbrev pub waits_for_report : Progress → Bool
+waits_for_report (Loading answer) = false
+waits_for_report (Writing is_changed report) = not (is_write_given report)
 
 -- the one who was asked has answered
-abbrev pub is_complete : Progress → Bool
-is_complete (Loading answer) = is_load_given answer
-is_complete (Writing is_changed report) = is_write_given report
-
-abbrev pub is_answered : Option Part → Bool
-is_answered None = false
-is_answered (Some part) = is_complete part.progress
+abbrev pub is_answered : Progress → Bool
+is_answered (Loading answer) = is_load_given answer
+is_answered (Writing is_changed report) = is_write_given report
 
 -- nothing was said outside, and nothing done
-abbrev pub nothing_done : Progress → Bool
-nothing_done (Loading answer) = not (is_load_given answer)
-nothing_done (Writing is_changed report) = not is_changed && not (is_write_given report)
-
-abbrev pub is_untouched : Option Part → Bool
-is_untouched None = false
-is_untouched (Some part) = nothing_done part.progress
+abbrev pub is_untouched : Progress → Bool
+is_untouched (Loading answer) = not (is_load_given answer)
+is_untouched (Writing is_changed report) = not is_changed && not (is_write_given report)
 
 -- the writer has changed the store
 abbrev pub has_changed : Progress → Bool
@@ -191,8 +192,8 @@ abbrev pub is_joined : WorldState → ℕ → Bytes → Bool
 is_joined w call key = list_any (is_join call key) w.joins
 
 -- the joins of the others
-abbrev pub unjoined : ℕ → Bytes → List JoinClaim → List JoinClaim
-unjoined call key joins = filter (λ j. not (is_join call key j)) joins
+abbrev pub joins_without : ℕ → Bytes → List JoinClaim → List JoinClaim
+joins_without call key joins = filter (λ j. not (is_join call key j)) joins
 
 -- 5. The store before anything has happened.
 abbrev pub with_stored : WorldState → Bytes → Bytes → WorldState

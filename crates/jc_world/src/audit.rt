@@ -26,7 +26,8 @@ pub struct Audit {
 
 /// Adds entries to a map: of two with one key the first counts, and before what was there.
 fn add_entries(all: &mut Contents, entries: &[(Key, Value)]) -> Result<(), AllocError>
-    ensures { OnOk result ((key : Bytes) → entry_at all.new key ≡ or_else (map.find key_cmp key entries.now) (entry_at all.old key)) }
+    ensures { OnOk result ((key : Bytes)
+        → entry_at all.new key ≡ or_else (map.find key_cmp key entries.now) (entry_at all.old key)) }
 {
     for (key, value) in entries.iter().rev() {
         all.set(key, Some(*value))?;
@@ -36,7 +37,8 @@ fn add_entries(all: &mut Contents, entries: &[(Key, Value)]) -> Result<(), Alloc
 
 /// What the stripes cache, in one map.
 pub(crate) fn gather(alloc: Global, stripes: &[Stripe]) -> Result<Contents, AllocError>
-    ensures { IfOk result (λ all. (key : Bytes) → entry_at all key ≡ found_after None stripes.now key) }
+    ensures { IfOk result (λ all. (key : Bytes)
+        → entry_at all key ≡ found_after None stripes.now key) }
 {
     let mut all = Contents::new(alloc);
     for stripe in stripes {

@@ -1,10 +1,10 @@
 //! The calls under way. A session has one at most, so there are never more than there are sessions.
 ghost use Rattle.std.specs.Prelude.{◌≡◌, true, find, option_copied};
 ghost use Rattle.std.specs.List.{list_any};
-ghost use Rattle.jc_world.specs.World.{has_number, is_of, over};
+ghost use Rattle.jc_world.specs.World.{has_number, is_of_session, drop_call};
 ghost use Rattle.jc_world.specs.Events.{is_single, is_session, is_new};
 
-use crate::event::Under;
+use crate::event::OpenCall;
 use jc_model::Op;
 use jc_types::SESSIONS_MAX;
 
@@ -33,22 +33,22 @@ pub(crate) fn is_above(last: Option<u64>, call: u64) -> bool
 }
 
 /// Whether a session has a call under way.
-pub(crate) fn has_call(calls: &[Under], session: u32) -> bool
-    ensures { result ≡ list_any (is_of session) calls.now }
+pub(crate) fn has_call(calls: &[OpenCall], session: u32) -> bool
+    ensures { result ≡ list_any (is_of_session session) calls.now }
 {
     calls.iter().any(|u| u.caller.session == session)
 }
 
 /// The call with this number.
-pub(crate) fn find_call(calls: &[Under], call: u64) -> Option<&Under>
+pub(crate) fn find_call(calls: &[OpenCall], call: u64) -> Option<&OpenCall>
     ensures { option_copied result ≡ find (has_number call) calls.now }
 {
     calls.iter().find(|u| u.caller.call == call)
 }
 
 /// Takes a call that is over out.
-pub(crate) fn drop_call(calls: &mut Vec<Under>, call: u64)
-    ensures { calls.new.items ≡ over call calls.old.items }
+pub(crate) fn drop_call(calls: &mut Vec<OpenCall>, call: u64)
+    ensures { calls.new.items ≡ drop_call call calls.old.items }
 {
     calls.retain(|u| u.caller.call != call);
 }

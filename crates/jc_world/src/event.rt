@@ -1,4 +1,7 @@
 //! What may happen in a world, what is shown of it, and what a world keeps of its calls.
+ghost use Rattle.std.specs.Prelude.{◌≡◌};
+ghost use Rattle.jc_world.specs.World.{waits_for_load, waits_for_report, is_answered, is_untouched, has_changed};
+
 use jc_model::{Change, LoadAnswer, Op, Reply, WriteAnswer};
 use jc_stripe::{Eviction, Reservation};
 use jc_types::{Caller, Key, Refusal, Value};
@@ -183,7 +186,7 @@ pub enum Shown {
 
 /// A call under way.
 #[derive(Clone, Copy, Debug, PartialEq, Eq)]
-pub struct Under {
+pub struct OpenCall {
     /// Who calls: a session, from 1 to [`SESSIONS_MAX`](jc_types::SESSIONS_MAX), and the call's number.
     pub caller: Caller,
     /// What the call does.
@@ -214,6 +217,70 @@ pub enum Progress {
         /// Its report: `NotAsked` until it has returned.
         report: WriteAnswer,
     },
+}
+
+impl Progress {
+    /// Whether the loader was asked, and hasn't answered.
+    pub(crate) fn waits_for_load(&self) -> bool
+        ensures { result ≡ waits_for_load self.now }
+    {
+        match self {
+            Progress::Loading { answer } => !answer.is_given(),
+            Progress::Writing {
+                is_changed: _,
+                report: _,
+            } => false,
+        }
+    }
+
+    /// Whether the writer was asked, and hasn't returned.
+    pub(crate) fn waits_for_report(&self) -> bool
+        ensures { result ≡ waits_for_report self.now }
+    {
+        match self {
+            Progress::Loading { answer: _ } => false,
+            Progress::Writing {
+                is_changed: _,
+                report,
+            } => !report.is_given(),
+        }
+    }
+
+    /// Whether the one who was asked has answered.
+    pub(crate) fn is_answered(&self) -> bool
+        ensures { result ≡ is_answered self.now }
+    {
+        match self {
+            Progress::Loading { answer } => answer.is_given(),
+            Progress::Writing {
+                is_changed: _,
+                report,
+            } => report.is_given(),
+        }
+    }
+
+    /// Whether nothing was said outside for the key, and nothing done.
+    pub(crate) fn is_untouched(&self) -> bool
+        ensures { result ≡ is_untouched self.now }
+    {
+        match self {
+            Progress::Loading { answer } => !answer.is_given(),
+            Progress::Writing { is_changed, report } => !*is_changed && !report.is_given(),
+        }
+    }
+
+    /// Whether the writer has changed the store.
+    pub(crate) fn has_changed(&self) -> bool
+        ensures { result ≡ has_changed self.now }
+    {
+        match self {
+            Progress::Loading { answer: _ } => false,
+            Progress::Writing {
+                is_changed,
+                report: _,
+            } => *is_changed,
+        }
+    }
 }
 
 /// What has held so far of those outside.

@@ -12,8 +12,8 @@ ghost use Rattle.jc_stripe.specs.declared.ticket.First.TheVariants.{Writer};
 ghost use Rattle.jc_outside.specs.declared.done.Origin.TheVariants.{Played};
 ghost use Rattle.jc_world.specs.declared.event.Progress.TheVariants.{Loading};
 ghost use Rattle.jc_world.specs.Premises.{changed_to, report_of};
-ghost use Rattle.jc_world.specs.World.{has_changed, out_of, is_answered, is_untouched, waits_for_load, waits_for_report};
-ghost use Rattle.jc_world.specs.Events.{load_asked, write_asked, new_part, with_change, with_report};
+ghost use Rattle.jc_world.specs.World.{has_changed, out_of, is_answered, waits_for_load, waits_for_report};
+ghost use Rattle.jc_world.specs.Events.{new_load, new_write, new_part, with_change, with_report};
 ghost use Rattle.jc_world.specs.Held.{load_in, report_in};
 
 use crate::event::{Part, Progress, Reported};
@@ -108,7 +108,7 @@ impl Held {
     pub(crate) fn loading(ticket: LoadTicket) -> Held
         requires unasked { ticket.asked ≡ false }
         requires loader { asks_loader ticket.reservation.first ≡ true }
-        ensures { result ≡ new_part load_asked ticket.reservation }
+        ensures { result ≡ new_part new_load ticket.reservation }
     {
         Held {
             asked: Asked::Loader {
@@ -122,7 +122,7 @@ impl Held {
     pub(crate) fn writing(ticket: WriteTicket) -> Held
         requires unasked { ticket.asked ≡ false }
         requires writer { asks_writer ticket.reservation.first ≡ true }
-        ensures { result ≡ new_part write_asked ticket.reservation }
+        ensures { result ≡ new_part new_write ticket.reservation }
     {
         Held {
             asked: Asked::Writer {
@@ -161,110 +161,38 @@ impl Held {
         self.reservation().caller.call
     }
 
+    /// What the one who was asked has done and answered so far.
+    pub(crate) fn progress(&self) -> Progress
+        ensures { result ≡ self.now.progress }
+    {
+        match &self.asked {
+            Asked::Loader { ticket: _, loaded } => Progress::Loading {
+                answer: load_in(loaded),
+            },
+            Asked::Writer {
+                ticket: _,
+                is_changed,
+                written,
+            } => Progress::Writing {
+                is_changed: *is_changed,
+                report: report_in(written),
+            },
+        }
+    }
+
     /// What was asked and answered, as data.
     pub(crate) fn part(&self) -> Part
         ensures { result ≡ self.now }
     {
-        match &self.asked {
-            Asked::Loader { ticket, loaded } => Part {
-                reservation: *ticket.reservation(),
-                progress: Progress::Loading {
-                    answer: load_in(loaded),
-                },
-            },
-            Asked::Writer {
-                ticket,
-                is_changed,
-                written,
-            } => Part {
-                reservation: *ticket.reservation(),
-                progress: Progress::Writing {
-                    is_changed: *is_changed,
-                    report: report_in(written),
-                },
-            },
-        }
-    }
-
-    /// Whether the loader was asked, and hasn't answered.
-    pub(crate) fn waits_for_load(&self) -> bool
-        ensures { result ≡ waits_for_load (Some self.now) }
-    {
-        match &self.asked {
-            Asked::Loader { ticket: _, loaded } => loaded.is_none(),
-            Asked::Writer {
-                ticket: _,
-                is_changed: _,
-                written: _,
-            } => false,
-        }
-    }
-
-    /// Whether the writer was asked, and hasn't returned.
-    pub(crate) fn waits_for_report(&self) -> bool
-        ensures { result ≡ waits_for_report (Some self.now) }
-    {
-        match &self.asked {
-            Asked::Loader {
-                ticket: _,
-                loaded: _,
-            } => false,
-            Asked::Writer {
-                ticket: _,
-                is_changed: _,
-                written,
-            } => written.is_none(),
-        }
-    }
-
-    /// Whether the one who was asked has answered.
-    pub(crate) fn is_answered(&self) -> bool
-        ensures { result ≡ is_answered (Some self.now) }
-    {
-        match &self.asked {
-            Asked::Loader { ticket: _, loaded } => loaded.is_some(),
-            Asked::Writer {
-                ticket: _,
-                is_changed: _,
-                written,
-            } => written.is_some(),
-        }
-    }
-
-    /// Whether nothing was said outside for the key, and nothing done.
-    pub(crate) fn is_untouched(&self) -> bool
-        ensures { result ≡ is_untouched (Some self.now) }
-    {
-        match &self.asked {
-            Asked::Loader { ticket: _, loaded } => loaded.is_none(),
-            Asked::Writer {
-                ticket: _,
-                is_changed,
-                written,
-            } => !*is_changed && written.is_none(),
-        }
-    }
-
-    /// Whether the writer has changed the store.
-    pub(crate) fn is_changed(&self) -> bool
-        ensures { result ≡ has_changed self.now.progress }
-    {
-        match &self.asked {
-            Asked::Loader {
-                ticket: _,
-                loaded: _,
-            } => false,
-            Asked::Writer {
-                ticket: _,
-                is_changed,
-                written: _,
-            } => *is_changed,
+        Part {
+            reservation: *self.reservation(),
+            progress: self.progress(),
         }
     }
 
     /// The loader answers.
-    pub(crate) fn tell(&mut self, answer: LoadAnswer)
-        requires waits { waits_for_load (Some self.old) ≡ true }
+    pub(crate) fn loader_answers(&mut self, answer: LoadAnswer)
+        requires waits { waits_for_load self.old.progress ≡ true }
         requires given { is_load_given answer ≡ true }
         ensures { self.new ≡ record self.old { progress = Loading answer } }
     {
@@ -288,7 +216,7 @@ impl Held {
 
     /// The writer changes the store as it was asked.
     pub(crate) fn change(&mut self, store: &mut Contents, key: &Key) -> Result<(), AllocError>
-        requires { waits_for_report (Some self.old) ≡ true }
+        requires { waits_for_report self.old.progress ≡ true }
         ensures ok { OnOk result ((change : Change) × (self.old.reservation.first ≡ Writer change)
             × (self.new ≡ record self.old { progress = with_change self.old.progress })
             × (store.new ≡ with_entry store.old key.now (changed_to change))) }
@@ -314,11 +242,12 @@ impl Held {
 
     /// The writer returns.
     pub(crate) fn report(&mut self, fault: Option<u32>) -> Reported
-        requires { waits_for_report (Some self.old) ≡ true }
+        requires { waits_for_report self.old.progress ≡ true }
         ensures change { self.old.reservation.first ≡ Writer result.change }
         ensures changed { result.is_changed ≡ has_changed self.old.progress }
         ensures fault { result.fault ≡ fault }
-        ensures report { self.new ≡ record self.old { progress = with_report self.old.progress (report_of fault) } }
+        ensures report { self.new ≡
+            record self.old { progress = with_report self.old.progress (report_of fault) } }
     {
         match &mut self.asked {
             Asked::Loader {
@@ -351,7 +280,7 @@ impl Held {
     /// The last phase.
     pub(crate) fn commit(self, stripe: &mut Stripe) -> StepDone
         requires out { IsOut stripe.old self.reservation }
-        requires answered { is_answered (Some self) ≡ true }
+        requires answered { is_answered self.progress ≡ true }
         requires origin { stripe.old.origin ≡ Played }
         ensures { Commits stripe.old self.reservation (out_of self) result stripe.new }
     {
@@ -381,7 +310,7 @@ impl Held {
     /// The reservation is given back.
     pub(crate) fn withdraw(self, stripe: &mut Stripe)
         requires out { IsOut stripe.old self.reservation }
-        requires open { is_answered (Some self) ≡ false }
+        requires open { is_answered self.progress ≡ false }
         ensures { Withdraws stripe.old self.reservation stripe.new }
     {
         let Held { asked } = self;
@@ -405,9 +334,11 @@ impl Held {
     pub(crate) fn close(self, stripe: &mut Stripe)
         requires out { IsOut stripe.old self.reservation }
         requires origin { stripe.old.origin ≡ Played }
-        ensures { ((out : Out) × (done : StepDone) × Commits stripe.old self.reservation out done stripe.new) ⊎ Withdraws stripe.old self.reservation stripe.new }
+        ensures { ((out : Out) × (done : StepDone)
+            × Commits stripe.old self.reservation out done stripe.new)
+            ⊎ Withdraws stripe.old self.reservation stripe.new }
     {
-        if self.is_answered() {
+        if self.progress().is_answered() {
             let _step = self.commit(stripe);
         } else {
             self.withdraw(stripe);

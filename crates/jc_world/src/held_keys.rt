@@ -9,8 +9,8 @@ ghost use Rattle.jc_stripe.specs.declared.ticket.First.TheVariants.{Writer};
 ghost use Rattle.jc_world.specs.declared.event.Part.{Part};
 ghost use Rattle.jc_world.specs.declared.event.Progress.TheVariants.{Loading};
 ghost use Rattle.jc_world.specs.Premises.{changed_to, report_of};
-ghost use Rattle.jc_world.specs.World.{has_changed, of_call, waits_for_load, waits_for_report};
-ghost use Rattle.jc_world.specs.Events.{load_asked, write_asked, new_part, with_change, with_report};
+ghost use Rattle.jc_world.specs.World.{has_progress, of_call, waits_for_load, waits_for_report};
+ghost use Rattle.jc_world.specs.Events.{new_load, new_write, new_part, with_change, with_report, shown_report};
 ghost use Rattle.jc_world.specs.Held.{parts_of};
 
 use crate::event::Reported;
@@ -52,7 +52,8 @@ pub(crate) fn hold_load(held: &mut HeldKeys, ticket: LoadTicket)
     requires room { 0 < spare held.old }
     requires unasked { ticket.asked ≡ false }
     requires free { map.get (parts_of held.old) ticket.reservation.key ≡ None }
-    ensures { parts_of held.new ≡ map.insert (parts_of held.old) ticket.reservation.key (new_part load_asked ticket.reservation) }
+    ensures { parts_of held.new ≡
+        map.insert (parts_of held.old) ticket.reservation.key (new_part new_load ticket.reservation) }
 {
     let key = ticket.reservation().key;
     put_reserved(held, &key, Held::loading(ticket));
@@ -65,7 +66,8 @@ pub(crate) fn hold_write(held: &mut HeldKeys, ticket: WriteTicket) -> Change
     requires unasked { ticket.asked ≡ false }
     requires free { map.get (parts_of held.old) ticket.reservation.key ≡ None }
     ensures change { ticket.reservation.first ≡ Writer result }
-    ensures parts { parts_of held.new ≡ map.insert (parts_of held.old) ticket.reservation.key (new_part write_asked ticket.reservation) }
+    ensures parts { parts_of held.new ≡
+        map.insert (parts_of held.old) ticket.reservation.key (new_part new_write ticket.reservation) }
 {
     let change = change_for(&ticket);
     let key = ticket.reservation().key;
@@ -91,24 +93,27 @@ pub(crate) fn held_by<'a>(held: &'a HeldKeys, call: u64, key: &Key) -> Option<&'
 }
 
 /// The loader answers for a key.
-pub(crate) fn tell(held: &mut HeldKeys, key: &Key, answer: LoadAnswer)
-    requires waits { waits_for_load (map.get (parts_of held.old) key.now) ≡ true }
+pub(crate) fn loader_answers(held: &mut HeldKeys, key: &Key, answer: LoadAnswer)
+    requires waits { has_progress waits_for_load (map.get (parts_of held.old) key.now) ≡ true }
     requires given { is_load_given answer ≡ true }
     ensures { (part : Part) × (map.get (parts_of held.old) key.now ≡ Some part)
-        × (parts_of held.new ≡ map.insert (parts_of held.old) key.now (record part { progress = Loading answer })) }
+        × (parts_of held.new ≡ map.insert (parts_of held.old) key.now
+        (record part { progress = Loading answer })) }
 {
     match held.get_mut(key) {
-        Some(one) => one.tell(answer),
+        Some(one) => one.loader_answers(answer),
         None => unreachable!(),
     }
 }
 
 /// The writer changes the store at a key, as it was asked.
 pub(crate) fn change(held: &mut HeldKeys, store: &mut Contents, key: &Key) -> Result<(), AllocError>
-    requires { waits_for_report (map.get (parts_of held.old) key.now) ≡ true }
-    ensures ok { OnOk result ((part : Part) × (change : Change) × (map.get (parts_of held.old) key.now ≡ Some part)
+    requires { has_progress waits_for_report (map.get (parts_of held.old) key.now) ≡ true }
+    ensures ok { OnOk result ((part : Part) × (change : Change)
+        × (map.get (parts_of held.old) key.now ≡ Some part)
         × (part.reservation.first ≡ Writer change)
-        × (parts_of held.new ≡ map.insert (parts_of held.old) key.now (record part { progress = with_change part.progress }))
+        × (parts_of held.new ≡ map.insert (parts_of held.old) key.now
+        (record part { progress = with_change part.progress }))
         × (store.new ≡ with_entry store.old key.now (changed_to change))) }
     ensures err { OnErr result ((parts_of held.new ≡ parts_of held.old) × (store.new ≡ store.old)) }
 {
@@ -120,11 +125,12 @@ pub(crate) fn change(held: &mut HeldKeys, store: &mut Contents, key: &Key) -> Re
 
 /// The writer returns for a key.
 pub(crate) fn report(held: &mut HeldKeys, key: &Key, fault: Option<u32>) -> Reported
-    requires { waits_for_report (map.get (parts_of held.old) key.now) ≡ true }
+    requires { has_progress waits_for_report (map.get (parts_of held.old) key.now) ≡ true }
     ensures { (part : Part) × (change : Change) × (map.get (parts_of held.old) key.now ≡ Some part)
         × (part.reservation.first ≡ Writer change)
-        × (result ≡ record { change = change; is_changed = has_changed part.progress; fault = fault })
-        × (parts_of held.new ≡ map.insert (parts_of held.old) key.now (record part { progress = with_report part.progress (report_of fault) })) }
+        × (result ≡ shown_report change part.progress fault)
+        × (parts_of held.new ≡ map.insert (parts_of held.old) key.now
+        (record part { progress = with_report part.progress (report_of fault) })) }
 {
     match held.get_mut(key) {
         Some(one) => one.report(fault),
@@ -146,7 +152,8 @@ pub(crate) fn take(held: &mut HeldKeys, key: &Key) -> Held
 
 /// Takes any key out.
 pub(crate) fn take_any(held: &mut HeldKeys) -> Option<Held>
-    ensures some { IfSome result (λ one. (key : Bytes) × (map.get (parts_of held.old) key ≡ Some one)
+    ensures some { IfSome result (λ one. (key : Bytes)
+        × (map.get (parts_of held.old) key ≡ Some one)
         × (parts_of held.new ≡ map.remove (parts_of held.old) key)) }
     ensures len { IfSome result (λ _. index_map_len held.old ≡ index_map_len held.new + 1) }
     ensures none { IfNone result (held.new.entries ≡ []) }

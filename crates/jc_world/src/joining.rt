@@ -1,8 +1,8 @@
 //! The calls that have joined a load and haven't its answer, with their joins.
 ghost use Rattle.std.specs.Prelude.{◌≡◌, ◌<◌, ◌≤◌, true, Option, Some, find, insert, position, vec_len, vec_capacity};
 ghost use Rattle.std.specs.List.{list_any};
-ghost use Rattle.jc_world.specs.World.{is_join, unjoined};
-ghost use Rattle.jc_world.specs.Sound.{joined_once};
+ghost use Rattle.jc_world.specs.World.{is_join, joins_without};
+ghost use Rattle.jc_world.specs.Sound.{is_joined_once};
 
 use jc_stripe::Join;
 use jc_types::Key;
@@ -26,9 +26,9 @@ pub(crate) fn has_joined(joins: &[Join], call: u64, key: &Key) -> bool
 /// Takes a call's join of a key out, and says where it stood.
 pub(crate) fn take_join(joins: &mut Vec<Join>, call: u64, key: &Key) -> (Join, usize)
     requires there { list_any (is_join call key.now) joins.old.items ≡ true }
-    requires once { joined_once joins.old.items ≡ true }
+    requires once { is_joined_once joins.old.items ≡ true }
     ensures join { find (is_join call key.now) joins.old.items ≡ Some result.0 }
-    ensures others { joins.new.items ≡ unjoined call key.now joins.old.items }
+    ensures others { joins.new.items ≡ joins_without call key.now joins.old.items }
     ensures place { result.1 ≤ vec_len joins.new }
     ensures back { insert joins.new.items result.1 result.0 ≡ joins.old.items }
     ensures room { vec_len joins.new < vec_capacity joins.new }

@@ -4,17 +4,17 @@ ghost use Rattle.std.specs.FinMap as map;
 ghost use Rattle.jc_types.specs.Limits.{check};
 ghost use Rattle.jc_model.specs.Cache.{entry_at};
 ghost use Rattle.jc_world.specs.declared.event.WorldEvent.TheVariants as event;
-ghost use Rattle.jc_world.specs.World.{start, is_busy, under, part_of, is_joined, with_stored};
-ghost use Rattle.jc_world.specs.Events.{fits, Happens, Step};
+ghost use Rattle.jc_world.specs.World.{start, is_busy, open_call, part_of, is_joined, with_stored};
+ghost use Rattle.jc_world.specs.Events.{fits, is_new, Happens, Step};
 ghost use Rattle.jc_world.specs.Sound.{IsSoundWorld};
 
 mod answering;
 mod auditing;
 mod fitting;
 
-use crate::calls::{drop_call, find_call, has_call};
+use crate::calls::{drop_call, find_call, has_call, is_above};
 use crate::ending::{end_all, pick_all};
-use crate::event::{Command, PickedUp, Premises, Shown, Under, WorldEvent};
+use crate::event::{Command, OpenCall, PickedUp, Premises, Shown, WorldEvent};
 use crate::held::Held;
 use crate::held_keys::{HeldKeys, held_at, held_by, hold_load, hold_write, make_room, take};
 use crate::joining::{has_joined, put_back, take_join};
@@ -32,7 +32,7 @@ pub(crate) struct Machine {
     store: Contents,
     fresh: bool,
     last: Option<u64>,
-    calls: Vec<Under>,
+    calls: Vec<OpenCall>,
     held: HeldKeys,
     joins: Vec<Join>,
     premises: Premises,
@@ -83,11 +83,11 @@ impl Machine {
         self.fresh
     }
 
-    /// The highest number of a call so far.
-    pub(crate) fn last(&self) -> Option<u64>
-        ensures { result ≡ self.now.last }
+    /// Whether a call's number is above that of every call so far.
+    pub(crate) fn is_new(&self, call: u64) -> bool
+        ensures { result ≡ is_new self.now.last call }
     {
-        self.last
+        is_above(self.last, call)
     }
 
     /// Whether a session has a call under way.
@@ -98,8 +98,8 @@ impl Machine {
     }
 
     /// The call, if it is under way.
-    pub(crate) fn under(&self, call: u64) -> Option<&Under>
-        ensures { option_copied result ≡ under self.now call }
+    pub(crate) fn open_call(&self, call: u64) -> Option<&OpenCall>
+        ensures { option_copied result ≡ open_call self.now call }
     {
         find_call(&self.calls, call)
     }
@@ -154,7 +154,7 @@ impl Machine {
         ensures err { OnErr result (self.new ≡ self.old) }
     {
         if self.fits(event) {
-            self.happen(event, seen)
+            self.apply(event, seen)
         } else {
             *seen = Shown::Unfit;
             Ok(())
@@ -163,7 +163,7 @@ impl Machine {
 
     /// One event that fits. Each kind has a function of its own, in the machine code too: there a function clears the room of all
     /// its values when it begins, and an event is to clear its own alone.
-    fn happen(&mut self, event: &WorldEvent, seen: &mut Shown) -> Result<(), AllocError>
+    fn apply(&mut self, event: &WorldEvent, seen: &mut Shown) -> Result<(), AllocError>
         requires sound { IsSoundWorld self.old }
         requires fits { fits self.old event.now ≡ true }
         ensures ok { OnOk result (Happens self.old event.now seen.new self.new) }
@@ -174,7 +174,7 @@ impl Machine {
                 call,
                 session,
                 command,
-            } => self.open(*call, *session, command, seen),
+            } => self.begin_call(*call, *session, command, seen),
             WorldEvent::Start { call, key } => self.start(*call, key, seen),
             WorldEvent::Read { call, key } => {
                 self.read(*call, key, seen);
@@ -186,10 +186,10 @@ impl Machine {
             }
             WorldEvent::Change { call, key } => self.change(*call, key, seen),
             WorldEvent::Report { call, fault } => {
-                self.end_write(*call, *fault, seen);
+                self.writer_returns(*call, *fault, seen);
                 Ok(())
             }
-            WorldEvent::Commit { call, key } => self.end(*call, key, seen),
+            WorldEvent::Commit { call, key } => self.commit(*call, key, seen),
             WorldEvent::Withdraw { call, key } => {
                 self.withdraw(*call, key, seen);
                 Ok(())
@@ -203,25 +203,26 @@ impl Machine {
                 self.pick_up(*call, key, seen);
                 Ok(())
             }
-            WorldEvent::Foreign { key, value } => self.disturb(key, *value, seen),
+            WorldEvent::Foreign { key, value } => self.foreign_write(key, *value, seen),
         }
     }
 
     /// A call begins.
-    fn open(
+    fn begin_call(
         &mut self,
         call: u64,
         session: u32,
         command: &Command,
         seen: &mut Shown,
     ) -> Result<(), AllocError>
-        ensures ok { OnOk result (Happens self.old (event.Call call session command.now) seen.new self.new) }
+        ensures ok { OnOk result (
+            Happens self.old (event.Call call session command.now) seen.new self.new) }
         ensures err { OnErr result (self.new ≡ self.old) }
     {
         // Names the types of the values that a generic call moves here: the prover looks for their models in the types that a
         // function names. So does the other of this name below.
         let _types: Option<(Op, Value)> = None;
-        self.calls.push(Under {
+        self.calls.push(OpenCall {
             caller: Caller { session, call },
             command: *command,
         })?;
@@ -279,7 +280,7 @@ impl Machine {
 
     /// The last phase of a key.
     #[inline(never)]
-    fn end(&mut self, call: u64, key: &Key, seen: &mut Shown) -> Result<(), AllocError>
+    fn commit(&mut self, call: u64, key: &Key, seen: &mut Shown) -> Result<(), AllocError>
         requires sound { IsSoundWorld self.old }
         requires fits { fits self.old (event.Commit call key.now) ≡ true }
         ensures ok { OnOk result (Happens self.old (event.Commit call key.now) seen.new self.new) }

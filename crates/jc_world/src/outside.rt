@@ -1,11 +1,9 @@
 //! What loaders and writers say, and whether they are honest.
-ghost use Rattle.std.specs.Prelude.{◌≡◌, ◌&&◌, option_copied};
+ghost use Rattle.std.specs.Prelude.{◌≡◌, ◌&&◌};
 ghost use Rattle.std.specs.Bool.{beq};
-ghost use Rattle.jc_world.specs.World.{waits_for_load, waits_for_report, is_answered, is_untouched};
 ghost use Rattle.jc_world.specs.Premises.{read_answer, changed_to, report_of, is_true_load, is_true_report};
 
 use crate::event::Reported;
-use crate::held::Held;
 use jc_model::{Change, LoadAnswer, WriteAnswer};
 use jc_types::Value;
 
@@ -30,46 +28,6 @@ pub(crate) fn answer_of(stored: Option<Value>) -> LoadAnswer
     match stored {
         Some(value) => LoadAnswer::Found(value),
         None => LoadAnswer::Nothing,
-    }
-}
-
-/// Whether the loader was asked, and hasn't answered.
-pub(crate) fn is_waiting_for_load(held: Option<&Held>) -> bool
-    ensures { result ≡ waits_for_load (option_copied held.entry) }
-{
-    match held {
-        Some(held) => held.waits_for_load(),
-        None => false,
-    }
-}
-
-/// Whether the writer was asked, and hasn't returned.
-pub(crate) fn is_waiting_for_report(held: Option<&Held>) -> bool
-    ensures { result ≡ waits_for_report (option_copied held.entry) }
-{
-    match held {
-        Some(held) => held.waits_for_report(),
-        None => false,
-    }
-}
-
-/// Whether all that was asked is answered.
-pub(crate) fn is_all_answered(held: Option<&Held>) -> bool
-    ensures { result ≡ is_answered (option_copied held.entry) }
-{
-    match held {
-        Some(held) => held.is_answered(),
-        None => false,
-    }
-}
-
-/// Whether a key is reserved, and nothing was said outside for it and nothing done.
-pub(crate) fn is_never_touched(held: Option<&Held>) -> bool
-    ensures { result ≡ is_untouched (option_copied held.entry) }
-{
-    match held {
-        Some(held) => held.is_untouched(),
-        None => false,
     }
 }
 

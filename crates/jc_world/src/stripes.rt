@@ -4,14 +4,14 @@ ghost use Rattle.jc_types.specs.declared.limits.TheConstants.{STEP_PLACES, JOINE
 ghost use Rattle.jc_types.specs.Limits.{check};
 ghost use Rattle.jc_stripe.specs.State.{IsOut, IsJoined};
 ghost use Rattle.jc_stripe.specs.Refusals.{has_phases};
-ghost use Rattle.jc_stripe.specs.Phases.{MayBegin, Begins, Commits, Withdraws, PicksUp};
+ghost use Rattle.jc_stripe.specs.Phases.{MayBegin, Commits, Withdraws, PicksUp};
 ghost use Rattle.jc_outside.specs.declared.done.Origin.TheVariants.{Played};
 ghost use Rattle.jc_world.specs.World.{out_of, is_answered, empty_stripes};
 ghost use Rattle.jc_stripe.specs.Reached.{IsReached};
-ghost use Rattle.jc_world.specs.Events.{step_of};
+ghost use Rattle.jc_world.specs.Events.{BeginsAs, step_of};
 ghost use Rattle.jc_world.specs.Turns.{IsPhase, IsQuietPhase, history_at, merge, AreTurns};
 
-use crate::event::{Stepped, Under};
+use crate::event::{OpenCall, Stepped};
 use crate::held::Held;
 use jc_model::{Effect, Event, LoadAnswer, Op, Out, ProcessAnswer, Reply, WriteAnswer};
 use jc_stripe::phase_laws::grows;
@@ -48,7 +48,8 @@ impl Stripes {
     /// An empty stripe for each number, and no event.
     pub(crate) fn new(alloc: Global, config: &Config) -> Result<Self, AllocError>
         requires { check config.now ≡ Ok tt }
-        ensures stripes { IfOk result (λ made. made.stripes ≡ empty_stripes config.now 0 config.now.stripes) }
+        ensures stripes { IfOk result (λ made.
+            made.stripes ≡ empty_stripes config.now 0 config.now.stripes) }
         ensures order { IfOk result (λ made. made.order ≡ []) }
     {
         let items = make_stripes(alloc, config)?;
@@ -67,11 +68,12 @@ impl Stripes {
     }
 
     /// The first phase of a call on the stripe of its key. What it appends is at the end of the order, too.
-    pub(crate) fn begin(&mut self, number: usize, u: &Under) -> Begun
-        requires begins { IsSomeAnd (slice_get self.old.stripes number) (λ s. MayBegin s u.now.caller u.now.command.key) }
+    pub(crate) fn begin(&mut self, number: usize, u: &OpenCall) -> Begun
+        requires begins { IsSomeAnd (slice_get self.old.stripes number)
+            (λ s. MayBegin s u.now.caller u.now.command.key) }
         requires phases { has_phases u.now.command.op ≡ true }
         requires room { STEP_PLACES + JOINERS_MAX ≤ self.old.room }
-        ensures { IsPhase self.old number (λ from to. Begins from u.now.caller u.now.command.key u.now.command.op result to) self.new }
+        ensures { IsPhase self.old number (BeginsAs u.now result) self.new }
     {
         grows();
         let stripe = &mut self.items[number];
@@ -83,10 +85,12 @@ impl Stripes {
 
     /// The last phase of a key on its stripe. What it appends is at the end of the order, too.
     pub(crate) fn commit(&mut self, number: usize, held: Held) -> StepDone
-        requires out { IsSomeAnd (slice_get self.old.stripes number) (λ s. IsOut s held.reservation × (s.origin ≡ Played)) }
-        requires answered { is_answered (Some held) ≡ true }
+        requires out { IsSomeAnd (slice_get self.old.stripes number) (λ s. IsOut s held.reservation
+            × (s.origin ≡ Played)) }
+        requires answered { is_answered held.progress ≡ true }
         requires room { STEP_PLACES + JOINERS_MAX ≤ self.old.room }
-        ensures { IsPhase self.old number (λ from to. Commits from held.reservation (out_of held) result to) self.new }
+        ensures { IsPhase self.old number
+            (λ from to. Commits from held.reservation (out_of held) result to) self.new }
     {
         grows();
         let stripe = &mut self.items[number];
@@ -99,7 +103,7 @@ impl Stripes {
     /// Gives a key's reservation back.
     pub(crate) fn withdraw(&mut self, number: usize, held: Held)
         requires out { IsSomeAnd (slice_get self.old.stripes number) (λ s. IsOut s held.reservation) }
-        requires open { is_answered (Some held) ≡ false }
+        requires open { is_answered held.progress ≡ false }
         ensures { IsQuietPhase self.old number (λ from to. Withdraws from held.reservation to) self.new }
     {
         let stripe = &mut self.items[number];

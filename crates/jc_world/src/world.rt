@@ -1,13 +1,13 @@
 //! A world: stripes beside a store, driven by a list of events, with what there is to see of it.
 ghost use Rattle.std.specs.Prelude.{[], ◌≡◌, ◌≤◌, ◌⊎◌, ◌<◌, true, IsTrue, IfOk, IfErr, IsOk, option_copied, OnErr, OnOk, Ok, Err, take, length};
 ghost use Rattle.jc_types.specs.Limits.{check};
-ghost use Rattle.jc_world.specs.World.{start, is_busy, under, part_of, is_joined, with_stored};
-ghost use Rattle.jc_world.specs.Events.{fits, RestFits, RunAppending, StartFits};
+ghost use Rattle.jc_world.specs.World.{start, is_busy, open_call, part_of, is_joined, with_stored};
+ghost use Rattle.jc_world.specs.Events.{fits, is_new, RestFits, RunAppending, StartFits};
 ghost use Rattle.jc_world.specs.Coherent.{all_hold, Coherent};
-ghost use Rattle.jc_world.specs.Audit.{IsOrder, HasParts, IsAudit};
+ghost use Rattle.jc_world.specs.Audit.{IsOrder, HasShares, IsAudit};
 
 use crate::audit::Audit;
-use crate::event::{Part, PickedUp, Reported, Shown, Stepped, Under, WorldEvent};
+use crate::event::{OpenCall, Part, PickedUp, Reported, Shown, Stepped, WorldEvent};
 use crate::machine::Machine;
 use jc_model::{Change, Event, LoadAnswer, Reply};
 use jc_stripe::Eviction;
@@ -27,10 +27,10 @@ pub struct World {
 impl Model for World {
     ghost use Rattle.std.specs.Coded.{codes};
     ghost use Rattle.std.specs.FinMap.{code};
-    ghost use Rattle.jc_world.specs.Played.{Played};
+    ghost use Rattle.jc_world.specs.PlayedWorld.{PlayedWorld};
     ghost use Rattle.jc_world.specs.Sound.{IsSoundWorld};
 
-    ghost Value = { Played };
+    ghost Value = { PlayedWorld };
 
     ghost coded = { Prim.hlevel (codes, code) };
 
@@ -46,7 +46,8 @@ impl World {
     pub fn new(alloc: Global, config: &Config) -> Result<World, Refusal>
         ensures made { IfOk result (λ w. w ≡ record { world = start config.now; taken = 0 }) }
         ensures ok { IsOk result → check config.now ≡ Ok tt }
-        ensures refused { IfErr result (λ r. (check config.now ≡ Err r) ⊎ ((r ≡ Refusal.OutOfMemory) × (check config.now ≡ Ok tt))) }
+        ensures refused { IfErr result (λ r. (check config.now ≡ Err r)
+            ⊎ ((r ≡ Refusal.OutOfMemory) × (check config.now ≡ Ok tt))) }
     {
         config.check()?;
         match Machine::new(alloc, config) {
@@ -60,7 +61,8 @@ impl World {
     /// Conditions: the world is fresh, as [`is_fresh`](World::is_fresh) says.
     pub fn set(&mut self, key: &Key, value: &Value) -> Result<(), AllocError>
         requires { self.old.world.fresh ≡ true }
-        ensures ok { OnOk result (self.new ≡ record self.old { world = with_stored self.old.world key.now value.now }) }
+        ensures ok { OnOk result (
+            self.new ≡ record self.old { world = with_stored self.old.world key.now value.now }) }
         ensures err { OnErr result (self.new ≡ self.old) }
     {
         self.machine.store(key, value)
@@ -71,8 +73,12 @@ impl World {
     /// An event that doesn't fit is shown as `Unfit` and changes nothing. After an error of memory exactly the first `played` events
     /// were taken, what they show is appended, and nothing of the others.
     pub fn play(&mut self, events: &[WorldEvent], shown: &mut Vec<Shown>) -> Result<(), AllocError>
-        ensures run { OnOk result (RunAppending self.old.world events.now shown.old.items shown.new.items self.new.world × (self.new.taken ≡ length events.now)) }
-        ensures prefix { OnErr result ((self.new.taken ≤ length events.now) × RunAppending self.old.world (take self.new.taken events.now) shown.old.items shown.new.items self.new.world) }
+        ensures run { OnOk result (
+            RunAppending self.old.world events.now shown.old.items shown.new.items self.new.world
+            × (self.new.taken ≡ length events.now)) }
+        ensures prefix { OnErr result ((self.new.taken ≤ length events.now)
+            × RunAppending self.old.world (take self.new.taken events.now)
+            shown.old.items shown.new.items self.new.world) }
     {
         // Names the types of the values that a generic call moves here: the prover looks for their models in the types that a
         // function names.
@@ -115,7 +121,7 @@ impl World {
     pub fn order(&self, alloc: Global) -> Result<Vec<Event>, AllocError>
         ensures order { IfOk result (λ order. order.items ≡ self.now.world.order) }
         ensures legal { IsOrder self.now.world }
-        ensures parts { HasParts self.now.world }
+        ensures parts { HasShares self.now.world }
     {
         self.machine.order(alloc)
     }
@@ -127,11 +133,11 @@ impl World {
         self.machine.is_fresh()
     }
 
-    /// The highest number of a call so far.
-    pub fn last(&self) -> Option<u64>
-        ensures { result ≡ self.now.world.last }
+    /// Whether a call's number is above that of every call so far.
+    pub fn is_new(&self, call: u64) -> bool
+        ensures { result ≡ is_new self.now.world.last call }
     {
-        self.machine.last()
+        self.machine.is_new(call)
     }
 
     /// Whether a session has a call under way.
@@ -142,10 +148,10 @@ impl World {
     }
 
     /// The call with this number, if it is under way.
-    pub fn under(&self, call: u64) -> Option<&Under>
-        ensures { option_copied result ≡ under self.now.world call }
+    pub fn open_call(&self, call: u64) -> Option<&OpenCall>
+        ensures { option_copied result ≡ open_call self.now.world call }
     {
-        self.machine.under(call)
+        self.machine.open_call(call)
     }
 
     /// What a call has asked and heard for a key that it has reserved.
@@ -193,8 +199,10 @@ impl World {
     /// and each loader answered what the store held or failed, no key differs: each cached value is the store's, but for keys whose
     /// writer has changed the store and whose call isn't committed. It looks at all entries.
     pub fn audit(&self, alloc: Global) -> Result<Audit, AllocError>
-        ensures audit { IfOk result (λ a. IsAudit self.now.world a.cache.items a.store.items a.differing.items a.events a.is_legal) }
-        ensures coherent { IfOk result (λ a. all_hold self.now.world ≡ true → Coherent self.now.world × (a.differing.items ≡ [])) }
+        ensures audit { IfOk result (λ a.
+            IsAudit self.now.world a.cache.items a.store.items a.differing.items a.events a.is_legal) }
+        ensures coherent { IfOk result (λ a. all_hold self.now.world ≡ true
+            → Coherent self.now.world × (a.differing.items ≡ [])) }
         ensures legal { IfOk result (λ a. IsTrue a.is_legal) }
     {
         self.machine.audit(alloc)

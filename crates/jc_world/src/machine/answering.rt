@@ -5,13 +5,12 @@ ghost use Rattle.jc_stripe.specs.declared.ticket.First.TheVariants.{Writer};
 ghost use Rattle.jc_model.specs.declared.event.Change.{Change};
 ghost use Rattle.jc_world.specs.declared.event.WorldEvent.TheVariants as event;
 ghost use Rattle.jc_world.specs.declared.event.Part.{Part};
-ghost use Rattle.jc_world.specs.World.{has_changed, under, part_of, waits_for_load, waits_for_report};
+ghost use Rattle.jc_world.specs.World.{has_progress, open_call, part_of, waits_for_load, waits_for_report};
 ghost use Rattle.jc_world.specs.Premises.{report_of};
-ghost use Rattle.jc_world.specs.Events.{fits, answered, reported, Happens};
-ghost use Rattle.jc_world.specs.Coherent.{is_changed};
+ghost use Rattle.jc_world.specs.Events.{fits, after_answer, after_report, shown_report, Happens};
 
 use crate::event::{Reported, Shown};
-use crate::held_keys::{change, report, tell};
+use crate::held_keys::{change, loader_answers, report};
 use crate::machine::Machine;
 use crate::outside::{and_now, answer_of, is_honest_load, is_honest_report};
 use jc_model::LoadAnswer;
@@ -20,15 +19,16 @@ use std::alloc::AllocError;
 
 impl Machine {
     /// The loader answers.
-    fn tell(&mut self, call: u64, key: &Key, answer: LoadAnswer)
-        requires waits { waits_for_load (part_of self.old call key.now) ≡ true }
+    fn loader_answers(&mut self, call: u64, key: &Key, answer: LoadAnswer)
+        requires waits { has_progress waits_for_load (part_of self.old call key.now) ≡ true }
         requires given { is_load_given answer ≡ true }
-        ensures { (part : Part) × (part_of self.old call key.now ≡ Some part) × (self.new ≡ answered self.old key.now part answer) }
+        ensures { (part : Part) × (part_of self.old call key.now ≡ Some part)
+            × (self.new ≡ after_answer self.old key.now part answer) }
     {
         // Copied first: a value counts as moved by the call that takes it.
         let kept = answer;
         let honest = is_honest_load(answer, self.stored(key));
-        tell(&mut self.held, key, kept);
+        loader_answers(&mut self.held, key, kept);
         self.premises.loaders = and_now(self.premises.loaders, honest);
     }
 
@@ -41,7 +41,7 @@ impl Machine {
         let answer = answer_of(self.stored(key));
         // Copied first: a value counts as moved by the call that takes it.
         let kept = answer;
-        self.tell(call, key, answer);
+        self.loader_answers(call, key, answer);
         *seen = Shown::Reads(kept);
     }
 
@@ -53,7 +53,7 @@ impl Machine {
     {
         // Copied first: a value counts as moved by the call that takes it.
         let kept = answer;
-        self.tell(call, key, answer);
+        self.loader_answers(call, key, answer);
         *seen = Shown::Says(kept);
     }
 
@@ -65,7 +65,7 @@ impl Machine {
         key: &Key,
         seen: &mut Shown,
     ) -> Result<(), AllocError>
-        requires { waits_for_report (part_of self.old call key.now) ≡ true }
+        requires { has_progress waits_for_report (part_of self.old call key.now) ≡ true }
         ensures ok { OnOk result (Happens self.old (event.Change call key.now) seen.new self.new) }
         ensures err { OnErr result (self.new ≡ self.old) }
     {
@@ -76,9 +76,11 @@ impl Machine {
 
     /// The writer returns.
     fn report(&mut self, call: u64, key: &Key, fault: Option<u32>) -> Reported
-        requires { waits_for_report (part_of self.old call key.now) ≡ true }
-        ensures { (part : Part) × (change : Change) × (part_of self.old call key.now ≡ Some part) × (part.reservation.first ≡ Writer change)
-            × (result ≡ record { change = change; is_changed = has_changed part.progress; fault = fault }) × (self.new ≡ reported self.old key.now part (report_of fault)) }
+        requires { has_progress waits_for_report (part_of self.old call key.now) ≡ true }
+        ensures { (part : Part) × (change : Change) × (part_of self.old call key.now ≡ Some part)
+            × (part.reservation.first ≡ Writer change)
+            × (result ≡ shown_report change part.progress fault)
+            × (self.new ≡ after_report self.old key.now part (report_of fault)) }
     {
         let reported = report(&mut self.held, key, fault);
         let honest = is_honest_report(&reported);
@@ -88,11 +90,11 @@ impl Machine {
 
     /// The writer of a single-key call returns.
     #[inline(never)]
-    pub(super) fn end_write(&mut self, call: u64, fault: Option<u32>, seen: &mut Shown)
+    pub(super) fn writer_returns(&mut self, call: u64, fault: Option<u32>, seen: &mut Shown)
         requires { fits self.old (event.Report call fault) ≡ true }
         ensures { Happens self.old (event.Report call fault) seen.new self.new }
     {
-        let Some(u) = self.under(call).copied() else {
+        let Some(u) = self.open_call(call).copied() else {
             unreachable!()
         };
         *seen = Shown::Reported(self.report(call, &u.command.key, fault));
@@ -100,7 +102,7 @@ impl Machine {
 
     /// Somebody else changes the store.
     #[inline(never)]
-    pub(super) fn disturb(
+    pub(super) fn foreign_write(
         &mut self,
         key: &Key,
         value: Option<Value>,

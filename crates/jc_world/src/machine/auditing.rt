@@ -1,12 +1,13 @@
 //! What there is to see of a machine.
-ghost use Rattle.std.specs.Prelude.{IsTrue, ◌≡◌, ◌&&◌, [], true, false, Ok, IfOk, option_copied, Option, None, Some};
+ghost use Rattle.std.specs.Prelude.{IsTrue, ◌≡◌, ◌&&◌, [], true, false, Ok, IfOk, Option, None, Some};
+ghost use Rattle.std.specs.FinMap as map;
 ghost use Rattle.jc_model.specs.Table.{holds};
+ghost use Rattle.jc_world.specs.World.{has_progress, has_changed};
 ghost use Rattle.jc_world.specs.Sound.{IsSoundWorld};
-ghost use Rattle.jc_world.specs.Coherent.{is_changed, all_hold, Coherent};
+ghost use Rattle.jc_world.specs.Coherent.{all_hold, Coherent};
 ghost use Rattle.jc_world.specs.Audit.{differs, differing, IsAudit};
 
 use crate::audit::{Audit, gather};
-use crate::held::Held;
 use crate::machine::Machine;
 use jc_types::{Key, Value};
 use std::alloc::{AllocError, Global};
@@ -15,8 +16,10 @@ impl Machine {
     /// What there is to see of the world.
     pub(crate) fn audit(&self, alloc: Global) -> Result<Audit, AllocError>
         requires { IsSoundWorld self.now }
-        ensures audit { IfOk result (λ a. IsAudit self.now a.cache.items a.store.items a.differing.items a.events a.is_legal) }
-        ensures coherent { IfOk result (λ a. all_hold self.now ≡ true → Coherent self.now × (a.differing.items ≡ [])) }
+        ensures audit { IfOk result (λ a.
+            IsAudit self.now a.cache.items a.store.items a.differing.items a.events a.is_legal) }
+        ensures coherent { IfOk result (λ a. all_hold self.now ≡ true → Coherent self.now
+            × (a.differing.items ≡ [])) }
         ensures legal { IfOk result (λ a. IsTrue a.is_legal) }
     {
         let all = gather(alloc, self.stripes.items())?;
@@ -50,7 +53,15 @@ impl Machine {
         ensures { result ≡ differs self.now entry.now }
     {
         let (key, value) = entry;
-        !is_held(self.stored(key), value) && !is_changing(self.reserved(key))
+        !is_held(self.stored(key), value) && !self.is_changing(key)
+    }
+
+    /// Whether a writer's change of a key waits for its commit.
+    fn is_changing(&self, key: &Key) -> bool
+        ensures { result ≡ has_progress has_changed (map.get self.now.parts key.now) }
+    {
+        self.reserved(key)
+            .is_some_and(|held| held.progress().has_changed())
     }
 }
 
@@ -60,16 +71,6 @@ fn is_held(held: Option<Value>, value: &Value) -> bool
 {
     match held {
         Some(held) => held == *value,
-        None => false,
-    }
-}
-
-/// Whether a writer's change waits for its commit.
-fn is_changing(held: Option<&Held>) -> bool
-    ensures { result ≡ is_changed (option_copied held.entry) }
-{
-    match held {
-        Some(held) => held.is_changed(),
         None => false,
     }
 }

@@ -1,15 +1,12 @@
 //! Whether an event fits.
 ghost use Rattle.std.specs.Prelude.{◌≡◌, ◌&&◌, not, true, false, None, Some};
 ghost use Rattle.jc_world.specs.declared.event.WorldEvent.TheVariants as event;
-ghost use Rattle.jc_world.specs.World.{is_busy, under, part_of, is_joined};
+ghost use Rattle.jc_world.specs.World.{has_progress, is_busy, is_joined, open_call, part_of, waits_for_load, waits_for_report};
 ghost use Rattle.jc_world.specs.Events.{is_single, is_session, is_new, may_start, may_leave, is_free, may_report, fits};
 
-use crate::calls::{is_above, is_known, is_single_op};
+use crate::calls::{is_known, is_single_op};
 use crate::event::{Command, WorldEvent};
 use crate::machine::Machine;
-use crate::outside::{
-    is_all_answered, is_never_touched, is_waiting_for_load, is_waiting_for_report,
-};
 use jc_types::Key;
 
 impl Machine {
@@ -24,18 +21,40 @@ impl Machine {
                 command,
             } => self.may_call(*call, *session, command),
             WorldEvent::Start { call, key } => self.may_start(*call, key),
-            WorldEvent::Read { call, key } => is_waiting_for_load(self.held_by(*call, key)),
+            WorldEvent::Read { call, key } => self.waits_for_load(*call, key),
             WorldEvent::Say { call, key, answer } => {
-                answer.is_given() && is_waiting_for_load(self.held_by(*call, key))
+                answer.is_given() && self.waits_for_load(*call, key)
             }
-            WorldEvent::Change { call, key } => is_waiting_for_report(self.held_by(*call, key)),
+            WorldEvent::Change { call, key } => self.waits_for_report(*call, key),
             WorldEvent::Report { call, fault: _ } => self.may_report(*call),
-            WorldEvent::Commit { call, key } => is_all_answered(self.held_by(*call, key)),
-            WorldEvent::Withdraw { call, key } => is_never_touched(self.held_by(*call, key)),
+            WorldEvent::Commit { call, key } => {
+                self.held_by(*call, key)
+                    .is_some_and(|held| held.progress().is_answered())
+            }
+            WorldEvent::Withdraw { call, key } => {
+                self.held_by(*call, key)
+                    .is_some_and(|held| held.progress().is_untouched())
+            }
             WorldEvent::Leave { call } => self.may_leave(*call),
             WorldEvent::PickUp { call, key } => self.is_joined(*call, key),
             WorldEvent::Foreign { key: _, value: _ } => true,
         }
+    }
+
+    /// Whether the loader was asked for a key of the call, and hasn't answered.
+    fn waits_for_load(&self, call: u64, key: &Key) -> bool
+        ensures { result ≡ has_progress waits_for_load (part_of self.now call key.now) }
+    {
+        self.held_by(call, key)
+            .is_some_and(|held| held.progress().waits_for_load())
+    }
+
+    /// Whether the writer was asked for a key of the call, and hasn't returned.
+    fn waits_for_report(&self, call: u64, key: &Key) -> bool
+        ensures { result ≡ has_progress waits_for_report (part_of self.now call key.now) }
+    {
+        self.held_by(call, key)
+            .is_some_and(|held| held.progress().waits_for_report())
     }
 
     /// Whether a call has neither a reservation nor a join of a key.
@@ -46,35 +65,36 @@ impl Machine {
     }
 
     fn may_call(&self, call: u64, session: u32, command: &Command) -> bool
-        ensures { result ≡ (is_single command.now.op && is_session session && is_new self.now.last call && not (is_busy self.now session)) }
+        ensures { result ≡ (is_single command.now.op && is_session session
+            && is_new self.now.last call && not (is_busy self.now session)) }
     {
         let busy = self.is_busy(session);
-        is_single_op(&command.op) && is_known(session) && is_above(self.last, call) && !busy
+        is_single_op(&command.op) && is_known(session) && self.is_new(call) && !busy
     }
 
     fn may_start(&self, call: u64, key: &Key) -> bool
-        ensures { result ≡ may_start self.now call key.now (under self.now call) }
+        ensures { result ≡ may_start self.now call key.now (open_call self.now call) }
     {
-        match self.under(call) {
+        match self.open_call(call) {
             Some(u) => *key == u.command.key && self.is_free(call, key),
             None => false,
         }
     }
 
     fn may_leave(&self, call: u64) -> bool
-        ensures { result ≡ may_leave self.now call (under self.now call) }
+        ensures { result ≡ may_leave self.now call (open_call self.now call) }
     {
-        match self.under(call) {
+        match self.open_call(call) {
             Some(u) => self.is_free(call, &u.command.key),
             None => false,
         }
     }
 
     fn may_report(&self, call: u64) -> bool
-        ensures { result ≡ may_report self.now call (under self.now call) }
+        ensures { result ≡ may_report self.now call (open_call self.now call) }
     {
-        match self.under(call) {
-            Some(u) => is_waiting_for_report(self.held_by(call, &u.command.key)),
+        match self.open_call(call) {
+            Some(u) => self.waits_for_report(call, &u.command.key),
             None => false,
         }
     }

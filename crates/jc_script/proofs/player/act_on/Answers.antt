@@ -9,7 +9,7 @@ pub play-requires : goal.play-requires
 play-requires c =
     let w = c.args.world.now.world in
     let n = c.args.number in
-    let u = c.in-Some.under.now in
+    let u = c.in-Some.open_call.now in
     let P : List WorldEvent → Type 0 = λ events. AllFit w events in
     let these = c.in_ok-put_events-in-Some.ensures in
     subst P (sym these) (act_fits w c.lets_calls_continue.ensures n c.args.act.now u _ (sym c.in-Some.ensures)

@@ -1,15 +1,16 @@
 use Rattle.std.proofs.Common.{Result, Ok, Err, OnOk, OnErr, is_some, ap, sym, ◌∙◌}
 use Rattle.std.specs.FinMap as map
-use Rattle.jc_world.specs.World.{waits_for_report}
+use Rattle.jc_world.specs.World.{waits_for_report, has_progress}
 use Rattle.jc_world.specs.Held.{parts_of}
-use Rattle.jc_world.proofs.Maps.{read, inserted, insert-there}
+use Rattle.jc_outside.proofs.CallerLemmas.{get-entries, insert-entries}
+use Rattle.jc_world.proofs.Maps.{insert-there}
 use Rattle.jc_world.proofs.held_keys.change.Goals as goal
 
 pub change-requires : goal.change-requires
-change-requires c = ap waits_for_report (c.in-Some.ensures.value ∙ read c.args.held.now c.args.key.now) ∙ c.requires
+change-requires c = ap (has_progress waits_for_report) (c.in-Some.ensures.value ∙ get-entries c.args.held.now c.args.key.now) ∙ c.requires
 
 pub unreachable-requires : goal.unreachable-requires
-unreachable-requires c = let e = ap waits_for_report (c.in-None.ensures.value ∙ read c.args.held.now c.args.key.now) ∙ c.requires in cc
+unreachable-requires c = let e = ap (has_progress waits_for_report) (c.in-None.ensures.value ∙ get-entries c.args.held.now c.args.key.now) ∙ c.requires in cc
 
 -- of a result, one fact from another
 raise : {T E P Q : Type 0} (r : Result T E) → (P → Q) → OnOk r P → OnOk r Q
@@ -29,9 +30,9 @@ returns-clause-ok c =
     raise c.change.result (λ h. (
       c.in-Some.one.now,
       h.0,
-      sym (c.in-Some.ensures.value ∙ read m key),
+      sym (c.in-Some.ensures.value ∙ get-entries m key),
       h.1,
-      inserted m left key c.change.new.self ((c.get_mut.follows.holds c.change.new.self).3 there) ∙ ap (map.insert (parts_of m) key) h.2,
+      insert-entries m left key c.change.new.self ((c.get_mut.follows.holds c.change.new.self).3 there) ∙ ap (map.insert (parts_of m) key) h.2,
       h.3,
     )) c.change.ensures.ok
 
@@ -42,7 +43,7 @@ returns-clause-err c =
     let there = sym (ap is_some c.in-Some.ensures.value) in
     let left = c.get_mut.follows.lender c.change.new.self in
     raise_err c.change.result (λ h. (
-      inserted m left key c.change.new.self ((c.get_mut.follows.holds c.change.new.self).3 there) ∙ ap (map.insert (parts_of m) key) h.0
-          ∙ insert-there (parts_of m) key c.in-Some.one.now (sym (c.in-Some.ensures.value ∙ read m key)),
+      insert-entries m left key c.change.new.self ((c.get_mut.follows.holds c.change.new.self).3 there) ∙ ap (map.insert (parts_of m) key) h.0
+          ∙ insert-there (parts_of m) key c.in-Some.one.now (sym (c.in-Some.ensures.value ∙ get-entries m key)),
       h.1,
     )) c.change.ensures.err

@@ -1,9 +1,10 @@
 use Rattle.std.proofs.Common.{sym, ◌∙◌}
-use Rattle.jc_world.proofs.Maps.{read, nothing_at}
+use Rattle.jc_outside.proofs.CallerLemmas.{get-entries}
+use Rattle.jc_world.proofs.Maps.{nothing_at}
 use Rattle.jc_world.proofs.held_keys.held_at.Goals as goal
 
 pub returns-then-is_empty : goal.returns-then-is_empty
 returns-then-is_empty c = sym (nothing_at c.args.held.now c.args.key.now (c.is_empty.ensures.0 c.if-is_empty.true))
 
 pub returns-else-is_empty : goal.returns-else-is_empty
-returns-else-is_empty c = c.get.ensures.value ∙ read c.args.held.now c.args.key.now
+returns-else-is_empty c = c.get.ensures.value ∙ get-entries c.args.held.now c.args.key.now

@@ -1,11 +1,11 @@
 use Rattle.std.proofs.Common.{◌≡◌, Option, Some, None, sym, ◌∙◌}
 use Rattle.jc_world.specs.declared.event.Part.{Part}
-use Rattle.jc_world.proofs.Maps.{read, inserted}
+use Rattle.jc_outside.proofs.CallerLemmas.{get-entries, insert-entries}
 use Rattle.jc_world.proofs.held_keys.put_reserved.Goals as goal
 
 pub unreachable-requires : goal.unreachable-requires
 unreachable-requires c =
-    let e : ◌≡◌ {A = Option Part} (Some c.in-Ok-Some._former) None = sym c.in-Ok-Some.field-0-is ∙ c.in-Ok-Some.ensures.old ∙ read c.args.held.now c.args.key.now ∙ c.requires.free in cc
+    let e : ◌≡◌ {A = Option Part} (Some c.in-Ok-Some._former) None = sym c.in-Ok-Some.field-0-is ∙ c.in-Ok-Some.ensures.old ∙ get-entries c.args.held.now c.args.key.now ∙ c.requires.free in cc
 
 pub returns : goal.returns
-returns c = inserted c.args.held.now c.insert.new.self c.args.key.now c.args.one c.in-Ok-None.ensures.updates
+returns c = insert-entries c.args.held.now c.insert.new.self c.args.key.now c.args.one c.in-Ok-None.ensures.updates

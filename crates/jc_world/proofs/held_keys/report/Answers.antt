@@ -1,15 +1,15 @@
 use Rattle.std.proofs.Common.{is_some, ap, sym, ◌∙◌}
 use Rattle.std.specs.FinMap as map
-use Rattle.jc_world.specs.World.{waits_for_report}
+use Rattle.jc_world.specs.World.{waits_for_report, has_progress}
 use Rattle.jc_world.specs.Held.{parts_of}
-use Rattle.jc_world.proofs.Maps.{read, inserted}
+use Rattle.jc_outside.proofs.CallerLemmas.{get-entries, insert-entries}
 use Rattle.jc_world.proofs.held_keys.report.Goals as goal
 
 pub report-requires : goal.report-requires
-report-requires c = ap waits_for_report (c.in-Some.ensures.value ∙ read c.args.held.now c.args.key.now) ∙ c.requires
+report-requires c = ap (has_progress waits_for_report) (c.in-Some.ensures.value ∙ get-entries c.args.held.now c.args.key.now) ∙ c.requires
 
 pub unreachable-requires : goal.unreachable-requires
-unreachable-requires c = let e = ap waits_for_report (c.in-None.ensures.value ∙ read c.args.held.now c.args.key.now) ∙ c.requires in cc
+unreachable-requires c = let e = ap (has_progress waits_for_report) (c.in-None.ensures.value ∙ get-entries c.args.held.now c.args.key.now) ∙ c.requires in cc
 
 pub returns : goal.returns
 returns c =
@@ -20,8 +20,8 @@ returns c =
     let said = c.report.result in (
       c.in-Some.one.now,
       said.change,
-      sym (c.in-Some.ensures.value ∙ read m key),
+      sym (c.in-Some.ensures.value ∙ get-entries m key),
       c.report.ensures.change,
       (λ i. record { change = said.change; is_changed = c.report.ensures.changed i; fault = c.report.ensures.fault i }),
-      inserted m left key c.report.new.self ((c.get_mut.follows.holds c.report.new.self).3 there) ∙ ap (map.insert (parts_of m) key) c.report.ensures.report,
+      insert-entries m left key c.report.new.self ((c.get_mut.follows.holds c.report.new.self).3 there) ∙ ap (map.insert (parts_of m) key) c.report.ensures.report,
     )

@@ -4,12 +4,12 @@ use Rattle.std.specs.List.{insert}
 use Rattle.jc_model.specs.Cache.{Bytes}
 use Rattle.jc_stripe.specs.Tickets.{JoinClaim}
 use Rattle.jc_world.specs.World.{is_join}
-use Rattle.jc_world.specs.Sound.{joined_once}
+use Rattle.jc_world.specs.Sound.{is_joined_once}
 use Rattle.jc_world.proofs.Joiners.{Stands, stands_at, any_position, put_back_at}
 use Rattle.jc_world.proofs.joining.take_join.Goals as goal
 
 -- what is read at the place is what stands there
-read_at : (call : ℕ) (key : Bytes) (js : List JoinClaim) (place : ℕ) (join : JoinClaim) → position (is_join call key) js ≡ Some place → joined_once js ≡ true → join ≡ get_or js place join → (s : Stands call key js place) × (join ≡ s.join)
+read_at : (call : ℕ) (key : Bytes) (js : List JoinClaim) (place : ℕ) (join : JoinClaim) → position (is_join call key) js ≡ Some place → is_joined_once js ≡ true → join ≡ get_or js place join → (s : Stands call key js place) × (join ≡ s.join)
 read_at call key js place join at once is =
     let s = stands_at call key js place at once in
     (s, same_Some join s.join (sym (slice_get_read js _ place join refl (slice_get_within js place s.join s.here) is) ∙ s.here))

@@ -1,7 +1,7 @@
 use Rattle.std.proofs.Common.{◌≡◌, true, Some, refl, subst, sym, ap, ◌∙◌}
 use Rattle.std.specs.FinMap.{get}
-use Rattle.jc_world.specs.World.{WorldState, part_of, waits_for_report}
-use Rattle.jc_world.specs.Events.{changed}
+use Rattle.jc_world.specs.World.{WorldState, part_of, waits_for_report, has_progress}
+use Rattle.jc_world.specs.Events.{after_change}
 use Rattle.jc_world.specs.Inside.{world_of}
 use Rattle.jc_world.proofs.Holding.{of_key}
 use Rattle.jc_world.proofs.machine.Machine.change.Goals as goal
@@ -9,18 +9,18 @@ use Rattle.jc_world.proofs.machine.Machine.change.Goals as goal
 pub change-requires : goal.change-requires
 change-requires c =
     let v : WorldState = world_of c.self.inside in
-    let W : WorldState → Type 0 = λ x. waits_for_report (part_of x c.args.call c.args.key.now) ≡ true in
-    (of_key waits_for_report (get v.parts c.args.key.now) c.args.call (λ h. cc) (subst W (sym c.self.view_is) c.requires)).3
+    let W : WorldState → Type 0 = λ x. has_progress waits_for_report (part_of x c.args.call c.args.key.now) ≡ true in
+    (of_key (has_progress waits_for_report) (get v.parts c.args.key.now) c.args.call (λ h. cc) (subst W (sym c.self.view_is) c.requires)).3
 
 pub returns-clause-ok : goal.returns-clause-ok
 returns-clause-ok c =
     let v : WorldState = world_of c.self.inside in
     let key = c.args.key.now in
-    let W : WorldState → Type 0 = λ x. waits_for_report (part_of x c.args.call key) ≡ true in
-    let of = of_key waits_for_report (get v.parts key) c.args.call (λ h. cc) (subst W (sym c.self.view_is) c.requires) in
+    let W : WorldState → Type 0 = λ x. has_progress waits_for_report (part_of x c.args.call key) ≡ true in
+    let of = of_key (has_progress waits_for_report) (get v.parts key) c.args.call (λ h. cc) (subst W (sym c.self.view_is) c.requires) in
     let said = c.in_ok-change.ensures.ok in
     let part = said.0 in
     let there : part_of v c.args.call key ≡ Some part = of.1 ∙ sym of.2 ∙ said.2 in
     let next = world_of (record c.self.inside { store = c.change.new.store; held = c.change.new.held }) in
-    let is : next ≡ changed v key part said.1 = λ i. record v { store = said.5 i; parts = said.4 i } in
-    (part, said.1, sym (ap (λ (x : WorldState). part_of x c.args.call key) c.self.view_is) ∙ there, said.3, refl, is ∙ ap (λ (x : WorldState). changed x key part said.1) c.self.view_is)
+    let is : next ≡ after_change v key part said.1 = λ i. record v { store = said.5 i; parts = said.4 i } in
+    (part, said.1, sym (ap (λ (x : WorldState). part_of x c.args.call key) c.self.view_is) ∙ there, said.3, refl, is ∙ ap (λ (x : WorldState). after_change x key part said.1) c.self.view_is)

@@ -1,15 +1,15 @@
 use Rattle.std.proofs.Common.{subst}
-use Rattle.jc_world.specs.Audit.{IsOrder, HasParts}
-use Rattle.jc_world.specs.Played.{Played}
-use Rattle.jc_world.proofs.Callers.{order_is, has_parts}
+use Rattle.jc_world.specs.Audit.{IsOrder, HasShares}
+use Rattle.jc_world.specs.PlayedWorld.{PlayedWorld}
+use Rattle.jc_world.proofs.Callers.{order_is, has_shares}
 use Rattle.jc_world.proofs.world.World.order.Goals as goal
 
 pub returns-clause-legal : goal.returns-clause-legal
 returns-clause-legal c =
-    let P : Played → Type 0 = λ p. IsOrder p.world in
+    let P : PlayedWorld → Type 0 = λ p. IsOrder p.world in
     subst P c.self.view_is (order_is c.self.inside.machine c.self.invariant)
 
 pub returns-clause-parts : goal.returns-clause-parts
 returns-clause-parts c =
-    let P : Played → Type 0 = λ p. HasParts p.world in
-    subst P c.self.view_is (has_parts c.self.inside.machine c.self.invariant)
+    let P : PlayedWorld → Type 0 = λ p. HasShares p.world in
+    subst P c.self.view_is (has_shares c.self.inside.machine c.self.invariant)

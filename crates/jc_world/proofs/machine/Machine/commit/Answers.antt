@@ -11,7 +11,7 @@ use Rattle.jc_world.specs.Turns.{OrderedStripes}
 use Rattle.jc_world.specs.Held.{parts_of}
 use Rattle.jc_world.proofs.Holding.{fits_commit, may_commit}
 use Rattle.jc_world.proofs.Phased.{phased_from, CommitsAs, ended, may_end_at}
-use Rattle.jc_world.proofs.machine.Machine.end.Goals as goal
+use Rattle.jc_world.proofs.machine.Machine.commit.Goals as goal
 
 pub take-held-requires : goal.take-held-requires
 take-held-requires c = ap is_some (fits_commit (world_of c.self.inside) c.args.self.now c.args.call c.args.key.now c.self.view_is c.requires.fits).2

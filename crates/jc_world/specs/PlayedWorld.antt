@@ -1,8 +1,8 @@
 -- What a `World` is to its callers.
---     Played      the world's state, and how many events of the last list were taken
+--     PlayedWorld      the world's state, and how many events of the last list were taken
 use Rattle.std.specs.Prelude.{ℕ}
 use Rattle.jc_world.specs.World.{WorldState}
 
-pub record Played : Type 0 where
+pub record PlayedWorld : Type 0 where
   pub world : WorldState
   pub taken : ℕ

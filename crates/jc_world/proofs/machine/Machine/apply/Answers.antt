@@ -1,12 +1,12 @@
 use Rattle.std.proofs.Common.{sym, subst, OnOk}
 use Rattle.jc_world.specs.declared.event.WorldEvent.{WorldEvent}
 use Rattle.jc_world.specs.Events.{Happens}
-use Rattle.jc_world.proofs.machine.Machine.happen.Goals as goal
+use Rattle.jc_world.proofs.machine.Machine.apply.Goals as goal
 
 pub returns-in-Commit-clause-ok : goal.returns-in-Commit-clause-ok
 returns-in-Commit-clause-ok c =
-    let P : WorldEvent → Type 0 = λ e. OnOk c.end.result (Happens c.args.self.now e c.end.new.seen c.end.new.self) in
-    subst P (sym c.in-Commit.is) c.end.ensures.ok
+    let P : WorldEvent → Type 0 = λ e. OnOk c.commit.result (Happens c.args.self.now e c.commit.new.seen c.commit.new.self) in
+    subst P (sym c.in-Commit.is) c.commit.ensures.ok
 
 pub returns-in-Withdraw-clause-ok : goal.returns-in-Withdraw-clause-ok
 returns-in-Withdraw-clause-ok c =
@@ -25,13 +25,13 @@ returns-in-Read-clause-ok c =
 
 pub returns-in-Report-clause-ok : goal.returns-in-Report-clause-ok
 returns-in-Report-clause-ok c =
-    let P : WorldEvent → Type 0 = λ e. Happens c.args.self.now e c.end_write.new.seen c.end_write.new.self in
-    subst P (sym c.in-Report.is) c.end_write.ensures
+    let P : WorldEvent → Type 0 = λ e. Happens c.args.self.now e c.writer_returns.new.seen c.writer_returns.new.self in
+    subst P (sym c.in-Report.is) c.writer_returns.ensures
 
 pub returns-in-Call-clause-ok : goal.returns-in-Call-clause-ok
 returns-in-Call-clause-ok c =
-    let P : WorldEvent → Type 0 = λ e. OnOk c.open.result (Happens c.args.self.now e c.open.new.seen c.open.new.self) in
-    subst P (sym c.in-Call.is) c.open.ensures.ok
+    let P : WorldEvent → Type 0 = λ e. OnOk c.begin_call.result (Happens c.args.self.now e c.begin_call.new.seen c.begin_call.new.self) in
+    subst P (sym c.in-Call.is) c.begin_call.ensures.ok
 
 pub returns-in-Change-clause-ok : goal.returns-in-Change-clause-ok
 returns-in-Change-clause-ok c =
@@ -40,5 +40,5 @@ returns-in-Change-clause-ok c =
 
 pub returns-in-Foreign-clause-ok : goal.returns-in-Foreign-clause-ok
 returns-in-Foreign-clause-ok c =
-    let P : WorldEvent → Type 0 = λ e. OnOk c.disturb.result (Happens c.args.self.now e c.disturb.new.seen c.disturb.new.self) in
-    subst P (sym c.in-Foreign.is) c.disturb.ensures.ok
+    let P : WorldEvent → Type 0 = λ e. OnOk c.foreign_write.result (Happens c.args.self.now e c.foreign_write.new.seen c.foreign_write.new.self) in
+    subst P (sym c.in-Foreign.is) c.foreign_write.ensures.ok
