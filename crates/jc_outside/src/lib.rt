@@ -12,8 +12,6 @@ mod done;
 mod hands;
 mod listener;
 mod loader;
-#[cfg(test)]
-mod tests;
 mod writer;
 
 pub use answers::Answers;

@@ -1,0 +1,3 @@
+pub mod Store
+pub mod Shared
+pub mod Counts

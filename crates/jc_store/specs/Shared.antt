@@ -1,0 +1,42 @@
+-- What can be said of a loader and a writer whose store is behind a lock: which store it was at that moment, nobody knows.
+--     LoadsFromAStore        the answer is what some store has at the key; it isn't a failure
+--     LoadsAllFromAStore     the answers are what one store has at all the keys; it isn't a failure
+--     NO_MEMORY              the code of a writer whose store finds no memory
+--     report_of              what a writer answers of a change
+--     ReportsChange          a write succeeds, or finds no memory; a delete succeeds
+--     WritesAllToAStore      a prefix of the entries is taken out: all of them, or the store finds no memory
+--     DeletesAll             it succeeds, and all keys are taken out
+use Rattle.std.specs.Prelude.{◌≡◌, ◌++◌, ◌<◌, ◌⊎◌, ℕ, List, [], length, Option, Result, Ok, Err}
+use Rattle.jc_model.specs.Cache.{Bytes, Cache, entry_at}
+use Rattle.jc_model.specs.declared.event.Change.{Change}
+use Rattle.jc_model.specs.declared.event.Change.TheVariants.{Write, Delete}
+use Rattle.jc_outside.specs.Answers.{AnswersByKey}
+use Rattle.jc_store.specs.Store.{answers_from}
+
+-- 1. Loaders.
+
+abbrev pub LoadsFromAStore : Bytes → Result (Option Bytes) ℕ → Type 0
+LoadsFromAStore key answer = (store : Cache) × (answer ≡ Ok (entry_at store key))
+
+abbrev pub LoadsAllFromAStore : List Bytes → Result (Unit {0}) ℕ → AnswersByKey → Type 0
+LoadsAllFromAStore keys answer answers = (store : Cache) × (answer ≡ Ok tt) × (answers ≡ answers_from store keys)
+
+-- 2. Writers.
+
+abbrev pub NO_MEMORY : ℕ
+NO_MEMORY = 999999999
+
+abbrev pub report_of : {E : Type 0} → Result (Unit {0}) E → Result (Unit {0}) ℕ
+report_of (Ok done) = Ok tt
+report_of (Err failed) = Err NO_MEMORY
+
+abbrev pub ReportsChange : Change → Result (Unit {0}) ℕ → Type 0
+ReportsChange (Write value) answer = (answer ≡ Ok tt) ⊎ (answer ≡ Err NO_MEMORY)
+ReportsChange Delete answer = answer ≡ Ok tt
+
+abbrev pub WritesAllToAStore : List (Bytes × Bytes) → Result (Unit {0}) ℕ → List (Bytes × Bytes) → Type 0
+WritesAllToAStore entries (Ok done) left = left ≡ []
+WritesAllToAStore entries (Err code) left = (code ≡ NO_MEMORY) × (0 < length left) × ((written : List (Bytes × Bytes)) × (entries ≡ written ++ left))
+
+abbrev pub DeletesAll : Result (Unit {0}) ℕ → List Bytes → Type 0
+DeletesAll answer left = (answer ≡ Ok tt) × (left ≡ [])

@@ -1,0 +1,19 @@
+//! A store of record that many sessions read through and write through, for tests and programs.
+//!
+//! [`Store`] is the store itself. [`SharedStore`] is one behind a lock, and makes a loader and a writer for each session
+//! (JSR 107, "Integration"). [`Counting`] is a loader or a writer that counts its calls.
+#![tactic(auto)]
+
+mod counting;
+mod counts;
+mod loader;
+mod shared;
+mod store;
+mod writer;
+
+pub use counting::{Counting, SharedCounts};
+pub use counts::{Call, Counts};
+pub use loader::StoreLoader;
+pub use shared::SharedStore;
+pub use store::{NO_MEMORY, Store};
+pub use writer::StoreWriter;
