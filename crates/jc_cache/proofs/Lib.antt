@@ -1,0 +1,5 @@
+pub mod Asking
+pub mod Others
+pub mod SessionAfter
+pub mod Stripes
+pub mod WholeCalls

@@ -1,0 +1,77 @@
+-- What the phases of a call leave of its stripe, as one call.
+--     writes_through    the writer is asked only with write-through on
+--     done_step         a call that is done at once is one step
+--     loaded_step       a first phase that reserves for the loader, and its commit
+--     written_step      a first phase that reserves for the writer, and its commit
+use Rattle.std.proofs.Common.{◌≡◌, ◌+◌, ℕ, [], Bool, true, false, cond, Option, None, refl, sym, ap, ◌∙◌, subst}
+use Rattle.jc_types.specs.declared.caller.Caller.{Caller}
+use Rattle.jc_types.specs.declared.config.Config.{Config}
+use Rattle.jc_model.specs.declared.event.Change.{Change}
+use Rattle.jc_model.specs.declared.event.Op.{Op}
+use Rattle.jc_model.specs.declared.event.Out.{Out}
+use Rattle.jc_model.specs.declared.event.ProcessAnswer.TheVariants.{NotAsked}
+use Rattle.jc_model.specs.declared.table.LoaderAsk.{LoaderAsk}
+use Rattle.jc_model.specs.declared.table.LoaderAsk.TheVariants.{Never, Always, IfWanted}
+use Rattle.jc_model.specs.Cache.{Bytes, entry_at}
+use Rattle.jc_model.specs.Table.{loader_ask, write_ask, is_invoke}
+use Rattle.jc_model.specs.Group.{nothing_said}
+use Rattle.jc_stripe.specs.declared.begun.StepDone.{StepDone}
+use Rattle.jc_stripe.specs.declared.begun.Begun.TheVariants.{Done, Load, Write}
+use Rattle.jc_stripe.specs.declared.ticket.First.{First}
+use Rattle.jc_stripe.specs.declared.ticket.First.TheVariants.{Nobody, Loader, Writer, Processor}
+use Rattle.jc_stripe.specs.State.{State}
+use Rattle.jc_stripe.specs.Tickets.{Ticket, asks_writer}
+use Rattle.jc_stripe.specs.Refusals.{first_asked, first_by, reserves}
+use Rattle.jc_stripe.specs.Phases.{Steps, Begins, Commits}
+use Rattle.jc_stripe.specs.Reached.{IsReached}
+use Rattle.jc_stripe.specs.OwnSteps.{WholeCall}
+use Rattle.jc_cache.specs.Whole.{OneStep, next_after}
+
+asks_through : (invokes : Bool) (ask : LoaderAsk) (through : Bool) (change : Option Change) (first : First) → cond invokes Processor (first_by ask (cond through change None)) ≡ first
+    → asks_writer first ≡ true → through ≡ true
+asks_through true ask through change first h asks = absurd (differs (ap asks_writer h ∙ asks))
+  where
+    differs : false ≡ true → ⊥
+    differs h = cc
+asks_through false Always through change first h asks = absurd (differs (ap asks_writer h ∙ asks))
+  where
+    differs : false ≡ true → ⊥
+    differs h = cc
+asks_through false IfWanted through change first h asks = absurd (differs (ap asks_writer h ∙ asks))
+  where
+    differs : false ≡ true → ⊥
+    differs h = cc
+asks_through false Never true change first h asks = refl
+asks_through false Never false change first h asks = absurd (differs (ap asks_writer h ∙ asks))
+  where
+    differs : false ≡ true → ⊥
+    differs h = cc
+
+pub writes_through : (config : Config) (op : Op) (entry : Option Bytes) (first : First) → first_asked config op entry ≡ first → asks_writer first ≡ true → config.write_through ≡ true
+writes_through config op entry first h asks = asks_through (is_invoke op) (loader_ask config.read_through op entry) config.write_through (write_ask op entry NotAsked) first h asks
+
+writer_reserves : (first : First) → asks_writer first ≡ true → reserves first ≡ true
+writer_reserves Nobody h = cc
+writer_reserves Loader h = refl
+writer_reserves (Writer change) h = refl
+writer_reserves Processor h = refl
+
+-- the number after the call, by whom it asked first
+next_is : (a : State) (key : Bytes) (op : Op) (first : First) (b : Bool) → first_asked a.config op (entry_at a.cache key) ≡ first → reserves first ≡ b → next_after a key op ≡ cond b (a.next + 1) a.next
+next_is a key op first b asks is = ap (λ f. cond (reserves f) (a.next + 1) a.next) asks ∙ ap (λ x. cond x (a.next + 1) a.next) is
+
+one_step : (a c : State) (caller : Caller) (key : Bytes) (op : Op) (out : Out) (done : StepDone) (next : ℕ) → next_after a key op ≡ next → Steps (record a { next = next }) caller key op out [] done c → OneStep a caller key op out done.reply c
+one_step a c caller key op out done next is steps = record { done = done; reply_is = refl; steps = subst (λ n. Steps (record a { next = n }) caller key op out [] done c) (sym is) steps }
+
+pub done_step : (a c : State) (caller : Caller) (key : Bytes) (op : Op) (done : StepDone) → Begins a caller key op (Done done) c → OneStep a caller key op nothing_said done.reply c
+done_step a c caller key op done begins = one_step a c caller key op nothing_said done a.next (next_is a key op Nobody false begins.1 refl) begins.2
+
+pub loaded_step : WholeCall → (a m c : State) (caller : Caller) (key : Bytes) (op : Op) (ticket : Ticket) (out : Out) (done : StepDone) → IsReached a
+    → Begins a caller key op (Load ticket) m → Commits m ticket.reservation out done c → OneStep a caller key op out done.reply c
+loaded_step law a m c caller key op ticket out done reached begins commits =
+    one_step a c caller key op out done (a.next + 1) (next_is a key op Loader true begins.2 refl) (law.loads a m c caller key op ticket out done reached begins commits)
+
+pub written_step : WholeCall → (a m c : State) (caller : Caller) (key : Bytes) (op : Op) (ticket : Ticket) (out : Out) (done : StepDone) → IsReached a
+    → Begins a caller key op (Write ticket) m → Commits m ticket.reservation out done c → OneStep a caller key op out done.reply c
+written_step law a m c caller key op ticket out done reached begins commits =
+    one_step a c caller key op out done (a.next + 1) (next_is a key op ticket.reservation.first true begins.1 (writer_reserves ticket.reservation.first begins.2)) (law.writes a m c caller key op ticket out done reached begins commits)

@@ -1,0 +1,47 @@
+use Rattle.std.proofs.Common.{◌≡◌, ◌∙◌, ◌≤◌, ◌<◌, length, sym, refl, ap, subst, rules, Some, slice_get}
+use Rattle.std.proofs.lemmas.Option.{slice_get_read}
+use Rattle.jc_types.specs.Stripes.{stripe_of}
+use Rattle.jc_model.specs.Group.{write_only}
+use Rattle.jc_stripe.specs.State.{IsOut}
+use Rattle.jc_stripe.specs.Phases.{Commits}
+use Rattle.jc_stripe.specs.OnePhase.{IsPhaseOf}
+use Rattle.jc_cache.specs.Whole.{LeavesOthers}
+use Rattle.jc_cache.specs.Caches.{CacheState}
+use Rattle.jc_cache.specs.CacheInside.{IsPlaced}
+use Rattle.jc_cache.proofs.Others.{leaves_others}
+use Rattle.jc_cache.proofs.Stripes.{all_at, is_there, stays_whole, stripe_there, phase_at}
+use Rattle.jc_cache.proofs.cache.Cache.commit_write.Goals as goal
+
+pub commit_write-requires-clause-free : goal.commit_write-requires-clause-free
+commit_write-requires-clause-free g c =
+    let near : c.stripe_of-at.result < length c.self.inside.owners.items = search rules in
+    is_there _ _ _ c.self.invariant.placed (slice_get_read _ _ _ _ refl near c.index_mut-owner.ensures.value)
+
+pub commit_write-requires-clause-out : goal.commit_write-requires-clause-out
+commit_write-requires-clause-out g c a is =
+    let near : c.stripe_of-at.result < length c.self.inside.owners.items = search rules in
+    let at : slice_get c.self.inside.owners.items c.stripe_of-at.result ≡ Some c.index_mut-owner.result.now = slice_get_read _ _ _ _ refl near c.index_mut-owner.ensures.value in
+    let index : c.stripe_of-at.result ≡ stripe_of c.args.call.reservation.key c.self.inside.config.stripes = c.stripe_of-at.ensures ∙ ap (λ r. stripe_of r.key c.self.inside.config.stripes) c.reservation.ensures in
+    let placed : IsPlaced c.self.inside.config c.stripe_of-at.result a = all_at _ _ _ a c.self.invariant.placed at is in
+    let there = stripe_there _ _ _ _ _ _ _ c.args.call.reservation.key a c.self.view_is index at is in
+    (subst (IsOut a) (sym c.into_parts-ticket.ensures.ticket) (c.requires.out a there), c.into_parts-ticket.ensures.live ∙ sym placed.origin_is)
+
+pub invariant_of-self : goal.invariant_of-self
+invariant_of-self g c =
+    let near : c.stripe_of-at.result < length c.self.inside.owners.items = search rules in
+    let at : slice_get c.self.inside.owners.items c.stripe_of-at.result ≡ Some c.index_mut-owner.result.now = slice_get_read _ _ _ _ refl near c.index_mut-owner.ensures.value in
+    let k = c.commit_write.ensures.phase in
+    let n = c.args.session.now.caller.session in
+    let others : LeavesOthers n k.before k.after = leaves_others n k.before k.after (c.is_uniform.ensures _ _ _ k.reached (subst (λ m. IsPhaseOf m k.before k.after) (ap (λ r. r.caller.session) c.into_parts-ticket.ensures.ticket ∙ c.requires.caller) k.one)) in
+    let given : n ≤ c.self.inside.given = subst (λ (z : CacheState). n ≤ z.given) (sym c.self.view_is) c.requires.own.given in
+    stays_whole _ _ _ _ _ _ n k.before k.after c.self.invariant near at k.found k.left given others
+
+pub returns-clause-phase : goal.returns-clause-phase
+returns-clause-phase g c =
+    let near : c.stripe_of-at.result < length c.self.inside.owners.items = search rules in
+    let at : slice_get c.self.inside.owners.items c.stripe_of-at.result ≡ Some c.index_mut-owner.result.now = slice_get_read _ _ _ _ refl near c.index_mut-owner.ensures.value in
+    let index : c.stripe_of-at.result ≡ stripe_of c.args.call.reservation.key c.self.inside.config.stripes = c.stripe_of-at.ensures ∙ ap (λ r. stripe_of r.key c.self.inside.config.stripes) c.reservation.ensures in
+    let k = c.commit_write.ensures.phase in
+    let n = c.args.session.now.caller.session in
+    let others : LeavesOthers n k.before k.after = leaves_others n k.before k.after (c.is_uniform.ensures _ _ _ k.reached (subst (λ m. IsPhaseOf m k.before k.after) (ap (λ r. r.caller.session) c.into_parts-ticket.ensures.ticket ∙ c.requires.caller) k.one)) in
+    phase_at _ _ _ _ _ _ _ _ c.args.call.reservation.key n k.before k.after c.self.view_is index near at k.found k.left k.reached (subst (λ r. Commits k.before r (write_only c.args.call.answer) c.commit_write.result k.after) c.into_parts-ticket.ensures.ticket (subst (λ w. Commits k.before c.into_parts-ticket.result.0.reservation (write_only w) c.commit_write.result k.after) c.into_parts-ticket.ensures.answer k.made)) others

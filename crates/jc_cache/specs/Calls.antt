@@ -1,0 +1,62 @@
+-- Whole calls on a cache.
+--     Called      a session's next call, whole, which ended so: the key's stripe appends one step, or the call is refused; what the step
+--                 says of the loader and the writer, they answered; every other stripe, and what other sessions need, stays
+--     Returns     a session's next call, whole, and what it returns by how it ended
+--     value_in, flag_in, unit_in    what a call returns that replies with a value, with yes or no, or with nothing: a fault is an error
+use Rattle.std.specs.Prelude.{◌≡◌, ℕ, List, Bool, false, Option, None, Result, Ok, Err}
+use Rattle.jc_types.specs.declared.caller.Caller.{Caller}
+use Rattle.jc_types.specs.declared.refusal.Refusal.{Refusal}
+use Rattle.jc_model.specs.declared.event.Op.{Op}
+use Rattle.jc_model.specs.declared.event.Out.{Out}
+use Rattle.jc_model.specs.declared.event.Reply.{Reply}
+use Rattle.jc_model.specs.declared.event.Reply.TheVariants as reply
+use Rattle.jc_model.specs.Cache.{Bytes}
+use Rattle.jc_outside.specs.Calling.{LoadRelation, WriteRelation}
+use Rattle.jc_stripe.specs.State.{State}
+use Rattle.jc_session.specs.Boxed.{boxed}
+use Rattle.jc_session.specs.Counting.{one_more}
+use Rattle.jc_session.specs.declared.session.Session.{Session}
+use Rattle.jc_cache.specs.Whole.{Ends, AsksLoader, AsksWriter, change_wanted, own_after}
+use Rattle.jc_cache.specs.Caches.{CacheState, IsAt}
+use Rattle.jc_cache.specs.Sessions.{LeavesSessions}
+
+pub record Called
+    {I J : Type 0} {D : I → Type 0} {E : J → Type 0}
+    (loads : LoadRelation ((i : I) × D i)) (load_state : (i : I) × D i → List ℕ)
+    (writes : WriteRelation ((j : J) × E j)) (write_state : (j : J) × E j → List ℕ)
+    (cache : CacheState) (session : Session I J D E) (key : Bytes) (op : Op) (ended : Result Reply Refusal) (cache' : CacheState) (session' : Session I J D E) : Type 0 where
+  pub before : State
+  pub after : State
+  pub out : Out
+  pub caller : Caller
+  pub caller_is : caller ≡ record session.caller { call = one_more session.caller.call }
+  pub at : IsAt key cache cache' before after
+  pub ends : Ends before caller key op out ended after
+  pub loader : AsksLoader (boxed loads) (boxed load_state) session.hands.outside.loader key out.load session'.hands.outside.loader
+  pub writer : AsksWriter (boxed writes) (boxed write_state) session.hands.outside.writer key (change_wanted before key op) out.write session'.hands.outside.writer
+  pub left : session' ≡ record session { caller = caller; counts = record session.counts { own = own_after session.counts.own ended }; hands = session'.hands }
+  pub sessions : LeavesSessions session cache cache'
+
+abbrev pub Returns : {I J T : Type 0} {D : I → Type 0} {E : J → Type 0} → LoadRelation ((i : I) × D i) → ((i : I) × D i → List ℕ) → WriteRelation ((j : J) × E j) → ((j : J) × E j → List ℕ)
+    → CacheState → Session I J D E → Bytes → Op → (Result Reply Refusal → T) → T → CacheState → Session I J D E → Type 0
+Returns loads load_state writes write_state old session key op answer_in result new session' =
+    (ended : Result Reply Refusal) × Called loads load_state writes write_state old session key op ended new session' × (result ≡ answer_in ended)
+
+abbrev pub value_in : Result Reply Refusal → Result (Option Bytes) Refusal
+value_in (Err refusal) = Err refusal
+value_in (Ok (reply.Fault fault)) = Err fault
+value_in (Ok (reply.Value value)) = Ok value
+value_in (Ok (reply.Flag flag)) = Ok None
+value_in (Ok reply.Unit) = Ok None
+
+abbrev pub flag_in : Result Reply Refusal → Result Bool Refusal
+flag_in (Err refusal) = Err refusal
+flag_in (Ok (reply.Fault fault)) = Err fault
+flag_in (Ok (reply.Flag flag)) = Ok flag
+flag_in (Ok (reply.Value value)) = Ok false
+flag_in (Ok reply.Unit) = Ok false
+
+abbrev pub unit_in : Result Reply Refusal → Result (Unit {0}) Refusal
+unit_in (Err refusal) = Err refusal
+unit_in (Ok (reply.Fault fault)) = Err fault
+unit_in (Ok answer) = Ok tt

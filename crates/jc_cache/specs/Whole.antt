@@ -1,0 +1,87 @@
+-- A whole call, between whose phases nobody else takes its stripe.
+--     next_after       the number of the next reservation after a call: the next one if the call had to reserve its key
+--     OneStep          the stripe appends the group of one step, which nobody shares, with this reply
+--     Ends             how a call ends: with one step, or refused as its first phase refuses it, and then nothing is asked and nothing
+--                      changes
+--     change_wanted    the change of the store that a call asks the writer for, if it asks him first
+--     AsksLoader       what a step's answer says of the loader: it was called once, with this key, and answered this; or it is untouched
+--     AsksWriter       the same of the writer, for the change that was asked for
+--     own_after        how many steps the session has made after a call
+--     LeavesOthers     what the calls of one session leave: the stripe is the same one, and no other session has a number taken
+--     IsCall           a whole call of a session on a key, over a gate
+use Rattle.std.specs.Prelude.{◌≡◌, ◌==◌, ◌+◌, ℕ, List, [], false, Option, None, Some, Result, Ok, Err, MatchBool, if◌then◌else◌}
+use Rattle.jc_types.specs.declared.caller.Caller.{Caller}
+use Rattle.jc_types.specs.declared.refusal.Refusal.{Refusal}
+use Rattle.jc_model.specs.declared.event.Op.{Op}
+use Rattle.jc_model.specs.declared.event.Out.{Out}
+use Rattle.jc_model.specs.declared.event.Reply.{Reply}
+use Rattle.jc_model.specs.declared.event.Change.{Change}
+use Rattle.jc_model.specs.declared.event.LoadAnswer.{LoadAnswer}
+use Rattle.jc_model.specs.declared.event.WriteAnswer.{WriteAnswer}
+use Rattle.jc_model.specs.Cache.{Bytes, entry_at}
+use Rattle.jc_model.specs.Table.{is_load_given, is_write_given}
+use Rattle.jc_model.specs.Group.{nothing_said}
+use Rattle.jc_outside.specs.Calling.{LoadRelation, LoadsOnce, WriteRelation, WritesOnce}
+use Rattle.jc_stripe.specs.declared.begun.StepDone.{StepDone}
+use Rattle.jc_stripe.specs.State.{State}
+use Rattle.jc_stripe.specs.Tickets.{change_asked}
+use Rattle.jc_stripe.specs.Refusals.{first_asked, first_refusal, reserves}
+use Rattle.jc_stripe.specs.Phases.{Steps}
+use Rattle.jc_stripe.specs.Laws.{IsSameStripe}
+use Rattle.jc_stripe.specs.OwnSteps.{HasNoCallFrom}
+use Rattle.jc_session.specs.Boxed.{boxed}
+use Rattle.jc_session.specs.Counting.{one_more}
+use Rattle.jc_session.specs.declared.session.Session.{Session}
+
+-- 1. The stripe.
+
+abbrev pub next_after : State → Bytes → Op → ℕ
+next_after old key op = if reserves (first_asked old.config op (entry_at old.cache key)) then old.next + 1 else old.next
+
+pub record OneStep (old : State) (caller : Caller) (key : Bytes) (op : Op) (out : Out) (reply : Reply) (new : State) : Type 0 where
+  pub done : StepDone
+  pub reply_is : done.reply ≡ reply
+  pub steps : Steps (record old { next = next_after old key op }) caller key op out [] done new
+
+abbrev pub Ends : State → Caller → Bytes → Op → Out → Result Reply Refusal → State → Type 0
+Ends old caller key op out (Ok reply) new = (first_refusal old caller key op ≡ None) × OneStep old caller key op out reply new
+Ends old caller key op out (Err refusal) new = (first_refusal old caller key op ≡ Some refusal) × (out ≡ nothing_said) × (new ≡ old)
+
+-- 2. The loader and the writer.
+
+abbrev pub change_wanted : State → Bytes → Op → Option Change
+change_wanted old key op = change_asked (first_asked old.config op (entry_at old.cache key))
+
+abbrev pub AsksLoader : {L : Type 0} → LoadRelation L → (L → List ℕ) → Option L → Bytes → LoadAnswer → Option L → Type 0
+AsksLoader loads state old key answer new = MatchBool (is_load_given answer) (LoadsOnce loads state old key answer new) (new ≡ old)
+
+abbrev pub AsksWriter : {W : Type 0} → WriteRelation W → (W → List ℕ) → Option W → Bytes → Option Change → WriteAnswer → Option W → Type 0
+AsksWriter writes state old key change answer new = MatchBool (is_write_given answer) (WritesOnce writes state old key change answer new) (new ≡ old)
+
+-- 3. The session, and the others.
+
+abbrev pub own_after : ℕ → Result Reply Refusal → ℕ
+own_after own (Ok reply) = one_more own
+own_after own (Err refusal) = own
+
+pub record LeavesOthers (session : ℕ) (old new : State) : Type 0 where
+  pub same : IsSameStripe old new
+  pub numbers : (other call : ℕ) → (other == session) ≡ false → HasNoCallFrom old other call → HasNoCallFrom new other call
+
+pub record IsCall
+    {I J : Type 0} {D : I → Type 0} {E : J → Type 0}
+    (loads : LoadRelation ((i : I) × D i)) (load_state : (i : I) × D i → List ℕ)
+    (writes : WriteRelation ((j : J) × E j)) (write_state : (j : J) × E j → List ℕ)
+    (finds leaves : State → Type 0) (old : Session I J D E) (key : Bytes) (op : Op) (ended : Result Reply Refusal) (new : Session I J D E) : Type 0 where
+  pub before : State
+  pub after : State
+  pub out : Out
+  pub found : finds before
+  pub left : leaves after
+  pub ends : Ends before old.caller key op out ended after
+  pub loader : AsksLoader (boxed loads) (boxed load_state) old.hands.outside.loader key out.load new.hands.outside.loader
+  pub writer : AsksWriter (boxed writes) (boxed write_state) old.hands.outside.writer key (change_wanted before key op) out.write new.hands.outside.writer
+  pub held : new.hands.held ≡ 0
+  pub session : new ≡ record old { counts = record old.counts { own = own_after old.counts.own ended }; hands = new.hands }
+  pub others : LeavesOthers old.caller.session before after
+  pub numbers : HasNoCallFrom before old.caller.session old.caller.call → HasNoCallFrom after old.caller.session (old.caller.call + 1)

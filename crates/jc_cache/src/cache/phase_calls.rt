@@ -1,0 +1,108 @@
+//! The phase calls: each is one take, one phase of the key's stripe by the session's current call, and one give.
+ghost use Rattle.std.specs.Prelude.{◌≡◌, IsTrue};
+ghost use Rattle.jc_model.specs.Group.{load_only, write_only};
+ghost use Rattle.jc_stripe.specs.State.{State, IsOut, IsJoined};
+ghost use Rattle.jc_stripe.specs.Refusals.{has_phases};
+ghost use Rattle.jc_stripe.specs.Phases.{MayBegin, Begins, Commits, PicksUp};
+ghost use Rattle.jc_session.specs.Counting.{counts_begun, counts_ended, counts_picked};
+ghost use Rattle.jc_cache.specs.Caches.{IsStripeOf};
+ghost use Rattle.jc_cache.specs.Sessions.{IsOf};
+ghost use Rattle.jc_cache.specs.Begun.{begun_of, picked_of, IsOfCache, IsBackOfCache, MakesPhaseAt};
+
+use super::Cache;
+use crate::outstanding::{JoinedCall, LoadedCall, WrittenCall};
+use crate::phases;
+use crate::started::{PickedUp, Started};
+use jc_model::Op;
+use jc_session::Session;
+use jc_stripe::StepDone;
+use jc_stripe::phase_laws::is_uniform;
+use jc_types::{Key, stripe_of};
+
+impl Cache {
+    /// The first phase of the session's current call at a key. What it gives is of this cache; it is refused as
+    /// [`Stripe::begin`](jc_stripe::Stripe::begin) says, and nothing changes then.
+    ///
+    /// Conditions: the session is one of this cache's. The operation isn't `Invoke`. The session's current call may begin at the key, by
+    /// the conditions of [`Stripe::begin`](jc_stripe::Stripe::begin).
+    pub fn start(&mut self, session: &mut Session, key: &Key, op: &Op) -> Started
+        requires own { IsOf self.old session.old }
+        requires op { IsTrue (has_phases op.now) }
+        requires may { (a : State) → IsStripeOf self.old key.now a → MayBegin a session.old.caller key.now }
+        ensures own { IsOf self.new session.new }
+        ensures session { session.new ≡ record session.old { counts = counts_begun session.old.counts (begun_of result) } }
+        ensures cache { IsOfCache self.old.mark result }
+        ensures phase { MakesPhaseAt key.now session.old.caller.session self.old self.new
+            (λ a b. Begins a session.old.caller key.now op.now (begun_of result) b) }
+    {
+        is_uniform();
+        let at = stripe_of(key, self.config.stripes);
+        let owner = &mut self.owners[at];
+        let begun = phases::start(owner, &mut (), session, key, op);
+        Started::new(self.mark, begun)
+    }
+
+    /// The last phase of a call whose loader has answered.
+    ///
+    /// Conditions: the session is one of this cache's, and the call is this session's on this cache. Its reservation is out: it is the
+    /// stripe's of its key.
+    pub fn commit_load(&mut self, session: &mut Session, call: LoadedCall) -> StepDone
+        requires own { IsOf self.old session.old }
+        requires cache { call.cache ≡ self.old.mark }
+        requires caller { call.reservation.caller.session ≡ session.old.caller.session }
+        requires out { (a : State) → IsStripeOf self.old call.reservation.key a → IsOut a call.reservation }
+        ensures own { IsOf self.new session.new }
+        ensures session { session.new ≡ record session.old { counts = counts_ended session.old.counts } }
+        ensures phase { MakesPhaseAt call.reservation.key session.old.caller.session self.old self.new
+            (λ a b. Commits a call.reservation (load_only call.answer) result b) }
+    {
+        is_uniform();
+        let at = stripe_of(&call.reservation().key, self.config.stripes);
+        let owner = &mut self.owners[at];
+        let (ticket, done) = call.into_parts();
+        phases::commit_load(owner, &mut (), session, ticket, done)
+    }
+
+    /// The last phase of a call whose writer has reported.
+    ///
+    /// Conditions: the session is one of this cache's, and the call is this session's on this cache. Its reservation is out: it is the
+    /// stripe's of its key.
+    pub fn commit_write(&mut self, session: &mut Session, call: WrittenCall) -> StepDone
+        requires own { IsOf self.old session.old }
+        requires cache { call.cache ≡ self.old.mark }
+        requires caller { call.reservation.caller.session ≡ session.old.caller.session }
+        requires out { (a : State) → IsStripeOf self.old call.reservation.key a → IsOut a call.reservation }
+        ensures own { IsOf self.new session.new }
+        ensures session { session.new ≡ record session.old { counts = counts_ended session.old.counts } }
+        ensures phase { MakesPhaseAt call.reservation.key session.old.caller.session self.old self.new
+            (λ a b. Commits a call.reservation (write_only call.answer) result b) }
+    {
+        is_uniform();
+        let at = stripe_of(&call.reservation().key, self.config.stripes);
+        let owner = &mut self.owners[at];
+        let (ticket, done) = call.into_parts();
+        phases::commit_write(owner, &mut (), session, ticket, done)
+    }
+
+    /// Picks up the answer of the load that a call has joined. If the load isn't over, the call comes back and nothing changes.
+    ///
+    /// Conditions: the session is one of this cache's, and the call is this session's on this cache. Its join is out: its caller is among
+    /// the stripe's joiners of its key, and joined this load.
+    pub fn pick_up(&mut self, session: &mut Session, call: JoinedCall) -> PickedUp
+        requires own { IsOf self.old session.old }
+        requires cache { call.cache ≡ self.old.mark }
+        requires caller { call.join.caller.session ≡ session.old.caller.session }
+        requires out { (a : State) → IsStripeOf self.old call.join.key a → IsJoined a call.join }
+        ensures own { IsOf self.new session.new }
+        ensures session { session.new ≡ record session.old { counts = counts_picked session.old.counts (picked_of result) } }
+        ensures cache { IsBackOfCache self.old.mark result }
+        ensures phase { MakesPhaseAt call.join.key session.old.caller.session self.old self.new
+            (λ a b. PicksUp a call.join (picked_of result) b) }
+    {
+        is_uniform();
+        let at = stripe_of(call.join().key(), self.config.stripes);
+        let owner = &mut self.owners[at];
+        let picked = phases::pick_up(owner, &mut (), session, call.into_join());
+        PickedUp::new(self.mark, picked)
+    }
+}

@@ -1,0 +1,237 @@
+//! The calls on one key, each whole (JSR 107, `javax.cache.Cache`).
+//!
+//! A call is the session's next one. It is one step of the key's stripe, which is appended to the stripe's history; if it is refused,
+//! nothing is done and nothing appended. A loader's or writer's failure is the step's reply, and leaves the entry as it was.
+ghost use Rattle.std.specs.Prelude.{◌≡◌};
+ghost use Rattle.jc_model.specs.declared.event.Op.TheVariants as op;
+ghost use Rattle.jc_cache.specs.Sessions.{MayCall};
+ghost use Rattle.jc_cache.specs.Calls.{Returns, value_in, flag_in, unit_in};
+
+use crate::cache::Cache;
+use jc_model::{Op, Reply};
+use jc_session::Session;
+use jc_types::{Key, Refusal, Value};
+use std::sync::Wait;
+
+impl Cache {
+    /// The key's value, or none (`get`). With read-through on, a missing key is loaded, and kept if the loader finds a value.
+    pub fn get<R: Wait>(
+        &mut self,
+        rt: &R,
+        session: &mut Session,
+        key: &Key,
+    ) -> Result<Option<Value>, Refusal>
+        requires may { MayCall self.old session.old }
+        ensures may { MayCall self.new session.new }
+        ensures call { Returns loads load_state writes write_state
+            self.old session.old key.now op.Get value_in result self.new session.new }
+    {
+        value_of(self.call(rt, session, key, &Op::Get))
+    }
+
+    /// Whether the key has an entry (`containsKey`). It never loads.
+    pub fn contains_key<R: Wait>(
+        &mut self,
+        rt: &R,
+        session: &mut Session,
+        key: &Key,
+    ) -> Result<bool, Refusal>
+        requires may { MayCall self.old session.old }
+        ensures may { MayCall self.new session.new }
+        ensures call { Returns loads load_state writes write_state
+            self.old session.old key.now op.ContainsKey flag_in result self.new session.new }
+    {
+        flag_of(self.call(rt, session, key, &Op::ContainsKey))
+    }
+
+    /// Gives the key a value (`put`). With write-through on, the value is written first.
+    pub fn put<R: Wait>(
+        &mut self,
+        rt: &R,
+        session: &mut Session,
+        key: &Key,
+        value: &Value,
+    ) -> Result<(), Refusal>
+        requires may { MayCall self.old session.old }
+        ensures may { MayCall self.new session.new }
+        ensures call { Returns loads load_state writes write_state
+            self.old session.old key.now (op.Put value.now) unit_in result self.new session.new }
+    {
+        unit_of(self.call(rt, session, key, &Op::Put(*value)))
+    }
+
+    /// Gives the key a value, and returns the one before, or none (`getAndPut`). With write-through on, the value is written first. It
+    /// never loads.
+    pub fn get_and_put<R: Wait>(
+        &mut self,
+        rt: &R,
+        session: &mut Session,
+        key: &Key,
+        value: &Value,
+    ) -> Result<Option<Value>, Refusal>
+        requires may { MayCall self.old session.old }
+        ensures may { MayCall self.new session.new }
+        ensures call { Returns loads load_state writes write_state
+            self.old session.old key.now (op.GetAndPut value.now) value_in result self.new session.new }
+    {
+        value_of(self.call(rt, session, key, &Op::GetAndPut(*value)))
+    }
+
+    /// Gives the key a value if it has no entry, and says whether it did (`putIfAbsent`). With write-through on, the value is written
+    /// first, if it is to be given.
+    pub fn put_if_absent<R: Wait>(
+        &mut self,
+        rt: &R,
+        session: &mut Session,
+        key: &Key,
+        value: &Value,
+    ) -> Result<bool, Refusal>
+        requires may { MayCall self.old session.old }
+        ensures may { MayCall self.new session.new }
+        ensures call { Returns loads load_state writes write_state
+            self.old session.old key.now (op.PutIfAbsent value.now) flag_in result self.new session.new }
+    {
+        flag_of(self.call(rt, session, key, &Op::PutIfAbsent(*value)))
+    }
+
+    /// Removes the key's entry, and says whether there was one (`remove`). With write-through on, the key is deleted in the store first,
+    /// whether it has an entry or not.
+    pub fn remove<R: Wait>(
+        &mut self,
+        rt: &R,
+        session: &mut Session,
+        key: &Key,
+    ) -> Result<bool, Refusal>
+        requires may { MayCall self.old session.old }
+        ensures may { MayCall self.new session.new }
+        ensures call { Returns loads load_state writes write_state
+            self.old session.old key.now op.Remove flag_in result self.new session.new }
+    {
+        flag_of(self.call(rt, session, key, &Op::Remove))
+    }
+
+    /// Removes the key's entry if it has this value, and says whether it did (`remove(key, oldValue)`). With write-through on, the key is
+    /// deleted in the store first, if the entry is to be removed.
+    pub fn remove_if<R: Wait>(
+        &mut self,
+        rt: &R,
+        session: &mut Session,
+        key: &Key,
+        old: &Value,
+    ) -> Result<bool, Refusal>
+        requires may { MayCall self.old session.old }
+        ensures may { MayCall self.new session.new }
+        ensures call { Returns loads load_state writes write_state
+            self.old session.old key.now (op.RemoveIf old.now) flag_in result self.new session.new }
+    {
+        flag_of(self.call(rt, session, key, &Op::RemoveIf(*old)))
+    }
+
+    /// Removes the key's entry, and returns its value, or none (`getAndRemove`). With write-through on, the key is deleted in the store
+    /// first, whether it has an entry or not.
+    pub fn get_and_remove<R: Wait>(
+        &mut self,
+        rt: &R,
+        session: &mut Session,
+        key: &Key,
+    ) -> Result<Option<Value>, Refusal>
+        requires may { MayCall self.old session.old }
+        ensures may { MayCall self.new session.new }
+        ensures call { Returns loads load_state writes write_state
+            self.old session.old key.now op.GetAndRemove value_in result self.new session.new }
+    {
+        value_of(self.call(rt, session, key, &Op::GetAndRemove))
+    }
+
+    /// Gives the key a value if it has an entry, and says whether it did (`replace(key, value)`). With write-through on, the value is
+    /// written first, if it is to be given.
+    pub fn replace<R: Wait>(
+        &mut self,
+        rt: &R,
+        session: &mut Session,
+        key: &Key,
+        value: &Value,
+    ) -> Result<bool, Refusal>
+        requires may { MayCall self.old session.old }
+        ensures may { MayCall self.new session.new }
+        ensures call { Returns loads load_state writes write_state
+            self.old session.old key.now (op.Replace value.now) flag_in result self.new session.new }
+    {
+        flag_of(self.call(rt, session, key, &Op::Replace(*value)))
+    }
+
+    /// Gives the key the value `new` if it has the value `old`, and says whether it did (`replace(key, oldValue, newValue)`). With
+    /// write-through on, the value is written first, if it is to be given.
+    pub fn replace_if<R: Wait>(
+        &mut self,
+        rt: &R,
+        session: &mut Session,
+        key: &Key,
+        old: &Value,
+        new: &Value,
+    ) -> Result<bool, Refusal>
+        requires may { MayCall self.old session.old }
+        ensures may { MayCall self.new session.new }
+        ensures call { Returns loads load_state writes write_state
+            self.old session.old key.now (op.ReplaceIf old.now new.now) flag_in result self.new session.new }
+    {
+        flag_of(self.call(
+            rt,
+            session,
+            key,
+            &Op::ReplaceIf {
+                old: *old,
+                new: *new,
+            },
+        ))
+    }
+
+    /// Gives the key a value if it has an entry, and returns the one before, or none (`getAndReplace`). With write-through on, the value
+    /// is written first, if it is to be given.
+    pub fn get_and_replace<R: Wait>(
+        &mut self,
+        rt: &R,
+        session: &mut Session,
+        key: &Key,
+        value: &Value,
+    ) -> Result<Option<Value>, Refusal>
+        requires may { MayCall self.old session.old }
+        ensures may { MayCall self.new session.new }
+        ensures call { Returns loads load_state writes write_state
+            self.old session.old key.now (op.GetAndReplace value.now) value_in result self.new session.new }
+    {
+        value_of(self.call(rt, session, key, &Op::GetAndReplace(*value)))
+    }
+}
+
+/// What a call returns that replies with a value.
+fn value_of(ended: Result<Reply, Refusal>) -> Result<Option<Value>, Refusal>
+    ensures { result ≡ value_in ended }
+{
+    match ended {
+        Ok(Reply::Value(value)) => Ok(value),
+        Ok(Reply::Fault(fault)) | Err(fault) => Err(fault),
+        Ok(Reply::Flag(_) | Reply::Unit) => Ok(None),
+    }
+}
+
+/// What a call returns that replies with yes or no.
+fn flag_of(ended: Result<Reply, Refusal>) -> Result<bool, Refusal>
+    ensures { result ≡ flag_in ended }
+{
+    match ended {
+        Ok(Reply::Flag(flag)) => Ok(flag),
+        Ok(Reply::Fault(fault)) | Err(fault) => Err(fault),
+        Ok(Reply::Value(_) | Reply::Unit) => Ok(false),
+    }
+}
+
+/// What a call returns that replies with nothing.
+fn unit_of(ended: Result<Reply, Refusal>) -> Result<(), Refusal>
+    ensures { result ≡ unit_in ended }
+{
+    match ended {
+        Ok(Reply::Fault(fault)) | Err(fault) => Err(fault),
+        Ok(Reply::Value(_) | Reply::Flag(_) | Reply::Unit) => Ok(()),
+    }
+}

@@ -1,0 +1,14 @@
+//! A cache of stripes, and whole calls on it (JSR 107, `javax.cache.Cache`).
+#![tactic(auto)]
+
+mod cache;
+mod calls;
+mod engine;
+mod outstanding;
+mod phases;
+mod started;
+
+pub use cache::Cache;
+pub use jc_session::{Session, SessionFault};
+pub use outstanding::{JoinedCall, LoadCall, LoadedCall, WriteCall, WrittenCall};
+pub use started::{PickedUp, Started};

@@ -1,0 +1,11 @@
+//! Who lends a stripe, for one phase at a time.
+//!
+//! A gate has one stripe, and lends it to the holders of its tokens. The plain owner lends to whoever the owner itself is lent to,
+//! and always has its stripe; a gate that threads share may have to say that the stripe is out.
+#![tactic(auto)]
+
+mod gate;
+mod owner;
+
+pub use gate::Gate;
+pub use owner::Owner;

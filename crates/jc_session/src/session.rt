@@ -1,0 +1,208 @@
+//! Sessions.
+ghost use Rattle.std.specs.Prelude.{◌≡◌, ℕ, true, IsSome, IfSome, IfNone};
+ghost use Rattle.jc_model.specs.Table.{is_load_given, is_write_given};
+ghost use Rattle.jc_outside.specs.declared.done.Origin.TheVariants.{Live};
+ghost use Rattle.jc_outside.specs.Calling.{LoadsOnce, WritesOnce};
+ghost use Rattle.jc_stripe.specs.State.{State};
+ghost use Rattle.jc_stripe.specs.Tickets.{change_asked};
+ghost use Rattle.jc_stripe.specs.Reached.{IsReached};
+ghost use Rattle.jc_stripe.specs.OnePhase.{IsPhaseOf};
+ghost use Rattle.jc_session.specs.Boxed.{boxed};
+ghost use Rattle.jc_session.specs.Counting.{one_more, counts_begun, counts_ended, counts_picked};
+
+use crate::counts::Counts;
+use crate::mark::Mark;
+use jc_gate::Gate;
+use jc_outside::{
+    CacheLoader, CacheWriter, Hands, LoadDone, Outside, WriteDone, call_loader, call_writer,
+};
+use jc_stripe::{Begun, LoadAsk, Picked, Stripe, WriteAsk};
+use jc_types::Caller;
+use std::sync::Wait;
+
+/// Who calls a cache.
+///
+/// A session reaches its loader and its writer only by its hands, which count the stripes that it has taken and not given back.
+/// Nobody can put other hands in their place.
+#[derive(Drop)]
+pub struct Session {
+    cache: Mark,
+    caller: Caller,
+    counts: Counts,
+    hands: Hands<Outside>,
+}
+
+impl Session {
+    /// The session with this number of a cache. It holds nothing, and has begun no call.
+    pub fn new(
+        cache: Mark,
+        session: u32,
+        loader: Option<Box<dyn CacheLoader + Send + Drop>>,
+        writer: Option<Box<dyn CacheWriter + Send + Drop>>,
+    ) -> Session
+        ensures cache { result.cache ≡ cache }
+        ensures caller { result.caller ≡ record { session = session; call = 0 } }
+        ensures counts { result.counts ≡ record { reservations = 0; joins = 0; own = 0 } }
+        ensures held { result.hands.held ≡ 0 }
+        ensures boxes { result.hands.outside ≡ record { loader = loader; writer = writer } }
+    {
+        Session {
+            cache,
+            caller: Caller { session, call: 0 },
+            counts: Counts {
+                reservations: 0,
+                joins: 0,
+                own: 0,
+            },
+            hands: Hands::new(Outside { loader, writer }),
+        }
+    }
+
+    /// Begins a call, by the next number. The last number, `u64::MAX`, is given to each call from then on; the cache refuses such a
+    /// call (`HistoryFull`).
+    pub fn next_call(&mut self) -> Caller
+        ensures caller { result ≡ self.new.caller }
+        ensures call { self.new
+            ≡ record self.old { caller = record self.old.caller { call = one_more self.old.caller.call } } }
+    {
+        self.caller.call = one_more(self.caller.call);
+        self.caller
+    }
+
+    /// Who makes the call that was begun last: the session's number, and the call's.
+    pub fn caller(&self) -> Caller
+        ensures { result ≡ self.now.caller }
+    {
+        self.caller
+    }
+
+    /// How many steps the session has made on the cache: its calls that were neither refused nor are still to be answered.
+    pub fn own(&self) -> u64
+        ensures { result ≡ self.now.counts.own }
+    {
+        self.counts.own
+    }
+
+    /// Takes a stripe, if it is there. None leaves everything as it was.
+    ///
+    /// Conditions: the session holds no stripe, and the token has not taken the gate's.
+    pub fn try_take<G: Gate>(&mut self, gate: &mut G, token: &mut G::Token) -> Option<Box<Stripe>>
+        requires held { self.old.hands.held ≡ 0 }
+        requires free { G.is_free gate.old token.old }
+        ensures some { IfSome result (λ s. self.new ≡ record self.old { hands = record self.old.hands { held = 1 } }) }
+        ensures none { IfNone result (self.new ≡ self.old) }
+        ensures speaks { (n : ℕ) → G.speaks_for token.old n → G.speaks_for token.new n }
+        ensures taken { IfSome result (λ s. G.has gate.new token.new s.value) }
+        ensures found { IfSome result (λ s. G.finds gate.old token.old s.value × IsReached s.value) }
+        ensures failed { IfNone result (G.may_fail gate.old token.old) }
+        ensures same { IfNone result ((gate.new ≡ gate.old) × (token.new ≡ token.old)) }
+    {
+        let stripe = gate.try_take(token)?;
+        self.hands.hold();
+        Some(stripe)
+    }
+
+    /// Gives a stripe back.
+    ///
+    /// Conditions: the session holds one stripe, and this is the one that the token has taken, after at most one phase of a session
+    /// that the token speaks for.
+    pub fn give<G: Gate>(&mut self, gate: &mut G, token: &mut G::Token, stripe: Box<Stripe>)
+        requires held { self.old.hands.held ≡ 1 }
+        requires phase { (n : ℕ) × (a : State)
+            × G.speaks_for token.old n × G.has gate.old token.old a × IsPhaseOf n a stripe.value }
+        ensures held { self.new ≡ record self.old { hands = record self.old.hands { held = 0 } } }
+        ensures speaks { (n : ℕ) → G.speaks_for token.old n → G.speaks_for token.new n }
+        ensures free { G.is_free gate.new token.new }
+        ensures left { G.leaves gate.new token.new stripe.value }
+    {
+        gate.give(token, stripe);
+        self.hands.let_go();
+    }
+
+    /// Calls the loader once, with the key of the ask. Without a loader nothing is found.
+    ///
+    /// It may wait, as long as the loader does.
+    ///
+    /// Condition: the session holds no stripe.
+    pub fn ask_loader<R: Wait>(&mut self, rt: &R, ask: LoadAsk) -> LoadDone<LoadAsk>
+        requires { self.old.hands.held ≡ 0 }
+        ensures ask { result.ask ≡ ask }
+        ensures origin { result.origin ≡ Live }
+        ensures given { is_load_given result.answer ≡ true }
+        ensures loader { LoadsOnce (boxed loads) (boxed load_state)
+            self.old.hands.outside.loader ask.key result.answer self.new.hands.outside.loader }
+        ensures writer { self.new.hands.outside.writer ≡ self.old.hands.outside.writer }
+        ensures held { self.new.hands.held ≡ 0 }
+        ensures rest { self.new ≡ record self.old { hands = self.new.hands } }
+    {
+        call_loader(rt, &mut self.hands, ask)
+    }
+
+    /// Calls the writer once, for the change that is asked for: `write` with the key and the value, or `delete` with the key.
+    ///
+    /// It may wait, as long as the writer does.
+    ///
+    /// Conditions: the session holds no stripe, and has a writer.
+    pub fn ask_writer<R: Wait>(&mut self, rt: &R, ask: WriteAsk) -> WriteDone<WriteAsk>
+        requires held { self.old.hands.held ≡ 0 }
+        requires writer { IsSome self.old.hands.outside.writer }
+        ensures ask { result.ask ≡ ask }
+        ensures origin { result.origin ≡ Live }
+        ensures given { is_write_given result.answer ≡ true }
+        ensures writer { WritesOnce (boxed writes) (boxed write_state)
+            self.old.hands.outside.writer ask.key (change_asked ask.first)
+            result.answer self.new.hands.outside.writer }
+        ensures loader { self.new.hands.outside.loader ≡ self.old.hands.outside.loader }
+        ensures held { self.new.hands.held ≡ 0 }
+        ensures rest { self.new ≡ record self.old { hands = self.new.hands } }
+    {
+        call_writer(rt, &mut self.hands, ask)
+    }
+
+    /// Counts what a first phase has given.
+    pub fn count_begun(&mut self, begun: &Begun)
+        ensures { self.new ≡ record self.old { counts = counts_begun self.old.counts begun.now } }
+    {
+        match begun {
+            Begun::Done(_) => self.counts.own = one_more(self.counts.own),
+            Begun::Load(_) | Begun::Write(_) => {
+                self.counts.reservations = one_more(self.counts.reservations);
+            }
+            Begun::Joined(_) => self.counts.joins = one_more(self.counts.joins),
+            Begun::Refused(_) => {}
+        }
+    }
+
+    /// Counts that a reservation was committed.
+    pub fn count_ended(&mut self)
+        ensures { self.new ≡ record self.old { counts = counts_ended self.old.counts } }
+    {
+        self.counts.reservations = self.counts.reservations.saturating_sub(1);
+        self.counts.own = one_more(self.counts.own);
+    }
+
+    /// Counts what a pick-up has given.
+    pub fn count_picked(&mut self, picked: &Picked)
+        ensures { self.new ≡ record self.old { counts = counts_picked self.old.counts picked.now } }
+    {
+        match picked {
+            Picked::Answer { .. } => {
+                self.counts.joins = self.counts.joins.saturating_sub(1);
+                self.counts.own = one_more(self.counts.own);
+            }
+            Picked::Again => self.counts.joins = self.counts.joins.saturating_sub(1),
+            Picked::NotYet(_) => {}
+        }
+    }
+}
+
+/// The number after one, up to the last.
+fn one_more(number: u64) -> u64
+    ensures { result ≡ one_more number }
+{
+    if number < u64::MAX {
+        number + 1
+    } else {
+        number
+    }
+}
