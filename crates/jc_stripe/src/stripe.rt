@@ -19,8 +19,6 @@ ghost use Rattle.jc_stripe.specs.OnePhase.{IsPhaseOf};
 mod beginning;
 mod finding;
 mod testing;
-#[cfg(test)]
-mod tests;
 
 use crate::appending::{append_group, make_step};
 use crate::begun::{Begun, Picked, StepDone};

@@ -19,43 +19,50 @@ mod writing;
 use jc_script::noted::Noted;
 use jc_script::run::{RunEnd, run};
 use std::alloc::Global;
+use std::fmt::Debug;
 use std::process::Abort;
-use std::test::Fail;
+
+/// Asserts a value.
+fn is<T: Copy + Debug + PartialEq>(rt: &impl Abort, at: &str, found: T, want: T) {
+    assert_eq!(rt; found, want, "{at}");
+}
+
+/// What a script's run writes, and how it ends.
+fn played(rt: &impl Abort, alloc: Global, script: &[u8]) -> (Vec<u8>, RunEnd) {
+    let mut out = Vec::new(alloc);
+    let end = run(alloc, &mut Noted::new(script), &mut Noted::new(&mut out)).expect(rt, "a run");
+    (out, end)
+}
 
 /// Whether a run that has this transcript ends so: at the fault of the line that the transcript names, if it names one.
-fn is_end_of(alloc: Global, end: RunEnd, transcript: &str) -> Result<bool, Fail> {
+fn is_end_of(rt: &impl Abort, alloc: Global, end: RunEnd, transcript: &str) -> bool {
     match end {
-        RunEnd::Clean => Ok(!transcript.contains("line ")),
+        RunEnd::Clean => !transcript.contains("line "),
         RunEnd::LineFault(line) => {
-            let fault = format!(in alloc; "line {line}: ")?;
-            Ok(transcript.contains(fault.as_str()))
+            let fault = format!(in alloc; "line {line}: ").expect(rt, "memory");
+            transcript.contains(fault.as_str())
         }
     }
 }
 
 /// Plays a script, which is to give this transcript and to end as it says.
-fn gives(
-    rt: &impl Abort,
-    alloc: Global,
-    rule: &str,
-    script: &str,
-    transcript: &str,
-) -> Result<(), Fail> {
-    let mut found = Vec::new(alloc);
-    let mut reader = Noted::new(script.as_bytes());
-    let end = run(alloc, &mut reader, &mut Noted::new(&mut found))?;
-    assert_eq!(rt; found.as_slice(), transcript.as_bytes(), "{rule}");
-    assert!(rt; is_end_of(alloc, end, transcript)?, "{rule}");
-    Ok(())
+fn gives(rt: &impl Abort, alloc: Global, rule: &str, script: &str, transcript: &str) {
+    let (found, end) = played(rt, alloc, script.as_bytes());
+    is(rt, rule, found.as_slice(), transcript.as_bytes());
+    is(rt, rule, is_end_of(rt, alloc, end, transcript), true);
+}
+
+/// Plays a case.
+fn holds(rt: &impl Abort, alloc: Global, case: &str) {
+    let (rule, case) = case.split_once('\n').expect(rt, "a rule");
+    let (script, transcript) = case.split_once("--\n").expect(rt, "a transcript");
+    is(rt, rule, rule.starts_with("# "), true);
+    gives(rt, alloc, rule, script, transcript);
 }
 
 /// Plays each case of a text.
-fn all_hold(rt: &impl Abort, alloc: Global, cases: &str) -> Result<(), Fail> {
+fn all_hold(rt: &impl Abort, alloc: Global, cases: &str) {
     for case in cases.split("==\n") {
-        let (rule, case) = case.split_once('\n').expect(rt, "a rule");
-        let (script, transcript) = case.split_once("--\n").expect(rt, "a transcript");
-        assert!(rt; rule.starts_with("# "), "{rule}");
-        gives(rt, alloc, rule, script, transcript)?;
+        holds(rt, alloc, case);
     }
-    Ok(())
 }

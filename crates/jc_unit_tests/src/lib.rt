@@ -1,5 +1,5 @@
-//! Tests of the crates below the stripe: each public function on its normal path, at its limits and with its errors. The crate has
-//! nothing but tests.
+//! Tests of the stripe and of the crates below it: each public function on its normal path, at its limits and with its errors.
+//! The crate has nothing but tests.
 //!
 //! A crate with tests is proved twice, once without them and once with them. Here that costs next to nothing, since there is
 //! nothing else to prove.

@@ -1,5 +1,6 @@
 //! A file for each type or table. Tables of values are constants, and long ones are texts: a table in a function's body is dear
-//! to prove. So is an assertion in its own place: most are calls of `is`.
+//! to prove. So is an assertion in its own place: most are calls of `is`. And so is each `?` behind a value that has to be dropped:
+//! where memory may be short, `expect` is a call and no branch.
 mod callers;
 mod config;
 mod contents;
@@ -13,10 +14,12 @@ mod refusal;
 mod reservations;
 mod script;
 mod shared;
+mod stripes;
 mod table;
 mod values;
 
 use jc_types::{Config, Key, Value};
+use std::alloc::Global;
 use std::fmt::Debug;
 use std::process::Abort;
 
@@ -31,6 +34,17 @@ fn key(rt: &impl Abort, bytes: &[u8]) -> Key {
 
 fn value(rt: &impl Abort, bytes: &[u8]) -> Value {
     Value::new(bytes).ok().expect(rt, "a value")
+}
+
+/// The entries that a text names: each has a key, `=` and a value, with a space between two of them.
+fn pairs(rt: &impl Abort, alloc: Global, text: &str) -> Vec<(Key, Value)> {
+    let mut found = Vec::new(alloc);
+    for word in text.split(' ') {
+        let (name, text) = word.split_once('=').expect(rt, word);
+        let pair = (key(rt, name.as_bytes()), value(rt, text.as_bytes()));
+        found.push(pair).expect(rt, "memory");
+    }
+    found
 }
 
 /// One stripe with room for two entries, with read-through and write-through or with neither.

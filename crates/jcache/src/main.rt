@@ -3,8 +3,6 @@
 
 mod commands;
 mod exec;
-#[cfg(test)]
-mod tests;
 
 use jc_script::noted::Noted;
 use std::io;

@@ -1,6 +1,5 @@
 //! Which entry a new key evicts.
 use super::all_hold;
-use std::test::Fail;
 
 const EVICTIONS: &str = "\
 # A new key into a full stripe evicts the least recently used one, at the place before its step.
@@ -47,6 +46,37 @@ cache a=5
 store a=5 b=2
 coherent
 history 4 legal
+==
+# If there is another, that one is evicted, though it was used later.
+open 1 2 100 read write
+set a 1
+set b 2
+set c 3
+begin 1 s1 get a
+read 1
+end 1
+begin 2 s1 get b
+read 2
+end 2
+begin 3 s2 remove a
+begin 4 s1 get c
+read 4
+end 4
+begin 5 s1 get a
+--
+open
+1 a load
+1 a reads 1
+1 a is 1 at 0.0
+2 b load
+2 b reads 2
+2 b is 2 at 0.1
+3 a delete
+4 c load
+4 c reads 3
+evict b full at 0.2
+4 c is 3 at 0.3
+5 a is 1 at 0.4
 ==
 # The shared steps of its load are between the step and that eviction.
 open 1 1 100 read write
@@ -242,6 +272,6 @@ history 6 legal
 ";
 
 #[test]
-fn evicts_the_least_recently_used(rt: HostRuntime) -> Result<(), Fail> {
-    all_hold(&rt, rt.alloc(), EVICTIONS)
+fn evicts_the_least_recently_used(rt: HostRuntime) {
+    all_hold(&rt, rt.alloc(), EVICTIONS);
 }

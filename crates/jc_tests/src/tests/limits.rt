@@ -1,6 +1,5 @@
 //! The limits of keys and values, and of the numbers at `open`.
 use super::{all_hold, gives};
-use std::test::Fail;
 
 const LIMITS: &str = "\
 # A store has the empty value.
@@ -103,13 +102,13 @@ open
 ";
 
 #[test]
-fn takes_sizes_within_limits(rt: HostRuntime) -> Result<(), Fail> {
-    all_hold(&rt, rt.alloc(), LIMITS)
+fn takes_sizes_within_limits(rt: HostRuntime) {
+    all_hold(&rt, rt.alloc(), LIMITS);
 }
 
 // A case ends with a line feed, so a script that is cut has a test of its own.
 #[test]
-fn ends_at_a_cut_line(rt: HostRuntime) -> Result<(), Fail> {
+fn ends_at_a_cut_line(rt: HostRuntime) {
     let script = "open 1 2 100\nbegin 1 s1 ge";
     gives(
         &rt,
@@ -117,5 +116,5 @@ fn ends_at_a_cut_line(rt: HostRuntime) -> Result<(), Fail> {
         "a line with no line feed",
         script,
         "open\nline 2: cut line\n",
-    )
+    );
 }

@@ -1,6 +1,5 @@
 //! Reading, and loading what is missing.
 use super::all_hold;
-use std::test::Fail;
 
 const LOADING: &str = "\
 # The empty script prints nothing.
@@ -131,6 +130,6 @@ open
 ";
 
 #[test]
-fn loads_what_is_missing(rt: HostRuntime) -> Result<(), Fail> {
-    all_hold(&rt, rt.alloc(), LOADING)
+fn loads_what_is_missing(rt: HostRuntime) {
+    all_hold(&rt, rt.alloc(), LOADING);
 }

@@ -2,104 +2,95 @@
 //! of a line have a file of their own.
 mod faults;
 
+use super::{is, played};
 use jc_script::noted::Noted;
 use jc_script::run::{RunEnd, RunFault, SCRIPT_MAX, run};
-use std::alloc::{AllocError, Global};
+use std::alloc::Global;
 use std::io;
 use std::process::Abort;
-use std::test::Fail;
-
-fn played(alloc: Global, script: &[u8]) -> Result<(Vec<u8>, RunEnd), Fail> {
-    let mut out = Vec::new(alloc);
-    let end = run(alloc, &mut Noted::new(script), &mut Noted::new(&mut out))?;
-    Ok((out, end))
-}
 
 // The lines of a text that parts them by `; `, each with a line feed.
-fn lines(alloc: Global, text: &str) -> Result<Vec<u8>, AllocError> {
+fn lines(rt: &impl Abort, alloc: Global, text: &str) -> Vec<u8> {
     let mut all = Vec::new(alloc);
     for line in text.split("; ") {
-        all.extend_from_slice(line.as_bytes())?;
-        all.push(b'\n')?;
+        all.extend_from_slice(line.as_bytes()).expect(rt, "memory");
+        all.push(b'\n').expect(rt, "memory");
     }
-    Ok(all)
+    all
 }
 
 // Plays a script that ends at this line, with this fault.
-fn ends_with_fault(
-    rt: &impl Abort,
-    alloc: Global,
-    script: &[u8],
-    line: usize,
-    fault: &str,
-) -> Result<(), Fail> {
-    let (found, end) = played(alloc, script)?;
-    assert_eq!(rt; end, RunEnd::LineFault(line as u64), "at {script:?}");
-    let wanted = format!(in alloc; "line {line}: {fault}\n")?;
+fn ends_with_fault(rt: &impl Abort, alloc: Global, script: &[u8], line: usize, fault: &str) {
+    let (found, end) = played(rt, alloc, script);
+    is(rt, fault, end, RunEnd::LineFault(line as u64));
+    let wanted = format!(in alloc; "line {line}: {fault}\n").expect(rt, "memory");
     assert!(rt; found.ends_with(wanted.as_bytes()), "at {script:?}");
-    Ok(())
 }
 
-// Plays scripts in parts that `==` parts. A part is a fault, and a line for each script that ends with it at its last line.
-fn all_end_with_faults(rt: &impl Abort, alloc: Global, parts: &str) -> Result<(), Fail> {
+// Plays a part of a text: a fault, and a line for each script that ends with it at its last line.
+fn end_with_fault(rt: &impl Abort, alloc: Global, part: &str) {
+    let (fault, scripts) = part.split_once('\n').expect(rt, "a fault");
+    for script in scripts.lines() {
+        let count = script.split("; ").count();
+        ends_with_fault(rt, alloc, &lines(rt, alloc, script), count, fault);
+    }
+}
+
+// Plays scripts in parts that `==` parts.
+fn all_end_with_faults(rt: &impl Abort, alloc: Global, parts: &str) {
     for part in parts.split("==\n") {
-        let (fault, scripts) = part.split_once('\n').expect(rt, "a fault");
-        for script in scripts.lines() {
-            let count = script.split("; ").count();
-            ends_with_fault(rt, alloc, &lines(alloc, script)?, count, fault)?;
-        }
+        end_with_fault(rt, alloc, part);
     }
-    Ok(())
 }
 
-#[test]
-fn tells_cut_lines(rt: HostRuntime) -> Result<(), Fail> {
-    let alloc = rt.alloc();
-    ends_with_fault(&rt, alloc, b"# comment", 1, "cut line")?;
-    ends_with_fault(&rt, alloc, b"open 1 2 100\nbegin 1 s1 ge", 2, "cut line")
-}
+// A script whose last line ends it with a fault, and the number of that line.
+const BAD_ENDS: &[(&str, usize, &str)] = &[
+    ("# comment", 1, "cut line"),
+    ("open 1 2 100\nbegin 1 s1 ge", 2, "cut line"),
+    ("# \t\n", 1, "bad byte"),
+    ("frob\x7f\n", 1, "bad byte"),
+    ("audit\r\n", 1, "bad byte"),
+    (" \n", 1, "bad line"),
+    (" # comment\n", 1, "bad line"),
+    ("set a 1 \n", 1, "bad line"),
+];
 
 #[test]
-fn tells_bad_bytes_and_spaces(rt: HostRuntime) -> Result<(), Fail> {
-    for script in ["# \t\n", "frob\x7f\n", "audit\r\n"] {
-        ends_with_fault(&rt, rt.alloc(), script.as_bytes(), 1, "bad byte")?;
+fn tells_cut_lines_and_bad_bytes_and_spaces(rt: HostRuntime) {
+    for (script, line, fault) in BAD_ENDS {
+        ends_with_fault(&rt, rt.alloc(), script.as_bytes(), *line, fault);
     }
-    for script in [" \n", " # comment\n", "set a 1 \n"] {
-        ends_with_fault(&rt, rt.alloc(), script.as_bytes(), 1, "bad line")?;
-    }
-    Ok(())
 }
 
 // A comment of this many bytes, and a line feed.
-fn comment(alloc: Global, bytes: usize) -> Result<Vec<u8>, AllocError> {
+fn comment(rt: &impl Abort, alloc: Global, bytes: usize) -> Vec<u8> {
     let mut text = Vec::new(alloc);
-    text.resize(bytes, b'#')?;
-    text.push(10)?;
-    Ok(text)
+    text.resize(bytes, b'#').expect(rt, "memory");
+    text.push(10).expect(rt, "memory");
+    text
 }
 
 #[test]
-fn takes_long_lines_up_to_a_limit(rt: HostRuntime) -> Result<(), Fail> {
+fn takes_long_lines_up_to_a_limit(rt: HostRuntime) {
     let alloc = rt.alloc();
-    let (out, end) = played(alloc, &comment(alloc, 65536)?)?;
-    assert!(rt; out.is_empty());
-    assert_eq!(rt; end, RunEnd::Clean);
-    for bytes in [65537, SCRIPT_MAX - 1] {
-        ends_with_fault(&rt, alloc, &comment(alloc, bytes)?, 1, "line too long")?;
-    }
-    Ok(())
+    let (out, end) = played(&rt, alloc, &comment(&rt, alloc, 65536));
+    is(&rt, "the longest line", out.len(), 0);
+    is(&rt, "the longest line", end, RunEnd::Clean);
+    let long = comment(&rt, alloc, 65537);
+    ends_with_fault(&rt, alloc, &long, 1, "line too long");
+    let longest = comment(&rt, alloc, SCRIPT_MAX - 1);
+    ends_with_fault(&rt, alloc, &longest, 1, "line too long");
 }
 
 #[test]
-fn takes_no_input_over_a_limit(rt: HostRuntime) -> Result<(), Fail> {
+fn takes_no_input_over_a_limit(rt: HostRuntime) {
     let alloc = rt.alloc();
-    let long = comment(alloc, SCRIPT_MAX)?;
+    let long = comment(&rt, alloc, SCRIPT_MAX);
     let mut out = Vec::new(alloc);
     let mut reader = Noted::new(long.as_slice());
     let ended = run(alloc, &mut reader, &mut Noted::new(&mut out));
-    assert_eq!(rt; ended, Err(RunFault::TooLong));
-    assert!(rt; out.is_empty());
-    Ok(())
+    is(&rt, "too long", ended, Err(RunFault::TooLong));
+    is(&rt, "too long", out.len(), 0);
 }
 
 // A reader that gives one line, and then fails.
@@ -143,43 +134,43 @@ impl io::Write for Narrow {
 }
 
 #[test]
-fn tells_a_failed_read(rt: HostRuntime) -> Result<(), Fail> {
+fn tells_a_failed_read(rt: HostRuntime) {
     let alloc = rt.alloc();
     let mut out = Vec::new(alloc);
     let mut torn = Noted::new(Torn { has_given: false });
     let ended = run(alloc, &mut torn, &mut Noted::new(&mut out));
-    assert_eq!(rt; ended, Err(RunFault::Read));
-    assert!(rt; out.is_empty());
-    Ok(())
+    is(&rt, "read", ended, Err(RunFault::Read));
+    is(&rt, "read", out.len(), 0);
+}
+
+// Writes `open` and a line feed to a writer that takes this many bytes.
+fn writes_open(rt: &impl Abort, alloc: Global, left: usize, wanted: Result<RunEnd, RunFault>) {
+    let mut writer = Narrow {
+        taken: Vec::new(alloc),
+        left,
+    };
+    let mut reader = Noted::new(&b"open 1 2 100\n"[..]);
+    let ended = run(alloc, &mut reader, &mut Noted::new(&mut writer));
+    is(rt, "write", ended, wanted);
+    is(rt, "write", b"open\n".starts_with(&writer.taken), true);
+    is(rt, "write", writer.taken.len(), left);
 }
 
 #[test]
-fn tells_a_failed_write(rt: HostRuntime) -> Result<(), Fail> {
-    let alloc = rt.alloc();
-    for (left, wanted) in [(3, Err(RunFault::Write)), (5, Ok(RunEnd::Clean))] {
-        let mut writer = Narrow {
-            taken: Vec::new(alloc),
-            left,
-        };
-        let mut reader = Noted::new(&b"open 1 2 100\n"[..]);
-        let ended = run(alloc, &mut reader, &mut Noted::new(&mut writer));
-        assert_eq!(rt; ended, wanted);
-        assert!(rt; b"open\n".starts_with(&writer.taken));
-        assert_eq!(rt; writer.taken.len(), left);
-    }
-    Ok(())
+fn tells_a_failed_write(rt: HostRuntime) {
+    writes_open(&rt, rt.alloc(), 3, Err(RunFault::Write));
+    writes_open(&rt, rt.alloc(), 5, Ok(RunEnd::Clean));
+}
+
+fn says(rt: &impl Abort, alloc: Global, fault: RunFault, wanted: &str) {
+    let text = format!(in alloc; "{fault}").expect(rt, "memory");
+    is(rt, wanted, text.as_str(), wanted);
 }
 
 #[test]
-fn says_why(rt: HostRuntime) -> Result<(), Fail> {
-    for (fault, wanted) in [
-        (RunFault::Read, "read failed"),
-        (RunFault::TooLong, "input too long"),
-        (RunFault::OutOfMemory, "out of memory"),
-        (RunFault::Write, "write failed"),
-    ] {
-        let text = format!(in rt.alloc(); "{fault}")?;
-        assert_eq!(rt; text.as_str(), wanted);
-    }
-    Ok(())
+fn says_why(rt: HostRuntime) {
+    says(&rt, rt.alloc(), RunFault::Read, "read failed");
+    says(&rt, rt.alloc(), RunFault::TooLong, "input too long");
+    says(&rt, rt.alloc(), RunFault::OutOfMemory, "out of memory");
+    says(&rt, rt.alloc(), RunFault::Write, "write failed");
 }

@@ -34,7 +34,7 @@ fn value_of(rt: &impl Abort, name: &str) -> Value {
 }
 
 /// A world of one stripe with two entries, whose store has a=1.
-fn opened(rt: &impl Abort, alloc: Global) -> World {
+fn opened_world(rt: &impl Abort, alloc: Global) -> World {
     let mut world = World::new(alloc, &config(1, 2, 100)).expect(rt, "a world");
     let (a, one) = (key_of(rt, "a"), value_of(rt, "1"));
     assert!(rt; world.is_fresh(), "nothing has happened");
@@ -119,7 +119,7 @@ fn refuses_a_shape_beyond_the_limits(rt: HostRuntime) {
 #[test]
 fn plays_a_list_in_its_order(rt: HostRuntime) {
     let alloc = rt.alloc();
-    let mut world = opened(&rt, alloc);
+    let mut world = opened_world(&rt, alloc);
     let a = key_of(&rt, "a");
     let begin = event_of(&rt, "get", "1", a);
     let start = event_of(&rt, "start", "1", a);
@@ -159,11 +159,11 @@ start 202 a: stepped; none
 
 /// Call 101 is under way, and call 102 is over.
 fn is_under_way(rt: &impl Abort, world: &World) {
-    let under = world.under(101).expect(rt, "call 101 is under way");
-    assert!(rt; under.caller.session == 1 && under.caller.call == 101);
-    assert!(rt; under.command.op == Op::Put(value_of(rt, "101")));
-    assert!(rt; under.command.key == key_of(rt, "a"));
-    assert!(rt; world.under(102).is_none(), "call 102 is over");
+    let open = world.open_call(101).expect(rt, "call 101 is under way");
+    assert!(rt; open.caller.session == 1 && open.caller.call == 101);
+    assert!(rt; open.command.op == Op::Put(value_of(rt, "101")));
+    assert!(rt; open.command.key == key_of(rt, "a"));
+    assert!(rt; world.open_call(102).is_none(), "call 102 is over");
 }
 
 /// Call 101 has reserved a, and the writer has changed the store and not returned.
@@ -201,13 +201,13 @@ fn is_of_the_put(rt: &impl Abort, reservation: &Reservation) -> bool {
 /// Session 1 has the last call but one under way.
 fn is_busy_with_the_put(rt: &impl Abort, world: &World) {
     assert!(rt; world.is_busy(1) && !world.is_busy(2));
-    assert!(rt; world.last() == Some(102) && !world.is_fresh());
+    assert!(rt; world.is_new(103) && !world.is_new(102) && !world.is_fresh());
 }
 
 #[test]
 fn shows_a_put_after_its_commit(rt: HostRuntime) {
     let alloc = rt.alloc();
-    let mut world = opened(&rt, alloc);
+    let mut world = opened_world(&rt, alloc);
     plays(&rt, alloc, &mut world, PUT_CHANGED);
     is_under_way(&rt, &world);
     is_reserved(&rt, &world);
@@ -252,7 +252,7 @@ fn is_legal(rt: &impl Abort, alloc: Global, events: &[Event]) -> bool {
 #[test]
 fn has_a_legal_order_of_a_put(rt: HostRuntime) {
     let alloc = rt.alloc();
-    let mut world = opened(&rt, alloc);
+    let mut world = opened_world(&rt, alloc);
     plays(&rt, alloc, &mut world, PUT_CHANGED);
     plays(&rt, alloc, &mut world, PUT_COMMITTED);
     let mut events = world.order(alloc).expect(&rt, "memory");

@@ -1,6 +1,5 @@
 //! Writing, and what others see of it.
 use super::all_hold;
-use std::test::Fail;
 
 const WRITING: &str = "\
 # A put is seen after its commit. Before it another session gets the old value, at once.
@@ -134,6 +133,6 @@ open
 ";
 
 #[test]
-fn shows_writes_after_their_commit(rt: HostRuntime) -> Result<(), Fail> {
-    all_hold(&rt, rt.alloc(), WRITING)
+fn shows_writes_after_their_commit(rt: HostRuntime) {
+    all_hold(&rt, rt.alloc(), WRITING);
 }

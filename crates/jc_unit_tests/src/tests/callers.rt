@@ -1,7 +1,6 @@
 //! The callers' order.
 use super::script::all_judged;
 use super::shape;
-use std::test::Fail;
 
 const CALLERS: &str = "\
 a call's number that rises
@@ -51,6 +50,6 @@ evict b memory
 legal";
 
 #[test]
-fn keeps_the_order_of_each_caller(rt: HostRuntime) -> Result<(), Fail> {
-    all_judged(&rt, rt.alloc(), &shape(false), CALLERS)
+fn keeps_the_order_of_each_caller(rt: HostRuntime) {
+    all_judged(&rt, rt.alloc(), &shape(false), CALLERS);
 }

@@ -1,26 +1,45 @@
 //! A cache's contents as a map.
-use super::{key, value};
+use super::{is, key, pairs, value};
 use jc_model::Contents;
-use std::test::Fail;
+use std::alloc::Global;
+use std::process::Abort;
+
+/// Asserts what the contents are, by a text of pairs.
+fn lists(rt: &impl Abort, alloc: Global, contents: &Contents, want: &str) {
+    let listed = contents.entries(alloc).expect(rt, "memory");
+    is(
+        rt,
+        want,
+        listed.as_slice(),
+        pairs(rt, alloc, want).as_slice(),
+    );
+}
+
+/// Asserts what the contents are when they are appended to one pair.
+fn appends(rt: &impl Abort, alloc: Global, contents: &Contents, first: &str, want: &str) {
+    let mut listed = pairs(rt, alloc, first);
+    contents.append_to(&mut listed).expect(rt, "memory");
+    is(
+        rt,
+        want,
+        listed.as_slice(),
+        pairs(rt, alloc, want).as_slice(),
+    );
+}
 
 #[test]
-fn keeps_byte_order(rt: HostRuntime) -> Result<(), Fail> {
-    let (a, b, ab) = (key(&rt, b"a"), key(&rt, b"B"), key(&rt, b"ab"));
-    let (one, two) = (value(&rt, b"1"), value(&rt, b"2"));
-    let mut contents = Contents::of(rt.alloc(), &[(ab, one), (b, one), (a, one), (a, two)])?;
-    let listed = contents.entries(rt.alloc())?;
-    assert_eq!(rt;
-        listed.as_slice(),
-        [(b, one), (a, one), (ab, one)].as_slice()
-    );
+fn keeps_byte_order(rt: HostRuntime) {
+    let alloc = rt.alloc();
+    let (a, b) = (key(&rt, b"a"), key(&rt, b"B"));
+    let given = pairs(&rt, alloc, "ab=1 B=1 a=1 a=2");
+    let mut contents = Contents::of(alloc, &given).expect(&rt, "memory");
+    lists(&rt, alloc, &contents, "B=1 a=1 ab=1");
     contents.remove(&a);
-    contents.set(&a, None)?;
-    contents.insert(&b, two)?;
-    assert_eq!(rt; contents.get(&a), None);
-    let mut more = vec![in rt.alloc(); (a, two)]?;
-    contents.append_to(&mut more)?;
-    assert_eq!(rt; more.as_slice(), [(a, two), (b, two), (ab, one)].as_slice());
-    assert_eq!(rt; contents.len(), 2);
-    assert!(rt; Contents::new(rt.alloc()).is_empty() && !contents.is_empty());
-    Ok(())
+    contents.set(&a, None).expect(&rt, "memory");
+    contents.insert(&b, value(&rt, b"2")).expect(&rt, "memory");
+    is(&rt, "a", contents.get(&a), None);
+    appends(&rt, alloc, &contents, "a=2", "a=2 B=2 ab=1");
+    is(&rt, "two", contents.len(), 2);
+    is(&rt, "two", contents.is_empty(), false);
+    is(&rt, "new", Contents::new(alloc).is_empty(), true);
 }

@@ -1,29 +1,38 @@
-//! The order of use, evictions past pinned keys, and the limits of the capacity. A text stands for keys of one byte each.
-use super::{key, value};
+//! The order of use, evictions past pinned keys, and the limits of the capacity. A text of keys stands for keys of one byte each.
+use super::{is, key, pairs, value};
 use jc_entries::{Entries, Inserted};
 use jc_model::Cause;
 use jc_types::{CAPACITY_MAX, Key, Value};
 use std::alloc::Global;
 use std::process::Abort;
-use std::test::Fail;
 
-fn keys_in(rt: &impl Abort, alloc: Global, text: &str) -> Result<Vec<Key>, Fail> {
+fn keys_in(rt: &impl Abort, alloc: Global, text: &str) -> Vec<Key> {
     let mut keys = Vec::new(alloc);
     for byte in text.as_bytes() {
-        keys.push(key(rt, &[*byte]))?;
+        keys.push(key(rt, &[*byte])).expect(rt, "memory");
     }
-    Ok(keys)
+    keys
 }
 
 /// The keys of the entries as a text, the most recently used first.
-fn shown(alloc: Global, entries: &Entries) -> Result<Vec<u8>, Fail> {
-    let mut keys = Vec::with_capacity(alloc, entries.len())?;
+fn shown(rt: &impl Abort, alloc: Global, entries: &Entries) -> Vec<u8> {
+    let mut keys = Vec::with_capacity(alloc, entries.len()).expect(rt, "memory");
     entries.keys(&mut keys);
     let mut text = Vec::new(alloc);
     for key in &keys {
-        text.extend_from_slice(key.bytes())?;
+        text.extend_from_slice(key.bytes()).expect(rt, "memory");
     }
-    Ok(text)
+    text
+}
+
+/// Asserts what the entries' keys are, as a text.
+fn holds(rt: &impl Abort, alloc: Global, entries: &Entries, at: &str, keys: &[u8]) {
+    is(rt, at, shown(rt, alloc, entries).as_slice(), keys);
+}
+
+fn empty(rt: &impl Abort, alloc: Global, capacity: usize) -> Entries {
+    assert!(rt; 0 < capacity && capacity <= CAPACITY_MAX);
+    Entries::new(alloc, capacity).expect(rt, "memory")
 }
 
 // 1. The order of use.
@@ -43,7 +52,7 @@ fn made(rt: &impl Abort, entries: &mut Entries, key: &Key, call: Call) -> Option
     match call {
         Call::Put(text) => {
             let found = entries.insert(key, &value(rt, text.as_bytes()), &[]);
-            assert_eq!(rt; found, Inserted::Kept);
+            is(rt, text, found, Inserted::Kept);
             None
         }
         Call::Remove => entries.remove(key),
@@ -56,100 +65,104 @@ fn made(rt: &impl Abort, entries: &mut Entries, key: &Key, call: Call) -> Option
     }
 }
 
-// A call on a key, the value that it finds, and the keys after it.
-const CALLS: [(Call, u8, Option<&str>, &[u8]); 14] = [
-    (Call::Remove, b'a', None, b""),
-    (Call::Put("1"), b'a', None, b"a"),
-    (Call::Put("2"), b'b', None, b"ba"),
-    (Call::Put("3"), b'c', None, b"cba"),
-    (Call::Peek, b'a', Some("1"), b"cba"),
-    (Call::Peek, b'd', None, b"cba"),
-    (Call::Touch, b'a', None, b"acb"),
-    (Call::Touch, b'd', None, b"acb"),
-    (Call::Get, b'c', Some("3"), b"cab"),
-    (Call::Get, b'd', None, b"cab"),
-    (Call::Put("4"), b'b', None, b"bca"),
-    (Call::Remove, b'a', Some("1"), b"bc"),
-    (Call::Remove, b'a', None, b"bc"),
-    (Call::Peek, b'b', Some("4"), b"bc"),
+/// A call on a key, the value that it finds, and the keys after it.
+type Use = (Call, &'static str, Option<&'static str>, &'static [u8]);
+
+const USES: &[Use] = &[
+    (Call::Remove, "a", None, b""),
+    (Call::Put("1"), "a", None, b"a"),
+    (Call::Put("2"), "b", None, b"ba"),
+    (Call::Put("3"), "c", None, b"cba"),
+    (Call::Peek, "a", Some("1"), b"cba"),
+    (Call::Peek, "d", None, b"cba"),
+    (Call::Touch, "a", None, b"acb"),
+    (Call::Touch, "d", None, b"acb"),
+    (Call::Get, "c", Some("3"), b"cab"),
+    (Call::Get, "d", None, b"cab"),
+    (Call::Put("4"), "b", None, b"bca"),
+    (Call::Remove, "a", Some("1"), b"bc"),
+    (Call::Remove, "a", None, b"bc"),
+    (Call::Peek, "b", Some("4"), b"bc"),
 ];
 
-#[test]
-fn keeps_the_order_of_use(rt: HostRuntime) -> Result<(), Fail> {
-    let mut entries = Entries::new(rt.alloc(), 3)?;
-    assert!(rt; entries.is_empty());
-    for (call, byte, text, left) in CALLS {
-        let found = made(&rt, &mut entries, &key(&rt, &[byte]), call);
+fn plays(rt: &impl Abort, alloc: Global, entries: &mut Entries, uses: &[Use]) {
+    for (call, name, text, left) in uses {
+        let found = made(rt, entries, &key(rt, name.as_bytes()), *call);
         let want = match text {
-            Some(text) => Some(value(&rt, text.as_bytes())),
+            Some(text) => Some(value(rt, text.as_bytes())),
             None => None,
         };
-        assert_eq!(rt; found, want, "before {left:?}");
-        assert_eq!(rt; shown(rt.alloc(), &entries)?.as_slice(), left);
+        is(rt, name, found, want);
+        holds(rt, alloc, entries, name, left);
     }
-    let mut found = Vec::new(rt.alloc());
-    entries.append_to(&mut found)?;
-    let want = [
-        (key(&rt, &[b'b']), value(&rt, b"4")),
-        (key(&rt, &[b'c']), value(&rt, b"3")),
-    ];
-    assert_eq!(rt; found.as_slice(), want.as_slice());
-    Ok(())
+}
+
+/// Asserts what the entries are, by a text of pairs.
+fn lists(rt: &impl Abort, alloc: Global, entries: &Entries, want: &str) {
+    let mut found = Vec::new(alloc);
+    entries.append_to(&mut found).expect(rt, "memory");
+    is(
+        rt,
+        want,
+        found.as_slice(),
+        pairs(rt, alloc, want).as_slice(),
+    );
+}
+
+#[test]
+fn keeps_the_order_of_use(rt: HostRuntime) {
+    let mut entries = empty(&rt, rt.alloc(), 3);
+    is(&rt, "new", entries.is_empty(), true);
+    plays(&rt, rt.alloc(), &mut entries, USES);
+    lists(&rt, rt.alloc(), &entries, "b=4 c=3");
 }
 
 // 2. Evictions.
 
 /// Inserts c into entries with room for two, b and then a, where these keys are pinned.
-fn evicts(
-    rt: &impl Abort,
-    alloc: Global,
-    pinned: &str,
-    want: Inserted,
-    left: &[u8],
-) -> Result<(), Fail> {
-    let mut entries = Entries::new(alloc, 2)?;
-    for byte in b"ab" {
-        entries.insert(&key(rt, &[*byte]), &value(rt, b"x"), &[]);
-    }
-    let pinned_keys = keys_in(rt, alloc, pinned)?;
-    let found = entries.insert(&key(rt, &[b'c']), &value(rt, b"y"), &pinned_keys);
-    assert_eq!(rt; found, want, "pinned {pinned}");
-    assert_eq!(rt; shown(alloc, &entries)?.as_slice(), left, "pinned {pinned}");
-    Ok(())
+fn evicts(rt: &impl Abort, alloc: Global, pinned: &str, want: Inserted, left: &[u8]) {
+    let mut entries = empty(rt, alloc, 2);
+    let x = value(rt, b"x");
+    entries.insert(&key(rt, b"a"), &x, &[]);
+    entries.insert(&key(rt, b"b"), &x, &[]);
+    let pinned_keys = keys_in(rt, alloc, pinned);
+    let found = entries.insert(&key(rt, b"c"), &x, &pinned_keys);
+    is(rt, pinned, found, want);
+    holds(rt, alloc, &entries, pinned, left);
 }
 
 #[test]
-fn evicts_the_least_recently_used_that_is_not_pinned(rt: HostRuntime) -> Result<(), Fail> {
-    let (a, b) = (key(&rt, &[b'a']), key(&rt, &[b'b']));
-    for (pinned, want, left) in [
-        ("", Inserted::KeptAfter(a), b"cb"),
-        ("bc", Inserted::KeptAfter(a), b"cb"),
-        ("a", Inserted::KeptAfter(b), b"ca"),
-        ("ab", Inserted::NotKept(Cause::Full, None), b"ba"),
-    ] {
-        evicts(&rt, rt.alloc(), pinned, want, left)?;
+fn evicts_the_least_recently_used_that_is_not_pinned(rt: HostRuntime) {
+    let (a, b) = (key(&rt, b"a"), key(&rt, b"b"));
+    evicts(&rt, rt.alloc(), "", Inserted::KeptAfter(a), b"cb");
+    evicts(&rt, rt.alloc(), "bc", Inserted::KeptAfter(a), b"cb");
+    evicts(&rt, rt.alloc(), "a", Inserted::KeptAfter(b), b"ca");
+    let full = Inserted::NotKept(Cause::Full, None);
+    evicts(&rt, rt.alloc(), "ab", full, b"ba");
+}
+
+/// Inserts as many keys as there may be, the numbers from 0.
+fn fill(rt: &impl Abort, entries: &mut Entries, x: &Value) {
+    for i in 0..entries.capacity() {
+        let found = entries.insert(&key(rt, &i.to_be_bytes()), x, &[]);
+        is(rt, "as many as it may", found, Inserted::Kept);
     }
-    Ok(())
 }
 
 /// Asserts that as many entries fit as there may be, and that one more evicts the first.
-fn fills(rt: &impl Abort, alloc: Global, capacity: usize) -> Result<(), Fail> {
-    assert!(rt; 0 < capacity && capacity <= CAPACITY_MAX);
-    let mut entries = Entries::new(alloc, capacity)?;
+fn fills(rt: &impl Abort, alloc: Global, capacity: usize) {
+    let mut entries = empty(rt, alloc, capacity);
     let x = value(rt, b"x");
-    for i in 0..capacity {
-        let found = entries.insert(&Key::new(&i.to_be_bytes())?, &x, &[]);
-        assert_eq!(rt; found, Inserted::Kept, "{i} of {capacity}");
-    }
-    let found = entries.insert(&key(rt, &[b'm']), &x, &[]);
-    let first = Key::new(&0usize.to_be_bytes())?;
-    assert_eq!(rt; found, Inserted::KeptAfter(first), "of {capacity}");
-    assert_eq!(rt; entries.len(), entries.capacity());
-    Ok(())
+    fill(rt, &mut entries, &x);
+    let found = entries.insert(&key(rt, b"m"), &x, &[]);
+    let first = key(rt, &0usize.to_be_bytes());
+    is(rt, "one more", found, Inserted::KeptAfter(first));
+    is(rt, "full", entries.len(), capacity);
+    is(rt, "full", entries.capacity(), capacity);
 }
 
 #[test]
-fn keeps_as_many_as_it_may(rt: HostRuntime) -> Result<(), Fail> {
-    fills(&rt, rt.alloc(), 1)?;
-    fills(&rt, rt.alloc(), CAPACITY_MAX)
+fn keeps_as_many_as_it_may(rt: HostRuntime) {
+    fills(&rt, rt.alloc(), 1);
+    fills(&rt, rt.alloc(), CAPACITY_MAX);
 }

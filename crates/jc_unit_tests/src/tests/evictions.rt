@@ -1,7 +1,6 @@
 //! Evictions from a stripe with room for two entries.
 use super::script::all_judged;
 use super::shape;
-use std::test::Fail;
 
 const VICTIMS: &str = "\
 a victim
@@ -84,8 +83,8 @@ evict b full
 illegal";
 
 #[test]
-fn evicts_for_a_new_entry(rt: HostRuntime) -> Result<(), Fail> {
-    all_judged(&rt, rt.alloc(), &shape(false), VICTIMS)
+fn evicts_for_a_new_entry(rt: HostRuntime) {
+    all_judged(&rt, rt.alloc(), &shape(false), VICTIMS);
 }
 
 const OWN: &str = "\
@@ -170,6 +169,6 @@ evict a memory
 illegal";
 
 #[test]
-fn evicts_what_it_inserted(rt: HostRuntime) -> Result<(), Fail> {
-    all_judged(&rt, rt.alloc(), &shape(false), OWN)
+fn evicts_what_it_inserted(rt: HostRuntime) {
+    all_judged(&rt, rt.alloc(), &shape(false), OWN);
 }

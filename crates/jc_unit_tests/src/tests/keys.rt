@@ -1,5 +1,5 @@
 //! Keys, and the stripe that one belongs to.
-use super::is;
+use super::{is, key};
 use jc_types::{KEY_MAX, Key, KeyFault, stripe_of};
 use std::cmp::Ordering;
 use std::test::Fail;
@@ -26,7 +26,7 @@ fn takes_1_to_32_bytes(rt: HostRuntime) {
 }
 
 // The last two are of 32 bytes.
-const PAIRS: [(&str, &str, Ordering); 6] = [
+const PAIRS: &[(&str, &str, Ordering)] = &[
     ("a", "a", Ordering::Equal),
     ("a\0", "a\0", Ordering::Equal),
     ("a", "a\0", Ordering::Less),
@@ -44,23 +44,20 @@ const PAIRS: [(&str, &str, Ordering); 6] = [
 ];
 
 #[test]
-fn compares_all_bytes(rt: HostRuntime) -> Result<(), Fail> {
+fn compares_all_bytes(rt: HostRuntime) {
     for (left, right, want) in PAIRS {
-        let (a, b) = (Key::new(left.as_bytes())?, Key::new(right.as_bytes())?);
-        is(&rt, left, a.partial_cmp(&b), Some(want));
-        is(&rt, left, a == b, want == Ordering::Equal);
+        let (a, b) = (key(&rt, left.as_bytes()), key(&rt, right.as_bytes()));
+        is(&rt, left, a.partial_cmp(&b), Some(*want));
+        is(&rt, left, a == b, *want == Ordering::Equal);
     }
-    Ok(())
 }
 
 #[test]
-fn finds_the_stripe(rt: HostRuntime) -> Result<(), Fail> {
-    let longest = Key::new(&[255; KEY_MAX])?;
+fn finds_the_stripe(rt: HostRuntime) {
+    let (longest, short) = (key(&rt, &[255; KEY_MAX]), key(&rt, b"ab"));
     is(&rt, "255 times 32", stripe_of(&longest, 64), 32);
-    let key = Key::new(b"ab")?;
-    is(&rt, "97 and 98", stripe_of(&key, 4), 3);
-    is(&rt, "the only one", stripe_of(&key, 1), 0);
-    Ok(())
+    is(&rt, "97 and 98", stripe_of(&short, 4), 3);
+    is(&rt, "the only one", stripe_of(&short, 1), 0);
 }
 
 const FAULTS: [(KeyFault, &str); 2] = [

@@ -1,8 +1,7 @@
 //! Openings and shapes that have no legal history, and keys of two stripes.
 use super::script::all_judged;
-use super::shape;
+use super::{is, shape};
 use jc_model::legal;
-use std::test::Fail;
 
 const OPENINGS: &str = "\
 as many as fit
@@ -22,8 +21,8 @@ set a 2
 illegal";
 
 #[test]
-fn takes_an_opening_that_fits(rt: HostRuntime) -> Result<(), Fail> {
-    all_judged(&rt, rt.alloc(), &shape(true), OPENINGS)
+fn takes_an_opening_that_fits(rt: HostRuntime) {
+    all_judged(&rt, rt.alloc(), &shape(true), OPENINGS);
 }
 
 // Of 4 stripes, a and e are of stripe 1, and b of stripe 2.
@@ -51,17 +50,18 @@ set b 1
 illegal";
 
 #[test]
-fn takes_keys_of_one_stripe(rt: HostRuntime) -> Result<(), Fail> {
+fn takes_keys_of_one_stripe(rt: HostRuntime) {
     let mut config = shape(false);
     config.stripes = 4;
-    all_judged(&rt, rt.alloc(), &config, STRIPES)
+    all_judged(&rt, rt.alloc(), &config, STRIPES);
 }
 
 #[test]
-fn refuses_a_bad_shape(rt: HostRuntime) -> Result<(), Fail> {
+fn refuses_a_bad_shape(rt: HostRuntime) {
     let mut config = shape(true);
-    assert!(rt; legal(rt.alloc(), &config, &[], &[])?);
+    let is_legal = legal(rt.alloc(), &config, &[], &[]).expect(&rt, "memory");
+    is(&rt, "one stripe", is_legal, true);
     config.stripes = 0;
-    assert!(rt; !legal(rt.alloc(), &config, &[], &[])?);
-    Ok(())
+    let is_legal = legal(rt.alloc(), &config, &[], &[]).expect(&rt, "memory");
+    is(&rt, "no stripe", is_legal, false);
 }

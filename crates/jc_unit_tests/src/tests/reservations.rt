@@ -3,7 +3,6 @@ use super::{is, key};
 use jc_reserve::Reservations;
 use jc_types::Key;
 use std::process::Abort;
-use std::test::Fail;
 
 /// Reserves a key with this note, or with none releases it, and gives the number of its reservation.
 fn change(table: &mut Reservations<char>, key: &Key, note: Option<char>) -> Option<u64> {
@@ -34,8 +33,10 @@ fn look_at_list(rt: &impl Abort, table: &Reservations<char>) {
     is(rt, "c", (c.reservation, c.note), (4, 'w'));
 }
 
-// A key that is reserved with a note, or with none is released, and the number that this gives.
-const CHANGES: [(&str, Option<char>, Option<u64>); 9] = [
+/// A key that is reserved with a note, or with none is released, and the number that this gives.
+type Change = (&'static str, Option<char>, Option<u64>);
+
+const CHANGES: &[Change] = &[
     ("a", Some('x'), Some(0)),
     ("b", Some('y'), Some(1)),
     ("a", Some('z'), None),
@@ -47,62 +48,66 @@ const CHANGES: [(&str, Option<char>, Option<u64>); 9] = [
     ("c", Some('w'), Some(4)),
 ];
 
-// The keys after that, with their numbers and notes.
-const FOUND: [(&str, Option<(u64, char)>); 4] = [
+/// A key, with its number and note.
+type Found = (&'static str, Option<(u64, char)>);
+
+// The keys after that.
+const FOUND: &[Found] = &[
     ("a", Some((3, 'v'))),
     ("b", Some((2, 'u'))),
     ("c", Some((4, 'w'))),
     ("d", None),
 ];
 
+fn make(rt: &impl Abort, table: &mut Reservations<char>, changes: &[Change]) {
+    for (name, note, want) in changes {
+        let number = change(table, &key(rt, name.as_bytes()), *note);
+        is(rt, name, number, *want);
+    }
+}
+
+fn look_all_up(rt: &impl Abort, table: &Reservations<char>, found: &[Found]) {
+    for (name, want) in found {
+        look_up(rt, table, name, *want);
+    }
+}
+
 #[test]
-fn numbers_rise_and_never_come_twice(rt: HostRuntime) -> Result<(), Fail> {
+fn numbers_rise_and_never_come_twice(rt: HostRuntime) {
     let mut table = Reservations::new();
     is(&rt, "new", table.is_empty(), true);
-    for (name, note, want) in CHANGES {
-        is(
-            &rt,
-            name,
-            change(&mut table, &key(&rt, name.as_bytes()), note),
-            want,
-        );
-    }
-    for (name, want) in FOUND {
-        look_up(&rt, &table, name, want);
-    }
+    make(&rt, &mut table, CHANGES);
+    look_all_up(&rt, &table, FOUND);
     is(&rt, "a", table.release(&key(&rt, b"a")), Some((3, 'v')));
     look_at_list(&rt, &table);
-    Ok(())
 }
 
 /// Reserves the keys with the bytes `k0` to `k63`, each with its number as its note.
-fn reserve_64(rt: &impl Abort, table: &mut Reservations<u8>) -> Result<(), Fail> {
+fn reserve_64(rt: &impl Abort, table: &mut Reservations<u8>) {
     for i in 0..64u8 {
         is(rt, "full too early", table.is_full(), false);
-        let key = Key::new(&[b'k', i])?;
-        is(rt, "a number", table.reserve(&key, i), Some(i as u64));
+        let number = table.reserve(&key(rt, &[b'k', i]), i);
+        is(rt, "a number", number, Some(i as u64));
     }
-    Ok(())
 }
 
 #[test]
-fn holds_64_keys_and_no_65th(rt: HostRuntime) -> Result<(), Fail> {
+fn holds_64_keys_and_no_65th(rt: HostRuntime) {
     let mut table = Reservations::new();
-    reserve_64(&rt, &mut table)?;
+    reserve_64(&rt, &mut table);
     is(&rt, "full", table.is_full(), true);
     let other = key(&rt, b"other");
     is(&rt, "full", table.reserve(&other, 64), None);
     is(&rt, "full", table.len(), 64);
-    let left = Key::new(&[b'k', 31])?;
+    let left = key(&rt, &[b'k', 31]);
     is(&rt, "one leaves", table.release(&left), Some((31, 31)));
     let found = table.reserve(&other, 64);
     is(&rt, "the refused call used no number", found, Some(64));
     is(&rt, "full again", table.is_full(), true);
-    Ok(())
 }
 
 #[test]
-fn stops_at_the_end_of_the_numbers(rt: HostRuntime) -> Result<(), Fail> {
+fn stops_at_the_end_of_the_numbers(rt: HostRuntime) {
     let last = u64::MAX - 1;
     let mut table = Reservations::new_from(last);
     let (a, b) = (key(&rt, b"a"), key(&rt, b"b"));
@@ -113,5 +118,4 @@ fn stops_at_the_end_of_the_numbers(rt: HostRuntime) -> Result<(), Fail> {
     is(&rt, "a is released", table.release(&a), Some((last, ())));
     is(&rt, "no number comes again", table.reserve(&a, ()), None);
     is(&rt, "nothing is reserved", table.is_empty(), true);
-    Ok(())
 }

@@ -7,11 +7,11 @@
 //! - `CALL SESSION OP KEY [, ANSWER], is REPLY [shared PLACE]`, a step, as `1 s1 get a, read 1, is 1`. Nobody was asked
 //!   if there is no answer. The loader's is `read VALUE`, `read -` or `readfail CODE`, the writer's `apply` or `applyfail CODE`;
 //! - `evict KEY full` or `evict KEY memory`.
+use super::is;
 use jc_model::{Cause, Event, LoadAnswer, Op, Out, Reply, WriteAnswer, legal};
 use jc_types::{Caller, Config, Key, Refusal, Value};
-use std::alloc::{AllocError, Global};
+use std::alloc::Global;
 use std::process::Abort;
-use std::test::Fail;
 
 // 1. Words.
 
@@ -130,39 +130,32 @@ fn opening_entry(line: &str) -> Option<(Key, Value)> {
 
 // 3. Histories.
 
-/// Whether the lines are a legal history.
-fn is_legal(
-    rt: &impl Abort,
-    alloc: Global,
-    config: &Config,
-    lines: &str,
-) -> Result<bool, AllocError> {
-    let mut opening = Vec::new(alloc);
-    let mut events = Vec::new(alloc);
+/// The opening and the events that the lines are.
+fn history(rt: &impl Abort, alloc: Global, lines: &str) -> (Vec<(Key, Value)>, Vec<Event>) {
+    let (mut opening, mut events) = (Vec::new(alloc), Vec::new(alloc));
     for line in lines.lines() {
         match opening_entry(line) {
-            Some(entry) => opening.push(entry)?,
-            None => events.push(event(line).expect(rt, line))?,
+            Some(entry) => opening.push(entry).expect(rt, "memory"),
+            None => events
+                .push(event(line).expect(rt, line))
+                .expect(rt, "memory"),
         }
     }
-    legal(alloc, config, &opening, &events)
+    (opening, events)
+}
+
+/// Judges a row.
+fn is_judged(rt: &impl Abort, alloc: Global, config: &Config, row: &str) {
+    let (name, row) = row.split_once('\n').expect(rt, "a name");
+    let (lines, verdict) = row.rsplit_once('\n').expect(rt, name);
+    let (opening, events) = history(rt, alloc, lines);
+    let is_legal = legal(alloc, config, &opening, &events).expect(rt, "memory");
+    is(rt, name, is_legal, verdict == "legal");
 }
 
 /// Judges rows that are separated by `==`.
-pub(super) fn all_judged(
-    rt: &impl Abort,
-    alloc: Global,
-    config: &Config,
-    rows: &str,
-) -> Result<(), Fail> {
+pub(super) fn all_judged(rt: &impl Abort, alloc: Global, config: &Config, rows: &str) {
     for row in rows.split("\n==\n") {
-        let (name, row) = row.split_once('\n').expect(rt, "a name");
-        let (lines, verdict) = row.rsplit_once('\n').expect(rt, name);
-        assert_eq!(rt;
-            is_legal(rt, alloc, config, lines)?,
-            verdict == "legal",
-            "at {name}"
-        );
+        is_judged(rt, alloc, config, row);
     }
-    Ok(())
 }

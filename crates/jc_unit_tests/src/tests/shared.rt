@@ -1,7 +1,6 @@
 //! Loads that several callers share, and what they see of a put.
 use super::script::all_judged;
 use super::shape;
-use std::test::Fail;
 
 // A load answers, and its value is seen while a put is out; the put commits, and then the new value is seen.
 const PUT: &str = "\
@@ -60,8 +59,8 @@ the writer fails, and the put is seen
 illegal";
 
 #[test]
-fn put_seen_after_commit(rt: HostRuntime) -> Result<(), Fail> {
-    all_judged(&rt, rt.alloc(), &shape(true), PUT)
+fn put_seen_after_commit(rt: HostRuntime) {
+    all_judged(&rt, rt.alloc(), &shape(true), PUT);
 }
 
 const LOADED: &str = "\
@@ -122,8 +121,8 @@ by the step itself
 illegal";
 
 #[test]
-fn shares_what_was_loaded(rt: HostRuntime) -> Result<(), Fail> {
-    all_judged(&rt, rt.alloc(), &shape(true), LOADED)
+fn shares_what_was_loaded(rt: HostRuntime) {
+    all_judged(&rt, rt.alloc(), &shape(true), LOADED);
 }
 
 const SPOILED: &str = "\
@@ -158,8 +157,8 @@ another reply
 illegal";
 
 #[test]
-fn shares_nothing_else(rt: HostRuntime) -> Result<(), Fail> {
-    all_judged(&rt, rt.alloc(), &shape(true), SPOILED)
+fn shares_nothing_else(rt: HostRuntime) {
+    all_judged(&rt, rt.alloc(), &shape(true), SPOILED);
 }
 
 // A key is loaded into a full stripe whose other entries are reserved, two callers share the load, and the new entry goes
@@ -191,6 +190,6 @@ set b 1
 illegal";
 
 #[test]
-fn evicts_behind_a_shared_load(rt: HostRuntime) -> Result<(), Fail> {
-    all_judged(&rt, rt.alloc(), &shape(true), EVICTED)
+fn evicts_behind_a_shared_load(rt: HostRuntime) {
+    all_judged(&rt, rt.alloc(), &shape(true), EVICTED);
 }

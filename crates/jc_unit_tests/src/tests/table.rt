@@ -1,8 +1,7 @@
 //! What the texts don't run: the rows of an entry processor, and a list that an entry is taken out of.
-use super::{key, value};
+use super::{is, key, pairs, value};
 use jc_model::listed::take_out;
 use jc_model::{Change, Effect, LoaderAsk, Op, ProcessAnswer};
-use std::test::Fail;
 
 #[test]
 fn asks_for_an_entry_processor(rt: HostRuntime) {
@@ -17,11 +16,9 @@ fn asks_for_an_entry_processor(rt: HostRuntime) {
 }
 
 #[test]
-fn takes_out_of_a_list(rt: HostRuntime) -> Result<(), Fail> {
-    let (a, b) = (key(&rt, b"a"), key(&rt, b"b"));
-    let value = value(&rt, b"1");
-    let mut entries = vec![in rt.alloc(); (b, value), (a, value), (b, value)]?;
-    take_out(&mut entries, &b);
-    assert!(rt; entries.as_slice() == [(a, value)].as_slice());
-    Ok(())
+fn takes_out_of_a_list(rt: HostRuntime) {
+    let mut entries = pairs(&rt, rt.alloc(), "b=1 a=1 b=1");
+    take_out(&mut entries, &key(&rt, b"b"));
+    let want = pairs(&rt, rt.alloc(), "a=1");
+    is(&rt, "a is left", entries.as_slice(), want.as_slice());
 }

@@ -1,5 +1,5 @@
 //! Values.
-use super::is;
+use super::{is, value};
 use jc_types::{Value, ValueFault};
 use std::cmp::Ordering;
 use std::test::Fail;
@@ -33,7 +33,7 @@ fn takes_0_to_64_bytes(rt: HostRuntime) {
     }
 }
 
-const PAIRS: [(&str, &str, Ordering); 6] = [
+const PAIRS: &[(&str, &str, Ordering)] = &[
     ("", "", Ordering::Equal),
     ("", "\0", Ordering::Less),
     ("a", "a\0", Ordering::Less),
@@ -43,13 +43,12 @@ const PAIRS: [(&str, &str, Ordering); 6] = [
 ];
 
 #[test]
-fn compares_all_bytes(rt: HostRuntime) -> Result<(), Fail> {
+fn compares_all_bytes(rt: HostRuntime) {
     for (left, right, want) in PAIRS {
-        let (a, b) = (Value::new(left.as_bytes())?, Value::new(right.as_bytes())?);
-        is(&rt, left, a.partial_cmp(&b), Some(want));
-        is(&rt, left, a == b, want == Ordering::Equal);
+        let (a, b) = (value(&rt, left.as_bytes()), value(&rt, right.as_bytes()));
+        is(&rt, left, a.partial_cmp(&b), Some(*want));
+        is(&rt, left, a == b, *want == Ordering::Equal);
     }
-    Ok(())
 }
 
 #[test]

@@ -1,6 +1,5 @@
 //! Faults of lines: which comes first, by shape, words and state.
 use super::all_end_with_faults;
-use std::test::Fail;
 
 const BAD_LINES: &str = "\
 bad line
@@ -33,8 +32,8 @@ take 1 but a
 ";
 
 #[test]
-fn tells_the_shape_of_a_line_first(rt: HostRuntime) -> Result<(), Fail> {
-    all_end_with_faults(&rt, rt.alloc(), BAD_LINES)
+fn tells_the_shape_of_a_line_first(rt: HostRuntime) {
+    all_end_with_faults(&rt, rt.alloc(), BAD_LINES);
 }
 
 const BAD_WORDS: &str = "\
@@ -78,8 +77,8 @@ say 1 a=1=2
 ";
 
 #[test]
-fn tells_bad_words_from_the_left(rt: HostRuntime) -> Result<(), Fail> {
-    all_end_with_faults(&rt, rt.alloc(), BAD_WORDS)
+fn tells_bad_words_from_the_left(rt: HostRuntime) {
+    all_end_with_faults(&rt, rt.alloc(), BAD_WORDS);
 }
 
 const BAD_STATES: &str = "\
@@ -134,8 +133,8 @@ open 1 2 100 read; begin 1 s1 get a; begin 2 s2 get a; drop 1; take 2; drop 2; m
 ";
 
 #[test]
-fn tells_the_state_last(rt: HostRuntime) -> Result<(), Fail> {
-    all_end_with_faults(&rt, rt.alloc(), BAD_STATES)
+fn tells_the_state_last(rt: HostRuntime) {
+    all_end_with_faults(&rt, rt.alloc(), BAD_STATES);
 }
 
 const TOO_EARLY: &str = "\
@@ -170,6 +169,6 @@ open 1 2 100 read; begin 1 s1 get a; begin 2 s2 get a; drop 1; take 2; take 2
 ";
 
 #[test]
-fn tells_what_a_call_does_not_wait_for(rt: HostRuntime) -> Result<(), Fail> {
-    all_end_with_faults(&rt, rt.alloc(), TOO_EARLY)
+fn tells_what_a_call_does_not_wait_for(rt: HostRuntime) {
+    all_end_with_faults(&rt, rt.alloc(), TOO_EARLY);
 }

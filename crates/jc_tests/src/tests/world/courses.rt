@@ -5,7 +5,7 @@
 //! other one is to be shown as `Unfit`.
 //!
 //! Call N is by session N modulo 100: calls 1 and 101 by session 1, and call 100 by none. A put puts the number of its call.
-use super::{audits, differs, key_of, opened, value_of};
+use super::{audits, differs, key_of, opened_world, value_of};
 use jc_model::{LoadAnswer, Op};
 use jc_types::Key;
 use jc_world::event::{Command, Shown, WorldEvent};
@@ -172,7 +172,7 @@ get 31 a: unfit; none
 #[test]
 fn fits_the_course_of_a_load(rt: HostRuntime) {
     let alloc = rt.alloc();
-    let mut world = opened(&rt, alloc);
+    let mut world = opened_world(&rt, alloc);
     plays(&rt, alloc, &mut world, LOAD);
     audits(&rt, alloc, &world, "1", "1", 1);
     world.close();
@@ -182,9 +182,9 @@ fn fits_the_course_of_a_load(rt: HostRuntime) {
 #[test]
 fn stays_fresh_without_a_call(rt: HostRuntime) {
     let alloc = rt.alloc();
-    let mut world = opened(&rt, alloc);
+    let mut world = opened_world(&rt, alloc);
     plays(&rt, alloc, &mut world, "get 33 b: unfit; none\n");
-    assert!(rt; world.is_fresh() && world.last().is_none());
+    assert!(rt; world.is_fresh() && world.is_new(0));
     world.close();
 }
 
@@ -211,7 +211,7 @@ start 4 a: asks; change report withdraw
 #[test]
 fn fits_the_course_of_a_write(rt: HostRuntime) {
     let alloc = rt.alloc();
-    let mut world = opened(&rt, alloc);
+    let mut world = opened_world(&rt, alloc);
     plays(&rt, alloc, &mut world, WRITE);
     audits(&rt, alloc, &world, "3", "1", 2);
     differs(&rt, alloc, &world, "a ");
@@ -249,7 +249,7 @@ start 6 b: joins; pickup
 #[test]
 fn fits_the_course_of_a_join(rt: HostRuntime) {
     let alloc = rt.alloc();
-    let mut world = opened(&rt, alloc);
+    let mut world = opened_world(&rt, alloc);
     plays(&rt, alloc, &mut world, JOIN);
     audits(&rt, alloc, &world, "1", "1", 2);
     plays(&rt, alloc, &mut world, LEAVE);

@@ -1,0 +1,61 @@
+//! What calls leave in a stripe's history.
+ghost use Rattle.std.specs.Prelude.{◌<◌};
+
+use super::outside::Rising;
+use super::*;
+use jc_model::{Event, LoadAnswer, legal};
+use jc_types::Caller;
+
+/// The events of the one stripe.
+fn events(alloc: Global, cache: &Cache) -> Result<Vec<Event>, AllocError>
+    requires { 0 < cache.now.config.stripes }
+{
+    let stripe = cache.stripe(0);
+    let mut events = Vec::new(alloc);
+    stripe.append_events(0, stripe.events_len(), &mut events)?;
+    Ok(events)
+}
+
+/// Whose call an event is of, if it is a step, and what its loader answered.
+fn step(event: &Event) -> Option<(Caller, LoadAnswer)> {
+    match event {
+        Event::Step { caller, out, .. } => Some((*caller, out.load)),
+        Event::Evict { .. } => None,
+    }
+}
+
+/// Two sessions, one of which loads another value each time. The history is legal, and says whose call each step is of, by its number,
+/// and what was loaded.
+#[test]
+fn says_who_called_and_what_was_loaded(rt: HostRuntime) {
+    let alloc = rt.alloc();
+    let desk = Desk::new(&rt, alloc);
+    let config = config(100, true, false);
+    let mut cache = opened(&rt, alloc, &config);
+    let loader: Loader = Some(
+        Box::new(alloc, Rising { calls: 0 })
+            .ok()
+            .expect(&rt, "memory"),
+    );
+    let mut session = started(&rt, &mut cache, loader, None);
+    desk.call(&rt, &mut cache, &mut session, "get a = 1 | 0 0 0");
+    desk.call(&rt, &mut cache, &mut session, "remove a = true | 0 0 0");
+    desk.call(&rt, &mut cache, &mut session, "get a = 2 | 0 0 0");
+    desk.call(&rt, &mut cache, &mut session, "get a = 2 | 0 0 0");
+    let events = events(alloc, &cache).expect(&rt, "memory");
+    assert!(rt; legal(alloc, &config, &[], &events).expect(&rt, "memory"));
+    let steps = [
+        (1, LoadAnswer::Found(value(&rt, "1"))),
+        (2, LoadAnswer::NotAsked),
+        (3, LoadAnswer::Found(value(&rt, "2"))),
+        (4, LoadAnswer::NotAsked),
+    ];
+    is(&rt, events.len(), steps.len());
+    for (event, (call, answer)) in events.iter().zip(steps) {
+        is(
+            &rt,
+            step(event),
+            Some((Caller { session: 1, call }, answer)),
+        );
+    }
+}
