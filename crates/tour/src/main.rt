@@ -1,0 +1,64 @@
+//! A tour: a store, a cache in front of it, and a session that gets, puts and removes.
+#![tactic(auto)]
+
+ghost use Rattle.jc_cache.specs.Sessions.{MayCall};
+
+use jc_cache::Cache;
+use jc_outside::{CacheLoader, CacheWriter};
+use jc_session::Session;
+use jc_store::{SharedCounts, SharedStore, Store};
+use jc_types::{Config, Key, Value};
+use std::sync::Wait;
+
+/// Some calls. As each of them does, it has the condition that the session is of this cache and may call it.
+fn visit(rt: &(impl Print + Wait), cache: &mut Cache, session: &mut Session) -> anyhow::Result<()>
+    requires { MayCall cache.old session.old }
+{
+    let (apple, pear, two) = (Key::new(b"apple")?, Key::new(b"pear")?, Value::new(b"2")?);
+    let first = cache.get(rt, session, &apple)?;
+    let again = cache.get(rt, session, &apple)?;
+    println!(rt; "get apple: {first:?}, and again: {again:?}")?;
+    cache.put(rt, session, &pear, &two)?;
+    let removed = cache.remove(rt, session, &apple)?;
+    println!(rt; "put pear, remove apple: {removed}")?;
+    let replaced = cache.replace(rt, session, &apple, &two)?;
+    println!(rt; "replace apple: {replaced}")?;
+    println!(rt; "the session has made {} steps", session.own())?;
+    Ok(())
+}
+
+fn main(rt: HostRuntime) -> anyhow::Result<()> {
+    let alloc = rt.alloc();
+    // The store of record has apple=1. Its loader and its writer count their calls.
+    let entries = [(Key::new(b"apple")?, Value::new(b"1")?)];
+    let store = SharedStore::new(alloc, Store::of(alloc, &entries)?)?;
+    let counts = SharedCounts::new(alloc)?;
+    let loader = counts.counting(rt, store.loader(rt)?)?;
+    let writer = counts.counting(rt, store.writer(rt)?)?;
+    let loader: Box<dyn CacheLoader + Send + Drop> = Box::new(alloc, loader)?;
+    let writer: Box<dyn CacheWriter + Send + Drop> = Box::new(alloc, writer)?;
+
+    // A cache in front of it, and a session that brings both.
+    let config = Config {
+        stripes: 2,
+        capacity: 4,
+        history: 100,
+        read_through: true,
+        write_through: true,
+    };
+    let mut cache = Cache::new(alloc, &config)?;
+    match cache.session(Some(loader), Some(writer)) {
+        Ok(mut session) => visit(&rt, &mut cache, &mut session)?,
+        Err(fault) => return Err(fault.refusal.into()),
+    }
+
+    let asked = counts.now(&rt);
+    println!(rt;
+        "loads {}, writes {}, deletes {}",
+        asked.loads, asked.writes, asked.deletes
+    )?;
+    for (key, value) in &store.entries(&rt, alloc)? {
+        println!(rt; "the store has {key:?} = {value:?}")?;
+    }
+    Ok(())
+}
