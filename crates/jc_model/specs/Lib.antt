@@ -1,5 +1,6 @@
 pub mod Cache
 pub mod Table
+pub mod Batches
 pub mod TableLaws
 pub mod Processor
 pub mod Group

@@ -1,117 +1,178 @@
 -- What an entry processor's calls on its entry mean: each answer looks back over the calls before it. This is the provider's
--- reading of JSR 107, "Entry Processors"; the calls have an initial value or none, and one load answer for the case that
--- the loader is asked. No contract cites what is said of the calls yet; `found_in` alone is used elsewhere.
---     Call                    a call on the entry
---     Told                    what a call answers
+-- reading of JSR 107, "Entry Processors". Given are whether read-through is on, the entry's initial value or none, and what the
+-- loader answers if it is asked.
 --     mutation                what a call makes of the entry, if it mutates: a value, or none
---     or_else                 the first of two values that is there
 --     last_mutation           the last mutation among the calls, if any
 --     effect_of               the net effect of a last mutation, or of none
 --     is_get, has_get         a call asks for the value; one of these calls does
 --     unmutated               the calls before the first mutation
 --     uses_load               whether the loader is asked
+--     first_get               the place of the first call that asks for the value, if any
+--     load_place              the place of the call at which the loader is asked, if it is
+--     answer_if               an answer if the loader was asked, and else none
+--     load_said               what the loader answered: nothing was asked of it where the calls don't use it
 --     found_in, failed_in     the value that a loader found, if it found one, and the code with which it failed, if it did
---     mutated_or              the value that is there, or another
 --     failed_load             the code of the load that failed in these calls, if one did
 --     value_or_fault          what a call for the value answers: the fault of a load that failed, or the value
---     loaded_in               the value that the loader found, where read-through is on
+--     loaded_in               the value that the loader found, if read-through is on
 --     told                    what a call answers, after the calls before it
+--     told_after, all_told    what each of these calls answers, after others before them, and from the first
 --     net_effect              what the processor does to its entry in the end
-use Rattle.std.specs.Prelude.{ℕ, List, [], ◌∷◌, ◌++◌, Bool, true, false, ◌&&◌, ◌||◌, Option, None, Some, is_some, is_none, if◌then◌else◌, option_map}
+--     process_answer          what a processor did, by its net effect and by what it returned
+--     up_to_get               the calls up to the first that asks for the value, with it
+--     played_calls            the calls that a played processor makes of those that it is given: none after a failed load
+--     value_told              the value that an answer tells, if it is that of a call for the value
+--     last_value              the last value that was told, if any
+--     played_return           what a played processor returns: its code, or the last value that it was told
+use Rattle.std.specs.Prelude.{ℕ, ◌+◌, List, [], ◌∷◌, ◌++◌, Bool, true, false, ◌&&◌, ◌||◌, Option, None, Some, Result, Ok, Err, is_some, is_none, if◌then◌else◌, option_map, unwrap_or}
+use Rattle.std.specs.Option.{option_or}
+use Rattle.jc_model.specs.declared.processor.EntryCall.{EntryCall}
+use Rattle.jc_model.specs.declared.processor.EntryCall.TheVariants.{GetValue, Exists, SetValue, Remove}
+use Rattle.jc_model.specs.declared.processor.EntryAnswer.{EntryAnswer}
+use Rattle.jc_model.specs.declared.processor.EntryAnswer.TheVariants.{Value, Present, Done, Failed}
 use Rattle.jc_model.specs.declared.event.LoadAnswer.{LoadAnswer}
 use Rattle.jc_model.specs.declared.event.LoadAnswer.TheVariants as load
 use Rattle.jc_model.specs.declared.event.Effect.{Effect}
 use Rattle.jc_model.specs.declared.event.Effect.TheVariants as effect
+use Rattle.jc_model.specs.declared.event.ProcessAnswer.{ProcessAnswer}
+use Rattle.jc_model.specs.declared.event.ProcessAnswer.TheVariants as process
 use Rattle.jc_model.specs.Cache.{Bytes}
 
--- a call on the entry
-pub data Call : Type 0 where
-  GetValue : Call
-  Exists : Call
-  SetValue : (value : Bytes) → Call
-  RemoveEntry : Call
-
--- what a call answers
-pub data Told : Type 0 where
-  Value : (value : Option Bytes) → Told
-  Present : (there : Bool) → Told
-  Done : Told
-  Fault : (code : ℕ) → Told
+-- 1. Mutations.
 
 -- an entry is missing, or has a value: what a mutation makes of it
-abbrev pub mutation : Call → Option (Option Bytes)
+abbrev pub mutation : EntryCall → Option (Option Bytes)
 mutation (SetValue value) = Some (Some value)
-mutation RemoveEntry = Some None
+mutation Remove = Some None
 mutation GetValue = None
 mutation Exists = None
 
-abbrev pub or_else : {A : Type 0} → Option A → Option A → Option A
-or_else (Some first) second = Some first
-or_else None second = second
-
 -- the last mutation among the calls, if any
-abbrev pub last_mutation : List Call → Option (Option Bytes)
+abbrev pub last_mutation : List EntryCall → Option (Option Bytes)
 last_mutation [] = None
-last_mutation (call ∷ calls) = or_else (last_mutation calls) (mutation call)
+last_mutation (call ∷ calls) = option_or (last_mutation calls) (mutation call)
 
 abbrev pub effect_of : Option (Option Bytes) → Effect
 effect_of None = effect.Keep
 effect_of (Some None) = effect.Remove
 effect_of (Some (Some value)) = effect.Set value
 
-abbrev pub is_get : Call → Bool
-is_get GetValue = true
-is_get call = false
+-- 2. The load.
 
-abbrev pub has_get : List Call → Bool
+abbrev pub is_get : EntryCall → Bool
+is_get GetValue = true
+is_get Exists = false
+is_get (SetValue value) = false
+is_get Remove = false
+
+abbrev pub has_get : List EntryCall → Bool
 has_get [] = false
 has_get (call ∷ calls) = is_get call || has_get calls
 
 -- the calls before the first mutation
-abbrev pub unmutated : List Call → List Call
+abbrev pub unmutated : List EntryCall → List EntryCall
 unmutated [] = []
 unmutated (call ∷ calls) = if is_some (mutation call) then [] else call ∷ unmutated calls
 
--- the load is used exactly where a `get_value` has no mutation before it, nothing is there, and read-through is on
-abbrev pub uses_load : Bool → Option Bytes → List Call → Bool
+-- the load is used exactly if a `getValue` has no mutation before it, nothing is there, and read-through is on
+abbrev pub uses_load : Bool → Option Bytes → List EntryCall → Bool
 uses_load read_through initial calls = read_through && is_none initial && has_get (unmutated calls)
+
+-- the place of the first `getValue`, from 0
+abbrev pub first_get : List EntryCall → Option ℕ
+first_get [] = None
+first_get (call ∷ calls) = if is_get call then Some 0 else option_map (λ place. place + 1) (first_get calls)
+
+-- the loader is asked by the first `getValue`
+abbrev pub load_place : Bool → Option Bytes → List EntryCall → Option ℕ
+load_place read_through initial calls = if uses_load read_through initial calls then first_get calls else None
+
+abbrev pub answer_if : Bool → LoadAnswer → LoadAnswer
+answer_if true answer = answer
+answer_if false answer = load.NotAsked
+
+-- what the step records of the loader
+abbrev pub load_said : Bool → Option Bytes → LoadAnswer → List EntryCall → LoadAnswer
+load_said read_through initial answer calls = answer_if (uses_load read_through initial calls) answer
 
 abbrev pub found_in : LoadAnswer → Option Bytes
 found_in (load.Found value) = Some value
-found_in answer = None
+found_in load.NotAsked = None
+found_in load.Nothing = None
+found_in (load.Failed code) = None
 
 abbrev pub failed_in : LoadAnswer → Option ℕ
 failed_in (load.Failed code) = Some code
-failed_in answer = None
-
-abbrev pub mutated_or : {A : Type 0} → Option A → A → A
-mutated_or (Some value) other = value
-mutated_or None other = other
+failed_in load.NotAsked = None
+failed_in (load.Found value) = None
+failed_in load.Nothing = None
 
 -- the code of the load that failed in these calls, if one did
-abbrev pub failed_load : Bool → Option Bytes → LoadAnswer → List Call → Option ℕ
+abbrev pub failed_load : Bool → Option Bytes → LoadAnswer → List EntryCall → Option ℕ
 failed_load read_through initial answer calls = if uses_load read_through initial calls then failed_in answer else None
 
--- after a failed load each `get_value` gives its fault
-abbrev pub value_or_fault : Option ℕ → Option Bytes → Told
-value_or_fault (Some code) value = Fault code
+-- 3. What each call answers.
+
+-- after a failed load each `getValue` gives its fault
+abbrev pub value_or_fault : Option ℕ → Option Bytes → EntryAnswer
+value_or_fault (Some code) value = Failed code
 value_or_fault None value = Value value
 
 abbrev pub loaded_in : Bool → LoadAnswer → Option Bytes
 loaded_in read_through answer = if read_through then found_in answer else None
 
--- what a call answers, after these calls before it (`answer` is what the loader says if it is asked)
-abbrev pub told : Bool → Option Bytes → LoadAnswer → List Call → Call → Told
+-- what a call answers, after these calls before it
+abbrev pub told : Bool → Option Bytes → LoadAnswer → List EntryCall → EntryCall → EntryAnswer
 told read_through initial answer before GetValue =
     value_or_fault (failed_load read_through initial answer (before ++ GetValue ∷ []))
-    (mutated_or (last_mutation before) (or_else initial (loaded_in read_through answer)))
+    (unwrap_or (last_mutation before) (option_or initial (loaded_in read_through answer)))
 told read_through initial answer before Exists =
     Present (is_none (failed_load read_through initial answer before)
-    && mutated_or (option_map is_some (last_mutation before)) (is_some initial || (uses_load read_through initial before && is_some (found_in answer))))
+    && unwrap_or (option_map is_some (last_mutation before)) (is_some initial || (uses_load read_through initial before && is_some (found_in answer))))
 told read_through initial answer before (SetValue value) = Done
-told read_through initial answer before RemoveEntry = Done
+told read_through initial answer before Remove = Done
+
+abbrev pub told_after : Bool → Option Bytes → LoadAnswer → List EntryCall → List EntryCall → List EntryAnswer
+told_after read_through initial answer before [] = []
+told_after read_through initial answer before (call ∷ calls) =
+    told read_through initial answer before call ∷ told_after read_through initial answer (before ++ call ∷ []) calls
+
+-- one answer for each call
+abbrev pub all_told : Bool → Option Bytes → LoadAnswer → List EntryCall → List EntryAnswer
+all_told read_through initial answer calls = told_after read_through initial answer [] calls
+
+-- 4. What the processor did.
 
 -- the net effect: that of the last mutation, and none after a failed load, which makes the mutations be ignored
-abbrev pub net_effect : Bool → Option Bytes → LoadAnswer → List Call → Effect
+abbrev pub net_effect : Bool → Option Bytes → LoadAnswer → List EntryCall → Effect
 net_effect read_through initial answer calls =
     if is_some (failed_load read_through initial answer calls) then effect.Keep else effect_of (last_mutation calls)
+
+-- what the step records of the processor: it returned a value or none, or failed
+abbrev pub process_answer : Effect → Result (Option Bytes) ℕ → ProcessAnswer
+process_answer net (Ok outcome) = process.Ended net outcome
+process_answer net (Err code) = process.Failed code
+
+-- 5. A processor that is played: its calls are given, and a code if it is to fail.
+
+abbrev pub up_to_get : List EntryCall → List EntryCall
+up_to_get [] = []
+up_to_get (call ∷ calls) = call ∷ (if is_get call then [] else up_to_get calls)
+
+-- the load that fails is that of the first `getValue`, and no call follows it
+abbrev pub played_calls : Bool → Option Bytes → LoadAnswer → List EntryCall → List EntryCall
+played_calls read_through initial answer calls = if is_some (failed_load read_through initial answer calls) then up_to_get calls else calls
+
+abbrev pub value_told : EntryAnswer → Option (Option Bytes)
+value_told (Value value) = Some value
+value_told (Present there) = None
+value_told Done = None
+value_told (Failed code) = None
+
+abbrev pub last_value : List EntryAnswer → Option (Option Bytes)
+last_value [] = None
+last_value (answer ∷ answers) = option_or (last_value answers) (value_told answer)
+
+abbrev pub played_return : Option ℕ → List EntryAnswer → Result (Option Bytes) ℕ
+played_return (Some code) answers = Err code
+played_return None answers = Ok (unwrap_or (last_value answers) None)

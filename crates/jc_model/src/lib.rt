@@ -3,25 +3,31 @@
 //!
 //! - [`event`] has the words that every crate speaks.
 //! - [`table`] says what each operation asks for, leaves and replies, as methods of [`event::Op`].
+//! - [`batches`] says what a bulk write means for each of its keys.
+//! - [`processor`] has an entry processor's calls on its entry.
 //! - [`contents`] has a cache's contents as a map, and [`listed`] as a plain list.
 //! - [`legal`] is the slow checker of one stripe's history. It rests on [`callers`] (the callers'
 //!   order), [`stripes`] (the keys of one stripe) and [`reader`] (reading event by event).
 #![tactic(auto)]
 
+pub mod batches;
 mod callers;
 mod checker;
 pub mod contents;
 pub mod event;
 pub mod listed;
+pub mod processor;
 mod reader;
 mod same;
 mod stripes;
 pub mod table;
 pub mod table_laws;
 
+pub use batches::{answer_in_batch, batch_answer, is_among};
 pub use checker::legal;
 pub use contents::Contents;
 pub use event::{
     Cause, Change, Effect, Event, LoadAnswer, Op, Out, ProcessAnswer, Reply, WriteAnswer,
 };
+pub use processor::{EntryAnswer, EntryCall};
 pub use table::LoaderAsk;

@@ -1,0 +1,29 @@
+//! The calls of an entry processor on its entry, and what each is answered (JSR 107, "Entry Processors";
+//! `javax.cache.processor.MutableEntry`).
+use jc_types::Value;
+
+/// A call of an entry processor on its entry.
+#[derive(Clone, Copy, Debug, PartialEq, Eq)]
+pub enum EntryCall {
+    /// `getValue`: the value, loaded where the entry is missing and read-through is on.
+    GetValue,
+    /// `exists`: whether the entry has a value. It never loads.
+    Exists,
+    /// `setValue`.
+    SetValue(Value),
+    /// `remove`.
+    Remove,
+}
+
+/// What a call of an entry processor on its entry is answered.
+#[derive(Clone, Copy, Debug, PartialEq, Eq)]
+pub enum EntryAnswer {
+    /// `getValue`: the value, or none where Java has `null`.
+    Value(Option<Value>),
+    /// `exists`: whether the entry has a value.
+    Present(bool),
+    /// `setValue` and `remove`: nothing is answered.
+    Done,
+    /// `getValue`: the loader failed with this code.
+    Failed(u32),
+}
