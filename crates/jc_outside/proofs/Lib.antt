@@ -1,2 +1,3 @@
 pub mod CallerLemmas
 mod Answering
+mod Batches

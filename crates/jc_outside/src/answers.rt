@@ -40,6 +40,13 @@ impl Answers {
         Ok(Answers { answers })
     }
 
+    /// The answers of a map from each key that is asked to its answer.
+    pub(crate) fn of(answers: IndexMap<Key, Option<Value>>) -> Self
+        ensures { result ≡ from_entries {R = key_cmp} answers.entries }
+    {
+        Answers { answers }
+    }
+
     /// Answers this value at a key, in place of what was answered there before, and says whether the key was asked. If it
     /// wasn't, nothing changes.
     pub fn put(&mut self, key: &Key, value: &Value) -> bool

@@ -82,7 +82,8 @@ fn ask_writer(
     }
 }
 
-fn load_answer(returned: Result<Option<Value>, u32>) -> LoadAnswer
+/// The answer that a loader gives by what its `load` returns.
+pub fn load_answer(returned: Result<Option<Value>, u32>) -> LoadAnswer
     ensures answer { result ≡ load_answer returned }
     ensures given { is_load_given result ≡ true }
 {

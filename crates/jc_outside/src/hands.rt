@@ -1,5 +1,5 @@
 //! How many stripes a session holds, and what it brings for calls outside.
-ghost use Rattle.std.specs.Prelude.{◌≡◌, ◌+◌, ◌-◌, ◌<◌, ◌^◌};
+ghost use Rattle.std.specs.Prelude.{◌≡◌, ◌+◌, ◌-◌, ◌<◌, ◌^◌, None};
 
 use crate::loader::CacheLoader;
 use crate::writer::CacheWriter;
@@ -70,5 +70,29 @@ impl<T> Hands<T> {
     {
         let Hands { held: _, outside } = self;
         outside
+    }
+}
+
+impl Hands<Outside> {
+    /// Takes the loader out, to lend it to an entry processor.
+    ///
+    /// Condition: they hold nothing.
+    pub fn take_loader(&mut self) -> Option<Box<dyn CacheLoader + Send + Drop>>
+        requires { self.old.held ≡ 0 }
+        ensures loader { result ≡ self.old.outside.loader }
+        ensures left { self.new ≡ record self.old { outside = record self.old.outside { loader = None } } }
+    {
+        self.outside.loader.take()
+    }
+
+    /// Puts the loader back that was taken out.
+    ///
+    /// Conditions: they hold nothing, and have no loader.
+    pub fn put_loader(&mut self, loader: Option<Box<dyn CacheLoader + Send + Drop>>)
+        requires held { self.old.held ≡ 0 }
+        requires none { self.old.outside.loader ≡ None }
+        ensures { self.new ≡ record self.old { outside = record self.old.outside { loader = loader } } }
+    {
+        self.outside.loader = loader;
     }
 }

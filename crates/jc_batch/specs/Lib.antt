@@ -1,0 +1,4 @@
+pub mod Batch
+pub mod Splitting
+pub mod BatchInside
+pub mod Changes

@@ -1,0 +1,29 @@
+-- How a batch splits by what its writer left and its fault.
+--     success_of     a key that was written, by its answer
+--     failure_of     a key that failed, with its code, by its answer
+--     written_in     the keys of a batch that were written, in the batch's order
+--     failed_in      the keys of a batch that failed, each with its code, in the batch's order
+use Rattle.std.specs.Prelude.{ℕ, List, Option, None, Some}
+use Rattle.std.specs.List.{filter_map}
+use Rattle.jc_model.specs.declared.event.WriteAnswer.{WriteAnswer}
+use Rattle.jc_model.specs.declared.event.WriteAnswer.TheVariants as write
+use Rattle.jc_model.specs.Cache.{Bytes}
+use Rattle.jc_model.specs.Batches.{answer_in_batch}
+
+abbrev pub success_of : Bytes → WriteAnswer → Option Bytes
+success_of key write.Done = Some key
+success_of key write.NotAsked = None
+success_of key (write.Failed code) = None
+
+abbrev pub failure_of : Bytes → WriteAnswer → Option (Bytes × ℕ)
+failure_of key (write.Failed code) = Some (key, code)
+failure_of key write.NotAsked = None
+failure_of key write.Done = None
+
+-- by what is left, the fault, and the batch's keys
+abbrev pub written_in : List Bytes → Option ℕ → List Bytes → List Bytes
+written_in left fault keys = filter_map (λ key. success_of key (answer_in_batch left fault key)) keys
+
+-- by what is left, the fault, and the batch's keys
+abbrev pub failed_in : List Bytes → Option ℕ → List Bytes → List (Bytes × ℕ)
+failed_in left fault keys = filter_map (λ key. failure_of key (answer_in_batch left fault key)) keys

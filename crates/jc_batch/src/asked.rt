@@ -1,0 +1,122 @@
+//! The keys of a batch, and how they split.
+ghost use Rattle.std.specs.Prelude.{◌≡◌, ◌<◌, ◌≤◌, ◌+◌, ◌++◌, [], IfOk, length, vec_len, vec_capacity};
+ghost use Rattle.std.specs.List.{cons_option};
+ghost use Rattle.jc_batch.specs.Batch.{with_item, empty_batch};
+ghost use Rattle.jc_batch.specs.Splitting.{success_of, failure_of, written_in, failed_in};
+
+use crate::left::Left;
+use jc_model::{WriteAnswer, batch_answer};
+use jc_types::Key;
+use std::alloc::{AllocError, Global};
+use std::marker::Model;
+
+/// The keys of a batch, in the order in which they were added, with all the room that their split takes.
+#[derive(Drop)]
+pub struct Asked {
+    keys: Vec<Key>,
+    room: usize,
+    split: Split,
+}
+
+/// The keys of a batch by what became of them, both lists in the batch's order.
+#[derive(Drop)]
+pub struct Split {
+    /// The keys that were written or deleted.
+    pub written: Vec<Key>,
+    /// The keys that were not, each with the code with which it failed.
+    pub failed: Vec<(Key, u32)>,
+}
+
+impl Model for Asked {
+    ghost use Rattle.std.specs.Prelude.{◌≡◌, ◌≤◌, ◌+◌, [], vec_len, vec_capacity};
+    ghost use Rattle.jc_model.specs.Cache.{Bytes};
+    ghost use Rattle.jc_batch.specs.Batch.{BatchState};
+    ghost use Rattle.jc_batch.specs.BatchInside.{IsAsked};
+
+    ghost Value = { BatchState Bytes };
+
+    ghost view = { λ a. record { items = a.keys.items; room = a.room } };
+
+    ghost invariant = { λ a. IsAsked (vec_len a.keys + a.room) a.keys a.split };
+}
+
+impl Asked {
+    /// No keys, with room for `n`. An `Err` says that an allocation failed.
+    pub(crate) fn with_capacity(alloc: Global, n: usize) -> Result<Self, AllocError>
+        ensures { IfOk result (λ asked. asked ≡ empty_batch n) }
+    {
+        let keys = Vec::with_capacity(alloc, n)?;
+        let written = Vec::with_capacity(alloc, n)?;
+        let failed = Vec::with_capacity(alloc, n)?;
+        Ok(Asked {
+            keys,
+            room: n,
+            split: Split { written, failed },
+        })
+    }
+
+    /// How many keys there are.
+    pub fn len(&self) -> usize
+        ensures { result ≡ length self.now.items }
+    {
+        self.keys.len()
+    }
+
+    /// Adds a key, after those that are there. It takes no memory.
+    ///
+    /// Condition: there is room.
+    pub(crate) fn push(&mut self, key: Key)
+        requires { 0 < self.old.room }
+        ensures { self.new ≡ with_item self.old key }
+    {
+        self.keys.push_reserved(key);
+        self.room -= 1;
+    }
+
+    /// Splits the keys by what the writer left of their collection and its fault, if any: a key that is left failed, with the
+    /// fault's code or, after a normal return, with 0; every other key was written. It takes no memory.
+    pub fn split<C: Left>(self, left: &C, fault: Option<u32>) -> Split
+        ensures written { result.written.items ≡ written_in (C.left_keys left.now) fault self.items }
+        ensures failed { result.failed.items ≡ failed_in (C.left_keys left.now) fault self.items }
+    {
+        let Asked {
+            keys,
+            room: _,
+            split,
+        } = self;
+        let mut split = split;
+        split_keys(&keys, left, fault, &mut split);
+        split
+    }
+}
+
+/// Notes each of the keys by its answer.
+fn split_keys<C: Left>(keys: &[Key], left: &C, fault: Option<u32>, split: &mut Split)
+    requires empty { (split.old.written.items ≡ []) × (split.old.failed.items ≡ []) }
+    requires written_room { length keys.now ≤ vec_capacity split.old.written }
+    requires failed_room { length keys.now ≤ vec_capacity split.old.failed }
+    ensures written { split.new.written.items ≡ written_in (C.left_keys left.now) fault keys.now }
+    ensures failed { split.new.failed.items ≡ failed_in (C.left_keys left.now) fault keys.now }
+{
+    for key in keys {
+        note(split, key, batch_answer(left.is_left(key), fault));
+    }
+}
+
+/// Puts a key in the list that its answer says.
+fn note(split: &mut Split, key: &Key, answer: WriteAnswer)
+    requires written_room { vec_len split.old.written < vec_capacity split.old.written }
+    requires failed_room { vec_len split.old.failed < vec_capacity split.old.failed }
+    ensures written { split.new.written.items ≡ split.old.written.items ++ cons_option (success_of key.now answer) [] }
+    ensures failed { split.new.failed.items ≡ split.old.failed.items ++ cons_option (failure_of key.now answer) [] }
+    ensures written_len { vec_len split.new.written ≤ vec_len split.old.written + 1 }
+    ensures failed_len { vec_len split.new.failed ≤ vec_len split.old.failed + 1 }
+    ensures written_room { vec_capacity split.new.written ≡ vec_capacity split.old.written }
+    ensures failed_room { vec_capacity split.new.failed ≡ vec_capacity split.old.failed }
+{
+    match answer {
+        WriteAnswer::Done => split.written.push_reserved(*key),
+        WriteAnswer::Failed(code) => split.failed.push_reserved((*key, code)),
+        WriteAnswer::NotAsked => {}
+    }
+}

@@ -1,0 +1,46 @@
+-- One call of the loader, or of the writer for a batch of either kind.
+use Rattle.std.proofs.Common.{◌≡◌, ℕ, List, Option, Result, refl, sym, subst}
+use Rattle.std.specs.Map.{keys_of}
+use Rattle.jc_model.specs.Cache.{Bytes}
+use Rattle.jc_model.specs.Batches.{answer_in_batch}
+use Rattle.jc_batch.specs.Batch.{BatchState}
+use Rattle.jc_batch.specs.declared.batch.Batch.{Batch}
+use Rattle.jc_batch.specs.declared.batch.Batch.TheVariants.{Writes, Deletes}
+use Rattle.jc_outside.specs.CallingAll.{LoadAllRelation, LoadsKeys, LoadsAllOnce, load_all_answer, WriteAllRelation, DeleteAllRelation, WritesEntries, DeletesKeys, WritesAllOnce, returned_fault}
+use Rattle.jc_outside.specs.Answers.{AnswersByKey}
+
+module _ {W : Type 0} (writes_all : WriteAllRelation W) (deletes_all : DeleteAllRelation W) (state : W → List ℕ)
+    (old was : Option W) (same : old ≡ was) (batch : Batch) (returned : Result (Unit {0}) ℕ) (new : Option W) where
+  pub writes-batch : (b : BatchState (Bytes × Bytes)) (entries left : List (Bytes × Bytes)) → batch ≡ Writes b → entries ≡ b.items
+      → WritesEntries writes_all state old entries returned left new
+      → WritesAllOnce writes_all deletes_all state was batch returned (answer_in_batch (keys_of left) (returned_fault returned)) new
+  writes-batch b entries left is asked once =
+      subst (λ x. WritesAllOnce writes_all deletes_all state was x returned (answer_in_batch (keys_of left) (returned_fault returned)) new) (sym is) (
+        left,
+        (λ key. refl),
+        subst (λ o. WritesEntries writes_all state o b.items returned left new) same
+            (subst (λ es. WritesEntries writes_all state old es returned left new) asked once),
+      )
+
+  pub deletes-batch : (b : BatchState Bytes) (keys left : List Bytes) → batch ≡ Deletes b → keys ≡ b.items
+      → DeletesKeys deletes_all state old keys returned left new
+      → WritesAllOnce writes_all deletes_all state was batch returned (answer_in_batch left (returned_fault returned)) new
+  deletes-batch b keys left is asked once =
+      subst (λ x. WritesAllOnce writes_all deletes_all state was x returned (answer_in_batch left (returned_fault returned)) new) (sym is) (
+        left,
+        (λ key. refl),
+        subst (λ o. DeletesKeys deletes_all state o b.items returned left new) same
+            (subst (λ ks. DeletesKeys deletes_all state old ks returned left new) asked once),
+      )
+
+module _ {L : Type 0} (loads_all : LoadAllRelation L) (state : L → List ℕ) where
+  pub loads-batch : (old was : Option L) → old ≡ was → (keys asked : List Bytes) → keys ≡ asked → (returned : Result (Unit {0}) ℕ) (answers : AnswersByKey) (new : Option L)
+      → LoadsKeys loads_all state old keys returned answers new
+      → LoadsAllOnce loads_all state was asked (load_all_answer returned answers) new
+  loads-batch old was same keys asked is returned answers new once = (
+    returned,
+    answers,
+    (λ key. refl),
+    subst (λ o. LoadsKeys loads_all state o asked returned answers new) same
+        (subst (λ ks. LoadsKeys loads_all state old ks returned answers new) is once),
+  )

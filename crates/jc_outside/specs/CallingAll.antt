@@ -1,0 +1,89 @@
+-- One call of a loader or a writer for many keys, and what it answers for each of them.
+--     LoadAllRelation    what a loader's call may be: the loader before, the keys, whether it fails, what it puts, its state afterwards
+--     found_or_nothing   a value that was found, or nothing
+--     load_all_answer    the answer for a key: what was put there last, or nothing; of a failed call its failure
+--     LoadsKeys          a loader that is there was called once, with these keys; it returned this, and put these answers. Without one
+--                        the call succeeds, and no answer is put
+--     LoadsAllOnce       a loader was called once, with these keys: its answers, or its failure, say what is told of each key
+--     WriteAllRelation   what a writer's call may be: the writer before, the entries, what it returns, what it leaves, its state afterwards
+--     DeleteAllRelation  the same of a call that deletes keys
+--     returned_fault     the code of the fault that a writer returned, if any
+--     WritesEntries      a writer that is there was called once, with exactly these entries; it returned this, and left these
+--     DeletesKeys        the same of keys to be deleted
+--     WritesAllOnce      a writer was called once, for exactly this batch: what it left and its fault say what became of each key
+--     loads_done         the done values of asks, by what was said of each key
+--     writes_done        the same of asks of a writer
+--     asked_changes      each ask's key, with the change that it asks for
+use Rattle.std.specs.Prelude.{◌≡◌, ℕ, List, Option, None, Some, Result, Ok, Err, map}
+use Rattle.std.specs.Map.{keys_of}
+use Rattle.jc_model.specs.Cache.{Bytes}
+use Rattle.jc_model.specs.Batches.{answer_in_batch}
+use Rattle.jc_model.specs.declared.event.Change.{Change}
+use Rattle.jc_model.specs.declared.event.LoadAnswer.{LoadAnswer}
+use Rattle.jc_model.specs.declared.event.LoadAnswer.TheVariants as load
+use Rattle.jc_model.specs.declared.event.WriteAnswer.{WriteAnswer}
+use Rattle.jc_batch.specs.declared.batch.Batch.{Batch}
+use Rattle.jc_batch.specs.declared.batch.Batch.TheVariants.{Writes, Deletes}
+use Rattle.jc_outside.specs.Answers.{AnswersByKey, no_answers, answer_of}
+use Rattle.jc_outside.specs.Done.{LoadResult, WriteResult}
+use Rattle.jc_outside.specs.declared.done.Origin.TheVariants.{Live}
+
+-- 1. Loaders.
+
+abbrev pub LoadAllRelation : Type 0 → Type 1
+LoadAllRelation L = L → List Bytes → Result (Unit {0}) ℕ → AnswersByKey → List ℕ → Type 0
+
+abbrev pub found_or_nothing : Option Bytes → LoadAnswer
+found_or_nothing (Some value) = load.Found value
+found_or_nothing None = load.Nothing
+
+abbrev pub load_all_answer : Result (Unit {0}) ℕ → AnswersByKey → Bytes → LoadAnswer
+load_all_answer (Ok done) answers key = found_or_nothing (answer_of answers key)
+load_all_answer (Err code) answers key = load.Failed code
+
+abbrev pub LoadsKeys : {L : Type 0} → LoadAllRelation L → (L → List ℕ) → Option L → List Bytes → Result (Unit {0}) ℕ → AnswersByKey → Option L → Type 0
+LoadsKeys loads_all state None keys returned answers None = (returned ≡ Ok tt) × (answers ≡ no_answers keys)
+LoadsKeys loads_all state None keys returned answers (Some new) = ⊥
+LoadsKeys loads_all state (Some old) keys returned answers None = ⊥
+LoadsKeys loads_all state (Some old) keys returned answers (Some new) = loads_all old keys returned answers (state new)
+
+abbrev pub LoadsAllOnce : {L : Type 0} → LoadAllRelation L → (L → List ℕ) → Option L → List Bytes → (Bytes → LoadAnswer) → Option L → Type 0
+LoadsAllOnce loads_all state old keys said new =
+    (returned : Result (Unit {0}) ℕ) × (answers : AnswersByKey) × ((key : Bytes) → said key ≡ load_all_answer returned answers key) × LoadsKeys loads_all state old keys returned answers new
+
+abbrev pub loads_done : {A : Type 0} → (A → Bytes) → (Bytes → LoadAnswer) → List A → List (LoadResult A)
+loads_done key_of said asks = map (λ ask. record { ask = ask; origin = Live; answer = said (key_of ask) }) asks
+
+-- 2. Writers.
+
+abbrev pub WriteAllRelation : Type 0 → Type 1
+WriteAllRelation W = W → List (Bytes × Bytes) → Result (Unit {0}) ℕ → List (Bytes × Bytes) → List ℕ → Type 0
+
+abbrev pub DeleteAllRelation : Type 0 → Type 1
+DeleteAllRelation W = W → List Bytes → Result (Unit {0}) ℕ → List Bytes → List ℕ → Type 0
+
+abbrev pub returned_fault : Result (Unit {0}) ℕ → Option ℕ
+returned_fault (Ok done) = None
+returned_fault (Err code) = Some code
+
+abbrev pub WritesEntries : {W : Type 0} → WriteAllRelation W → (W → List ℕ) → Option W → List (Bytes × Bytes) → Result (Unit {0}) ℕ → List (Bytes × Bytes) → Option W → Type 0
+WritesEntries writes_all state (Some old) entries returned left (Some new) = writes_all old entries returned left (state new)
+WritesEntries writes_all state (Some old) entries returned left None = ⊥
+WritesEntries writes_all state None entries returned left new = ⊥
+
+abbrev pub DeletesKeys : {W : Type 0} → DeleteAllRelation W → (W → List ℕ) → Option W → List Bytes → Result (Unit {0}) ℕ → List Bytes → Option W → Type 0
+DeletesKeys deletes_all state (Some old) keys returned left (Some new) = deletes_all old keys returned left (state new)
+DeletesKeys deletes_all state (Some old) keys returned left None = ⊥
+DeletesKeys deletes_all state None keys returned left new = ⊥
+
+abbrev pub WritesAllOnce : {W : Type 0} → WriteAllRelation W → DeleteAllRelation W → (W → List ℕ) → Option W → Batch → Result (Unit {0}) ℕ → (Bytes → WriteAnswer) → Option W → Type 0
+WritesAllOnce writes_all deletes_all state old (Writes batch) returned said new =
+    (left : List (Bytes × Bytes)) × ((key : Bytes) → said key ≡ answer_in_batch (keys_of left) (returned_fault returned) key) × WritesEntries writes_all state old batch.items returned left new
+WritesAllOnce writes_all deletes_all state old (Deletes batch) returned said new =
+    (left : List Bytes) × ((key : Bytes) → said key ≡ answer_in_batch left (returned_fault returned) key) × DeletesKeys deletes_all state old batch.items returned left new
+
+abbrev pub writes_done : {A : Type 0} → (A → Bytes) → (Bytes → WriteAnswer) → List A → List (WriteResult A)
+writes_done key_of said asks = map (λ ask. record { ask = ask; origin = Live; answer = said (key_of ask) }) asks
+
+abbrev pub asked_changes : {A : Type 0} → (A → Bytes) → (A → Option Change) → List A → List (Bytes × Option Change)
+asked_changes key_of change_of asks = map (λ ask. (key_of ask, change_of ask)) asks

@@ -1,0 +1,207 @@
+//! Calls of a loader and a writer for many keys at once, while no stripe is held.
+ghost use Rattle.std.specs.Prelude.{◌≡◌, ◌≤◌, ◌+◌, ◌++◌, List, map, true, IsSome, Some, vec_len, vec_capacity};
+ghost use Rattle.std.specs.Map.{keys_of};
+ghost use Rattle.jc_model.specs.Cache.{Bytes};
+ghost use Rattle.jc_model.specs.Batches.{answer_in_batch};
+ghost use Rattle.jc_model.specs.Table.{is_load_given, is_write_given};
+ghost use Rattle.jc_model.specs.declared.event.LoadAnswer.{LoadAnswer as LoadAnswerState};
+ghost use Rattle.jc_model.specs.declared.event.WriteAnswer.{WriteAnswer as WriteAnswerState};
+ghost use Rattle.jc_batch.specs.Changes.{changes_of};
+ghost use Rattle.jc_outside.specs.Answers.{no_answers};
+ghost use Rattle.jc_outside.specs.CallingAll.{load_all_answer, found_or_nothing, returned_fault, LoadsKeys, WritesEntries, DeletesKeys, LoadsAllOnce, WritesAllOnce, loads_done, writes_done, asked_changes};
+
+use crate::answers::Answers;
+use crate::ask::{Ask, AskWrite};
+use crate::done::{LoadDone, Origin, WriteDone};
+use crate::hands::{Hands, Outside};
+use crate::load_batch::LoadBatch;
+use crate::loader::CacheLoader;
+use crate::writer::CacheWriter;
+use indexmap::{IndexMap, IndexSet};
+use jc_batch::{Batch, Left};
+use jc_model::{LoadAnswer, WriteAnswer, batch_answer};
+use jc_types::{Key, Value};
+use std::sync::Wait;
+
+/// Calls the loader once, with the keys of these asks (`loadAll`), and appends a done value for each ask, in their order. A failed
+/// call fails for each of the keys; a key without an answer isn't found. Without a loader nothing is found.
+///
+/// It may wait, as long as the loader does. It takes no memory of its own.
+///
+/// Conditions: the session holds no stripe; the batch is of the asks' keys, in their order; there is room for the done values.
+pub fn call_loader_all<A: Ask, R: Wait>(
+    _rt: &R,
+    hands: &mut Hands<Outside>,
+    asks: Vec<A>,
+    batch: LoadBatch,
+    done: &mut Vec<LoadDone<A>>,
+)
+    requires held { hands.old.held ≡ 0 }
+    requires batch { batch.items ≡ map A.key asks.items }
+    requires room { vec_len done.old + vec_len asks ≤ vec_capacity done.old }
+    ensures loader { (said : Bytes → LoadAnswerState)
+        × LoadsAllOnce loads_all load_state hands.old.outside.loader batch.items said hands.new.outside.loader
+        × (done.new.items ≡ done.old.items ++ loads_done A.key said asks.items) }
+    ensures room { vec_capacity done.new ≡ vec_capacity done.old }
+    ensures writer { hands.new.outside.writer ≡ hands.old.outside.writer }
+    ensures held { hands.new.held ≡ 0 }
+{
+    let (keys, answers) = batch.into_parts();
+    let mut answers = answers;
+    let returned = load_keys(&mut hands.outside.loader, &keys, &mut answers);
+    end_loads(asks, &returned, &answers, done);
+}
+
+/// Calls the writer once, for a whole batch (`writeAll` or `deleteAll`), and appends a done value for each ask, in their order: a key
+/// that the writer leaves in the collection failed, with the writer's code or, if it returned normally, with 0; every other key
+/// was written. Keys that the writer adds count for nothing. It returns what the writer returned: the writer may fail and
+/// leave nothing.
+///
+/// It may wait, as long as the writer does. It takes no memory of its own.
+///
+/// Conditions: the session holds no stripe, and has brought a writer; the batch has exactly what the asks ask for, in their order;
+/// there is room for the done values.
+pub fn call_writer_all<A: AskWrite, R: Wait>(
+    _rt: &R,
+    hands: &mut Hands<Outside>,
+    asks: Vec<A>,
+    batch: Batch,
+    done: &mut Vec<WriteDone<A>>,
+) -> Result<(), u32>
+    requires held { hands.old.held ≡ 0 }
+    requires writer { IsSome hands.old.outside.writer }
+    requires batch { changes_of batch ≡ asked_changes A.key A.change asks.items }
+    requires room { vec_len done.old + vec_len asks ≤ vec_capacity done.old }
+    ensures writer { (said : Bytes → WriteAnswerState)
+        × WritesAllOnce writes_all deletes_all write_state hands.old.outside.writer batch result said hands.new.outside.writer
+        × (done.new.items ≡ done.old.items ++ writes_done A.key said asks.items) }
+    ensures room { vec_capacity done.new ≡ vec_capacity done.old }
+    ensures loader { hands.new.outside.loader ≡ hands.old.outside.loader }
+    ensures held { hands.new.held ≡ 0 }
+{
+    match batch {
+        Batch::Writes(batch) => {
+            let (mut entries, _asked) = batch.into_parts();
+            let returned = write_entries(&mut hands.outside.writer, &mut entries);
+            end_writes(asks, &entries, returned_fault(&returned), done);
+            returned
+        }
+        Batch::Deletes(batch) => {
+            let (mut keys, _asked) = batch.into_parts();
+            let returned = delete_keys(&mut hands.outside.writer, &mut keys);
+            end_writes(asks, &keys, returned_fault(&returned), done);
+            returned
+        }
+    }
+}
+
+fn load_keys(
+    loader: &mut Option<Box<dyn CacheLoader + Send + Drop>>,
+    keys: &[Key],
+    answers: &mut Answers,
+) -> Result<(), u32>
+    requires { answers.old ≡ no_answers keys.now }
+    ensures { LoadsKeys loads_all load_state loader.old keys.now result answers.new loader.new }
+{
+    match loader {
+        Some(loader) => loader.load_all(keys, answers),
+        None => Ok(()),
+    }
+}
+
+fn write_entries(
+    writer: &mut Option<Box<dyn CacheWriter + Send + Drop>>,
+    entries: &mut IndexMap<Key, Value>,
+) -> Result<(), u32>
+    requires { IsSome writer.old }
+    ensures { WritesEntries writes_all write_state writer.old entries.old.entries result entries.new.entries writer.new }
+{
+    match writer {
+        Some(writer) => writer.write_all(entries),
+        None => unreachable!(),
+    }
+}
+
+fn delete_keys(
+    writer: &mut Option<Box<dyn CacheWriter + Send + Drop>>,
+    keys: &mut IndexSet<Key>,
+) -> Result<(), u32>
+    requires { IsSome writer.old }
+    ensures { DeletesKeys deletes_all write_state writer.old keys.old.keys result keys.new.keys writer.new }
+{
+    match writer {
+        Some(writer) => writer.delete_all(keys),
+        None => unreachable!(),
+    }
+}
+
+fn returned_fault(returned: &Result<(), u32>) -> Option<u32>
+    ensures { result ≡ returned_fault returned.now }
+{
+    match returned {
+        Ok(()) => None,
+        Err(code) => Some(*code),
+    }
+}
+
+/// What a loader's call says of one key.
+fn load_all_answer(returned: &Result<(), u32>, answers: &Answers, key: &Key) -> LoadAnswer
+    ensures answer { result ≡ load_all_answer returned.now answers.now key.now }
+    ensures given { is_load_given result ≡ true }
+{
+    match returned {
+        Ok(()) => match answers.get(key) {
+            Some(value) => LoadAnswer::Found(value),
+            None => LoadAnswer::Nothing,
+        },
+        Err(code) => LoadAnswer::Failed(*code),
+    }
+}
+
+/// Ends the asks by what the loader said of each key.
+fn end_loads<A: Ask>(
+    asks: Vec<A>,
+    returned: &Result<(), u32>,
+    answers: &Answers,
+    done: &mut Vec<LoadDone<A>>,
+)
+    requires { vec_len done.old + vec_len asks ≤ vec_capacity done.old }
+    ensures items { done.new.items ≡ done.old.items ++ loads_done A.key (load_all_answer returned.now answers.now) asks.items }
+    ensures room { vec_capacity done.new ≡ vec_capacity done.old }
+{
+    let mut asks = asks;
+    asks.reverse();
+    'ending: while let Some(ask) = asks.pop() {
+        let answer = load_all_answer(returned, answers, ask.key());
+        done.push_reserved(LoadDone::new(ask, Origin::Live, answer));
+    }
+    asks.destroy_empty();
+}
+
+/// What a writer's call says of one key, by what it left.
+fn write_all_answer<C: Left>(left: &C, fault: Option<u32>, key: &Key) -> WriteAnswer
+    ensures answer { result ≡ answer_in_batch (C.left_keys left.now) fault key.now }
+    ensures given { is_write_given result ≡ true }
+{
+    batch_answer(left.is_left(key), fault)
+}
+
+/// Ends the asks by what the writer left.
+fn end_writes<A: AskWrite, C: Left>(
+    asks: Vec<A>,
+    left: &C,
+    fault: Option<u32>,
+    done: &mut Vec<WriteDone<A>>,
+)
+    requires { vec_len done.old + vec_len asks ≤ vec_capacity done.old }
+    ensures items { done.new.items ≡ done.old.items ++ writes_done A.key (answer_in_batch (C.left_keys left.now) fault) asks.items }
+    ensures room { vec_capacity done.new ≡ vec_capacity done.old }
+{
+    let mut asks = asks;
+    asks.reverse();
+    'ending: while let Some(ask) = asks.pop() {
+        let answer = write_all_answer(left, fault, ask.key());
+        done.push_reserved(WriteDone::new(ask, Origin::Live, answer));
+    }
+    asks.destroy_empty();
+}
