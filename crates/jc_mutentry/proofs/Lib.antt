@@ -1,0 +1,5 @@
+pub mod CallerLemmas
+mod Lent
+mod LookingBack
+mod Playing
+mod Stepping

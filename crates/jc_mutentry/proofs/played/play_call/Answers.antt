@@ -1,0 +1,24 @@
+use Rattle.std.proofs.Common.{[], ◌∷◌, ◌++◌, sym, ap, subst, ◌∙◌}
+use Rattle.std.proofs.lemmas.List.{append-nil}
+use Rattle.jc_mutentry.specs.Inside.{is_load_failed}
+use Rattle.jc_mutentry.specs.Playing.{IsPlayed}
+use Rattle.jc_mutentry.proofs.Playing.{play-failed, play-more}
+use Rattle.jc_mutentry.proofs.played.play_call.Goals as goal
+
+pub returns-then-has_failed-clause-played : goal.returns-then-has_failed-clause-played
+returns-then-has_failed-clause-played c = λ calls answers p.
+    let failed = sym (c.has_failed.ensures ∙ ap is_load_failed c.load_answer.ensures) ∙ c.if-has_failed.true in (
+      [],
+      subst (λ told. IsPlayed c.args.entry.now c.args.load.now (calls ++ c.args.call.now ∷ []) told c.args.last.now) (sym (append-nil answers))
+          (play-failed c.args.entry.now c.args.load.now calls c.args.call.now answers c.args.last.now failed p),
+      sym (append-nil c.args.told.now.items),
+    )
+
+pub returns-clause-played : goal.returns-clause-played
+returns-clause-played c = λ calls answers p.
+    let unfailed = sym (c.has_failed.ensures ∙ ap is_load_failed c.load_answer.ensures) ∙ c.if-has_failed.false in (
+      c.made-answer.result ∷ [],
+      play-more c.args.entry.now c.made-answer.new.entry c.args.load.now calls c.args.call.now answers c.made-answer.result c.args.last.now c.note.new.last
+          c.requires.given unfailed c.made-answer.ensures.makes c.made-answer.ensures.load c.note.ensures p,
+      c.push_reserved.ensures.items,
+    )

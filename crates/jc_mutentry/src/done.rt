@@ -1,0 +1,85 @@
+//! What an entry processor did, and what its loader answered.
+ghost use Rattle.std.specs.Prelude.{◌≡◌, true};
+ghost use Rattle.jc_model.specs.Table.{is_process_given, load_fits, wanted_if, is_load_given};
+ghost use Rattle.jc_mutentry.specs.Done.{change_asked};
+
+use crate::ask::AskProcess;
+use jc_model::{Change, LoadAnswer, Op, ProcessAnswer};
+use jc_outside::Origin;
+use std::marker::Model;
+
+/// What an entry processor did to the entry of one ask, and what the loader answered if `getValue` asked it.
+///
+/// It can't be dropped or copied: the commit that ends the ask's reservation spends it.
+pub struct ProcDone<A: AskProcess> {
+    ask: A,
+    origin: Origin,
+    load: LoadAnswer,
+    process: ProcessAnswer,
+}
+
+impl<A: AskProcess> Model for ProcDone<A> {
+    ghost use Rattle.std.specs.Prelude.{◌≡◌, true};
+    ghost use Rattle.jc_model.specs.Table.{is_process_given, load_fits, wanted_if, is_load_given};
+    ghost use Rattle.jc_mutentry.specs.Done.{ProcessResult};
+
+    ghost Value = { ProcessResult A };
+
+    ghost view = { λ d. record { ask = d.ask; origin = d.origin; load = d.load; process = d.process } };
+
+    ghost invariant = { λ d. (is_process_given d.process ≡ true)
+        × (load_fits (wanted_if (A.may_load d.ask)) (is_load_given d.load) ≡ true) };
+}
+
+impl<A: AskProcess> ProcDone<A> {
+    /// The ask that it answers.
+    pub fn ask(&self) -> &A
+        ensures { result.now ≡ self.now.ask }
+    {
+        &self.ask
+    }
+
+    /// The write or delete to ask for with write-through on: that of the net effect, or none. After a loader's or processor's
+    /// fault there is none (JSR 107, "Entry Processors").
+    pub fn change(&self) -> Option<Change>
+        ensures { result ≡ change_asked self.now.load self.now.process }
+    {
+        match self.load {
+            LoadAnswer::Failed(_) => None,
+            LoadAnswer::NotAsked | LoadAnswer::Found(_) | LoadAnswer::Nothing => {
+                Op::Invoke.write_ask(&None, &self.process)
+            }
+        }
+    }
+
+    /// The receipt of the ask, what the loader answered, and what the processor did. The value is spent.
+    pub fn into_parts(self) -> (A::Receipt, LoadAnswer, ProcessAnswer)
+        ensures receipt { result.0 ≡ A.receipt self.ask }
+        ensures load { result.1 ≡ self.load }
+        ensures process { result.2 ≡ self.process }
+        ensures given { is_process_given self.process ≡ true }
+        ensures fits { load_fits (wanted_if (A.may_load self.ask)) (is_load_given self.load) ≡ true }
+    {
+        let ProcDone {
+            ask,
+            origin: _,
+            load,
+            process,
+        } = self;
+        (ask.into_receipt(), load, process)
+    }
+
+    /// The done value of an ask.
+    pub(crate) fn new(ask: A, origin: Origin, load: LoadAnswer, process: ProcessAnswer) -> Self
+        requires given { is_process_given process ≡ true }
+        requires fits { load_fits (wanted_if (A.may_load ask)) (is_load_given load) ≡ true }
+        ensures { result ≡ record { ask = ask; origin = origin; load = load; process = process } }
+    {
+        ProcDone {
+            ask,
+            origin,
+            load,
+            process,
+        }
+    }
+}

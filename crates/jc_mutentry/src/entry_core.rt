@@ -1,0 +1,177 @@
+//! An entry while a processor runs, without a loader.
+ghost use Rattle.std.specs.Prelude.{◌≡◌, [], true};
+ghost use Rattle.jc_model.specs.Table.{is_load_given};
+ghost use Rattle.jc_model.specs.declared.processor.EntryCall.TheVariants.{GetValue, Exists, SetValue, Remove};
+ghost use Rattle.jc_model.specs.declared.processor.EntryAnswer.TheVariants.{Present, Done};
+ghost use Rattle.jc_mutentry.specs.Entries.{fresh, asks_load, value_told, IsAfter, Makes};
+ghost use Rattle.jc_mutentry.specs.Got.{GotNow};
+ghost use Rattle.jc_mutentry.specs.Inside.{is_present, value_got, got_by_load, mutated, returned};
+
+use jc_model::{Effect, LoadAnswer};
+use jc_types::Value;
+use std::marker::Model;
+
+/// What `getValue` comes to, before a loader is asked.
+#[derive(Clone, Copy, Debug, PartialEq, Eq)]
+pub enum Got {
+    /// The value, or none.
+    Value(Option<Value>),
+    /// The loader is to be asked, and its answer given to [`EntryCore::load`].
+    MustLoad,
+    /// The loader has failed with this code.
+    Failed(u32),
+}
+
+/// An entry while a processor runs (`javax.cache.processor.MutableEntry`; JSR 107, "Entry Processors"), without its key and
+/// without a loader: who has one asks it if the entry says so.
+///
+/// It keeps one state: what the loader answered, and the net effect of the calls so far. No call takes memory.
+#[derive(Drop)]
+pub struct EntryCore {
+    initial: Option<Value>,
+    may_load: bool,
+    load: LoadAnswer,
+    effect: Effect,
+}
+
+impl Model for EntryCore {
+    ghost use Rattle.jc_mutentry.specs.Entries.{EntryState};
+
+    ghost Value = { EntryState };
+
+    ghost view = { λ e. record { initial = e.initial; may_load = e.may_load; load = e.load; effect = e.effect } };
+}
+
+impl EntryCore {
+    /// An entry on which no call was made. It has this value or none; the loader may be asked, if read-through is on and nothing
+    /// is there.
+    pub fn new(initial: Option<Value>, may_load: bool) -> Self
+        ensures entry { result ≡ fresh initial may_load }
+        ensures after { IsAfter result [] [] }
+    {
+        EntryCore {
+            initial,
+            may_load,
+            load: LoadAnswer::NotAsked,
+            effect: Effect::Keep,
+        }
+    }
+
+    /// `exists`: whether the entry has a value. It never loads. After a failed load it is false.
+    pub fn exists(&self) -> bool
+        ensures { Makes self.now Exists (Present result) self.now }
+    {
+        is_present(&self.initial, &self.load, &self.effect)
+    }
+
+    /// `getValue`, as far as it goes without a loader: the value, the fault of a load that has failed, or that the loader is to
+    /// be asked.
+    pub fn get_value(&self) -> Got
+        ensures { GotNow self.now result }
+    {
+        value_got(&self.initial, self.may_load, &self.load, &self.effect)
+    }
+
+    /// `getValue`, once the loader has answered.
+    ///
+    /// Conditions: the loader was to be asked, and has answered.
+    pub fn load(&mut self, answer: LoadAnswer) -> Result<Option<Value>, u32>
+        requires asks { asks_load self.old ≡ true }
+        requires given { is_load_given answer ≡ true }
+        ensures get { Makes self.old GetValue (value_told result) self.new }
+        ensures load { self.new.load ≡ answer }
+    {
+        self.load = answer;
+        returned(&self.load)
+    }
+
+    /// `setValue`. After a failed load nothing changes.
+    pub fn set_value(&mut self, value: &Value)
+        ensures set { Makes self.old (SetValue value.now) Done self.new }
+        ensures load { self.new.load ≡ self.old.load }
+    {
+        mutate(&self.load, &mut self.effect, Effect::Set(*value));
+    }
+
+    /// `remove`. After a failed load nothing changes.
+    pub fn remove(&mut self)
+        ensures remove { Makes self.old Remove Done self.new }
+        ensures load { self.new.load ≡ self.old.load }
+    {
+        mutate(&self.load, &mut self.effect, Effect::Remove);
+    }
+
+    /// What the loader answered, if it was asked.
+    pub fn load_answer(&self) -> LoadAnswer
+        ensures { result ≡ self.now.load }
+    {
+        self.load
+    }
+
+    /// The net effect of the calls so far.
+    pub fn effect(&self) -> Effect
+        ensures { result ≡ self.now.effect }
+    {
+        self.effect
+    }
+}
+
+/// Whether a value is there: by the net effect, else by what was there first, else by what was loaded.
+fn is_present(initial: &Option<Value>, load: &LoadAnswer, effect: &Effect) -> bool
+    ensures { result ≡ is_present initial.now load.now effect.now }
+{
+    match effect {
+        Effect::Set(_) => true,
+        Effect::Remove => false,
+        Effect::Keep => initial.is_some() || matches!(load, LoadAnswer::Found(_)),
+    }
+}
+
+/// What `getValue` comes to.
+fn value_got(initial: &Option<Value>, may_load: bool, load: &LoadAnswer, effect: &Effect) -> Got
+    ensures { result ≡ value_got initial.now may_load load.now effect.now }
+{
+    match effect {
+        Effect::Set(value) => Got::Value(Some(*value)),
+        Effect::Remove => Got::Value(None),
+        Effect::Keep => got_by_load(initial, may_load, load),
+    }
+}
+
+/// What `getValue` comes to while nothing has mutated the entry.
+fn got_by_load(initial: &Option<Value>, may_load: bool, load: &LoadAnswer) -> Got
+    ensures { result ≡ got_by_load initial.now may_load load.now }
+{
+    match load {
+        LoadAnswer::Found(value) => Got::Value(Some(*value)),
+        LoadAnswer::Nothing => Got::Value(None),
+        LoadAnswer::Failed(code) => Got::Failed(*code),
+        LoadAnswer::NotAsked => {
+            if may_load && initial.is_none() {
+                Got::MustLoad
+            } else {
+                Got::Value(*initial)
+            }
+        }
+    }
+}
+
+/// What `getValue` returns once the loader has answered.
+fn returned(load: &LoadAnswer) -> Result<Option<Value>, u32>
+    ensures { result ≡ returned load.now }
+{
+    match load {
+        LoadAnswer::Found(value) => Ok(Some(*value)),
+        LoadAnswer::Nothing | LoadAnswer::NotAsked => Ok(None),
+        LoadAnswer::Failed(code) => Err(*code),
+    }
+}
+
+/// One more mutation. After a failed load none counts.
+fn mutate(load: &LoadAnswer, effect: &mut Effect, next: Effect)
+    ensures { effect.new ≡ mutated load.now effect.old next }
+{
+    if !matches!(load, LoadAnswer::Failed(_)) {
+        *effect = next;
+    }
+}

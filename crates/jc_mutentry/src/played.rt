@@ -1,0 +1,154 @@
+//! Played runs of entry processors: a script or a test says which calls it makes.
+ghost use Rattle.std.specs.Prelude.{◌≡◌, ◌++◌, ◌+◌, ◌≤◌, ◌<◌, List, [], ◌∷◌, true, None, length, vec_len, vec_capacity, unwrap_or};
+ghost use Rattle.jc_model.specs.declared.processor.EntryCall.{EntryCall};
+ghost use Rattle.jc_model.specs.declared.processor.EntryCall.TheVariants.{GetValue};
+ghost use Rattle.jc_model.specs.declared.processor.EntryAnswer.{EntryAnswer};
+ghost use Rattle.jc_model.specs.Table.{is_load_given};
+ghost use Rattle.jc_model.specs.Processor.{value_told};
+ghost use Rattle.jc_outside.specs.declared.done.Origin.TheVariants.{Played};
+ghost use Rattle.jc_mutentry.specs.Entries.{fresh, Makes};
+ghost use Rattle.jc_mutentry.specs.Inside.{is_load_failed};
+ghost use Rattle.jc_mutentry.specs.Playing.{played_told, played_load, played_answer, LoadsAs, IsPlayed};
+
+use crate::ask::AskProcess;
+use crate::done::ProcDone;
+use crate::entry_core::{EntryCore, Got};
+use crate::run::process_answer;
+use jc_model::{EntryAnswer, EntryCall, LoadAnswer};
+use jc_outside::Origin;
+use jc_types::Value;
+
+/// A run of a processor that is played: it makes these calls on the entry, and then fails with the code, or answers what its last
+/// `getValue` was told, or none. If the loader is asked, it answers `load`. After a failed load no further call is made.
+///
+/// What each call was told is appended to `told`, in their order.
+///
+/// Conditions: the loader's answer is one, and there is room for one answer for each call.
+pub fn played_process<A: AskProcess>(
+    ask: A,
+    calls: &[EntryCall],
+    fail: Option<u32>,
+    load: LoadAnswer,
+    told: &mut Vec<EntryAnswer>,
+) -> ProcDone<A>
+    requires given { is_load_given load ≡ true }
+    requires room { vec_len told.old + length calls.now ≤ vec_capacity told.old }
+    ensures ask { result.ask ≡ ask }
+    ensures origin { result.origin ≡ Played }
+    ensures load { result.load ≡ played_load (A.may_load ask) (A.initial ask) load calls.now }
+    ensures process { result.process ≡ played_answer (A.may_load ask) (A.initial ask) load calls.now fail }
+    ensures told { told.new.items ≡ told.old.items ++ played_told (A.may_load ask) (A.initial ask) load calls.now }
+{
+    let mut entry = EntryCore::new(*ask.initial(), ask.may_load());
+    let last = play_calls(&mut entry, calls, &load, told);
+    let returned = match fail {
+        Some(code) => Err(code),
+        None => Ok(last),
+    };
+    let (answered, effect) = (entry.load_answer(), entry.effect());
+    ProcDone::new(
+        ask,
+        Origin::Played,
+        answered,
+        process_answer(effect, returned),
+    )
+}
+
+/// Makes the calls, each unless the load has failed, and gives the last value that one was told.
+fn play_calls(
+    entry: &mut EntryCore,
+    calls: &[EntryCall],
+    load: &LoadAnswer,
+    told: &mut Vec<EntryAnswer>,
+) -> Option<Value>
+    requires fresh { entry.old ≡ fresh entry.old.initial entry.old.may_load }
+    requires given { is_load_given load.now ≡ true }
+    requires room { vec_len told.old + length calls.now ≤ vec_capacity told.old }
+    ensures same { (entry.new.initial ≡ entry.old.initial) × (entry.new.may_load ≡ entry.old.may_load) }
+    ensures played { (answers : List EntryAnswer) × IsPlayed entry.new load.now calls.now answers result
+        × (told.new.items ≡ told.old.items ++ answers) }
+{
+    let mut last = None;
+    for call in calls {
+        play_call(entry, call, load, told, &mut last);
+    }
+    last
+}
+
+/// Makes one call more, unless the load has failed.
+fn play_call(
+    entry: &mut EntryCore,
+    call: &EntryCall,
+    load: &LoadAnswer,
+    told: &mut Vec<EntryAnswer>,
+    last: &mut Option<Value>,
+)
+    requires given { is_load_given load.now ≡ true }
+    requires room { vec_len told.old < vec_capacity told.old }
+    ensures same { (entry.new.initial ≡ entry.old.initial) × (entry.new.may_load ≡ entry.old.may_load) }
+    ensures capacity { vec_capacity told.new ≡ vec_capacity told.old }
+    ensures len { vec_len told.new ≤ vec_len told.old + 1 }
+    ensures played { (calls : List EntryCall) (answers : List EntryAnswer) → IsPlayed entry.old load.now calls answers last.old
+        → (more : List EntryAnswer) × IsPlayed entry.new load.now (calls ++ call.now ∷ []) (answers ++ more) last.new
+        × (told.new.items ≡ told.old.items ++ more) }
+{
+    if has_failed(&entry.load_answer()) {
+        return;
+    }
+    let answer = made(entry, call, load);
+    note(last, &answer);
+    told.push_reserved(answer);
+}
+
+/// Notes the value, if one was told.
+fn note(last: &mut Option<Value>, answer: &EntryAnswer)
+    ensures { last.new ≡ unwrap_or (value_told answer.now) last.old }
+{
+    match answer {
+        EntryAnswer::Value(value) => *last = *value,
+        EntryAnswer::Present(_) | EntryAnswer::Done | EntryAnswer::Failed(_) => {}
+    }
+}
+
+/// Whether the load failed.
+fn has_failed(load: &LoadAnswer) -> bool
+    ensures { result ≡ is_load_failed load.now }
+{
+    matches!(load, LoadAnswer::Failed(_))
+}
+
+/// Makes a call, and gives its answer. If the loader is asked, it answers this.
+fn made(entry: &mut EntryCore, call: &EntryCall, load: &LoadAnswer) -> EntryAnswer
+    requires { is_load_given load.now ≡ true }
+    ensures makes { Makes entry.old call.now result entry.new }
+    ensures load { LoadsAs load.now entry.old.load entry.new.load }
+{
+    match call {
+        EntryCall::GetValue => got_with(entry, load),
+        EntryCall::Exists => EntryAnswer::Present(entry.exists()),
+        EntryCall::SetValue(value) => {
+            entry.set_value(value);
+            EntryAnswer::Done
+        }
+        EntryCall::Remove => {
+            entry.remove();
+            EntryAnswer::Done
+        }
+    }
+}
+
+/// Asks for the value. If the loader is asked, it answers this.
+fn got_with(entry: &mut EntryCore, load: &LoadAnswer) -> EntryAnswer
+    requires { is_load_given load.now ≡ true }
+    ensures makes { Makes entry.old GetValue result entry.new }
+    ensures load { LoadsAs load.now entry.old.load entry.new.load }
+{
+    match entry.get_value() {
+        Got::Value(value) => EntryAnswer::Value(value),
+        Got::Failed(code) => EntryAnswer::Failed(code),
+        Got::MustLoad => match entry.load(*load) {
+            Ok(value) => EntryAnswer::Value(value),
+            Err(code) => EntryAnswer::Failed(code),
+        },
+    }
+}
