@@ -8,6 +8,7 @@ ghost use Rattle.jc_history.specs.Appending.{Appends};
 ghost use Rattle.jc_history.specs.Encoding.{text_bytes, optional_bytes, caller_bytes, op_bytes, load_bytes, write_bytes, effect_bytes, process_bytes, out_bytes, refusal_bytes, reply_bytes, event_bytes};
 ghost use Rattle.jc_history.specs.Encodable.{IsCode, IsKeyText, IsValueText, IsEncodableOptional, IsEncodableCaller, IsEncodableOp, IsEncodableLoad, IsEncodableWrite, IsEncodableEffect, IsEncodableProcess, IsEncodableOut, IsEncodableRefusal, IsEncodableReply, IsEncodable};
 
+use crate::lent::LentStep;
 use jc_model::{Cause, Effect, Event, LoadAnswer, Op, Out, ProcessAnswer, Reply, WriteAnswer};
 use jc_types::{Caller, Field, KEY_MAX, Key, Refusal, VALUE_MAX, Value};
 
@@ -268,6 +269,21 @@ fn encode_shared_with(out: &mut Vec<u8>, place: &Option<u32>)
     }
 }
 
+/// Appends the bytes of a step, at most [`EVENT_ROOM`] of them.
+pub(crate) fn encode_step(out: &mut Vec<u8>, step: &LentStep)
+    requires { vec_len out.old + EVENT_ROOM ≤ vec_capacity out.old }
+    ensures appends { Appends out.old out.new (event_bytes step.now) EVENT_ROOM }
+    ensures encodable { IsEncodable step.now }
+{
+    out.push_reserved(0);
+    encode_reply(out, step.reply);
+    encode_caller(out, step.caller);
+    encode_key(out, step.key);
+    encode_op(out, step.op);
+    encode_out(out, step.out);
+    encode_shared_with(out, step.shared_with);
+}
+
 /// Appends the bytes of an event, at most [`EVENT_ROOM`] of them.
 pub(crate) fn encode_event(out: &mut Vec<u8>, event: &Event)
     requires { vec_len out.old + EVENT_ROOM ≤ vec_capacity out.old }
@@ -282,15 +298,17 @@ pub(crate) fn encode_event(out: &mut Vec<u8>, event: &Event)
             out: answers,
             shared_with,
             reply,
-        } => {
-            out.push_reserved(0);
-            encode_reply(out, reply);
-            encode_caller(out, caller);
-            encode_key(out, key);
-            encode_op(out, op);
-            encode_out(out, answers);
-            encode_shared_with(out, shared_with);
-        }
+        } => encode_step(
+            out,
+            &LentStep {
+                caller,
+                op,
+                key,
+                out: answers,
+                shared_with,
+                reply,
+            },
+        ),
         Event::Evict { key, cause } => {
             out.push_reserved(match cause {
                 Cause::Full => 1,

@@ -8,7 +8,8 @@ ghost use Rattle.jc_history.specs.Past.{places_used, IsWithinLimit, promise, unp
 ghost use Rattle.jc_history.specs.Stored.{events_at, IsComplete};
 
 use crate::decoding::{decode_event, decode_reply_of_step};
-use crate::encoding::{EVENT_ROOM, encode_event};
+use crate::encoding::{EVENT_ROOM, encode_event, encode_step};
+use crate::lent::LentStep;
 use jc_model::{Event, Reply};
 use jc_types::HISTORY_MAX;
 use std::alloc::{AllocError, Global};
@@ -106,6 +107,17 @@ impl History {
         self.promised -= 1;
     }
 
+    /// Appends a step, in a place that was promised: what [`push`](History::push) appends of the same event, which so needn't be
+    /// built. It is never refused, and takes no memory.
+    pub fn push_step(&mut self, step: &LentStep)
+        requires { 0 < self.old.promised }
+        ensures after { self.new ≡ push step.now self.old }
+        ensures within { IsWithinLimit self.new }
+    {
+        append_step(&mut self.bytes, &mut self.starts, step);
+        self.promised -= 1;
+    }
+
     /// How many events there are, at most [`HISTORY_MAX`]. Promised places don't count.
     pub fn len(&self) -> usize
         ensures len { result ≡ length self.now.events }
@@ -187,6 +199,24 @@ fn append_event(bytes: &mut Vec<u8>, starts: &mut Vec<u32>, event: &Event)
 {
     starts.push_reserved(bytes.len() as u32);
     encode_event(bytes, event);
+}
+
+/// Appends the bytes of a step, and the index at which they start.
+fn append_step(bytes: &mut Vec<u8>, starts: &mut Vec<u32>, step: &LentStep)
+    requires complete { All (IsComplete bytes.old.items) starts.old.items }
+    requires bytes_room { vec_len bytes.old + EVENT_ROOM ≤ vec_capacity bytes.old }
+    requires starts_room { vec_len starts.old < vec_capacity starts.old }
+    requires small { vec_len bytes.old < 2 ^ 32 }
+    ensures events { events_at bytes.new.items starts.new.items
+        ≡ events_at bytes.old.items starts.old.items ++ step.now ∷ [] }
+    ensures complete { All (IsComplete bytes.new.items) starts.new.items }
+    ensures few { vec_len bytes.new ≤ vec_len bytes.old + EVENT_ROOM }
+    ensures bytes_room { vec_capacity bytes.old ≤ vec_capacity bytes.new }
+    ensures len { vec_len starts.new ≡ vec_len starts.old + 1 }
+    ensures starts_room { vec_capacity starts.new ≡ vec_capacity starts.old }
+{
+    starts.push_reserved(bytes.len() as u32);
+    encode_step(bytes, step);
 }
 
 /// The event that starts at the index that is at a place.

@@ -7,5 +7,7 @@
 mod decoding;
 mod encoding;
 pub mod history;
+mod lent;
 
 pub use history::History;
+pub use lent::LentStep;

@@ -1,0 +1,32 @@
+//! A step whose parts are lent.
+use jc_model::{Op, Out, Reply};
+use jc_types::{Caller, Key};
+use std::marker::Model;
+
+/// A step of which each part is lent. Contracts see the event that it is.
+///
+/// A step has up to six values inline, so to build an event only to store it costs time.
+#[derive(Drop)]
+pub struct LentStep<'a> {
+    /// Who called.
+    pub caller: &'a Caller,
+    /// The operation.
+    pub op: &'a Op,
+    /// The key.
+    pub key: &'a Key,
+    /// What the loader, the writer and the processor answered.
+    pub out: &'a Out,
+    /// The place of the step whose load this one shares, if it shares one.
+    pub shared_with: &'a Option<u32>,
+    /// What the call is answered.
+    pub reply: &'a Reply,
+}
+
+impl<'a> Model for LentStep<'a> {
+    ghost use Rattle.jc_model.specs.declared.event.Event.{Event};
+    ghost use Rattle.jc_model.specs.declared.event.Event.TheVariants.{Step};
+
+    ghost Value = { Event };
+
+    ghost view = { λ s. Step s.caller.now s.op.now s.key.now s.out.now s.shared_with.now s.reply.now };
+}
