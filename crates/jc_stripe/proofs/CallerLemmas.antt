@@ -8,18 +8,24 @@
 --     picker_parks, picked_parks          a pick-up finds its step parked, and leaves it so no more
 --     others_park                         it parks of the steps at other places what was parked
 --     again_parks_same                    a pick-up that is told to retry parks what was parked
-use Rattle.std.proofs.Common.{◌≡◌, ◌==◌, ◌&&◌, ◌||◌, ◌+◌, ℕ, zero, suc, List, [], ◌∷◌, Bool, true, false, not, Option, None, Some, refl, sym, ap, ◌∙◌, slice_get}
+--     invokes                             only an `Invoke` is given a processor's ticket
+use Rattle.std.proofs.Common.{◌≡◌, ◌==◌, ◌&&◌, ◌||◌, ◌+◌, ℕ, zero, suc, List, [], ◌∷◌, Bool, true, false, cond, not, Option, None, Some, is_none, refl, sym, ap, ◌∙◌, slice_get}
 use Rattle.std.proofs.lemmas.Bool.{eqb-true, and_parts}
 use Rattle.std.specs.List.{list_all}
 use Rattle.std.specs.Cmp.Lexicographic.{pointwise, same_text}
 use Rattle.jc_types.proofs.CallerLemmas.{all_imply}
 use Rattle.jc_types.specs.declared.caller.Caller.{Caller}
+use Rattle.jc_types.specs.declared.config.Config.{Config}
 use Rattle.jc_model.specs.declared.event.Event.{Event}
 use Rattle.jc_model.specs.declared.event.Event.TheVariants.{Step}
 use Rattle.jc_model.specs.declared.event.Op.{Op}
+use Rattle.jc_model.specs.declared.event.Op.TheVariants.{Get, LoadAll, Invoke}
+use Rattle.jc_model.specs.declared.event.Change.{Change}
+use Rattle.jc_model.specs.declared.event.ProcessAnswer.TheVariants as process
 use Rattle.jc_model.specs.declared.event.Out.{Out}
 use Rattle.jc_model.specs.declared.event.Reply.{Reply}
-use Rattle.jc_model.specs.Cache.{Bytes}
+use Rattle.jc_model.specs.Cache.{Bytes, entry_at}
+use Rattle.jc_model.specs.Table.{always_if, write_ask, is_invoke}
 use Rattle.jc_model.specs.Legal.{in_order, may_come, may_follow}
 use Rattle.jc_inflight.specs.declared.joiner.JoinState.TheVariants.{Answered, Again}
 use Rattle.jc_inflight.specs.Joining.{callers_of}
@@ -27,9 +33,11 @@ use Rattle.jc_inflight.specs.Resolving.{after_resolve}
 use Rattle.jc_inflight.specs.Taking as taking
 use Rattle.jc_stripe.specs.declared.begun.StepDone.{StepDone}
 use Rattle.jc_stripe.specs.declared.ticket.Reservation.{Reservation}
-use Rattle.jc_stripe.specs.Tickets.{JoinClaim}
+use Rattle.jc_stripe.specs.Tickets.{JoinClaim, ProcessClaim, asks_processor}
+use Rattle.jc_stripe.specs.Refusals.{first_asked, first_by}
+use Rattle.jc_stripe.specs.declared.begun.Begun.TheVariants as begun
 use Rattle.jc_stripe.specs.State.{State, IsOut, waits}
-use Rattle.jc_stripe.specs.Phases.{MayBegin, Steps, new_group, with_joiner, after_commit, after_withdrawal, without_joiner, told_to}
+use Rattle.jc_stripe.specs.Phases.{MayBegin, Begins, Steps, new_group, with_joiner, after_commit, after_withdrawal, without_joiner, told_to}
 use Rattle.jc_stripe.specs.Reached.{IsReached, may_share}
 use Rattle.jc_stripe.specs.OnePhase.{is_parked}
 use Rattle.jc_stripe.proofs.Settled.{claim_left, keyed_callers}
@@ -130,3 +138,20 @@ again_parks_same old join c k reached told =
           ∙ sym (again_parks mine join.key old.joiners reached.apart told) ∙ (λ i. is_parked old.joiners (sym who i) (sym key i))
       | false ↦ λ e. parked_other mine join.key old.joiners c k (ap not e)
     ] refl
+
+-- 5. A processor's ticket.
+
+no_processor : (b w : Bool) (change : Option Change) → asks_processor (first_by (always_if b) (cond w change None)) ≡ true → (A : Type 0) → A
+no_processor true w change h A = cc
+no_processor false true None h A = cc
+no_processor false true (Some change) h A = cc
+no_processor false false change h A = cc
+
+asks_invoking : (config : Config) (op : Op) (entry : Option Bytes) → asks_processor (first_asked config op entry) ≡ true → is_invoke op ≡ true
+asks_invoking config Invoke entry h = refl
+asks_invoking config Get entry h = no_processor (config.read_through && is_none entry) config.write_through None h _
+asks_invoking config (LoadAll replace) entry h = no_processor (replace || is_none entry) config.write_through None h _
+asks_invoking config op entry h = no_processor false config.write_through (write_ask op entry process.NotAsked) h _
+
+pub invokes : (old new : State) (caller : Caller) (key : Bytes) (op : Op) (ticket : ProcessClaim) → Begins old caller key op (begun.Process ticket) new → is_invoke op ≡ true
+invokes old new caller key op ticket begins = asks_invoking old.config op (entry_at old.cache key) (ap asks_processor begins.1 ∙ begins.2)

@@ -90,18 +90,18 @@ abbrev pub committed_at : Inside → ByUse → Table Note → List Joiner → Pa
 committed_at i entries table js history = record i { entries = entries; reservations = table; joiners = js; history = history }
 
 -- others may share the load of what is out
-may_share_claimed : (i : Inside) (r : Reservation) (out : Out) (place : ℕ) (callers : List Caller) → IsStripe i → IsOut (state_of i) r → AnswersFirst r.first out → callers_of r.number i.joiners ≡ callers
+may_share_claimed : (i : Inside) (r : Reservation) (out : Out) (place : ℕ) (callers : List Caller) → IsStripe i → IsOut (state_of i) r → AnswersFirst i.config r.first out → callers_of r.number i.joiners ≡ callers
     → MayShare (after_commit (state_of i) r place) r.key r.op out callers
 may_share_claimed i r out place [] sound found said same = tt
 may_share_claimed i r out place (c ∷ cs) sound found said same =
     let known = shares_with (state_of i) r c cs sound.state found same in
-    (known.read_through, known.whole, known.missing, said_given r.first out known.first said)
+    (known.read_through, known.whole, known.missing, said_given i.config r.first out known.first said)
 
 -- what is known of a commit
 pub record IsCommit (i : Inside) (r : Reservation) (out : Out) (entries : ByUse) (table : Table Note) (js : List Joiner) (history : Past) (keys : List Bytes) (made : NewGroup) (done : StepDone) (kept : ℕ) : Type 0 where
   pub sound : IsStripe i
   pub found : IsOut (state_of i) r
-  pub said : AnswersFirst r.first out
+  pub said : AnswersFirst i.config r.first out
   pub released : table ≡ reserving.without_reservation i.reservations r.key
   pub keys_are : keys ≡ keys_of table.held
   pub is : IsMade (state_of i) r.caller r.key r.op out made

@@ -1,5 +1,5 @@
 -- Answers of whom was asked first fit the tables.
-use Rattle.std.proofs.Common.{◌≡◌, ◌&&◌, ◌||◌, cond, is_none, Bool, true, false, not, IsTrue, Option, None, Some, is_some, refl, ap, ◌∙◌}
+use Rattle.std.proofs.Common.{◌≡◌, ◌&&◌, ◌||◌, cond, is_none, Bool, true, false, not, IsTrue, Option, None, Some, is_some, refl, sym, ap, ◌∙◌}
 use Rattle.std.specs.Bool.{beq}
 use Rattle.jc_types.specs.declared.config.Config.{Config}
 use Rattle.jc_model.specs.declared.event.Op.{Op}
@@ -10,12 +10,12 @@ use Rattle.jc_model.specs.declared.event.LoadAnswer.{LoadAnswer}
 use Rattle.jc_model.specs.declared.event.WriteAnswer.{WriteAnswer}
 use Rattle.jc_model.specs.declared.event.ProcessAnswer.TheVariants as process
 use Rattle.jc_model.specs.Cache.{Bytes}
-use Rattle.jc_model.specs.Table.{answers_fit, always_if, load_fits, early_fault, is_load_given, is_write_given, write_ask}
+use Rattle.jc_model.specs.Table.{answers_fit, always_if, wanted_if, load_fits, early_fault, is_load_given, is_write_given, is_process_given, write_ask}
 use Rattle.jc_model.specs.Group.{load_only, write_only, nothing_said}
 use Rattle.jc_stripe.specs.declared.ticket.First.{First}
 use Rattle.jc_stripe.specs.declared.ticket.First.TheVariants.{Nobody, Loader, Writer, Processor}
-use Rattle.jc_stripe.specs.Refusals.{first_asked, first_by, has_phases, writer_for}
-use Rattle.jc_stripe.specs.Appending.{AnswersFirst}
+use Rattle.jc_stripe.specs.Refusals.{first_asked, first_by, is_wanted, writer_for}
+use Rattle.jc_stripe.specs.Appending.{AnswersFirst, AnswersProcess, is_write_due}
 
 -- a writer's request is none of the loader's
 not_loader : (b : Bool) (change : Option Change) → writer_for (cond b change None) ≡ Loader → (A : Type 0) → A
@@ -61,19 +61,50 @@ writer_fits config (LoadAll replace) entry answer change h given = no_writer (re
 writer_fits config Invoke entry answer change h given = cc
 writer_fits config op entry answer change h given = written_shape config.write_through (is_write_given answer) (write_ask op entry process.NotAsked) change h given
 
+-- no call but an `Invoke` asks the processor first
+no_processor : (b w : Bool) (change : Option Change) (seen : Option Bytes) (loads : Bool) → first_by (always_if b) (cond w change None) ≡ Processor seen loads → (A : Type 0) → A
+no_processor true w change seen loads h A = cc
+no_processor false true None seen loads h A = cc
+no_processor false true (Some change) seen loads h A = cc
+no_processor false false change seen loads h A = cc
+
+processed_shape : (load process write due : Bool) → load ≡ true → process ≡ true → write ≡ due → (load && beq process true && beq write due) ≡ true
+processed_shape true true true true l p w = refl
+processed_shape true true false false l p w = refl
+processed_shape true true true false l p w = cc
+processed_shape true true false true l p w = cc
+processed_shape true false write due l p w = cc
+processed_shape false process write due l p w = cc
+
+-- what a reservation keeps of the loader table
+kept_wanted : (wanted loads : Bool) (entry seen : Option Bytes) → Processor entry (is_wanted (wanted_if wanted)) ≡ Processor seen loads → loads ≡ wanted
+kept_wanted true loads entry seen h = cc
+kept_wanted false loads entry seen h = cc
+
+-- where the processor was asked first, the answers are what the tables ask for
+pub processor_fits : (config : Config) (op : Op) (entry seen : Option Bytes) (loads : Bool) (out : Out) → first_asked config op entry ≡ Processor seen loads → AnswersProcess config loads out → IsTrue (answers_fit config op entry out)
+processor_fits config Invoke entry seen loads out h said =
+    let wanted : Bool = config.read_through && is_none entry in
+    let same : loads ≡ wanted = kept_wanted wanted loads entry seen h in
+    processed_shape (load_fits (wanted_if wanted) (is_load_given out.load)) (is_process_given out.process) (is_write_given out.write) (is_write_due config out)
+    (ap (λ w. load_fits (wanted_if w) (is_load_given out.load)) (sym same) ∙ said.load) said.process said.write
+processor_fits config Get entry seen loads out h said = no_processor (config.read_through && is_none entry) config.write_through None seen loads h _
+processor_fits config (LoadAll replace) entry seen loads out h said = no_processor (replace || is_none entry) config.write_through None seen loads h _
+processor_fits config op entry seen loads out h said = no_processor false config.write_through (write_ask op entry process.NotAsked) seen loads h _
+
 -- what answers whom the call asked first fits
-pub said_fits : (config : Config) (op : Op) (entry : Option Bytes) (first : First) (out : Out) → first_asked config op entry ≡ first → AnswersFirst first out → IsTrue (answers_fit config op entry out)
+pub said_fits : (config : Config) (op : Op) (entry : Option Bytes) (first : First) (out : Out) → first_asked config op entry ≡ first → AnswersFirst config first out → IsTrue (answers_fit config op entry out)
 said_fits config op entry Nobody out asks said = absurd said
 said_fits config op entry Loader out asks said = ap (answers_fit config op entry) said.1 ∙ loader_fits config op entry said.0 asks said.2
 said_fits config op entry (Writer change) out asks said = ap (answers_fit config op entry) said.1 ∙ writer_fits config op entry said.0 change asks said.2
-said_fits config op entry Processor out asks said = absurd said
+said_fits config op entry (Processor seen loads) out asks said = processor_fits config op entry seen loads out asks said
 
 -- a loader that was asked has answered
-pub said_given : (first : First) (out : Out) → first ≡ Loader → AnswersFirst first out → is_load_given out.load ≡ true
-said_given Nobody out h said = absurd said
-said_given Loader out h said = ap (λ (o : Out). is_load_given o.load) said.1 ∙ said.2
-said_given (Writer change) out h said = cc
-said_given Processor out h said = absurd said
+pub said_given : (config : Config) (first : First) (out : Out) → first ≡ Loader → AnswersFirst config first out → is_load_given out.load ≡ true
+said_given config Nobody out h said = absurd said
+said_given config Loader out h said = ap (λ (o : Out). is_load_given o.load) said.1 ∙ said.2
+said_given config (Writer change) out h said = cc
+said_given config (Processor seen loads) out h said = cc
 
 loads_nobody : (b w : Bool) → first_by (always_if b) (cond w None None) ≡ Nobody → b ≡ false
 loads_nobody true w h = cc
@@ -90,8 +121,8 @@ shape_unwritten true (Some change) h = cc
 shape_unwritten false asked h = refl
 
 -- where nobody was asked, nothing said fits
-pub nobody_fits : (config : Config) (op : Op) (entry : Option Bytes) → first_asked config op entry ≡ Nobody → has_phases op ≡ true → IsTrue (answers_fit config op entry nothing_said)
-nobody_fits config Get entry h phases = shape_unread (config.read_through && is_none entry) (config.write_through && true) (loads_nobody (config.read_through && is_none entry) config.write_through h)
-nobody_fits config (LoadAll replace) entry h phases = shape_unread (replace || is_none entry) (config.write_through && true) (loads_nobody (replace || is_none entry) config.write_through h)
-nobody_fits config Invoke entry h phases = cc
-nobody_fits config op entry h phases = shape_unwritten config.write_through (write_ask op entry process.NotAsked) h
+pub nobody_fits : (config : Config) (op : Op) (entry : Option Bytes) → first_asked config op entry ≡ Nobody → IsTrue (answers_fit config op entry nothing_said)
+nobody_fits config Get entry h = shape_unread (config.read_through && is_none entry) (config.write_through && true) (loads_nobody (config.read_through && is_none entry) config.write_through h)
+nobody_fits config (LoadAll replace) entry h = shape_unread (replace || is_none entry) (config.write_through && true) (loads_nobody (replace || is_none entry) config.write_through h)
+nobody_fits config Invoke entry h = cc
+nobody_fits config op entry h = shape_unwritten config.write_through (write_ask op entry process.NotAsked) h

@@ -2,12 +2,11 @@
 --     hit_applies     to move the entry to the front is what its step makes of the entries
 --     hit_refusal     it is not refused, if the history has a place free and no number is at its end
 --     hit_asks        it asks nobody
-use Rattle.std.proofs.Common.{◌≡◌, ◌==◌, ◌||◌, ◌&&◌, ℕ, List, ◌∷◌, length, Bool, true, false, not, Option, Some, None, is_some, is_none, nat_le, refl, sym, ap, ◌∙◌, if◌then◌else◌}
+use Rattle.std.proofs.Common.{◌≡◌, ◌==◌, ◌||◌, ◌&&◌, List, ◌∷◌, length, Bool, true, false, not, Option, Some, None, is_some, is_none, nat_le, refl, sym, ap, ◌∙◌, if◌then◌else◌}
 use Rattle.std.specs.Option.{option_map_or}
 use Rattle.std.specs.FinMap as finite
 use Rattle.jc_types.specs.declared.caller.Caller.{Caller}
 use Rattle.jc_types.specs.declared.limits.TheConstants.{HIT_PLACES, RESERVATIONS_MAX, JOINERS_MAX}
-use Rattle.jc_types.specs.declared.refusal.Refusal.{Refusal}
 use Rattle.jc_types.specs.declared.refusal.Refusal.TheVariants as refusal
 use Rattle.jc_model.specs.declared.event.Op.TheVariants.{Get}
 use Rattle.jc_model.specs.Cache.{Bytes, key_cmp, entry_at}
@@ -15,7 +14,6 @@ use Rattle.jc_model.specs.Listed.{others, with_entry_first}
 use Rattle.jc_model.specs.Table.{entry_after}
 use Rattle.jc_model.specs.Group.{nothing_said}
 use Rattle.jc_entries.specs.ByUse.{ByUse, after_touch, lru_victim}
-use Rattle.jc_stripe.specs.declared.ticket.First.{First}
 use Rattle.jc_stripe.specs.declared.ticket.First.TheVariants.{Nobody}
 use Rattle.jc_stripe.specs.State.{State, is_reserved, reservation_of}
 use Rattle.jc_stripe.specs.Refusals.{answers_at_once, first_asked, first_refusal, has_room, load_at, load_joined, needs_free_key, needs_reservation, places_needed, reserves}

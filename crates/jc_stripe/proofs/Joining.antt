@@ -47,7 +47,7 @@ load_first : (first : First) (number load : ℕ) → load_of first number ≡ So
 load_first Nobody number load h = cc
 load_first Loader number load h = (refl, cc)
 load_first (Writer change) number load h = cc
-load_first Processor number load h = cc
+load_first (Processor seen loads) number load h = cc
 
 -- the reservation of a load that is found
 pub loaded_at : (o : Option Reservation) (load : ℕ) → load_at o ≡ Some load → (r : Reservation) × (o ≡ Some r) × (r.first ≡ Loader) × (r.number ≡ load)

@@ -44,6 +44,7 @@ begins_on old new caller key op (begun.Refused refusal) h = same_on old new _ h.
 begins_on old new caller key op (begun.Done done) h = steps_on old new caller key op nothing_said [] done h.2
 begins_on old new caller key op (begun.Load ticket) h = same_on old new _ h.4 (record { config = refl; stripe = refl; origin = refl; opening = refl }) refl
 begins_on old new caller key op (begun.Write ticket) h = same_on old new _ h.4 (record { config = refl; stripe = refl; origin = refl; opening = refl }) refl
+begins_on old new caller key op (begun.Process ticket) h = same_on old new _ h.4 (record { config = refl; stripe = refl; origin = refl; opening = refl }) refl
 begins_on old new caller key op (begun.Joined join) h = same_on old new _ h.3 (record { config = refl; stripe = refl; origin = refl; opening = refl }) refl
 
 pub commits_on : (old new : State) (r : Reservation) (out : Out) (done : StepDone) → Commits old r out done new → Extends old new
@@ -72,6 +73,7 @@ begins_keeps old new caller key op (begun.Done done) q reached h there =
     (λ is. passing_keeps old.config op (entry_at old.cache key) (alone_passes old key op h.1 ((not_refused old caller key op h.0).free (ap (is_reserved old) (sym is) ∙ there))))
 begins_keeps old new caller key op (begun.Load ticket) q reached h there = ap (λ (s : State). entry_at s.cache q) h.4
 begins_keeps old new caller key op (begun.Write ticket) q reached h there = ap (λ (s : State). entry_at s.cache q) h.4
+begins_keeps old new caller key op (begun.Process ticket) q reached h there = ap (λ (s : State). entry_at s.cache q) h.4
 begins_keeps old new caller key op (begun.Joined join) q reached h there = ap (λ (s : State). entry_at s.cache q) h.3
 
 clash : (b : Bool) → b ≡ true → b ≡ false → ⊥

@@ -66,6 +66,7 @@ others_begun other old new caller key op (first.Refused refusal) differs h = ap 
 others_begun other old new caller key op (first.Done done) differs h = others_done other old new caller key op done differs h.2
 others_begun other old new caller key op (first.Load ticket) differs h = ap (λ (s : State). own_steps other s) h.4
 others_begun other old new caller key op (first.Write ticket) differs h = ap (λ (s : State). own_steps other s) h.4
+others_begun other old new caller key op (first.Process ticket) differs h = ap (λ (s : State). own_steps other s) h.4
 others_begun other old new caller key op (first.Joined join) differs h =
     ap (λ (s : State). own_steps other s) h.3
     ∙ own-parked other old.joiners (joining.with_joiner join.caller join.key join.load old.joiners) old.history (λ c k e. parked-joined join.caller join.load join.key old.joiners c k)
@@ -75,12 +76,13 @@ next_begun old new caller key op (first.Refused refusal) h = let n = ap (λ (s :
 next_begun old new caller key op (first.Done done) h = let n = ap (λ (s : State). s.next) h.2.after in omega arith
 next_begun old new caller key op (first.Load ticket) h = let n = ap (λ (s : State). s.next) h.4 in omega arith
 next_begun old new caller key op (first.Write ticket) h = let n = ap (λ (s : State). s.next) h.4 in omega arith
+next_begun old new caller key op (first.Process ticket) h = let n = ap (λ (s : State). s.next) h.4 in omega arith
 next_begun old new caller key op (first.Joined join) h = let n = ap (λ (s : State). s.next) h.3 in omega arith
 
 -- a first phase
 uniform_begun : (session : ℕ) (old new : State) → IsReached old → FirstPhase session old new → KeepsOthers session old new
 uniform_begun session old new reached b = record {
-  reached = reached_begins old new b.caller b.key b.op b.begun reached b.may b.phases b.begins;
+  reached = reached_begins old new b.caller b.key b.op b.begun reached b.may b.begins;
   grows = begins_on old new b.caller b.key b.op b.begun b.begins;
   next = next_begun old new b.caller b.key b.op b.begun b.begins;
   others = λ other differs. others_begun other old new b.caller b.key b.op b.begun (ap (λ n. other == n) b.own ∙ differs) b.begins;

@@ -24,7 +24,7 @@ use Rattle.jc_stripe.specs.declared.begun.Begun.{Begun}
 use Rattle.jc_stripe.specs.declared.begun.Begun.TheVariants as begun
 use Rattle.jc_stripe.specs.declared.begun.Picked.{Picked}
 use Rattle.jc_stripe.specs.declared.begun.Picked.TheVariants as picked
-use Rattle.jc_stripe.specs.Tickets.{Ticket, JoinClaim}
+use Rattle.jc_stripe.specs.Tickets.{Ticket, ProcessClaim, JoinClaim}
 use Rattle.jc_stripe.specs.State.{State, is_key, is_reserved, without_key}
 use Rattle.jc_stripe.specs.Phases.{MayBegin, Begins, PicksUp}
 use Rattle.jc_stripe.specs.Reached.{IsReached}
@@ -46,6 +46,7 @@ own_begun : OwnSteps → (old new : State) (caller : Caller) (key : Bytes) (op :
 own_begun law old new caller key op (begun.Done done) may h = gains caller.session old new _ _ (law.done old new caller key op done may h)
 own_begun law old new caller key op (begun.Load ticket) may h = inl (law.loads old new caller key op ticket h)
 own_begun law old new caller key op (begun.Write ticket) may h = inl (law.writes old new caller key op ticket h)
+own_begun law old new caller key op (begun.Process ticket) may h = inl (law.processes old new caller key op ticket h)
 own_begun law old new caller key op (begun.Joined join) may h = inl (law.joins old new caller key op join h)
 own_begun law old new caller key op (begun.Refused refusal) may h = inl (law.refused old new caller key op refusal h)
 
@@ -128,6 +129,8 @@ held_begun session old new caller key op (begun.Load ticket) own h =
     ap (λ (s : State). others_held session s.reservations) h.4 ∙ held_pushed session old.reservations ticket.reservation (ap (λ (t : Ticket). t.reservation.caller.session) h.3 ∙ own)
 held_begun session old new caller key op (begun.Write ticket) own h =
     ap (λ (s : State). others_held session s.reservations) h.4 ∙ held_pushed session old.reservations ticket.reservation (ap (λ (t : Ticket). t.reservation.caller.session) h.3 ∙ own)
+held_begun session old new caller key op (begun.Process ticket) own h =
+    ap (λ (s : State). others_held session s.reservations) h.4 ∙ held_pushed session old.reservations ticket.reservation (ap (λ (t : ProcessClaim). t.reservation.caller.session) h.3 ∙ own)
 held_begun session old new caller key op (begun.Joined join) own h = ap (λ (s : State). others_held session s.reservations) h.3
 held_begun session old new caller key op (begun.Refused refusal) own h = ap (λ (s : State). others_held session s.reservations) h.1
 
@@ -189,6 +192,7 @@ joins_begun : (session : ℕ) (old new : State) (caller : Caller) (key : Bytes) 
 joins_begun session old new caller key op (begun.Done done) own h = ap (λ (s : State). others_joined session s.joiners) h.2.after
 joins_begun session old new caller key op (begun.Load ticket) own h = ap (λ (s : State). others_joined session s.joiners) h.4
 joins_begun session old new caller key op (begun.Write ticket) own h = ap (λ (s : State). others_joined session s.joiners) h.4
+joins_begun session old new caller key op (begun.Process ticket) own h = ap (λ (s : State). others_joined session s.joiners) h.4
 joins_begun session old new caller key op (begun.Joined join) own h =
     ap (λ (s : State). others_joined session s.joiners) h.3 ∙ joined_pushed session join.caller join.key join.load old.joiners (ap (λ (j : JoinClaim). j.caller.session) h.2 ∙ own)
 joins_begun session old new caller key op (begun.Refused refusal) own h = ap (λ (s : State). others_joined session s.joiners) h.1

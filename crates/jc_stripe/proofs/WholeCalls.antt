@@ -28,7 +28,7 @@ use Rattle.jc_stripe.specs.declared.ticket.First.{First}
 use Rattle.jc_stripe.specs.declared.ticket.First.TheVariants.{Nobody, Loader, Writer, Processor}
 use Rattle.jc_stripe.specs.declared.ticket.Reservation.{Reservation}
 use Rattle.jc_stripe.specs.declared.begun.StepDone.{StepDone}
-use Rattle.jc_stripe.specs.Tickets.{Ticket, asks_writer}
+use Rattle.jc_stripe.specs.Tickets.{Ticket, ProcessClaim, asks_writer}
 use Rattle.jc_stripe.specs.State.{State, is_key, is_reserved, reservation_of, new_reservation, with_reservation, without_key}
 use Rattle.jc_stripe.specs.Refusals.{first_by, first_asked, reserves, load_at, may_join, load_joined, needs_reservation}
 use Rattle.jc_stripe.specs.Phases.{is_other_call, is_other_join, new_group, after_commit, Steps, Commits}
@@ -36,7 +36,7 @@ use Rattle.jc_stripe.specs.Reached.{IsReached, JoinFits, AllJoin}
 use Rattle.jc_stripe.specs.OwnSteps.{is_before_call, HasNoCallFrom, CallerNumbers, WholeCall, JoinsOnlyLoads}
 use Rattle.jc_stripe.proofs.Numbering.{found_holds}
 use Rattle.jc_stripe.proofs.Joining.{loaded_at}
-use Rattle.jc_stripe.proofs.Refusing.{was_free}
+use Rattle.jc_stripe.proofs.Refusing.{was_free, processor_needs}
 use Rattle.jc_stripe.proofs.Settled.{waiting_finds}
 use Rattle.jc_stripe.proofs.OwnPick.{all_behind}
 use Rattle.jc_stripe.proofs.Beside.{or_left}
@@ -140,7 +140,7 @@ writer_reserves : (first : First) → asks_writer first ≡ true → reserves fi
 writer_reserves Nobody h = cc
 writer_reserves Loader h = refl
 writer_reserves (Writer change) h = refl
-writer_reserves Processor h = refl
+writer_reserves (Processor seen loads) h = refl
 
 pub whole_call : WholeCall
 whole_call = record {
@@ -153,6 +153,9 @@ whole_call = record {
       ap (λ b. cond (b && old.config.read_through && is_none (entry_at old.cache key)) (load_at (reservation_of old key)) None) (writers_join_not old.config op (entry_at old.cache key) writer) in
       let asks : needs_reservation old key op ≡ true = λ i. writer_reserves (first_asked old.config op (entry_at old.cache key)) writer i && is_none (alone i) in
       one_step old mid new caller key op ticket.reservation.first ticket.reservation out done reached (was_free old caller key op begins.0 asks) (ap (λ (t : Ticket). t.reservation) begins.3) begins.4 commits;
+  processes = λ old mid new caller key op ticket out done reached begins commits.
+      let asks = processor_needs old key op ticket.reservation.first begins.2 begins.1 in
+      one_step old mid new caller key op ticket.reservation.first ticket.reservation out done reached (was_free old caller key op begins.0 asks) (ap (λ (t : ProcessClaim). t.reservation) begins.3) begins.4 commits;
 }
 
 pub joins_loads : JoinsOnlyLoads
@@ -227,4 +230,6 @@ caller_numbers =
           numbers_step (record old { next = old.next + 1 }) new caller key op out done (whole.loads old mid new caller key op ticket out done reached begins commits) (record { steps = h.steps; reservations = h.reservations; joins = h.joins });
       written = λ old mid new caller key op ticket out done reached h begins commits.
           numbers_step (record old { next = old.next + 1 }) new caller key op out done (whole.writes old mid new caller key op ticket out done reached begins commits) (record { steps = h.steps; reservations = h.reservations; joins = h.joins });
+      processed = λ old mid new caller key op ticket out done reached h begins commits.
+          numbers_step (record old { next = old.next + 1 }) new caller key op out done (whole.processes old mid new caller key op ticket out done reached begins commits) (record { steps = h.steps; reservations = h.reservations; joins = h.joins });
     }

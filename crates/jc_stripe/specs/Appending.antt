@@ -9,7 +9,11 @@
 --     append_all          the past with more events, in reserved room
 --     append_group        the same, and what of the reserved room isn't used is given back
 --     eviction_of         the eviction of the step's own key, at the last place of its group, if it was evicted
---     AnswersFirst        the outside answers are the answer of the one whom a reservation asked first
+--     is_write_due        the writer is due after a processor: write-through is on, neither loader nor processor failed, and there is a
+--                         net effect on the store
+--     AnswersProcess      the outside answers are those of a processor: its own, its loader's only if that may be asked, and the writer's
+--                         exactly if it is due
+--     AnswersFirst        the outside answers are those of whom a reservation asked first, and of the writer after a processor
 --     HasToldStep         the step of a joiner that was answered is at the place that it is told
 --     after_pick_up       the state once a joiner was told how far it is: without it if its load is over
 --     without_own_entry   the entries without the step's own key, if that is evicted
@@ -18,6 +22,7 @@
 use Rattle.std.specs.Prelude.{◌≡◌, ◌==◌, ℕ, ◌+◌, ◌-◌, List, [], ◌∷◌, ◌++◌, length, map, Bool, true, ◌&&◌, Option, None, Some, is_some, is_none, option_map, if◌then◌else◌}
 use Rattle.std.specs.FinMap as finite
 use Rattle.jc_types.specs.declared.caller.Caller.{Caller}
+use Rattle.jc_types.specs.declared.config.Config.{Config}
 use Rattle.jc_model.specs.declared.event.Op.{Op}
 use Rattle.jc_model.specs.declared.event.Out.{Out}
 use Rattle.jc_model.specs.declared.event.Cause.{Cause}
@@ -27,7 +32,7 @@ use Rattle.jc_model.specs.declared.event.Reply.{Reply}
 use Rattle.jc_model.specs.Cache.{Bytes, key_cmp}
 use Rattle.jc_model.specs.declared.event.LoadAnswer.{LoadAnswer}
 use Rattle.jc_model.specs.declared.event.WriteAnswer.{WriteAnswer}
-use Rattle.jc_model.specs.Table.{entry_after, is_load_given, is_write_given}
+use Rattle.jc_model.specs.Table.{entry_after, is_load_given, is_write_given, is_process_given, load_fits, wanted_if, early_fault, process_ask}
 use Rattle.jc_model.specs.Group.{victim_events, shared_event, evicted_events, load_only, write_only}
 use Rattle.jc_model.specs.Listed.{others}
 use Rattle.jc_entries.specs.ByUse.{ByUse, lru_victim, after_eviction}
@@ -89,12 +94,20 @@ append_group events kept past = record past { events = past.events ++ events; pr
 abbrev pub eviction_of : ℕ → NewGroup → List Caller → Option Eviction
 eviction_of place new callers = option_map (λ cause. record { cause = cause; place = place + (length (group_events place new callers) - 1) }) new.evicted
 
+abbrev pub is_write_due : Config → Out → Bool
+is_write_due config out = config.write_through && is_none (early_fault out) && is_some (process_ask out.process)
+
+pub record AnswersProcess (config : Config) (loads : Bool) (out : Out) : Type 0 where
+  pub process : is_process_given out.process ≡ true
+  pub load : load_fits (wanted_if loads) (is_load_given out.load) ≡ true
+  pub write : is_write_given out.write ≡ is_write_due config out
+
 -- the outside answers are those of the one whom a reservation asked first
-abbrev pub AnswersFirst : First → Out → Type 0
-AnswersFirst Nobody out = ⊥
-AnswersFirst Loader out = (answer : LoadAnswer) × (out ≡ load_only answer) × (is_load_given answer ≡ true)
-AnswersFirst (Writer change) out = (answer : WriteAnswer) × (out ≡ write_only answer) × (is_write_given answer ≡ true)
-AnswersFirst Processor out = ⊥
+abbrev pub AnswersFirst : Config → First → Out → Type 0
+AnswersFirst config Nobody out = ⊥
+AnswersFirst config Loader out = (answer : LoadAnswer) × (out ≡ load_only answer) × (is_load_given answer ≡ true)
+AnswersFirst config (Writer change) out = (answer : WriteAnswer) × (out ≡ write_only answer) × (is_write_given answer ≡ true)
+AnswersFirst config (Processor entry loads) out = AnswersProcess config loads out
 
 -- the step of a joiner that was answered is at the place that it is told
 abbrev pub HasToldStep : State → JoinClaim → JoinState → Type 0

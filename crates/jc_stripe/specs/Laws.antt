@@ -24,12 +24,12 @@ use Rattle.jc_stripe.specs.declared.begun.StepDone.{StepDone}
 use Rattle.jc_stripe.specs.declared.begun.Picked.{Picked}
 use Rattle.jc_stripe.specs.Tickets.{JoinClaim}
 use Rattle.jc_stripe.specs.State.{State, is_reserved, without_reservation}
-use Rattle.jc_stripe.specs.Refusals.{first_refusal, has_phases, answers_at_once, needs_reservation}
+use Rattle.jc_stripe.specs.Refusals.{first_refusal, answers_at_once, needs_reservation}
 use Rattle.jc_stripe.specs.Phases.{MayBegin, Begins, Commits, Withdraws, PicksUp}
 use Rattle.jc_stripe.specs.Reached.{IsReached}
 
 pub record StaysReached : Type 0 where
-  pub begins : (old new : State) (caller : Caller) (key : Bytes) (op : Op) (b : Begun) → IsReached old → MayBegin old caller key → has_phases op ≡ true → Begins old caller key op b new → IsReached new
+  pub begins : (old new : State) (caller : Caller) (key : Bytes) (op : Op) (b : Begun) → IsReached old → MayBegin old caller key → Begins old caller key op b new → IsReached new
   pub commits : (old new : State) (r : Reservation) (out : Out) (done : StepDone) → IsReached old → Commits old r out done new → IsReached new
   pub withdraws : (old new : State) (r : Reservation) → IsReached old → Withdraws old r new → IsReached new
   pub picks_up : (old new : State) (join : JoinClaim) (p : Picked) → IsReached old → PicksUp old join p new → IsReached new

@@ -4,6 +4,7 @@ pub mod OrderOfUse
 pub mod Refusals
 pub mod Finding
 pub mod Phases
+pub mod Effects
 pub mod Reached
 pub mod Appending
 pub mod Inside
@@ -11,3 +12,4 @@ pub mod Laws
 pub mod OnePhase
 pub mod OwnSteps
 pub mod Tests
+pub mod Keys

@@ -33,7 +33,6 @@ use Rattle.jc_stripe.specs.declared.begun.StepDone.{StepDone}
 use Rattle.jc_stripe.specs.declared.begun.Picked.{Picked}
 use Rattle.jc_stripe.specs.Tickets.{JoinClaim}
 use Rattle.jc_stripe.specs.State.{State, is_reserved}
-use Rattle.jc_stripe.specs.Refusals.{has_phases}
 use Rattle.jc_stripe.specs.Phases.{MayBegin, Begins, Commits, Withdraws, PicksUp}
 use Rattle.jc_stripe.specs.Reached.{IsReached}
 use Rattle.jc_stripe.specs.Laws.{Extends}
@@ -46,7 +45,6 @@ pub record FirstPhase (session : ℕ) (old new : State) : Type 0 where
   pub op : Op
   pub begun : Begun
   pub own : caller.session ≡ session
-  pub phases : has_phases op ≡ true
   pub may : MayBegin old caller key
   pub begins : Begins old caller key op begun new
 

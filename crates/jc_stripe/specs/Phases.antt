@@ -53,7 +53,7 @@ use Rattle.jc_stripe.specs.declared.begun.Begun.{Begun}
 use Rattle.jc_stripe.specs.declared.begun.Begun.TheVariants as begun
 use Rattle.jc_stripe.specs.declared.begun.Picked.{Picked}
 use Rattle.jc_stripe.specs.declared.begun.Picked.TheVariants as picked
-use Rattle.jc_stripe.specs.Tickets.{JoinClaim, asks_writer}
+use Rattle.jc_stripe.specs.Tickets.{JoinClaim, asks_writer, asks_processor}
 use Rattle.jc_stripe.specs.State.{State, is_of, new_reservation, with_reservation, without_reservation, IsOut, IsJoined}
 use Rattle.jc_stripe.specs.Refusals.{first_refusal, first_asked, load_joined}
 use Rattle.jc_stripe.specs.OrderOfUse.{least_used}
@@ -141,6 +141,11 @@ Begins old caller key op (begun.Write ticket) new =
     (first_refusal old caller key op ≡ None) × (first_asked old.config op (entry_at old.cache key) ≡ ticket.reservation.first)
     × (asks_writer ticket.reservation.first ≡ true)
     × (ticket ≡ record { reservation = new_reservation old caller key op ticket.reservation.first; asked = false }) × (new ≡ with_reservation old ticket.reservation)
+Begins old caller key op (begun.Process ticket) new =
+    (first_refusal old caller key op ≡ None) × (first_asked old.config op (entry_at old.cache key) ≡ ticket.reservation.first)
+    × (asks_processor ticket.reservation.first ≡ true)
+    × (ticket ≡ record { reservation = new_reservation old caller key op ticket.reservation.first; asked = false; written = false })
+    × (new ≡ with_reservation old ticket.reservation)
 Begins old caller key op (begun.Joined join) new =
     (first_refusal old caller key op ≡ None) × (load_joined old key op ≡ Some join.load) × (join ≡ record { caller = caller; key = key; load = join.load })
     × (new ≡ with_joiner old join)

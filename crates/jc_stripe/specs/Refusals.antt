@@ -1,9 +1,10 @@
 -- Whom a first phase asks, and when it is refused.
 --     writer_for         the writer, for a change that is asked for
 --     first_by           whom a call asks first that runs no processor: the loader, if the loader table says so, and else the writer
---     first_asked        whom a call asks first, by the loader table and the writer table
+--     is_wanted          the loader table leaves it to the processor whether its key is loaded
+--     first_asked        whom a call asks first: an `Invoke` its processor, about the entry that it finds, and every other call by the
+--                        loader table and the writer table
 --     reserves           a call that asks this one first has to reserve its key: somebody is asked
---     has_phases         an operation has phases here: each but `Invoke`
 --     answers_at_once    a call that a reservation of its key does not stop: it answers from the cached entry
 --     load_of            the number of a reservation, if it asked the loader
 --     load_at            the same of a reservation that may not be there
@@ -43,22 +44,24 @@ writer_for (Some change) = Writer change
 abbrev pub first_by : LoaderAsk → Option Change → First
 first_by Never change = writer_for change
 first_by Always change = Loader
-first_by IfWanted change = Processor
+first_by IfWanted change = Processor None true  -- wanted only if the entry is missing
+
+-- the processor has its key loaded if it wants it
+abbrev pub is_wanted : LoaderAsk → Bool
+is_wanted Never = false
+is_wanted Always = false
+is_wanted IfWanted = true
 
 abbrev pub first_asked : Config → Op → Option Bytes → First
 first_asked config op entry =
-    if is_invoke op then Processor
+    if is_invoke op then Processor entry (is_wanted (loader_ask config.read_through op entry))
     else first_by (loader_ask config.read_through op entry) (if config.write_through then write_ask op entry process.NotAsked else None)
 
 abbrev pub reserves : First → Bool
 reserves Nobody = false
 reserves Loader = true
 reserves (Writer change) = true
-reserves Processor = true
-
--- an entry processor has no phases here yet
-abbrev pub has_phases : Op → Bool
-has_phases op = not (is_invoke op)
+reserves (Processor entry loads) = true
 
 -- 2. What a call needs.
 
@@ -83,7 +86,7 @@ abbrev pub load_of : First → ℕ → Option ℕ
 load_of Nobody number = None
 load_of Loader number = Some number
 load_of (Writer change) number = None
-load_of Processor number = None
+load_of (Processor entry loads) number = None
 
 abbrev pub load_at : Option Reservation → Option ℕ
 load_at None = None

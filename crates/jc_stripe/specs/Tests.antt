@@ -2,7 +2,7 @@
 --     is_clear         the part of the condition on a first phase that looks at no event: the key is of this stripe, and no reservation
 --                      and no joiner of the session is of another call or of this key
 --     may_begin        the whole condition on a first phase
---     asks_outside     a call asks the loader or the writer, or joins a load, unless it is refused
+--     asks_outside     a call asks the loader, the writer or the processor, or joins a load, unless it is refused
 use Rattle.std.specs.Prelude.{Bool, ◌&&◌}
 use Rattle.std.specs.List.{list_all}
 use Rattle.jc_types.specs.declared.caller.Caller.{Caller}

@@ -1,9 +1,15 @@
 -- What tickets and joins are, as data.
---     Ticket        the ticket of a reservation: the whole reservation, and whether its loader or writer was asked
---     asks_loader   the one whom a reservation asks first is the loader
---     asks_writer   the one whom a reservation asks first is the writer
---     change_asked  the change of the store that the writer is asked for, if it is the writer who is asked
---     JoinClaim     a call that has joined the load of its key
+--     Ticket            the ticket of a reservation: the whole reservation, and whether its loader or writer was asked
+--     ProcessClaim      the ticket of a reservation that asks the processor: the whole reservation, whether the processor was asked, and
+--                       whether the writer was asked after it
+--     EffectClaim       what the writer is asked for after a processor: the whole reservation, and the change of the store
+--     asks_loader       the one whom a reservation asks first is the loader
+--     asks_writer       the one whom a reservation asks first is the writer
+--     asks_processor    the one whom a reservation asks first is the processor
+--     change_asked      the change of the store that the writer is asked for, if it is the writer who is asked first
+--     entry_seen        the entry that a processor is asked about, if it is the processor who is asked first
+--     is_loadable       it is the processor who is asked first, and its key may be loaded for it
+--     JoinClaim         a call that has joined the load of its key
 use Rattle.std.specs.Prelude.{ℕ, Bool, true, false, Option, None, Some}
 use Rattle.jc_types.specs.declared.caller.Caller.{Caller}
 use Rattle.jc_model.specs.Cache.{Bytes}
@@ -16,23 +22,50 @@ pub record Ticket : Type 0 where
   pub reservation : Reservation
   pub asked : Bool
 
+pub record ProcessClaim : Type 0 where
+  pub reservation : Reservation
+  pub asked : Bool  -- the processor
+  pub written : Bool  -- the writer was asked
+
+pub record EffectClaim : Type 0 where
+  pub reservation : Reservation
+  pub change : Change
+
 abbrev pub asks_loader : First → Bool
 asks_loader Nobody = false
 asks_loader Loader = true
 asks_loader (Writer change) = false
-asks_loader Processor = false
+asks_loader (Processor entry loads) = false
 
 abbrev pub asks_writer : First → Bool
 asks_writer Nobody = false
 asks_writer Loader = false
 asks_writer (Writer change) = true
-asks_writer Processor = false
+asks_writer (Processor entry loads) = false
+
+abbrev pub asks_processor : First → Bool
+asks_processor Nobody = false
+asks_processor Loader = false
+asks_processor (Writer change) = false
+asks_processor (Processor entry loads) = true
 
 abbrev pub change_asked : First → Option Change
 change_asked Nobody = None
 change_asked Loader = None
 change_asked (Writer change) = Some change
-change_asked Processor = None
+change_asked (Processor entry loads) = None
+
+abbrev pub entry_seen : First → Option Bytes
+entry_seen Nobody = None
+entry_seen Loader = None
+entry_seen (Writer change) = None
+entry_seen (Processor entry loads) = entry
+
+abbrev pub is_loadable : First → Bool
+is_loadable Nobody = false
+is_loadable Loader = false
+is_loadable (Writer change) = false
+is_loadable (Processor entry loads) = loads
 
 -- `load` is the number of the reservation whose load it joined
 pub record JoinClaim : Type 0 where

@@ -4,13 +4,15 @@ ghost use Rattle.std.specs.FinMap as finite;
 ghost use Rattle.jc_model.specs.Cache.{key_cmp};
 ghost use Rattle.jc_model.specs.Table.{reply_after, holds};
 ghost use Rattle.jc_model.specs.Group.{victim_events, shared_event, evicted_events};
-ghost use Rattle.jc_model.specs.declared.event.Event.TheVariants.{Step};
+ghost use Rattle.jc_model.specs.declared.event.Event.TheVariants.{Step, Evict};
+ghost use Rattle.jc_history.specs.Past.{push};
+ghost use Rattle.jc_inflight.specs.Joining.{callers_of};
 ghost use Rattle.jc_stripe.specs.OrderOfUse.{uses};
 ghost use Rattle.jc_stripe.specs.Appending.{AppliesStep, group_events, callers_in, append_all, append_group, eviction_of};
 
 use crate::begun::{Eviction, StepDone};
 use jc_entries::{Entries, Inserted};
-use jc_history::History;
+use jc_history::{History, LentStep};
 use jc_inflight::Joiners;
 use jc_model::{Cause, Event, LoadAnswer, Op, Out, Reply};
 use jc_types::{Caller, Key, Value};
@@ -159,6 +161,16 @@ pub(crate) fn touching_step<'a>(
     }
 }
 
+/// Appends an eviction. It is a function of its own, as the other that builds an event is: most steps come without, and needn't clear
+/// the room of an event.
+#[inline(never)]
+fn append_eviction(history: &mut History, key: &Key, cause: Cause)
+    requires { 0 < history.old.promised }
+    ensures { history.new ≡ push (Evict key.now cause) history.old }
+{
+    history.push(&Event::Evict { key: *key, cause });
+}
+
 /// Appends who goes before a step, and the step. It answers the place of the step.
 fn append_step(history: &mut History, group: &NewGroup) -> u32
     requires few { length history.old.events + 1 < 2 ^ 32 }
@@ -166,18 +178,17 @@ fn append_step(history: &mut History, group: &NewGroup) -> u32
     ensures place { result ≡ length history.old.events + length (victim_events group.now.victim) }
     ensures history { history.new ≡ append_all (victim_events group.now.victim ++ Step group.now.caller group.now.op group.now.key group.now.out None group.now.reply ∷ []) history.old }
 {
-    if let Some(victim) = group.victim {
-        let cause = Cause::Full;
-        history.push(&Event::Evict { key: victim, cause });
+    if let Some(victim) = &group.victim {
+        append_eviction(history, victim, Cause::Full);
     }
     let place = history.len() as u32;
-    history.push(&Event::Step {
-        caller: group.caller,
-        op: *group.op,
-        key: *group.key,
-        out: *group.out,
-        shared_with: None,
-        reply: group.reply,
+    history.push_step(&LentStep {
+        caller: &group.caller,
+        op: group.op,
+        key: group.key,
+        out: group.out,
+        shared_with: &None,
+        reply: &group.reply,
     });
     place
 }
@@ -200,19 +211,11 @@ fn shared_event(place: u32, key: &Key, answer: LoadAnswer, caller: Caller) -> Ev
 }
 
 /// Appends the shared step of each joiner that waits for a load, in the order of joining.
-fn append_shared(
-    history: &mut History,
-    joiners: &Joiners,
-    load: Option<u64>,
-    place: u32,
-    group: &NewGroup,
-)
-    requires places { length (callers_in load joiners.now) ≤ history.old.promised }
-    ensures history { history.new ≡ append_all (map (shared_event place group.now.key group.now.out.load) (callers_in load joiners.now)) history.old }
+#[inline(never)]
+fn append_shared(history: &mut History, joiners: &Joiners, load: u64, place: u32, group: &NewGroup)
+    requires places { length (callers_of load joiners.now) ≤ history.old.promised }
+    ensures history { history.new ≡ append_all (map (shared_event place group.now.key group.now.out.load) (callers_of load joiners.now)) history.old }
 {
-    let Some(load) = load else {
-        return;
-    };
     for joiner in joiners.list() {
         if joiner.waits_for(load) {
             history.push(&shared_event(place, group.key, group.out.load, joiner.caller));
@@ -230,10 +233,7 @@ fn append_evicted(history: &mut History, group: &NewGroup) -> Option<Eviction>
     match group.evicted {
         Some(cause) => {
             let place = history.len() as u32;
-            history.push(&Event::Evict {
-                key: *group.key,
-                cause,
-            });
+            append_eviction(history, group.key, cause);
             Some(Eviction { cause, place })
         }
         None => None,
@@ -259,7 +259,9 @@ pub(crate) fn append_group(
 {
     let before = history.len();
     let place = append_step(history, group);
-    append_shared(history, joiners, load, place, group);
+    if let Some(load) = load {
+        append_shared(history, joiners, load, place, group);
+    }
     let evicted = append_evicted(history, group);
     history.unpromise(kept - (history.len() - before));
     StepDone {

@@ -1,5 +1,5 @@
-//! One stripe of a cache: a pure machine of phases. A first phase decides and perhaps reserves its key; then the loader or
-//! the writer is asked, while the stripe is free for others; a last phase appends the step. A `get` of a key that is being
+//! One stripe of a cache: a pure machine of phases. A first phase decides and perhaps reserves its key; then the loader, the
+//! writer or the processor is asked, while the stripe is free for others; a last phase appends the step. A `get` of a key that is being
 //! loaded joins that load, and later picks up its answer.
 #![tactic(auto)]
 
@@ -11,6 +11,10 @@ mod stripe;
 mod ticket;
 
 pub use begun::{Begun, Eviction, Picked, StepDone};
+pub use jc_mutentry::{AskProcess, ProcDone};
 pub use jc_outside::{LoadDone, Origin, WriteDone, played_load, played_write};
 pub use stripe::Stripe;
-pub use ticket::{First, Join, LoadAsk, LoadTicket, Receipt, Reservation, WriteAsk, WriteTicket};
+pub use ticket::{
+    EffectAsk, First, Join, LoadAsk, LoadTicket, ProcessAsk, ProcessTicket, Receipt, Reservation,
+    WriteAsk, WriteTicket,
+};

@@ -2,7 +2,7 @@
 ghost use Rattle.std.specs.Prelude.{◌≡◌, ◌&&◌, Option, if◌then◌else◌};
 ghost use Rattle.jc_model.specs.declared.event.ProcessAnswer.TheVariants.{NotAsked};
 ghost use Rattle.jc_model.specs.Table.{write_ask};
-ghost use Rattle.jc_stripe.specs.Refusals.{answers_at_once, may_join, places_needed, first_asked, writer_for, load_of};
+ghost use Rattle.jc_stripe.specs.Refusals.{answers_at_once, may_join, places_needed, first_asked, is_wanted, writer_for, load_of};
 ghost use Rattle.jc_stripe.specs.Finding.{is_to_reserve};
 
 use crate::ticket::First;
@@ -69,7 +69,7 @@ pub(crate) fn load_of(first: &First, number: u64) -> Option<u64>
 {
     match first {
         First::Loader => Some(number),
-        First::Nobody | First::Writer(_) | First::Processor => None,
+        First::Nobody | First::Writer(_) | First::Processor { .. } => None,
     }
 }
 
@@ -94,17 +94,34 @@ fn change_for(config: &Config, op: &Op, entry: &Option<Value>) -> Option<Change>
     }
 }
 
+/// Whether the loader table leaves it to the processor to have its key loaded.
+fn is_wanted(ask: &LoaderAsk) -> bool
+    ensures { result ≡ is_wanted ask.now }
+{
+    match ask {
+        LoaderAsk::Never | LoaderAsk::Always => false,
+        LoaderAsk::IfWanted => true,
+    }
+}
+
 /// Whom a call asks first.
 pub(crate) fn first_asked(config: &Config, op: &Op, entry: &Option<Value>) -> First
     ensures { result ≡ first_asked config.now op.now entry.now }
 {
+    let ask = op.loader_ask(config.read_through, entry);
     if op.is_invoke() {
-        return First::Processor;
+        return First::Processor {
+            entry: *entry,
+            may_load: is_wanted(&ask),
+        };
     }
-    match op.loader_ask(config.read_through, entry) {
+    match ask {
         LoaderAsk::Never => writer_for(change_for(config, op, entry)),
         LoaderAsk::Always => First::Loader,
-        LoaderAsk::IfWanted => First::Processor,
+        LoaderAsk::IfWanted => First::Processor {
+            entry: None,
+            may_load: true,
+        },
     }
 }
 

@@ -1,37 +1,58 @@
 //! A stripe and its phases.
-ghost use Rattle.std.specs.Prelude.{◌≡◌, ◌≤◌, ◌<◌, ◌+◌, ◌++◌, ◌↔◌, [], true, false, IsTrue, IfOk, IsOk, OnOk, OnErr, Ok, None, Some, length, nat_le, slice_get, slice_range, vec_len, vec_capacity};
+ghost use Rattle.std.specs.Prelude.{◌≡◌, ◌≤◌, ◌<◌, ◌+◌, ◌++◌, ◌↔◌, [], true, false, IsTrue, IfOk, IsOk, OnOk, OnErr, Ok, None, Some, is_some, length, nat_le, slice_get, slice_range, vec_len, vec_capacity};
 ghost use Rattle.std.specs.FinMap as map;
 ghost use Rattle.jc_types.specs.Limits.{check};
 ghost use Rattle.jc_model.specs.declared.event.Op.{Op};
 ghost use Rattle.jc_model.specs.Cache.{Bytes, entry_at};
 ghost use Rattle.jc_model.specs.Listed.{has_distinct_keys};
+ghost use Rattle.jc_model.specs.Table.{is_write_given};
 ghost use Rattle.jc_model.specs.Group.{load_only, write_only};
 ghost use Rattle.jc_model.specs.Legal.{Legal};
 ghost use Rattle.jc_stripe.specs.Tickets.{JoinClaim};
 ghost use Rattle.jc_types.specs.declared.limits.TheConstants.{RESERVATIONS_MAX, JOINERS_MAX};
 ghost use Rattle.jc_stripe.specs.State.{IsOut, IsJoined, IsIdle};
 ghost use Rattle.jc_stripe.specs.OrderOfUse.{by_use};
-ghost use Rattle.jc_stripe.specs.Refusals.{has_phases};
 ghost use Rattle.jc_stripe.specs.Appending.{AnswersFirst, HasToldStep, after_pick_up};
 ghost use Rattle.jc_stripe.specs.Phases.{MayBegin, Begins, Commits, Withdraws, PicksUp, told_to};
+ghost use Rattle.jc_stripe.specs.Effects.{HasReport, change_due, write_answer, process_out};
 ghost use Rattle.jc_stripe.specs.OnePhase.{IsPhaseOf};
 
 mod beginning;
 mod finding;
+mod looking;
 mod testing;
 
 use crate::appending::{append_group, make_step};
 use crate::begun::{Begun, Picked, StepDone};
-use crate::ticket::{Join, LoadAsk, LoadTicket, Note, Reservation, WriteAsk, WriteTicket};
+use crate::ticket::{
+    EffectAsk, Join, LoadAsk, LoadTicket, Note, ProcessAsk, ProcessTicket, Reservation, WriteAsk,
+    WriteTicket,
+};
 use jc_entries::Entries;
 use jc_history::History;
 use jc_inflight::{JoinState, Joiners};
-use jc_model::{Change, Event, Op, Out};
+use jc_model::{Change, Event, Op, Out, WriteAnswer};
+use jc_mutentry::ProcDone;
 use jc_outside::{LoadDone, Origin, WriteDone};
 use jc_reserve::Reservations;
 use jc_types::{Caller, Config, Key, STEP_PLACES, Value};
 use std::alloc::{AllocError, Global};
 use std::marker::Model;
+
+/// What the writer answered, if it was asked. The report is spent.
+fn write_answer(report: Option<WriteDone<EffectAsk>>) -> WriteAnswer
+    ensures answer { result ≡ write_answer report }
+    ensures given { is_write_given result ≡ is_some report }
+{
+    match report {
+        Some(done) => {
+            let (receipt, answer) = done.into_parts();
+            receipt.spend();
+            answer
+        }
+        None => WriteAnswer::NotAsked,
+    }
+}
 
 /// One stripe of a cache: what is cached, the keys that calls have reserved, who has joined a load, and the history.
 ///
@@ -106,12 +127,10 @@ impl Stripe {
     /// that finds the entry or doesn't read through, answer from the entry even while another call has the key reserved (JSR
     /// 107, "Default Consistency").
     ///
-    /// Conditions: the operation isn't `Invoke`, which has no phases here. The key is of this stripe, by `stripe_of`. The call's
-    /// number is at least that of every step of its session in this history. The session has no reservation and no join out here
+    /// Conditions: the key is of this stripe, by `stripe_of`. The call's number is at least that of every step of its session in this history. The session has no reservation and no join out here
     /// under another number; a join counts until it is picked up. And there is no step, no reservation and no join here of this
     /// call at this key.
     pub fn begin(&mut self, caller: Caller, key: &Key, op: &Op) -> Begun
-        requires op { IsTrue (has_phases op.now) }
         requires begins { MayBegin self.old caller key.now }
         ensures begins { Begins self.old caller key.now op.now result self.new }
         ensures phase { IsPhaseOf caller.session self.old self.new }
@@ -155,6 +174,38 @@ impl Stripe {
         self.commit(&ticket.spend(), &Out::write_only(answer))
     }
 
+    /// The last phase of a call whose processor ran: its reservation ends, and its step is appended with what the loader, the
+    /// processor and the writer answered. The processor's net effect becomes the entry; without one a loaded value is kept. A
+    /// failed load, processor or write leaves the entry as it was, also a missing one whose key was loaded, and the first of these
+    /// faults is the step's reply (JSR 107, "Entry Processors").
+    ///
+    /// Conditions: the ticket's reservation is out here: it is this stripe's of its key. `done` was made of this ticket's ask. With
+    /// write-through on, and if `done` has a change to ask for, `report` is there and was made of this ticket's ask of the writer
+    /// for that change; else it isn't. Both have this stripe's origin.
+    pub fn commit_process(
+        &mut self,
+        ticket: ProcessTicket,
+        done: ProcDone<ProcessAsk>,
+        report: Option<WriteDone<EffectAsk>>,
+    ) -> StepDone
+        requires out { IsOut self.old ticket.reservation }
+        requires claim { done.ask ≡ ticket.reservation }
+        requires origin { done.origin ≡ self.old.origin }
+        requires report { HasReport self.old.origin ticket.reservation (change_due self.old.config done) report }
+        ensures commits { Commits self.old ticket.reservation (process_out done report) result self.new }
+        ensures phase { IsPhaseOf ticket.reservation.caller.session self.old self.new }
+    {
+        let write = write_answer(report);
+        let (receipt, load, process) = done.into_parts();
+        receipt.spend();
+        let out = Out {
+            load,
+            write,
+            process,
+        };
+        self.commit(&ticket.spend(), &out)
+    }
+
     /// Gives a loader's ticket back that was not asked: nothing is appended, and the entry stays. Each call that has joined the
     /// load and waits is told to retry.
     ///
@@ -173,6 +224,18 @@ impl Stripe {
     /// Conditions: the ticket's reservation is out here: it is this stripe's of its key. The ticket has not asked the writer, so
     /// the store is as it was.
     pub fn withdraw_write(&mut self, ticket: WriteTicket)
+        requires out { IsOut self.old ticket.reservation }
+        requires unasked { ticket.asked ≡ false }
+        ensures withdraws { Withdraws self.old ticket.reservation self.new }
+        ensures phase { IsPhaseOf ticket.reservation.caller.session self.old self.new }
+    {
+        self.give_back(&ticket.spend());
+    }
+
+    /// Gives a processor's ticket back that was not asked: nothing is appended, and the entry stays.
+    ///
+    /// Conditions: the ticket's reservation is out here: it is this stripe's of its key. The ticket has not asked the processor.
+    pub fn withdraw_process(&mut self, ticket: ProcessTicket)
         requires out { IsOut self.old ticket.reservation }
         requires unasked { ticket.asked ≡ false }
         ensures withdraws { Withdraws self.old ticket.reservation self.new }
@@ -270,7 +333,7 @@ impl Stripe {
     /// Ends a reservation, and appends its step and those of its joiners.
     fn commit(&mut self, reservation: &Reservation, out: &Out) -> StepDone
         requires out { IsOut self.old reservation.now }
-        requires answers { AnswersFirst reservation.now.first out.now }
+        requires answers { AnswersFirst self.old.config reservation.now.first out.now }
         ensures { Commits self.old reservation.now out.now result self.new }
     {
         let _types: Option<Change> = None;

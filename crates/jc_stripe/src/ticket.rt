@@ -1,17 +1,21 @@
 //! Reservations, the tickets that stand for them, and what is asked outside for them.
 //!
 //! A ticket is the caller's part of a reservation. It can't be dropped or copied: one commit or one withdrawal spends
-//! it. It asks the loader or the writer at most once, by an ask that can't be copied either; a done value of
-//! `jc_outside` is made of that ask and says what was answered, and the commit spends both. A join stands for a call that
-//! shares another call's load; picking up its answer spends it.
+//! it. It asks the loader, the writer or the processor at most once, by an ask that can't be copied either; a done value of
+//! `jc_outside` or `jc_mutentry` is made of that ask and says what was answered, and the commit spends both. A processor's ticket
+//! may ask the writer after it, once. A join stands for a call that shares another call's load; picking up its answer spends it.
 ghost use Rattle.std.specs.Prelude.{◌≡◌, true, false};
 ghost use Rattle.jc_stripe.specs.declared.ticket.First.TheVariants.{Nobody};
-ghost use Rattle.jc_stripe.specs.Tickets.{asks_loader, asks_writer};
+ghost use Rattle.jc_stripe.specs.Tickets.{asks_loader, asks_writer, asks_processor, entry_seen};
 
 use jc_model::{Change, Op};
 use jc_outside::{Ask, AskWrite};
-use jc_types::{Caller, Key};
+use jc_types::{Caller, Key, Value};
 use std::marker::Model;
+
+mod process;
+
+pub use process::{EffectAsk, ProcessAsk, ProcessTicket};
 
 /// Whom a call asks first.
 #[derive(Clone, Copy, Debug, PartialEq, Eq)]
@@ -22,8 +26,13 @@ pub enum First {
     Loader,
     /// The writer, for this change of the store.
     Writer(Change),
-    /// The entry processor. No call of a stripe asks it yet.
-    Processor,
+    /// The entry processor.
+    Processor {
+        /// The entry that the call found. It stays until the commit, since its key is reserved.
+        entry: Option<Value>,
+        /// Whether the processor may have its key loaded: read-through is on, and the entry is missing.
+        may_load: bool,
+    },
 }
 
 /// What a stripe keeps of a reservation beside its key and number.
@@ -63,6 +72,19 @@ pub struct Reservation {
     pub number: u64,
     /// Whom the call asks first.
     pub first: First,
+}
+
+impl Reservation {
+    /// The entry that a processor is asked about. Condition: it is the processor who is asked first.
+    fn entry(&self) -> &Option<Value>
+        requires { asks_processor self.now.first ≡ true }
+        ensures { result.now ≡ entry_seen self.now.first }
+    {
+        match &self.first {
+            First::Processor { entry, may_load: _ } => entry,
+            First::Nobody | First::Loader | First::Writer(_) => unreachable!(),
+        }
+    }
 }
 
 /// A call has reserved its key, and the loader is to be asked.
@@ -261,7 +283,7 @@ impl AskWrite for WriteAsk {
     fn change(&self) -> Change {
         match self.reservation.first {
             First::Writer(change) => change,
-            First::Nobody | First::Loader | First::Processor => unreachable!(),
+            First::Nobody | First::Loader | First::Processor { .. } => unreachable!(),
         }
     }
 }

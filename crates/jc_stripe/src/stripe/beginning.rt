@@ -1,28 +1,27 @@
 //! The first phase of a call: a hit, and what it is otherwise.
-ghost use Rattle.std.specs.Prelude.{◌≡◌, [], true, IsTrue, None, Some, MatchOption};
+ghost use Rattle.std.specs.Prelude.{◌≡◌, [], true, None, Some, MatchOption};
 ghost use Rattle.jc_types.specs.declared.limits.TheConstants.{HIT_PLACES};
 ghost use Rattle.jc_model.specs.declared.event.Op.TheVariants.{Get};
 ghost use Rattle.jc_model.specs.Cache.{entry_at};
 ghost use Rattle.jc_model.specs.Group.{nothing_said};
 ghost use Rattle.jc_stripe.specs.State.{new_reservation, with_reservation};
-ghost use Rattle.jc_stripe.specs.Refusals.{has_phases, has_room, first_refusal, first_asked, load_joined, needs_reservation};
+ghost use Rattle.jc_stripe.specs.Refusals.{has_room, first_refusal, first_asked, load_joined, needs_reservation};
 ghost use Rattle.jc_stripe.specs.Finding.{found_at};
 ghost use Rattle.jc_stripe.specs.Phases.{MayBegin, Steps, Begins, with_joiner};
-ghost use Rattle.jc_stripe.specs.declared.ticket.First.TheVariants.{Nobody, Loader, Writer};
+ghost use Rattle.jc_stripe.specs.declared.ticket.First.TheVariants.{Nobody, Loader, Writer, Processor};
 ghost use Rattle.jc_stripe.specs.declared.begun.Begun.TheVariants.{Done};
 
 use super::Stripe;
 use crate::appending::{append_group, make_step, touching_step};
 use crate::begun::{Begun, StepDone};
 use crate::needs::{Found, places_needed};
-use crate::ticket::{First, Join, LoadTicket, Note, Reservation, WriteTicket};
+use crate::ticket::{First, Join, LoadTicket, Note, ProcessTicket, Reservation, WriteTicket};
 use jc_model::{Change, Op, Out};
 use jc_types::{Caller, HIT_PLACES, Key, STEP_PLACES, Value};
 
 impl Stripe {
     /// What a first phase gives, and what it leaves.
     pub(super) fn first_phase(&mut self, caller: Caller, key: &Key, op: &Op) -> Begun
-        requires op { IsTrue (has_phases op.now) }
         requires begins { MayBegin self.old caller key.now }
         ensures { Begins self.old caller key.now op.now result self.new }
     {
@@ -38,7 +37,6 @@ impl Stripe {
 
     /// What a first phase gives on a key that has this entry, and what it leaves.
     fn begin_on(&mut self, caller: Caller, key: &Key, op: &Op, entry: Option<Value>) -> Begun
-        requires op { IsTrue (has_phases op.now) }
         requires begins { MayBegin self.old caller key.now }
         requires entry { entry ≡ entry_at self.old.cache key.now }
         ensures { Begins self.old caller key.now op.now result self.new }
@@ -54,7 +52,9 @@ impl Stripe {
             First::Nobody => Begun::Done(self.finish(caller, key, op, &found)),
             First::Loader => self.begin_load(caller, key, op),
             First::Writer(change) => self.begin_write(caller, key, op, change),
-            First::Processor => unreachable!(),
+            First::Processor { entry, may_load } => {
+                self.begin_process(caller, key, op, entry, may_load)
+            }
         }
     }
 
@@ -102,6 +102,26 @@ impl Stripe {
     {
         let reservation = self.reserve(caller, key, op, First::Writer(change));
         Begun::Write(WriteTicket::new(reservation))
+    }
+
+    /// Reserves a key, and gives the ticket with which the processor is asked about this entry.
+    #[inline(never)]
+    fn begin_process(
+        &mut self,
+        caller: Caller,
+        key: &Key,
+        op: &Op,
+        entry: Option<Value>,
+        may_load: bool,
+    ) -> Begun
+        requires free { first_refusal self.old caller key.now op.now ≡ None }
+        requires alone { load_joined self.old key.now op.now ≡ None }
+        requires asks { first_asked self.old.config op.now (entry_at self.old.cache key.now) ≡ Processor entry may_load }
+        requires begins { MayBegin self.old caller key.now }
+        ensures { Begins self.old caller key.now op.now result self.new }
+    {
+        let reservation = self.reserve(caller, key, op, First::Processor { entry, may_load });
+        Begun::Process(ProcessTicket::new(reservation))
     }
 
     /// Reserves a key, and keeps room in the history for its commit.
@@ -156,7 +176,6 @@ impl Stripe {
         requires found { found.now ≡ found_at self.old key.now op.now }
         requires free { first_refusal self.old caller key.now op.now ≡ None }
         requires asks { first_asked self.old.config op.now (entry_at self.old.cache key.now) ≡ Nobody }
-        requires op { IsTrue (has_phases op.now) }
         requires begins { MayBegin self.old caller key.now }
         ensures { Steps self.old caller key.now op.now nothing_said [] result self.new }
     {

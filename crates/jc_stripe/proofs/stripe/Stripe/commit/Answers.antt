@@ -1,6 +1,7 @@
 use Rattle.std.proofs.Common.{◌∙◌, ◌+◌, length, sym, subst, ap}
 use Rattle.jc_stripe.specs.State.{State, IsOut}
 use Rattle.jc_stripe.specs.Phases.{Commits}
+use Rattle.jc_stripe.specs.Appending.{AnswersFirst}
 use Rattle.jc_stripe.specs.Inside.{state_of}
 use Rattle.jc_types.specs.declared.limits.TheConstants.{STEP_PLACES}
 use Rattle.jc_stripe.proofs.Used.{find-entry}
@@ -30,7 +31,7 @@ is_commit c =
     record {
       sound = c.self.invariant;
       found = subst Out (sym c.self.view_is) c.requires.out;
-      said = c.requires.answers;
+      said = subst (λ (s : State). AnswersFirst s.config c.args.reservation.now.first c.args.out.now) (sym c.self.view_is) c.requires.answers;
       released = c.release.ensures.released;
       keys_are = c.keys-pinned.ensures.keys;
       is = made_is (state_of c.self.inside) c.args.reservation.now.caller c.args.reservation.now.key c.args.reservation.now.op c.args.out.now c.peek-entry.result c.make_step-group.result c.make_step-group.ensures.group

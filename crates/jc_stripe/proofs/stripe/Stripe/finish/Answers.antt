@@ -73,7 +73,7 @@ is_done c = record {
 steps : (c : goal.After-append_group) → Steps (state_of c.self.inside) c.args.caller c.args.key.now c.args.op.now nothing_said [] c.append_group.result (state_of (done_at c.self.inside c.make_step-group.new.entries c.append_group.new.history))
 steps c =
     done_steps c.self.inside c.args.caller c.args.key.now c.args.op.now c.make_step-group.new.entries c.promise.new.self c.append_group.new.history c.keys-pinned.result.now c.make_step-group.result c.append_group.result c.places_needed-kept.result (is_done c)
-    (nobody_fits c.self.inside.config c.args.op.now (entry_at (state_of c.self.inside).cache c.args.key.now) (asked c.before) c.requires.op)
+    (nobody_fits c.self.inside.config c.args.op.now (entry_at (state_of c.self.inside).cache c.args.key.now) (asked c.before))
 
 pub invariant_of-self : goal.invariant_of-self
 invariant_of-self c =

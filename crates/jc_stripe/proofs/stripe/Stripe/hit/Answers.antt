@@ -1,4 +1,4 @@
-use Rattle.std.proofs.Common.{◌≡◌, ◌∙◌, ◌∷◌, [], true, None, Some, Option, length, refl, sym, subst, ap}
+use Rattle.std.proofs.Common.{◌≡◌, ◌∙◌, ◌∷◌, true, None, Some, Option, refl, sym, subst, ap}
 use Rattle.std.specs.Option.{option_map_or}
 use Rattle.std.specs.FinMap as finite
 use Rattle.jc_reserve.specs.Table.{keys_of}
@@ -10,7 +10,6 @@ use Rattle.jc_model.specs.Group.{nothing_said}
 use Rattle.jc_model.specs.Listed.{others}
 use Rattle.jc_model.specs.Table.{reply_after}
 use Rattle.jc_entries.specs.ByUse.{ByUse}
-use Rattle.jc_history.specs.Past.{promise}
 use Rattle.jc_stripe.specs.declared.begun.Begun.TheVariants as begun
 use Rattle.jc_stripe.specs.State.{State}
 use Rattle.jc_stripe.specs.Refusals.{has_room}
@@ -88,7 +87,7 @@ begins c =
       hit_refusal (state_of i) c.args.caller c.args.key.now c.in-Some.value (in_cache c) (room c),
       asks,
       done_steps i c.args.caller c.args.key.now Get c.get.new.self c.promise.new.self c.append_group.new.history (keys_of i.reservations.held) c.touching_step-group.result c.append_group.result HIT_PLACES (is_done c)
-          (nobody_fits i.config Get (entry_at (state_of i).cache c.args.key.now) asks refl),
+          (nobody_fits i.config Get (entry_at (state_of i).cache c.args.key.now) asks),
     )
 
 pub invariant_of-self-2 : goal.invariant_of-self-2

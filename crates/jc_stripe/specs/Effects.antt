@@ -1,0 +1,35 @@
+-- What is answered for a call that runs a processor, and when the writer's report is among it.
+--     change_due      what the writer is asked for after a processor: with write-through on the processor's net effect on the store, and
+--                     nothing after a loader's or processor's fault
+--     HasReport       the writer's report is there exactly if a change is due, and then it was made for this reservation and this change,
+--                     and comes from where the stripe's answers do
+--     write_answer    the writer's answer, or that it wasn't asked
+--     process_out     the outside answers of a processor's step
+use Rattle.std.specs.Prelude.{◌≡◌, Option, None, Some, if◌then◌else◌}
+use Rattle.jc_types.specs.declared.config.Config.{Config}
+use Rattle.jc_model.specs.declared.event.Change.{Change}
+use Rattle.jc_model.specs.declared.event.Out.{Out}
+use Rattle.jc_model.specs.declared.event.WriteAnswer.{WriteAnswer}
+use Rattle.jc_model.specs.declared.event.WriteAnswer.TheVariants.{NotAsked}
+use Rattle.jc_outside.specs.declared.done.Origin.{Origin}
+use Rattle.jc_outside.specs.Done.{WriteResult}
+use Rattle.jc_mutentry.specs.Done.{ProcessResult}
+use Rattle.jc_mutentry.specs.Done as processed
+use Rattle.jc_stripe.specs.declared.ticket.Reservation.{Reservation}
+use Rattle.jc_stripe.specs.Tickets.{EffectClaim}
+
+abbrev pub change_due : Config → ProcessResult Reservation → Option Change
+change_due config done = if config.write_through then processed.change_asked done.load done.process else None
+
+abbrev pub HasReport : Origin → Reservation → Option Change → Option (WriteResult EffectClaim) → Type 0
+HasReport origin r None None = Unit {0}
+HasReport origin r None (Some report) = ⊥
+HasReport origin r (Some change) None = ⊥
+HasReport origin r (Some change) (Some report) = (report.ask ≡ record { reservation = r; change = change }) × (report.origin ≡ origin)
+
+abbrev pub write_answer : Option (WriteResult EffectClaim) → WriteAnswer
+write_answer None = NotAsked
+write_answer (Some report) = report.answer
+
+abbrev pub process_out : ProcessResult Reservation → Option (WriteResult EffectClaim) → Out
+process_out done report = record { load = done.load; write = write_answer report; process = done.process }

@@ -1,0 +1,42 @@
+//! A look at the keys of a stripe.
+ghost use Rattle.std.specs.Prelude.{◌≡◌, ◌≤◌, ◌+◌, IsTrue, take, drop, length, vec_len, vec_capacity};
+ghost use Rattle.std.specs.List.Sorted.{IsPermutation, IsSorted};
+ghost use Rattle.std.specs.FinMap as map;
+ghost use Rattle.jc_model.specs.Cache.{key_cmp};
+ghost use Rattle.jc_model.specs.Listed.{has_distinct_keys};
+ghost use Rattle.jc_stripe.specs.OrderOfUse.{by_use};
+ghost use Rattle.jc_stripe.specs.Keys.{Looks};
+
+use super::Stripe;
+use jc_types::Key;
+
+impl Stripe {
+    /// Appends the keys that have an entry, each once, in byte order. It takes no memory.
+    ///
+    /// Condition: the vector has room for as many keys as the stripe may cache.
+    pub fn keys(&self, out: &mut Vec<Key>)
+        requires { vec_len out.old + self.now.config.capacity ≤ vec_capacity out.old }
+        ensures keys { Looks self.now out.old.items out.new.items }
+        ensures cache { map.from_entries (by_use self.now.opening self.now.history) ≡ self.now.cache }
+        ensures once { IsTrue (has_distinct_keys (by_use self.now.opening self.now.history)) }
+        ensures few { vec_len out.new ≤ vec_len out.old + self.now.config.capacity }
+        ensures capacity { vec_capacity out.new ≡ vec_capacity out.old }
+    {
+        let start = out.len();
+        let _bounded = self.entries.capacity();
+        self.entries.keys(out);
+        sort_from(out, start);
+    }
+}
+
+/// Sorts the keys from this place on. The others stay.
+fn sort_from(keys: &mut Vec<Key>, start: usize)
+    requires { start ≤ length keys.old.items }
+    ensures before { take start keys.new.items ≡ take start keys.old.items }
+    ensures each { IsPermutation (drop start keys.old.items) (drop start keys.new.items) }
+    ensures order { IsSorted key_cmp (drop start keys.new.items) }
+    ensures len { vec_len keys.new ≡ vec_len keys.old }
+    ensures capacity { vec_capacity keys.new ≡ vec_capacity keys.old }
+{
+    keys[start..].sort_unstable();
+}
