@@ -5,7 +5,7 @@
 --     begin_fault      the fault of a `begin`: first the number, then the caller
 --     act_fault        the fault of an act: there is no such call, or the first event that the act stands for doesn't fit
 --     state_fault      the fault that the state of the world gives a line, the first one in order
-use Rattle.std.specs.Prelude.{ℕ, List, codes, Bool, Option, None, Some, Result, Ok, Err, if◌then◌else◌}
+use Rattle.std.specs.Prelude.{ℕ, List, codes, Option, None, Some, Result, Ok, Err, if◌then◌else◌}
 use Rattle.jc_types.specs.declared.refusal.Refusal.{Refusal}
 use Rattle.jc_types.specs.declared.refusal.Refusal.TheVariants as refusal
 use Rattle.jc_types.specs.declared.config.Field.TheVariants.{Stripes, Capacity, History}

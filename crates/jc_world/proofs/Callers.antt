@@ -2,12 +2,12 @@
 --     order_over, order_started, order_ended, order_withdrawn, order_picks, order_left     after each kind of event
 --     order_happens, order_opened     after any event that fits, and after an entry of the store's opening
 --     order_is, has_shares            the order is one legal history over all stripes, and each stripe's history is its part of it
-use Rattle.std.proofs.Common.{inl, inr, ◌⊎◌, ◌≡◌, ◌==◌, ◌&&◌, ◌+◌, ◌%◌, ◌<◌, ℕ, zero, suc, sum, List, [], ◌∷◌, ◌++◌, length, Bool, true, false, cond, not, Option, None, Some, IsSomeAnd, option_map, find, slice_get, slice_set, is_none, refl, sym, ap, ◌∙◌, subst, arith}
+use Rattle.std.proofs.Common.{inl, inr, ◌⊎◌, ◌≡◌, ◌==◌, ◌&&◌, ◌||◌, ◌+◌, ◌%◌, ◌<◌, ℕ, zero, suc, sum, List, [], ◌∷◌, ◌++◌, length, Bool, true, false, cond, not, Option, None, Some, IsSomeAnd, option_map, find, slice_get, slice_set, is_none, nat_lt, refl, sym, ap, ◌∙◌, subst, arith}
 use Rattle.std.specs.List.{list_all}
 use Rattle.std.specs.Ordering.{eq_by_cmp}
 use Rattle.std.specs.Cmp.{eq_by_cmp_equiv}
 use Rattle.std.specs.Cmp.Lexicographic.{pointwise, texts_ties}
-use Rattle.std.proofs.lemmas.Bool.{eq-eqb, eqb-true, and_parts}
+use Rattle.std.proofs.lemmas.Bool.{eqb-true, and_parts}
 use Rattle.std.proofs.lemmas.Cmp.{nat_list_cmp_total, nat_list_eq_equiv}
 use Rattle.std.specs.FinMap.{get, insert, remove, get-insert, get-remove, empty, from_entries}
 use Rattle.jc_world.proofs.Numbered.{some_of}
@@ -15,6 +15,7 @@ use Rattle.jc_types.proofs.CallerLemmas.{all_imply}
 use Rattle.jc_types.specs.declared.caller.Caller.{Caller}
 use Rattle.jc_types.specs.declared.config.Config.{Config}
 use Rattle.jc_model.specs.declared.event.Op.{Op}
+use Rattle.jc_model.specs.declared.event.Op.TheVariants.{Get}
 use Rattle.jc_model.specs.declared.event.Out.{Out}
 use Rattle.jc_model.specs.declared.event.Event.{Event}
 use Rattle.jc_model.specs.Cache.{Bytes, Cache, key_cmp}
@@ -34,11 +35,12 @@ use Rattle.jc_inflight.specs.Taking.{without_joiner as without}
 use Rattle.jc_stripe.specs.declared.begun.Picked.{Picked}
 use Rattle.jc_stripe.specs.declared.begun.Picked.TheVariants as picked
 use Rattle.jc_stripe.specs.Tickets.{Ticket, JoinClaim}
-use Rattle.jc_stripe.specs.State.{State, is_key, is_of, is_reserved, with_reservation, without_key}
+use Rattle.jc_stripe.specs.State.{State, is_key, is_of, is_reserved, with_reservation, without_key, IsOut}
 use Rattle.jc_stripe.specs.Refusals.{reserves}
 use Rattle.jc_stripe.specs.Phases.{Begins, Commits, Withdraws, PicksUp, Steps, new_group, after_commit, with_joiner, without_joiner}
 use Rattle.jc_stripe.specs.Laws.{IsSameStripe, Extends}
-use Rattle.jc_stripe.specs.Reached.{IsReached}
+use Rattle.jc_stripe.specs.Reached.{IsReached, JoinFits}
+use Rattle.jc_stripe.specs.OwnSteps.{may_come_all}
 use Rattle.jc_stripe.specs.Laws.{StaysReached}
 use Rattle.jc_world.specs.declared.event.Part.{Part}
 use Rattle.jc_world.specs.declared.event.Progress.{Progress}
@@ -48,19 +50,23 @@ use Rattle.jc_world.specs.declared.event.Shown.TheVariants as shown
 use Rattle.jc_world.specs.declared.event.OpenCall.{OpenCall}
 use Rattle.jc_world.specs.declared.event.WorldEvent.{WorldEvent}
 use Rattle.jc_world.specs.declared.event.WorldEvent.TheVariants as event
-use Rattle.jc_world.specs.World.{WorldState, Parts, home, stripe_for, has_number, open_call, drop_call, part_of, is_joined, is_join, join_of, joins_without, out_of, with_stored}
-use Rattle.jc_world.specs.Events.{may_leave, fits, with_stripe, with_phase, without_call, new_load, new_write, new_part, with_part, without_part, with_join, without_join, step_of, Starts, Ends, Picks, Happens}
+use Rattle.jc_world.specs.World.{WorldState, Parts, home, stripe_for, has_number, open_call, open_keys, op_at, settle, part_of, is_joined, is_join, join_of, joins_without, out_of, with_stored}
+use Rattle.jc_world.specs.Events.{is_free, may_leave, fits, with_stripe, with_phase, with_settled, without_call, new_load, new_write, new_part, with_part, without_part, with_join, without_join, step_of, Starts, Ends, Picks, Happens}
 use Rattle.jc_world.specs.Audit.{cache_in, cache_at, IsOrder, HasShares}
-use Rattle.jc_world.specs.Sound.{IsStripe, is_up_to, none_from, has_answer, has_parked_answer, is_served_in, is_served, FitsCall, CallsFit, IsHeld, IsOwned, AllOwned, IsCalled, IsSoundWorld, IsWaitedFor, Each}
+use Rattle.jc_world.specs.Sound.{IsStripe, is_up_to, has_answer, has_parked_answer, is_served_in, is_served, FitsKey, FitsCall, CallsFit, IsCallOf, IsHeld, IsOwned, AllOwned, IsCalled, IsSoundWorld, IsWaitedFor, Each}
 use Rattle.jc_world.proofs.Halves.{HasOrder}
 use Rattle.jc_world.proofs.Places.{at_stripe, stripe_put}
 use Rattle.jc_world.proofs.Reservations.{out_reserved, was_free, writer_alone}
-use Rattle.jc_world.proofs.Shares.{is_some_and, set_cases, found_test, added, share_grows, share_stays, shape_same, shape_set, AllBy, by_map, by_group, added_order, numbers_added, none_added, fact_found, each_kept, each_map, each_pushed}
-use Rattle.jc_world.proofs.Underway.{found_number, find_over, fits_found, calls_filter, calls_on, each_found, elsewhere_found, all_owned, others_left, same_bytes, of_call-at, of_call-none}
+use Rattle.jc_world.proofs.Shares.{is_some_and, set_cases, found_test, added, share_grows, share_stays, shape_same, shape_set, AllBy, by_map, by_group, added_order, numbers_added, comes_behind, comes_added, fact_found, each_kept, each_map, each_pushed}
+use Rattle.jc_world.proofs.Underway.{found_number, find_over, fits_found, calls_filter, calls_on, each_found, elsewhere_found, all_owned, others_left, same_bytes, of_call-at}
+use Rattle.jc_world.proofs.Settling.{open_now, Left, still_called, calls_settled}
+use Rattle.jc_world.proofs.LoadKeys.{key_of_load, each_fits}
 use Rattle.jc_world.proofs.Joiners.{joiner_of, unanswered, told_resolved, told_waiting, told_dissolved, told_pushed, find_kept, each_own, each_caller, each_both, join_is, joined_no_part}
-use Rattle.jc_world.proofs.Beginning.{refuted, unless, fits_same, calls_same, order_stored, owned_part, order_parted, order_called, MayStart, not_true, may_start_with, may_start_at, not_own, unserved, begins_with, single_phases}
+use Rattle.jc_world.proofs.Beginning.{unless, fits_left, fits_same, calls_same, order_stored, owned_part, order_parted, order_called, MayStart, may_start_at, not_own, apart_or, unserved, begins_with}
+use Rattle.jc_world.proofs.Facts.{refuted, not_true, same_found}
+use Rattle.jc_world.proofs.Entries.{tied}
 
--- 1. A call that is over.
+-- 1. A key that is settled.
 
 -- the test that keeps the other calls
 abbrev is_other : ℕ → OpenCall → Bool
@@ -70,23 +76,44 @@ is_other call u = not (has_number call u)
 abbrev IsFound : WorldState → OpenCall → Type 0
 IsFound w u = find (has_number u.caller.call) w.calls ≡ Some u
 
--- a reservation of another call keeps its call
-call_kept : (w : WorldState) (call : ℕ) (r : Reservation) → (call == r.caller.call) ≡ false → IsOwned w r → IsSomeAnd (find (has_number r.caller.call) (drop_call call w.calls)) (λ v. (v.caller.session ≡ r.caller.session) × (v.command.key ≡ r.key))
-call_kept w call r apart h =
-    let P : Option OpenCall → Type 0 = λ o. IsSomeAnd o (λ v. (v.caller.session ≡ r.caller.session) × (v.command.key ≡ r.key)) in
-    subst P (sym (find_over call r.caller.call w.calls apart)) h.call
+-- a reservation of another call, or at another key, keeps its call
+call_kept : (w : WorldState) (call : ℕ) (key : Bytes) (r : Reservation) → (r.caller.call ≡ call → r.key ≡ key → ⊥) → IsOwned w r → IsSomeAnd (find (has_number r.caller.call) (settle call key w.calls)) (IsCallOf r.caller.session r.key r.op)
+call_kept w call key r other h = still_called call key r.caller.call r.caller.session r.key r.op w.calls other h.call
 
--- a first phase was refused, or the call has left, and it is over
-pub order_over : (w : WorldState) (u : OpenCall) → MayStart w u → IsSoundWorld w → HasOrder (without_call w u.caller.call)
-order_over w u may old =
-    let new : WorldState = without_call w u.caller.call in
+-- a first phase was refused, and the key has its last refusal
+order_refused : (w : WorldState) (u : OpenCall) (key : Bytes) (op : Op) → MayStart w u key op → IsSoundWorld w → HasOrder (with_settled w u.caller.call key)
+order_refused w u key op may old =
+    let new : WorldState = with_settled w u.caller.call key in
     record {
       shape = shape_same w new refl refl refl old.shape;
       order = old.order;
       numbers = old.numbers;
-      calls = calls_filter w new (is_other u.caller.call) (IsFound w) w.calls (λ v other found h. fits_same w new v refl refl (λ k. k) h) (each_found w w.calls old.calls) old.calls;
+      calls = calls_settled w new u.caller.call key (IsFound w) w.calls (λ x v left found h. fits_left w new u.caller.call key x v left refl refl (λ q o is k. k) h) (each_found w w.calls old.calls) old.calls;
       owned = λ n s here. each_map (IsOwned w) (IsOwned new) s.reservations
-          (λ r h. record { part = h.part; call = call_kept w u.caller.call r (refuted (u.caller.call == r.caller.call) (not_own w u r may h)) h })
+          (λ r h. record { part = h.part; call = call_kept w u.caller.call key r (not_own w u.caller.call key r may.none h) h })
+          (old.owned n s here);
+    }
+
+-- a call leaves: no reservation is of it
+order_over : (w : WorldState) (call : ℕ) (u : OpenCall) → list_all (is_free w call) (open_keys u) ≡ true → open_call w call ≡ Some u → IsSoundWorld w → HasOrder (without_call w call)
+order_over w call u free is old =
+    let new : WorldState = without_call w call in
+    record {
+      shape = shape_same w new refl refl refl old.shape;
+      order = old.order;
+      numbers = old.numbers;
+      calls = calls_filter w new (is_other call) (IsFound w) w.calls (λ v other found h. fits_same w new v refl refl (λ q o is k. k) h) (each_found w w.calls old.calls) old.calls;
+      owned = λ n s here. each_map (IsOwned w) (IsOwned new) s.reservations
+          (λ r h.
+          let P : Option OpenCall → Type 0 = λ o. IsSomeAnd o (IsCallOf r.caller.session r.key r.op) in
+          let v = some_of (open_call w r.caller.call) (IsCallOf r.caller.session r.key r.op) h.call in
+          let apart = refuted (call == r.caller.call) (λ e.
+          let mine : r.caller.call ≡ call = sym (eqb-true call r.caller.call e) in
+          let same : v.0 ≡ u = same_found (open_call w call) v.0 u (ap (open_call w) (sym mine) ∙ v.1) is in
+          let one = open_now (is_free w call) u r.key r.op (ap (λ (x : OpenCall). op_at x r.key) (sym same) ∙ v.2.1) free in
+          not_own w call r.key r (and_parts (is_none (part_of w call r.key)) (not (is_joined w call r.key)) one).0 h mine refl)
+          in
+          record { part = h.part; call = subst P (sym (find_over call r.caller.call w.calls apart)) h.call })
           (old.owned n s here);
     }
 
@@ -105,66 +132,96 @@ goes from mid to caller key op out callers done same history steps = record {
   history = ap (λ (s : State). s.history) steps.after ∙ ap (λ h. h ++ events_of (length mid.history) (new_group mid caller key op out callers steps.short)) history;
 }
 
--- a step is put down for a call under way, which isn't served yet: for the one that is over then, or for one that is served then
-pub record IsPut (w n : WorldState) (call : ℕ) (who : Caller) : Type 0 where
+-- a step is put down for a call under way, at a key where it isn't served yet: at the one that is settled then, or where it is served
+-- then
+pub record IsPut (w n : WorldState) (call : ℕ) (key : Bytes) (who : Caller) (k : Bytes) : Type 0 where
   pub v : OpenCall
   pub here : open_call w who.call ≡ Some v
   pub session_is : v.caller.session ≡ who.session
-  pub unserved : is_served w v ≡ false
-  pub over : (who.call ≡ call) ⊎ (is_served n v ≡ true)
+  pub op : Op
+  pub op_is : op_at v k ≡ Some op
+  pub unserved : is_served w who k ≡ false
+  pub over : ((who.call ≡ call) × (k ≡ key)) ⊎ (is_served n who k ≡ true)
 
--- a call is served in a world with another stripe, where it was, and the stripe keeps what is parked
-served_set : (w : WorldState) (key : Bytes) (from to : State) → stripe_for w key ≡ Some from
-    → ((v : OpenCall) → has_parked_answer (joiner_of v.caller v.command.key from.joiners) ≡ true → has_parked_answer (joiner_of v.caller v.command.key to.joiners) ≡ true)
-    → (v : OpenCall) → is_served w v ≡ true → is_served_in (slice_get (slice_set w.stripes (home w key) to) (home w v.command.key)) v ≡ true
-served_set w key from to there keeps v =
-    at_stripe w.stripes (home w key) (home w v.command.key) from to (λ o x. is_served_in o v ≡ true → is_served_in x v ≡ true) there (keeps v) (λ h. h)
+-- its caller is the call's
+put_caller : (w n : WorldState) (call : ℕ) (key : Bytes) (who : Caller) (k : Bytes) → (p : IsPut w n call key who k) → p.v.caller ≡ who
+put_caller w n call key who k p = λ i. record { session = p.session_is i; call = found_number who.call w.calls p.v p.here i }
 
--- what is found twice is one
-same_found : {A : Type 0} (o : Option A) (x y : A) → o ≡ Some x → o ≡ Some y → x ≡ y
-same_found o x y e f = let t : Some x ≡ Some y = sym e ∙ f in cc
+-- the stripe of a key keeps what is parked
+abbrev KeepsParked : State → State → Type 0
+KeepsParked from to = (caller : Caller) (key : Bytes) → has_parked_answer (joiner_of caller key from.joiners) ≡ true → has_parked_answer (joiner_of caller key to.joiners) ≡ true
 
--- a step is of another session than a call that goes on and isn't served then
-put_elsewhere : (w n : WorldState) (call : ℕ) (v : OpenCall) (who : Caller) → CallsFit w w.calls → IsFound w v → is_other call v ≡ true → is_served n v ≡ false → IsPut w n call who → not (who.session == v.caller.session) ≡ true
-put_elsewhere w n call v who fit found other free p =
-    ap (λ s. not (s == v.caller.session)) (sym p.session_is)
-    ∙ elsewhere_found w v.caller.call who.call w.calls v p.v fit found p.here (refuted (v.caller.call == who.call) (λ same. clash (eqb-true v.caller.call who.call same) p.over))
+-- so who is served is served in a world with another stripe
+served_set : (w : WorldState) (key : Bytes) (from to : State) → stripe_for w key ≡ Some from → KeepsParked from to → (caller : Caller) (q : Bytes) → is_served w caller q ≡ true → is_served_in (slice_get (slice_set w.stripes (home w key) to) (home w q)) caller q ≡ true
+served_set w key from to there keeps caller q =
+    at_stripe w.stripes (home w key) (home w q) from to (λ o x. is_served_in o caller q ≡ true → is_served_in x caller q ≡ true) there (keeps caller q) (λ h. h)
+
+-- a step may still come at a key that goes on and isn't served then
+put_behind : (w n : WorldState) (call : ℕ) (key : Bytes) (u v : OpenCall) (q : Bytes) (op : Op) (who : Caller) (k : Bytes) → CallsFit w w.calls → IsFound w u → Left call key u v → op_at v q ≡ Some op → is_served n u.caller q ≡ false → IsPut w n call key who k
+    → comes_behind who k u.caller q ≡ true
+put_behind w n call key u v q op who k fit found left is free p =
+    elim (u.caller.call == who.call) as (λ b. (u.caller.call == who.call) ≡ b → comes_behind who k u.caller q ≡ true) [
+      | true ↦ λ e.
+          let mine : who.call ≡ u.caller.call = sym (eqb-true u.caller.call who.call e) in
+          let same : p.v ≡ u = same_found (open_call w who.call) p.v u p.here (ap (open_call w) mine ∙ found) in
+          let caller_is : who ≡ u.caller = sym (put_caller w n call key who k p) ∙ ap (λ (x : OpenCall). x.caller) same in
+          or_third (not (who.session == u.caller.session)) (nat_lt who.call u.caller.call) _
+          (apart_or false who.call u.caller.call k q mine (λ at. clash mine caller_is at p.over))
+      | false ↦ λ e. or_first (not (who.session == u.caller.session)) (nat_lt who.call u.caller.call) _ (ap (λ s. not (s == u.caller.session)) (sym p.session_is) ∙ elsewhere_found w u.caller.call who.call w.calls u p.v fit found p.here e)
+    ] refl
   where
-    clash : v.caller.call ≡ who.call → (who.call ≡ call) ⊎ (is_served n p.v ≡ true) → ⊥
-    clash same (inl e) = let t : true ≡ false = sym (eq-eqb v.caller.call call (same ∙ e)) ∙ not_true (v.caller.call == call) other in cc
-    clash same (inr served) =
-        let is : p.v ≡ v = same_found (open_call w who.call) p.v v p.here (ap (open_call w) (sym same) ∙ found) in
-        let t : true ≡ false = sym served ∙ ap (is_served n) is ∙ free in cc
+    or_third : (a b c : Bool) → c ≡ true → (a || b || c) ≡ true
+    or_third true b c h = refl
+    or_third false true c h = refl
+    or_third false false c h = h
+
+    or_first : (a b c : Bool) → a ≡ true → (a || b || c) ≡ true
+    or_first true b c h = refl
+    or_first false b c h = cc
+
+    clash : who.call ≡ u.caller.call → who ≡ u.caller → k ≡ q → ((who.call ≡ call) × (k ≡ key)) ⊎ (is_served n who k ≡ true) → ⊥
+    clash mine caller_is at (inl over) = left.other q op is (sym mine ∙ over.0) (sym at ∙ over.1)
+    clash mine caller_is at (inr served) = let t : true ≡ false = sym served ∙ (λ i. is_served n (caller_is i) (at i)) ∙ free in cc
 
 -- the world with a stripe that has put a step down
 abbrev stepped_world : WorldState → Bytes → State → State → ℕ → Parts → WorldState
-stepped_world w key from to call parts = record w { stripes = slice_set w.stripes (home w key) to; order = w.order ++ added from to; calls = drop_call call w.calls; parts = parts }
+stepped_world w key from to call parts = record w { stripes = slice_set w.stripes (home w key) to; order = w.order ++ added from to; calls = settle call key w.calls; parts = parts }
 
--- the world's order with a step of a call that is over then
+-- the world's order with a step at a key that is settled then
 pub order_stepped : (w : WorldState) (key : Bytes) (from to : State) (call : ℕ) (parts : Parts) → IsSoundWorld w → stripe_for w key ≡ Some from → (g : Extends from to) → IsReached to
-    → AllBy (IsPut w (stepped_world w key from to call parts) call) g.more
-    → ((v : OpenCall) → has_parked_answer (joiner_of v.caller v.command.key from.joiners) ≡ true → has_parked_answer (joiner_of v.caller v.command.key to.joiners) ≡ true)
+    → AllBy (IsPut w (stepped_world w key from to call parts) call key) g.more
+    → KeepsParked from to
     → ((n : ℕ) (s : State) → slice_get (slice_set w.stripes (home w key) to) n ≡ Some s → AllOwned (stepped_world w key from to call parts) s.reservations)
     → HasOrder (stepped_world w key from to call parts)
 order_stepped w key from to call parts old there g reached put keeps owned =
     let new : WorldState = stepped_world w key from to call parts in
     let at = old.shape.each (home w key) from there in
-    let fit : (who : Caller) → (p : IsPut w new call who) → FitsCall w p.v = λ who p. fits_found w (has_number who.call) w.calls p.v p.here old.calls in
+    let put_of = IsPut w new call key in
+    let fit : (who : Caller) (k : Bytes) → (p : put_of who k) → FitsCall w p.v = λ who k p. fits_found w (has_number who.call) w.calls p.v p.here old.calls in
     record {
       shape = shape_set w new key from to refl refl old.shape there g.same.config g.same.stripe g.same.origin reached
           (share_grows w (home w key) from to g at reached)
           (λ m apart. share_stays w (home w key) m from to g at reached apart);
       order = added_order w.order from to g reached old.order
-          (by_map (IsPut w new call) (λ who. none_from w.order who ≡ true) g.more
-          (λ who p. (λ i. none_from w.order (record { session = sym p.session_is i; call = sym (found_number who.call w.calls p.v p.here) i })) ∙ (fit who p).none p.unserved) put);
+          (by_map put_of (λ who k. may_come_all w.order who k ≡ true) g.more
+          (λ who k p.
+          let F : Caller → Type 0 = λ c. FitsKey w c k p.op in
+          (subst F (put_caller w new call key who k p) ((fit who k p).keys k p.op p.op_is)).comes p.unserved) put);
       numbers = numbers_added w.last w.order from to g old.numbers
-          (by_map (IsPut w new call) (λ who. is_up_to w.last who.call ≡ true) g.more (λ who p. ap (is_up_to w.last) (sym (found_number who.call w.calls p.v p.here)) ∙ (fit who p).number) put);
-      calls = calls_filter w new (is_other call) (IsFound w) w.calls
-          (λ v other found h. record {
-            single = h.single;
-            number = h.number;
-            none = λ e. none_added w.order from to v.caller g (h.none (unless (is_served w v) (is_served new v) (served_set w key from to there keeps v) e))
-                (by_map (IsPut w new call) (λ who. not (who.session == v.caller.session) ≡ true) g.more (λ who p. put_elsewhere w new call v who old.calls found other e p) put);
+          (by_map put_of (λ who k. is_up_to w.last who.call ≡ true) g.more (λ who k p. ap (is_up_to w.last) (sym (found_number who.call w.calls p.v p.here)) ∙ (fit who k p).number) put);
+      calls = calls_settled w new call key (IsFound w) w.calls
+          (λ u v left found h.
+          record {
+            number = ap (λ (c : Caller). is_up_to w.last c.call) left.caller_is ∙ h.number;
+            keys = λ q op is.
+                let F : Caller → Type 0 = λ c. FitsKey new c q op in
+                let k = h.keys q op (left.was q op is) in
+                subst F (sym left.caller_is)
+                (record {
+                  runs_none = k.runs_none;
+                  comes = λ e. comes_added w.order from to u.caller q g (k.comes (unless (is_served w u.caller q) (is_served new u.caller q) (served_set w key from to there keeps u.caller q) e))
+                      (by_map put_of (λ who x. comes_behind who x u.caller q ≡ true) g.more (λ who x p. put_behind w new call key u v q op who x old.calls found left is e p) put);
+                });
           })
           (each_found w w.calls old.calls) old.calls;
       owned = owned;
@@ -173,23 +230,23 @@ order_stepped w key from to call parts old there g reached put keeps owned =
 -- 3. A first phase that puts a step down.
 
 -- joiners that stay keep what is parked
-same_told : (from to : State) → to.joiners ≡ from.joiners → (v : OpenCall) → has_parked_answer (joiner_of v.caller v.command.key from.joiners) ≡ true → has_parked_answer (joiner_of v.caller v.command.key to.joiners) ≡ true
-same_told from to same v h = ap (λ js. has_parked_answer (joiner_of v.caller v.command.key js)) same ∙ h
+same_told : (from to : State) → to.joiners ≡ from.joiners → KeepsParked from to
+same_told from to same caller key h = ap (λ js. has_parked_answer (joiner_of caller key js)) same ∙ h
 
--- the call is over, with its step
-order_done : StaysReached → (w : WorldState) (u : OpenCall) (from to : State) (done : StepDone) → stripe_for w u.command.key ≡ Some from → Begins from u.caller u.command.key u.command.op (begun.Done done) to
-    → MayStart w u → IsSoundWorld w → HasOrder (without_call (with_phase w u.command.key from to) u.caller.call)
+-- the key is settled, with its step
+order_done : StaysReached → (w : WorldState) (u : OpenCall) (key : Bytes) (op : Op) (from to : State) (done : StepDone) → stripe_for w key ≡ Some from → Begins from u.caller key op (begun.Done done) to
+    → MayStart w u key op → IsSoundWorld w → HasOrder (with_settled (with_phase w key from to) u.caller.call key)
 unfolding goes
-order_done stays w u from to done there begins may old =
-    let key = u.command.key in
-    let new : WorldState = without_call (with_phase w key from to) u.caller.call in
+order_done stays w u key op from to done there begins may old =
+    let call = u.caller.call in
+    let new : WorldState = with_settled (with_phase w key from to) call key in
     let at = old.shape.each (home w key) from there in
-    let reached = stays.begins from to u.caller key u.command.op (begun.Done done) at.reached (begins_with w u from old there may) (single_phases u.command.op may.fit.single) begins in
-    let g = goes from from to u.caller key u.command.op nothing_said [] done (record { config = refl; stripe = refl; origin = refl; opening = refl }) refl begins.2 in
-    let one : IsPut w new u.caller.call u.caller = record { v = u; here = may.here; session_is = refl; unserved = unserved w u u.caller.call refl may.alone old; over = inl refl } in
-    let kept : (rs : List Reservation) → AllOwned w rs → AllOwned new rs = λ rs. each_map (IsOwned w) (IsOwned new) rs (λ r h. record { part = h.part; call = call_kept w u.caller.call r (refuted (u.caller.call == r.caller.call) (not_own w u r may h)) h }) in
-    order_stepped w key from to u.caller.call w.parts old there g reached
-    (by_group (IsPut w new u.caller.call) (length from.history) (new_group from u.caller key u.command.op nothing_said [] begins.2.short) one tt)
+    let reached = stays.begins from to u.caller key op (begun.Done done) at.reached (begins_with w u key op from old there may) begins in
+    let g = goes from from to u.caller key op nothing_said [] done (record { config = refl; stripe = refl; origin = refl; opening = refl }) refl begins.2 in
+    let one : IsPut w new call key u.caller key = record { v = u; here = may.here; session_is = refl; op = op; op_is = may.op_is; unserved = unserved w u.caller key may.alone old; over = inl (refl, refl) } in
+    let kept : (rs : List Reservation) → AllOwned w rs → AllOwned new rs = λ rs. each_map (IsOwned w) (IsOwned new) rs (λ r h. record { part = h.part; call = call_kept w call key r (not_own w call key r may.none h) h }) in
+    order_stepped w key from to call w.parts old there g reached
+    (by_group (IsPut w new call key) (length from.history) (new_group from u.caller key op nothing_said [] begins.2.short) one tt)
     (same_told from to (ap (λ (s : State). s.joiners) begins.2.after))
     (λ n s. set_cases w.stripes (home w key) n to s
     (λ same is.
@@ -207,16 +264,11 @@ free_part w key from part old there free is =
     let busy : is_reserved held.0 key ≡ true = ap (is_reserved held.0) (sym held.2.key_is) ∙ out_reserved part.reservation.key part.reservation held.0.reservations held.2.out in
     let t : true ≡ false = sym busy ∙ ap (λ s. is_reserved s key) same ∙ free in cc
 
--- a key is itself
-tied : (key : Bytes) → eq_by_cmp key_cmp key key ≡ true
-tied key = (eq_by_cmp_equiv nat_list_cmp_total).refl key
-
 -- the key is reserved, and has a part
-order_reserved : (w : WorldState) (u : OpenCall) (from to : State) (p : Progress) (r : Reservation) → stripe_for w u.command.key ≡ Some from → is_reserved from u.command.key ≡ false
-    → r.caller ≡ u.caller → r.key ≡ u.command.key → to ≡ with_reservation from r → IsReached to
-    → MayStart w u → IsSoundWorld w → HasOrder (with_part (with_stripe w u.command.key to) u.command.key (new_part p r))
-order_reserved w u from to p r there free caller_is key_is is reached may old =
-    let key = u.command.key in
+order_reserved : (w : WorldState) (u : OpenCall) (key : Bytes) (op : Op) (from to : State) (p : Progress) (r : Reservation) → stripe_for w key ≡ Some from → is_reserved from key ≡ false
+    → r.caller ≡ u.caller → r.key ≡ key → r.op ≡ op → to ≡ with_reservation from r → IsReached to
+    → MayStart w u key op → IsSoundWorld w → HasOrder (with_part (with_stripe w key to) key (new_part p r))
+order_reserved w u key op from to p r there free caller_is key_is op_is is reached may old =
     let new : WorldState = with_part (with_stripe w key to) key (new_part p r) in
     let at = old.shape.each (home w key) from there in
     let kept : (rs : List Reservation) → AllOwned w rs → AllOwned new rs = λ rs. each_map (IsOwned w) (IsOwned new) rs (λ x h. record {
@@ -227,7 +279,7 @@ order_reserved w u from to p r there free caller_is key_is is reached may old =
     }) in
     let one : IsOwned new r = record {
       part = is_some_and (get new.parts r.key) (λ p. p.reservation.caller.call ≡ r.caller.call) (new_part p r) (ap (get new.parts) key_is ∙ get-insert nat_list_cmp_total w.parts key (new_part p r) key ∙ ap (λ b. cond b (Some (new_part p r)) (get w.parts key)) (tied key)) refl;
-      call = is_some_and (open_call new r.caller.call) (λ v. (v.caller.session ≡ r.caller.session) × (v.command.key ≡ r.key)) u (ap (λ (c : Caller). open_call w c.call) caller_is ∙ may.here) (ap (λ (c : Caller). c.session) (sym caller_is), sym key_is);
+      call = is_some_and (open_call new r.caller.call) (IsCallOf r.caller.session r.key r.op) u (ap (λ (c : Caller). open_call w c.call) caller_is ∙ may.here) (ap (λ (c : Caller). c.session) (sym caller_is), ap (op_at u) key_is ∙ may.op_is ∙ ap Some (sym op_is));
     } in
     record {
       shape = shape_set w new key from to refl refl old.shape there (ap (λ (s : State). s.config) is) (ap (λ (s : State). s.stripe) is) (ap (λ (s : State). s.origin) is) reached
@@ -262,14 +314,13 @@ order_aside w key from to joins there config number origin history reservations 
     }
 
 -- the call has joined a load
-order_joins : (w : WorldState) (u : OpenCall) (from to : State) (join : JoinClaim) → stripe_for w u.command.key ≡ Some from → to ≡ with_joiner from join → IsReached to → IsSoundWorld w
-    → HasOrder (with_join (with_stripe w u.command.key to) join)
-order_joins w u from to join there is reached old =
-    let key = u.command.key in
+order_joins : (w : WorldState) (key : Bytes) (from to : State) (join : JoinClaim) → stripe_for w key ≡ Some from → to ≡ with_joiner from join → IsReached to → IsSoundWorld w
+    → HasOrder (with_join (with_stripe w key to) join)
+order_joins w key from to join there is reached old =
     let new : WorldState = with_join (with_stripe w key to) join in
-    let keeps : (v : OpenCall) → has_parked_answer (joiner_of v.caller v.command.key from.joiners) ≡ true → has_parked_answer (joiner_of v.caller v.command.key to.joiners) ≡ true = λ v h.
-    ap (λ (s : State). has_parked_answer (joiner_of v.caller v.command.key s.joiners)) is
-    ∙ told_pushed v.caller v.command.key from.joiners (record { caller = join.caller; key = join.key; load = join.load; state = Waiting } ∷ []) h
+    let keeps : KeepsParked from to = λ caller q h.
+    ap (λ (s : State). has_parked_answer (joiner_of caller q s.joiners)) is
+    ∙ told_pushed caller q from.joiners (record { caller = join.caller; key = join.key; load = join.load; state = Waiting } ∷ []) h
     in
     order_aside w key from to (w.joins ++ join ∷ []) there (ap (λ (s : State). s.config) is) (ap (λ (s : State). s.stripe) is) (ap (λ (s : State). s.origin) is) (ap (λ (s : State). s.history) is) (ap (λ (s : State). s.reservations) is) reached
     (calls_same w new w.calls refl refl (served_set w key from to there keeps) old.calls) old
@@ -277,40 +328,35 @@ order_joins w u from to join there is reached old =
 -- 5. The first phase.
 
 -- by what is shown of the first phase
-starts : StaysReached → (w new : WorldState) (u : OpenCall) (from to : State) (seen : Shown) → stripe_for w u.command.key ≡ Some from → Starts w u from to seen new → MayStart w u → IsSoundWorld w → HasOrder new
-starts stays w new u from to (shown.Refused refusal) there h may old = subst HasOrder (sym h.1) (order_over w u may old)
-starts stays w new u from to (shown.Stepped seen) there h may old = subst HasOrder (sym h.2) (order_done stays w u from to (step_of seen) there h.0 may old)
-starts stays w new u from to shown.Loads there h may old =
-    let at = old.shape.each (home w u.command.key) from there in
-    let reached = stays.begins from to u.caller u.command.key u.command.op (begun.Load h.0) at.reached (begins_with w u from old there may) (single_phases u.command.op may.fit.single) h.1 in
-    let free = was_free from u.caller u.command.key u.command.op Loader h.1.0 h.1.1 h.1.2 refl in
-    subst HasOrder (sym h.2) (order_reserved w u from to new_load h.0.reservation there free (ap (λ (t : Ticket). t.reservation.caller) h.1.3) (ap (λ (t : Ticket). t.reservation.key) h.1.3) h.1.4 reached may old)
-starts stays w new u from to (shown.Asks change) there h may old =
-    let at = old.shape.each (home w u.command.key) from there in
-    let reached = stays.begins from to u.caller u.command.key u.command.op (begun.Write h.0) at.reached (begins_with w u from old there may) (single_phases u.command.op may.fit.single) h.1 in
-    let free = was_free from u.caller u.command.key u.command.op h.0.reservation.first h.1.0 (writer_alone from u.command.key u.command.op h.0.reservation.first h.1.1 h.1.2) h.1.1 (ap reserves h.2) in
-    subst HasOrder (sym h.3) (order_reserved w u from to new_write h.0.reservation there free (ap (λ (t : Ticket). t.reservation.caller) h.1.3) (ap (λ (t : Ticket). t.reservation.key) h.1.3) h.1.4 reached may old)
-starts stays w new u from to shown.Joins there h may old =
-    let at = old.shape.each (home w u.command.key) from there in
-    let reached = stays.begins from to u.caller u.command.key u.command.op (begun.Joined h.0) at.reached (begins_with w u from old there may) (single_phases u.command.op may.fit.single) h.1 in
-    subst HasOrder (sym h.2) (order_joins w u from to h.0 there h.1.3 reached old)
-starts stays w new u from to seen there h may old = absurd h
+starts : StaysReached → (w new : WorldState) (u : OpenCall) (key : Bytes) (op : Op) (from to : State) (seen : Shown) → stripe_for w key ≡ Some from → Starts w u.caller key op from to seen new → MayStart w u key op → IsSoundWorld w → HasOrder new
+starts stays w new u key op from to (shown.Refused refusal) there h may old = subst HasOrder (sym h.1) (order_refused w u key op may old)
+starts stays w new u key op from to (shown.Stepped seen) there h may old = subst HasOrder (sym h.2) (order_done stays w u key op from to (step_of seen) there h.0 may old)
+starts stays w new u key op from to shown.Loads there h may old =
+    let at = old.shape.each (home w key) from there in
+    let reached = stays.begins from to u.caller key op (begun.Load h.0) at.reached (begins_with w u key op from old there may) h.1 in
+    let free = was_free from u.caller key op Loader h.1.0 h.1.1 h.1.2 refl in
+    subst HasOrder (sym h.2)
+    (order_reserved w u key op from to new_load h.0.reservation there free (ap (λ (t : Ticket). t.reservation.caller) h.1.3) (ap (λ (t : Ticket). t.reservation.key) h.1.3) (ap (λ (t : Ticket). t.reservation.op) h.1.3) h.1.4 reached may old)
+starts stays w new u key op from to (shown.Asks change) there h may old =
+    let at = old.shape.each (home w key) from there in
+    let reached = stays.begins from to u.caller key op (begun.Write h.0) at.reached (begins_with w u key op from old there may) h.1 in
+    let free = was_free from u.caller key op h.0.reservation.first h.1.0 (writer_alone from key op h.0.reservation.first h.1.1 h.1.2) h.1.1 (ap reserves h.2) in
+    subst HasOrder (sym h.3)
+    (order_reserved w u key op from to new_write h.0.reservation there free (ap (λ (t : Ticket). t.reservation.caller) h.1.3) (ap (λ (t : Ticket). t.reservation.key) h.1.3) (ap (λ (t : Ticket). t.reservation.op) h.1.3) h.1.4 reached may old)
+starts stays w new u key op from to shown.Joins there h may old =
+    let at = old.shape.each (home w key) from there in
+    let reached = stays.begins from to u.caller key op (begun.Joined h.0) at.reached (begins_with w u key op from old there may) h.1 in
+    subst HasOrder (sym h.2) (order_joins w key from to h.0 there h.1.3 reached old)
+starts stays w new u key op from to seen there h may old = absurd h
 
 -- a first phase
-pub order_started : StaysReached → (w new : WorldState) (call : ℕ) (key : Bytes) (u : OpenCall) (from to : State) (seen : Shown) → fits w (event.Start call key) ≡ true → open_call w call ≡ Some u → stripe_for w u.command.key ≡ Some from → Starts w u from to seen new → IsSoundWorld w → HasOrder new
-order_started stays w new call key u from to seen fit is there h old = starts stays w new u from to seen there h (may_start_at w call key u fit is old) old
+pub order_started : StaysReached → (w new : WorldState) (call : ℕ) (key : Bytes) (u : OpenCall) (op : Op) (from to : State) (seen : Shown) → fits w (event.Start call key) ≡ true → open_call w call ≡ Some u → op_at u key ≡ Some op → stripe_for w key ≡ Some from
+    → Starts w u.caller key op from to seen new → IsSoundWorld w → HasOrder new
+order_started stays w new call key u op from to seen fit is op_is there h old = starts stays w new u key op from to seen there h (may_start_at w call key u op fit is op_is old) old
 
 -- 6. The last phase.
 
--- another key's reservation is of another call
-not_over : (w : WorldState) (u : OpenCall) (key : Bytes) (r : Reservation) → open_call w u.caller.call ≡ Some u → u.command.key ≡ key → is_key key r ≡ false → IsOwned w r → (u.caller.call == r.caller.call) ≡ true → ⊥
-not_over w u key r here is apart h same =
-    let call = some_of (open_call w r.caller.call) (λ v. (v.caller.session ≡ r.caller.session) × (v.command.key ≡ r.key)) h.call in
-    let v_is : u ≡ call.0 = same_found (open_call w u.caller.call) u call.0 here (ap (open_call w) (eqb-true u.caller.call r.caller.call same) ∙ call.1) in
-    let keys : r.key ≡ key = sym call.2.1 ∙ ap (λ (v : OpenCall). v.command.key) (sym v_is) ∙ is in
-    let t : true ≡ false = sym (ap (pointwise ◌==◌ key) keys ∙ nat_list_eq_equiv.refl key) ∙ apart in cc
-
--- so it keeps its part
+-- another key's reservation keeps its part
 part_kept : (w : WorldState) (key : Bytes) (r : Reservation) → is_key key r ≡ false → IsOwned w r → IsSomeAnd (get (remove w.parts key) r.key) (λ p. p.reservation.caller.call ≡ r.caller.call)
 part_kept w key r apart h =
     let P : Option Part → Type 0 = λ o. IsSomeAnd o (λ p. p.reservation.caller.call ≡ r.caller.call) in
@@ -337,73 +383,62 @@ owned_left_over w n key from to there left on old m s =
 
 -- the world after a commit
 abbrev ended_world : WorldState → Bytes → State → State → ℕ → WorldState
-ended_world w key from to call = without_part (without_call (with_phase w key from to) call) key
+ended_world w key from to call = without_part (with_settled (with_phase w key from to) call key) key
 
--- the call of a commit, and what its stripe goes on by
+-- what the stripe of a commit goes on by
 pub record Ending (w : WorldState) (call : ℕ) (key : Bytes) (from to : State) : Type 0 where
-  pub u : OpenCall
-  pub number : u.caller.call ≡ call
-  pub here : open_call w u.caller.call ≡ Some u
-  pub key_is : u.command.key ≡ key
   pub extends : Extends from to
-  pub put : AllBy (IsPut w (ended_world w key from to u.caller.call) u.caller.call) extends.more
-  pub keeps : (v : OpenCall) → has_parked_answer (joiner_of v.caller v.command.key from.joiners) ≡ true → has_parked_answer (joiner_of v.caller v.command.key to.joiners) ≡ true
+  pub put : AllBy (IsPut w (ended_world w key from to call) call key) extends.more
+  pub keeps : KeepsParked from to
   pub left : to.reservations ≡ without_key key from.reservations
 
 -- each joiner that waits for the load gets its answer
-caller_put : (w : WorldState) (key : Bytes) (from to : State) (call load place : ℕ) (j : Joiner) → stripe_for w key ≡ Some from → to.joiners ≡ resolved load place from.joiners
-    → joiner_of j.caller j.key from.joiners ≡ Some j → IsCalled w (home w key) j → waits_for load j ≡ true → IsPut w (ended_world w key from to call) call j.caller
-caller_put w key from to call load place j there joiners own h waits =
+caller_put : (w : WorldState) (key : Bytes) (from to : State) (call load place : ℕ) (j : Joiner) (k : Bytes) → stripe_for w key ≡ Some from → to.joiners ≡ resolved load place from.joiners
+    → joiner_of j.caller j.key from.joiners ≡ Some j → IsCalled w (home w key) j → j.key ≡ k → waits_for load j ≡ true → IsPut w (ended_world w key from to call) call key j.caller k
+caller_put w key from to call load place j k there joiners own h key_is waits =
     let n = ended_world w key from to call in
-    let v = some_of (open_call w j.caller.call) (λ v. (v.caller.session ≡ j.caller.session) × (v.command.key ≡ j.key)) h.call in
-    let number : v.0.caller.call ≡ j.caller.call = found_number j.caller.call w.calls v.0 v.1 in
-    let home_is : home w v.0.command.key ≡ home w key = ap (home w) v.2.1 ∙ h.home_is in
-    let found : (js : List Joiner) → joiner_of v.0.caller v.0.command.key js ≡ joiner_of j.caller j.key js = λ js i. joiner_of (record { session = v.2.0 i; call = number i }) (v.2.1 i) js in
-    let before : is_served w v.0 ≡ has_parked_answer (Some j) = ap (λ o. is_served_in o v.0) (ap (slice_get w.stripes) home_is ∙ there) ∙ ap has_parked_answer (found from.joiners ∙ own) in
-    let after : is_served n v.0 ≡ has_parked_answer (joiner_of j.caller j.key (resolved load place from.joiners)) =
-    ap (λ o. is_served_in o v.0) (ap (slice_get n.stripes) home_is ∙ stripe_put w.stripes (home w key) from to there)
-    ∙ ap (λ js. has_parked_answer (joiner_of v.0.caller v.0.command.key js)) joiners ∙ ap has_parked_answer (found (resolved load place from.joiners))
+    let v = some_of (open_call w j.caller.call) (IsCallOf j.caller.session j.key Get) h.call in
+    let before : is_served w j.caller j.key ≡ has_parked_answer (Some j) = ap (λ o. is_served_in o j.caller j.key) (ap (slice_get w.stripes) h.home_is ∙ there) ∙ ap has_parked_answer own in
+    let after : is_served n j.caller j.key ≡ has_parked_answer (joiner_of j.caller j.key (resolved load place from.joiners)) =
+    ap (λ o. is_served_in o j.caller j.key) (ap (slice_get n.stripes) h.home_is ∙ stripe_put w.stripes (home w key) from to there) ∙ ap (λ js. has_parked_answer (joiner_of j.caller j.key js)) joiners
     in
     record {
       v = v.0;
       here = v.1;
       session_is = v.2.0;
-      unserved = before ∙ refuted (has_parked_answer (Some j)) (unanswered j.state (and_parts (j.load == load) (is_waiting j.state) waits).1);
-      over = inr (after ∙ told_waiting load place (place + 1) j.caller j.key from.joiners j own waits);
+      op = Get;
+      op_is = ap (op_at v.0) (sym key_is) ∙ v.2.1;
+      unserved = ap (is_served w j.caller) (sym key_is) ∙ before ∙ refuted (has_parked_answer (Some j)) (unanswered j.state (and_parts (j.load == load) (is_waiting j.state) waits).1);
+      over = inr (ap (is_served n j.caller) (sym key_is) ∙ after ∙ told_waiting load place (place + 1) j.caller j.key from.joiners j own waits);
     }
 
 -- by the reservation that is over
 ending : (w : WorldState) (call : ℕ) (key : Bytes) (part : Part) (from to : State) (done : StepDone) → part_of w call key ≡ Some part → part.reservation.caller.call ≡ call → part.reservation.key ≡ key
-    → stripe_for w key ≡ Some from → Steps (after_commit from part.reservation done.place) part.reservation.caller part.reservation.key part.reservation.op (out_of part) (callers_of part.reservation.number from.joiners) done to
+    → stripe_for w key ≡ Some from → IsOut from part.reservation → Steps (after_commit from part.reservation done.place) part.reservation.caller part.reservation.key part.reservation.op (out_of part) (callers_of part.reservation.number from.joiners) done to
     → IsOwned w part.reservation → IsSoundWorld w → Ending w call key from to
 unfolding goes
-ending w call key part from to done is part_call r_key there steps owned old =
+ending w call key part from to done is part_call r_key there out steps owned old =
     let r = part.reservation in
-    let u = some_of (open_call w r.caller.call) (λ v. (v.caller.session ≡ r.caller.session) × (v.command.key ≡ r.key)) owned.call in
-    let number : u.0.caller.call ≡ r.caller.call = found_number r.caller.call w.calls u.0 u.1 in
-    let key_is : u.0.command.key ≡ key = u.2.1 ∙ r_key in
-    let call_is : u.0.caller.call ≡ call = number ∙ part_call in
+    let u = some_of (open_call w r.caller.call) (IsCallOf r.caller.session r.key r.op) owned.call in
     let mid = after_commit from r done.place in
     let g = goes from mid to r.caller r.key r.op (out_of part) (callers_of r.number from.joiners) done (record { config = refl; stripe = refl; origin = refl; opening = refl }) refl steps in
-    let n = ended_world w key from to u.0.caller.call in
-    let alone : is_joined w call u.0.command.key ≡ false = ap (is_joined w call) key_is ∙ refuted (is_joined w call key) (λ t. let e : Some part ≡ None = sym is ∙ joined_no_part w call key t old.joins in cc) in
-    let one : IsPut w n u.0.caller.call r.caller = record { v = u.0; here = u.1; session_is = u.2.0; unserved = unserved w u.0 call call_is alone old; over = inl (sym number) } in
+    let n = ended_world w key from to call in
+    let alone : is_joined w r.caller.call r.key ≡ false = (λ i. is_joined w (part_call i) (r_key i)) ∙ refuted (is_joined w call key) (λ t. let e : Some part ≡ None = sym is ∙ joined_no_part w call key t old.joins in cc) in
+    let one : IsPut w n call key r.caller r.key = record { v = u.0; here = u.1; session_is = u.2.0; op = r.op; op_is = u.2.1; unserved = unserved w r.caller r.key alone old; over = inl (part_call, r_key) } in
     let joiners : to.joiners ≡ resolved r.number done.place from.joiners = ap (λ (s : State). s.joiners) steps.after in
     let at = old.shape.each (home w key) from there in
-    let P : Caller → Type 0 = IsPut w n u.0.caller.call in
+    let P : Caller → Type 0 = λ c. IsPut w n call key c r.key in
+    let J : Joiner → Type 0 = λ j. JoinFits from j j.state × IsCalled w (home w key) j in
+    let both = each_both (λ (j : Joiner). JoinFits from j j.state) (IsCalled w (home w key)) J from.joiners (λ j f h. (f, h)) (each_fits from from.joiners at.reached.joins) (old.called (home w key) from there) in
     let callers : Each (λ (c : Caller). P c) (callers_of part.reservation.number from.joiners) = each_caller P part.reservation.number from.joiners
-    (each_both (λ (j : Joiner). joiner_of j.caller j.key from.joiners ≡ Some j) (IsCalled w (home w key)) (λ (j : Joiner). waits_for part.reservation.number j ≡ true → P j.caller) from.joiners
-    (λ j own h waits. caller_put w key from to u.0.caller.call r.number done.place j there joiners own h waits)
-    (each_own from.joiners at.reached.apart) (old.called (home w key) from there))
+    (each_both (λ (j : Joiner). joiner_of j.caller j.key from.joiners ≡ Some j) J (λ (j : Joiner). waits_for part.reservation.number j ≡ true → P j.caller) from.joiners
+    (λ j own h waits. caller_put w key from to call r.number done.place j r.key there joiners own h.1 (key_of_load from r j at.reached out h.0 waits) waits)
+    (each_own from.joiners at.reached.apart) both)
     in
     record {
-      u = u.0;
-      number = call_is;
-      here = ap (open_call w) number ∙ u.1;
-      key_is = key_is;
       extends = g;
-      put = by_group P (length mid.history) (new_group mid r.caller r.key r.op (out_of part) (callers_of part.reservation.number from.joiners) steps.short) one callers;
-      keeps = λ v h. ap (λ js. has_parked_answer (joiner_of v.caller v.command.key js)) joiners ∙ told_resolved r.number done.place (done.place + 1) v.caller v.command.key from.joiners h;
+      put = by_group (IsPut w n call key) (length mid.history) (new_group mid r.caller r.key r.op (out_of part) (callers_of part.reservation.number from.joiners) steps.short) one callers;
+      keeps = λ caller q h. ap (λ js. has_parked_answer (joiner_of caller q js)) joiners ∙ told_resolved r.number done.place (done.place + 1) caller q from.joiners h;
       left = ap (λ (s : State). s.reservations) steps.after ∙ ap (λ k. without_key k from.reservations) r_key;
     }
 
@@ -413,16 +448,19 @@ pub ending_at : (w : WorldState) (call : ℕ) (key : Bytes) (part : Part) (from 
 ending_at w call key part from to done is there commits old =
     let at = of_call-at call (get w.parts key) part is in
     let held = some_of (stripe_for w key) (λ s. IsHeld s key part) (old.held key part at.0) in
-    ending w call key part from to done is at.1 held.2.key_is there commits.1
+    ending w call key part from to done is at.1 held.2.key_is there commits.0 commits.1
     (fact_found (IsOwned w) (is_key part.reservation.key) from.reservations part.reservation commits.0 (old.owned (home w key) from there)) old
 
--- the call of the commit is over
-order_commit : (w : WorldState) (call : ℕ) (key : Bytes) (from to : State) → IsSoundWorld w → stripe_for w key ≡ Some from → (e : Ending w call key from to) → IsReached to → HasOrder (ended_world w key from to e.u.caller.call)
+-- the key of the commit is settled
+order_commit : (w : WorldState) (call : ℕ) (key : Bytes) (from to : State) → IsSoundWorld w → stripe_for w key ≡ Some from → (e : Ending w call key from to) → IsReached to → HasOrder (ended_world w key from to call)
 order_commit w call key from to old there e reached =
-    let new : WorldState = ended_world w key from to e.u.caller.call in
-    order_stepped w key from to e.u.caller.call (remove w.parts key) old there e.extends reached e.put e.keeps
+    let new : WorldState = ended_world w key from to call in
+    order_stepped w key from to call (remove w.parts key) old there e.extends reached e.put e.keeps
     (owned_left_over w new key from to there e.left
-    (λ r apart h. record { part = part_kept w key r apart h; call = call_kept w e.u.caller.call r (refuted (e.u.caller.call == r.caller.call) (not_over w e.u key r e.here e.key_is apart h)) h }) old)
+    (λ r apart h. record {
+      part = part_kept w key r apart h;
+      call = call_kept w call key r (λ mine at. let t : true ≡ false = sym (ap (pointwise ◌==◌ key) at ∙ nat_list_eq_equiv.refl key) ∙ apart in cc) h;
+    }) old)
 
 -- by what is shown of the last phase
 ended : StaysReached → (w new : WorldState) (call : ℕ) (key : Bytes) (part : Part) (from to : State) (seen : Shown) → part_of w call key ≡ Some part → stripe_for w key ≡ Some from → Ends w call key part from to seen new → IsSoundWorld w → HasOrder new
@@ -430,8 +468,7 @@ ended stays w new call key part from to (shown.Stepped seen) is there h old =
     let at = old.shape.each (home w key) from there in
     let e = ending_at w call key part from to (step_of seen) is there h.0 old in
     let reached = stays.commits from to part.reservation (out_of part) (step_of seen) at.reached h.0 in
-    let P : ℕ → Type 0 = λ n. HasOrder (ended_world w key from to n) in
-    subst HasOrder (sym h.2) (subst P e.number (order_commit w call key from to old there e reached))
+    subst HasOrder (sym h.2) (order_commit w call key from to old there e reached)
 ended stays w new call key part from to seen is there h old = absurd h
 
 -- a last phase
@@ -445,8 +482,8 @@ pub order_withdrawn : StaysReached → (w : WorldState) (key : Bytes) (claim : R
 order_withdrawn stays w key claim from to key_is there h old =
     let new : WorldState = without_part (with_stripe w key to) key in
     let at = old.shape.each (home w key) from there in
-    let keeps : (v : OpenCall) → has_parked_answer (joiner_of v.caller v.command.key from.joiners) ≡ true → has_parked_answer (joiner_of v.caller v.command.key to.joiners) ≡ true = λ v k.
-    ap (λ (s : State). has_parked_answer (joiner_of v.caller v.command.key s.joiners)) h.1 ∙ told_dissolved claim.number v.caller v.command.key from.joiners k
+    let keeps : KeepsParked from to = λ caller q k.
+    ap (λ (s : State). has_parked_answer (joiner_of caller q s.joiners)) h.1 ∙ told_dissolved claim.number caller q from.joiners k
     in
     record {
       shape = shape_set w new key from to refl refl old.shape there (ap (λ (s : State). s.config) h.1) (ap (λ (s : State). s.stripe) h.1) (ap (λ (s : State). s.origin) h.1) (stays.withdraws from to claim at.reached h)
@@ -458,14 +495,16 @@ order_withdrawn stays w key claim from to key_is there h old =
           (λ r apart k. record { part = part_kept w key r apart k; call = k.call }) old;
     }
 
--- what is parked for another call stays where one has its answer
-told_without : (one other : Caller) (key k : Bytes) (js : List Joiner) → (other.call == one.call) ≡ false → has_parked_answer (joiner_of other k js) ≡ true → has_parked_answer (joiner_of other k (without one key js)) ≡ true
+-- what is parked for another call, or at another key, stays where one has its answer
+told_without : (one other : Caller) (key k : Bytes) (js : List Joiner) → (other.call ≡ one.call → k ≡ key → ⊥) → has_parked_answer (joiner_of other k js) ≡ true → has_parked_answer (joiner_of other k (without one key js)) ≡ true
 told_without one other key k js apart h =
     ap has_parked_answer (find_kept (is_joiner_of other k) (λ j. not (is_joiner_of one key j)) js (λ x t.
     ap not (refuted (is_joiner_of one key x) (λ e.
-    let mine : x.caller.call ≡ other.call = eqb-true x.caller.call other.call (and_parts (x.caller.session == other.session) (x.caller.call == other.call) (and_parts ((x.caller.session == other.session) && (x.caller.call == other.call)) (pointwise ◌==◌ k x.key) t).0).1 in
-    let its : x.caller.call ≡ one.call = eqb-true x.caller.call one.call (and_parts (x.caller.session == one.session) (x.caller.call == one.call) (and_parts ((x.caller.session == one.session) && (x.caller.call == one.call)) (pointwise ◌==◌ key x.key) e).0).1 in
-    let c : true ≡ false = sym (eq-eqb other.call one.call (sym mine ∙ its)) ∙ apart in cc))))
+    let mine = and_parts ((x.caller.session == other.session) && (x.caller.call == other.call)) (pointwise ◌==◌ k x.key) t in
+    let its = and_parts ((x.caller.session == one.session) && (x.caller.call == one.call)) (pointwise ◌==◌ key x.key) e in
+    let my_call : x.caller.call ≡ other.call = eqb-true x.caller.call other.call (and_parts (x.caller.session == other.session) (x.caller.call == other.call) mine.0).1 in
+    let its_call : x.caller.call ≡ one.call = eqb-true x.caller.call one.call (and_parts (x.caller.session == one.session) (x.caller.call == one.call) its.0).1 in
+    apart (sym my_call ∙ its_call) (same_bytes k x.key mine.1 ∙ sym (same_bytes key x.key its.1))))))
     ∙ h
 
 -- what a pick-up rests on: the join and its call
@@ -473,60 +512,48 @@ pub record Picking (w : WorldState) (call : ℕ) (key : Bytes) (join : JoinClaim
   pub u : OpenCall
   pub here : open_call w call ≡ Some u
   pub session_is : u.caller.session ≡ join.caller.session
-  pub key_is : u.command.key ≡ key
+  pub op_is : op_at u key ≡ Some Get
   pub call_is : join.caller.call ≡ call
   pub join_key : join.key ≡ key
-  pub none : part_of w call u.command.key ≡ None
+  pub none : part_of w call key ≡ None
 
 pub picking : (w : WorldState) (call : ℕ) (key : Bytes) (join : JoinClaim) → join_of w call key ≡ Some join → IsSoundWorld w → Picking w call key join
 picking w call key join there old =
     let is = join_is call key join (found_test (is_join call key) w.joins join there) in
     let h = fact_found (IsWaitedFor w) (is_join call key) w.joins join there old.joins in
-    let u = some_of (open_call w join.caller.call) (λ u. (u.caller.session ≡ join.caller.session) × (u.command.key ≡ join.key)) h.call in
-    let key_is : u.0.command.key ≡ key = u.2.1 ∙ is.1 in
+    let u = some_of (open_call w join.caller.call) (IsCallOf join.caller.session join.key Get) h.call in
     record {
       u = u.0;
       here = ap (open_call w) (sym is.0) ∙ u.1;
       session_is = u.2.0;
-      key_is = key_is;
+      op_is = ap (op_at u.0) (sym is.1) ∙ u.2.1;
       call_is = is.0;
       join_key = is.1;
-      none = (λ i. part_of w (sym is.0 i) (u.2.1 i)) ∙ h.no_part;
+      none = (λ i. part_of w (sym is.0 i) (sym is.1 i)) ∙ h.no_part;
     }
 
--- no reservation is of a call without a part
-not_own_at : (w : WorldState) (call : ℕ) (u : OpenCall) (r : Reservation) → open_call w call ≡ Some u → part_of w call u.command.key ≡ None → IsOwned w r → (call == r.caller.call) ≡ false
-not_own_at w call u r here none h = refuted (call == r.caller.call) (λ same.
-    let v = some_of (open_call w r.caller.call) (λ v. (v.caller.session ≡ r.caller.session) × (v.command.key ≡ r.key)) h.call in
-    let part = some_of (get w.parts r.key) (λ p. p.reservation.caller.call ≡ r.caller.call) h.part in
-    let number : call ≡ r.caller.call = eqb-true call r.caller.call same in
-    let is : u ≡ v.0 = same_found (open_call w call) u v.0 here (ap (open_call w) number ∙ v.1) in
-    let key : u.command.key ≡ r.key = ap (λ (v : OpenCall). v.command.key) is ∙ v.2.1 in
-    of_call-none call (get w.parts u.command.key) part.0 (ap is_none none) (ap (get w.parts) key ∙ part.1) (eq-eqb part.0.reservation.caller.call call (part.2 ∙ sym number)))
-
 -- the stripe once a call has picked its answer up
-left_keeps : (w : WorldState) (call : ℕ) (key : Bytes) (from to : State) (join : JoinClaim) (v : OpenCall) → stripe_for w key ≡ Some from → to ≡ without_joiner from join → join.caller.call ≡ call → (v.caller.call == call) ≡ false
-    → is_served w v ≡ true → is_served_in (slice_get (slice_set w.stripes (home w key) to) (home w v.command.key)) v ≡ true
-left_keeps w call key from to join v there is call_is apart =
-    at_stripe w.stripes (home w key) (home w v.command.key) from to (λ o x. is_served_in o v ≡ true → is_served_in x v ≡ true) there
-    (λ h. ap (λ (s : State). has_parked_answer (joiner_of v.caller v.command.key s.joiners)) is
-    ∙ told_without join.caller v.caller join.key v.command.key from.joiners (ap (λ c. v.caller.call == c) call_is ∙ apart) h)
+left_keeps : (w : WorldState) (call : ℕ) (key : Bytes) (from to : State) (join : JoinClaim) (caller : Caller) (q : Bytes) → stripe_for w key ≡ Some from → to ≡ without_joiner from join → join.caller.call ≡ call → join.key ≡ key
+    → (caller.call ≡ call → q ≡ key → ⊥) → is_served w caller q ≡ true → is_served_in (slice_get (slice_set w.stripes (home w key) to) (home w q)) caller q ≡ true
+left_keeps w call key from to join caller q there is call_is key_is apart =
+    at_stripe w.stripes (home w key) (home w q) from to (λ o x. is_served_in o caller q ≡ true → is_served_in x caller q ≡ true) there
+    (λ h. ap (λ (s : State). has_parked_answer (joiner_of caller q s.joiners)) is ∙ told_without join.caller caller join.key q from.joiners (λ mine at. apart (mine ∙ call_is) (at ∙ key_is)) h)
     (λ h. h)
 
--- a call has its answer, and is over
+-- a call has its answer at a key
 order_picked : StaysReached → (w : WorldState) (call : ℕ) (key : Bytes) (join : JoinClaim) (from to : State) (p : Picked) → join_of w call key ≡ Some join → stripe_for w key ≡ Some from → PicksUp from join p to → to ≡ without_joiner from join → IsSoundWorld w
-    → HasOrder (without_call (without_join (with_stripe w key to) call key) call)
+    → HasOrder (with_settled (without_join (with_stripe w key to) call key) call key)
 order_picked stays w call key join from to p joined there picks is old =
-    let new : WorldState = without_call (without_join (with_stripe w key to) call key) call in
+    let new : WorldState = with_settled (without_join (with_stripe w key to) call key) call key in
     let one = picking w call key join joined old in
     let at = old.shape.each (home w key) from there in
-    let kept : (rs : List Reservation) → AllOwned w rs → AllOwned new rs = λ rs. each_map (IsOwned w) (IsOwned new) rs (λ r h. record { part = h.part; call = call_kept w call r (not_own_at w call one.u r one.here one.none h) h }) in
+    let kept : (rs : List Reservation) → AllOwned w rs → AllOwned new rs = λ rs. each_map (IsOwned w) (IsOwned new) rs (λ r h. record { part = h.part; call = call_kept w call key r (not_own w call key r (ap is_none one.none) h) h }) in
     record {
       shape = shape_set w new key from to refl refl old.shape there (ap (λ (s : State). s.config) is) (ap (λ (s : State). s.stripe) is) (ap (λ (s : State). s.origin) is) (stays.picks_up from to join p at.reached picks)
           (at.share ∙ sym (ap (λ (s : State). s.history) is)) (λ n apart. refl);
       order = old.order;
       numbers = old.numbers;
-      calls = calls_filter w new (is_other call) (IsFound w) w.calls (λ v other found h. fits_same w new v refl refl (left_keeps w call key from to join v there is one.call_is (not_true (v.caller.call == call) other)) h) (each_found w w.calls old.calls) old.calls;
+      calls = calls_settled w new call key (IsFound w) w.calls (λ u v left found h. fits_left w new call key u v left refl refl (λ q op at. left_keeps w call key from to join u.caller q there is one.call_is one.join_key (left.other q op at)) h) (each_found w w.calls old.calls) old.calls;
       owned = λ n s. set_cases w.stripes (home w key) n to s
           (λ same here. subst (AllOwned new) (sym (ap (λ (s : State). s.reservations) is) ∙ ap (λ (s : State). s.reservations) here) (kept from.reservations (old.owned (home w key) from there)))
           (λ apart here. kept s.reservations (old.owned n s here));
@@ -554,18 +581,17 @@ order_again stays w call key join from to joined there picks old =
     let at = old.shape.each (home w key) from there in
     let is = picks.2 in
     let number : one.u.caller.call ≡ call = found_number call w.calls one.u one.here in
-    let untold : is_served w one.u ≡ false =
-    ap (λ k. is_served_in (slice_get w.stripes (home w k)) one.u) one.key_is ∙ ap (λ o. is_served_in o one.u) there
-    ∙ (λ i. has_parked_answer (joiner_of (record { session = one.session_is i; call = (number ∙ sym one.call_is) i }) ((one.key_is ∙ sym one.join_key) i) from.joiners))
+    let caller_is : one.u.caller ≡ join.caller = λ i. record { session = one.session_is i; call = (number ∙ sym one.call_is) i } in
+    let untold : is_served w one.u.caller key ≡ false =
+    ap (λ o. is_served_in o one.u.caller key) there
+    ∙ (λ i. has_parked_answer (joiner_of (caller_is i) (sym one.join_key i) from.joiners))
     ∙ again_untold (joiner_of join.caller join.key from.joiners) picks.1
     in
-    let served : (v : OpenCall) → IsFound w v → is_served w v ≡ true → is_served new v ≡ true = λ v found h.
-    elim (v.caller.call == call) as (λ b. (v.caller.call == call) ≡ b → is_served new v ≡ true) [
-      | true ↦ λ e.
-          let same : v ≡ one.u = same_found (open_call w call) v one.u (ap (open_call w) (sym (eqb-true v.caller.call call e)) ∙ found) one.here in
-          let t : true ≡ false = sym h ∙ ap (is_served w) same ∙ untold in cc
-      | false ↦ λ e. left_keeps w call key from to join v there is one.call_is e h
-    ] refl
+    let served : (v : OpenCall) → IsFound w v → (q : Bytes) (op : Op) → op_at v q ≡ Some op → is_served w v.caller q ≡ true → is_served new v.caller q ≡ true = λ v found q op op_is h.
+    left_keeps w call key from to join v.caller q there is one.call_is one.join_key
+    (λ mine at.
+    let same : v ≡ one.u = same_found (open_call w call) v one.u (ap (open_call w) (sym mine) ∙ found) one.here in
+    let t : true ≡ false = sym h ∙ (λ i. is_served w (same i).caller (at i)) ∙ untold in cc) h
     in
     order_aside w key from to (joins_without call key w.joins) there (ap (λ (s : State). s.config) is) (ap (λ (s : State). s.stripe) is) (ap (λ (s : State). s.origin) is) (ap (λ (s : State). s.history) is) (ap (λ (s : State). s.reservations) is)
     (stays.picks_up from to join picked.Again at.reached picks)
@@ -589,9 +615,7 @@ order_left w call fit old = go (open_call w call) refl fit
   where
     go : (o : Option OpenCall) → open_call w call ≡ o → may_leave w call o ≡ true → HasOrder (without_call w call)
     go None e h = cc
-    go (Some u) e h =
-        let may = may_start_with w call u h e old in
-        let P : ℕ → Type 0 = λ n. HasOrder (without_call w n) in subst P (found_number call w.calls u e) (order_over w u may old)
+    go (Some u) e h = order_over w call u h e old
 
 -- 8. An event that fits.
 
@@ -607,11 +631,11 @@ part_key w call key part is old = (some_of (stripe_for w key) (λ s. IsHeld s ke
 -- by the kind of the event
 pub order_happens : StaysReached → (w new : WorldState) (e : WorldEvent) (seen : Shown) → fits w e ≡ true → Happens w e seen new → IsSoundWorld w → HasOrder new
 order_happens stays w new (event.Call call session command) seen fit h old = subst HasOrder (sym h.1) (order_called w call session command fit old)
-order_happens stays w new (event.Start call key) seen fit h old = order_started stays w new call key h.0 h.2 h.4 seen fit h.1 h.3 h.5 old
+order_happens stays w new (event.Start call key) seen fit h old = order_started stays w new call key h.0 h.1 h.4 h.6 seen fit h.2 h.3 h.5 h.7 old
 order_happens stays w new (event.Read call key) seen fit h old = subst HasOrder (sym h.3) (order_part w call key h.0 _ _ w.store h.1 refl old)
 order_happens stays w new (event.Say call key answer) seen fit h old = subst HasOrder (sym h.3) (order_part w call key h.0 _ _ w.store h.1 refl old)
 order_happens stays w new (event.Change call key) seen fit h old = subst HasOrder (sym h.5) (order_part w call key h.0 _ w.premises _ h.2 refl old)
-order_happens stays w new (event.Report call fault) seen fit h old = subst HasOrder (sym h.7) (order_part w call h.0.command.key h.1 _ _ w.store h.4 refl old)
+order_happens stays w new (event.Report call fault) seen fit h old = subst HasOrder (sym h.9) (order_part w call h.1 h.2 _ _ w.store h.6 refl old)
 order_happens stays w new (event.Commit call key) seen fit h old = order_ended stays w new call key h.0 h.2 h.4 seen h.1 h.3 h.5 old
 order_happens stays w new (event.Withdraw call key) seen fit h old = subst HasOrder (sym h.7) (order_withdrawn stays w key h.0.reservation h.2 h.4 (part_key w call key h.0 h.1 old) h.3 h.5 old)
 order_happens stays w new (event.Leave call) seen fit h old = subst HasOrder (sym h.1) (order_left w call fit old)

@@ -40,7 +40,7 @@ use Rattle.jc_world.proofs.Shares.{set_cases, length-slice_set, each_test}
 use Rattle.jc_world.proofs.Underway.{others_left, same_bytes}
 use Rattle.jc_world.proofs.Reservations.{found_left}
 use Rattle.jc_world.proofs.Joiners.{joiner_of, find_kept, joined_resolved, joined_dissolved}
-use Rattle.jc_world.proofs.Beginning.{refuted}
+use Rattle.jc_world.proofs.Facts.{refuted}
 
 -- 1. A reservation that is over.
 

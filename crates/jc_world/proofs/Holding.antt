@@ -9,9 +9,9 @@ use Rattle.jc_world.specs.declared.event.Part.{Part}
 use Rattle.jc_world.specs.declared.event.Progress.{Progress}
 use Rattle.jc_world.specs.declared.event.Progress.TheVariants.{Loading, Writing}
 use Rattle.jc_world.specs.declared.event.WorldEvent.TheVariants as event
-use Rattle.jc_world.specs.World.{WorldState, home, stripe_for, open_call, of_call, part_of, is_answered, is_untouched, has_progress}
+use Rattle.jc_world.specs.World.{WorldState, home, stripe_for, open_call, op_at, of_call, part_of, is_answered, is_untouched, has_progress}
 use Rattle.jc_world.specs.Events.{fits}
-use Rattle.jc_world.specs.Sound.{IsHeld, IsSoundWorld, IsOwned}
+use Rattle.jc_world.specs.Sound.{IsHeld, IsSoundWorld, IsOwned, IsCallOf}
 use Rattle.jc_world.proofs.Numbered.{some_of}
 use Rattle.jc_world.proofs.Shares.{fact_found}
 
@@ -64,12 +64,12 @@ may_withdraw v w call key part same fit there =
     let one = fits_withdrawal v w call key same fit in
     (one.1 ∙ sym one.2 ∙ there, untouched_open part.progress (ap (has_progress is_untouched) (sym there) ∙ one.3))
 
--- the call of a held key is under way, on that key: its reservation says so
-pub call_on : (w : WorldState) (key : Bytes) (part : Part) → get w.parts key ≡ Some part → IsSoundWorld w → IsSomeAnd (open_call w part.reservation.caller.call) (λ u. u.command.key ≡ key)
+-- the call of a held key is under way, with its operation open at that key: its reservation says so
+pub call_on : (w : WorldState) (key : Bytes) (part : Part) → get w.parts key ≡ Some part → IsSoundWorld w → IsSomeAnd (open_call w part.reservation.caller.call) (λ u. op_at u key ≡ Some part.reservation.op)
 call_on w key part there old =
     let r = part.reservation in
     let held = some_of (stripe_for w key) (λ s. IsHeld s key part) (old.held key part there) in
     let own = fact_found (IsOwned w) (is_key r.key) held.0.reservations r held.2.out (old.owned (home w key) held.0 held.1) in
-    let call = some_of (open_call w r.caller.call) (λ u. (u.caller.session ≡ r.caller.session) × (u.command.key ≡ r.key)) own.call in
-    let P : Option OpenCall → Type 0 = λ o. IsSomeAnd o (λ u. u.command.key ≡ key) in
-    subst P (sym call.1) (call.2.1 ∙ held.2.key_is)
+    let call = some_of (open_call w r.caller.call) (IsCallOf r.caller.session r.key r.op) own.call in
+    let P : Option OpenCall → Type 0 = λ o. IsSomeAnd o (λ u. op_at u key ≡ Some r.op) in
+    subst P (sym call.1) (ap (op_at call.0) (sym held.2.key_is) ∙ call.2.1)

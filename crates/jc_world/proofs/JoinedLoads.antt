@@ -2,10 +2,9 @@
 --     Tells              what the state of a joiner tells of its load: it is out, or it was committed or withdrawn since, as was shown
 --     TellsIn            a stripe has the joiner of a join, whose state tells that of the load
 --     tells_kept         it does later, if the joiners are the same or more, and the load stays out
---     same_number        two reservations with one number are one
 --     tells_committed, tells_withdrawn      it does where any load is over
 use Rattle.std.proofs.Common.{◌≡◌, ◌==◌, ◌<◌, ◌&&◌, ◌||◌, ◌+◌, ℕ, zero, suc, List, [], ◌∷◌, ◌++◌, length, Bool, true, false, cond, Some, IsSomeAnd, find, slice_get, refl, sym, ap, ◌∙◌, subst, arith}
-use Rattle.std.specs.List.{All, AllPairs, list_any}
+use Rattle.std.specs.List.{list_any}
 use Rattle.std.specs.Cmp.Lexicographic.{pointwise}
 use Rattle.std.proofs.Math.Seq.{take-append_seam}
 use Rattle.std.proofs.lemmas.List.{take-append-le}
@@ -32,12 +31,12 @@ use Rattle.jc_world.specs.declared.event.WorldEvent.TheVariants as event
 use Rattle.jc_world.specs.Events.{is_fit}
 use Rattle.jc_world.specs.PickUps.{ends_load, IsEnd}
 use Rattle.jc_world.proofs.Underway.{same_bytes}
-use Rattle.jc_world.proofs.Beginning.{refuted}
 use Rattle.jc_world.proofs.Joiners.{joiner_of, joined_front}
 use Rattle.jc_world.proofs.Reservations.{found_left}
 use Rattle.jc_world.proofs.Entries.{split}
 use Rattle.jc_world.proofs.Kept.{some_map}
-use Rattle.jc_world.proofs.ReservedEntries.{found_holds}
+use Rattle.jc_world.proofs.LoadKeys.{same_number}
+use Rattle.jc_world.proofs.Facts.{refuted}
 
 -- what was shown so far, each with its event
 abbrev pub Shows : Type 0
@@ -142,26 +141,6 @@ dissolved_by P Q load caller key (x ∷ xs) f g h =
         | false ↦ λ h. dissolved_by P Q load caller key xs f g h
       ] h
     ] refl
-
--- two reservations with one number are one
-same_number : (p q : Reservation → Bool) (rs : List Reservation) (r s : Reservation) → AllPairs (λ x later. (x.number == later.number) ≡ false) rs → find p rs ≡ Some r → find q rs ≡ Some s → r.number ≡ s.number → r ≡ s
-same_number p q [] r s once f g same = cc
-same_number p q (x ∷ xs) r s once f g same =
-    let apart : All (λ (y : Reservation). (x.number == y.number) ≡ false) xs = λ k d within. once 0 (suc k) d (omega arith) (omega arith) in
-    elim (p x) as (λ b. cond b (Some x) (find p xs) ≡ Some r → r ≡ s) [
-      | true ↦ λ f.
-          let is : x ≡ r = cc in
-          elim (q x) as (λ b. cond b (Some x) (find q xs) ≡ Some s → r ≡ s) [
-            | true ↦ λ g. cc
-            | false ↦ λ g. absurd (let t : true ≡ false = sym (eq-eqb x.number s.number (ap (λ (y : Reservation). y.number) is ∙ same)) ∙ found_holds q (λ y. (x.number == y.number) ≡ false) xs s g apart in cc)
-          ] g
-      | false ↦ λ f. elim (q x) as (λ b. cond b (Some x) (find q xs) ≡ Some s → r ≡ s) [
-        | true ↦ λ g.
-            let is : x ≡ s = cc in
-            absurd (let t : true ≡ false = sym (eq-eqb x.number r.number (ap (λ (y : Reservation). y.number) is ∙ sym same)) ∙ found_holds p (λ y. (x.number == y.number) ≡ false) xs r f apart in cc)
-        | false ↦ λ g. same_number p q xs r s (λ i j d lt within. once (suc i) (suc j) d (omega arith) (omega arith)) f g same
-      ] g
-    ] f
 
 -- two that are out by other numbers are of other keys
 keys_apart : (p r : Reservation) (rs : List Reservation) → find (is_key p.key) rs ≡ Some p → find (is_key r.key) rs ≡ Some r → (r.number == p.number) ≡ false → r.key ≡ p.key → ⊥

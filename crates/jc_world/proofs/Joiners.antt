@@ -4,7 +4,7 @@
 --     waited_on                 each join in another world
 --     once_filter, once_pushed      no two joins are of one call and one key
 --     join_any                  a join, with what is true of it
---     other_call        a call that is over has no join, so no joiner and no join of another call is its
+--     other_key         a call that has not joined the load of a key is at another key, where it has joined
 --     stands_at         where a join stands in the list
 use Rattle.std.proofs.Common.{◌≡◌, ◌==◌, ◌&&◌, ◌||◌, ◌+◌, ℕ, zero, suc, List, [], ◌∷◌, ◌++◌, Bool, true, false, cond, not, Option, None, Some, IsSomeAnd, find, filter, map, position, slice_get, refl, sym, ap, ◌∙◌, subst, arith, is_some}
 use Rattle.std.specs.List.{list_all, list_any, position_from}
@@ -15,7 +15,6 @@ use Rattle.std.specs.Cmp.Lexicographic.{pointwise}
 use Rattle.std.specs.FinMap.{get, insert, remove, get-insert, get-remove}
 use Rattle.std.proofs.lemmas.Bool.{eqb-true, and_parts, and_from}
 use Rattle.std.proofs.lemmas.Cmp.{nat_list_cmp_total, nat_eq_equiv, nat_list_eq_equiv}
-use Rattle.jc_world.proofs.Numbered.{some_of}
 use Rattle.jc_types.specs.declared.caller.Caller.{Caller}
 use Rattle.jc_model.specs.Cache.{Bytes, key_cmp}
 use Rattle.jc_model.proofs.CallerLemmas.{same_key}
@@ -28,9 +27,8 @@ use Rattle.jc_inflight.specs.Dissolving.{after_dissolve as dissolved}
 use Rattle.jc_stripe.specs.Tickets.{JoinClaim}
 use Rattle.jc_stripe.specs.Phases.{is_other_join}
 use Rattle.jc_stripe.specs.Reached.{are_apart}
-use Rattle.jc_world.specs.declared.event.OpenCall.{OpenCall}
 use Rattle.jc_world.specs.declared.event.Part.{Part}
-use Rattle.jc_world.specs.World.{WorldState, Parts, open_call, of_call, part_of, is_join, is_joined, joins_without}
+use Rattle.jc_world.specs.World.{WorldState, Parts, of_call, part_of, is_join, is_joined, joins_without}
 use Rattle.jc_world.specs.Sound.{has_answer, has_parked_answer, IsWaitedFor, AllWaitedFor, is_joined_once, AllCalled, Each}
 use Rattle.jc_world.proofs.Shares.{turned_eq, each_map}
 use Rattle.jc_world.proofs.Underway.{same_bytes}
@@ -292,21 +290,9 @@ joined_no_part w call key h waited =
     let is = join_is call key j.0 j.2 in
     (λ i. part_of w (sym is.0 i) (sym is.1 i)) ∙ j.3.no_part
 
--- a call without a join of its key is none that has joined
-pub other_call : (w : WorldState) (call : ℕ) (u : OpenCall) → open_call w call ≡ Some u → is_joined w call u.command.key ≡ false → (number session : ℕ) (key : Bytes) → is_joined w number key ≡ true
-    → IsSomeAnd (open_call w number) (λ v. (v.caller.session ≡ session) × (v.command.key ≡ key)) → (number == call) ≡ false
-other_call w call u is free number session key joined h =
-    let v = some_of (open_call w number) (λ v. (v.caller.session ≡ session) × (v.command.key ≡ key)) h in
-    refuted (number == call) (λ same.
-    let one : number ≡ call = eqb-true number call same in
-    let t : Some v.0 ≡ Some u = sym v.1 ∙ ap (open_call w) one ∙ is in
-    let same_call : v.0 ≡ u = cc in
-    let key_is : key ≡ u.command.key = sym v.2.1 ∙ ap (λ (x : OpenCall). x.command.key) same_call in
-    let t : true ≡ false = sym joined ∙ (λ i. is_joined w (one i) (key_is i)) ∙ free in cc)
-  where
-    refuted : (b : Bool) → (b ≡ true → ⊥) → b ≡ false
-    refuted true h = absurd (h refl)
-    refuted false h = refl
+-- a call that has not joined the load of a key is at another key, where it has joined
+pub other_key : (w : WorldState) (call : ℕ) (key : Bytes) (number : ℕ) (q : Bytes) → is_joined w call key ≡ false → is_joined w number q ≡ true → number ≡ call → q ≡ key → ⊥
+other_key w call key number q free joined one same = let t : true ≡ false = sym joined ∙ (λ i. is_joined w (one i) (same i)) ∙ free in cc
 
 -- a test that fails of each of a list fails of what is left of it
 none_left : (p q : JoinClaim → Bool) (js : List JoinClaim) → not (list_any p js) ≡ true → not (list_any p (filter q js)) ≡ true

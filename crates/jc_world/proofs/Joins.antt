@@ -1,8 +1,8 @@
 -- Each event keeps what the joins and the joiners of a world say.
 --     joins_called, joins_over, joins_phase, joins_joined, joins_picks, joins_parted, joins_stored     by the kind of the event
 --     joins_start, joins_happens       before anything has happened, and after any event that fits
-use Rattle.std.proofs.Common.{◌≡◌, ◌==◌, ◌&&◌, ◌+◌, ℕ, List, [], ◌∷◌, ◌++◌, Ok, Bool, true, false, not, Option, None, Some, IsSomeAnd, find, slice_get, slice_set, refl, sym, ap, ◌∙◌, subst}
-use Rattle.std.specs.List.{list_any}
+use Rattle.std.proofs.Common.{◌≡◌, ◌==◌, ◌&&◌, ◌+◌, ℕ, List, [], ◌∷◌, ◌++◌, Ok, Bool, true, false, not, Option, None, Some, IsSomeAnd, find, slice_get, slice_set, is_none, refl, sym, ap, ◌∙◌, subst}
+use Rattle.std.specs.List.{list_all, list_any}
 use Rattle.std.specs.Cmp.Lexicographic.{pointwise}
 use Rattle.std.specs.FinMap.{get, insert, remove}
 use Rattle.std.proofs.lemmas.Bool.{eq-eqb, eqb-true, and_parts, and_from}
@@ -12,6 +12,8 @@ use Rattle.jc_types.specs.declared.caller.Caller.{Caller}
 use Rattle.jc_types.specs.declared.config.Config.{Config}
 use Rattle.jc_types.specs.Limits.{check}
 use Rattle.jc_model.specs.declared.event.Event.{Event}
+use Rattle.jc_model.specs.declared.event.Op.{Op}
+use Rattle.jc_model.specs.declared.event.Op.TheVariants.{Get}
 use Rattle.jc_model.specs.Cache.{Bytes, Cache}
 use Rattle.jc_model.proofs.CallerLemmas.{none_is}
 use Rattle.jc_inflight.specs.declared.joiner.Joiner.{Joiner}
@@ -31,17 +33,19 @@ use Rattle.jc_world.specs.declared.event.Shown.TheVariants as shown
 use Rattle.jc_world.specs.declared.event.OpenCall.{OpenCall}
 use Rattle.jc_world.specs.declared.event.WorldEvent.{WorldEvent}
 use Rattle.jc_world.specs.declared.event.WorldEvent.TheVariants as event
-use Rattle.jc_world.specs.World.{WorldState, Parts, home, stripe_for, start, has_number, open_call, drop_call, of_call, part_of, is_join, join_of, is_joined, joins_without}
-use Rattle.jc_world.specs.Events.{may_leave, fits, with_stripe, with_phase, without_call, new_load, new_write, new_part, without_part, with_join, Starts, Ends, Picks, Happens}
+use Rattle.jc_world.specs.World.{WorldState, Parts, home, stripe_for, start, has_number, open_call, open_keys, op_at, settle, drop_call, of_call, part_of, is_join, join_of, is_joined, joins_without}
+use Rattle.jc_world.specs.Events.{is_free, may_leave, fits, with_stripe, with_phase, with_settled, without_call, new_load, new_write, new_part, without_part, with_join, Starts, Ends, Picks, Happens}
 use Rattle.jc_world.specs.Sound.{IsWaitedFor, AllWaitedFor, IsCalled, AllCalled, IsSoundWorld, IsCallOf}
-use Rattle.jc_world.proofs.Holding.{call_on}
 use Rattle.jc_world.proofs.Halves.{HasJoins}
 use Rattle.jc_world.proofs.Places.{at_stripe, stripe_put}
-use Rattle.jc_world.proofs.Shares.{is_some_and, set_cases, turned_eq, found_test, fact_found, each_kept, each_map, each_pushed}
-use Rattle.jc_world.proofs.Underway.{found_number, find_over, find_pushed, of_call-at, same_bytes}
-use Rattle.jc_world.proofs.Joiners.{joiner_of, any_kept, any_front, any_last, joined_resolved, joined_dissolved, joined_front, joined_last, find_kept, called_resolved, called_dissolved, once_pushed, once_filter, waited_on, each_joined, join_is, joined_no_part, other_call, none_inserted, none_removed, part_other, each_both}
-use Rattle.jc_world.proofs.Beginning.{MayStart, may_start_at, may_leave_at, start_is, refuted}
+use Rattle.jc_world.proofs.Shares.{is_some_and, set_cases, found_test, fact_found, each_kept, each_map, each_pushed}
+use Rattle.jc_world.proofs.Underway.{find_over, find_pushed, of_call-at, same_bytes}
+use Rattle.jc_world.proofs.Settling.{open_now, still_called}
+use Rattle.jc_world.proofs.LoadKeys.{joins_get}
+use Rattle.jc_world.proofs.Joiners.{joiner_of, any_kept, any_front, any_last, joined_resolved, joined_dissolved, joined_front, joined_last, find_kept, called_resolved, called_dissolved, once_pushed, once_filter, waited_on, each_joined, join_is, joined_no_part, other_key, none_inserted, none_removed, part_other, each_both}
+use Rattle.jc_world.proofs.Beginning.{MayStart, may_start_at, start_is}
 use Rattle.jc_world.proofs.Callers.{Picking, picking}
+use Rattle.jc_world.proofs.Facts.{denied, missing, refuted}
 
 -- 1. What goes on.
 
@@ -107,27 +111,39 @@ joins_called w call session command old =
     let more : List OpenCall = record { caller = record { session = session; call = call }; command = command } ∷ [] in
     let new : WorldState = record w { last = Some call; fresh = false; calls = w.calls ++ more } in
     record {
-      joins = kept_joins w new (λ j t h. record { out = h.out; call = find_pushed (has_number j.caller.call) w.calls more (IsCallOf j.caller.session j.key) h.call; no_part = h.no_part }) old;
-      called = λ m s at. each_map (IsCalled w m) (IsCalled new m) s.joiners (λ j h. record { home_is = h.home_is; join = h.join; call = find_pushed (has_number j.caller.call) w.calls more (IsCallOf j.caller.session j.key) h.call }) (old.called m s at);
+      joins = kept_joins w new (λ j t h. record { out = h.out; call = find_pushed (has_number j.caller.call) w.calls more (IsCallOf j.caller.session j.key Get) h.call; no_part = h.no_part }) old;
+      called = λ m s at. each_map (IsCalled w m) (IsCalled new m) s.joiners (λ j h. record { home_is = h.home_is; join = h.join; call = find_pushed (has_number j.caller.call) w.calls more (IsCallOf j.caller.session j.key Get) h.call }) (old.called m s at);
       once = old.once;
     }
 
--- a call that has joined goes on where one that hasn't is over
-still_under : (w : WorldState) (call : ℕ) (u : OpenCall) → open_call w call ≡ Some u → is_joined w call u.command.key ≡ false → (number session : ℕ) (key : Bytes) → is_joined w number key ≡ true
-    → IsSomeAnd (open_call w number) (IsCallOf session key) → IsSomeAnd (find (has_number number) (drop_call call w.calls)) (IsCallOf session key)
-still_under w call u is free number session key joined h =
-    let P : Option OpenCall → Type 0 = λ o. IsSomeAnd o (IsCallOf session key) in
-    subst P (sym (find_over call number w.calls (turned_eq call number ∙ other_call w call u is free number session key joined h))) h
+-- a call that has joined goes on where a key that isn't joined is settled
+still_under : (w : WorldState) (call : ℕ) (key : Bytes) → is_joined w call key ≡ false → (number session : ℕ) (q : Bytes) → is_joined w number q ≡ true
+    → IsSomeAnd (open_call w number) (IsCallOf session q Get) → IsSomeAnd (find (has_number number) (settle call key w.calls)) (IsCallOf session q Get)
+still_under w call key free number session q joined h = still_called call key number session q Get w.calls (other_key w call key number q free joined) h
 
--- a call without a join is over
-pub joins_over : (w : WorldState) (call : ℕ) (u : OpenCall) → open_call w call ≡ Some u → is_joined w call u.command.key ≡ false → IsSoundWorld w → HasJoins (without_call w call)
-joins_over w call u is free old =
-    let new = without_call w call in
+-- a first phase was refused, and the key has its last refusal
+joins_refused : (w : WorldState) (call : ℕ) (key : Bytes) → is_joined w call key ≡ false → IsSoundWorld w → HasJoins (with_settled w call key)
+joins_refused w call key free old =
+    let new = with_settled w call key in
     record {
-      joins = kept_joins w new (λ j t h. record { out = h.out; call = still_under w call u is free j.caller.call j.caller.session j.key t h.call; no_part = h.no_part }) old;
-      called = λ m s at. each_map (IsCalled w m) (IsCalled new m) s.joiners (λ j h. record { home_is = h.home_is; join = h.join; call = still_under w call u is free j.caller.call j.caller.session j.key h.join h.call }) (old.called m s at);
+      joins = kept_joins w new (λ j t h. record { out = h.out; call = still_under w call key free j.caller.call j.caller.session j.key t h.call; no_part = h.no_part }) old;
+      called = λ m s at. each_map (IsCalled w m) (IsCalled new m) s.joiners (λ j h. record { home_is = h.home_is; join = h.join; call = still_under w call key free j.caller.call j.caller.session j.key h.join h.call }) (old.called m s at);
       once = old.once;
     }
+
+-- a call without any join goes
+still_beside : (w : WorldState) (call : ℕ) (u : OpenCall) → open_call w call ≡ Some u → list_all (is_free w call) (open_keys u) ≡ true → (number session : ℕ) (q : Bytes) → is_joined w number q ≡ true
+    → IsSomeAnd (open_call w number) (IsCallOf session q Get) → IsSomeAnd (find (has_number number) (drop_call call w.calls)) (IsCallOf session q Get)
+still_beside w call u is free number session q joined h =
+    let P : Option OpenCall → Type 0 = λ o. IsSomeAnd o (IsCallOf session q Get) in
+    let v = some_of (open_call w number) (IsCallOf session q Get) h in
+    let apart = refuted (call == number) (λ e.
+    let mine : number ≡ call = sym (eqb-true call number e) in
+    let t : Some v.0 ≡ Some u = sym v.1 ∙ ap (open_call w) mine ∙ is in
+    let same : v.0 ≡ u = cc in
+    let one = open_now (is_free w call) u q Get (ap (λ (x : OpenCall). op_at x q) (sym same) ∙ v.2.1) free in
+    denied (is_joined w call q) (and_parts (is_none (part_of w call q)) (not (is_joined w call q)) one).1 (ap (λ n. is_joined w n q) (sym mine) ∙ joined)) in
+    subst P (sym (find_over call number w.calls apart)) h
 
 -- 3. A phase that changes no join.
 
@@ -139,7 +155,7 @@ phase_world w key to order calls parts = record w { stripes = slice_set w.stripe
 joins_phase : (w : WorldState) (key : Bytes) (from to : State) (order : List Event) (calls : List OpenCall) (parts : Parts) → stripe_for w key ≡ Some from
     → ((j : JoinClaim) → IsJoined from j → IsJoined to j)
     → ((n : WorldState) → AllCalled n (home w key) from.joiners → AllCalled n (home w key) to.joiners)
-    → ((number session : ℕ) (q : Bytes) → is_joined w number q ≡ true → IsSomeAnd (open_call w number) (IsCallOf session q) → IsSomeAnd (find (has_number number) calls) (IsCallOf session q))
+    → ((number session : ℕ) (q : Bytes) → is_joined w number q ≡ true → IsSomeAnd (open_call w number) (IsCallOf session q Get) → IsSomeAnd (find (has_number number) calls) (IsCallOf session q Get))
     → ((number : ℕ) (q : Bytes) → is_joined w number q ≡ true → part_of w number q ≡ None → of_call number (get parts q) ≡ None)
     → IsSoundWorld w → HasJoins (phase_world w key to order calls parts)
 joins_phase w key from to order calls parts there keeps here still none old =
@@ -164,32 +180,25 @@ same_joiners from to same j h = let P : List Joiner → Type 0 = λ js. IsSomeAn
 same_called : (m : ℕ) (from to : State) → to.joiners ≡ from.joiners → (n : WorldState) → AllCalled n m from.joiners → AllCalled n m to.joiners
 same_called m from to same n h = subst (AllCalled n m) (sym same) h
 
--- the part of a call that hasn't joined is another's
-none_reserved : (w : WorldState) (u : OpenCall) (part : Part) → part.reservation.caller.call ≡ u.caller.call → is_joined w u.caller.call u.command.key ≡ false → (number : ℕ) (q : Bytes) → is_joined w number q ≡ true → part_of w number q ≡ None
-    → of_call number (get (insert w.parts u.command.key part) q) ≡ None
-none_reserved w u part call_is free number q joined none =
-    none_inserted w.parts u.command.key q part number none (λ same. ap (λ c. c == number) call_is ∙ refuted (u.caller.call == number) (λ e.
-    let t : true ≡ false = sym joined ∙ (λ i. is_joined w (sym (eqb-true u.caller.call number e) i) (same i)) ∙ free in cc))
+-- the part of a key that isn't joined is no joined one's
+none_reserved : (w : WorldState) (call : ℕ) (key : Bytes) (part : Part) → part.reservation.caller.call ≡ call → is_joined w call key ≡ false → (number : ℕ) (q : Bytes) → is_joined w number q ≡ true → part_of w number q ≡ None
+    → of_call number (get (insert w.parts key part) q) ≡ None
+none_reserved w call key part call_is free number q joined none =
+    none_inserted w.parts key q part number none (λ same. ap (λ c. c == number) call_is ∙ refuted (call == number) (λ e. other_key w call key number q free joined (sym (eqb-true call number e)) same))
 
 -- 4. The first phase.
 
--- what cannot be there is none
-not_there : {A : Type 0} (o : Option A) → ((x : A) → o ≡ Some x → ⊥) → o ≡ None
-not_there None h = refl
-not_there (Some x) h = absurd (h x refl)
-
 -- a call without a join has no joiner
 pub no_joiner : (w : WorldState) (key : Bytes) (from : State) (join : JoinClaim) → stripe_for w key ≡ Some from → is_joined w join.caller.call join.key ≡ false → IsSoundWorld w → joiner_of join.caller join.key from.joiners ≡ None
-no_joiner w key from join there free old = not_there (joiner_of join.caller join.key from.joiners) (λ x e.
+no_joiner w key from join there free old = missing (joiner_of join.caller join.key from.joiners) (λ x e.
     let its = joiner_is join.caller join.key x (found_test (is_joiner_of join.caller join.key) from.joiners x e) in
     let had = (fact_found (IsCalled w (home w key)) (is_joiner_of join.caller join.key) from.joiners x e (old.called (home w key) from there)).join in
     let t : true ≡ false = sym had ∙ (λ i. is_joined w (its.1 i) (its.2 i)) ∙ free in cc)
 
 -- the call has joined a load
-joins_joined : (w : WorldState) (u : OpenCall) (from to : State) (join : JoinClaim) → stripe_for w u.command.key ≡ Some from → join ≡ record { caller = u.caller; key = u.command.key; load = join.load } → to ≡ with_joiner from join
-    → MayStart w u → IsSoundWorld w → HasJoins (with_join (with_stripe w u.command.key to) join)
-joins_joined w u from to join there join_is to_is may old =
-    let key = u.command.key in
+joins_joined : (w : WorldState) (u : OpenCall) (key : Bytes) (op : Op) (from to : State) (join : JoinClaim) → stripe_for w key ≡ Some from → join ≡ record { caller = u.caller; key = key; load = join.load } → to ≡ with_joiner from join
+    → op ≡ Get → MayStart w u key op → IsSoundWorld w → HasJoins (with_join (with_stripe w key to) join)
+joins_joined w u key op from to join there join_is to_is get_is may old =
     let new : WorldState = with_join (with_stripe w key to) join in
     let next : Joiner = record { caller = join.caller; key = join.key; load = join.load; state = Waiting } in
     let joiners : to.joiners ≡ from.joiners ++ next ∷ [] = ap (λ (s : State). s.joiners) to_is in
@@ -199,7 +208,7 @@ joins_joined w u from to join there join_is to_is may old =
     let call_is : join.caller.call ≡ u.caller.call = ap (λ (j : JoinClaim). j.caller.call) join_is in
     let key_is : join.key ≡ key = ap (λ (j : JoinClaim). j.key) join_is in
     let on : (m : ℕ) (j : Joiner) → IsCalled w m j → IsCalled new m j = λ m j h. record { home_is = h.home_is; join = any_front (is_join j.caller.call j.key) w.joins (join ∷ []) h.join; call = h.call } in
-    let its_call : IsSomeAnd (open_call w join.caller.call) (IsCallOf join.caller.session join.key) = is_some_and (open_call w join.caller.call) (IsCallOf join.caller.session join.key) u (ap (open_call w) call_is ∙ may.here) (sym session_is, sym key_is) in
+    let its_call : IsSomeAnd (open_call w join.caller.call) (IsCallOf join.caller.session join.key Get) = is_some_and (open_call w join.caller.call) (IsCallOf join.caller.session join.key Get) u (ap (open_call w) call_is ∙ may.here) (sym session_is, ap (op_at u) key_is ∙ may.op_is ∙ ap Some get_is) in
     let one : IsCalled new (home w key) next = record {
       home_is = ap (home w) key_is;
       join = any_last (is_join join.caller.call join.key) w.joins join (and_from _ _ (nat_eq_equiv.refl join.caller.call) (nat_list_eq_equiv.refl join.key));
@@ -224,25 +233,27 @@ joins_joined w u from to join there join_is to_is may old =
     }
 
 -- by what is shown of the first phase
-joins_started : (w new : WorldState) (u : OpenCall) (from to : State) (seen : Shown) → stripe_for w u.command.key ≡ Some from → Starts w u from to seen new → MayStart w u → IsSoundWorld w → HasJoins new
-joins_started w new u from to (shown.Refused refusal) there h may old = subst HasJoins (sym h.1) (joins_over w u.caller.call u may.here may.alone old)
-joins_started w new u from to (shown.Stepped seen) there h may old =
+joins_started : (w new : WorldState) (u : OpenCall) (key : Bytes) (op : Op) (from to : State) (seen : Shown) → stripe_for w key ≡ Some from → Starts w u.caller key op from to seen new → MayStart w u key op → IsSoundWorld w → HasJoins new
+joins_started w new u key op from to (shown.Refused refusal) there h may old = subst HasJoins (sym h.1) (joins_refused w u.caller.call key may.alone old)
+joins_started w new u key op from to (shown.Stepped seen) there h may old =
     let same : to.joiners ≡ from.joiners = ap (λ (s : State). s.joiners) h.0.2.after in
     subst HasJoins (sym h.2)
-    (joins_phase w u.command.key from to (with_phase w u.command.key from to).order (drop_call u.caller.call w.calls) w.parts there (same_joiners from to same) (same_called (home w u.command.key) from to same)
-    (λ number session q t k. still_under w u.caller.call u may.here may.alone number session q t k) (λ number q t k. k) old)
-joins_started w new u from to shown.Loads there h may old =
+    (joins_phase w key from to (with_phase w key from to).order (settle u.caller.call key w.calls) w.parts there (same_joiners from to same) (same_called (home w key) from to same)
+    (λ number session q t k. still_under w u.caller.call key may.alone number session q t k) (λ number q t k. k) old)
+joins_started w new u key op from to shown.Loads there h may old =
     let same : to.joiners ≡ from.joiners = ap (λ (s : State). s.joiners) h.1.4 in
     let part = new_part new_load h.0.reservation in
     subst HasJoins (sym h.2)
-    (joins_phase w u.command.key from to w.order w.calls (insert w.parts u.command.key part) there (same_joiners from to same) (same_called (home w u.command.key) from to same) (λ number session q t k. k) (none_reserved w u part (ap (λ (t : Ticket). t.reservation.caller.call) h.1.3) may.alone) old)
-joins_started w new u from to (shown.Asks change) there h may old =
+    (joins_phase w key from to w.order w.calls (insert w.parts key part) there (same_joiners from to same) (same_called (home w key) from to same) (λ number session q t k. k)
+    (none_reserved w u.caller.call key part (ap (λ (t : Ticket). t.reservation.caller.call) h.1.3) may.alone) old)
+joins_started w new u key op from to (shown.Asks change) there h may old =
     let same : to.joiners ≡ from.joiners = ap (λ (s : State). s.joiners) h.1.4 in
     let part = new_part new_write h.0.reservation in
     subst HasJoins (sym h.3)
-    (joins_phase w u.command.key from to w.order w.calls (insert w.parts u.command.key part) there (same_joiners from to same) (same_called (home w u.command.key) from to same) (λ number session q t k. k) (none_reserved w u part (ap (λ (t : Ticket). t.reservation.caller.call) h.1.3) may.alone) old)
-joins_started w new u from to shown.Joins there h may old = subst HasJoins (sym h.2) (joins_joined w u from to h.0 there h.1.2 h.1.3 may old)
-joins_started w new u from to seen there h may old = absurd h
+    (joins_phase w key from to w.order w.calls (insert w.parts key part) there (same_joiners from to same) (same_called (home w key) from to same) (λ number session q t k. k)
+    (none_reserved w u.caller.call key part (ap (λ (t : Ticket). t.reservation.caller.call) h.1.3) may.alone) old)
+joins_started w new u key op from to shown.Joins there h may old = subst HasJoins (sym h.2) (joins_joined w u key op from to h.0 there h.1.2 h.1.3 (joins_get from key op h.0.load h.1.1) may old)
+joins_started w new u key op from to seen there h may old = absurd h
 
 -- 5. The last phase, and a reservation that is given back.
 
@@ -250,24 +261,16 @@ joins_started w new u from to seen there h may old = absurd h
 unjoined_part : (w : WorldState) (call : ℕ) (key : Bytes) (part : Part) → part_of w call key ≡ Some part → IsSoundWorld w → is_joined w call key ≡ false
 unjoined_part w call key part is old = refuted (is_joined w call key) (λ t. let e : Some part ≡ None = sym is ∙ joined_no_part w call key t old.joins in cc)
 
--- the call of a part is on its key
-part_under : (w : WorldState) (call : ℕ) (key : Bytes) (part : Part) → part_of w call key ≡ Some part → IsSoundWorld w → IsSomeAnd (open_call w call) (λ u. u.command.key ≡ key)
-part_under w call key part is old =
-    let at = of_call-at call (get w.parts key) part is in
-    let P : ℕ → Type 0 = λ n. IsSomeAnd (open_call w n) (λ u. u.command.key ≡ key) in
-    subst P at.1 (call_on w key part at.0 old)
-
 -- by what is shown of the last phase
 joins_ended : (w new : WorldState) (call : ℕ) (key : Bytes) (part : Part) (from to : State) (seen : Shown) → part_of w call key ≡ Some part → stripe_for w key ≡ Some from → Ends w call key part from to seen new → IsSoundWorld w → HasJoins new
 joins_ended w new call key part from to (shown.Stepped seen) is there h old =
     let joiners : to.joiners ≡ resolved part.reservation.number seen.place from.joiners = ap (λ (s : State). s.joiners) h.0.1.after in
-    let u = some_of (open_call w call) (λ u. u.command.key ≡ key) (part_under w call key part is old) in
-    let free : is_joined w call u.0.command.key ≡ false = ap (is_joined w call) u.2 ∙ unjoined_part w call key part is old in
+    let free = unjoined_part w call key part is old in
     subst HasJoins (sym h.2)
-    (joins_phase w key from to (with_phase w key from to).order (drop_call call w.calls) (remove w.parts key) there
+    (joins_phase w key from to (with_phase w key from to).order (settle call key w.calls) (remove w.parts key) there
     (λ j t. let J : List Joiner → Type 0 = λ js. IsSomeAnd (joiner_of j.caller j.key js) (λ x. x.load ≡ j.load) in subst J (sym joiners) (joined_resolved (λ x. x.load ≡ j.load) part.reservation.number seen.place (seen.place + 1) j.caller j.key from.joiners (λ place x k. k) t))
     (λ n t. subst (AllCalled n (home w key)) (sym joiners) (called_resolved n (home w key) part.reservation.number seen.place (seen.place + 1) from.joiners t))
-    (λ number session q t k. still_under w call u.0 u.1 free number session q t k) (λ number q t k. none_removed w.parts key q number k) old)
+    (λ number session q t k. still_under w call key free number session q t k) (λ number q t k. none_removed w.parts key q number k) old)
 joins_ended w new call key part from to seen is there h old = absurd h
 
 -- a reservation is given back
@@ -281,42 +284,32 @@ joins_withdrawn w key claim from to there h old =
 
 -- 6. An answer is picked up.
 
--- the calls that go on: all of them, or those of other numbers
-record GoOn (w : WorldState) (call : ℕ) (calls : List OpenCall) : Type 0 where
-  keeps : (number session : ℕ) (key : Bytes) → (number == call) ≡ false → IsSomeAnd (open_call w number) (IsCallOf session key) → IsSomeAnd (find (has_number number) calls) (IsCallOf session key)
+-- the calls that go on: all of them, or all but the one at the key
+record GoOn (w : WorldState) (call : ℕ) (key : Bytes) (calls : List OpenCall) : Type 0 where
+  keeps : (number session : ℕ) (q : Bytes) → (number ≡ call → q ≡ key → ⊥) → IsSomeAnd (open_call w number) (IsCallOf session q Get) → IsSomeAnd (find (has_number number) calls) (IsCallOf session q Get)
 
 -- all do
-all_go_on : (w : WorldState) (call : ℕ) → GoOn w call w.calls
-all_go_on w call = record { keeps = λ number session key apart h. h }
+all_go_on : (w : WorldState) (call : ℕ) (key : Bytes) → GoOn w call key w.calls
+all_go_on w call key = record { keeps = λ number session q apart h. h }
 
--- the others do, where the call is over
-others_go_on : (w : WorldState) (call : ℕ) → GoOn w call (drop_call call w.calls)
-others_go_on w call = record {
-  keeps = λ number session key apart h.
-      let P : Option OpenCall → Type 0 = λ o. IsSomeAnd o (IsCallOf session key) in
-      subst P (sym (find_over call number w.calls (turned_eq call number ∙ apart))) h;
-}
+-- the others do, where the key is settled
+others_go_on : (w : WorldState) (call : ℕ) (key : Bytes) → GoOn w call key (settle call key w.calls)
+others_go_on w call key = record { keeps = λ number session q apart h. still_called call key number session q Get w.calls apart h }
 
--- a call that has joined, and isn't on this key, is another
-apart_from : (w : WorldState) (call : ℕ) (key : Bytes) (join : JoinClaim) → Picking w call key join → (number session : ℕ) (q : Bytes) → (q ≡ key → number ≡ call → session ≡ join.caller.session → ⊥) → IsSomeAnd (open_call w number) (IsCallOf session q) → (number == call) ≡ false
-apart_from w call key join p number session q other h = refuted (number == call) (λ e.
-    let v = some_of (open_call w number) (IsCallOf session q) h in
-    let same : number ≡ call = eqb-true number call e in
+-- a call of the number is of the session of the join
+session_at : (w : WorldState) (call : ℕ) (key : Bytes) (join : JoinClaim) → Picking w call key join → (number session : ℕ) (q : Bytes) → number ≡ call → IsSomeAnd (open_call w number) (IsCallOf session q Get) → session ≡ join.caller.session
+session_at w call key join p number session q same h =
+    let v = some_of (open_call w number) (IsCallOf session q Get) h in
     let t : Some v.0 ≡ Some p.u = sym v.1 ∙ ap (open_call w) same ∙ p.here in
     let is : v.0 ≡ p.u = cc in
-    other (sym v.2.1 ∙ ap (λ (x : OpenCall). x.command.key) is ∙ p.key_is) same (sym v.2.0 ∙ ap (λ (x : OpenCall). x.caller.session) is ∙ p.session_is))
+    sym v.2.0 ∙ ap (λ (x : OpenCall). x.caller.session) is ∙ p.session_is
 
 -- a test that is passed by what is so
 join_of_is : (call number : ℕ) (key q : Bytes) → q ≡ key → number ≡ call → ((number == call) && pointwise ◌==◌ key q) ≡ true
 join_of_is call number key q e f = and_from _ _ (eq-eqb number call f) (ap (pointwise ◌==◌ key) e ∙ nat_list_eq_equiv.refl key)
 
--- what is not true is not so
-denied : (b : Bool) → not b ≡ true → b ≡ true → ⊥
-denied true h k = cc
-denied false h k = cc
-
 -- the join is gone, and its joiner
-joins_picked : (w : WorldState) (call : ℕ) (key : Bytes) (join : JoinClaim) (from to : State) (calls : List OpenCall) → join_of w call key ≡ Some join → stripe_for w key ≡ Some from → to ≡ without_joiner from join → GoOn w call calls → IsSoundWorld w
+joins_picked : (w : WorldState) (call : ℕ) (key : Bytes) (join : JoinClaim) (from to : State) (calls : List OpenCall) → join_of w call key ≡ Some join → stripe_for w key ≡ Some from → to ≡ without_joiner from join → GoOn w call key calls → IsSoundWorld w
     → HasJoins (record w { stripes = slice_set w.stripes (home w key) to; joins = joins_without call key w.joins; calls = calls })
 joins_picked w call key join from to calls joined there is go old =
     let new : WorldState = record w { stripes = slice_set w.stripes (home w key) to; joins = joins_without call key w.joins; calls = calls } in
@@ -332,20 +325,20 @@ joins_picked w call key join from to calls joined there is go old =
     denied (is_join call key j) other (join_of_is call j.caller.call key j.key (sym mine.2 ∙ same.2 ∙ p.join_key) (sym mine.1 ∙ same.1 ∙ p.call_is))))))) h
     in
     let on : (m : ℕ) (j : Joiner) → (j.key ≡ key → j.caller.call ≡ call → j.caller.session ≡ join.caller.session → ⊥) → IsCalled w m j → IsCalled new m j = λ m j other h.
-    let apart = apart_from w call key join p j.caller.call j.caller.session j.key other h.call in
+    let apart = λ (mine : j.caller.call ≡ call) (at : j.key ≡ key). other at mine (session_at w call key join p j.caller.call j.caller.session j.key mine h.call) in
     record {
       home_is = h.home_is;
       join = any_kept (is_join j.caller.call j.key) (λ x. not (is_join call key x)) w.joins (λ x t. ap not (refuted (is_join call key x) (λ e.
           let mine = join_is j.caller.call j.key x t in
           let same = join_is call key x e in
-          let t : true ≡ false = sym (eq-eqb j.caller.call call (sym mine.0 ∙ same.0)) ∙ apart in cc))) h.join;
+          apart (sym mine.0 ∙ same.0) (sym mine.1 ∙ same.1)))) h.join;
       call = go.keeps j.caller.call j.caller.session j.key apart h.call;
     } in
     record {
       joins = waited_on w new (λ j. not (is_join call key j)) (λ (j : JoinClaim). is_joined w j.caller.call j.key ≡ true) w.joins
           (λ j other t h. record {
             out = out_on w key from to j there (out j other) h.out;
-            call = go.keeps j.caller.call j.caller.session j.key (apart_from w call key join p j.caller.call j.caller.session j.key (λ e f g. denied (is_join call key j) other (join_of_is call j.caller.call key j.key e f)) h.call) h.call;
+            call = go.keeps j.caller.call j.caller.session j.key (λ f e. denied (is_join call key j) other (join_of_is call j.caller.call key j.key e f)) h.call;
             no_part = h.no_part;
           }) (each_joined w.joins) old.joins;
       called = called_set w new key from to there
@@ -357,8 +350,8 @@ joins_picked w call key join from to calls joined there is go old =
 
 -- by what is shown of a pick-up
 joins_picks : (w new : WorldState) (call : ℕ) (key : Bytes) (join : JoinClaim) (from to : State) (seen : Shown) → join_of w call key ≡ Some join → stripe_for w key ≡ Some from → Picks w call key join from to seen new → IsSoundWorld w → HasJoins new
-joins_picks w new call key join from to (shown.PickedUp seen) joined there h old = subst HasJoins (sym h.2) (joins_picked w call key join from to (drop_call call w.calls) joined there h.0.3 (others_go_on w call) old)
-joins_picks w new call key join from to shown.Again joined there h old = subst HasJoins (sym h.1) (joins_picked w call key join from to w.calls joined there h.0.2 (all_go_on w call) old)
+joins_picks w new call key join from to (shown.PickedUp seen) joined there h old = subst HasJoins (sym h.2) (joins_picked w call key join from to (settle call key w.calls) joined there h.0.3 (others_go_on w call key) old)
+joins_picks w new call key join from to shown.Again joined there h old = subst HasJoins (sym h.1) (joins_picked w call key join from to w.calls joined there h.0.2 (all_go_on w call key) old)
 joins_picks w new call key join from to shown.Waits joined there h old = subst HasJoins (sym h.1) (record { joins = old.joins; once = old.once; called = old.called })
 joins_picks w new call key join from to seen joined there h old = absurd h
 
@@ -379,17 +372,22 @@ joins_left w call fit old = go (open_call w call) refl
     go : (o : Option OpenCall) → open_call w call ≡ o → HasJoins (without_call w call)
     go None e = let t : false ≡ true = ap (may_leave w call) (sym e) ∙ fit in cc
     go (Some u) e =
-        let may = may_leave_at w call u fit e old in
-        joins_over w call u e (ap (λ n. is_joined w n u.command.key) (sym (found_number call w.calls u e)) ∙ may.alone) old
+        let new = without_call w call in
+        let free = sym (ap (may_leave w call) e) ∙ fit in
+        record {
+          joins = kept_joins w new (λ j t h. record { out = h.out; call = still_beside w call u e free j.caller.call j.caller.session j.key t h.call; no_part = h.no_part }) old;
+          called = λ m s at. each_map (IsCalled w m) (IsCalled new m) s.joiners (λ j h. record { home_is = h.home_is; join = h.join; call = still_beside w call u e free j.caller.call j.caller.session j.key h.join h.call }) (old.called m s at);
+          once = old.once;
+        }
 
 -- by the kind of the event
 pub joins_happens : (w new : WorldState) (e : WorldEvent) (seen : Shown) → fits w e ≡ true → Happens w e seen new → IsSoundWorld w → HasJoins new
 joins_happens w new (event.Call call session command) seen fit h old = subst HasJoins (sym h.1) (joins_called w call session command old)
-joins_happens w new (event.Start call key) seen fit h old = joins_started w new h.0 h.2 h.4 seen h.3 h.5 (may_start_at w call key h.0 fit h.1 old) old
+joins_happens w new (event.Start call key) seen fit h old = joins_started w new h.0 key h.1 h.4 h.6 seen h.5 h.7 (may_start_at w call key h.0 h.1 fit h.2 h.3 old) old
 joins_happens w new (event.Read call key) seen fit h old = subst HasJoins (sym h.3) (joins_parted w call key h.0 _ _ w.store h.1 refl old)
 joins_happens w new (event.Say call key answer) seen fit h old = subst HasJoins (sym h.3) (joins_parted w call key h.0 _ _ w.store h.1 refl old)
 joins_happens w new (event.Change call key) seen fit h old = subst HasJoins (sym h.5) (joins_parted w call key h.0 _ w.premises _ h.2 refl old)
-joins_happens w new (event.Report call fault) seen fit h old = subst HasJoins (sym h.7) (joins_parted w call h.0.command.key h.1 _ _ w.store h.4 refl old)
+joins_happens w new (event.Report call fault) seen fit h old = subst HasJoins (sym h.9) (joins_parted w call h.1 h.2 _ _ w.store h.6 refl old)
 joins_happens w new (event.Commit call key) seen fit h old = joins_ended w new call key h.0 h.2 h.4 seen h.1 h.3 h.5 old
 joins_happens w new (event.Withdraw call key) seen fit h old = subst HasJoins (sym h.7) (joins_withdrawn w key h.0.reservation h.2 h.4 h.3 h.5 old)
 joins_happens w new (event.Leave call) seen fit h old = subst HasJoins (sym h.1) (joins_left w call fit old)

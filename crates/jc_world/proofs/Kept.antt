@@ -1,5 +1,5 @@
 -- Each event keeps what the parts and the store of a world say.
-use Rattle.std.proofs.Common.{◌≡◌, ◌==◌, ◌&&◌, ◌+◌, ℕ, zero, suc, List, [], ◌∷◌, ◌++◌, Bool, true, false, cond, not, Option, None, Some, IsSomeAnd, Ok, find, refl, sym, ap, ◌∙◌, subst, slice_get, slice_set}
+use Rattle.std.proofs.Common.{◌≡◌, ◌&&◌, ◌+◌, ℕ, zero, suc, List, [], ◌∷◌, ◌++◌, Bool, true, false, cond, Option, None, Some, IsSomeAnd, Ok, find, refl, sym, ap, ◌∙◌, subst, slice_get, slice_set}
 use Rattle.std.specs.Ordering.{eq_by_cmp}
 use Rattle.std.specs.Cmp.Lexicographic.{texts_ties}
 use Rattle.std.proofs.lemmas.Cmp.{nat_list_cmp_total}
@@ -7,6 +7,7 @@ use Rattle.std.proofs.lemmas.Bool.{and_parts, and_from}
 use Rattle.std.specs.FinMap.{get, insert, remove, get-empty, get-insert, get-remove}
 use Rattle.std.specs.Bool.{beq}
 use Rattle.jc_world.proofs.Numbered.{some_of}
+use Rattle.jc_types.specs.declared.caller.Caller.{Caller}
 use Rattle.jc_types.specs.declared.config.Config.{Config}
 use Rattle.jc_types.specs.Limits.{check}
 use Rattle.jc_model.specs.declared.event.Op.{Op}
@@ -42,23 +43,21 @@ use Rattle.jc_world.specs.declared.event.Premises.{Premises}
 use Rattle.jc_world.specs.declared.event.Shown.{Shown}
 use Rattle.jc_world.specs.declared.event.Shown.TheVariants as shown
 use Rattle.jc_world.specs.declared.event.WorldEvent.TheVariants as event
-use Rattle.jc_world.specs.World.{WorldState, Parts, home, stripe_for, cached_entry, entry_in, empty_stripes, start, open_call, drop_call, of_call, part_of, waits_for_load, waits_for_report, is_answered, is_untouched, has_changed, out_in, join_of, joins_without, out_of, has_number, with_stored, has_progress}
+use Rattle.jc_world.specs.World.{WorldState, Parts, home, stripe_for, cached_entry, entry_in, empty_stripes, start, open_call, op_at, settle, drop_call, part_of, waits_for_load, waits_for_report, is_answered, is_untouched, has_changed, out_in, join_of, joins_without, out_of, has_number, with_stored, has_progress}
 use Rattle.jc_world.specs.Premises.{changed_to, is_true_load, is_done, is_true_report, with_foreign_write, premises_hold}
 use Rattle.jc_world.specs.Events.{fits, may_leave, after_answer, after_change, after_report, new_load, new_write, new_part, with_change, with_report, with_stripe, with_phase, without_call, with_part, without_part, step_of, Starts, Ends, Picks}
 use Rattle.jc_world.specs.Coherent.{Coherent, all_hold}
 use Rattle.jc_world.specs.Sound.{is_asked, IsHeld, Agrees, LoadAgrees, ProgressAgrees, KeyAgrees, IsWrittenFor, IsSoundWorld}
-use Rattle.jc_world.proofs.Holding.{call_on}
+use Rattle.jc_world.proofs.Holding.{call_on, is_part}
 use Rattle.jc_world.proofs.Halves.{HasParts}
-use Rattle.jc_world.proofs.Places.{at_stripe, stripe_put, home_stripe, found_number}
+use Rattle.jc_world.proofs.Places.{at_stripe, stripe_put, home_stripe}
 use Rattle.jc_world.proofs.Reservations.{found_more, out_reserved, was_free, writer_alone, new_out, found_left}
 use Rattle.jc_world.proofs.Entries.{split, tied, agrees_stepped, writes, loads_asked, writes_asked, loads, asks_nobody}
 use Rattle.jc_world.proofs.Callers.{picking}
+use Rattle.jc_world.proofs.Facts.{denied, missing}
+use Rattle.jc_world.proofs.Shares.{is_some_and}
 
 -- 1. Small facts.
-
--- a call is on this key
-abbrev IsOn : Bytes → OpenCall → Type 0
-IsOn key u = u.command.key ≡ key
 
 -- a part is held by a stripe, which is there
 abbrev HeldIn : Option State → Bytes → Part → Type 0
@@ -95,29 +94,14 @@ hold_writer on w h l q e =
 undisturbed : (on w l : Bool) → (on && (w && l && false)) ≡ true → ⊥
 undisturbed on w l h = let t = (and_parts (w && l) false ((and_parts on (w && l && false) h).1)).1 in cc
 
--- a part of a call at a key is the key's part
-pub is_there : (o : Option Part) (call : ℕ) (part : Part) → of_call call o ≡ Some part → o ≡ Some part
-is_there None call part h = cc
-is_there (Some p) call part h =
-    elim (p.reservation.caller.call == call) as (λ b. cond b (Some p) None ≡ Some part → Some p ≡ Some part) [ true ↦ λ h. h | false ↦ λ h. cc ] h
-
 -- what holds of what is there goes on to what follows from it
 pub some_map : {A : Type 0} (o : Option A) (P Q : A → Type 0) → ((x : A) → P x → Q x) → IsSomeAnd o P → IsSomeAnd o Q
 some_map None P Q f h = h
 some_map (Some x) P Q f h = f x h
 
--- what is there has what holds of it
-some_at : {A : Type 0} (o : Option A) (P : A → Type 0) (x : A) → o ≡ Some x → P x → IsSomeAnd o P
-some_at o P x e h = subst (λ o. IsSomeAnd o P) (sym e) h
-
 -- and the other way round
 of_some : {A : Type 0} (o : Option A) (P : A → Type 0) (x : A) → o ≡ Some x → IsSomeAnd o P → P x
 of_some o P x e h = subst (λ o. IsSomeAnd o P) e h
-
--- what cannot be there is none
-pub missing : {A : Type 0} (o : Option A) → ((x : A) → o ≡ Some x → ⊥) → o ≡ None
-missing None h = refl
-missing (Some x) h = absurd (h x refl)
 
 -- an entry that is the same as what is stored agrees with it
 agrees_same : (o : Option Bytes) → Agrees o o
@@ -142,11 +126,6 @@ same_test true true h = refl
 same_test true false h = cc
 same_test false true h = cc
 same_test false false h = refl
-
--- a test does not pass where its opposite does
-not_true : (b : Bool) → not b ≡ true → b ≡ true → ⊥
-not_true true h k = cc
-not_true false h k = cc
 
 -- what a key's part, its entry and the store say, where the entry goes
 told_on : (o : Option Part) (stored entry next : Option Bytes) → (Agrees entry stored → Agrees next stored) → KeyAgrees o stored entry → KeyAgrees o stored next
@@ -192,7 +171,7 @@ unheld w key s at free old = missing (get w.parts key) (λ p e. let t = is_out_r
 
 -- a part's ticket is out
 pub out_at : (w : WorldState) (call : ℕ) (key : Bytes) (part : Part) (from : State) → part_of w call key ≡ Some part → stripe_for w key ≡ Some from → IsSoundWorld w → IsOut from part.reservation
-out_at w call key part from is at old = (held_at w key part from (is_there (get w.parts key) call part is) at old).out
+out_at w call key part from is at old = (held_at w key part from (is_part (get w.parts key) call part is) at old).out
 
 -- where no call is under way, none is found
 none_under : (call : ℕ) (calls : List OpenCall) (u : OpenCall) → calls ≡ [] → find (has_number call) calls ≡ Some u → ⊥
@@ -205,7 +184,7 @@ begun_before w call u is old fresh = none_under call w.calls u (old.idle fresh) 
 -- nor is it where a key has a part
 worn : (w : WorldState) (key : Bytes) (part : Part) → get w.parts key ≡ Some part → IsSoundWorld w → w.fresh ≡ true → ⊥
 worn w key part there old fresh =
-    let on = some_of (open_call w part.reservation.caller.call) (IsOn key) (call_on w key part there old) in
+    let on = some_of (open_call w part.reservation.caller.call) (λ u. op_at u key ≡ Some part.reservation.op) (call_on w key part there old) in
     begun_before w part.reservation.caller.call on.0 on.1 old fresh
 
 -- all stripes have the configuration of the world
@@ -257,7 +236,7 @@ told_change (Loading answer) first change entry due asks = cc
 told_change (Writing is_changed report) first change entry due asks = record {
   written = λ e. let W : First → Type 0 = λ f. IsWrittenFor f (changed_to change) in subst W (sym asks) refl;
   unwritten = λ e. absurd (let t : true ≡ false = e in cc);
-  honest = λ e. absurd (not_true _ due e);
+  honest = λ e. absurd (denied _ due e);
 }
 
 -- and once it has returned
@@ -272,7 +251,7 @@ parts_progressed : (w : WorldState) (call : ℕ) (key : Bytes) (part : Part) (p 
     → HasParts (record w { store = store; parts = insert w.parts key (record part { progress = p }); premises = premises })
 parts_progressed w call key part p store premises is asks told old =
     let new : Part = record part { progress = p } in
-    let there = is_there (get w.parts key) call part is in
+    let there = is_part (get w.parts key) call part is in
     record {
       held = held_insert w w.parts key new old.held
           (some_map (stripe_for w key) (λ s. IsHeld s key part) (λ s. IsHeld s key new) (λ s h. record { key_is = h.key_is; out = h.out; asked = asks h.asked }) (old.held key part there));
@@ -284,7 +263,7 @@ parts_progressed w call key part p store premises is asks told old =
 -- the loader has answered
 pub parts_answered : (w : WorldState) (call : ℕ) (key : Bytes) (part : Part) (answer : LoadAnswer) → part_of w call key ≡ Some part → has_progress waits_for_load (part_of w call key) ≡ true → IsSoundWorld w → HasParts (after_answer w key part answer)
 parts_answered w call key part answer is waits old =
-    let there = is_there (get w.parts key) call part is in
+    let there = is_part (get w.parts key) call part is in
     let due : waits_for_load part.progress ≡ true = sym (ap (has_progress waits_for_load) is) ∙ waits in
     parts_progressed w call key part (Loading answer) w.store (after_answer w key part answer).premises is (load_asked_of part.progress part.reservation.first answer due)
     (λ h.
@@ -312,7 +291,7 @@ parts_changed w call key part change is asks waits old =
 -- the writer has returned
 pub parts_reported : (w : WorldState) (call : ℕ) (key : Bytes) (part : Part) (report : WriteAnswer) → part_of w call key ≡ Some part → has_progress waits_for_report (part_of w call key) ≡ true → IsSoundWorld w → HasParts (after_report w key part report)
 parts_reported w call key part report is waits old =
-    let there = is_there (get w.parts key) call part is in
+    let there = is_part (get w.parts key) call part is in
     let due : waits_for_report part.progress ≡ true = sym (ap (has_progress waits_for_report) is) ∙ waits in
     parts_progressed w call key part (with_report part.progress report) w.store (after_report w key part report).premises is (report_asked_of part.progress part.reservation.first report)
     (λ h.
@@ -379,9 +358,9 @@ parts_called w call session command fit old =
 held_on : (from next : State) (key : Bytes) (part : Part) → IsOut next part.reservation → IsHeld from key part → IsHeld next key part
 held_on from next key part out h = record { key_is = h.key_is; out = out; asked = h.asked }
 
--- a call is over
-parts_over : (w : WorldState) (call : ℕ) (u : OpenCall) → open_call w call ≡ Some u → IsSoundWorld w → HasParts (without_call w u.caller.call)
-parts_over w call u is old = record {
+-- the calls are others
+parts_over : (w : WorldState) (call : ℕ) (u : OpenCall) (calls : List OpenCall) → open_call w call ≡ Some u → IsSoundWorld w → HasParts (record w { calls = calls })
+parts_over w call u calls is old = record {
   held = old.held;
   told = old.told;
   fresh = old.fresh;
@@ -389,39 +368,36 @@ parts_over w call u is old = record {
 }
 
 -- a step was put down
-held_stepped : (u : OpenCall) (from next : State) (done : StepDone) (q : Bytes) (p : Part) → Begins from u.caller u.command.key u.command.op (begun.Done done) next → IsHeld from q p → IsHeld next q p
-held_stepped u from next done q p begins h =
+held_stepped : (caller : Caller) (key : Bytes) (op : Op) (from next : State) (done : StepDone) (q : Bytes) (p : Part) → Begins from caller key op (begun.Done done) next → IsHeld from q p → IsHeld next q p
+held_stepped caller key op from next done q p begins h =
     let R : List Reservation → Type 0 = λ rs. find (is_key p.reservation.key) rs ≡ Some p.reservation in
     held_on from next q p (subst R (sym (ap (λ (s : State). s.reservations) begins.2.after)) h.out) h
 
 -- and the entries that agreed with the store do so still
-agrees_begun : (u : OpenCall) (from next : State) (done : StepDone) (q : Bytes) (stored : Option Bytes) → Begins from u.caller u.command.key u.command.op (begun.Done done) next
+agrees_begun : (caller : Caller) (key : Bytes) (op : Op) (from next : State) (done : StepDone) (q : Bytes) (stored : Option Bytes) → Begins from caller key op (begun.Done done) next
     → from.config.write_through ≡ true → Agrees (entry_at from.cache q) stored → Agrees (entry_at next.cache q) stored
-agrees_begun u from next done q stored begins on agrees =
-    let key = u.command.key in
-    let op = u.command.op in
-    agrees_stepped from next u.caller key op nothing_said [] done q stored begins.2
+agrees_begun caller key op from next done q stored begins on agrees =
+    agrees_stepped from next caller key op nothing_said [] done q stored begins.2
     (split q key (λ b. Agrees (cond b (entry_after op (entry_at from.cache key) nothing_said) (entry_at from.cache q)) stored)
     (λ same. asks_nobody from.config op (entry_at from.cache key) stored on begins.1 (let P : Bytes → Type 0 = λ k. Agrees (entry_at from.cache k) stored in subst P same agrees))
     (λ apart. agrees))
 
 -- so the parts and the store say what they said
-parts_stepped : (w : WorldState) (call : ℕ) (u : OpenCall) (from next : State) (order : List Event) (done : StepDone) → open_call w call ≡ Some u → stripe_for w u.command.key ≡ Some from
-    → Begins from u.caller u.command.key u.command.op (begun.Done done) next → IsSoundWorld w
-    → HasParts (record w { stripes = slice_set w.stripes (home w u.command.key) next; order = order; calls = drop_call u.caller.call w.calls })
-parts_stepped w call u from next order done is at begins old =
-    let key = u.command.key in
-    let n : WorldState = record w { stripes = slice_set w.stripes (home w key) next; order = order; calls = drop_call u.caller.call w.calls } in
+parts_stepped : (w : WorldState) (call : ℕ) (u : OpenCall) (key : Bytes) (op : Op) (from next : State) (order : List Event) (calls : List OpenCall) (done : StepDone) → open_call w call ≡ Some u → stripe_for w key ≡ Some from
+    → Begins from u.caller key op (begun.Done done) next → IsSoundWorld w
+    → HasParts (record w { stripes = slice_set w.stripes (home w key) next; order = order; calls = calls })
+parts_stepped w call u key op from next order calls done is at begins old =
+    let n : WorldState = record w { stripes = slice_set w.stripes (home w key) next; order = order; calls = calls } in
     record {
       held = λ q p e.
           at_stripe w.stripes (home w key) (home w q) from next (λ o x. HeldIn o q p → HeldIn x q p) at
-          (held_stepped u from next done q p begins)
+          (held_stepped u.caller key op from next done q p begins)
           (λ h. h)
           (old.held q p e);
       told = λ hold q.
           let on : from.config.write_through ≡ true = ap (λ (c : Config). c.write_through) (config_at w (home w key) from at old) ∙ (and_parts w.config.write_through (premises_hold w.premises) hold).0 in
           at_stripe w.stripes (home w key) (home w q) from next (λ o x. KeyAgrees (get w.parts q) (entry_at w.store q) (entry_in o q) → KeyAgrees (get w.parts q) (entry_at w.store q) (entry_in x q)) at
-          (told_on (get w.parts q) (entry_at w.store q) (entry_at from.cache q) (entry_at next.cache q) (agrees_begun u from next done q (entry_at w.store q) begins on))
+          (told_on (get w.parts q) (entry_at w.store q) (entry_at from.cache q) (entry_at next.cache q) (agrees_begun u.caller key op from next done q (entry_at w.store q) begins on))
           (λ h. h)
           (old.told hold q);
       fresh = λ f. absurd (begun_before w call u is old f);
@@ -448,7 +424,7 @@ parts_reserving w key from next r part at free reservations cache one new used o
     (old.held q p e)
     in
     record {
-      held = held_insert n w.parts key part on (some_at (stripe_for n key) (λ s. IsHeld s key part) next (stripe_put w.stripes (home w key) from next at) one);
+      held = held_insert n w.parts key part on (is_some_and (stripe_for n key) (λ s. IsHeld s key part) next (stripe_put w.stripes (home w key) from next at) one);
       told = λ hold.
           let all : AllTold n w.parts w.store = λ q.
           at_stripe w.stripes (home w key) (home w q) from next (λ o x. KeyAgrees (get w.parts q) (entry_at w.store q) (entry_in o q) → KeyAgrees (get w.parts q) (entry_at w.store q) (entry_in x q)) at
@@ -470,11 +446,9 @@ held_new key from next p r free key_is reservations asked =
     record { key_is = key_is; out = subst P (sym reservations) (new_out from r (ap (is_reserved from) key_is ∙ free)); asked = asked }
 
 -- the key is reserved, and the loader is asked
-parts_loads : (w : WorldState) (call : ℕ) (u : OpenCall) (from next : State) (ticket : Ticket) → open_call w call ≡ Some u → stripe_for w u.command.key ≡ Some from
-    → Begins from u.caller u.command.key u.command.op (begun.Load ticket) next → IsSoundWorld w → HasParts (with_part (with_stripe w u.command.key next) u.command.key (new_part new_load ticket.reservation))
-parts_loads w call u from next ticket is at begins old =
-    let key = u.command.key in
-    let op = u.command.op in
+parts_loads : (w : WorldState) (call : ℕ) (u : OpenCall) (key : Bytes) (op : Op) (from next : State) (ticket : Ticket) → open_call w call ≡ Some u → stripe_for w key ≡ Some from
+    → Begins from u.caller key op (begun.Load ticket) next → IsSoundWorld w → HasParts (with_part (with_stripe w key next) key (new_part new_load ticket.reservation))
+parts_loads w call u key op from next ticket is at begins old =
     let r = ticket.reservation in
     let part = new_part new_load r in
     let n = with_part (with_stripe w key next) key part in
@@ -486,11 +460,9 @@ parts_loads w call u from next ticket is at begins old =
     (λ stored entry agrees. record { loaded = tt; unwritten = agrees }) (begun_before w call u is old) old
 
 -- the key is reserved, and the writer is asked
-parts_asks : (w : WorldState) (call : ℕ) (u : OpenCall) (from next : State) (ticket : Ticket) (change : Change) → open_call w call ≡ Some u → stripe_for w u.command.key ≡ Some from
-    → Begins from u.caller u.command.key u.command.op (begun.Write ticket) next → ticket.reservation.first ≡ Writer change → IsSoundWorld w → HasParts (with_part (with_stripe w u.command.key next) u.command.key (new_part new_write ticket.reservation))
-parts_asks w call u from next ticket change is at begins first old =
-    let key = u.command.key in
-    let op = u.command.op in
+parts_asks : (w : WorldState) (call : ℕ) (u : OpenCall) (key : Bytes) (op : Op) (from next : State) (ticket : Ticket) (change : Change) → open_call w call ≡ Some u → stripe_for w key ≡ Some from
+    → Begins from u.caller key op (begun.Write ticket) next → ticket.reservation.first ≡ Writer change → IsSoundWorld w → HasParts (with_part (with_stripe w key next) key (new_part new_write ticket.reservation))
+parts_asks w call u key op from next ticket change is at begins first old =
     let r = ticket.reservation in
     let part = new_part new_write r in
     let n = with_part (with_stripe w key next) key part in
@@ -521,18 +493,18 @@ parts_aside w key from next calls joins at cache reservations used old =
       idle = λ f. absurd (used f);
     }
 
--- the first phase of a call
-pub parts_started : (w new : WorldState) (call : ℕ) (key : Bytes) (u : OpenCall) (from to : State) (seen : Shown) → fits w (event.Start call key) ≡ true → open_call w call ≡ Some u → stripe_for w u.command.key ≡ Some from
-    → Starts w u from to seen new → IsSoundWorld w → HasParts new
-parts_started w new call key u from to (shown.Refused refusal) fit is at (begins, leaves) old = subst HasParts (sym leaves) (parts_over w call u is old)
-parts_started w new call key u from to (shown.Stepped seen) fit is at (begins, shows, leaves) old =
-    subst HasParts (sym leaves) (parts_stepped w call u from to (with_phase w u.command.key from to).order (step_of seen) is at begins old)
-parts_started w new call key u from to shown.Loads fit is at (ticket, begins, leaves) old = subst HasParts (sym leaves) (parts_loads w call u from to ticket is at begins old)
-parts_started w new call key u from to (shown.Asks change) fit is at (ticket, begins, first, leaves) old = subst HasParts (sym leaves) (parts_asks w call u from to ticket change is at begins first old)
-parts_started w new call key u from to shown.Joins fit is at (join, begins, leaves) old =
+-- the first phase of a key
+pub parts_started : (w new : WorldState) (call : ℕ) (key : Bytes) (u : OpenCall) (op : Op) (from to : State) (seen : Shown) → open_call w call ≡ Some u → stripe_for w key ≡ Some from
+    → Starts w u.caller key op from to seen new → IsSoundWorld w → HasParts new
+parts_started w new call key u op from to (shown.Refused refusal) is at (begins, leaves) old = subst HasParts (sym leaves) (parts_over w call u (settle u.caller.call key w.calls) is old)
+parts_started w new call key u op from to (shown.Stepped seen) is at (begins, shows, leaves) old =
+    subst HasParts (sym leaves) (parts_stepped w call u key op from to (with_phase w key from to).order (settle u.caller.call key w.calls) (step_of seen) is at begins old)
+parts_started w new call key u op from to shown.Loads is at (ticket, begins, leaves) old = subst HasParts (sym leaves) (parts_loads w call u key op from to ticket is at begins old)
+parts_started w new call key u op from to (shown.Asks change) is at (ticket, begins, first, leaves) old = subst HasParts (sym leaves) (parts_asks w call u key op from to ticket change is at begins first old)
+parts_started w new call key u op from to shown.Joins is at (join, begins, leaves) old =
     subst HasParts (sym leaves)
-    (parts_aside w u.command.key from to w.calls (w.joins ++ join ∷ []) at (ap (λ (s : State). s.cache) begins.3) (ap (λ (s : State). s.reservations) begins.3) (begun_before w call u is old) old)
-parts_started w new call key u from to seen fit is at h old = absurd h
+    (parts_aside w key from to w.calls (w.joins ++ join ∷ []) at (ap (λ (s : State). s.cache) begins.3) (ap (λ (s : State). s.reservations) begins.3) (begun_before w call u is old) old)
+parts_started w new call key u op from to seen is at h old = absurd h
 
 -- 7. The last phase.
 
@@ -553,10 +525,10 @@ agrees_ended config (Writing is_changed report) op (Writer change) entry stored 
     agrees_written op entry stored change report is_changed (writes_asked config op entry change asks) over h.written h.unwritten (h.honest over)
 agrees_ended config (Loading answer) op Nobody entry stored asks asked over h = cc
 agrees_ended config (Loading answer) op (Writer change) entry stored asks asked over h = cc
-agrees_ended config (Loading answer) op Processor entry stored asks asked over h = cc
+agrees_ended config (Loading answer) op (Processor seen loads) entry stored asks asked over h = cc
 agrees_ended config (Writing is_changed report) op Nobody entry stored asks asked over h = cc
 agrees_ended config (Writing is_changed report) op Loader entry stored asks asked over h = cc
-agrees_ended config (Writing is_changed report) op Processor entry stored asks asked over h = cc
+agrees_ended config (Writing is_changed report) op (Processor seen loads) entry stored asks asked over h = cc
 
 -- the reservation that is found asks what it asked
 asks_found : (config : Config) (cache : Cache) (key : Bytes) (rs : List Reservation) (r : Reservation) → find (is_key key) rs ≡ Some r → AllAsk config cache rs → first_asked config r.op (entry_at cache r.key) ≡ r.first
@@ -598,10 +570,10 @@ agrees_other key part from next done q stored steps apart h =
 -- so there is one part less
 parts_committed : (w : WorldState) (call : ℕ) (key : Bytes) (part : Part) (from next : State) (order : List Event) (done : StepDone) → part_of w call key ≡ Some part → has_progress is_answered (part_of w call key) ≡ true → stripe_for w key ≡ Some from
     → Commits from part.reservation (out_of part) done next → IsSoundWorld w
-    → HasParts (record w { stripes = slice_set w.stripes (home w key) next; order = order; calls = drop_call call w.calls; parts = remove w.parts key })
+    → HasParts (record w { stripes = slice_set w.stripes (home w key) next; order = order; calls = settle call key w.calls; parts = remove w.parts key })
 parts_committed w call key part from next order done is answered at commits old =
-    let n : WorldState = record w { stripes = slice_set w.stripes (home w key) next; order = order; calls = drop_call call w.calls; parts = remove w.parts key } in
-    let there = is_there (get w.parts key) call part is in
+    let n : WorldState = record w { stripes = slice_set w.stripes (home w key) next; order = order; calls = settle call key w.calls; parts = remove w.parts key } in
+    let there = is_part (get w.parts key) call part is in
     let one = held_at w key part from there at old in
     let r = part.reservation in
     let S : Bytes → Type 0 = λ k. Steps (after_commit from r done.place) r.caller k r.op (out_of part) (callers_of r.number from.joiners) done next in
@@ -660,7 +632,7 @@ pub parts_withdrawn : (w : WorldState) (call : ℕ) (key : Bytes) (part : Part) 
     → Withdraws from part.reservation next → IsSoundWorld w → HasParts (without_part (with_stripe w key next) key)
 parts_withdrawn w call key part from next fit is at withdraws old =
     let n : WorldState = without_part (with_stripe w key next) key in
-    let there = is_there (get w.parts key) call part is in
+    let there = is_part (get w.parts key) call part is in
     let one = held_at w key part from there at old in
     let left : next.reservations ≡ without_key key from.reservations = ap (λ (s : State). s.reservations) withdraws.1 ∙ ap (λ k. without_key k from.reservations) one.key_is in
     let cache : next.cache ≡ from.cache = ap (λ (s : State). s.cache) withdraws.1 in
@@ -697,7 +669,7 @@ parts_left w call fit old = go (open_call w call) refl
   where
     go : (o : Option OpenCall) → open_call w call ≡ o → HasParts (without_call w call)
     go None e = let t : false ≡ true = ap (may_leave w call) (sym e) ∙ fit in cc
-    go (Some u) e = let P : ℕ → Type 0 = λ n. HasParts (without_call w n) in subst P (found_number call w.calls u e) (parts_over w call u e old)
+    go (Some u) e = parts_over w call u (drop_call call w.calls) e old
 
 -- the half of a sound world
 parts_of_sound : (w : WorldState) → IsSoundWorld w → HasParts w
@@ -709,7 +681,7 @@ parts_picks w new call key join from to (shown.PickedUp seen) joined at h old =
     let p = picking w call key join joined old in
     let is = h.0.3 in
     subst HasParts (sym h.2)
-    (parts_aside w key from to (drop_call call w.calls) (joins_without call key w.joins) at (ap (λ (s : State). s.cache) is) (ap (λ (s : State). s.reservations) is) (begun_before w call p.u p.here old) old)
+    (parts_aside w key from to (settle call key w.calls) (joins_without call key w.joins) at (ap (λ (s : State). s.cache) is) (ap (λ (s : State). s.reservations) is) (begun_before w call p.u p.here old) old)
 parts_picks w new call key join from to shown.Again joined at h old =
     let p = picking w call key join joined old in
     let is = h.0.2 in

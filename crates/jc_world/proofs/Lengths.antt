@@ -85,6 +85,7 @@ begun_length old new caller key op (begun.Refused refusal) h = same_length old n
 begun_length old new caller key op (begun.Done done) h = steps_length old new caller key op nothing_said [] done h.2 (omega arith)
 begun_length old new caller key op (begun.Load ticket) h = same_length old new (ap (λ (s : State). s.history) h.4)
 begun_length old new caller key op (begun.Write ticket) h = same_length old new (ap (λ (s : State). s.history) h.4)
+begun_length old new caller key op (begun.Process ticket) h = same_length old new (ap (λ (s : State). s.history) h.4)
 begun_length old new caller key op (begun.Joined join) h = same_length old new (ap (λ (s : State). s.history) h.3)
 
 -- a last phase

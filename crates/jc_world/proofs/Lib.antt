@@ -1,7 +1,10 @@
+pub mod Facts
 pub mod Halves
 pub mod Shares
 pub mod Underway
+pub mod Settling
 pub mod Joiners
+pub mod LoadKeys
 pub mod Beginning
 pub mod Callers
 pub mod Joins

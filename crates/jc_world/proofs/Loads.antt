@@ -2,7 +2,7 @@
 --     total          how many steps of a key have an answer of their own, and one more where one is kept
 --     total_step     each event raises that by one where it is an answer for the key, and else leaves it
 --     total_run      so a run raises it by its answers
-use Rattle.std.proofs.Common.{inl, inr, ◌≡◌, ◌==◌, ◌&&◌, ◌+◌, ℕ, List, [], ◌∷◌, ◌++◌, length, map, drop, zip, count_by, Bool, true, false, cond, not, Option, None, Some, refl, sym, ap, ◌∙◌, arith}
+use Rattle.std.proofs.Common.{inl, inr, ◌≡◌, ◌==◌, ◌&&◌, ◌+◌, ℕ, List, [], ◌∷◌, ◌++◌, length, map, drop, zip, count_by, Bool, true, false, cond, Option, None, Some, refl, sym, ap, ◌∙◌, arith}
 use Rattle.std.specs.Ordering.{eq_by_cmp}
 use Rattle.std.specs.Cmp.Lexicographic.{pointwise, texts_ties}
 use Rattle.std.specs.FinMap.{get, insert, remove, get-empty, get-insert, get-remove}
@@ -45,8 +45,10 @@ use Rattle.jc_world.proofs.Shares.{added}
 use Rattle.jc_world.proofs.Reservations.{was_free, writer_alone}
 use Rattle.jc_world.proofs.Callers.{part_key}
 use Rattle.jc_world.proofs.Entries.{split}
-use Rattle.jc_world.proofs.Kept.{is_there, unheld}
+use Rattle.jc_world.proofs.Kept.{unheld}
 use Rattle.jc_world.proofs.Sounding.{Laws, sound_step}
+use Rattle.jc_world.proofs.Facts.{not_true}
+use Rattle.jc_world.proofs.Holding.{is_part}
 
 -- 1. What is counted.
 
@@ -129,11 +131,6 @@ loaded_removed parts key q none =
 loaded_at : (w : WorldState) (key q : Bytes) (part : Part) → get w.parts key ≡ Some part → q ≡ key → is_loaded (get w.parts q) ≡ is_load_given (out_of part).load
 loaded_at w key q part there same = ap is_loaded (ap (get w.parts) same ∙ there)
 
--- a test whose converse holds
-not_true : (b : Bool) → not b ≡ true → b ≡ false
-not_true true h = cc
-not_true false h = refl
-
 -- a loader that is waited for has given no answer
 no_answer : (o : Option Part) (part : Part) → o ≡ Some part → has_progress waits_for_load o ≡ true → is_load_given (out_of part).load ≡ false
 no_answer o part is waits = go part.progress (sym (ap (has_progress waits_for_load) is) ∙ waits)
@@ -170,7 +167,7 @@ read_given (Some value) = refl
 total_answered : (w : WorldState) (call : ℕ) (key q : Bytes) (part : Part) (answer : LoadAnswer) → part_of w call key ≡ Some part → has_progress waits_for_load (part_of w call key) ≡ true → is_load_given answer ≡ true
     → count_by (is_load q) w.order + one_if (is_loaded (get (insert w.parts key (record part { progress = Loading answer })) q)) ≡ one_if (pointwise ◌==◌ q key) + total w q
 total_answered w call key q part answer is waits given =
-    let there = is_there (get w.parts key) call part is in
+    let there = is_part (get w.parts key) call part is in
     let n = count_by (is_load q) w.order in
     let P : Bool → Type 0 = λ b. n + one_if (is_loaded (cond b (Some (record part { progress = Loading answer })) (get w.parts q))) ≡ one_if b + (n + one_if (is_loaded (get w.parts q))) in
     ap (λ o. n + one_if (is_loaded o)) (get-insert nat_list_cmp_total w.parts key (record part { progress = Loading answer }) q)
@@ -180,39 +177,36 @@ total_answered w call key q part answer is waits given =
     ∙ ap (λ b. one_if b + total w q) (sym (texts_ties q key))
 
 -- the first phase
-total_started : (w new : WorldState) (u : OpenCall) (from to : State) (seen : Shown) (q : Bytes) → stripe_for w u.command.key ≡ Some from → Starts w u from to seen new → IsSoundWorld w → total new q ≡ total w q
-total_started w new u from to (shown.Refused refusal) q there h old = ap (λ (x : WorldState). total x q) h.1
-total_started w new u from to (shown.Stepped seen) q there h old =
-    let key = u.command.key in
+total_started : (w new : WorldState) (u : OpenCall) (key : Bytes) (op : Op) (from to : State) (seen : Shown) (q : Bytes) → stripe_for w key ≡ Some from → Starts w u.caller key op from to seen new → IsSoundWorld w → total new q ≡ total w q
+total_started w new u key op from to (shown.Refused refusal) q there h old = ap (λ (x : WorldState). total x q) h.1
+total_started w new u key op from to (shown.Stepped seen) q there h old =
     let steps = h.0.2 in
-    let added_is = step_loads from to u.caller key u.command.op nothing_said [] (step_of seen) q steps in
+    let added_is = step_loads from to u.caller key op nothing_said [] (step_of seen) q steps in
     let none : one_if (pointwise ◌==◌ q key && false) ≡ 0 = ap one_if (and_false (pointwise ◌==◌ q key)) in
     let more = none_append q w.order (added from to) in
     let kept = one_if (is_loaded (get w.parts q)) in
     let grows : count_by (is_load q) (w.order ++ added from to) + kept ≡ count_by (is_load q) w.order + kept = ap (λ n. n + kept) (let e : count_by (is_load q) (w.order ++ added from to) ≡ count_by (is_load q) w.order = omega arith in e) in
     ap (λ (x : WorldState). total x q) h.2 ∙ grows
-total_started w new u from to shown.Loads q there h old =
-    let key = u.command.key in
+total_started w new u key op from to shown.Loads q there h old =
     let part = new_part new_load h.0.reservation in
-    let free = was_free from u.caller key u.command.op Loader h.1.0 h.1.1 h.1.2 refl in
+    let free = was_free from u.caller key op Loader h.1.0 h.1.1 h.1.2 refl in
     let none = unheld w key from there free old in
     ap (λ (x : WorldState). total x q) h.2
     ∙ ap (λ b. count_by (is_load q) w.order + one_if b) (loaded_inserted w.parts key q part (λ same. sym (ap is_loaded (ap (get w.parts) same ∙ none))))
-total_started w new u from to (shown.Asks change) q there h old =
-    let key = u.command.key in
+total_started w new u key op from to (shown.Asks change) q there h old =
     let part = new_part new_write h.0.reservation in
-    let free = was_free from u.caller key u.command.op h.0.reservation.first h.1.0 (writer_alone from key u.command.op h.0.reservation.first h.1.1 h.1.2) h.1.1 (ap reserves h.2) in
+    let free = was_free from u.caller key op h.0.reservation.first h.1.0 (writer_alone from key op h.0.reservation.first h.1.1 h.1.2) h.1.1 (ap reserves h.2) in
     let none = unheld w key from there free old in
     ap (λ (x : WorldState). total x q) h.3
     ∙ ap (λ b. count_by (is_load q) w.order + one_if b) (loaded_inserted w.parts key q part (λ same. sym (ap is_loaded (ap (get w.parts) same ∙ none))))
-total_started w new u from to shown.Joins q there h old = ap (λ (x : WorldState). total x q) h.2
-total_started w new u from to seen q there h old = absurd h
+total_started w new u key op from to shown.Joins q there h old = ap (λ (x : WorldState). total x q) h.2
+total_started w new u key op from to seen q there h old = absurd h
 
 -- the last phase: what was kept stands in the step
 total_ended : (w new : WorldState) (call : ℕ) (key : Bytes) (part : Part) (from to : State) (seen : Shown) (q : Bytes) → part_of w call key ≡ Some part → part.reservation.key ≡ key → Ends w call key part from to seen new → total new q ≡ total w q
 total_ended w new call key part from to (shown.Stepped seen) q is key_is h =
     let r = part.reservation in
-    let there = is_there (get w.parts key) call part is in
+    let there = is_part (get w.parts key) call part is in
     let mid = after_commit from r seen.place in
     let added_is : count_by (is_load q) (added from to) ≡ one_if (pointwise ◌==◌ q key && is_load_given (out_of part).load) =
     step_loads mid to r.caller r.key r.op (out_of part) (callers_of r.number from.joiners) (step_of seen) q h.0.1 ∙ ap (λ k. one_if (pointwise ◌==◌ q k && is_load_given (out_of part).load)) key_is in
@@ -239,7 +233,7 @@ total_picks w new call key join from to seen q h = absurd h
 -- by the kind of the event
 total_happens : (w new : WorldState) (e : WorldEvent) (seen : Shown) (q : Bytes) → fits w e ≡ true → Happens w e seen new → IsSoundWorld w → total new q ≡ one_if (is_answer q e seen) + total w q
 total_happens w new (event.Call call session command) seen q fit h old = unanswered false (total new q) (total w q) refl (ap (λ (x : WorldState). total x q) h.1)
-total_happens w new (event.Start call key) seen q fit h old = unanswered false (total new q) (total w q) refl (total_started w new h.0 h.2 h.4 seen q h.3 h.5 old)
+total_happens w new (event.Start call key) seen q fit h old = unanswered false (total new q) (total w q) refl (total_started w new h.0 key h.1 h.4 h.6 seen q h.5 h.7 old)
 total_happens w new (event.Read call key) seen q fit h old =
     ap (λ (x : WorldState). total x q) h.3 ∙ total_answered w call key q h.0 (read_answer (entry_at w.store key)) h.1 fit (read_given (entry_at w.store key))
     ∙ ap (λ s. one_if (is_answer q (event.Read call key) s) + total w q) (sym h.2)
@@ -248,17 +242,17 @@ total_happens w new (event.Say call key answer) seen q fit h old =
     ap (λ (x : WorldState). total x q) h.3 ∙ total_answered w call key q h.0 answer h.1 ok.1 ok.0
     ∙ ap (λ s. one_if (is_answer q (event.Say call key answer) s) + total w q) (sym h.2)
 total_happens w new (event.Change call key) seen q fit h old =
-    let there = is_there (get w.parts key) call h.0 h.2 in
+    let there = is_part (get w.parts key) call h.0 h.2 in
     unanswered false (total new q) (total w q) refl
     (ap (λ (x : WorldState). total x q) h.5 ∙ ap (λ b. count_by (is_load q) w.order + one_if b) (loaded_inserted w.parts key q (record h.0 { progress = with_change h.0.progress }) (λ same. change_loads h.0.progress ∙ sym (loaded_at w key q h.0 there same))))
 total_happens w new (event.Report call fault) seen q fit h old =
-    let key = h.0.command.key in
-    let there = is_there (get w.parts key) call h.1 h.4 in
+    let key = h.1 in
+    let there = is_part (get w.parts key) call h.2 h.6 in
     unanswered false (total new q) (total w q) refl
-    (ap (λ (x : WorldState). total x q) h.7 ∙ ap (λ b. count_by (is_load q) w.order + one_if b) (loaded_inserted w.parts key q (record h.1 { progress = with_report h.1.progress (report_of fault) }) (λ same. report_loads h.1.progress (report_of fault) ∙ sym (loaded_at w key q h.1 there same))))
+    (ap (λ (x : WorldState). total x q) h.9 ∙ ap (λ b. count_by (is_load q) w.order + one_if b) (loaded_inserted w.parts key q (record h.2 { progress = with_report h.2.progress (report_of fault) }) (λ same. report_loads h.2.progress (report_of fault) ∙ sym (loaded_at w key q h.2 there same))))
 total_happens w new (event.Commit call key) seen q fit h old = unanswered false (total new q) (total w q) refl (total_ended w new call key h.0 h.2 h.4 seen q h.1 (part_key w call key h.0 h.1 old) h.5)
 total_happens w new (event.Withdraw call key) seen q fit h old =
-    let there = is_there (get w.parts key) call h.0 h.1 in
+    let there = is_part (get w.parts key) call h.0 h.1 in
     unanswered false (total new q) (total w q) refl
     (ap (λ (x : WorldState). total x q) h.7
     ∙ ap (λ b. count_by (is_load q) w.order + one_if b) (loaded_removed w.parts key q (λ same. loaded_at w key q h.0 there same ∙ no_touch (part_of w call key) h.0 h.1 fit)))

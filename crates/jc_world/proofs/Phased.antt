@@ -1,12 +1,15 @@
 -- What the machine of a world does in a first and a last phase is what the definitions say.
-use Rattle.std.proofs.Common.{false, ◌≡◌, ◌∙◌, ℕ, zero, suc, List, [], ◌∷◌, ◌++◌, length, drop, Option, Some, None, IsSomeAnd, true, slice_get, slice_set, refl, sym, ap, subst, append-nil}
+use Rattle.std.proofs.Common.{Bool, false, ◌≡◌, ◌∙◌, ℕ, zero, suc, List, [], ◌∷◌, ◌++◌, length, drop, Option, Some, None, IsSomeAnd, is_some, true, slice_get, slice_set, refl, sym, ap, subst, append-nil}
 use Rattle.std.specs.FinMap.{get, insert, remove}
 use Rattle.jc_model.specs.Cache.{Bytes}
+use Rattle.jc_model.specs.Table.{is_invoke}
 use Rattle.jc_model.specs.declared.event.Change.{Change}
 use Rattle.jc_model.specs.declared.event.Event.{Event}
-use Rattle.jc_stripe.specs.Tickets.{Ticket, JoinClaim, asks_writer}
+use Rattle.jc_model.specs.declared.event.Op.{Op}
+use Rattle.std.proofs.lemmas.Bool.{and_parts}
+use Rattle.jc_stripe.specs.Tickets.{Ticket, ProcessClaim, JoinClaim, asks_writer}
 use Rattle.jc_stripe.specs.State.{State, IsOut, IsJoined}
-use Rattle.jc_stripe.specs.Refusals.{has_phases, reserves}
+use Rattle.jc_stripe.specs.Refusals.{reserves}
 use Rattle.jc_stripe.specs.Phases.{MayBegin, Begins, Commits, Withdraws, PicksUp}
 use Rattle.jc_stripe.specs.declared.begun.Picked.{Picked}
 use Rattle.jc_stripe.specs.declared.begun.Picked.TheVariants as picked
@@ -22,30 +25,45 @@ use Rattle.jc_world.specs.declared.event.Stepped.{Stepped}
 use Rattle.jc_world.specs.declared.event.PickedUp.{PickedUp}
 use Rattle.jc_world.specs.declared.event.WorldEvent.TheVariants as event
 use Rattle.jc_world.specs.declared.event.Shown.TheVariants as shown
-use Rattle.jc_world.specs.World.{WorldState, Parts, home, stripe_for, open_call, drop_call, part_of, join_of, joins_without, out_of}
-use Rattle.jc_world.specs.Events.{fits, Happens, step_of, new_load, new_write, new_part, BeginsAs}
+use Rattle.jc_world.specs.World.{WorldState, Parts, home, stripe_for, has_number, open_call, op_at, settle, part_of, join_of, joins_without, out_of}
+use Rattle.jc_world.specs.Events.{fits, is_free, may_start, Happens, step_of, new_load, new_write, new_part, BeginsAs}
 use Rattle.jc_world.specs.Sound.{IsHeld, IsSoundWorld, IsWaitedFor}
 use Rattle.jc_world.specs.World.{is_join}
 use Rattle.jc_world.specs.Turns.{OrderedStripes, IsPhase, IsQuietPhase}
+use Rattle.jc_stripe.proofs.CallerLemmas.{invokes}
 use Rattle.jc_world.proofs.Numbered.{some_of}
 use Rattle.jc_world.proofs.Holding.{is_part}
 use Rattle.jc_world.proofs.Reservations.{was_free, writer_alone}
 use Rattle.jc_world.proofs.Joiners.{join_is}
 use Rattle.jc_world.proofs.Shares.{found_test, fact_found}
-use Rattle.jc_world.proofs.Beginning.{begins_at, single_phases, under_single}
+use Rattle.jc_world.proofs.Beginning.{begins_at}
+use Rattle.jc_world.proofs.Underway.{fits_found}
 use Rattle.jc_world.proofs.Kept.{unheld, stripe_at}
 
 -- 1. Before the first phase.
 
-pub may_begin_at : (w : WorldState) (call : ℕ) (key : Bytes) (u : OpenCall) → fits w (event.Start call key) ≡ true → open_call w call ≡ Some u → IsSoundWorld w → IsSomeAnd (stripe_for w u.command.key) (λ s. MayBegin s u.caller u.command.key)
-may_begin_at w call key u fit is sound =
-    let s = stripe_at w u.command.key sound in
-    let P : Option State → Type 0 = λ o. IsSomeAnd o (λ s. MayBegin s u.caller u.command.key) in
-    subst P (sym s.1) (begins_at w call key u s.0 fit is s.1 sound)
+pub may_begin_at : (w : WorldState) (call : ℕ) (key : Bytes) (u : OpenCall) (op : Op) → fits w (event.Start call key) ≡ true → open_call w call ≡ Some u → op_at u key ≡ Some op → IsSoundWorld w → IsSomeAnd (stripe_for w key) (λ s. MayBegin s u.caller key)
+may_begin_at w call key u op fit is op_is sound =
+    let s = stripe_at w key sound in
+    let P : Option State → Type 0 = λ o. IsSomeAnd o (λ s. MayBegin s u.caller key) in
+    subst P (sym s.1) (begins_at w call key u op s.0 fit is op_is s.1 sound)
 
--- a call under way has phases
-pub phased_at : (w : WorldState) (call : ℕ) (u : OpenCall) → open_call w call ≡ Some u → IsSoundWorld w → has_phases u.command.op ≡ true
-phased_at w call u is sound = single_phases u.command.op (under_single w call u is sound)
+-- an operation of a call under way runs no processor
+pub runs_none_at : (w : WorldState) (call : ℕ) (key : Bytes) (u : OpenCall) (op : Op) → open_call w call ≡ Some u → op_at u key ≡ Some op → IsSoundWorld w → is_invoke op ≡ false
+runs_none_at w call key u op is op_is sound = ((fits_found w (has_number call) w.calls u is sound.calls).keys key op op_is).runs_none
+
+-- so its first phase gives no processor's ticket
+pub runs_none : (w : WorldState) (call : ℕ) (key : Bytes) (u : OpenCall) (op : Op) (from to : State) (ticket : ProcessClaim) → open_call w call ≡ Some u → op_at u key ≡ Some op → IsSoundWorld w
+    → BeginsAs u.caller key op (begun.Process ticket) from to → ⊥
+runs_none w call key u op from to ticket is op_is sound begins = clash (is_invoke op) (invokes from to u.caller key op ticket begins) (runs_none_at w call key u op is op_is sound)
+  where
+    clash : (b : Bool) → b ≡ true → b ≡ false → ⊥
+    clash true is other = cc
+    clash false is other = cc
+
+-- the key of a call that starts is open in it
+pub start_open : (w : WorldState) (call : ℕ) (key : Bytes) (u : OpenCall) → fits w (event.Start call key) ≡ true → open_call w call ≡ Some u → is_some (op_at u key) ≡ true
+start_open w call key u fit is = (and_parts (is_some (op_at u key)) (is_free w call key) (sym (ap (may_start w call key) is) ∙ fit)).0
 
 -- 2. The stripe that a phase has changed.
 
@@ -71,21 +89,23 @@ phased_from v old new number phase stripes order p = record {
 
 -- 3. A first phase.
 
-pub started_done : (v next : WorldState) (call : ℕ) (key : Bytes) (u : OpenCall) (number : ℕ) (done : StepDone) (seen : Stepped) (stripes : List State) (order : List Event) → open_call v call ≡ Some u → number ≡ home v u.command.key
-    → Phased v number (BeginsAs u (begun.Done done)) stripes order → step_of seen ≡ done → seen.stripe ≡ number
-    → next ≡ record v { stripes = stripes; order = order; calls = drop_call u.caller.call v.calls } → Happens v (event.Start call key) (shown.Stepped seen) next
-started_done v next call key u number done seen stripes order is home_is p shows stripe_is next_is =
+pub started_done : (v next : WorldState) (call : ℕ) (key : Bytes) (u : OpenCall) (op : Op) (number : ℕ) (done : StepDone) (seen : Stepped) (stripes : List State) (order : List Event) → open_call v call ≡ Some u → op_at u key ≡ Some op → number ≡ home v key
+    → Phased v number (BeginsAs u.caller key op (begun.Done done)) stripes order → step_of seen ≡ done → seen.stripe ≡ number
+    → next ≡ record v { stripes = stripes; order = order; calls = settle u.caller.call key v.calls } → Happens v (event.Start call key) (shown.Stepped seen) next
+started_done v next call key u op number done seen stripes order is op_is home_is p shows stripe_is next_is =
     let At : ℕ → Type 0 = λ n. slice_get v.stripes n ≡ Some p.from in
-    let B : StepDone → Type 0 = λ d. Begins p.from u.caller u.command.key u.command.op (begun.Done d) p.to in (
+    let B : StepDone → Type 0 = λ d. Begins p.from u.caller key op (begun.Done d) p.to in (
       u,
+      op,
       is,
+      op_is,
       p.from,
       subst At home_is p.at,
       p.to,
       (
         subst B (sym shows) p.made,
         stripe_is ∙ home_is,
-        next_is ∙ (λ i. record v { stripes = (p.stripes_are ∙ ap (λ n. slice_set v.stripes n p.to) home_is) i; order = p.order_is i; calls = drop_call u.caller.call v.calls }),
+        next_is ∙ (λ i. record v { stripes = (p.stripes_are ∙ ap (λ n. slice_set v.stripes n p.to) home_is) i; order = p.order_is i; calls = settle u.caller.call key v.calls }),
       ),
     )
 
@@ -103,13 +123,15 @@ none_new order xs ys e = ap (λ zs. order ++ drop (length ys) zs) e ∙ ap (λ z
     gone [] = refl
     gone (z ∷ zs) = gone zs
 
-pub started_refused : (v next : WorldState) (call : ℕ) (key : Bytes) (u : OpenCall) (number : ℕ) (refusal : Refusal) (stripes : List State) (order : List Event) → open_call v call ≡ Some u → number ≡ home v u.command.key
-    → Phased v number (BeginsAs u (begun.Refused refusal)) stripes order
-    → next ≡ record v { stripes = stripes; order = order; calls = drop_call u.caller.call v.calls } → Happens v (event.Start call key) (shown.Refused refusal) next
-started_refused v next call key u number refusal stripes order is home_is p next_is =
+pub started_refused : (v next : WorldState) (call : ℕ) (key : Bytes) (u : OpenCall) (op : Op) (number : ℕ) (refusal : Refusal) (stripes : List State) (order : List Event) → open_call v call ≡ Some u → op_at u key ≡ Some op → number ≡ home v key
+    → Phased v number (BeginsAs u.caller key op (begun.Refused refusal)) stripes order
+    → next ≡ record v { stripes = stripes; order = order; calls = settle u.caller.call key v.calls } → Happens v (event.Start call key) (shown.Refused refusal) next
+started_refused v next call key u op number refusal stripes order is op_is home_is p next_is =
     let At : ℕ → Type 0 = λ n. slice_get v.stripes n ≡ Some p.from in (
       u,
+      op,
       is,
+      op_is,
       p.from,
       subst At home_is p.at,
       p.to,
@@ -118,18 +140,20 @@ started_refused v next call key u number refusal stripes order is home_is p next
         next_is ∙ (λ i. record v {
           stripes = (p.stripes_are ∙ same_set v.stripes number p.from p.to p.at p.made.1) i;
           order = (p.order_is ∙ none_new v.order p.to.history p.from.history (ap (λ (s : State). s.history) p.made.1)) i;
-          calls = drop_call u.caller.call v.calls;
+          calls = settle u.caller.call key v.calls;
         }),
       ),
     )
 
-pub started_loads : (v next : WorldState) (call : ℕ) (key : Bytes) (u : OpenCall) (number : ℕ) (ticket : Ticket) (stripes : List State) (order : List Event) (parts : Parts) → open_call v call ≡ Some u → number ≡ home v u.command.key
-    → Phased v number (BeginsAs u (begun.Load ticket)) stripes order → parts ≡ insert v.parts u.command.key (new_part new_load ticket.reservation)
+pub started_loads : (v next : WorldState) (call : ℕ) (key : Bytes) (u : OpenCall) (op : Op) (number : ℕ) (ticket : Ticket) (stripes : List State) (order : List Event) (parts : Parts) → open_call v call ≡ Some u → op_at u key ≡ Some op → number ≡ home v key
+    → Phased v number (BeginsAs u.caller key op (begun.Load ticket)) stripes order → parts ≡ insert v.parts key (new_part new_load ticket.reservation)
     → next ≡ record v { stripes = stripes; order = order; parts = parts } → Happens v (event.Start call key) shown.Loads next
-started_loads v next call key u number ticket stripes order parts is home_is p parts_are next_is =
+started_loads v next call key u op number ticket stripes order parts is op_is home_is p parts_are next_is =
     let At : ℕ → Type 0 = λ n. slice_get v.stripes n ≡ Some p.from in (
       u,
+      op,
       is,
+      op_is,
       p.from,
       subst At home_is p.at,
       p.to,
@@ -145,13 +169,15 @@ started_loads v next call key u number ticket stripes order parts is home_is p p
     )
 
 -- a call has joined a load
-pub started_joins : (v next : WorldState) (call : ℕ) (key : Bytes) (u : OpenCall) (number : ℕ) (join : JoinClaim) (stripes : List State) (order : List Event) (joins : List JoinClaim) → open_call v call ≡ Some u → number ≡ home v u.command.key
-    → Phased v number (BeginsAs u (begun.Joined join)) stripes order → joins ≡ v.joins ++ join ∷ []
+pub started_joins : (v next : WorldState) (call : ℕ) (key : Bytes) (u : OpenCall) (op : Op) (number : ℕ) (join : JoinClaim) (stripes : List State) (order : List Event) (joins : List JoinClaim) → open_call v call ≡ Some u → op_at u key ≡ Some op → number ≡ home v key
+    → Phased v number (BeginsAs u.caller key op (begun.Joined join)) stripes order → joins ≡ v.joins ++ join ∷ []
     → next ≡ record v { stripes = stripes; order = order; joins = joins } → Happens v (event.Start call key) shown.Joins next
-started_joins v next call key u number join stripes order joins is home_is p joins_are next_is =
+started_joins v next call key u op number join stripes order joins is op_is home_is p joins_are next_is =
     let At : ℕ → Type 0 = λ n. slice_get v.stripes n ≡ Some p.from in (
       u,
+      op,
       is,
+      op_is,
       p.from,
       subst At home_is p.at,
       p.to,
@@ -166,13 +192,15 @@ started_joins v next call key u number join stripes order joins is home_is p joi
       ),
     )
 
-pub started_asks : (v next : WorldState) (call : ℕ) (key : Bytes) (u : OpenCall) (number : ℕ) (ticket : Ticket) (change : Change) (stripes : List State) (order : List Event) (parts : Parts) → open_call v call ≡ Some u → number ≡ home v u.command.key
-    → Phased v number (BeginsAs u (begun.Write ticket)) stripes order → ticket.reservation.first ≡ Writer change → parts ≡ insert v.parts u.command.key (new_part new_write ticket.reservation)
+pub started_asks : (v next : WorldState) (call : ℕ) (key : Bytes) (u : OpenCall) (op : Op) (number : ℕ) (ticket : Ticket) (change : Change) (stripes : List State) (order : List Event) (parts : Parts) → open_call v call ≡ Some u → op_at u key ≡ Some op → number ≡ home v key
+    → Phased v number (BeginsAs u.caller key op (begun.Write ticket)) stripes order → ticket.reservation.first ≡ Writer change → parts ≡ insert v.parts key (new_part new_write ticket.reservation)
     → next ≡ record v { stripes = stripes; order = order; parts = parts } → Happens v (event.Start call key) (shown.Asks change) next
-started_asks v next call key u number ticket change stripes order parts is home_is p first parts_are next_is =
+started_asks v next call key u op number ticket change stripes order parts is op_is home_is p first parts_are next_is =
     let At : ℕ → Type 0 = λ n. slice_get v.stripes n ≡ Some p.from in (
       u,
+      op,
       is,
+      op_is,
       p.from,
       subst At home_is p.at,
       p.to,
@@ -189,22 +217,22 @@ started_asks v next call key u number ticket change stripes order parts is home_
     )
 
 -- a key for which a ticket is given has no part yet
-pub free_load : (v : WorldState) (u : OpenCall) (number : ℕ) (ticket : Ticket) (stripes : List State) (order : List Event) → number ≡ home v u.command.key → Phased v number (BeginsAs u (begun.Load ticket)) stripes order → IsSoundWorld v
-    → (get v.parts u.command.key ≡ None) × (ticket.reservation.key ≡ u.command.key) × (ticket.asked ≡ false)
-free_load v u number ticket stripes order home_is p sound =
+pub free_load : (v : WorldState) (u : OpenCall) (key : Bytes) (op : Op) (number : ℕ) (ticket : Ticket) (stripes : List State) (order : List Event) → number ≡ home v key → Phased v number (BeginsAs u.caller key op (begun.Load ticket)) stripes order → IsSoundWorld v
+    → (get v.parts key ≡ None) × (ticket.reservation.key ≡ key) × (ticket.asked ≡ false)
+free_load v u key op number ticket stripes order home_is p sound =
     let At : ℕ → Type 0 = λ n. slice_get v.stripes n ≡ Some p.from in (
-      unheld v u.command.key p.from (subst At home_is p.at) (was_free p.from u.caller u.command.key u.command.op Loader p.made.0 p.made.1 p.made.2 refl) sound,
+      unheld v key p.from (subst At home_is p.at) (was_free p.from u.caller key op Loader p.made.0 p.made.1 p.made.2 refl) sound,
       ap (λ (t : Ticket). t.reservation.key) p.made.3,
       ap (λ (t : Ticket). t.asked) p.made.3,
     )
 
-pub free_write : (v : WorldState) (u : OpenCall) (number : ℕ) (ticket : Ticket) (stripes : List State) (order : List Event) → number ≡ home v u.command.key → Phased v number (BeginsAs u (begun.Write ticket)) stripes order → IsSoundWorld v
-    → (get v.parts u.command.key ≡ None) × (ticket.reservation.key ≡ u.command.key) × (ticket.asked ≡ false)
-free_write v u number ticket stripes order home_is p sound =
+pub free_write : (v : WorldState) (u : OpenCall) (key : Bytes) (op : Op) (number : ℕ) (ticket : Ticket) (stripes : List State) (order : List Event) → number ≡ home v key → Phased v number (BeginsAs u.caller key op (begun.Write ticket)) stripes order → IsSoundWorld v
+    → (get v.parts key ≡ None) × (ticket.reservation.key ≡ key) × (ticket.asked ≡ false)
+free_write v u key op number ticket stripes order home_is p sound =
     let At : ℕ → Type 0 = λ n. slice_get v.stripes n ≡ Some p.from in
     let first = ticket.reservation.first in (
-      unheld v u.command.key p.from (subst At home_is p.at)
-          (was_free p.from u.caller u.command.key u.command.op first p.made.0 (writer_alone p.from u.command.key u.command.op first p.made.1 p.made.2) p.made.1 (writer_reserves first p.made.2)) sound,
+      unheld v key p.from (subst At home_is p.at)
+          (was_free p.from u.caller key op first p.made.0 (writer_alone p.from key op first p.made.1 p.made.2) p.made.1 (writer_reserves first p.made.2)) sound,
       ap (λ (t : Ticket). t.reservation.key) p.made.3,
       ap (λ (t : Ticket). t.asked) p.made.3,
     )
@@ -213,7 +241,7 @@ free_write v u number ticket stripes order home_is p sound =
     writer_reserves Nobody h = cc
     writer_reserves Loader h = refl
     writer_reserves (Writer change) h = refl
-    writer_reserves Processor h = refl
+    writer_reserves (Processor seen loads) h = refl
 
 -- 4. A last phase.
 
@@ -222,7 +250,7 @@ CommitsAs part done from to = Commits from part.reservation (out_of part) done t
 
 pub ended : (v next : WorldState) (call : ℕ) (key : Bytes) (part : Part) (number : ℕ) (done : StepDone) (seen : Stepped) (stripes : List State) (order : List Event) (parts : Parts) → part_of v call key ≡ Some part → number ≡ home v key
     → Phased v number (CommitsAs part done) stripes order → step_of seen ≡ done → seen.stripe ≡ number → parts ≡ remove v.parts key
-    → next ≡ record v { stripes = stripes; order = order; calls = drop_call call v.calls; parts = parts } → Happens v (event.Commit call key) (shown.Stepped seen) next
+    → next ≡ record v { stripes = stripes; order = order; calls = settle call key v.calls; parts = parts } → Happens v (event.Commit call key) (shown.Stepped seen) next
 ended v next call key part number done seen stripes order parts is home_is p shows stripe_is parts_are next_is =
     let At : ℕ → Type 0 = λ n. slice_get v.stripes n ≡ Some p.from in
     let B : StepDone → Type 0 = λ d. Commits p.from part.reservation (out_of part) d p.to in (
@@ -234,7 +262,7 @@ ended v next call key part number done seen stripes order parts is home_is p sho
       (
         subst B (sym shows) p.made,
         stripe_is ∙ home_is,
-        next_is ∙ (λ i. record v { stripes = (p.stripes_are ∙ ap (λ n. slice_set v.stripes n p.to) home_is) i; order = p.order_is i; calls = drop_call call v.calls; parts = parts_are i }),
+        next_is ∙ (λ i. record v { stripes = (p.stripes_are ∙ ap (λ n. slice_set v.stripes n p.to) home_is) i; order = p.order_is i; calls = settle call key v.calls; parts = parts_are i }),
       ),
     )
 
@@ -312,7 +340,7 @@ PicksAs join p from to = PicksUp from join p to
 -- the answer was there
 pub picked_answer : (v next : WorldState) (call : ℕ) (key : Bytes) (join : JoinClaim) (number : ℕ) (seen : PickedUp) (stripes : List State) → join_of v call key ≡ Some join → number ≡ home v key → seen.stripe ≡ number
     → Changed v number (PicksAs join (picked.Answer seen.reply seen.place seen.shared)) stripes
-    → next ≡ record v { stripes = stripes; joins = joins_without call key v.joins; calls = drop_call call v.calls } → Happens v (event.PickUp call key) (shown.PickedUp seen) next
+    → next ≡ record v { stripes = stripes; joins = joins_without call key v.joins; calls = settle call key v.calls } → Happens v (event.PickUp call key) (shown.PickedUp seen) next
 picked_answer v next call key join number seen stripes is home_is stripe_is p next_is =
     let At : ℕ → Type 0 = λ n. slice_get v.stripes n ≡ Some p.from in (
       join,
@@ -323,7 +351,7 @@ picked_answer v next call key join number seen stripes is home_is stripe_is p ne
       (
         p.made,
         stripe_is ∙ home_is,
-        next_is ∙ (λ i. record v { stripes = (p.stripes_are ∙ ap (λ n. slice_set v.stripes n p.to) home_is) i; joins = joins_without call key v.joins; calls = drop_call call v.calls }),
+        next_is ∙ (λ i. record v { stripes = (p.stripes_are ∙ ap (λ n. slice_set v.stripes n p.to) home_is) i; joins = joins_without call key v.joins; calls = settle call key v.calls }),
       ),
     )
 

@@ -10,23 +10,21 @@ use Rattle.std.proofs.Common.{inl, inr, ◌≡◌, ◌==◌, ◌&&◌, ◌||◌,
 use Rattle.std.specs.List.{list_any}
 use Rattle.std.specs.FinMap.{get}
 use Rattle.std.specs.Cmp.Lexicographic.{pointwise}
-use Rattle.std.proofs.lemmas.Bool.{eq-eqb, and_parts, and_from}
+use Rattle.std.proofs.lemmas.Bool.{eq-eqb, and_from}
 use Rattle.std.proofs.lemmas.Cmp.{nat_eq_equiv, nat_list_eq_equiv}
 use Rattle.jc_types.specs.declared.caller.Caller.{Caller}
 use Rattle.jc_types.specs.declared.config.Config.{Config}
 use Rattle.jc_types.specs.Stripes.{stripe_of}
+use Rattle.jc_model.specs.declared.event.Op.{Op}
 use Rattle.jc_model.specs.Cache.{Bytes}
 use Rattle.jc_inflight.specs.declared.joiner.Joiner.{Joiner}
 use Rattle.jc_inflight.specs.declared.joiner.JoinState.{JoinState}
 use Rattle.jc_inflight.specs.declared.joiner.JoinState.TheVariants.{Waiting, Answered, Again}
 use Rattle.jc_inflight.specs.Joining.{belongs_to}
 use Rattle.jc_inflight.proofs.CallerLemmas.{belongs_to_same}
-use Rattle.jc_stripe.specs.declared.ticket.First.{First}
-use Rattle.jc_stripe.specs.declared.ticket.First.TheVariants.{Nobody, Loader, Writer, Processor}
 use Rattle.jc_stripe.specs.declared.ticket.Reservation.{Reservation}
 use Rattle.jc_stripe.specs.Tickets.{JoinClaim, asks_loader}
 use Rattle.jc_stripe.specs.State.{State, is_key, reservation_of, IsOut}
-use Rattle.jc_stripe.specs.Refusals.{load_of, load_at}
 use Rattle.jc_stripe.specs.Phases.{with_joiner, without_joiner, told_to}
 use Rattle.jc_world.specs.declared.event.Part.{Part}
 use Rattle.jc_world.specs.declared.event.OpenCall.{OpenCall}
@@ -34,8 +32,8 @@ use Rattle.jc_world.specs.declared.event.Shown.{Shown}
 use Rattle.jc_world.specs.declared.event.Shown.TheVariants as shown
 use Rattle.jc_world.specs.declared.event.WorldEvent.{WorldEvent}
 use Rattle.jc_world.specs.declared.event.WorldEvent.TheVariants as event
-use Rattle.jc_world.specs.World.{WorldState, home, stripe_for, open_call, of_call, part_of, is_join, join_of, is_joined, joins_without}
-use Rattle.jc_world.specs.Events.{fits, is_free, may_start, with_stripe, with_join, Starts, Ends, Picks, Happens, Step, Run}
+use Rattle.jc_world.specs.World.{WorldState, home, stripe_for, open_call, of_call, part_of, is_join, join_of, is_joined, joins_without, op_at}
+use Rattle.jc_world.specs.Events.{fits, with_stripe, with_join, Starts, Ends, Picks, Happens, Step, Run}
 use Rattle.jc_world.specs.PickUps.{ends_join, is_last_pick_up, ends_load, Resolves}
 use Rattle.jc_world.specs.Sound.{IsHeld, IsSoundWorld, IsOwned}
 use Rattle.jc_world.proofs.Numbered.{some_of}
@@ -45,11 +43,13 @@ use Rattle.jc_world.proofs.Underway.{found_number, of_call-at, same_bytes}
 use Rattle.jc_world.proofs.Joiners.{joiner_of, find_kept, joined_last, join_is}
 use Rattle.jc_world.proofs.Reservations.{found_more, found_last}
 use Rattle.jc_world.proofs.Kept.{some_map}
-use Rattle.jc_world.proofs.Beginning.{MayStart, may_start_at, refuted}
+use Rattle.jc_world.proofs.Beginning.{MayStart, may_start_at}
 use Rattle.jc_world.proofs.Callers.{part_key}
+use Rattle.jc_world.proofs.LoadKeys.{load_there}
 use Rattle.jc_world.proofs.Joins.{no_joiner}
 use Rattle.jc_world.proofs.JoinedLoads.{Shows, Tells, TellsOf, TellsIn, none_of_key, tells_on, tells_kept, tells_committed, tells_withdrawn}
 use Rattle.jc_world.proofs.Sounding.{Laws, sound_step, sound_run}
+use Rattle.jc_world.proofs.Facts.{refuted}
 
 -- 1. From world to world.
 
@@ -97,33 +97,33 @@ follows_beside w n m shows more join r h is config stripes joins none =
     subst P (sym is) (follows_same w m shows more join r h config stripes joins none)
 
 -- the first phase of a call
-follows_started : (w new : WorldState) (u : OpenCall) (from to : State) (seen : Shown) (shows more : Shows) (join : JoinClaim) (r : Reservation) → stripe_for w u.command.key ≡ Some from → Starts w u from to seen new → list_any (ends_load r) more ≡ false
+follows_started : (w new : WorldState) (caller : Caller) (key : Bytes) (op : Op) (from to : State) (seen : Shown) (shows more : Shows) (join : JoinClaim) (r : Reservation) → stripe_for w key ≡ Some from → Starts w caller key op from to seen new → list_any (ends_load r) more ≡ false
     → Follows w shows join r → Follows new (shows ++ more) join r
-follows_started w new u from to (shown.Refused refusal) shows more join r there h none f = follows_beside w new _ shows more join r f h.1 refl refl refl none
-follows_started w new u from to (shown.Stepped seen) shows more join r there h none f =
+follows_started w new caller key op from to (shown.Refused refusal) shows more join r there h none f = follows_beside w new _ shows more join r f h.1 refl refl refl none
+follows_started w new caller key op from to (shown.Stepped seen) shows more join r there h none f =
     let after = h.0.2.after in
-    follows_set w new shows more join r u.command.key from to f (ap (λ (x : WorldState). x.config) h.2) (ap (λ (x : WorldState). x.stripes) h.2) there
+    follows_set w new shows more join r key from to f (ap (λ (x : WorldState). x.config) h.2) (ap (λ (x : WorldState). x.stripes) h.2) there
     (ap (λ (x : WorldState). join_of x join.caller.call join.key) h.2 ∙ f.join_is) (λ apart. none)
     (tells_kept (home w join.key) shows more join r from to [] (ap (λ (s : State). s.joiners) after ∙ sym (append-nil from.joiners)) none (λ out. ap (λ (s : State). reservation_of s r.key) after ∙ out))
-follows_started w new u from to shown.Loads shows more join r there h none f =
+follows_started w new caller key op from to shown.Loads shows more join r there h none f =
     let after = h.1.4 in
-    follows_set w new shows more join r u.command.key from to f (ap (λ (x : WorldState). x.config) h.2) (ap (λ (x : WorldState). x.stripes) h.2) there
+    follows_set w new shows more join r key from to f (ap (λ (x : WorldState). x.config) h.2) (ap (λ (x : WorldState). x.stripes) h.2) there
     (ap (λ (x : WorldState). join_of x join.caller.call join.key) h.2 ∙ f.join_is) (λ apart. none)
     (tells_kept (home w join.key) shows more join r from to [] (ap (λ (s : State). s.joiners) after ∙ sym (append-nil from.joiners)) none
     (λ out. ap (λ (s : State). reservation_of s r.key) after ∙ found_more (is_key r.key) from.reservations (h.0.reservation ∷ []) r out))
-follows_started w new u from to (shown.Asks change) shows more join r there h none f =
+follows_started w new caller key op from to (shown.Asks change) shows more join r there h none f =
     let after = h.1.4 in
-    follows_set w new shows more join r u.command.key from to f (ap (λ (x : WorldState). x.config) h.3) (ap (λ (x : WorldState). x.stripes) h.3) there
+    follows_set w new shows more join r key from to f (ap (λ (x : WorldState). x.config) h.3) (ap (λ (x : WorldState). x.stripes) h.3) there
     (ap (λ (x : WorldState). join_of x join.caller.call join.key) h.3 ∙ f.join_is) (λ apart. none)
     (tells_kept (home w join.key) shows more join r from to [] (ap (λ (s : State). s.joiners) after ∙ sym (append-nil from.joiners)) none
     (λ out. ap (λ (s : State). reservation_of s r.key) after ∙ found_more (is_key r.key) from.reservations (h.0.reservation ∷ []) r out))
-follows_started w new u from to shown.Joins shows more join r there h none f =
+follows_started w new caller key op from to shown.Joins shows more join r there h none f =
     let after = h.1.3 in
     let other = h.0 in
-    follows_set w new shows more join r u.command.key from to f (ap (λ (x : WorldState). x.config) h.2) (ap (λ (x : WorldState). x.stripes) h.2) there
+    follows_set w new shows more join r key from to f (ap (λ (x : WorldState). x.config) h.2) (ap (λ (x : WorldState). x.stripes) h.2) there
     (ap (λ (x : WorldState). join_of x join.caller.call join.key) h.2 ∙ found_more (is_join join.caller.call join.key) w.joins (other ∷ []) join f.join_is) (λ apart. none)
     (tells_kept (home w join.key) shows more join r from to (record { caller = other.caller; key = other.key; load = other.load; state = Waiting } ∷ []) (ap (λ (s : State). s.joiners) after) none (λ out. ap (λ (s : State). reservation_of s r.key) after ∙ out))
-follows_started w new u from to seen shows more join r there h none f = absurd h
+follows_started w new caller key op from to seen shows more join r there h none f = absurd h
 
 -- the last phase of a call
 follows_ended : (w new : WorldState) (call : ℕ) (key : Bytes) (part : Part) (from to : State) (seen : Shown) (shows : Shows) (join : JoinClaim) (r : Reservation) → part_of w call key ≡ Some part → stripe_for w key ≡ Some from
@@ -192,11 +192,11 @@ follows_picks w new call key other from to seen shows more join r found there h 
 follows_happens : (w new : WorldState) (e : WorldEvent) (seen : Shown) (shows : Shows) (join : JoinClaim) (r : Reservation) → Happens w e seen new → is_last_pick_up join.caller.call join.key (e, seen) ≡ false → IsSoundWorld w → Follows w shows join r
     → Follows new (shows ++ (e, seen) ∷ []) join r
 follows_happens w new (event.Call call session command) seen shows join r h last old f = follows_beside w new _ shows _ join r f h.1 refl refl refl refl
-follows_happens w new (event.Start call key) seen shows join r h last old f = follows_started w new h.0 h.2 h.4 seen shows _ join r h.3 h.5 refl f
+follows_happens w new (event.Start call key) seen shows join r h last old f = follows_started w new h.0.caller key h.1 h.4 h.6 seen shows _ join r h.5 h.7 refl f
 follows_happens w new (event.Read call key) seen shows join r h last old f = follows_beside w new _ shows _ join r f h.3 refl refl refl refl
 follows_happens w new (event.Say call key answer) seen shows join r h last old f = follows_beside w new _ shows _ join r f h.3 refl refl refl refl
 follows_happens w new (event.Change call key) seen shows join r h last old f = follows_beside w new _ shows _ join r f h.5 refl refl refl refl
-follows_happens w new (event.Report call fault) seen shows join r h last old f = follows_beside w new _ shows _ join r f h.7 refl refl refl refl
+follows_happens w new (event.Report call fault) seen shows join r h last old f = follows_beside w new _ shows _ join r f h.9 refl refl refl refl
 follows_happens w new (event.Commit call key) seen shows join r h last old f = follows_ended w new call key h.0 h.2 h.4 seen shows join r h.1 h.3 h.5 old f
 follows_happens w new (event.Withdraw call key) seen shows join r h last old f =
     let p = h.0.reservation in
@@ -257,25 +257,10 @@ part_of_out w key s r there key_is out old =
 
 -- 3. The join, and the pick-up.
 
--- a first phase is of the call's key
-start_key : (w : WorldState) (call : ℕ) (key : Bytes) (u : OpenCall) → fits w (event.Start call key) ≡ true → open_call w call ≡ Some u → u.command.key ≡ key
-start_key w call key u fit is = sym (same_bytes key u.command.key (and_parts (pointwise ◌==◌ key u.command.key) (is_free w call key) (sym (ap (may_start w call key) is) ∙ fit)).0)
-
 -- one is there where one is found
 found_any : {A : Type 0} (p : A → Bool) (xs : List A) (x : A) → find p xs ≡ Some x → list_any p xs ≡ true
 found_any p [] x h = cc
 found_any p (y ∷ ys) x h = elim (p y) as (λ b. cond b (Some y) (find p ys) ≡ Some x → (b || list_any p ys) ≡ true) [ true ↦ λ h. refl | false ↦ λ h. found_any p ys x h ] h
-
--- a load that can be joined is a reservation that asked the loader
-load_there : (o : Option Reservation) (load : ℕ) → load_at o ≡ Some load → (r : Reservation) × (o ≡ Some r) × (r.number ≡ load) × (asks_loader r.first ≡ true)
-load_there None load h = cc
-load_there (Some r) load h = let at = asked r.first r.number h in (r, refl, at.0, at.1)
-  where
-    asked : (first : First) (number : ℕ) → load_of first number ≡ Some load → (number ≡ load) × (asks_loader first ≡ true)
-    asked Nobody number h = cc
-    asked Loader number h = (cc, refl)
-    asked (Writer change) number h = cc
-    asked Processor number h = cc
 
 -- a load that is joined on a condition can be joined
 can_join : (b : Bool) (o : Option ℕ) (load : ℕ) → cond b o None ≡ Some load → o ≡ Some load
@@ -283,10 +268,9 @@ can_join true o load h = h
 can_join false o load h = cc
 
 -- what has just been joined is followed
-follows_joined : (w : WorldState) (u : OpenCall) (from to : State) (join : JoinClaim) (r : Reservation) → stripe_for w u.command.key ≡ Some from → join ≡ record { caller = u.caller; key = u.command.key; load = join.load } → to ≡ with_joiner from join
-    → r.key ≡ u.command.key → r.number ≡ join.load → IsOut from r → MayStart w u → IsSoundWorld w → Follows (with_join (with_stripe w u.command.key to) join) [] join r
-follows_joined w u from to join r there join_is_of to_is r_key r_number out may old =
-    let key = u.command.key in
+follows_joined : (w : WorldState) (u : OpenCall) (key : Bytes) (op : Op) (from to : State) (join : JoinClaim) (r : Reservation) → stripe_for w key ≡ Some from → join ≡ record { caller = u.caller; key = key; load = join.load } → to ≡ with_joiner from join
+    → r.key ≡ key → r.number ≡ join.load → IsOut from r → MayStart w u key op → IsSoundWorld w → Follows (with_join (with_stripe w key to) join) [] join r
+follows_joined w u key op from to join r there join_is_of to_is r_key r_number out may old =
     let call_is : join.caller.call ≡ u.caller.call = ap (λ (j : JoinClaim). j.caller.call) join_is_of in
     let key_is : join.key ≡ key = ap (λ (j : JoinClaim). j.key) join_is_of in
     let next : Joiner = record { caller = join.caller; key = join.key; load = join.load; state = Waiting } in
@@ -350,31 +334,30 @@ IsAnswered old new key shows seen =
     (load : Part) × (part_of old load.reservation.caller.call key ≡ Some load) × (asks_loader load.reservation.first ≡ true) × (load.reservation.key ≡ key) × Resolves new shows load.reservation seen
 
 -- by what is shown of the first phase
-answers_started : Laws → (old joined new newer : WorldState) (call : ℕ) (key : Bytes) (u : OpenCall) (from to : State) (es : List WorldEvent) (ss : List Shown) (seen : Shown) → open_call old call ≡ Some u → fits old (event.Start call key) ≡ true
-    → stripe_for old u.command.key ≡ Some from → Starts old u from to shown.Joins joined → IsSoundWorld old → IsSoundWorld joined → Run joined es ss new → list_any (is_last_pick_up call key) (zip es ss) ≡ false
+answers_started : Laws → (old joined new newer : WorldState) (call : ℕ) (key : Bytes) (u : OpenCall) (op : Op) (from to : State) (es : List WorldEvent) (ss : List Shown) (seen : Shown) → open_call old call ≡ Some u → op_at u key ≡ Some op → fits old (event.Start call key) ≡ true
+    → stripe_for old key ≡ Some from → Starts old u.caller key op from to shown.Joins joined → IsSoundWorld old → IsSoundWorld joined → Run joined es ss new → list_any (is_last_pick_up call key) (zip es ss) ≡ false
     → Step new (event.PickUp call key) seen newer → IsAnswered old new key (zip es ss) seen
-answers_started laws old joined new newer call key u from to es ss seen here fit there (join, begins, is) sound_old sound_joined run none step =
-    let may = may_start_at old call key u fit here sound_old in
-    let own : u.command.key ≡ key = start_key old call key u fit here in
-    let load = load_there (reservation_of from u.command.key) join.load (can_join _ _ join.load begins.1) in
-    let r_key : load.0.key ≡ u.command.key = sym (same_bytes u.command.key load.0.key (found_test (is_key u.command.key) from.reservations load.0 load.1)) in
+answers_started laws old joined new newer call key u op from to es ss seen here op_is fit there (join, begins, is) sound_old sound_joined run none step =
+    let may = may_start_at old call key u op fit here op_is sound_old in
+    let load = load_there (reservation_of from key) join.load (can_join _ _ join.load begins.1) in
+    let r_key : load.0.key ≡ key = sym (same_bytes key load.0.key (found_test (is_key key) from.reservations load.0 load.1)) in
     let out : IsOut from load.0 = ap (reservation_of from) r_key ∙ load.1 in
-    let part = part_of_out old u.command.key from load.0 there r_key out sound_old in
+    let part = part_of_out old key from load.0 there r_key out sound_old in
     let r = part.0.reservation in
     let call_is : join.caller.call ≡ call = ap (λ (j : JoinClaim). j.caller.call) begins.2 ∙ found_number call old.calls u here in
-    let key_is : join.key ≡ key = ap (λ (j : JoinClaim). j.key) begins.2 ∙ own in
+    let key_is : join.key ≡ key = ap (λ (j : JoinClaim). j.key) begins.2 in
     let F : WorldState → Type 0 = λ w. Follows w [] join load.0 in
-    let f = subst F (sym is) (follows_joined old u from to join load.0 there begins.2 begins.3 r_key load.2 out may sound_old) in
+    let f = subst F (sym is) (follows_joined old u key op from to join load.0 there begins.2 begins.3 r_key load.2 out may sound_old) in
     let none_of : list_any (is_last_pick_up join.caller.call join.key) (zip es ss) ≡ false = (λ i. list_any (is_last_pick_up (call_is i) (key_is i)) (zip es ss)) ∙ none in
     let g = follows_run laws joined new es ss [] join load.0 run none_of sound_joined f in
     let resolved = resolves new newer call key join seen (zip es ss) load.0 call_is key_is g (sound_run laws joined new es ss run sound_joined) step in
     let R : Reservation → Type 0 = λ x. (part_of old x.caller.call key ≡ Some part.0) × (asks_loader x.first ≡ true) × (x.key ≡ key) × Resolves new (zip es ss) x seen in
-    let all = subst R (sym part.2) (ap (part_of old load.0.caller.call) (sym (r_key ∙ own)) ∙ part.1, load.3, r_key ∙ own, resolved) in
+    let all = subst R (sym part.2) (ap (part_of old load.0.caller.call) (sym r_key) ∙ part.1, load.3, r_key, resolved) in
     (part.0, all.0, all.1, all.2, all.3)
 
 pub answers_joins : Laws → (old joined new newer : WorldState) (call : ℕ) (key : Bytes) (es : List WorldEvent) (ss : List Shown) (seen : Shown) → Step old (event.Start call key) shown.Joins joined → IsSoundWorld old → Run joined es ss new
     → list_any (is_last_pick_up call key) (zip es ss) ≡ false → Step new (event.PickUp call key) seen newer → IsAnswered old new key (zip es ss) seen
-answers_joins laws old joined new newer call key es ss seen (inl (fit, (u, here, from, there, to, starts))) sound_old run none step =
-    answers_started laws old joined new newer call key u from to es ss seen here fit there starts sound_old
-    (sound_step laws old (event.Start call key) shown.Joins joined (inl (fit, (u, here, from, there, to, starts))) sound_old) run none step
+answers_joins laws old joined new newer call key es ss seen (inl (fit, (u, op, here, op_is, from, there, to, starts))) sound_old run none step =
+    answers_started laws old joined new newer call key u op from to es ss seen here op_is fit there starts sound_old
+    (sound_step laws old (event.Start call key) shown.Joins joined (inl (fit, (u, op, here, op_is, from, there, to, starts))) sound_old) run none step
 answers_joins laws old joined new newer call key es ss seen (inr (unfit, shown_is, is)) sound_old run none step = cc

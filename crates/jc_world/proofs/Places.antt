@@ -1,7 +1,7 @@
--- The stripes of a world, where one is set, and the calls, where one is over.
-use Rattle.std.proofs.Common.{◌≡◌, ◌==◌, ◌<◌, ◌≤◌, ◌%◌, ℕ, zero, suc, length, List, [], ◌∷◌, sum, Bool, true, false, cond, Option, Some, Ok, find, refl, sym, ap, ◌∙◌, subst, arith, slice_get, slice_set, nat_le, get_or, Result, Err}
+-- The stripes of a world, where one is set.
+use Rattle.std.proofs.Common.{◌≡◌, ◌<◌, ◌≤◌, ◌%◌, ℕ, zero, suc, length, List, [], ◌∷◌, sum, Bool, true, false, cond, Option, Some, Ok, refl, sym, ap, subst, arith, slice_get, slice_set, nat_le, get_or, Result, Err}
 use Rattle.std.proofs.lemmas.Bool.Decides.{nat_tests}
-use Rattle.std.proofs.lemmas.Bool.{eqb-true, and_parts}
+use Rattle.std.proofs.lemmas.Bool.{and_parts}
 use Rattle.std.proofs.lemmas.Option.{slice_get-get_or}
 use Rattle.jc_types.specs.declared.config.Config.{Config}
 use Rattle.jc_types.specs.declared.refusal.Refusal.{Refusal}
@@ -9,11 +9,8 @@ use Rattle.jc_types.specs.Limits.{check, is_between}
 use Rattle.jc_types.specs.declared.limits.TheConstants.{STRIPES_MAX}
 use Rattle.jc_model.specs.Cache.{Bytes}
 use Rattle.jc_stripe.specs.State.{State}
-use Rattle.jc_world.specs.declared.event.OpenCall.{OpenCall}
-use Rattle.jc_world.specs.World.{WorldState, home, stripe_for, empty_stripe, has_number}
+use Rattle.jc_world.specs.World.{WorldState, home, stripe_for, empty_stripe}
 use Rattle.jc_world.specs.Sound.{IsShaped}
-
--- 1. The stripes.
 
 -- what goes on from a stripe to the one that is put in its place goes on at every number
 pub at_stripe_apart : (stripes : List State) (i j : ℕ) (from next : State) (P : Option State → Option State → Type 0) → slice_get stripes i ≡ Some from → (i ≡ j → P (Some from) (Some next)) → ((i ≡ j → ⊥) → P (slice_get stripes j) (slice_get stripes j))
@@ -65,14 +62,3 @@ home_stripe w key shape = (
   get_or w.stripes (home w key) (empty_stripe w.config 0),
   slice_get-get_or w.stripes (home w key) (empty_stripe w.config 0) (within (sum key) (length w.stripes) w.config.stripes (some_stripe w.config shape.config_fits) shape.count),
 )
-
--- 2. The calls.
-
--- a call that is found has the number
-pub found_number : (n : ℕ) (calls : List OpenCall) (u : OpenCall) → find (has_number n) calls ≡ Some u → u.caller.call ≡ n
-found_number n [] u h = cc
-found_number n (x ∷ xs) u h =
-    elim (x.caller.call == n) as (λ b. (x.caller.call == n) ≡ b → cond b (Some x) (find (has_number n) xs) ≡ Some u → u.caller.call ≡ n) [
-      | true ↦ λ e h. let is : x ≡ u = cc in ap (λ (v : OpenCall). v.caller.call) (sym is) ∙ eqb-true x.caller.call n e
-      | false ↦ λ e h. found_number n xs u h
-    ] refl h

@@ -22,6 +22,7 @@ use Rattle.jc_stripe.specs.Refusals.{first_refusal, first_asked, first_by, write
 use Rattle.jc_stripe.specs.declared.ticket.First.{First}
 use Rattle.jc_stripe.specs.declared.ticket.First.TheVariants.{Nobody, Loader}
 use Rattle.jc_world.proofs.Joiners.{find_kept}
+use Rattle.jc_world.proofs.Facts.{refuted}
 
 -- what is found is found in a longer list
 pub found_more : {A : Type 0} (p : A → Bool) (xs ys : List A) (x : A) → find p xs ≡ Some x → find p (xs ++ ys) ≡ Some x
@@ -63,11 +64,6 @@ answering_asks : (config : Config) (op : Op) (entry : Option Bytes) → answers_
 answering_asks config Get entry h = get_asks config.read_through config.write_through entry h
 answering_asks config ContainsKey entry h = asks_none config.write_through
 answering_asks config op entry h = cc
-
--- a test that cannot pass fails
-refuted : (b : Bool) → (b ≡ true → ⊥) → b ≡ false
-refuted true h = absurd (h refl)
-refuted false h = refl
 
 -- what needs no free key and joins no load answers at once
 only_answers : (answers : Bool) (load : Option ℕ) → not (answers || is_some load) ≡ false → load ≡ None → answers ≡ true

@@ -8,10 +8,9 @@
 --     stays_held      so the entry of a key stays, if its reservation is the same
 use Rattle.std.proofs.Common.{inl, inr, ◌⊎◌, ◌≡◌, ◌<◌, ◌≤◌, ℕ, List, [], ◌∷◌, ◌++◌, Bool, true, false, cond, not, None, Some, find, filter, slice_get, slice_set, refl, sym, ap, ◌∙◌, subst, arith}
 use Rattle.std.specs.FinMap.{get}
-use Rattle.std.specs.List.{All}
-use Rattle.std.proofs.lemmas.List.Elements.{All-head, All-tail}
 use Rattle.jc_types.specs.declared.config.Config.{Config}
 use Rattle.jc_types.specs.Stripes.{stripe_of}
+use Rattle.jc_model.specs.declared.event.Op.{Op}
 use Rattle.jc_model.specs.Cache.{Bytes, entry_at}
 use Rattle.jc_stripe.specs.declared.begun.Begun.TheVariants as begun
 use Rattle.jc_stripe.specs.declared.ticket.Reservation.{Reservation}
@@ -31,6 +30,7 @@ use Rattle.jc_world.specs.Reserved.{is_appended}
 use Rattle.jc_world.specs.Sound.{IsHeld, IsSoundWorld}
 use Rattle.jc_world.proofs.Numbered.{some_of}
 use Rattle.jc_world.proofs.Places.{at_stripe}
+use Rattle.jc_world.proofs.LoadKeys.{found_holds}
 use Rattle.jc_world.proofs.Reservations.{out_reserved, found_left}
 use Rattle.jc_world.proofs.Entries.{split}
 use Rattle.jc_world.proofs.Sounding.{Laws, sound_step}
@@ -45,13 +45,13 @@ cached_set : (w : WorldState) (key q : Bytes) (from to : State) → stripe_for w
 cached_set w key q from to there same = at_stripe w.stripes (home w key) (home w q) from to (λ o x. entry_in x q ≡ entry_in o q) there (ap (λ c. entry_at c q) same) refl
 
 -- the first phase
-unmoved_started : (w new : WorldState) (u : OpenCall) (from to : State) (seen : Shown) → stripe_for w u.command.key ≡ Some from → Starts w u from to seen new → is_appended seen ≡ false → IsUnmoved w new
-unmoved_started w new u from to (shown.Refused refusal) there h none = subst (IsUnmoved w) (sym h.1) (refl, λ q. refl)
-unmoved_started w new u from to (shown.Stepped seen) there h none = absurd (let t : true ≡ false = none in cc)
-unmoved_started w new u from to shown.Loads there h none = subst (IsUnmoved w) (sym h.2) (refl, λ q. cached_set w u.command.key q from to there (ap (λ (s : State). s.cache) h.1.4))
-unmoved_started w new u from to (shown.Asks change) there h none = subst (IsUnmoved w) (sym h.3) (refl, λ q. cached_set w u.command.key q from to there (ap (λ (s : State). s.cache) h.1.4))
-unmoved_started w new u from to shown.Joins there h none = subst (IsUnmoved w) (sym h.2) (refl, λ q. cached_set w u.command.key q from to there (ap (λ (s : State). s.cache) h.1.3))
-unmoved_started w new u from to seen there h none = absurd h
+unmoved_started : (w new : WorldState) (u : OpenCall) (key : Bytes) (op : Op) (from to : State) (seen : Shown) → stripe_for w key ≡ Some from → Starts w u.caller key op from to seen new → is_appended seen ≡ false → IsUnmoved w new
+unmoved_started w new u key op from to (shown.Refused refusal) there h none = subst (IsUnmoved w) (sym h.1) (refl, λ q. refl)
+unmoved_started w new u key op from to (shown.Stepped seen) there h none = absurd (let t : true ≡ false = none in cc)
+unmoved_started w new u key op from to shown.Loads there h none = subst (IsUnmoved w) (sym h.2) (refl, λ q. cached_set w key q from to there (ap (λ (s : State). s.cache) h.1.4))
+unmoved_started w new u key op from to (shown.Asks change) there h none = subst (IsUnmoved w) (sym h.3) (refl, λ q. cached_set w key q from to there (ap (λ (s : State). s.cache) h.1.4))
+unmoved_started w new u key op from to shown.Joins there h none = subst (IsUnmoved w) (sym h.2) (refl, λ q. cached_set w key q from to there (ap (λ (s : State). s.cache) h.1.3))
+unmoved_started w new u key op from to seen there h none = absurd h
 
 -- the last phase shows its step
 unmoved_ended : (w new : WorldState) (call : ℕ) (key : Bytes) (part : Part) (from to : State) (seen : Shown) → Ends w call key part from to seen new → is_appended seen ≡ false → IsUnmoved w new
@@ -68,11 +68,11 @@ unmoved_picks w new call key join from to seen there h = absurd h
 -- by the kind of the event
 unmoved_happens : (w new : WorldState) (e : WorldEvent) (seen : Shown) → Happens w e seen new → is_appended seen ≡ false → IsUnmoved w new
 unmoved_happens w new (event.Call call session command) seen h none = subst (IsUnmoved w) (sym h.1) (refl, λ q. refl)
-unmoved_happens w new (event.Start call key) seen h none = unmoved_started w new h.0 h.2 h.4 seen h.3 h.5 none
+unmoved_happens w new (event.Start call key) seen h none = unmoved_started w new h.0 key h.1 h.4 h.6 seen h.5 h.7 none
 unmoved_happens w new (event.Read call key) seen h none = subst (IsUnmoved w) (sym h.3) (refl, λ q. refl)
 unmoved_happens w new (event.Say call key answer) seen h none = subst (IsUnmoved w) (sym h.3) (refl, λ q. refl)
 unmoved_happens w new (event.Change call key) seen h none = subst (IsUnmoved w) (sym h.5) (refl, λ q. refl)
-unmoved_happens w new (event.Report call fault) seen h none = subst (IsUnmoved w) (sym h.7) (refl, λ q. refl)
+unmoved_happens w new (event.Report call fault) seen h none = subst (IsUnmoved w) (sym h.9) (refl, λ q. refl)
 unmoved_happens w new (event.Commit call key) seen h none = unmoved_ended w new call key h.0 h.2 h.4 seen h.5 none
 unmoved_happens w new (event.Withdraw call key) seen h none = subst (IsUnmoved w) (sym h.7) (refl, λ q. cached_set w key q h.2 h.4 h.3 (ap (λ (s : State). s.cache) h.5.1))
 unmoved_happens w new (event.Leave call) seen h none = subst (IsUnmoved w) (sym h.1) (refl, λ q. refl)
@@ -84,15 +84,6 @@ unmoved_step w new e seen (inl (fit, happens)) none = unmoved_happens w new e se
 unmoved_step w new e seen (inr (unfit, shows, is)) none = subst (IsUnmoved w) (sym is) (refl, λ q. refl)
 
 -- 2. A reservation that is still out.
-
--- what holds of each holds of the one that is found
-pub found_holds : {A : Type 0} (p : A → Bool) (P : A → Type 0) (xs : List A) (x : A) → find p xs ≡ Some x → All P xs → P x
-found_holds p P [] x h all = cc
-found_holds p P (y ∷ ys) x h all =
-    elim (p y) as (λ b. cond b (Some y) (find p ys) ≡ Some x → P x) [
-      | true ↦ λ h. let is : y ≡ x = cc in subst P is (All-head P y ys all)
-      | false ↦ λ h. found_holds p P ys x h (All-tail P y ys all)
-    ] h
 
 -- one that is found with one more at the end was found before, or is that one
 found_or_last : {A : Type 0} (p : A → Bool) (xs : List A) (y x : A) → find p (xs ++ y ∷ []) ≡ Some x → (find p xs ≡ Some x) ⊎ (x ≡ y)
@@ -196,23 +187,22 @@ stay_set w n key from to config stripes there stays = record {
 }
 
 -- the first phase
-stay_started : KeepsReserved → (w new : WorldState) (u : OpenCall) (from to : State) (seen : Shown) → stripe_for w u.command.key ≡ Some from → IsReached from → Starts w u from to seen new → StayOut w new
-stay_started kept w new u from to (shown.Refused refusal) there reached h = stay_beside w new _ h.1 refl refl
-stay_started kept w new u from to (shown.Stepped seen) there reached h =
-    let key = u.command.key in
+stay_started : KeepsReserved → (w new : WorldState) (u : OpenCall) (key : Bytes) (op : Op) (from to : State) (seen : Shown) → stripe_for w key ≡ Some from → IsReached from → Starts w u.caller key op from to seen new → StayOut w new
+stay_started kept w new u key op from to (shown.Refused refusal) there reached h = stay_beside w new _ h.1 refl refl
+stay_started kept w new u key op from to (shown.Stepped seen) there reached h =
     stay_set w new key from to (ap (λ (x : WorldState). x.config) h.2) (ap (λ (x : WorldState). x.stripes) h.2) there
     (stays_kept from to (ap (λ (s : State). s.next) h.0.2.after) (ap (λ (s : State). s.reservations) h.0.2.after)
-    (λ q out. kept.begins from to u.caller key u.command.op (begun.Done (step_of seen)) q reached h.0 out))
-stay_started kept w new u from to shown.Loads there reached h =
-    stay_set w new u.command.key from to (ap (λ (x : WorldState). x.config) h.2) (ap (λ (x : WorldState). x.stripes) h.2) there
+    (λ q out. kept.begins from to u.caller key op (begun.Done (step_of seen)) q reached h.0 out))
+stay_started kept w new u key op from to shown.Loads there reached h =
+    stay_set w new key from to (ap (λ (x : WorldState). x.config) h.2) (ap (λ (x : WorldState). x.stripes) h.2) there
     (stays_reserving from to h.0.reservation h.1.4 (ap (λ (t : Ticket). t.reservation.number) h.1.3))
-stay_started kept w new u from to (shown.Asks change) there reached h =
-    stay_set w new u.command.key from to (ap (λ (x : WorldState). x.config) h.3) (ap (λ (x : WorldState). x.stripes) h.3) there
+stay_started kept w new u key op from to (shown.Asks change) there reached h =
+    stay_set w new key from to (ap (λ (x : WorldState). x.config) h.3) (ap (λ (x : WorldState). x.stripes) h.3) there
     (stays_reserving from to h.0.reservation h.1.4 (ap (λ (t : Ticket). t.reservation.number) h.1.3))
-stay_started kept w new u from to shown.Joins there reached h =
-    stay_set w new u.command.key from to (ap (λ (x : WorldState). x.config) h.2) (ap (λ (x : WorldState). x.stripes) h.2) there
+stay_started kept w new u key op from to shown.Joins there reached h =
+    stay_set w new key from to (ap (λ (x : WorldState). x.config) h.2) (ap (λ (x : WorldState). x.stripes) h.2) there
     (stays_kept from to (ap (λ (s : State). s.next) h.1.3) (ap (λ (s : State). s.reservations) h.1.3) (λ q out. ap (λ (s : State). entry_at s.cache q) h.1.3))
-stay_started kept w new u from to seen there reached h = absurd h
+stay_started kept w new u key op from to seen there reached h = absurd h
 
 -- the last phase
 stay_ended : KeepsReserved → (w new : WorldState) (call : ℕ) (key : Bytes) (part : Part) (from to : State) (seen : Shown) → stripe_for w key ≡ Some from → IsReached from → Ends w call key part from to seen new → StayOut w new
@@ -237,11 +227,11 @@ stay_picks w new call key join from to seen there h = absurd h
 -- by the kind of the event
 stay_happens : KeepsReserved → (w new : WorldState) (e : WorldEvent) (seen : Shown) → Happens w e seen new → IsSoundWorld w → StayOut w new
 stay_happens kept w new (event.Call call session command) seen h old = stay_beside w new _ h.1 refl refl
-stay_happens kept w new (event.Start call key) seen h old = stay_started kept w new h.0 h.2 h.4 seen h.3 (old.shape.each (home w h.0.command.key) h.2 h.3).reached h.5
+stay_happens kept w new (event.Start call key) seen h old = stay_started kept w new h.0 key h.1 h.4 h.6 seen h.5 (old.shape.each (home w key) h.4 h.5).reached h.7
 stay_happens kept w new (event.Read call key) seen h old = stay_beside w new _ h.3 refl refl
 stay_happens kept w new (event.Say call key answer) seen h old = stay_beside w new _ h.3 refl refl
 stay_happens kept w new (event.Change call key) seen h old = stay_beside w new _ h.5 refl refl
-stay_happens kept w new (event.Report call fault) seen h old = stay_beside w new _ h.7 refl refl
+stay_happens kept w new (event.Report call fault) seen h old = stay_beside w new _ h.9 refl refl
 stay_happens kept w new (event.Commit call key) seen h old = stay_ended kept w new call key h.0 h.2 h.4 seen h.3 (old.shape.each (home w key) h.2 h.3).reached h.5
 stay_happens kept w new (event.Withdraw call key) seen h old =
     stay_set w new key h.2 h.4 (ap (λ (x : WorldState). x.config) h.7) (ap (λ (x : WorldState). x.stripes) h.7) h.3

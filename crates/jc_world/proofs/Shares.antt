@@ -1,15 +1,16 @@
 -- The order's parts: what a stripe puts down stands in its own part, and behind what may stand before it.
 --     shape_set      the shape of a world, where one stripe is another and the order is that stripe's longer one
---     AllBy          each step among events is of such a caller
---     added_order    steps of calls whose numbers are not in the order may stand at its end
-use Rattle.std.proofs.Common.{◌≡◌, ◌==◌, ◌||◌, ℕ, zero, suc, List, [], ◌∷◌, ◌++◌, length, drop, Bool, true, false, cond, not, Option, None, Some, IsSomeAnd, filter, find, map, nat_lt, slice_get, slice_set, refl, sym, ap, ◌∙◌, subst, arith, append-nil}
+--     AllBy          each step among events is of such a caller at such a key
+--     added_order    steps that may come behind an order stand at its end
+--     comes_added    a step may still come, if it may behind each that is added
+use Rattle.std.proofs.Common.{◌≡◌, ◌==◌, ◌&&◌, ◌||◌, ℕ, zero, suc, List, [], ◌∷◌, ◌++◌, length, drop, Bool, true, false, cond, not, Option, None, Some, IsSomeAnd, filter, find, map, nat_lt, slice_get, slice_set, refl, sym, ap, ◌∙◌, subst, arith, append-nil}
 use Rattle.std.specs.List.{list_all}
+use Rattle.std.specs.Cmp.Lexicographic.{pointwise}
 use Rattle.std.proofs.Math.Seq.{drop-append_seam}
 use Rattle.std.proofs.lemmas.Bool.{ne_eqb, eqb-true, and_parts, and_from}
 use Rattle.std.proofs.lemmas.Bool.Decides.{nat_tests}
 use Rattle.std.proofs.lemmas.List.Elements.{filter-append}
 use Rattle.std.proofs.lemmas.List.Folds.{list_all-append}
-use Rattle.jc_types.proofs.CallerLemmas.{all_imply}
 use Rattle.jc_types.specs.declared.caller.Caller.{Caller}
 use Rattle.jc_types.specs.declared.config.Config.{Config}
 use Rattle.jc_types.specs.Stripes.{stripe_of}
@@ -28,8 +29,8 @@ use Rattle.jc_stripe.specs.State.{State}
 use Rattle.jc_stripe.specs.Reached.{IsReached}
 use Rattle.jc_stripe.specs.Laws.{Extends}
 use Rattle.jc_world.specs.World.{WorldState, home, stripe_for}
-use Rattle.jc_stripe.specs.OwnSteps.{is_before_call}
-use Rattle.jc_world.specs.Sound.{IsStripe, IsShaped, is_up_to, number_up_to, none_from, Each}
+use Rattle.jc_stripe.specs.OwnSteps.{may_come_all}
+use Rattle.jc_world.specs.Sound.{IsStripe, IsShaped, is_up_to, number_up_to, Each}
 
 -- 1. Small facts.
 
@@ -187,52 +188,38 @@ shape_set w n key from to config_is stripes_are shape there config number origin
 
 -- 4. The callers' order.
 
--- a step may come behind what has lower numbers of its session
-first_two : (a b c : Bool) → (a || b) ≡ true → (a || b || c) ≡ true
-first_two true b c h = refl
-first_two false true c h = refl
-first_two false false c h = cc
-
-before_comes : (caller : Caller) (key : Bytes) (event : Event) → is_before_call caller.session caller.call event ≡ true → may_come event caller key ≡ true
-before_comes caller key (Step who op k out shared reply) h = first_two (not (who.session == caller.session)) (nat_lt who.call caller.call) _ h
-before_comes caller key (Evict k cause) h = refl
-
--- so it may come behind an order without its number
-pub all_come : (order : List Event) (caller : Caller) (key : Bytes) → none_from order caller ≡ true → list_all (λ e. may_come e caller key) order ≡ true
-all_come order caller key none = all_imply (is_before_call caller.session caller.call) (λ e. may_come e caller key) order (before_comes caller key) none
-
--- each step among these events is of such a caller
-abbrev pub AllBy : (Caller → Type 0) → List Event → Type 0
+-- each step among these events is of such a caller at such a key
+abbrev pub AllBy : (Caller → Bytes → Type 0) → List Event → Type 0
 AllBy P [] = Unit {0}
-AllBy P (Step who op key out shared reply ∷ events) = P who × AllBy P events
+AllBy P (Step who op key out shared reply ∷ events) = P who key × AllBy P events
 AllBy P (Evict key cause ∷ events) = AllBy P events
 
-pub by_map : (P Q : Caller → Type 0) (es : List Event) → ((c : Caller) → P c → Q c) → AllBy P es → AllBy Q es
+pub by_map : (P Q : Caller → Bytes → Type 0) (es : List Event) → ((c : Caller) (key : Bytes) → P c key → Q c key) → AllBy P es → AllBy Q es
 by_map P Q [] f h = tt
-by_map P Q (Step who op key out shared reply ∷ es) f h = (f who h.0, by_map P Q es f h.1)
+by_map P Q (Step who op key out shared reply ∷ es) f h = (f who key h.0, by_map P Q es f h.1)
 by_map P Q (Evict key cause ∷ es) f h = by_map P Q es f h
 
-by_append : (P : Caller → Type 0) (xs ys : List Event) → AllBy P xs → AllBy P ys → AllBy P (xs ++ ys)
+by_append : (P : Caller → Bytes → Type 0) (xs ys : List Event) → AllBy P xs → AllBy P ys → AllBy P (xs ++ ys)
 by_append P [] ys h k = k
 by_append P (Step who op key out shared reply ∷ xs) ys h k = (h.0, by_append P xs ys h.1 k)
 by_append P (Evict key cause ∷ xs) ys h k = by_append P xs ys h k
 
 -- the evictions of a group are of nobody
-by_victim : (P : Caller → Type 0) (victim : Option Bytes) → AllBy P (victim_events victim)
+by_victim : (P : Caller → Bytes → Type 0) (victim : Option Bytes) → AllBy P (victim_events victim)
 by_victim P None = tt
 by_victim P (Some key) = tt
 
-by_evicted : (P : Caller → Type 0) (key : Bytes) (cause : Option Cause) → AllBy P (evicted_events key cause)
+by_evicted : (P : Caller → Bytes → Type 0) (key : Bytes) (cause : Option Cause) → AllBy P (evicted_events key cause)
 by_evicted P key None = tt
 by_evicted P key (Some cause) = tt
 
 -- each caller's shared step is its own
-by_shared : (P : Caller → Type 0) (place : ℕ) (key : Bytes) (answer : LoadAnswer) (callers : List Caller) → Each (λ (c : Caller). P c) callers → AllBy P (map (shared_event place key answer) callers)
+by_shared : (P : Caller → Bytes → Type 0) (place : ℕ) (key : Bytes) (answer : LoadAnswer) (callers : List Caller) → Each (λ (c : Caller). P c key) callers → AllBy P (map (shared_event place key answer) callers)
 by_shared P place key answer [] h = tt
 by_shared P place key answer (c ∷ cs) h = (h.0, by_shared P place key answer cs h.1)
 
 -- the events of a group are of its call and of the callers that share its load
-pub by_group : (P : Caller → Type 0) (place : ℕ) (group : Group) → P group.caller → Each (λ (c : Caller). P c) group.joined → AllBy P (events_of place group)
+pub by_group : (P : Caller → Bytes → Type 0) (place : ℕ) (group : Group) → P group.caller group.step.key → Each (λ (c : Caller). P c group.step.key) group.joined → AllBy P (events_of place group)
 by_group P place group one callers =
     let front = victim_events group.victim in
     let steps = step_event group ∷ map (shared_event (step_place place group) group.step.key group.step.out.load) group.joined in
@@ -240,29 +227,24 @@ by_group P place group one callers =
     by_append P (front ++ steps) (evicted_events group.step.key group.evicted) (by_append P front steps (by_victim P group.victim) all_steps) (by_evicted P group.step.key group.evicted)
 
 -- a fact of each event, where it holds of each step
-pub all_by : (P : Caller → Type 0) (p : Event → Bool) (es : List Event) → ((who : Caller) (op : Op) (key : Bytes) (out : Out) (shared : Option ℕ) (reply : Reply) → P who → p (Step who op key out shared reply) ≡ true)
+pub all_by : (P : Caller → Bytes → Type 0) (p : Event → Bool) (es : List Event) → ((who : Caller) (op : Op) (key : Bytes) (out : Out) (shared : Option ℕ) (reply : Reply) → P who key → p (Step who op key out shared reply) ≡ true)
     → ((key : Bytes) (cause : Cause) → p (Evict key cause) ≡ true) → AllBy P es → list_all p es ≡ true
 all_by P p [] f g h = refl
 all_by P p (Step who op key out shared reply ∷ es) f g h = and_from _ _ (f who op key out shared reply h.0) (all_by P p es f g h.1)
 all_by P p (Evict key cause ∷ es) f g h = and_from _ _ (g key cause) (all_by P p es f g h)
 
--- what is before such a step may stand before it
-before_follows : (x : Event) (who : Caller) (op : Op) (key : Bytes) (out : Out) (shared : Option ℕ) (reply : Reply) → is_before_call who.session who.call x ≡ true → may_follow x (Step who op key out shared reply) ≡ true
-before_follows (Step who' op' key' out' shared' reply') who op key out shared reply h = first_two (not (who'.session == who.session)) (nat_lt who'.call who.call) _ h
-before_follows (Evict key' cause) who op key out shared reply h = refl
-
--- and everything before an eviction
+-- everything may stand before an eviction
 before_evict : (x : Event) (key : Bytes) (cause : Cause) → may_follow x (Evict key cause) ≡ true
 before_evict (Step who op key' out shared reply) key cause = refl
 before_evict (Evict key' cause') key cause = refl
 
--- events may stand behind an order without their numbers
-all_follow : (xs ys : List Event) → AllBy (λ who. none_from xs who ≡ true) ys → list_all (λ x. list_all (may_follow x) ys) xs ≡ true
+-- events may stand behind an order if their steps may come behind it
+all_follow : (xs ys : List Event) → AllBy (λ who key. may_come_all xs who key ≡ true) ys → list_all (λ x. list_all (may_follow x) ys) xs ≡ true
 all_follow [] ys h = refl
 all_follow (x ∷ xs) ys h = and_from _ _
-    (all_by (λ who. none_from (x ∷ xs) who ≡ true) (may_follow x) ys
-    (λ who op key out shared reply k. before_follows x who op key out shared reply (and_parts (is_before_call who.session who.call x) (none_from xs who) k).0) (before_evict x) h)
-    (all_follow xs ys (by_map (λ who. none_from (x ∷ xs) who ≡ true) (λ who. none_from xs who ≡ true) ys (λ who k. (and_parts (is_before_call who.session who.call x) (none_from xs who) k).1) h))
+    (all_by (λ who key. may_come_all (x ∷ xs) who key ≡ true) (may_follow x) ys
+    (λ who op key out shared reply k. (and_parts (may_come x who key) (may_come_all xs who key) k).0) (before_evict x) h)
+    (all_follow xs ys (by_map (λ who key. may_come_all (x ∷ xs) who key ≡ true) (λ who key. may_come_all xs who key ≡ true) ys (λ who key k. (and_parts (may_come x who key) (may_come_all xs who key) k).1) h))
 
 -- two parts in order, of which the one may stand behind the other
 order_joined : (xs ys : List Event) → in_order xs ≡ true → in_order ys ≡ true → list_all (λ x. list_all (may_follow x) ys) xs ≡ true → in_order (xs ++ ys) ≡ true
@@ -277,8 +259,8 @@ order_back : (xs ys : List Event) → in_order (xs ++ ys) ≡ true → in_order 
 order_back [] ys h = h
 order_back (x ∷ xs) ys h = order_back xs ys (and_parts (list_all (may_follow x) (xs ++ ys)) (in_order (xs ++ ys)) h).1
 
--- the order with the steps of calls whose numbers it doesn't have
-pub added_order : (order : List Event) (from to : State) (g : Extends from to) → IsReached to → in_order order ≡ true → AllBy (λ who. none_from order who ≡ true) g.more → in_order (order ++ added from to) ≡ true
+-- the order with steps that may come behind it
+pub added_order : (order : List Event) (from to : State) (g : Extends from to) → IsReached to → in_order order ≡ true → AllBy (λ who key. may_come_all order who key ≡ true) g.more → in_order (order ++ added from to) ≡ true
 added_order order from to g reached h none =
     ap (λ more. in_order (order ++ more)) (added_is from to g)
     ∙ order_joined order g.more h (order_back from.history g.more (sym (ap in_order g.history) ∙ reached.legal.order)) (all_follow order g.more none)
@@ -288,12 +270,16 @@ added_all : (p : Event → Bool) (order : List Event) (from to : State) (g : Ext
 added_all p order from to g before here = list_all-append p order (added from to) ∙ and_from _ _ before (ap (list_all p) (added_is from to g) ∙ here)
 
 -- the numbers of the steps are at most the last
-pub numbers_added : (last : Option ℕ) (order : List Event) (from to : State) (g : Extends from to) → list_all (number_up_to last) order ≡ true → AllBy (λ who. is_up_to last who.call ≡ true) g.more → list_all (number_up_to last) (order ++ added from to) ≡ true
+pub numbers_added : (last : Option ℕ) (order : List Event) (from to : State) (g : Extends from to) → list_all (number_up_to last) order ≡ true → AllBy (λ who key. is_up_to last who.call ≡ true) g.more → list_all (number_up_to last) (order ++ added from to) ≡ true
 numbers_added last order from to g before here =
-    added_all (number_up_to last) order from to g before (all_by (λ who. is_up_to last who.call ≡ true) (number_up_to last) g.more (λ who op key out shared reply h. h) (λ key cause. refl) here)
+    added_all (number_up_to last) order from to g before (all_by (λ who key. is_up_to last who.call ≡ true) (number_up_to last) g.more (λ who op key out shared reply h. h) (λ key cause. refl) here)
 
--- a call of another session is still above all steps of its session
-pub none_added : (order : List Event) (from to : State) (caller : Caller) (g : Extends from to) → none_from order caller ≡ true → AllBy (λ who. not (who.session == caller.session) ≡ true) g.more → none_from (order ++ added from to) caller ≡ true
-none_added order from to caller g before here =
-    added_all (is_before_call caller.session caller.call) order from to g before
-    (all_by (λ who. not (who.session == caller.session) ≡ true) (is_before_call caller.session caller.call) g.more (λ who op key out shared reply h. ap (λ b. b || nat_lt who.call caller.call) h) (λ key cause. refl) here)
+-- a step of this caller at this key may come behind one of the other
+abbrev pub comes_behind : Caller → Bytes → Caller → Bytes → Bool
+comes_behind who k caller key = not (who.session == caller.session) || nat_lt who.call caller.call || ((who.call == caller.call) && not (pointwise ◌==◌ k key))
+
+-- a step may still come if it may behind each that is added
+pub comes_added : (order : List Event) (from to : State) (caller : Caller) (key : Bytes) (g : Extends from to) → may_come_all order caller key ≡ true → AllBy (λ who k. comes_behind who k caller key ≡ true) g.more → may_come_all (order ++ added from to) caller key ≡ true
+comes_added order from to caller key g before here =
+    added_all (λ e. may_come e caller key) order from to g before
+    (all_by (λ who k. comes_behind who k caller key ≡ true) (λ e. may_come e caller key) g.more (λ who op k out shared reply h. h) (λ k cause. refl) here)

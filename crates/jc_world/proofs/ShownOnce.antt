@@ -217,24 +217,23 @@ due_still : (w new : WorldState) (seen : Shown) (number place : ℕ) → is_answ
 due_still w new seen number place none same = let e : one_if (is_answer_at number place seen) ≡ 0 = ap one_if none in omega arith
 
 -- by what is shown of a first phase
-due_started : Grows → (w new : WorldState) (u : OpenCall) (from to : State) (seen : Shown) (number place : ℕ) → stripe_for w u.command.key ≡ Some from → Starts w u from to seen new → MayBegin from u.caller u.command.key → IsSoundWorld w → IsSoundWorld new
+due_started : Grows → (w new : WorldState) (u : OpenCall) (key : Bytes) (op : Op) (from to : State) (seen : Shown) (number place : ℕ) → stripe_for w key ≡ Some from → Starts w u.caller key op from to seen new → MayBegin from u.caller key → IsSoundWorld w → IsSoundWorld new
     → due new number place ≡ one_if (is_answer_at number place seen) + due w number place
-due_started grows w new u from to (shown.Refused refusal) number place there h may old sound = due_still w new (shown.Refused refusal) number place refl (ap (λ (x : WorldState). due x number place) h.1)
-due_started grows w new u from to (shown.Stepped x) number place there h may old sound =
-    let key = u.command.key in
+due_started grows w new u key op from to (shown.Refused refusal) number place there h may old sound = due_still w new (shown.Refused refusal) number place refl (ap (λ (x : WorldState). due x number place) h.1)
+due_started grows w new u key op from to (shown.Stepped x) number place there h may old sound =
     due_grown w new key from to x.place number place there old sound (ap (λ (v : WorldState). v.config) h.2) (ap (λ (v : WorldState). v.stripes) h.2) (ap (λ (v : WorldState). v.order) h.2)
-    (grows.begins from to u.caller key u.command.op (begun.Done (step_of x)) h.0) (gives_done from to u.caller key u.command.op (step_of x) may h.0)
+    (grows.begins from to u.caller key op (begun.Done (step_of x)) h.0) (gives_done from to u.caller key op (step_of x) may h.0)
     ∙ ap (λ s. one_if ((s == number) && (x.place == place)) + due w number place) (sym h.1)
-due_started grows w new u from to shown.Loads number place there h may old sound =
-    due_quiet w new u.command.key from to number place there old sound (ap (λ (v : WorldState). v.config) h.2) (ap (λ (v : WorldState). v.stripes) h.2) (ap (λ (v : WorldState). v.order) h.2)
+due_started grows w new u key op from to shown.Loads number place there h may old sound =
+    due_quiet w new key from to number place there old sound (ap (λ (v : WorldState). v.config) h.2) (ap (λ (v : WorldState). v.stripes) h.2) (ap (λ (v : WorldState). v.order) h.2)
     (gives_none from to (ap (λ (s : State). s.history) h.1.4) (λ c k. ap (λ (s : State). is_parked s.joiners c k) h.1.4))
-due_started grows w new u from to (shown.Asks change) number place there h may old sound =
-    due_quiet w new u.command.key from to number place there old sound (ap (λ (v : WorldState). v.config) h.3) (ap (λ (v : WorldState). v.stripes) h.3) (ap (λ (v : WorldState). v.order) h.3)
+due_started grows w new u key op from to (shown.Asks change) number place there h may old sound =
+    due_quiet w new key from to number place there old sound (ap (λ (v : WorldState). v.config) h.3) (ap (λ (v : WorldState). v.stripes) h.3) (ap (λ (v : WorldState). v.order) h.3)
     (gives_none from to (ap (λ (s : State). s.history) h.1.4) (λ c k. ap (λ (s : State). is_parked s.joiners c k) h.1.4))
-due_started grows w new u from to shown.Joins number place there h may old sound =
-    due_quiet w new u.command.key from to number place there old sound (ap (λ (v : WorldState). v.config) h.2) (ap (λ (v : WorldState). v.stripes) h.2) (ap (λ (v : WorldState). v.order) h.2)
+due_started grows w new u key op from to shown.Joins number place there h may old sound =
+    due_quiet w new key from to number place there old sound (ap (λ (v : WorldState). v.config) h.2) (ap (λ (v : WorldState). v.stripes) h.2) (ap (λ (v : WorldState). v.order) h.2)
     (gives_none from to (ap (λ (s : State). s.history) h.1.3) (λ c k. ap (λ (s : State). is_parked s.joiners c k) h.1.3 ∙ joined_parks from h.0 c k))
-due_started grows w new u from to seen number place there h may old sound = absurd h
+due_started grows w new u key op from to seen number place there h may old sound = absurd h
 
 -- of a last phase
 due_ended : Grows → (w new : WorldState) (call : ℕ) (key : Bytes) (part : Part) (from to : State) (seen : Shown) (number place : ℕ) → stripe_for w key ≡ Some from → Ends w call key part from to seen new → IsSoundWorld w → IsSoundWorld new
@@ -265,11 +264,11 @@ due_picks w new call key join from to seen number place there h old sound = absu
 due_happens : Grows → (w new : WorldState) (e : WorldEvent) (seen : Shown) (number place : ℕ) → fits w e ≡ true → Happens w e seen new → IsSoundWorld w → IsSoundWorld new → due new number place ≡ one_if (is_answer_at number place seen) + due w number place
 due_happens grows w new (event.Call call session command) seen number place fit h old sound = due_still w new seen number place (ap (is_answer_at number place) h.0) (ap (λ (x : WorldState). due x number place) h.1)
 due_happens grows w new (event.Start call key) seen number place fit h old sound =
-    due_started grows w new h.0 h.2 h.4 seen number place h.3 h.5 (begins_at w call key h.0 h.2 fit h.1 h.3 old) old sound
+    due_started grows w new h.0 key h.1 h.4 h.6 seen number place h.5 h.7 (begins_at w call key h.0 h.1 h.4 fit h.2 h.3 h.5 old) old sound
 due_happens grows w new (event.Read call key) seen number place fit h old sound = due_still w new seen number place (ap (is_answer_at number place) h.2) (ap (λ (x : WorldState). due x number place) h.3)
 due_happens grows w new (event.Say call key answer) seen number place fit h old sound = due_still w new seen number place (ap (is_answer_at number place) h.2) (ap (λ (x : WorldState). due x number place) h.3)
 due_happens grows w new (event.Change call key) seen number place fit h old sound = due_still w new seen number place (ap (is_answer_at number place) h.4) (ap (λ (x : WorldState). due x number place) h.5)
-due_happens grows w new (event.Report call fault) seen number place fit h old sound = due_still w new seen number place (ap (is_answer_at number place) h.6) (ap (λ (x : WorldState). due x number place) h.7)
+due_happens grows w new (event.Report call fault) seen number place fit h old sound = due_still w new seen number place (ap (is_answer_at number place) h.8) (ap (λ (x : WorldState). due x number place) h.9)
 due_happens grows w new (event.Commit call key) seen number place fit h old sound = due_ended grows w new call key h.0 h.2 h.4 seen number place h.3 h.5 old sound
 due_happens grows w new (event.Withdraw call key) seen number place fit h old sound =
     let r = h.0.reservation in

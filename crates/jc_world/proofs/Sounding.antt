@@ -1,5 +1,6 @@
 -- Each event leads from a sound world to a sound one, and so does each run.
-use Rattle.std.proofs.Common.{inl, inr, ◌≡◌, ◌∙◌, ℕ, List, [], ◌∷◌, true, Some, Result, Ok, Err, OnOk, OnErr, sym, subst, ap, refl}
+use Rattle.std.proofs.Common.{inl, inr, ◌≡◌, ◌∙◌, ℕ, List, [], ◌∷◌, Bool, true, false, ◌||◌, Some, Result, Ok, Err, OnOk, OnErr, sym, subst, ap, refl}
+use Rattle.std.specs.List.{list_any}
 use Rattle.std.proofs.lemmas.Bool.{and_parts}
 use Rattle.jc_types.specs.declared.config.Config.{Config}
 use Rattle.jc_types.specs.Limits.{check}
@@ -10,7 +11,7 @@ use Rattle.jc_world.specs.declared.event.Shown.{Shown}
 use Rattle.jc_world.specs.declared.event.WorldEvent.{WorldEvent}
 use Rattle.jc_world.specs.declared.event.WorldEvent.TheVariants as event
 use Rattle.jc_stripe.specs.Laws.{StaysReached, KeepsReserved}
-use Rattle.jc_world.specs.World.{WorldState, start, open_call, part_of, waits_for_load, waits_for_report, with_stored, has_progress}
+use Rattle.jc_world.specs.World.{WorldState, start, open_call, open_keys, part_of, waits_for_load, waits_for_report, with_stored, has_progress}
 use Rattle.jc_world.specs.Premises.{read_answer, report_of}
 use Rattle.jc_world.specs.Events.{fits, may_report, Happens, Step, Run}
 use Rattle.jc_world.specs.Sound.{IsSoundWorld}
@@ -21,19 +22,23 @@ use Rattle.jc_world.proofs.Callers.{order_happens, order_opened}
 use Rattle.jc_world.proofs.Joins.{joins_start, joins_happens, joins_stored}
 use Rattle.jc_world.proofs.Kept.{parts_start, parts_called, parts_started, parts_ended, parts_answered, parts_changed, parts_reported, parts_disturbed, parts_stored, parts_withdrawn, parts_left, parts_picks}
 
--- the writer that may report is waited for at the call's key
-waits_at : (w : WorldState) (call : ℕ) (u : OpenCall) → open_call w call ≡ Some u → may_report w call (open_call w call) ≡ true → has_progress waits_for_report (part_of w call u.command.key) ≡ true
-waits_at w call u is h = ap (may_report w call) (sym is) ∙ h
+-- the writer that may report is waited for at the one key of the call
+waits_at : (w : WorldState) (call : ℕ) (u : OpenCall) (key : Bytes) → open_call w call ≡ Some u → open_keys u ≡ key ∷ [] → may_report w call (open_call w call) ≡ true → has_progress waits_for_report (part_of w call key) ≡ true
+waits_at w call u key is keys h = first_of _ (sym (ap (may_report w call) is ∙ ap (list_any (λ q. has_progress waits_for_report (part_of w call q))) keys) ∙ h)
+  where
+    first_of : (b : Bool) → (b || false) ≡ true → b ≡ true
+    first_of true h = refl
+    first_of false h = cc
 
 parts_happens : (w new : WorldState) (e : WorldEvent) (seen : Shown) → fits w e ≡ true → Happens w e seen new → IsSoundWorld w → HasParts new
 parts_happens w new (event.Call call session command) seen fit (shows, is) h = subst HasParts (sym is) (parts_called w call session command fit h)
-parts_happens w new (event.Start call key) seen fit (u, there, from, at, to, starts) h = parts_started w new call key u from to seen fit there at starts h
+parts_happens w new (event.Start call key) seen fit (u, op, there, op_is, from, at, to, starts) h = parts_started w new call key u op from to seen there at starts h
 parts_happens w new (event.Read call key) seen fit (part, there, shows, is) h = subst HasParts (sym is) (parts_answered w call key part (read_answer (entry_at w.store key)) there fit h)
 parts_happens w new (event.Say call key answer) seen fit (part, there, shows, is) h =
     subst HasParts (sym is) (parts_answered w call key part answer there ((and_parts (is_load_given answer) (has_progress waits_for_load (part_of w call key)) fit).1) h)
 parts_happens w new (event.Change call key) seen fit (part, change, there, asked, shows, is) h = subst HasParts (sym is) (parts_changed w call key part change there asked fit h)
-parts_happens w new (event.Report call fault) seen fit (u, part, change, there, at, asked, shows, is) h =
-    subst HasParts (sym is) (parts_reported w call u.command.key part (report_of fault) at (waits_at w call u there fit) h)
+parts_happens w new (event.Report call fault) seen fit (u, key, part, change, there, keys, at, asked, shows, is) h =
+    subst HasParts (sym is) (parts_reported w call key part (report_of fault) at (waits_at w call u key there keys fit) h)
 parts_happens w new (event.Commit call key) seen fit (part, there, from, at, to, ends) h = parts_ended w new call key part from to seen fit there at ends h
 parts_happens w new (event.Withdraw call key) seen fit (part, there, from, at, to, withdraws, shows, is) h = subst HasParts (sym is) (parts_withdrawn w call key part from to fit there at withdraws h)
 parts_happens w new (event.Leave call) seen fit (shows, is) h = subst HasParts (sym is) (parts_left w call fit h)

@@ -4,11 +4,9 @@
 --     AllBegun       what is under way, reserved and joined is so of calls that have begun
 --     AllStand       each answer that was shown is that of its call's step, and the call has begun before it
 --     stands_run     so a run of events keeps that
-use Rattle.std.proofs.Common.{inl, inr, ◌≡◌, ◌==◌, ℕ, zero, suc, List, [], ◌∷◌, ◌++◌, length, take, zip, Bool, true, false, cond, not, Option, None, Some, find, filter, slice_get, refl, sym, ap, ◌∙◌, subst, append-nil, append_assoc, arith}
-use Rattle.std.specs.Cmp.Lexicographic.{pointwise}
+use Rattle.std.proofs.Common.{inl, inr, ◌≡◌, ℕ, zero, suc, List, [], ◌∷◌, ◌++◌, length, take, zip, Bool, true, false, cond, not, Option, None, Some, filter, slice_get, refl, sym, ap, ◌∙◌, subst, append-nil, append_assoc, arith}
 use Rattle.std.specs.FinMap.{get, insert, remove, get-empty, get-insert, get-remove}
 use Rattle.std.proofs.lemmas.Cmp.{nat_list_cmp_total}
-use Rattle.std.proofs.lemmas.Bool.{and_parts}
 use Rattle.std.proofs.lemmas.List.Elements.{filter-append}
 use Rattle.std.proofs.Math.Seq.{take-append_seam}
 use Rattle.std.proofs.lemmas.List.{take-append-le}
@@ -28,22 +26,24 @@ use Rattle.jc_model.specs.Legal.{is_of_stripe, of_stripe}
 use Rattle.jc_inflight.specs.Joining.{callers_of}
 use Rattle.jc_stripe.specs.Tickets.{Ticket, JoinClaim}
 use Rattle.jc_stripe.specs.State.{State}
-use Rattle.jc_stripe.specs.Refusals.{load_joined}
 use Rattle.jc_stripe.specs.Phases.{after_commit}
 use Rattle.jc_stripe.proofs.CallerLemmas.{step_at}
 use Rattle.jc_world.specs.declared.event.Part.{Part}
 use Rattle.jc_world.specs.declared.event.Shown.{Shown}
 use Rattle.jc_world.specs.declared.event.Shown.TheVariants as shown
+use Rattle.jc_world.specs.declared.event.Command.{Command}
 use Rattle.jc_world.specs.declared.event.OpenCall.{OpenCall}
 use Rattle.jc_world.specs.declared.event.WorldEvent.{WorldEvent}
 use Rattle.jc_world.specs.declared.event.WorldEvent.TheVariants as event
-use Rattle.jc_world.specs.World.{WorldState, Parts, home, stripe_for, has_number, is_join, join_of, part_of, out_of, open_call}
-use Rattle.jc_world.specs.Events.{fits, is_free, may_start, new_load, new_write, new_part, step_of, Starts, Ends, Picks, Happens, Step, Run}
+use Rattle.jc_world.specs.World.{WorldState, Parts, home, stripe_for, has_number, is_join, join_of, part_of, out_of, open_call, op_at}
+use Rattle.jc_world.specs.Events.{fits, new_call, new_load, new_write, new_part, step_of, Starts, Ends, Picks, Happens, Step, Run}
 use Rattle.jc_world.specs.Sound.{IsSoundWorld, Each}
 use Rattle.jc_world.specs.Headline.{start_with}
 use Rattle.jc_world.specs.Replies.{IsReplyOfStep, Stands}
-use Rattle.jc_world.proofs.Shares.{found_test, each_map, added}
-use Rattle.jc_world.proofs.Underway.{found_number, same_bytes, of_call-at}
+use Rattle.jc_world.proofs.Shares.{found_test, each_map, added, fact_found}
+use Rattle.jc_world.proofs.Underway.{found_number, of_call-at}
+use Rattle.jc_world.proofs.Settling.{Left, each_settled}
+use Rattle.jc_world.proofs.LoadKeys.{joins_get}
 use Rattle.jc_world.proofs.Joiners.{join_is}
 use Rattle.jc_world.proofs.Places.{stripe_put}
 use Rattle.jc_world.proofs.Entries.{split}
@@ -79,14 +79,6 @@ each_pushed : {A : Type 0} (P : A → Type 0) (xs : List A) (y : A) → Each P x
 each_pushed P [] y h one = (one, tt)
 each_pushed P (x ∷ xs) y h one = (h.0, each_pushed P xs y h.1 one)
 
-each_here : {A : Type 0} (P : A → Type 0) (p : A → Bool) (xs : List A) (x : A) → find p xs ≡ Some x → Each P xs → P x
-each_here P p [] x h all = cc
-each_here P p (y ∷ ys) x h all =
-    elim (p y) as (λ b. cond b (Some y) (find p ys) ≡ Some x → P x) [
-      | true ↦ λ h. let is : y ≡ x = cc in subst P is all.0
-      | false ↦ λ h. each_here P p ys x h all.1
-    ] h
-
 -- 2. Later worlds.
 
 -- a world of the same configuration, whose order continues the other's
@@ -99,13 +91,13 @@ later_same : (old new : WorldState) → new.config ≡ old.config → new.order 
 later_same old new config order = record { config = config; more = []; order = order ∙ sym (append-nil old.order) }
 
 -- by what is shown of a first phase
-later_started : (w new : WorldState) (u : OpenCall) (from to : State) (seen : Shown) → Starts w u from to seen new → IsLater w new
-later_started w new u from to (shown.Refused refusal) h = later_same w new (ap (λ (x : WorldState). x.config) h.1) (ap (λ (x : WorldState). x.order) h.1)
-later_started w new u from to (shown.Stepped seen) h = record { config = ap (λ (x : WorldState). x.config) h.2; more = added from to; order = ap (λ (x : WorldState). x.order) h.2 }
-later_started w new u from to shown.Loads h = later_same w new (ap (λ (x : WorldState). x.config) h.2) (ap (λ (x : WorldState). x.order) h.2)
-later_started w new u from to (shown.Asks change) h = later_same w new (ap (λ (x : WorldState). x.config) h.3) (ap (λ (x : WorldState). x.order) h.3)
-later_started w new u from to shown.Joins h = later_same w new (ap (λ (x : WorldState). x.config) h.2) (ap (λ (x : WorldState). x.order) h.2)
-later_started w new u from to seen h = absurd h
+later_started : (w new : WorldState) (caller : Caller) (key : Bytes) (op : Op) (from to : State) (seen : Shown) → Starts w caller key op from to seen new → IsLater w new
+later_started w new caller key op from to (shown.Refused refusal) h = later_same w new (ap (λ (x : WorldState). x.config) h.1) (ap (λ (x : WorldState). x.order) h.1)
+later_started w new caller key op from to (shown.Stepped seen) h = record { config = ap (λ (x : WorldState). x.config) h.2; more = added from to; order = ap (λ (x : WorldState). x.order) h.2 }
+later_started w new caller key op from to shown.Loads h = later_same w new (ap (λ (x : WorldState). x.config) h.2) (ap (λ (x : WorldState). x.order) h.2)
+later_started w new caller key op from to (shown.Asks change) h = later_same w new (ap (λ (x : WorldState). x.config) h.3) (ap (λ (x : WorldState). x.order) h.3)
+later_started w new caller key op from to shown.Joins h = later_same w new (ap (λ (x : WorldState). x.config) h.2) (ap (λ (x : WorldState). x.order) h.2)
+later_started w new caller key op from to seen h = absurd h
 
 -- of a last phase
 later_ended : (w new : WorldState) (call : ℕ) (key : Bytes) (part : Part) (from to : State) (seen : Shown) → Ends w call key part from to seen new → IsLater w new
@@ -122,11 +114,11 @@ later_picks w new call key join from to seen h = absurd h
 -- of any event that fits
 later_happens : (w new : WorldState) (e : WorldEvent) (seen : Shown) → Happens w e seen new → IsLater w new
 later_happens w new (event.Call call session command) seen h = later_same w new (ap (λ (x : WorldState). x.config) h.1) (ap (λ (x : WorldState). x.order) h.1)
-later_happens w new (event.Start call key) seen h = later_started w new h.0 h.2 h.4 seen h.5
+later_happens w new (event.Start call key) seen h = later_started w new h.0.caller key h.1 h.4 h.6 seen h.7
 later_happens w new (event.Read call key) seen h = later_same w new (ap (λ (x : WorldState). x.config) h.3) (ap (λ (x : WorldState). x.order) h.3)
 later_happens w new (event.Say call key answer) seen h = later_same w new (ap (λ (x : WorldState). x.config) h.3) (ap (λ (x : WorldState). x.order) h.3)
 later_happens w new (event.Change call key) seen h = later_same w new (ap (λ (x : WorldState). x.config) h.5) (ap (λ (x : WorldState). x.order) h.5)
-later_happens w new (event.Report call fault) seen h = later_same w new (ap (λ (x : WorldState). x.config) h.7) (ap (λ (x : WorldState). x.order) h.7)
+later_happens w new (event.Report call fault) seen h = later_same w new (ap (λ (x : WorldState). x.config) h.9) (ap (λ (x : WorldState). x.order) h.9)
 later_happens w new (event.Commit call key) seen h = later_ended w new call key h.0 h.2 h.4 seen h.5
 later_happens w new (event.Withdraw call key) seen h = later_same w new (ap (λ (x : WorldState). x.config) h.7) (ap (λ (x : WorldState). x.order) h.7)
 later_happens w new (event.Leave call) seen h = later_same w new (ap (λ (x : WorldState). x.config) h.1) (ap (λ (x : WorldState). x.order) h.1)
@@ -157,9 +149,11 @@ answered_on w n shows call key reply number place shared later h =
     let mine = is_of_stripe w.config.stripes number in
     record {
       session = h.session;
+      command = h.command;
       op = h.op;
       at = h.at;
       begun = h.begun;
+      op_is = h.op_is;
       home_is = h.home_is ∙ ap (λ (c : Config). stripe_of key c.stripes) (sym later.config);
       out = h.out;
       step = (λ i. slice_get (of_stripe (later.config i).stripes number (later.order i)) place)
@@ -177,12 +171,13 @@ stands_on w n shows e seen later h = tt
 
 -- 4. Which calls have begun.
 
--- this caller's call of this operation and key is among what has happened
+-- a call of this caller that does this at this key is among what has happened
 abbrev pub BegunAs : List (WorldEvent × Shown) → Caller → Bytes → Op → Type 0
-BegunAs shows caller key op = (at : ℕ) × (slice_get shows at ≡ Some (event.Call caller.call caller.session (record { op = op; key = key }), shown.Begun))
+BegunAs shows caller key op =
+    (at : ℕ) × (command : Command) × (slice_get shows at ≡ Some (event.Call caller.call caller.session command, shown.Begun)) × (op_at (new_call caller.call caller.session command) key ≡ Some op)
 
 abbrev IsBegun : List (WorldEvent × Shown) → OpenCall → Type 0
-IsBegun shows u = BegunAs shows u.caller u.command.key u.command.op
+IsBegun shows u = (key : Bytes) (op : Op) → op_at u key ≡ Some op → BegunAs shows u.caller key op
 
 abbrev PartBegun : List (WorldEvent × Shown) → Part → Type 0
 PartBegun shows part = BegunAs shows part.reservation.caller part.reservation.key part.reservation.op
@@ -200,19 +195,19 @@ pub record AllBegun (shows : List (WorldEvent × Shown)) (w : WorldState) : Type
   pub joins : Each (JoinBegun shows) w.joins
 
 begun_on : (shows more : List (WorldEvent × Shown)) (caller : Caller) (key : Bytes) (op : Op) → BegunAs shows caller key op → BegunAs (shows ++ more) caller key op
-begun_on shows more caller key op h = (h.0, still_at shows more h.0 _ h.1)
+begun_on shows more caller key op h = (h.0, h.1, still_at shows more h.0 _ h.2, h.3)
 
 -- they are so when more has happened
 all_begun_on : (shows more : List (WorldEvent × Shown)) (w : WorldState) → AllBegun shows w → AllBegun (shows ++ more) w
 all_begun_on shows more w h = record {
-  calls = each_map (IsBegun shows) (IsBegun (shows ++ more)) w.calls (λ u b. begun_on shows more u.caller u.command.key u.command.op b) h.calls;
+  calls = each_map (IsBegun shows) (IsBegun (shows ++ more)) w.calls (λ u b key op is. begun_on shows more u.caller key op (b key op is)) h.calls;
   parts = λ key part is. begun_on shows more part.reservation.caller part.reservation.key part.reservation.op (h.parts key part is);
   joins = each_map (JoinBegun shows) (JoinBegun (shows ++ more)) w.joins (λ j b. begun_on shows more j.caller j.key Get b) h.joins;
 }
 
 -- the call that is found under way has begun
 begun_under : (shows : List (WorldEvent × Shown)) (w : WorldState) (call : ℕ) (u : OpenCall) → open_call w call ≡ Some u → AllBegun shows w → IsBegun shows u
-begun_under shows w call u here h = each_here (IsBegun shows) (has_number call) w.calls u here h.calls
+begun_under shows w call u here h = fact_found (IsBegun shows) (has_number call) w.calls u here h.calls
 
 -- a part is put in place, or taken away
 parts_put : (shows : List (WorldEvent × Shown)) (parts : Parts) (key : Bytes) (part : Part) → PartBegun shows part → PartsBegun shows parts → PartsBegun shows (insert parts key part)
@@ -230,34 +225,33 @@ parts_left shows parts key all q p is =
 part_begun : (shows : List (WorldEvent × Shown)) (w : WorldState) (call : ℕ) (key : Bytes) (part : Part) → part_of w call key ≡ Some part → AllBegun shows w → PartBegun shows part
 part_begun shows w call key part is h = h.parts key part (of_call-at call (get w.parts key) part is).0
 
--- only a `Get` joins a load
-joins_get : (s : State) (key : Bytes) (op : Op) (load : ℕ) → load_joined s key op ≡ Some load → op ≡ Get
-joins_get s key Get load h = refl
-joins_get s key op load h = cc
+-- what is left of a call has begun
+begun_left : (shows : List (WorldEvent × Shown)) (call : ℕ) (key : Bytes) (u v : OpenCall) → Left call key u v → IsBegun shows u → IsBegun shows v
+begun_left shows call key u v left h q op is = let P : Caller → Type 0 = λ c. BegunAs shows c q op in subst P (sym left.caller_is) (h q op (left.was q op is))
 
 -- by what is shown of a first phase
-begun_started : (shows : List (WorldEvent × Shown)) (w new : WorldState) (u : OpenCall) (from to : State) (seen : Shown) → Starts w u from to seen new → IsBegun shows u → AllBegun shows w → AllBegun shows new
-begun_started shows w new u from to (shown.Refused refusal) h one old =
-    subst (AllBegun shows) (sym h.1) (record { calls = each_filter (IsBegun shows) (λ x. not (has_number u.caller.call x)) w.calls old.calls; parts = old.parts; joins = old.joins })
-begun_started shows w new u from to (shown.Stepped seen) h one old =
-    subst (AllBegun shows) (sym h.2) (record { calls = each_filter (IsBegun shows) (λ x. not (has_number u.caller.call x)) w.calls old.calls; parts = old.parts; joins = old.joins })
-begun_started shows w new u from to shown.Loads h one old =
+begun_started : (shows : List (WorldEvent × Shown)) (w new : WorldState) (caller : Caller) (key : Bytes) (op : Op) (from to : State) (seen : Shown) → Starts w caller key op from to seen new → BegunAs shows caller key op → AllBegun shows w → AllBegun shows new
+begun_started shows w new caller key op from to (shown.Refused refusal) h one old =
+    subst (AllBegun shows) (sym h.1) (record { calls = each_settled caller.call key (IsBegun shows) w.calls (begun_left shows caller.call key) old.calls; parts = old.parts; joins = old.joins })
+begun_started shows w new caller key op from to (shown.Stepped seen) h one old =
+    subst (AllBegun shows) (sym h.2) (record { calls = each_settled caller.call key (IsBegun shows) w.calls (begun_left shows caller.call key) old.calls; parts = old.parts; joins = old.joins })
+begun_started shows w new caller key op from to shown.Loads h one old =
     let P : Ticket → Type 0 = λ t. PartBegun shows (new_part new_load t.reservation) in
-    subst (AllBegun shows) (sym h.2) (record { calls = old.calls; parts = parts_put shows w.parts u.command.key (new_part new_load h.0.reservation) (subst P (sym h.1.3) one) old.parts; joins = old.joins })
-begun_started shows w new u from to (shown.Asks change) h one old =
+    subst (AllBegun shows) (sym h.2) (record { calls = old.calls; parts = parts_put shows w.parts key (new_part new_load h.0.reservation) (subst P (sym h.1.3) one) old.parts; joins = old.joins })
+begun_started shows w new caller key op from to (shown.Asks change) h one old =
     let P : Ticket → Type 0 = λ t. PartBegun shows (new_part new_write t.reservation) in
-    subst (AllBegun shows) (sym h.3) (record { calls = old.calls; parts = parts_put shows w.parts u.command.key (new_part new_write h.0.reservation) (subst P (sym h.1.3) one) old.parts; joins = old.joins })
-begun_started shows w new u from to shown.Joins h one old =
-    let get_is : u.command.op ≡ Get = joins_get from u.command.key u.command.op h.0.load h.1.1 in
+    subst (AllBegun shows) (sym h.3) (record { calls = old.calls; parts = parts_put shows w.parts key (new_part new_write h.0.reservation) (subst P (sym h.1.3) one) old.parts; joins = old.joins })
+begun_started shows w new caller key op from to shown.Joins h one old =
+    let get_is : op ≡ Get = joins_get from key op h.0.load h.1.1 in
     let P : JoinClaim → Type 0 = JoinBegun shows in
-    let B : Op → Type 0 = BegunAs shows u.caller u.command.key in
+    let B : Op → Type 0 = BegunAs shows caller key in
     subst (AllBegun shows) (sym h.2) (record { calls = old.calls; parts = old.parts; joins = each_pushed (JoinBegun shows) w.joins h.0 old.joins (subst P (sym h.1.2) (subst B get_is one)) })
-begun_started shows w new u from to seen h one old = absurd h
+begun_started shows w new caller key op from to seen h one old = absurd h
 
 -- of a last phase
 begun_ended : (shows : List (WorldEvent × Shown)) (w new : WorldState) (call : ℕ) (key : Bytes) (part : Part) (from to : State) (seen : Shown) → Ends w call key part from to seen new → AllBegun shows w → AllBegun shows new
 begun_ended shows w new call key part from to (shown.Stepped seen) h old =
-    subst (AllBegun shows) (sym h.2) (record { calls = each_filter (IsBegun shows) (λ x. not (has_number call x)) w.calls old.calls; parts = parts_left shows w.parts key old.parts; joins = old.joins })
+    subst (AllBegun shows) (sym h.2) (record { calls = each_settled call key (IsBegun shows) w.calls (begun_left shows call key) old.calls; parts = parts_left shows w.parts key old.parts; joins = old.joins })
 begun_ended shows w new call key part from to seen h old = absurd h
 
 -- of a pick-up
@@ -265,7 +259,7 @@ begun_picks : (shows : List (WorldEvent × Shown)) (w new : WorldState) (call : 
 begun_picks shows w new call key join from to (shown.PickedUp seen) h old =
     subst (AllBegun shows) (sym h.2)
     (record {
-      calls = each_filter (IsBegun shows) (λ x. not (has_number call x)) w.calls old.calls;
+      calls = each_settled call key (IsBegun shows) w.calls (begun_left shows call key) old.calls;
       parts = old.parts;
       joins = each_filter (JoinBegun shows) (λ j. not (is_join call key j)) w.joins old.joins;
     })
@@ -278,9 +272,9 @@ begun_picks shows w new call key join from to seen h old = absurd h
 begun_happens : (shows : List (WorldEvent × Shown)) (w new : WorldState) (e : WorldEvent) (seen : Shown) → (at : ℕ) × (slice_get shows at ≡ Some (e, seen)) → Happens w e seen new → AllBegun shows w → AllBegun shows new
 begun_happens shows w new (event.Call call session command) seen last h old =
     let one : OpenCall = record { caller = record { session = session; call = call }; command = command } in
-    let begun : IsBegun shows one = (last.0, last.1 ∙ ap (λ s. Some (event.Call call session command, s)) h.0) in
+    let begun : IsBegun shows one = λ key op is. (last.0, command, last.1 ∙ ap (λ s. Some (event.Call call session command, s)) h.0, is) in
     subst (AllBegun shows) (sym h.1) (record { calls = each_pushed (IsBegun shows) w.calls one old.calls begun; parts = old.parts; joins = old.joins })
-begun_happens shows w new (event.Start call key) seen last h old = begun_started shows w new h.0 h.2 h.4 seen h.5 (begun_under shows w call h.0 h.1 old) old
+begun_happens shows w new (event.Start call key) seen last h old = begun_started shows w new h.0.caller key h.1 h.4 h.6 seen h.7 (begun_under shows w call h.0 h.2 old key h.1 h.3) old
 begun_happens shows w new (event.Read call key) seen last h old =
     subst (AllBegun shows) (sym h.3) (record { calls = old.calls; parts = parts_put shows w.parts key _ (part_begun shows w call key h.0 h.1 old) old.parts; joins = old.joins })
 begun_happens shows w new (event.Say call key answer) seen last h old =
@@ -288,7 +282,7 @@ begun_happens shows w new (event.Say call key answer) seen last h old =
 begun_happens shows w new (event.Change call key) seen last h old =
     subst (AllBegun shows) (sym h.5) (record { calls = old.calls; parts = parts_put shows w.parts key _ (part_begun shows w call key h.0 h.2 old) old.parts; joins = old.joins })
 begun_happens shows w new (event.Report call fault) seen last h old =
-    subst (AllBegun shows) (sym h.7) (record { calls = old.calls; parts = parts_put shows w.parts h.0.command.key _ (part_begun shows w call h.0.command.key h.1 h.4 old) old.parts; joins = old.joins })
+    subst (AllBegun shows) (sym h.9) (record { calls = old.calls; parts = parts_put shows w.parts h.1 _ (part_begun shows w call h.1 h.2 h.6 old) old.parts; joins = old.joins })
 begun_happens shows w new (event.Commit call key) seen last h old = begun_ended shows w new call key h.0 h.2 h.4 seen h.5 old
 begun_happens shows w new (event.Withdraw call key) seen last h old =
     subst (AllBegun shows) (sym h.7) (record { calls = old.calls; parts = parts_left shows w.parts key old.parts; joins = old.joins })
@@ -315,9 +309,11 @@ answered_at : (w new : WorldState) (shows : List (WorldEvent × Shown)) (caller 
     → IsReplyOfStep new shows caller.call key reply number place shared
 answered_at w new shows caller key op out shared reply number place to home_is later here sound step begun = record {
   session = caller.session;
+  command = begun.1;
   op = op;
   at = begun.0;
-  begun = begun.1;
+  begun = begun.2;
+  op_is = begun.3;
   home_is = home_is ∙ ap (λ (c : Config). stripe_of key c.stripes) (sym later.config);
   out = out;
   step = (λ i. slice_get (of_stripe new.config.stripes (home_is i) new.order) place) ∙ ap (λ es. slice_get es place) (sound.shape.each (home w key) to here).share ∙ step;
@@ -331,20 +327,18 @@ answered_for w shows call n key k reply number place shared calls keys h =
     subst P calls (subst Q keys h)
 
 -- by what is shown of a first phase
-stands_started : (shows : List (WorldEvent × Shown)) (w new : WorldState) (call : ℕ) (key : Bytes) (u : OpenCall) (from to : State) (seen : Shown) → fits w (event.Start call key) ≡ true → open_call w call ≡ Some u → stripe_for w u.command.key ≡ Some from
-    → Starts w u from to seen new → IsBegun shows u → IsSoundWorld new → Stands new shows (event.Start call key) seen
-stands_started shows w new call key u from to (shown.Refused refusal) fit here there h begun sound = tt
-stands_started shows w new call key u from to (shown.Stepped x) fit here there h begun sound =
-    let own = u.command.key in
-    let placed : slice_get new.stripes (home w own) ≡ Some to = ap (λ (v : WorldState). slice_get v.stripes (home w own)) h.2 ∙ stripe_put w.stripes (home w own) from to there in
-    let keys = same_bytes key own (and_parts (pointwise ◌==◌ key own) (is_free w call key) (sym (ap (may_start w call key) here) ∙ fit)).0 in
-    answered_for new shows u.caller.call call own key x.reply x.stripe x.place None (found_number call w.calls u here) (sym keys)
-    (answered_at w new shows u.caller own u.command.op nothing_said None x.reply x.stripe x.place to h.1 (later_started w new u from to (shown.Stepped x) h) placed sound
-    (step_at from to u.caller own u.command.op nothing_said [] (step_of x) h.0.2) begun)
-stands_started shows w new call key u from to shown.Loads fit here there h begun sound = tt
-stands_started shows w new call key u from to (shown.Asks change) fit here there h begun sound = tt
-stands_started shows w new call key u from to shown.Joins fit here there h begun sound = tt
-stands_started shows w new call key u from to seen fit here there h begun sound = absurd h
+stands_started : (shows : List (WorldEvent × Shown)) (w new : WorldState) (call : ℕ) (key : Bytes) (u : OpenCall) (op : Op) (from to : State) (seen : Shown) → open_call w call ≡ Some u → stripe_for w key ≡ Some from
+    → Starts w u.caller key op from to seen new → BegunAs shows u.caller key op → IsSoundWorld new → Stands new shows (event.Start call key) seen
+stands_started shows w new call key u op from to (shown.Refused refusal) here there h begun sound = tt
+stands_started shows w new call key u op from to (shown.Stepped x) here there h begun sound =
+    let placed : slice_get new.stripes (home w key) ≡ Some to = ap (λ (v : WorldState). slice_get v.stripes (home w key)) h.2 ∙ stripe_put w.stripes (home w key) from to there in
+    answered_for new shows u.caller.call call key key x.reply x.stripe x.place None (found_number call w.calls u here) refl
+    (answered_at w new shows u.caller key op nothing_said None x.reply x.stripe x.place to h.1 (later_started w new u.caller key op from to (shown.Stepped x) h) placed sound
+    (step_at from to u.caller key op nothing_said [] (step_of x) h.0.2) begun)
+stands_started shows w new call key u op from to shown.Loads here there h begun sound = tt
+stands_started shows w new call key u op from to (shown.Asks change) here there h begun sound = tt
+stands_started shows w new call key u op from to shown.Joins here there h begun sound = tt
+stands_started shows w new call key u op from to seen here there h begun sound = absurd h
 
 -- of a last phase
 stands_ended : (shows : List (WorldEvent × Shown)) (w new : WorldState) (call : ℕ) (key : Bytes) (part : Part) (from to : State) (seen : Shown) → part_of w call key ≡ Some part → part.reservation.key ≡ key → stripe_for w key ≡ Some from
@@ -377,17 +371,17 @@ stands_picks shows w new call key join from to seen is there h begun sound = abs
 -- of any event that fits
 stands_happens : (shows : List (WorldEvent × Shown)) (w new : WorldState) (e : WorldEvent) (seen : Shown) → fits w e ≡ true → Happens w e seen new → IsSoundWorld w → IsSoundWorld new → AllBegun shows w → Stands new shows e seen
 stands_happens shows w new (event.Call call session command) seen fit h old sound begun = subst (Stands new shows (event.Call call session command)) (sym h.0) tt
-stands_happens shows w new (event.Start call key) seen fit h old sound begun = stands_started shows w new call key h.0 h.2 h.4 seen fit h.1 h.3 h.5 (begun_under shows w call h.0 h.1 begun) sound
+stands_happens shows w new (event.Start call key) seen fit h old sound begun = stands_started shows w new call key h.0 h.1 h.4 h.6 seen h.2 h.5 h.7 (begun_under shows w call h.0 h.2 begun key h.1 h.3) sound
 stands_happens shows w new (event.Read call key) seen fit h old sound begun = subst (Stands new shows (event.Read call key)) (sym h.2) tt
 stands_happens shows w new (event.Say call key answer) seen fit h old sound begun = subst (Stands new shows (event.Say call key answer)) (sym h.2) tt
 stands_happens shows w new (event.Change call key) seen fit h old sound begun = subst (Stands new shows (event.Change call key)) (sym h.4) tt
-stands_happens shows w new (event.Report call fault) seen fit h old sound begun = subst (Stands new shows (event.Report call fault)) (sym h.6) tt
+stands_happens shows w new (event.Report call fault) seen fit h old sound begun = subst (Stands new shows (event.Report call fault)) (sym h.8) tt
 stands_happens shows w new (event.Commit call key) seen fit h old sound begun =
     stands_ended shows w new call key h.0 h.2 h.4 seen h.1 (part_key w call key h.0 h.1 old) h.3 h.5 (part_begun shows w call key h.0 h.1 begun) sound
 stands_happens shows w new (event.Withdraw call key) seen fit h old sound begun = subst (Stands new shows (event.Withdraw call key)) (sym h.6) tt
 stands_happens shows w new (event.Leave call) seen fit h old sound begun = subst (Stands new shows (event.Leave call)) (sym h.0) tt
 stands_happens shows w new (event.PickUp call key) seen fit h old sound begun =
-    stands_picks shows w new call key h.0 h.2 h.4 seen h.1 h.3 h.5 (each_here (JoinBegun shows) (is_join call key) w.joins h.0 h.1 begun.joins) sound
+    stands_picks shows w new call key h.0 h.2 h.4 seen h.1 h.3 h.5 (fact_found (JoinBegun shows) (is_join call key) w.joins h.0 h.1 begun.joins) sound
 stands_happens shows w new (event.Foreign key value) seen fit h old sound begun = subst (Stands new shows (event.Foreign key value)) (sym h.0) tt
 
 -- what doesn't fit is no answer

@@ -16,6 +16,7 @@ use Rattle.jc_types.specs.declared.caller.Caller.{Caller}
 use Rattle.jc_model.specs.declared.event.Event.{Event}
 use Rattle.jc_model.specs.declared.event.Event.TheVariants.{Step, Evict}
 use Rattle.jc_model.specs.Cache.{Bytes}
+use Rattle.jc_model.specs.Legal.{may_come}
 use Rattle.jc_model.proofs.CallerLemmas.{same_key}
 use Rattle.jc_stripe.specs.declared.ticket.Reservation.{Reservation}
 use Rattle.jc_stripe.specs.State.{is_key, without_key}
@@ -23,8 +24,8 @@ use Rattle.jc_world.specs.declared.event.OpenCall.{OpenCall}
 use Rattle.jc_world.specs.declared.event.Part.{Part}
 use Rattle.jc_world.specs.World.{WorldState, has_number, is_of_session, drop_call, of_call}
 use Rattle.jc_world.specs.Events.{is_new}
-use Rattle.jc_stripe.specs.OwnSteps.{is_before_call}
-use Rattle.jc_world.specs.Sound.{is_up_to, number_up_to, none_from, is_apart, FitsCall, CallsFit, IsOwned, AllOwned, Each}
+use Rattle.jc_stripe.specs.OwnSteps.{may_come_all}
+use Rattle.jc_world.specs.Sound.{is_up_to, number_up_to, is_apart, FitsCall, CallsFit, IsOwned, AllOwned, Each}
 use Rattle.jc_world.proofs.Shares.{turned_eq, found_test}
 
 -- 1. A call that is over.
@@ -158,18 +159,19 @@ pub numbers_more : (last : Option ℕ) (call : ℕ) (order : List Event) → is_
 numbers_more last call order new h = all_imply (number_up_to last) (number_up_to (Some call)) order (λ e. event_more last call e new) h
 
 -- the second test is enough
-or-right : (a b : Bool) → b ≡ true → (a || b) ≡ true
-or-right true b h = refl
-or-right false b h = h
+or-middle : (a b c : Bool) → b ≡ true → (a || b || c) ≡ true
+or-middle true b c h = refl
+or-middle false true c h = refl
+or-middle false false c h = cc
 
--- an event is before a new call
-event_before : (last : Option ℕ) (caller : Caller) (e : Event) → is_new last caller.call ≡ true → number_up_to last e ≡ true → is_before_call caller.session caller.call e ≡ true
-event_before last caller (Step who op k out shared reply) new up = or-right _ _ (up_to_new last caller.call who.call new up)
-event_before last caller (Evict k c) new up = refl
+-- an event is before a new call, at any key
+event_before : (last : Option ℕ) (caller : Caller) (key : Bytes) (e : Event) → is_new last caller.call ≡ true → number_up_to last e ≡ true → may_come e caller key ≡ true
+event_before last caller key (Step who op k out shared reply) new up = or-middle (not (who.session == caller.session)) _ _ (up_to_new last caller.call who.call new up)
+event_before last caller key (Evict k c) new up = refl
 
--- no step has the number of a new call, or a higher one
-pub none_new : (last : Option ℕ) (caller : Caller) (order : List Event) → is_new last caller.call ≡ true → list_all (number_up_to last) order ≡ true → none_from order caller ≡ true
-none_new last caller order new h = all_imply (number_up_to last) (is_before_call caller.session caller.call) order (λ e. event_before last caller e new) h
+-- a step of a new call may come
+pub comes_new : (last : Option ℕ) (caller : Caller) (key : Bytes) (order : List Event) → is_new last caller.call ≡ true → list_all (number_up_to last) order ≡ true → may_come_all order caller key ≡ true
+comes_new last caller key order new h = all_imply (number_up_to last) (λ e. may_come e caller key) order (λ e. event_before last caller key e new) h
 
 -- a session that is not busy has no call of these
 not_busy : (session : ℕ) (x : OpenCall) (xs : List OpenCall) → not (list_any (is_of_session session) (x ∷ xs)) ≡ true → (not (session == x.caller.session) ≡ true) × (not (list_any (is_of_session session) xs) ≡ true)

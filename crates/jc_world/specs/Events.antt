@@ -3,16 +3,17 @@
 --     is_session                  a number is that of a session: from 1 to the most sessions
 --     is_new                      a call's number is above all before it
 --     is_free                     a call has neither a reservation nor a join of a key
---     may_start                   the key is the call's, and the call has neither a reservation nor a join of it
---     may_leave                   the call has neither a reservation nor a join of its key
---     may_report                  the writer was asked for the call's key, and hasn't returned
+--     may_start                   the key is open in the call, which has neither a reservation nor a join of it
+--     may_leave                   the call has neither a reservation nor a join of any of its open keys
+--     may_report                  the writer was asked for an open key of the call, and hasn't returned
 --     fits                        whether an event fits
 --     with_stripe                 the world with a key's stripe at another state
 --     with_phase                  the same, and what the stripe appended to its history stands at the end of the order
 --     step_of                     what is shown of a step, but for its stripe
 --     new_call                    a call under way
 --     with_call                   the world with a call that has begun
---     without_call                the world with a call over
+--     with_settled                the world in which a key of a call has its reply or last refusal: without the call if it was the last
+--     without_call                the world without a call that leaves
 --     new_load, new_write     the progress of a key whose loader, or writer, is to be asked
 --     new_part                    what is kept of a key that was just reserved
 --     with_part, without_part     the world with this part of a key, and with none
@@ -37,11 +38,11 @@
 --     StartFits                   where a call fits, its first phase fits directly behind it
 --     RestFits                    if the first fits, so do all: of an event alone, of a writer's change and its return, of a withdrawal
 --                                 and the call's leaving
-use Rattle.std.specs.Prelude.{◌≡◌, ◌==◌, ◌⊎◌, ℕ, List, [], ◌∷◌, ◌++◌, length, drop, Bool, true, false, not, ◌&&◌, Option, None, Some, is_none, nat_lt, slice_set}
-use Rattle.std.specs.List.{list_all}
-use Rattle.std.specs.Cmp.Lexicographic.{pointwise}
+use Rattle.std.specs.Prelude.{◌≡◌, ◌⊎◌, ℕ, List, [], ◌∷◌, ◌++◌, length, drop, Bool, true, false, not, ◌&&◌, Option, None, Some, is_none, is_some, nat_lt, slice_set}
+use Rattle.std.specs.List.{list_all, list_any}
 use Rattle.std.specs.FinMap.{insert, remove}
 use Rattle.jc_types.specs.declared.limits.TheConstants.{SESSIONS_MAX}
+use Rattle.jc_types.specs.declared.caller.Caller.{Caller}
 use Rattle.jc_types.specs.Limits.{is_between}
 use Rattle.jc_model.specs.declared.event.Op.{Op}
 use Rattle.jc_model.specs.declared.event.Op.TheVariants.{Get, ContainsKey, Put, GetAndPut, PutIfAbsent, Remove, RemoveIf, GetAndRemove, Replace, ReplaceIf, GetAndReplace, Clear, LoadAll, Invoke}
@@ -72,7 +73,7 @@ use Rattle.jc_world.specs.declared.event.OpenCall.{OpenCall}
 use Rattle.jc_world.specs.declared.event.Part.{Part}
 use Rattle.jc_world.specs.declared.event.Progress.{Progress}
 use Rattle.jc_world.specs.declared.event.Progress.TheVariants.{Loading, Writing}
-use Rattle.jc_world.specs.World.{WorldState, home, stripe_for, is_busy, open_call, drop_call, part_of, waits_for_load, waits_for_report, is_answered, is_untouched, has_changed, join_of, is_joined, joins_without, out_of, has_progress}
+use Rattle.jc_world.specs.World.{WorldState, home, stripe_for, is_busy, open_call, open_keys, op_at, settle, drop_call, part_of, waits_for_load, waits_for_report, is_answered, is_untouched, has_changed, join_of, is_joined, joins_without, out_of, has_progress}
 use Rattle.jc_world.specs.Premises.{read_answer, changed_to, report_of, is_true_load, is_true_report, with_loader, with_writer, with_foreign_write}
 
 -- 1. When an event fits.
@@ -107,20 +108,21 @@ is_new (Some last) call = nat_lt last call
 abbrev pub is_free : WorldState → ℕ → Bytes → Bool
 is_free w call key = is_none (part_of w call key) && not (is_joined w call key)
 
--- the key is the call's, and it has neither a reservation nor a join
+-- the key is open in the call, and it has neither a reservation nor a join
 abbrev pub may_start : WorldState → ℕ → Bytes → Option OpenCall → Bool
 may_start w call key None = false
-may_start w call key (Some u) = pointwise ◌==◌ key u.command.key && is_free w call key
+may_start w call key (Some u) = is_some (op_at u key) && is_free w call key
 
 -- the call has neither a reservation nor a join
 abbrev pub may_leave : WorldState → ℕ → Option OpenCall → Bool
 may_leave w call None = false
-may_leave w call (Some u) = is_free w call u.command.key
+may_leave w call (Some u) = list_all (is_free w call) (open_keys u)
 
--- the call's key is asked of the writer, which hasn't returned
+-- an open key of the call is asked of the writer, which hasn't returned
 abbrev pub may_report : WorldState → ℕ → Option OpenCall → Bool
 may_report w call None = false
-may_report w call (Some u) = has_progress waits_for_report (part_of w call u.command.key)
+may_report w call (Some u) =
+    list_any (λ key. has_progress waits_for_report (part_of w call key)) (open_keys u)
 
 abbrev pub fits : WorldState → WorldEvent → Bool
 fits w (event.Call call session command) =
@@ -164,6 +166,11 @@ new_call call session command =
 abbrev pub with_call : WorldState → OpenCall → WorldState
 with_call w u = record w { last = Some u.caller.call; fresh = false; calls = w.calls ++ u ∷ [] }
 
+-- a key of a call has its reply or last refusal
+abbrev pub with_settled : WorldState → ℕ → Bytes → WorldState
+with_settled w call key = record w { calls = settle call key w.calls }
+
+-- a call leaves
 abbrev pub without_call : WorldState → ℕ → WorldState
 without_call w call = record w { calls = drop_call call w.calls }
 
@@ -180,10 +187,10 @@ new_part progress r = record { reservation = r; progress = progress }
 abbrev pub with_part : WorldState → Bytes → Part → WorldState
 with_part w key part = record w { parts = insert w.parts key part }
 
--- a call has reserved its key, whose stripe is then at another state
-abbrev pub with_new_part : WorldState → OpenCall → State → Progress → Reservation → WorldState
-with_new_part w u to progress r =
-    with_part (with_stripe w u.command.key to) u.command.key (new_part progress r)
+-- a key is reserved, and its stripe is then at another state
+abbrev pub with_new_part : WorldState → Bytes → State → Progress → Reservation → WorldState
+with_new_part w key to progress r =
+    with_part (with_stripe w key to) key (new_part progress r)
 
 abbrev pub without_part : WorldState → Bytes → WorldState
 without_part w key = record w { parts = remove w.parts key }
@@ -196,34 +203,34 @@ without_join w call key = record w { joins = joins_without call key w.joins }
 
 -- 3. The first phase, and the last.
 
--- the first phase of a call, by what it returns
-abbrev pub BeginsAs : OpenCall → Begun → State → State → Type 0
-BeginsAs u b from to = Begins from u.caller u.command.key u.command.op b to
+-- the first phase of an operation at a key, by what it returns
+abbrev pub BeginsAs : Caller → Bytes → Op → Begun → State → State → Type 0
+BeginsAs caller key op b from to = Begins from caller key op b to
 
--- of a call whose stripe is at `from`, and is then at `to`
-abbrev pub Starts : WorldState → OpenCall → State → State → Shown → WorldState → Type 0
-Starts old u from to (shown.Refused refusal) new =
-    BeginsAs u (begun.Refused refusal) from to × (new ≡ without_call old u.caller.call)
-Starts old u from to (shown.Stepped seen) new =
-    BeginsAs u (begun.Done (step_of seen)) from to × (seen.stripe ≡ home old u.command.key)
-    × (new ≡ without_call (with_phase old u.command.key from to) u.caller.call)
-Starts old u from to shown.Loads new =
-    (ticket : Ticket) × BeginsAs u (begun.Load ticket) from to
-    × (new ≡ with_new_part old u to new_load ticket.reservation)
-Starts old u from to (shown.Asks change) new =
-    (ticket : Ticket) × BeginsAs u (begun.Write ticket) from to
+-- at a key whose stripe is at `from`, and is then at `to`
+abbrev pub Starts : WorldState → Caller → Bytes → Op → State → State → Shown → WorldState → Type 0
+Starts old caller key op from to (shown.Refused refusal) new =
+    BeginsAs caller key op (begun.Refused refusal) from to × (new ≡ with_settled old caller.call key)
+Starts old caller key op from to (shown.Stepped seen) new =
+    BeginsAs caller key op (begun.Done (step_of seen)) from to × (seen.stripe ≡ home old key)
+    × (new ≡ with_settled (with_phase old key from to) caller.call key)
+Starts old caller key op from to shown.Loads new =
+    (ticket : Ticket) × BeginsAs caller key op (begun.Load ticket) from to
+    × (new ≡ with_new_part old key to new_load ticket.reservation)
+Starts old caller key op from to (shown.Asks change) new =
+    (ticket : Ticket) × BeginsAs caller key op (begun.Write ticket) from to
     × (ticket.reservation.first ≡ Writer change)
-    × (new ≡ with_new_part old u to new_write ticket.reservation)
-Starts old u from to shown.Joins new =
-    (join : JoinClaim) × BeginsAs u (begun.Joined join) from to
-    × (new ≡ with_join (with_stripe old u.command.key to) join)
-Starts old u from to seen new = ⊥
+    × (new ≡ with_new_part old key to new_write ticket.reservation)
+Starts old caller key op from to shown.Joins new =
+    (join : JoinClaim) × BeginsAs caller key op (begun.Joined join) from to
+    × (new ≡ with_join (with_stripe old key to) join)
+Starts old caller key op from to seen new = ⊥
 
 abbrev pub Ends : WorldState → ℕ → Bytes → Part → State → State → Shown → WorldState → Type 0
 Ends old call key part from to (shown.Stepped seen) new =
     Commits from part.reservation (out_of part) (step_of seen) to
     × (seen.stripe ≡ home old key)
-    × (new ≡ without_part (without_call (with_phase old key from to) call) key)
+    × (new ≡ without_part (with_settled (with_phase old key from to) call key) key)
 Ends old call key part from to seen new = ⊥
 
 -- of a call that has joined the load of a key: its answer, with which the call is over, or that it is to retry, or nothing yet
@@ -231,7 +238,7 @@ abbrev pub Picks : WorldState → ℕ → Bytes → JoinClaim → State → Stat
 Picks old call key join from to (shown.PickedUp seen) new =
     PicksUp from join (picked.Answer seen.reply seen.place seen.shared) to
     × (seen.stripe ≡ home old key)
-    × (new ≡ without_call (without_join (with_stripe old key to) call key) call)
+    × (new ≡ with_settled (without_join (with_stripe old key to) call key) call key)
 Picks old call key join from to shown.Again new =
     PicksUp from join picked.Again to × (new ≡ without_join (with_stripe old key to) call key)
 Picks old call key join from to shown.Waits new =
@@ -283,9 +290,9 @@ Happens old (event.Call call session command) seen new =
     (seen ≡ shown.Begun)
     × (new ≡ with_call old (new_call call session command))
 Happens old (event.Start call key) seen new =
-    (u : OpenCall) × (open_call old call ≡ Some u)
-    × (from : State) × (stripe_for old u.command.key ≡ Some from) × (to : State)
-    × Starts old u from to seen new
+    (u : OpenCall) × (op : Op) × (open_call old call ≡ Some u) × (op_at u key ≡ Some op)
+    × (from : State) × (stripe_for old key ≡ Some from) × (to : State)
+    × Starts old u.caller key op from to seen new
 Happens old (event.Read call key) seen new =
     let answer = read_answer (entry_at old.store key) in
     (part : Part) × (part_of old call key ≡ Some part) × (seen ≡ shown.Reads answer)
@@ -298,10 +305,11 @@ Happens old (event.Change call key) seen new =
     × (part.reservation.first ≡ Writer change) × (seen ≡ shown.Changed)
     × (new ≡ after_change old key part change)
 Happens old (event.Report call fault) seen new =
-    (u : OpenCall) × (part : Part) × (change : Change) × (open_call old call ≡ Some u)
-    × (part_of old call u.command.key ≡ Some part) × (part.reservation.first ≡ Writer change)
+    (u : OpenCall) × (key : Bytes) × (part : Part) × (change : Change)
+    × (open_call old call ≡ Some u) × (open_keys u ≡ key ∷ [])
+    × (part_of old call key ≡ Some part) × (part.reservation.first ≡ Writer change)
     × (seen ≡ shown.Reported (shown_report change part.progress fault))
-    × (new ≡ after_report old u.command.key part (report_of fault))
+    × (new ≡ after_report old key part (report_of fault))
 Happens old (event.Commit call key) seen new =
     (part : Part) × (part_of old call key ≡ Some part)
     × (from : State) × (stripe_for old key ≡ Some from) × (to : State)
@@ -352,18 +360,19 @@ abbrev pub AllFit : WorldState → List WorldEvent → Type 0
 AllFit old events =
     (seen : List Shown) (new : WorldState) → Run old events seen new → all_fit seen ≡ true
 
--- it does so in every world that is reached
+-- it does so in every world that is reached, at each key of the call
 abbrev pub StartFits : WorldState → Type 0
 StartFits w =
-    (call session : ℕ) (command : Command) → fits w (event.Call call session command) ≡ true
-    → AllFit w (event.Call call session command ∷ event.Start call command.key ∷ [])
+    (call session : ℕ) (command : Command) (key : Bytes)
+    → fits w (event.Call call session command) ≡ true
+    → is_some (op_at (new_call call session command) key) ≡ true
+    → AllFit w (event.Call call session command ∷ event.Start call key ∷ [])
 
--- so is this, of the call's own key
+-- so do these; the second, of a call that has no other key open
 pub record RestFits (w : WorldState) : Type 0 where
   pub alone : (e : WorldEvent) → fits w e ≡ true → AllFit w (e ∷ [])
-  pub report : (call : ℕ) (u : OpenCall) (fault : Option ℕ) → open_call w call ≡ Some u
-      → fits w (event.Change call u.command.key) ≡ true
-      → AllFit w (event.Change call u.command.key ∷ event.Report call fault ∷ [])
-  pub leave : (call : ℕ) (u : OpenCall) → open_call w call ≡ Some u
-      → fits w (event.Withdraw call u.command.key) ≡ true
-      → AllFit w (event.Withdraw call u.command.key ∷ event.Leave call ∷ [])
+  pub report : (call : ℕ) (key : Bytes) (fault : Option ℕ) → fits w (event.Change call key) ≡ true
+      → AllFit w (event.Change call key ∷ event.Report call fault ∷ [])
+  pub leave : (call : ℕ) (u : OpenCall) (key : Bytes) → open_call w call ≡ Some u
+      → open_keys u ≡ key ∷ [] → fits w (event.Withdraw call key) ≡ true
+      → AllFit w (event.Withdraw call key ∷ event.Leave call ∷ [])

@@ -19,11 +19,13 @@ use Rattle.jc_model.specs.Legal.{of_stripe}
 use Rattle.jc_inflight.specs.declared.joiner.Joiner.{Joiner}
 use Rattle.jc_stripe.specs.State.{State}
 use Rattle.jc_stripe.specs.OnePhase.{is_parked}
+use Rattle.jc_world.specs.declared.event.Command.{Command}
 use Rattle.jc_world.specs.declared.event.WorldEvent.{WorldEvent}
 use Rattle.jc_world.specs.declared.event.WorldEvent.TheVariants as event
 use Rattle.jc_world.specs.declared.event.Shown.{Shown}
 use Rattle.jc_world.specs.declared.event.Shown.TheVariants as shown
-use Rattle.jc_world.specs.World.{WorldState, home}
+use Rattle.jc_world.specs.World.{WorldState, home, op_at}
+use Rattle.jc_world.specs.Events.{new_call}
 use Rattle.jc_world.specs.Headline.{Reaches}
 
 -- 1. Each answer is that of a step.
@@ -34,10 +36,11 @@ pub record IsReplyOfStep (w : WorldState) (shows : List (WorldEvent × Shown)) (
     (key : Bytes)
     (reply : Reply) (stripe place : ℕ) (shared : Option ℕ) : Type 0 where
   pub session : ℕ
+  pub command : Command
   pub op : Op
   pub at : ℕ
-  pub begun : slice_get shows at
-      ≡ Some (event.Call call session (record { op = op; key = key }), shown.Begun)
+  pub begun : slice_get shows at ≡ Some (event.Call call session command, shown.Begun)
+  pub op_is : op_at (new_call call session command) key ≡ Some op
   pub home_is : stripe ≡ home w key
   pub out : Out
   pub step : slice_get (of_stripe w.config.stripes stripe w.order) place

@@ -2,18 +2,18 @@
 --     IsStripe                      a stripe of the world: it is reached, and its history is its part of the order
 --     IsShaped                      there is a stripe for each number
 --     is_up_to, number_up_to        a number is at most the last call's, and so is the number of an event's step
---     none_from                     no step of a caller's session has its call number or a higher one
 --     has_answer, has_parked_answer  an answer is parked for a joiner in this state, and for a joiner that is there
---     is_served_in, is_served       the answer of a load that it has joined is parked for a call, in a stripe and in the world
+--     is_served_in, is_served       the answer of a load that it has joined is parked for a caller at a key, in a stripe and in the world
 --     is_apart                      two calls are of different sessions, and have different numbers
---     FitsCall                      a call under way: its operation is a call by itself, its number is at most the last, and no
---                                   step of its session has that number or a higher one, unless it is served
+--     FitsKey                       an open key of a call: its operation runs no processor, and its step may still come, unless it is
+--                                   served
+--     FitsCall                      a call under way: its number is at most the last, and that is so of each open key
 --     CallsFit                      that is so of all calls under way, and no two are of one session or have one number
 --     Each                          a fact is true of each of a list
 --     is_asked                      the progress of a key is that of one who was asked: a load's of the loader, a write's of the
 --                                   writer
 --     IsHeld                        a part has its reservation, whose call is then under way
---     IsCallOf                      a call is of a session, and its key is this
+--     IsCallOf                      a call is of a session, and an operation is open in it at a key
 --     IsOwned, AllOwned             a reservation has its part and its call; each does
 --     IsWaitedFor, AllWaitedFor     a join has its joiner and its call, which has no part; each does
 --     is_joined_once                no two joins are of one call and one key
@@ -31,11 +31,13 @@ use Rattle.std.specs.FinMap.{get}
 use Rattle.jc_types.specs.declared.caller.Caller.{Caller}
 use Rattle.jc_types.specs.Limits.{check}
 use Rattle.jc_model.specs.declared.event.Event.{Event}
+use Rattle.jc_model.specs.declared.event.Op.{Op}
+use Rattle.jc_model.specs.declared.event.Op.TheVariants.{Get}
 use Rattle.jc_model.specs.declared.event.Event.TheVariants as stripe
 use Rattle.jc_model.specs.declared.event.LoadAnswer.{LoadAnswer}
 use Rattle.jc_model.specs.declared.event.WriteAnswer.{WriteAnswer}
 use Rattle.jc_model.specs.Cache.{Bytes, entry_at}
-use Rattle.jc_model.specs.Table.{is_write_given}
+use Rattle.jc_model.specs.Table.{is_write_given, is_invoke}
 use Rattle.jc_model.specs.Legal.{in_order, of_stripe}
 use Rattle.jc_model.specs.Processor.{found_in}
 use Rattle.jc_stripe.specs.declared.ticket.First.{First}
@@ -49,14 +51,13 @@ use Rattle.jc_stripe.specs.declared.ticket.Reservation.{Reservation}
 use Rattle.jc_stripe.specs.Tickets.{JoinClaim, asks_loader, asks_writer}
 use Rattle.jc_stripe.specs.State.{State, IsOut, IsJoined}
 use Rattle.jc_stripe.specs.Reached.{IsReached}
-use Rattle.jc_stripe.specs.OwnSteps.{is_before_call}
+use Rattle.jc_stripe.specs.OwnSteps.{may_come_all}
 use Rattle.jc_world.specs.declared.event.OpenCall.{OpenCall}
 use Rattle.jc_world.specs.declared.event.Part.{Part}
 use Rattle.jc_world.specs.declared.event.Progress.{Progress}
 use Rattle.jc_world.specs.declared.event.Progress.TheVariants.{Loading, Writing}
-use Rattle.jc_world.specs.World.{WorldState, home, stripe_for, cached_entry, open_call, part_of, is_join, is_joined}
+use Rattle.jc_world.specs.World.{WorldState, home, stripe_for, cached_entry, open_call, op_at, part_of, is_join, is_joined}
 use Rattle.jc_world.specs.Premises.{changed_to, is_done}
-use Rattle.jc_world.specs.Events.{is_single}
 use Rattle.jc_world.specs.Coherent.{all_hold}
 
 -- 1. The stripes and the order.
@@ -84,9 +85,6 @@ abbrev pub number_up_to : Option ℕ → Event → Bool
 number_up_to last (stripe.Step caller op key out shared_with reply) = is_up_to last caller.call
 number_up_to last (stripe.Evict key cause) = true
 
-abbrev pub none_from : List Event → Caller → Bool
-none_from order caller = list_all (is_before_call caller.session caller.call) order
-
 -- an answer is parked
 abbrev pub has_answer : JoinState → Bool
 has_answer Waiting = false
@@ -98,23 +96,26 @@ has_parked_answer None = false
 has_parked_answer (Some j) = has_answer j.state
 
 -- at the stripe of its key
-abbrev pub is_served_in : Option State → OpenCall → Bool
-is_served_in None u = false
-is_served_in (Some s) u = has_parked_answer (find (belongs_to u.caller u.command.key) s.joiners)
+abbrev pub is_served_in : Option State → Caller → Bytes → Bool
+is_served_in None caller key = false
+is_served_in (Some s) caller key = has_parked_answer (find (belongs_to caller key) s.joiners)
 
-abbrev pub is_served : WorldState → OpenCall → Bool
-is_served w u = is_served_in (stripe_for w u.command.key) u
+abbrev pub is_served : WorldState → Caller → Bytes → Bool
+is_served w caller key = is_served_in (stripe_for w key) caller key
 
 -- another session's call, with another number
 abbrev pub is_apart : OpenCall → OpenCall → Bool
 is_apart u other =
     not (other.caller.session == u.caller.session) && not (other.caller.call == u.caller.call)
 
--- a call that is served has its step in the order
+-- a caller that is served at a key has its step of that key in the order
+pub record FitsKey (w : WorldState) (caller : Caller) (key : Bytes) (op : Op) : Type 0 where
+  pub runs_none : is_invoke op ≡ false
+  pub comes : is_served w caller key ≡ false → may_come_all w.order caller key ≡ true
+
 pub record FitsCall (w : WorldState) (u : OpenCall) : Type 0 where
-  pub single : is_single u.command.op ≡ true
   pub number : is_up_to w.last u.caller.call ≡ true
-  pub none : is_served w u ≡ false → none_from w.order u.caller ≡ true
+  pub keys : (key : Bytes) (op : Op) → op_at u key ≡ Some op → FitsKey w u.caller key op
 
 abbrev pub CallsFit : WorldState → List OpenCall → Type 0
 CallsFit w [] = Unit {0}
@@ -137,14 +138,14 @@ pub record IsHeld (s : State) (key : Bytes) (part : Part) : Type 0 where
   pub out : IsOut s part.reservation
   pub asked : is_asked part.progress part.reservation.first ≡ true
 
--- a call is of this session, and its key is this
-abbrev pub IsCallOf : ℕ → Bytes → OpenCall → Type 0
-IsCallOf session key u = (u.caller.session ≡ session) × (u.command.key ≡ key)
+-- a call is of this session, and this operation is open in it at this key
+abbrev pub IsCallOf : ℕ → Bytes → Op → OpenCall → Type 0
+IsCallOf session key op u = (u.caller.session ≡ session) × (op_at u key ≡ Some op)
 
 -- the reservation of a call under way, with its part
 pub record IsOwned (w : WorldState) (r : Reservation) : Type 0 where
   pub part : IsSomeAnd (get w.parts r.key) (λ part. part.reservation.caller.call ≡ r.caller.call)
-  pub call : IsSomeAnd (open_call w r.caller.call) (IsCallOf r.caller.session r.key)
+  pub call : IsSomeAnd (open_call w r.caller.call) (IsCallOf r.caller.session r.key r.op)
 
 abbrev pub AllOwned : WorldState → List Reservation → Type 0
 AllOwned w rs = Each (IsOwned w) rs
@@ -154,7 +155,7 @@ AllOwned w rs = Each (IsOwned w) rs
 -- the joiner is in the stripe of its key, and the call is under way with no part
 pub record IsWaitedFor (w : WorldState) (join : JoinClaim) : Type 0 where
   pub out : IsSomeAnd (stripe_for w join.key) (λ s. IsJoined s join)
-  pub call : IsSomeAnd (open_call w join.caller.call) (IsCallOf join.caller.session join.key)
+  pub call : IsSomeAnd (open_call w join.caller.call) (IsCallOf join.caller.session join.key Get)
   pub no_part : part_of w join.caller.call join.key ≡ None
 
 abbrev pub AllWaitedFor : WorldState → List JoinClaim → Type 0
@@ -169,7 +170,7 @@ is_joined_once (j ∷ js) = not (list_any (is_join j.caller.call j.key) js) && i
 pub record IsCalled (w : WorldState) (number : ℕ) (j : Joiner) : Type 0 where
   pub home_is : home w j.key ≡ number
   pub join : is_joined w j.caller.call j.key ≡ true
-  pub call : IsSomeAnd (open_call w j.caller.call) (IsCallOf j.caller.session j.key)
+  pub call : IsSomeAnd (open_call w j.caller.call) (IsCallOf j.caller.session j.key Get)
 
 abbrev pub AllCalled : WorldState → ℕ → List Joiner → Type 0
 AllCalled w number js = Each (IsCalled w number) js
@@ -184,7 +185,7 @@ abbrev pub IsWrittenFor : First → Option Bytes → Type 0
 IsWrittenFor Nobody stored = ⊥
 IsWrittenFor Loader stored = ⊥
 IsWrittenFor (Writer change) stored = stored ≡ changed_to change
-IsWrittenFor Processor stored = ⊥
+IsWrittenFor (Processor entry loads) stored = ⊥
 
 pub record LoadAgrees (answer : LoadAnswer) (stored entry : Option Bytes) : Type 0 where
   pub loaded : Agrees (found_in answer) stored

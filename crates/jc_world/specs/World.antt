@@ -10,6 +10,10 @@
 --     has_number, is_of_session               a call has this number, and is of this session
 --     is_busy                         a session has a call under way
 --     open_call                       the call with this number, if it is under way
+--     open_keys                       the keys of a call that have neither a reply nor a last refusal
+--     op_at                           what a call does at a key that is open in it; none at any other key
+--     settle_key                      a call once such a key has its reply or last refusal; none if no key is open any more
+--     with_some, settle               the calls under way once a key of one of them has its reply or last refusal
 --     drop_call                       the calls without one that is over
 --     of_call                         a part, if it is this call's
 --     part_of                         what a call has asked and heard for a key that it has reserved
@@ -33,6 +37,7 @@ use Rattle.std.specs.FinMap as map
 use Rattle.jc_types.specs.declared.config.Config.{Config}
 use Rattle.jc_types.specs.Stripes.{stripe_of}
 use Rattle.jc_model.specs.declared.event.Event.{Event}
+use Rattle.jc_model.specs.declared.event.Op.{Op}
 use Rattle.jc_model.specs.declared.event.Out.{Out}
 use Rattle.jc_model.specs.Cache.{Bytes, Cache, key_cmp, entry_at, with_entry}
 use Rattle.jc_model.specs.Table.{is_load_given, is_write_given}
@@ -128,6 +133,26 @@ is_busy w session = list_any (is_of_session session) w.calls
 
 abbrev pub open_call : WorldState → ℕ → Option OpenCall
 open_call w call = find (has_number call) w.calls
+
+-- a call of one operation has the one key
+abbrev pub open_keys : OpenCall → List Bytes
+open_keys u = u.command.key ∷ []
+
+abbrev pub op_at : OpenCall → Bytes → Option Op
+op_at u key = if pointwise ◌==◌ key u.command.key then Some u.command.op else None
+
+-- a key of the call has its reply or last refusal
+abbrev pub settle_key : OpenCall → Bytes → Option OpenCall
+settle_key u key = if pointwise ◌==◌ key u.command.key then None else Some u
+
+abbrev pub with_some : Option OpenCall → List OpenCall → List OpenCall
+with_some None us = us
+with_some (Some u) us = u ∷ us
+
+abbrev pub settle : ℕ → Bytes → List OpenCall → List OpenCall
+settle call key [] = []
+settle call key (u ∷ us) =
+    with_some (if has_number call u then settle_key u key else Some u) (settle call key us)
 
 -- the calls without one that is over
 abbrev pub drop_call : ℕ → List OpenCall → List OpenCall

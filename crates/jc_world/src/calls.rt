@@ -1,12 +1,12 @@
 //! The calls under way. A session has one at most, so there are never more than there are sessions.
 ghost use Rattle.std.specs.Prelude.{◌≡◌, true, find, option_copied};
 ghost use Rattle.std.specs.List.{list_any};
-ghost use Rattle.jc_world.specs.World.{has_number, is_of_session, drop_call};
+ghost use Rattle.jc_world.specs.World.{has_number, is_of_session, drop_call, settle};
 ghost use Rattle.jc_world.specs.Events.{is_single, is_session, is_new};
 
 use crate::event::OpenCall;
 use jc_model::Op;
-use jc_types::SESSIONS_MAX;
+use jc_types::{Key, SESSIONS_MAX};
 
 /// Whether an operation is a call by itself.
 pub(crate) fn is_single_op(op: &Op) -> bool
@@ -46,7 +46,14 @@ pub(crate) fn find_call(calls: &[OpenCall], call: u64) -> Option<&OpenCall>
     calls.iter().find(|u| u.caller.call == call)
 }
 
-/// Takes a call that is over out.
+/// A key of a call has its reply or last refusal. The call is taken out if no key of it is open any more.
+pub(crate) fn settle(calls: &mut Vec<OpenCall>, call: u64, key: &Key)
+    ensures { calls.new.items ≡ settle call key.now calls.old.items }
+{
+    calls.retain(|u| u.caller.call != call || *key != u.command.key);
+}
+
+/// Takes a call that leaves out.
 pub(crate) fn drop_call(calls: &mut Vec<OpenCall>, call: u64)
     ensures { calls.new.items ≡ drop_call call calls.old.items }
 {

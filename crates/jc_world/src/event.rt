@@ -1,6 +1,6 @@
 //! What may happen in a world, what is shown of it, and what a world keeps of its calls.
-ghost use Rattle.std.specs.Prelude.{◌≡◌};
-ghost use Rattle.jc_world.specs.World.{waits_for_load, waits_for_report, is_answered, is_untouched, has_changed};
+ghost use Rattle.std.specs.Prelude.{◌≡◌, true, Some, is_some, option_copied};
+ghost use Rattle.jc_world.specs.World.{op_at, waits_for_load, waits_for_report, is_answered, is_untouched, has_changed};
 
 use jc_model::{Change, LoadAnswer, Op, Reply, WriteAnswer};
 use jc_stripe::{Eviction, Reservation};
@@ -31,8 +31,9 @@ pub enum WorldEvent {
         /// What the call does.
         command: Command,
     },
-    /// The first phase of the call's key. It fits if the call has neither reserved the key nor joined its load: before its first
-    /// phase, and once it was told to retry or has given its reservation back.
+    /// The first phase of a key of the call. It fits if the key has neither a reply nor a last refusal in this call, and the call has
+    /// neither reserved it nor joined its load: before its first phase, and once the call was told to retry or has given its
+    /// reservation back.
     Start {
         /// The call's number.
         call: u64,
@@ -84,7 +85,7 @@ pub enum WorldEvent {
         /// The key that the call has reserved.
         key: Key,
     },
-    /// The call is over, without a reply. It fits if the call has neither reserved its key nor joined its load.
+    /// The call is over, without a reply. It fits if the call has neither reserved a key nor joined a load.
     Leave {
         /// The call's number.
         call: u64,
@@ -191,6 +192,29 @@ pub struct OpenCall {
     pub caller: Caller,
     /// What the call does.
     pub command: Command,
+}
+
+impl OpenCall {
+    /// What the call does at a key that is open in it: one that has neither a reply nor a last refusal. None at any other key.
+    pub fn op_at(&self, key: &Key) -> Option<&Op>
+        ensures { option_copied result ≡ op_at self.now key.now }
+    {
+        if *key == self.command.key {
+            Some(&self.command.op)
+        } else {
+            None
+        }
+    }
+
+    /// What the call does at a key that is known to be open in it. A call of one operation does it at no other key, so nothing has to be
+    /// compared.
+    pub(crate) fn op_at_open(&self, key: &Key) -> &Op
+        requires { is_some (op_at self.now key.now) ≡ true }
+        ensures { op_at self.now key.now ≡ Some result.now }
+    {
+        let _ = key;
+        &self.command.op
+    }
 }
 
 /// A key that a call has reserved: for what, and how far that is.

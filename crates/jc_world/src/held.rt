@@ -79,7 +79,7 @@ pub(crate) fn change_for(ticket: &WriteTicket) -> Change
 {
     match ticket.reservation().first {
         First::Writer(change) => change,
-        First::Nobody | First::Loader | First::Processor => unreachable!(),
+        First::Nobody | First::Loader | First::Processor { .. } => unreachable!(),
     }
 }
 

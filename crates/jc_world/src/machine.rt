@@ -12,7 +12,7 @@ mod answering;
 mod auditing;
 mod fitting;
 
-use crate::calls::{drop_call, find_call, has_call, is_above};
+use crate::calls::{drop_call, find_call, has_call, is_above, settle};
 use crate::ending::{end_all, pick_all};
 use crate::event::{Command, OpenCall, PickedUp, Premises, Shown, WorldEvent};
 use crate::held::Held;
@@ -232,7 +232,7 @@ impl Machine {
         Ok(())
     }
 
-    /// The first phase of a call.
+    /// The first phase of a key of a call.
     #[inline(never)]
     fn start(&mut self, call: u64, key: &Key, seen: &mut Shown) -> Result<(), AllocError>
         requires sound { IsSoundWorld self.old }
@@ -247,12 +247,13 @@ impl Machine {
         let Some(u) = find_call(&self.calls, call) else {
             unreachable!()
         };
+        let op = u.op_at_open(key);
         let caller = u.caller;
-        let number = stripe_of(&u.command.key, self.config.stripes);
-        let begun = self.stripes.begin(number, u);
+        let number = stripe_of(key, self.config.stripes);
+        let begun = self.stripes.begin(number, &caller, key, op);
         match begun {
             Begun::Done(done) => {
-                drop_call(&mut self.calls, caller.call);
+                settle(&mut self.calls, caller.call, key);
                 *seen = Shown::Stepped(shown_of(number, done));
                 Ok(())
             }
@@ -265,13 +266,14 @@ impl Machine {
                 *seen = Shown::Asks(hold_write(&mut self.held, ticket));
                 Ok(())
             }
+            Begun::Process(_ticket) => unreachable!(),
             Begun::Joined(join) => {
                 self.joins.push_reserved(join);
                 *seen = Shown::Joins;
                 Ok(())
             }
             Begun::Refused(refusal) => {
-                drop_call(&mut self.calls, caller.call);
+                settle(&mut self.calls, caller.call, key);
                 *seen = Shown::Refused(refusal);
                 Ok(())
             }
@@ -289,7 +291,7 @@ impl Machine {
         self.stripes.reserve()?;
         let number = stripe_of(key, self.config.stripes);
         let held = take(&mut self.held, key);
-        drop_call(&mut self.calls, call);
+        settle(&mut self.calls, call, key);
         let done = self.stripes.commit(number, held);
         *seen = Shown::Stepped(shown_of(number, done));
         Ok(())
@@ -323,7 +325,7 @@ impl Machine {
                 place: step,
                 shared_with: shared,
             } => {
-                drop_call(&mut self.calls, call);
+                settle(&mut self.calls, call, key);
                 *seen = Shown::PickedUp(PickedUp {
                     reply,
                     stripe,

@@ -3,7 +3,6 @@ ghost use Rattle.std.specs.Prelude.{◌≡◌, false, ◌+◌, ◌-◌, ◌≤�
 ghost use Rattle.jc_types.specs.declared.limits.TheConstants.{STEP_PLACES, JOINERS_MAX, STRIPES_MAX};
 ghost use Rattle.jc_types.specs.Limits.{check};
 ghost use Rattle.jc_stripe.specs.State.{IsOut, IsJoined};
-ghost use Rattle.jc_stripe.specs.Refusals.{has_phases};
 ghost use Rattle.jc_stripe.specs.Phases.{MayBegin, Commits, Withdraws, PicksUp};
 ghost use Rattle.jc_outside.specs.declared.done.Origin.TheVariants.{Played};
 ghost use Rattle.jc_world.specs.World.{out_of, is_answered, empty_stripes};
@@ -11,12 +10,12 @@ ghost use Rattle.jc_stripe.specs.Reached.{IsReached};
 ghost use Rattle.jc_world.specs.Events.{BeginsAs, step_of};
 ghost use Rattle.jc_world.specs.Turns.{IsPhase, IsQuietPhase, history_at, merge, AreTurns};
 
-use crate::event::{OpenCall, Stepped};
+use crate::event::Stepped;
 use crate::held::Held;
 use jc_model::{Effect, Event, LoadAnswer, Op, Out, ProcessAnswer, Reply, WriteAnswer};
 use jc_stripe::phase_laws::grows;
 use jc_stripe::{Begun, Join, Origin, Picked, StepDone, Stripe};
-use jc_types::{Config, JOINERS_MAX, STEP_PLACES, STRIPES_MAX, Value};
+use jc_types::{Caller, Config, JOINERS_MAX, Key, STEP_PLACES, STRIPES_MAX, Value};
 use std::alloc::{AllocError, Global};
 use std::marker::Model;
 
@@ -67,18 +66,17 @@ impl Stripes {
         self.turns.try_reserve(EVENTS_MAX)
     }
 
-    /// The first phase of a call on the stripe of its key. What it appends is at the end of the order, too.
-    pub(crate) fn begin(&mut self, number: usize, u: &OpenCall) -> Begun
+    /// The first phase of an operation at a key, on the stripe of that key. What it appends is at the end of the order, too.
+    pub(crate) fn begin(&mut self, number: usize, caller: &Caller, key: &Key, op: &Op) -> Begun
         requires begins { IsSomeAnd (slice_get self.old.stripes number)
-            (λ s. MayBegin s u.now.caller u.now.command.key) }
-        requires phases { has_phases u.now.command.op ≡ true }
+            (λ s. MayBegin s caller.now key.now) }
         requires room { STEP_PLACES + JOINERS_MAX ≤ self.old.room }
-        ensures { IsPhase self.old number (BeginsAs u.now result) self.new }
+        ensures { IsPhase self.old number (BeginsAs caller.now key.now op.now result) self.new }
     {
         grows();
         let stripe = &mut self.items[number];
         let before = history_len(stripe);
-        let begun = stripe.begin(u.caller, &u.command.key, &u.command.op);
+        let begun = stripe.begin(*caller, key, op);
         give_turns(&mut self.turns, number, stripe, before);
         begun
     }

@@ -76,7 +76,7 @@ impl Machine {
         ensures { result ≡ may_start self.now call key.now (open_call self.now call) }
     {
         match self.open_call(call) {
-            Some(u) => *key == u.command.key && self.is_free(call, key),
+            Some(u) => u.op_at(key).is_some() && self.is_free(call, key),
             None => false,
         }
     }

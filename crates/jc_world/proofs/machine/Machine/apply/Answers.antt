@@ -42,3 +42,8 @@ pub returns-in-Foreign-clause-ok : goal.returns-in-Foreign-clause-ok
 returns-in-Foreign-clause-ok c =
     let P : WorldEvent → Type 0 = λ e. OnOk c.foreign_write.result (Happens c.args.self.now e c.foreign_write.new.seen c.foreign_write.new.self) in
     subst P (sym c.in-Foreign.is) c.foreign_write.ensures.ok
+
+pub returns-in-Start-clause-ok : goal.returns-in-Start-clause-ok
+returns-in-Start-clause-ok c =
+    let P : WorldEvent → Type 0 = λ e. OnOk c.start.result (Happens c.args.self.now e c.start.new.seen c.start.new.self) in
+    subst P (sym c.in-Start.is) c.start.ensures.ok

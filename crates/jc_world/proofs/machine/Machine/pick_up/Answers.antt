@@ -31,10 +31,10 @@ returns-in-Answer c =
     let seen : PickedUp = record { reply = c.in-Answer.reply; stripe = number; place = c.in-Answer.step; shared = c.in-Answer.shared } in
     let quiet = told c.self.inside.stripes c.pick_up.new.self number join c.pick_up.result (picked.Answer seen.reply seen.place seen.shared) c.in-Answer.is c.pick_up.ensures in
     let p = changed_from v c.self.inside.stripes c.pick_up.new.self number (PicksAs join (picked.Answer seen.reply seen.place seen.shared)) refl quiet in
-    let next = world_of (record c.self.inside { stripes = c.pick_up.new.self; calls = c.drop_call.new.calls; joins = c.take_join-join.new.joins }) in
+    let next = world_of (record c.self.inside { stripes = c.pick_up.new.self; calls = c.settle.new.calls; joins = c.take_join-join.new.joins }) in
     let R : WorldState → Type 0 = λ x. Happens x (event.PickUp c.args.call key) (shown.PickedUp seen) next in
     subst R c.self.view_is (picked_answer v next c.args.call key join number seen c.pick_up.new.self.stripes c.take_join-join.ensures.join c.stripe_of-stripe.ensures refl p
-    (λ i. record v { stripes = c.pick_up.new.self.stripes; order = quiet.order_is i; joins = c.take_join-join.ensures.others i; calls = c.drop_call.ensures i }))
+    (λ i. record v { stripes = c.pick_up.new.self.stripes; order = quiet.order_is i; joins = c.take_join-join.ensures.others i; calls = c.settle.ensures i }))
 
 pub returns-in-Again : goal.returns-in-Again
 returns-in-Again c =

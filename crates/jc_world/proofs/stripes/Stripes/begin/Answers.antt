@@ -13,15 +13,15 @@ give_turns-requires-clause-room c =
     let to = c.begin-begun.new.self in
     let room = ap (λ (v : OrderedStripes). v.room) c.self.view_is in
     let wanted = c.requires.room in
-    has_room _ _ c.history_len-before.result from to (omega arith) c.history_len-before.ensures.len (begun_length from to c.args.u.now.caller c.args.u.now.command.key c.args.u.now.command.op _ c.begin-begun.ensures.begins)
+    has_room _ _ c.history_len-before.result from to (omega arith) c.history_len-before.ensures.len (begun_length from to c.args.caller.now c.args.key.now c.args.op.now _ c.begin-begun.ensures.begins)
 
 pub invariant_of-self : goal.invariant_of-self
 invariant_of-self c =
     let items = c.self.inside.items.items in
     let from = c.index_mut-stripe.result.now in
     let to = c.begin-begun.new.self in
-    let at = is_at c.self.inside c.args.self.now c.args.number from (λ s. MayBegin s c.args.u.now.caller c.args.u.now.command.key) c.self.view_is c.requires.begins c.index_mut-stripe.ensures.value in
-    let longer = c.grows.ensures.begins from to c.args.u.now.caller c.args.u.now.command.key c.args.u.now.command.op c.begin-begun.result c.begin-begun.ensures.begins in
+    let at = is_at c.self.inside c.args.self.now c.args.number from (λ s. MayBegin s c.args.caller.now c.args.key.now) c.self.view_is c.requires.begins c.index_mut-stripe.ensures.value in
+    let longer = c.grows.ensures.begins from to c.args.caller.now c.args.key.now c.args.op.now c.begin-begun.result c.begin-begun.ensures.begins in
     record {
       turns = subst (AreTurns (slice_set items c.args.number to)) (sym c.give_turns.ensures)
           (grows_turns items c.self.inside.turns.items c.args.number c.history_len-before.result from to longer.more c.self.invariant.turns at longer.history c.history_len-before.ensures.len);
@@ -32,6 +32,6 @@ pub returns : goal.returns
 returns c =
     let from = c.index_mut-stripe.result.now in
     let to = c.begin-begun.new.self in
-    let at = is_at c.self.inside c.args.self.now c.args.number from (λ s. MayBegin s c.args.u.now.caller c.args.u.now.command.key) c.self.view_is c.requires.begins c.index_mut-stripe.ensures.value in
-    let longer = c.grows.ensures.begins from to c.args.u.now.caller c.args.u.now.command.key c.args.u.now.command.op c.begin-begun.result c.begin-begun.ensures.begins in
-    phase_made c.self.inside c.args.self.now c.args.number c.history_len-before.result from to (λ old new. Begins old c.args.u.now.caller c.args.u.now.command.key c.args.u.now.command.op c.begin-begun.result new) c.give_turns.new.turns.items _ c.self.view_is c.self.invariant at longer c.history_len-before.ensures.len c.begin-begun.ensures.begins c.give_turns.ensures refl refl
+    let at = is_at c.self.inside c.args.self.now c.args.number from (λ s. MayBegin s c.args.caller.now c.args.key.now) c.self.view_is c.requires.begins c.index_mut-stripe.ensures.value in
+    let longer = c.grows.ensures.begins from to c.args.caller.now c.args.key.now c.args.op.now c.begin-begun.result c.begin-begun.ensures.begins in
+    phase_made c.self.inside c.args.self.now c.args.number c.history_len-before.result from to (λ old new. Begins old c.args.caller.now c.args.key.now c.args.op.now c.begin-begun.result new) c.give_turns.new.turns.items _ c.self.view_is c.self.invariant at longer c.history_len-before.ensures.len c.begin-begun.ensures.begins c.give_turns.ensures refl refl

@@ -1,0 +1,28 @@
+-- Small facts of tests and of what is found.
+--     refuted, not_true, denied     a test that does not hold is false
+--     missing, same_found           what is not found is none, and what is found twice is one
+use Rattle.std.proofs.Common.{◌≡◌, ◌∙◌, Bool, true, false, not, Option, None, Some, refl, sym}
+
+-- what is not true is false
+pub refuted : (b : Bool) → (b ≡ true → ⊥) → b ≡ false
+refuted true h = absurd (h refl)
+refuted false h = refl
+
+-- a test whose converse holds is false
+pub not_true : (b : Bool) → not b ≡ true → b ≡ false
+not_true true h = cc
+not_true false h = refl
+
+-- and doesn't hold
+pub denied : (b : Bool) → not b ≡ true → b ≡ true → ⊥
+denied true h k = cc
+denied false h k = cc
+
+-- what cannot be there is none
+pub missing : {A : Type 0} (o : Option A) → ((x : A) → o ≡ Some x → ⊥) → o ≡ None
+missing None h = refl
+missing (Some x) h = absurd (h x refl)
+
+-- what is found twice is one
+pub same_found : {A : Type 0} (o : Option A) (x y : A) → o ≡ Some x → o ≡ Some y → x ≡ y
+same_found o x y e f = let t : Some x ≡ Some y = sym e ∙ f in cc
