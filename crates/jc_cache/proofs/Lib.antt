@@ -3,3 +3,4 @@ pub mod Others
 pub mod SessionAfter
 pub mod Stripes
 pub mod WholeCalls
+pub mod Unasked

@@ -21,40 +21,40 @@ use Rattle.jc_stripe.specs.declared.ticket.First.{First}
 use Rattle.jc_stripe.specs.declared.ticket.First.TheVariants.{Nobody, Loader, Writer, Processor}
 use Rattle.jc_stripe.specs.State.{State}
 use Rattle.jc_stripe.specs.Tickets.{Ticket, asks_writer}
-use Rattle.jc_stripe.specs.Refusals.{first_asked, first_by, reserves}
+use Rattle.jc_stripe.specs.Refusals.{first_asked, first_by, is_wanted, reserves}
 use Rattle.jc_stripe.specs.Phases.{Steps, Begins, Commits}
 use Rattle.jc_stripe.specs.Reached.{IsReached}
 use Rattle.jc_stripe.specs.OwnSteps.{WholeCall}
 use Rattle.jc_cache.specs.Whole.{OneStep, next_after}
 
-asks_through : (invokes : Bool) (ask : LoaderAsk) (through : Bool) (change : Option Change) (first : First) → cond invokes Processor (first_by ask (cond through change None)) ≡ first
+asks_through : (invokes : Bool) (seen : Option Bytes) (wanted : Bool) (ask : LoaderAsk) (through : Bool) (change : Option Change) (first : First) → cond invokes (Processor seen wanted) (first_by ask (cond through change None)) ≡ first
     → asks_writer first ≡ true → through ≡ true
-asks_through true ask through change first h asks = absurd (differs (ap asks_writer h ∙ asks))
+asks_through true seen wanted ask through change first h asks = absurd (differs (ap asks_writer h ∙ asks))
   where
     differs : false ≡ true → ⊥
     differs h = cc
-asks_through false Always through change first h asks = absurd (differs (ap asks_writer h ∙ asks))
+asks_through false seen wanted Always through change first h asks = absurd (differs (ap asks_writer h ∙ asks))
   where
     differs : false ≡ true → ⊥
     differs h = cc
-asks_through false IfWanted through change first h asks = absurd (differs (ap asks_writer h ∙ asks))
+asks_through false seen wanted IfWanted through change first h asks = absurd (differs (ap asks_writer h ∙ asks))
   where
     differs : false ≡ true → ⊥
     differs h = cc
-asks_through false Never true change first h asks = refl
-asks_through false Never false change first h asks = absurd (differs (ap asks_writer h ∙ asks))
+asks_through false seen wanted Never true change first h asks = refl
+asks_through false seen wanted Never false change first h asks = absurd (differs (ap asks_writer h ∙ asks))
   where
     differs : false ≡ true → ⊥
     differs h = cc
 
 pub writes_through : (config : Config) (op : Op) (entry : Option Bytes) (first : First) → first_asked config op entry ≡ first → asks_writer first ≡ true → config.write_through ≡ true
-writes_through config op entry first h asks = asks_through (is_invoke op) (loader_ask config.read_through op entry) config.write_through (write_ask op entry NotAsked) first h asks
+writes_through config op entry first h asks = asks_through (is_invoke op) entry (is_wanted (loader_ask config.read_through op entry)) (loader_ask config.read_through op entry) config.write_through (write_ask op entry NotAsked) first h asks
 
 writer_reserves : (first : First) → asks_writer first ≡ true → reserves first ≡ true
 writer_reserves Nobody h = cc
 writer_reserves Loader h = refl
 writer_reserves (Writer change) h = refl
-writer_reserves Processor h = refl
+writer_reserves (Processor seen loads) h = refl
 
 -- the number after the call, by whom it asked first
 next_is : (a : State) (key : Bytes) (op : Op) (first : First) (b : Bool) → first_asked a.config op (entry_at a.cache key) ≡ first → reserves first ≡ b → next_after a key op ≡ cond b (a.next + 1) a.next

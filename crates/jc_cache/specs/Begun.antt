@@ -1,6 +1,7 @@
 -- The phase calls of a cache.
 --     begun_of          what a first phase of the stripe has given
---     IsUnasked         a ticket that a first phase has given has asked nobody yet
+--     IsUnasked         a ticket that a first phase has given has asked nobody yet, and is none of a processor, since the operation is no
+--                       `Invoke`
 --     picked_of         what a pick-up of the stripe has given
 --     IsOfCache         what a first phase gives is of the cache with this mark
 --     IsBackOfCache     a join that a pick-up gives back is
@@ -31,6 +32,7 @@ abbrev pub IsUnasked : Begun → Type 0
 IsUnasked (begun.Done done) = Unit {0}
 IsUnasked (begun.Load ticket) = ticket.asked ≡ false
 IsUnasked (begun.Write ticket) = ticket.asked ≡ false
+IsUnasked (begun.Process ticket) = ⊥
 IsUnasked (begun.Joined join) = Unit {0}
 IsUnasked (begun.Refused refusal) = Unit {0}
 

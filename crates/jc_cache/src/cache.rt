@@ -1,9 +1,11 @@
 //! A cache of plainly owned stripes, its sessions, and a whole call.
-ghost use Rattle.std.specs.Prelude.{◌≡◌, ◌⊎◌, ◌+◌, ◌<◌, IsTrue, Ok, Err, Some, None, IfOk, IfErr, is_some, slice_get};
+ghost use Rattle.std.specs.Prelude.{◌≡◌, ◌⊎◌, ◌+◌, ◌<◌, ◌≤◌, false, Ok, Err, Some, None, IfOk, IfErr, is_some, slice_get, vec_len, vec_capacity};
 ghost use Rattle.jc_types.specs.Limits.{check};
 ghost use Rattle.jc_types.specs.declared.refusal.Refusal.TheVariants.{OutOfMemory};
 ghost use Rattle.jc_types.specs.declared.limits.TheConstants.{SESSIONS_MAX};
-ghost use Rattle.jc_stripe.specs.Refusals.{has_phases};
+ghost use Rattle.jc_model.specs.Table.{is_invoke};
+ghost use Rattle.jc_stripe.specs.State.{State};
+ghost use Rattle.jc_stripe.specs.Keys.{Looks};
 ghost use Rattle.jc_cache.specs.Caches.{AreNewUpTo, IsIdleCache, session_refusal};
 ghost use Rattle.jc_cache.specs.Sessions.{IsOf, MayCall, LeavesSessions};
 ghost use Rattle.jc_cache.specs.Calls.{Called};
@@ -121,6 +123,21 @@ impl Cache {
         self.owners[number].stripe()
     }
 
+    /// Appends the keys of one stripe that have an entry, each once, in byte order. It changes no stripe, and takes no memory.
+    ///
+    /// Conditions: there is a stripe of this number, and the vector has room for as many keys as a stripe may cache.
+    pub fn look(&self, number: usize, out: &mut Vec<Key>)
+        requires stripe { number < self.now.config.stripes }
+        requires room { vec_len out.old + self.now.config.capacity ≤ vec_capacity out.old }
+        ensures keys { (state : State) × (slice_get self.now.stripes number ≡ Some (Some state))
+            × Looks state out.old.items out.new.items }
+        ensures few { vec_len out.new ≤ vec_len out.old + self.now.config.capacity }
+        ensures capacity { vec_capacity out.new ≡ vec_capacity out.old }
+    {
+        let owner = &self.owners[number];
+        owner.stripe().keys(out);
+    }
+
     /// Why a session with or without a loader and a writer is refused, if it is.
     fn session_refusal(&self, has_loader: bool, has_writer: bool) -> Option<Refusal>
         ensures { result ≡ session_refusal self.now has_loader has_writer }
@@ -163,7 +180,7 @@ impl Cache {
         key: &Key,
         op: &Op,
     ) -> Result<Reply, Refusal>
-        requires op { IsTrue (has_phases op.now) }
+        requires op { is_invoke op.now ≡ false }
         requires may { MayCall self.old session.old }
         ensures may { MayCall self.new session.new }
         ensures call { Called loads load_state writes write_state

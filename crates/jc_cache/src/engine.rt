@@ -1,8 +1,8 @@
 //! A whole call on one key, over any gate.
-ghost use Rattle.std.specs.Prelude.{◌≡◌, ℕ, true, IsTrue, IsSome};
+ghost use Rattle.std.specs.Prelude.{◌≡◌, ℕ, true, false, IsSome};
 ghost use Rattle.jc_outside.specs.declared.done.Origin.TheVariants.{Live};
 ghost use Rattle.jc_stripe.specs.State.{State, IsIdle};
-ghost use Rattle.jc_stripe.specs.Refusals.{has_phases};
+ghost use Rattle.jc_model.specs.Table.{is_invoke};
 ghost use Rattle.jc_stripe.specs.Phases.{MayBegin};
 ghost use Rattle.jc_cache.specs.Whole.{IsCall};
 
@@ -33,7 +33,7 @@ pub(crate) fn call<G: Gate, R: Wait>(
     requires free { G.is_free gate.old token.old }
     requires there { (g : G) (t : G.Token) → G.may_fail g t → ⊥ }
     requires speaks { G.speaks_for token.old session.old.caller.session }
-    requires op { IsTrue (has_phases op.now) }
+    requires op { is_invoke op.now ≡ false }
     requires may { (a : State) → G.finds gate.old token.old a → MayBegin a session.old.caller key.now }
     requires idle { (a : State) → G.finds gate.old token.old a → IsIdle a × (a.origin ≡ Live) }
     requires own { (session.old.counts.reservations ≡ 0) × (session.old.counts.joins ≡ 0) }
@@ -65,6 +65,7 @@ pub(crate) fn call<G: Gate, R: Wait>(
             let step = commit_write(gate, token, session, ticket, done);
             Ok(step.reply)
         }
+        Begun::Process(_ticket) => unreachable!(),
         Begun::Joined(_join) => unreachable!(),
     }
 }

@@ -1,9 +1,9 @@
 //! One phase of a stripe between a take and a give, over any gate.
-ghost use Rattle.std.specs.Prelude.{◌≡◌, ℕ, true, IsTrue};
+ghost use Rattle.std.specs.Prelude.{◌≡◌, ℕ, true, false};
 ghost use Rattle.jc_model.specs.Group.{load_only, write_only};
 ghost use Rattle.jc_stripe.specs.State.{State, IsOut, IsJoined};
 ghost use Rattle.jc_stripe.specs.Reached.{IsReached};
-ghost use Rattle.jc_stripe.specs.Refusals.{has_phases};
+ghost use Rattle.jc_model.specs.Table.{is_invoke};
 ghost use Rattle.jc_stripe.specs.Phases.{MayBegin, Begins, Commits, PicksUp};
 ghost use Rattle.jc_session.specs.Counting.{counts_begun, counts_ended, counts_picked};
 ghost use Rattle.jc_cache.specs.OnePhase.{MakesPhase};
@@ -29,7 +29,7 @@ pub(crate) fn start<G: Gate>(
     requires free { G.is_free gate.old token.old }
     requires there { G.may_fail gate.old token.old → ⊥ }
     requires speaks { G.speaks_for token.old session.old.caller.session }
-    requires op { IsTrue (has_phases op.now) }
+    requires op { is_invoke op.now ≡ false }
     requires may { (a : State) → G.finds gate.old token.old a → MayBegin a session.old.caller key.now }
     ensures session { session.new ≡ record session.old { counts = counts_begun session.old.counts result } }
     ensures free { G.is_free gate.new token.new }

@@ -50,6 +50,7 @@ impl Started {
             Begun::Done(step) => Started::Done(step),
             Begun::Load(ticket) => Started::Load(LoadCall::new(cache, ticket)),
             Begun::Write(ticket) => Started::Write(WriteCall::new(cache, ticket)),
+            Begun::Process(_ticket) => unreachable!(),
             Begun::Joined(join) => Started::Joined(JoinedCall::new(cache, join)),
             Begun::Refused(refusal) => Started::Refused(refusal),
         }

@@ -165,7 +165,7 @@ impl Session {
     {
         match begun {
             Begun::Done(_) => self.counts.own = one_more(self.counts.own),
-            Begun::Load(_) | Begun::Write(_) => {
+            Begun::Load(_) | Begun::Write(_) | Begun::Process(_) => {
                 self.counts.reservations = one_more(self.counts.reservations);
             }
             Begun::Joined(_) => self.counts.joins = one_more(self.counts.joins),

@@ -1,8 +1,8 @@
 //! The phase calls: each is one take, one phase of the key's stripe by the session's current call, and one give.
-ghost use Rattle.std.specs.Prelude.{◌≡◌, IsTrue};
+ghost use Rattle.std.specs.Prelude.{◌≡◌, false};
 ghost use Rattle.jc_model.specs.Group.{load_only, write_only};
 ghost use Rattle.jc_stripe.specs.State.{State, IsOut, IsJoined};
-ghost use Rattle.jc_stripe.specs.Refusals.{has_phases};
+ghost use Rattle.jc_model.specs.Table.{is_invoke};
 ghost use Rattle.jc_stripe.specs.Phases.{MayBegin, Begins, Commits, PicksUp};
 ghost use Rattle.jc_session.specs.Counting.{counts_begun, counts_ended, counts_picked};
 ghost use Rattle.jc_cache.specs.Caches.{IsStripeOf};
@@ -27,7 +27,7 @@ impl Cache {
     /// the conditions of [`Stripe::begin`](jc_stripe::Stripe::begin).
     pub fn start(&mut self, session: &mut Session, key: &Key, op: &Op) -> Started
         requires own { IsOf self.old session.old }
-        requires op { IsTrue (has_phases op.now) }
+        requires op { is_invoke op.now ≡ false }
         requires may { (a : State) → IsStripeOf self.old key.now a → MayBegin a session.old.caller key.now }
         ensures own { IsOf self.new session.new }
         ensures session { session.new ≡ record session.old { counts = counts_begun session.old.counts (begun_of result) } }

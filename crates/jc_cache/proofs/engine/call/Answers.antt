@@ -1,12 +1,13 @@
 use Rattle.std.proofs.Common.{◌≡◌, ◌∙◌, sym, refl, ap, subst, IsSome}
 use Rattle.jc_model.specs.Group.{nothing_said, load_only, write_only}
-use Rattle.jc_stripe.specs.declared.begun.Begun.TheVariants.{Load, Write}
+use Rattle.jc_stripe.specs.declared.begun.Begun.TheVariants.{Load, Write, Process}
 use Rattle.jc_stripe.specs.Tickets.{Ticket, change_asked}
 use Rattle.jc_stripe.specs.Phases.{Commits}
 use Rattle.jc_stripe.specs.OnePhase.{IsPhaseOf}
 use Rattle.jc_cache.proofs.Asking.{asked_loader, asked_writer}
 use Rattle.jc_cache.proofs.Others.{leaves_others, leaves_both}
 use Rattle.jc_cache.proofs.SessionAfter.{after_first, after_both}
+use Rattle.jc_cache.proofs.Unasked.{unasked}
 use Rattle.jc_cache.proofs.WholeCalls.{writes_through, done_step, loaded_step, written_step}
 use Rattle.jc_cache.proofs.engine.call.Goals as goal
 
@@ -14,6 +15,9 @@ pub ask_writer-done-requires-clause-writer : goal.ask_writer-done-requires-claus
 ask_writer-done-requires-clause-writer g c =
     let h = c.in-Write.ensures.phase in
     subst IsSome (sym (ap (λ s. s.hands.outside.writer) c.in-Write.ensures.session)) (c.requires.writer h.before h.found (writes_through h.before.config _ _ _ h.made.1 h.made.2))
+
+pub unreachable-requires : goal.unreachable-requires
+unreachable-requires g c = unasked _ _ _ _ _ (Process c.in-Process._ticket) c.requires.op c.in-Process.ensures.phase.made
 
 pub returns-in-Done-clause-call : goal.returns-in-Done-clause-call
 returns-in-Done-clause-call g c = let h = c.in-Done.ensures.phase in let e = c.in-Done.ensures.session in
@@ -62,7 +66,7 @@ returns-in-Load-clause-call g c =
     let commits = subst (λ r. Commits h.after r (load_only c.ask_loader-done.result.answer) c.commit_load-step.result k.after) its
     (subst (λ m. Commits m c.ask.new.self.reservation (load_only c.ask_loader-done.result.answer) c.commit_load-step.result k.after) same k.made) in
     let one = subst (λ n. IsPhaseOf n h.after k.after) (ap (λ r. r.caller.session) its ∙ ap (λ w. w.session) who) (subst (λ m. IsPhaseOf c.ask.new.self.reservation.caller.session m k.after) same k.one) in
-    let reached = c.stays_reached.ensures.begins _ _ _ _ _ (Load c.in-Load.ticket) h.reached (c.requires.may _ h.found) c.requires.op h.made in
+    let reached = c.stays_reached.ensures.begins _ _ _ _ _ (Load c.in-Load.ticket) h.reached (c.requires.may _ h.found) h.made in
     record {
       before = h.before;
       after = k.after;
@@ -92,7 +96,7 @@ returns-in-Write-clause-call g c =
     let commits = subst (λ r. Commits h.after r (write_only c.ask_writer-done.result.answer) c.commit_write-step.result k.after) its
     (subst (λ m. Commits m c.ask-in-Write.new.self.reservation (write_only c.ask_writer-done.result.answer) c.commit_write-step.result k.after) same k.made) in
     let one = subst (λ n. IsPhaseOf n h.after k.after) (ap (λ r. r.caller.session) its ∙ ap (λ w. w.session) who) (subst (λ m. IsPhaseOf c.ask-in-Write.new.self.reservation.caller.session m k.after) same k.one) in
-    let reached = c.stays_reached.ensures.begins _ _ _ _ _ (Write c.in-Write.ticket) h.reached (c.requires.may _ h.found) c.requires.op h.made in
+    let reached = c.stays_reached.ensures.begins _ _ _ _ _ (Write c.in-Write.ticket) h.reached (c.requires.may _ h.found) h.made in
     record {
       before = h.before;
       after = k.after;

@@ -45,3 +45,6 @@ returns-clause-phase g c =
     let n = c.args.session.now.caller.session in
     let others : LeavesOthers n k.before k.after = leaves_others n k.before k.after (c.is_uniform.ensures _ _ _ k.reached (subst (λ m. IsPhaseOf m k.before k.after) (ap (λ r. r.caller.session) c.into_parts-ticket.ensures.ticket ∙ c.requires.caller) k.one)) in
     phase_at _ _ _ _ _ _ _ _ c.args.call.reservation.key n k.before k.after c.self.view_is index near at k.found k.left k.reached (subst (λ r. Commits k.before r (write_only c.args.call.answer) c.commit_write.result k.after) c.into_parts-ticket.ensures.ticket (subst (λ w. Commits k.before c.into_parts-ticket.result.0.reservation (write_only w) c.commit_write.result k.after) c.into_parts-ticket.ensures.answer k.made)) others
+
+pub returns-clause-session : goal.returns-clause-session
+returns-clause-session g c = c.commit_write.ensures.session

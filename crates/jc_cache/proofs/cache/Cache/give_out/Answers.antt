@@ -25,3 +25,6 @@ returns-clause-sessions g c other differs may = record {
   numbers = subst (λ (z : CacheState). HasNoCallsFrom z other.caller.session (one_more other.caller.call)) (sym c.self.view_is) may.numbers;
   idle = subst IsIdleCache (sym c.self.view_is) may.idle;
 }
+
+pub returns-clause-boxes : goal.returns-clause-boxes
+returns-clause-boxes g c = (ap (λ o. o.loader) c.new.ensures.boxes, ap (λ o. o.writer) c.new.ensures.boxes)

@@ -5,6 +5,7 @@ use Rattle.jc_stripe.specs.State.{IsJoined}
 use Rattle.jc_stripe.specs.Phases.{PicksUp}
 use Rattle.jc_stripe.specs.OnePhase.{IsPhaseOf}
 use Rattle.jc_cache.specs.Whole.{LeavesOthers}
+use Rattle.jc_cache.specs.Begun.{IsBackOfCache}
 use Rattle.jc_cache.specs.Caches.{CacheState}
 use Rattle.jc_cache.proofs.Others.{leaves_others}
 use Rattle.jc_cache.proofs.Stripes.{is_there, stays_whole, stripe_there, phase_at}
@@ -42,3 +43,6 @@ returns-clause-phase g c =
     let n = c.args.session.now.caller.session in
     let others : LeavesOthers n k.before k.after = leaves_others n k.before k.after (c.is_uniform.ensures _ _ _ k.reached (subst (λ m. IsPhaseOf m k.before k.after) (ap (λ j. j.caller.session) c.into_join.ensures ∙ c.requires.caller) k.one)) in
     phase_at _ _ _ _ _ _ _ _ c.args.call.join.key n k.before k.after c.self.view_is index near at k.found k.left k.reached (subst (λ p. PicksUp k.before c.args.call.join p k.after) (sym c.new.ensures.picked) (subst (λ j. PicksUp k.before j c.pick_up-picked.result k.after) c.into_join.ensures k.made)) others
+
+pub returns-clause-cache : goal.returns-clause-cache
+returns-clause-cache g c = subst (λ (z : CacheState). IsBackOfCache z.mark c.new.result) c.self.view_is c.new.ensures.cache

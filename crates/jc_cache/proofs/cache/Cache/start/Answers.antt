@@ -3,9 +3,11 @@ use Rattle.std.proofs.lemmas.Option.{slice_get_read}
 use Rattle.jc_types.specs.Stripes.{stripe_of}
 use Rattle.jc_stripe.specs.Phases.{Begins}
 use Rattle.jc_cache.specs.Whole.{LeavesOthers}
+use Rattle.jc_cache.specs.Begun.{IsOfCache}
 use Rattle.jc_cache.specs.Caches.{CacheState}
 use Rattle.jc_cache.proofs.Others.{leaves_others}
 use Rattle.jc_cache.proofs.Stripes.{is_there, stays_whole, stripe_there, phase_at}
+use Rattle.jc_cache.proofs.Unasked.{unasked}
 use Rattle.jc_cache.proofs.cache.Cache.start.Goals as goal
 
 pub start-begun-requires-clause-free : goal.start-begun-requires-clause-free
@@ -20,6 +22,11 @@ start-begun-requires-clause-may g c a is =
     let index : c.stripe_of-at.result ≡ stripe_of c.args.key.now c.self.inside.config.stripes = c.stripe_of-at.ensures in
     let there = stripe_there _ _ _ _ _ _ _ c.args.key.now a c.self.view_is index at is in
     c.requires.may a there
+
+pub new-requires : goal.new-requires
+new-requires g c =
+    let k = c.start-begun.ensures.phase in
+    unasked k.before k.after c.args.session.now.caller c.args.key.now c.args.op.now c.start-begun.result c.requires.op k.made
 
 pub invariant_of-self : goal.invariant_of-self
 invariant_of-self g c =
@@ -40,3 +47,6 @@ returns-clause-phase g c =
     let n = c.args.session.now.caller.session in
     let others : LeavesOthers n k.before k.after = leaves_others n k.before k.after (c.is_uniform.ensures _ _ _ k.reached k.one) in
     phase_at _ _ _ _ _ _ _ _ c.args.key.now n k.before k.after c.self.view_is index near at k.found k.left k.reached (subst (λ p. Begins k.before c.args.session.now.caller c.args.key.now c.args.op.now p k.after) (sym c.new.ensures.begun) k.made) others
+
+pub returns-clause-cache : goal.returns-clause-cache
+returns-clause-cache g c = subst (λ (z : CacheState). IsOfCache z.mark c.new.result) c.self.view_is c.new.ensures.cache
