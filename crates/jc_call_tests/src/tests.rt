@@ -8,6 +8,7 @@ ghost use Rattle.jc_cache.specs.Sessions.{MayCall};
 
 mod answers;
 mod asking;
+mod asking_all;
 mod bytes;
 mod calls;
 mod histories;

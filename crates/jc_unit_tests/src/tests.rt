@@ -1,6 +1,7 @@
 //! A file for each type or table. Tables of values are constants, and long ones are texts: a table in a function's body is dear
 //! to prove. So is an assertion in its own place: most are calls of `is`. And so is each `?` behind a value that has to be dropped:
 //! where memory may be short, `expect` is a call and no branch.
+mod batches;
 mod callers;
 mod config;
 mod contents;
@@ -10,6 +11,7 @@ mod history;
 mod joiners;
 mod keys;
 mod openings;
+mod processors;
 mod refusal;
 mod reservations;
 mod script;

@@ -16,8 +16,8 @@ use std::test::Fail;
 
 /// A store that has every key but `-`, and fails at `!`. Its values, and the code of its failure, are the number of the call.
 #[derive(Drop)]
-struct Counting {
-    calls: u8,
+pub struct Counting {
+    pub calls: u8,
 }
 
 impl Counting {
@@ -94,9 +94,9 @@ impl CacheWriter for Counting {
 }
 
 /// What a call asks, and what is left of it.
-struct Question {
-    key: Key,
-    change: Change,
+pub struct Question {
+    pub key: Key,
+    pub change: Change,
 }
 
 impl Ask for Question {

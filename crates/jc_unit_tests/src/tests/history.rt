@@ -1,6 +1,6 @@
 //! Room for events, and events read back.
 use super::{is, key, value};
-use jc_history::History;
+use jc_history::{History, LentStep};
 use jc_model::{Cause, Effect, Event, LoadAnswer, Op, Out, ProcessAnswer, Reply, WriteAnswer};
 use jc_types::{Caller, HISTORY_MAX, KEY_MAX, Key, VALUE_MAX, Value};
 use std::alloc::Global;
@@ -51,6 +51,29 @@ fn promises_up_to_the_limit(rt: HostRuntime) {
 fn pushes(rt: &impl Abort, history: &mut History, event: &Event) {
     assert!(rt; 0 < history.promised());
     history.push(event);
+}
+
+/// Pushes a step of which each part is lent into a place that is promised.
+fn pushes_lent(rt: &impl Abort, history: &mut History, event: &Event) {
+    assert!(rt; 0 < history.promised());
+    match event {
+        Event::Step {
+            caller,
+            op,
+            key,
+            out,
+            shared_with,
+            reply,
+        } => history.push_step(&LentStep {
+            caller,
+            op,
+            key,
+            out,
+            shared_with,
+            reply,
+        }),
+        Event::Evict { .. } => history.push(event),
+    }
 }
 
 /// How many events there are, and how many places are promised.
@@ -155,7 +178,7 @@ fn reads_back(rt: HostRuntime) {
     is(&rt, "room for three", history.promise(3), true);
     pushes(&rt, &mut history, &first);
     pushes(&rt, &mut history, &second);
-    pushes(&rt, &mut history, &third);
+    pushes_lent(&rt, &mut history, &third);
     let reply = Some(Reply::Value(Some(empty_value)));
     reads(&rt, &history, 0, &first, reply);
     reads(&rt, &history, 1, &second, None);

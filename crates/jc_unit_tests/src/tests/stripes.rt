@@ -1,17 +1,21 @@
 //! The phases of a stripe, each once, and its limits of 64. What a phase requires is asserted before it, in a helper that is
 //! proved once. What scripts can say, as which entry goes and when a history is full, is in the crate `jc_tests`.
-ghost use Rattle.std.specs.Prelude.{◌≡◌, false, IsTrue};
+ghost use Rattle.std.specs.Prelude.{◌≡◌, true, false, IsTrue};
+ghost use Rattle.jc_model.specs.Table.{is_write_given};
 ghost use Rattle.jc_outside.specs.declared.done.Origin.TheVariants.{Played};
-ghost use Rattle.jc_stripe.specs.declared.begun.Begun.TheVariants.{Load, Write};
-ghost use Rattle.jc_stripe.specs.Tickets.{Ticket};
+ghost use Rattle.jc_stripe.specs.declared.begun.Begun.TheVariants.{Load, Write, Process};
+ghost use Rattle.jc_stripe.specs.Effects.{HasReport, change_due};
+ghost use Rattle.jc_stripe.specs.Tickets.{Ticket, ProcessClaim};
 
 use super::{is, key, shape, value};
-use jc_model::{Change, LoadAnswer, Op, Reply, WriteAnswer};
+use jc_model::{Change, EntryCall, LoadAnswer, Op, Reply, WriteAnswer};
+use jc_mutentry::{ProcDone, played_process};
+use jc_outside::WriteDone;
 use jc_stripe::{
-    Begun, First, Join, LoadTicket, Origin, Picked, StepDone, Stripe, WriteTicket, played_load,
-    played_write,
+    Begun, EffectAsk, First, Join, LoadTicket, Origin, Picked, ProcessAsk, ProcessTicket, StepDone,
+    Stripe, WriteTicket, played_load, played_write,
 };
-use jc_types::{Caller, Config, JOINERS_MAX, Key, RESERVATIONS_MAX, Refusal, Value};
+use jc_types::{Caller, Config, HISTORY_MIN, JOINERS_MAX, Key, RESERVATIONS_MAX, Refusal, Value};
 use std::alloc::Global;
 use std::marker::Model;
 use std::process::Abort;
@@ -33,11 +37,11 @@ fn is_played(stripe: &Stripe) -> bool
 fn begin(rt: &impl Abort, stripe: &mut Stripe, who: (u32, u64), key: &Key, op: &Op) -> Begun
     ensures load { (t : Ticket) → result ≡ Load t → t.asked ≡ false }
     ensures write { (t : Ticket) → result ≡ Write t → t.asked ≡ false }
+    ensures process { (t : ProcessClaim) → result ≡ Process t → (t.asked ≡ false) × (t.written ≡ false) }
 {
     let (session, call) = who;
     let caller = Caller { session, call };
     assert!(rt; stripe.admits(caller, key), "{caller:?} may begin");
-    assert!(rt; !op.is_invoke(), "a phase");
     stripe.begin(caller, key, op)
 }
 
@@ -73,6 +77,17 @@ fn write(rt: &impl Abort, stripe: &mut Stripe, who: (u32, u64), key: &Key, op: &
     match begin(rt, stripe, who, key, op) {
         Begun::Write(ticket) => ticket,
         _other => panic!(rt; "it isn't a write"),
+    }
+}
+
+/// A first phase that asks the processor.
+fn process(rt: &impl Abort, stripe: &mut Stripe, who: (u32, u64), key: &Key) -> ProcessTicket
+    ensures asked { result.asked ≡ false }
+    ensures written { result.written ≡ false }
+{
+    match begin(rt, stripe, who, key, &Op::Invoke) {
+        Begun::Process(ticket) => ticket,
+        _other => panic!(rt; "it runs no processor"),
     }
 }
 
@@ -112,6 +127,53 @@ fn commit_write(
     stripe.commit_write(ticket, played_write(ask, answer))
 }
 
+/// The writer's report of what a processor did, if it is asked.
+fn report(
+    stripe: &Stripe,
+    ticket: &mut ProcessTicket,
+    done: &ProcDone<ProcessAsk>,
+    answer: WriteAnswer,
+) -> Option<WriteDone<EffectAsk>>
+    requires asked { ticket.old.asked ≡ true }
+    requires written { ticket.old.written ≡ false }
+    requires claim { done.now.ask ≡ ticket.old.reservation }
+    requires given { is_write_given answer ≡ true }
+    ensures report { HasReport Played ticket.old.reservation
+        (change_due stripe.now.config done.now) result }
+    ensures ticket { ticket.new.reservation ≡ ticket.old.reservation }
+{
+    if !stripe.config().write_through {
+        return None;
+    }
+    match done.change() {
+        Some(_) => Some(played_write(ticket.ask_writer(done), answer)),
+        None => None,
+    }
+}
+
+/// Runs a processor that makes these calls and then fails with the code, if there is one; the loader finds nothing, and the
+/// writer reports this.
+fn commit_process(
+    rt: &impl Abort,
+    alloc: Global,
+    stripe: &mut Stripe,
+    mut ticket: ProcessTicket,
+    run: (&[EntryCall], Option<u32>),
+    answer: WriteAnswer,
+) -> StepDone
+    requires asked { ticket.asked ≡ false }
+    requires written { ticket.written ≡ false }
+{
+    assert!(rt; stripe.holds(ticket.reservation()), "out");
+    assert!(rt; is_played(stripe) && answer.is_given(), "played");
+    let (calls, fail) = run;
+    let mut told = Vec::with_capacity(alloc, calls.len()).expect(rt, "memory");
+    let ask = ticket.ask();
+    let done = played_process(ask, calls, fail, LoadAnswer::Nothing, &mut told);
+    let report = report(stripe, &mut ticket, &done, answer);
+    stripe.commit_process(ticket, done, report)
+}
+
 fn withdraw_load(rt: &impl Abort, stripe: &mut Stripe, ticket: LoadTicket)
     requires { ticket.asked ≡ false }
 {
@@ -124,6 +186,13 @@ fn withdraw_write(rt: &impl Abort, stripe: &mut Stripe, ticket: WriteTicket)
 {
     assert!(rt; stripe.holds(ticket.reservation()), "out");
     stripe.withdraw_write(ticket);
+}
+
+fn withdraw_process(rt: &impl Abort, stripe: &mut Stripe, ticket: ProcessTicket)
+    requires { ticket.asked ≡ false }
+{
+    assert!(rt; stripe.holds(ticket.reservation()), "out");
+    stripe.withdraw_process(ticket);
 }
 
 fn pick_up(rt: &impl Abort, stripe: &mut Stripe, join: Join) -> Picked {
@@ -187,6 +256,27 @@ fn does_a_put_at_once(rt: HostRuntime) {
 }
 
 #[test]
+fn lists_its_keys_in_byte_order(rt: HostRuntime) {
+    let (a, b, one) = (key(&rt, b"a"), key(&rt, b"b"), value(&rt, b"1"));
+    let mut stripe = open(&rt, rt.alloc(), &shape(false));
+    let put = Op::Put(one);
+    let done = ended(&rt, &mut stripe, (1, 1), &b, &put);
+    is(&rt, "put", done, Ok((Reply::Unit, 0)));
+    let done = ended(&rt, &mut stripe, (1, 2), &a, &put);
+    is(&rt, "put", done, Ok((Reply::Unit, 1)));
+    let mut keys = Vec::with_capacity(rt.alloc(), 3).expect(&rt, "memory");
+    keys.push_reserved(b);
+    assert!(rt; stripe.config().capacity == 2, "room");
+    stripe.keys(&mut keys);
+    is(
+        &rt,
+        "after what was there",
+        keys.as_slice(),
+        [b, a, b].as_slice(),
+    );
+}
+
+#[test]
 fn shares_a_load_with_its_joiner(rt: HostRuntime) {
     let (a, one) = (key(&rt, b"a"), value(&rt, b"1"));
     let mut stripe = open(&rt, rt.alloc(), &shape(true));
@@ -236,6 +326,125 @@ fn writes_before_it_answers(rt: HostRuntime) {
     is(&rt, "done", (done.reply, done.place), (Reply::Unit, 1));
     let hit = ended(&rt, &mut stripe, (1, 3), &a, &Op::Get);
     is(&rt, "hit", hit, Ok((Reply::Value(Some(one)), 2)));
+}
+
+/// Has a processor asked about a key, and gives its reservation back: the entry that it would run on, and whether its key may be
+/// loaded. Meanwhile the key is reserved.
+fn sees(
+    rt: &impl Abort,
+    stripe: &mut Stripe,
+    call: u64,
+    key: &Key,
+) -> (Option<Value>, Option<First>) {
+    assert!(rt; stripe.asks_outside(key, &Op::Invoke), "it asks");
+    let ticket = process(rt, stripe, (1, call), key);
+    let busy = ended(rt, stripe, (2, call), key, &Op::Invoke);
+    is(rt, "busy", busy, Err(Refusal::Busy));
+    let (entry, first) = (*ticket.entry(), ticket.reservation().first);
+    withdraw_process(rt, stripe, ticket);
+    assert!(rt; stripe.is_idle(), "idle");
+    (entry, Some(first))
+}
+
+/// What a reservation keeps of a processor.
+fn runs(entry: Option<Value>, may_load: bool) -> (Option<Value>, Option<First>) {
+    // Copied first: a value counts as moved by the call that takes it.
+    let seen = entry;
+    (seen, Some(First::Processor { entry, may_load }))
+}
+
+#[test]
+fn reserves_for_a_processor(rt: HostRuntime) {
+    let (a, one) = (key(&rt, b"a"), value(&rt, b"1"));
+    let mut stripe = open(&rt, rt.alloc(), &shape(false));
+    is(
+        &rt,
+        "missing",
+        sees(&rt, &mut stripe, 1, &a),
+        runs(None, false),
+    );
+    let put = ended(&rt, &mut stripe, (1, 2), &a, &Op::Put(one));
+    is(&rt, "put", put, Ok((Reply::Unit, 0)));
+    let found = sees(&rt, &mut stripe, 3, &a);
+    is(&rt, "present", found, runs(Some(one), false));
+    is(&rt, "nothing is appended", stripe.events_len(), 1);
+}
+
+#[test]
+fn may_load_for_a_processor(rt: HostRuntime) {
+    let (a, one) = (key(&rt, b"a"), value(&rt, b"1"));
+    let mut stripe = open(&rt, rt.alloc(), &shape(true));
+    is(
+        &rt,
+        "missing",
+        sees(&rt, &mut stripe, 1, &a),
+        runs(None, true),
+    );
+    let ticket = write(&rt, &mut stripe, (1, 2), &a, &Op::Put(one));
+    let put = commit_write(&rt, &mut stripe, ticket, WriteAnswer::Done);
+    is(&rt, "put", put.reply, Reply::Unit);
+    let found = sees(&rt, &mut stripe, 3, &a);
+    is(&rt, "present", found, runs(Some(one), false));
+}
+
+#[test]
+fn commits_what_a_processor_did(rt: HostRuntime) {
+    let (a, one, two) = (key(&rt, b"a"), value(&rt, b"1"), value(&rt, b"2"));
+    let run = [EntryCall::GetValue, EntryCall::SetValue(one)];
+    let mut stripe = open(&rt, rt.alloc(), &shape(true));
+    let ticket = process(&rt, &mut stripe, (1, 1), &a);
+    let set = commit_process(&rt, rt.alloc(), &mut stripe, ticket, (&run, None), WriteAnswer::Done);
+    is(&rt, "set", (set.reply, set.place), (Reply::Value(None), 0));
+    let run = [EntryCall::SetValue(two)];
+    let ticket = process(&rt, &mut stripe, (1, 2), &a);
+    let failed = commit_process(&rt, rt.alloc(), &mut stripe, ticket, (&run, Some(3)), WriteAnswer::Done);
+    is(&rt, "failed", failed.reply, Reply::Fault(Refusal::ProcessorFailed(3)));
+    let ticket = process(&rt, &mut stripe, (1, 3), &a);
+    let unwritten = commit_process(&rt, rt.alloc(), &mut stripe, ticket, (&run, None), WriteAnswer::Failed(4));
+    is(&rt, "unwritten", unwritten.reply, Reply::Fault(Refusal::WriterFailed(4)));
+    let hit = ended(&rt, &mut stripe, (1, 4), &a, &Op::Get);
+    is(&rt, "the first value stays", hit, Ok((Reply::Value(Some(one)), 3)));
+}
+
+/// Looks at a key so many times, which is one event each.
+fn look_at(rt: &impl Abort, stripe: &mut Stripe, key: &Key, times: u64) {
+    for call in 1..=times {
+        let seen = ended(rt, stripe, (3, call), key, &Op::ContainsKey);
+        assert!(rt; seen.is_ok(), "an event");
+    }
+}
+
+/// A get of a key that is reserved for a processor.
+fn gets_beside(
+    rt: &impl Abort,
+    stripe: &mut Stripe,
+    call: u64,
+    key: &Key,
+) -> Result<(Reply, u32), Refusal> {
+    let ticket = process(rt, stripe, (1, call), key);
+    let got = ended(rt, stripe, (2, call), key, &Op::Get);
+    withdraw_process(rt, stripe, ticket);
+    got
+}
+
+#[test]
+fn answers_beside_a_processor(rt: HostRuntime) {
+    let (a, b, one) = (key(&rt, b"a"), key(&rt, b"b"), value(&rt, b"1"));
+    let config = Config {
+        history: HISTORY_MIN,
+        ..shape(true)
+    };
+    let mut stripe = open(&rt, rt.alloc(), &config);
+    let ticket = write(&rt, &mut stripe, (1, 1), &a, &Op::Put(one));
+    let put = commit_write(&rt, &mut stripe, ticket, WriteAnswer::Done);
+    is(&rt, "put", put.place, 0);
+    let hit = gets_beside(&rt, &mut stripe, 2, &a);
+    is(&rt, "a hit", hit, Ok((Reply::Value(Some(one)), 1)));
+    let missing = gets_beside(&rt, &mut stripe, 3, &b);
+    is(&rt, "no join", missing, Err(Refusal::Busy));
+    look_at(&rt, &mut stripe, &b, 10);
+    let full = gets_beside(&rt, &mut stripe, 4, &b);
+    is(&rt, "too few places", full, Err(Refusal::HistoryFull));
 }
 
 // 3. Limits.

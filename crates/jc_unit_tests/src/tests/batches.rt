@@ -1,0 +1,127 @@
+//! How batches split: each subset of three keys left, with and without a fault, with and without a key that the writer added.
+ghost use Rattle.std.specs.Prelude.{◌≡◌, length};
+
+use super::{is, key, value};
+use indexmap::{IndexMap, IndexSet};
+use jc_batch::{Asked, DeleteBatch, Split, WriteBatch};
+use jc_model::{WriteAnswer, answer_in_batch, batch_answer, is_among};
+use jc_types::{Key, Value};
+use std::alloc::Global;
+use std::process::Abort;
+
+/// The keys that a writer leaves, those of the batch that were written, and those that failed.
+type Row = (&'static str, &'static str, &'static str);
+
+// The batch is of the keys a, b and c. The key z is the writer's own.
+const ROWS: &[Row] = &[
+    ("", "abc", ""),
+    ("a", "bc", "a"),
+    ("b", "ac", "b"),
+    ("c", "ab", "c"),
+    ("ba", "c", "ab"),
+    ("ca", "b", "ac"),
+    ("cb", "a", "bc"),
+    ("cba", "", "abc"),
+    ("z", "abc", ""),
+    ("zb", "ac", "b"),
+    ("czab", "", "abc"),
+];
+
+fn split_as(rt: &impl Abort, split: &Split, row: &Row, code: u32) {
+    let (_left, written, failed) = row;
+    is(rt, "written", split.written.len(), written.len());
+    for (found, byte) in split.written.iter().zip(written.as_bytes()) {
+        is(rt, "written", *found, key(rt, &[*byte]));
+    }
+    is(rt, "failed", split.failed.len(), failed.len());
+    for (found, byte) in split.failed.iter().zip(failed.as_bytes()) {
+        is(rt, "failed", *found, (key(rt, &[*byte]), code));
+    }
+}
+
+fn written(rt: &impl Abort, alloc: Global) -> Asked {
+    let (a, b, c, v) = (key(rt, b"a"), key(rt, b"b"), key(rt, b"c"), value(rt, b"1"));
+    let mut batch = WriteBatch::with_capacity(alloc, 3).expect(rt, "memory");
+    batch.insert(a, v);
+    assert!(rt; !is_among(&[a], &b));
+    batch.insert(b, v);
+    assert!(rt; !is_among(&[a, b], &c));
+    batch.insert(c, v);
+    is(rt, "entries", batch.len(), 3);
+    let (entries, asked) = batch.into_parts();
+    is(rt, "first", entries.get_index(0), Some((&a, &v)));
+    is(rt, "keys", asked.len(), 3);
+    asked
+}
+
+fn deleted(rt: &impl Abort, alloc: Global) -> Asked {
+    let (a, b, c) = (key(rt, b"a"), key(rt, b"b"), key(rt, b"c"));
+    let mut batch = DeleteBatch::with_capacity(alloc, 3).expect(rt, "memory");
+    batch.insert(a);
+    assert!(rt; !is_among(&[a], &b));
+    batch.insert(b);
+    assert!(rt; !is_among(&[a, b], &c));
+    batch.insert(c);
+    is(rt, "keys", batch.len(), 3);
+    let (keys, asked) = batch.into_parts();
+    is(rt, "last", keys.get_index(2), Some(&c));
+    asked
+}
+
+fn left_entries(rt: &impl Abort, alloc: Global, names: &str) -> IndexMap<Key, Value> {
+    let mut left = IndexMap::new(alloc);
+    for byte in names.as_bytes() {
+        left.insert(key(rt, &[*byte]), value(rt, b"2"))
+            .expect(rt, "memory");
+    }
+    left
+}
+
+fn left_keys(rt: &impl Abort, alloc: Global, names: &str) -> IndexSet<Key> {
+    let mut left = IndexSet::new(alloc);
+    for byte in names.as_bytes() {
+        left.insert(key(rt, &[*byte])).expect(rt, "memory");
+    }
+    left
+}
+
+#[test]
+fn splits_by_what_is_left(rt: HostRuntime) {
+    let alloc = rt.alloc();
+    for row in ROWS {
+        let entries = left_entries(&rt, alloc, row.0);
+        let split = written(&rt, alloc).split(&entries, Some(7));
+        split_as(&rt, &split, row, 7);
+        let split = written(&rt, alloc).split(&entries, None);
+        split_as(&rt, &split, row, 0);
+        let keys = left_keys(&rt, alloc, row.0);
+        let split = deleted(&rt, alloc).split(&keys, Some(u32::MAX));
+        split_as(&rt, &split, row, u32::MAX);
+        let split = deleted(&rt, alloc).split(&keys, None);
+        split_as(&rt, &split, row, 0);
+    }
+}
+
+#[test]
+fn answers_by_what_is_left(rt: HostRuntime) {
+    let (a, b) = (key(&rt, b"a"), key(&rt, b"b"));
+    is(
+        &rt,
+        "left",
+        answer_in_batch(&[a], Some(4), &a),
+        WriteAnswer::Failed(4),
+    );
+    is(
+        &rt,
+        "left, no fault",
+        answer_in_batch(&[b, a], None, &a),
+        WriteAnswer::Failed(0),
+    );
+    is(
+        &rt,
+        "gone, a fault",
+        answer_in_batch(&[b], Some(4), &a),
+        WriteAnswer::Done,
+    );
+    is(&rt, "gone", batch_answer(false, None), WriteAnswer::Done);
+}
