@@ -393,17 +393,53 @@ fn commits_what_a_processor_did(rt: HostRuntime) {
     let run = [EntryCall::GetValue, EntryCall::SetValue(one)];
     let mut stripe = open(&rt, rt.alloc(), &shape(true));
     let ticket = process(&rt, &mut stripe, (1, 1), &a);
-    let set = commit_process(&rt, rt.alloc(), &mut stripe, ticket, (&run, None), WriteAnswer::Done);
+    let set = commit_process(
+        &rt,
+        rt.alloc(),
+        &mut stripe,
+        ticket,
+        (&run, None),
+        WriteAnswer::Done,
+    );
     is(&rt, "set", (set.reply, set.place), (Reply::Value(None), 0));
     let run = [EntryCall::SetValue(two)];
     let ticket = process(&rt, &mut stripe, (1, 2), &a);
-    let failed = commit_process(&rt, rt.alloc(), &mut stripe, ticket, (&run, Some(3)), WriteAnswer::Done);
-    is(&rt, "failed", failed.reply, Reply::Fault(Refusal::ProcessorFailed(3)));
+    let failed = commit_process(
+        &rt,
+        rt.alloc(),
+        &mut stripe,
+        ticket,
+        (&run, Some(3)),
+        WriteAnswer::Done,
+    );
+    is(
+        &rt,
+        "failed",
+        failed.reply,
+        Reply::Fault(Refusal::ProcessorFailed(3)),
+    );
     let ticket = process(&rt, &mut stripe, (1, 3), &a);
-    let unwritten = commit_process(&rt, rt.alloc(), &mut stripe, ticket, (&run, None), WriteAnswer::Failed(4));
-    is(&rt, "unwritten", unwritten.reply, Reply::Fault(Refusal::WriterFailed(4)));
+    let unwritten = commit_process(
+        &rt,
+        rt.alloc(),
+        &mut stripe,
+        ticket,
+        (&run, None),
+        WriteAnswer::Failed(4),
+    );
+    is(
+        &rt,
+        "unwritten",
+        unwritten.reply,
+        Reply::Fault(Refusal::WriterFailed(4)),
+    );
     let hit = ended(&rt, &mut stripe, (1, 4), &a, &Op::Get);
-    is(&rt, "the first value stays", hit, Ok((Reply::Value(Some(one)), 3)));
+    is(
+        &rt,
+        "the first value stays",
+        hit,
+        Ok((Reply::Value(Some(one)), 3)),
+    );
 }
 
 /// Looks at a key so many times, which is one event each.
