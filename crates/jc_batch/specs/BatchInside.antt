@@ -1,11 +1,11 @@
 -- The inside of a batch's keys.
---     IsAsked    in each of three lists is room for so many; the two lists of a split are empty
+--     AreBatchKeys    in each of three lists is room for so many; the two lists of a split are empty
 use Rattle.std.specs.Prelude.{◌≡◌, ◌≤◌, ℕ, [], vec_capacity}
 use Rattle.std.specs.Global.{Vec}
 use Rattle.jc_model.specs.Cache.{Bytes}
-use Rattle.jc_batch.specs.declared.asked.Split.{Split}
+use Rattle.jc_batch.specs.declared.batch_keys.Split.{Split}
 
-pub record IsAsked (n : ℕ) (keys : Vec Bytes) (split : Split) : Type 0 where
+pub record AreBatchKeys (n : ℕ) (keys : Vec Bytes) (split : Split) : Type 0 where
   pub keys_room : n ≤ vec_capacity keys
   pub written_room : n ≤ vec_capacity split.written
   pub failed_room : n ≤ vec_capacity split.failed

@@ -1,8 +1,8 @@
 -- How a batch splits by what its writer left and its fault.
---     success_of     a key that was written, by its answer
---     failure_of     a key that failed, with its code, by its answer
---     written_in     the keys of a batch that were written, in the batch's order
---     failed_in      the keys of a batch that failed, each with its code, in the batch's order
+--     success_of      a key that was written, by its answer
+--     failure_of      a key that failed, with its code, by its answer
+--     successes_in    the keys of a batch that were written, in the batch's order
+--     failures_in     the keys of a batch that failed, each with its code, in the batch's order
 use Rattle.std.specs.Prelude.{ℕ, List, Option, None, Some}
 use Rattle.std.specs.List.{filter_map}
 use Rattle.jc_model.specs.declared.event.WriteAnswer.{WriteAnswer}
@@ -21,9 +21,9 @@ failure_of key write.NotAsked = None
 failure_of key write.Done = None
 
 -- by what is left, the fault, and the batch's keys
-abbrev pub written_in : List Bytes → Option ℕ → List Bytes → List Bytes
-written_in left fault keys = filter_map (λ key. success_of key (answer_in_batch left fault key)) keys
+abbrev pub successes_in : List Bytes → Option ℕ → List Bytes → List Bytes
+successes_in left fault keys = filter_map (λ key. success_of key (answer_in_batch left fault key)) keys
 
 -- by what is left, the fault, and the batch's keys
-abbrev pub failed_in : List Bytes → Option ℕ → List Bytes → List (Bytes × ℕ)
-failed_in left fault keys = filter_map (λ key. failure_of key (answer_in_batch left fault key)) keys
+abbrev pub failures_in : List Bytes → Option ℕ → List Bytes → List (Bytes × ℕ)
+failures_in left fault keys = filter_map (λ key. failure_of key (answer_in_batch left fault key)) keys

@@ -3,7 +3,7 @@ ghost use Rattle.std.specs.Prelude.{◌≡◌, ◌<◌, IfOk, false, length};
 ghost use Rattle.jc_model.specs.Batches.{is_among};
 ghost use Rattle.jc_batch.specs.Batch.{with_item, empty_batch};
 
-use crate::asked::Asked;
+use crate::batch_keys::BatchKeys;
 use indexmap::IndexSet;
 use jc_types::Key;
 use std::alloc::{AllocError, Global};
@@ -12,8 +12,8 @@ use std::marker::Model;
 /// The keys that one call of `deleteAll` is to delete, in the order in which they were added.
 #[derive(Drop)]
 pub struct DeleteBatch {
-    keys: IndexSet<Key>,
-    asked: Asked,
+    collection: IndexSet<Key>,
+    keys: BatchKeys,
 }
 
 impl Model for DeleteBatch {
@@ -24,9 +24,9 @@ impl Model for DeleteBatch {
 
     ghost Value = { BatchState Bytes };
 
-    ghost view = { λ b. record { items = b.keys.keys; room = b.asked.room } };
+    ghost view = { λ b. record { items = b.collection.keys; room = b.keys.room } };
 
-    ghost invariant = { λ b. (b.asked.items ≡ b.keys.keys) × (b.asked.room ≤ spare b.keys) };
+    ghost invariant = { λ b. (b.keys.items ≡ b.collection.keys) × (b.keys.room ≤ spare b.collection) };
 }
 
 impl DeleteBatch {
@@ -34,16 +34,16 @@ impl DeleteBatch {
     pub fn with_capacity(alloc: Global, n: usize) -> Result<Self, AllocError>
         ensures { IfOk result (λ batch. batch ≡ empty_batch n) }
     {
-        let keys = IndexSet::with_capacity(alloc, n)?;
-        let asked = Asked::with_capacity(alloc, n)?;
-        Ok(DeleteBatch { keys, asked })
+        let collection = IndexSet::with_capacity(alloc, n)?;
+        let keys = BatchKeys::with_capacity(alloc, n)?;
+        Ok(DeleteBatch { collection, keys })
     }
 
     /// How many keys there are.
     pub fn len(&self) -> usize
         ensures { result ≡ length self.now.items }
     {
-        self.keys.len()
+        self.collection.len()
     }
 
     /// Adds a key, after those that are there. It takes no memory.
@@ -54,19 +54,19 @@ impl DeleteBatch {
         requires new { is_among self.old.items key ≡ false }
         ensures { self.new ≡ with_item self.old key }
     {
-        match self.keys.insert(key) {
+        match self.collection.insert(key) {
             Ok(_is_new) => {}
             Err(_failed) => unreachable!(),
         }
-        self.asked.push(key);
+        self.keys.push(key);
     }
 
     /// The collection for the writer, and the keys, which split by what the writer leaves there.
-    pub fn into_parts(self) -> (IndexSet<Key>, Asked)
+    pub fn into_parts(self) -> (IndexSet<Key>, BatchKeys)
         ensures deletes { result.0.keys ≡ self.items }
         ensures keys { result.1.items ≡ self.items }
     {
-        let DeleteBatch { keys, asked } = self;
-        (keys, asked)
+        let DeleteBatch { collection, keys } = self;
+        (collection, keys)
     }
 }

@@ -5,14 +5,14 @@
 //! goes to the writer, and what the writer leaves there splits its keys. Neither filling nor splitting takes memory.
 #![tactic(auto)]
 
-mod asked;
 mod batch;
+mod batch_keys;
 mod delete_batch;
-mod left;
+mod leftover;
 mod write_batch;
 
-pub use asked::{Asked, Split};
 pub use batch::Batch;
+pub use batch_keys::{BatchKeys, Split};
 pub use delete_batch::DeleteBatch;
-pub use left::Left;
+pub use leftover::Leftover;
 pub use write_batch::WriteBatch;

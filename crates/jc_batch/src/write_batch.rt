@@ -4,7 +4,7 @@ ghost use Rattle.std.specs.Map.{keys_of};
 ghost use Rattle.jc_model.specs.Batches.{is_among};
 ghost use Rattle.jc_batch.specs.Batch.{with_item, empty_batch};
 
-use crate::asked::Asked;
+use crate::batch_keys::BatchKeys;
 use indexmap::IndexMap;
 use jc_types::{Key, Value};
 use std::alloc::{AllocError, Global};
@@ -14,7 +14,7 @@ use std::marker::Model;
 #[derive(Drop)]
 pub struct WriteBatch {
     entries: IndexMap<Key, Value>,
-    asked: Asked,
+    keys: BatchKeys,
 }
 
 impl Model for WriteBatch {
@@ -26,9 +26,9 @@ impl Model for WriteBatch {
 
     ghost Value = { BatchState (Bytes × Bytes) };
 
-    ghost view = { λ b. record { items = b.entries.entries; room = b.asked.room } };
+    ghost view = { λ b. record { items = b.entries.entries; room = b.keys.room } };
 
-    ghost invariant = { λ b. (b.asked.items ≡ keys_of b.entries.entries) × (b.asked.room ≤ spare b.entries) };
+    ghost invariant = { λ b. (b.keys.items ≡ keys_of b.entries.entries) × (b.keys.room ≤ spare b.entries) };
 }
 
 impl WriteBatch {
@@ -37,8 +37,8 @@ impl WriteBatch {
         ensures { IfOk result (λ batch. batch ≡ empty_batch n) }
     {
         let entries = IndexMap::with_capacity(alloc, n)?;
-        let asked = Asked::with_capacity(alloc, n)?;
-        Ok(WriteBatch { entries, asked })
+        let keys = BatchKeys::with_capacity(alloc, n)?;
+        Ok(WriteBatch { entries, keys })
     }
 
     /// How many entries there are.
@@ -60,15 +60,15 @@ impl WriteBatch {
             Ok(_old) => {}
             Err(_failed) => unreachable!(),
         }
-        self.asked.push(key);
+        self.keys.push(key);
     }
 
     /// The collection for the writer, and the keys, which split by what the writer leaves there.
-    pub fn into_parts(self) -> (IndexMap<Key, Value>, Asked)
+    pub fn into_parts(self) -> (IndexMap<Key, Value>, BatchKeys)
         ensures entries { result.0.entries ≡ self.items }
         ensures keys { result.1.items ≡ keys_of self.items }
     {
-        let WriteBatch { entries, asked } = self;
-        (entries, asked)
+        let WriteBatch { entries, keys } = self;
+        (entries, keys)
     }
 }

@@ -4,7 +4,10 @@
 //! that no event was encoded as give some event, too.
 ghost use Rattle.std.specs.Prelude.{◌≡◌, ◌≤◌, length, Some};
 ghost use Rattle.jc_history.specs.Past.{reply_in};
-ghost use Rattle.jc_history.specs.Decoding.{byte, number_2, number_4, number_8, decode_text, decode_value, decode_key, decode_optional, decode_caller, decode_op, decode_load, decode_write, decode_effect, decode_process, decode_out, decode_refusal, decode_reply, decode_step, decode_event};
+ghost use Rattle.jc_history.specs.Decoding.{byte, number_2, number_4, number_8, decode_text, decode_value, decode_key};
+ghost use Rattle.jc_history.specs.Decoding.{decode_optional, decode_caller, decode_op, decode_load, decode_write};
+ghost use Rattle.jc_history.specs.Decoding.{decode_effect, decode_process, decode_out, decode_refusal, decode_reply};
+ghost use Rattle.jc_history.specs.Decoding.{decode_step, decode_event};
 
 use jc_model::{Cause, Effect, Event, LoadAnswer, Op, Out, ProcessAnswer, Reply, WriteAnswer};
 use jc_types::{Caller, Field, KEY_MAX, Key, Refusal, VALUE_MAX, Value};

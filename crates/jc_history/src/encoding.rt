@@ -5,8 +5,12 @@
 ghost use Rattle.std.specs.Prelude.{◌≡◌, ◌+◌, ◌<◌, ◌≤◌, ◌^◌, ◌∷◌, ◌++◌, length, vec_len, vec_capacity};
 ghost use Rattle.std.specs.Int.{w32, to_le_bytes};
 ghost use Rattle.jc_history.specs.Appending.{Appends};
-ghost use Rattle.jc_history.specs.Encoding.{text_bytes, optional_bytes, caller_bytes, op_bytes, load_bytes, write_bytes, effect_bytes, process_bytes, out_bytes, refusal_bytes, reply_bytes, event_bytes};
-ghost use Rattle.jc_history.specs.Encodable.{IsCode, IsKeyText, IsValueText, IsEncodableOptional, IsEncodableCaller, IsEncodableOp, IsEncodableLoad, IsEncodableWrite, IsEncodableEffect, IsEncodableProcess, IsEncodableOut, IsEncodableRefusal, IsEncodableReply, IsEncodable};
+ghost use Rattle.jc_history.specs.Encoding.{text_bytes, optional_bytes, caller_bytes, op_bytes, load_bytes, write_bytes};
+ghost use Rattle.jc_history.specs.Encoding.{effect_bytes, process_bytes, out_bytes, refusal_bytes, reply_bytes, event_bytes};
+ghost use Rattle.jc_history.specs.Encodable.{IsCode, IsKeyText, IsValueText, IsEncodableOptional, IsEncodableCaller};
+ghost use Rattle.jc_history.specs.Encodable.{IsEncodableOp, IsEncodableLoad, IsEncodableWrite, IsEncodableEffect};
+ghost use Rattle.jc_history.specs.Encodable.{IsEncodableProcess, IsEncodableOut, IsEncodableRefusal, IsEncodableReply};
+ghost use Rattle.jc_history.specs.Encodable.{IsEncodable};
 
 use crate::lent::LentStep;
 use jc_model::{Cause, Effect, Event, LoadAnswer, Op, Out, ProcessAnswer, Reply, WriteAnswer};

@@ -3,7 +3,8 @@
 //! A promised place is room that is reserved for an event that is still to be pushed. A call has the
 //! places promised that its events need before it asks the loader or the writer, and pushes its events
 //! when it has the answer: such a push is never refused. The places that it doesn't use it gives back.
-ghost use Rattle.std.specs.Prelude.{◌≡◌, ◌+◌, ◌<◌, ◌≤◌, ◌^◌, ◌↔◌, [], length, vec_len, vec_capacity, ◌∷◌, ◌++◌, Some, IsTrue, IfOk, OnOk, OnErr, All, if◌then◌else◌, slice_get, slice_range};
+ghost use Rattle.std.specs.Prelude.{◌≡◌, ◌+◌, ◌<◌, ◌≤◌, ◌^◌, ◌↔◌, [], length, vec_len, vec_capacity, ◌∷◌, ◌++◌, Some, IsTrue};
+ghost use Rattle.std.specs.Prelude.{IfOk, OnOk, OnErr, All, if◌then◌else◌, slice_get, slice_range};
 ghost use Rattle.jc_history.specs.Past.{places_used, IsWithinLimit, promise, unpromise, push, reply_in};
 ghost use Rattle.jc_history.specs.Stored.{events_at, IsComplete};
 

@@ -1,29 +1,29 @@
 -- What an entry processor's calls on its entry mean: each answer looks back over the calls before it. This is the provider's
 -- reading of JSR 107, "Entry Processors". Given are whether read-through is on, the entry's initial value or none, and what the
 -- loader answers if it is asked.
---     mutation                what a call makes of the entry, if it mutates: a value, or none
---     last_mutation           the last mutation among the calls, if any
---     effect_of               the net effect of a last mutation, or of none
---     is_get, has_get         a call asks for the value; one of these calls does
---     unmutated               the calls before the first mutation
---     uses_load               whether the loader is asked
---     first_get               the place of the first call that asks for the value, if any
---     load_place              the place of the call at which the loader is asked, if it is
---     answer_if               an answer if the loader was asked, and else none
---     load_said               what the loader answered: nothing was asked of it where the calls don't use it
---     found_in, failed_in     the value that a loader found, if it found one, and the code with which it failed, if it did
---     failed_load             the code of the load that failed in these calls, if one did
---     value_or_fault          what a call for the value answers: the fault of a load that failed, or the value
---     loaded_in               the value that the loader found, if read-through is on
---     told                    what a call answers, after the calls before it
---     told_after, all_told    what each of these calls answers, after others before them, and from the first
---     net_effect              what the processor does to its entry in the end
---     process_answer          what a processor did, by its net effect and by what it returned
---     up_to_get               the calls up to the first that asks for the value, with it
---     played_calls            the calls that a played processor makes of those that it is given: none after a failed load
---     value_told              the value that an answer tells, if it is that of a call for the value
---     last_value              the last value that was told, if any
---     played_return           what a played processor returns: its code, or the last value that it was told
+--     mutation                      what a call makes of the entry, if it mutates: a value, or none
+--     last_mutation                 the last mutation among the calls, if any
+--     effect_of                     the net effect of a last mutation, or of none
+--     is_get, has_get               a call asks for the value; one of these calls does
+--     before_mutation               the calls before the first mutation
+--     uses_load                     whether the loader is asked
+--     first_get                     the place of the first call that asks for the value, if any
+--     load_place                    the place of the call at which the loader is asked, if it is
+--     answer_if                     an answer if the loader was asked, and else none
+--     recorded_load                 what the loader answered: nothing was asked of it where the calls don't use it
+--     found_in, failed_in           the value that a loader found, if it found one, and the code with which it failed, if it did
+--     failed_load                   the code of the load that failed in these calls, if one did
+--     value_or_fault                what a call for the value answers: the fault of a load that failed, or the value
+--     loaded_in                     the value that the loader found, if read-through is on
+--     answer_after                  what a call answers, after the calls before it
+--     answers_after, all_answers    what each of these calls answers, after others before them, and from the first
+--     net_effect                    what the processor does to its entry in the end
+--     process_answer                what a processor did, by its net effect and by what it returned
+--     up_to_get                     the calls up to the first that asks for the value, with it
+--     played_calls                  the calls that a played processor makes of those that it is given: none after a failed load
+--     answer_value                  the value in an answer, if it is that of a call for the value
+--     last_value                    the last value that was answered, if any
+--     played_return                 what a played processor returns: its code, or the last value that it was given
 use Rattle.std.specs.Prelude.{ℕ, ◌+◌, List, [], ◌∷◌, ◌++◌, Bool, true, false, ◌&&◌, ◌||◌, Option, None, Some, Result, Ok, Err, is_some, is_none, if◌then◌else◌, option_map, unwrap_or}
 use Rattle.std.specs.Option.{option_or}
 use Rattle.jc_model.specs.declared.processor.EntryCall.{EntryCall}
@@ -70,13 +70,13 @@ has_get [] = false
 has_get (call ∷ calls) = is_get call || has_get calls
 
 -- the calls before the first mutation
-abbrev pub unmutated : List EntryCall → List EntryCall
-unmutated [] = []
-unmutated (call ∷ calls) = if is_some (mutation call) then [] else call ∷ unmutated calls
+abbrev pub before_mutation : List EntryCall → List EntryCall
+before_mutation [] = []
+before_mutation (call ∷ calls) = if is_some (mutation call) then [] else call ∷ before_mutation calls
 
 -- the load is used exactly if a `getValue` has no mutation before it, nothing is there, and read-through is on
 abbrev pub uses_load : Bool → Option Bytes → List EntryCall → Bool
-uses_load read_through initial calls = read_through && is_none initial && has_get (unmutated calls)
+uses_load read_through initial calls = read_through && is_none initial && has_get (before_mutation calls)
 
 -- the place of the first `getValue`, from 0
 abbrev pub first_get : List EntryCall → Option ℕ
@@ -92,8 +92,8 @@ answer_if true answer = answer
 answer_if false answer = load.NotAsked
 
 -- what the step records of the loader
-abbrev pub load_said : Bool → Option Bytes → LoadAnswer → List EntryCall → LoadAnswer
-load_said read_through initial answer calls = answer_if (uses_load read_through initial calls) answer
+abbrev pub recorded_load : Bool → Option Bytes → LoadAnswer → List EntryCall → LoadAnswer
+recorded_load read_through initial answer calls = answer_if (uses_load read_through initial calls) answer
 
 abbrev pub found_in : LoadAnswer → Option Bytes
 found_in (load.Found value) = Some value
@@ -122,24 +122,24 @@ abbrev pub loaded_in : Bool → LoadAnswer → Option Bytes
 loaded_in read_through answer = if read_through then found_in answer else None
 
 -- what a call answers, after these calls before it
-abbrev pub told : Bool → Option Bytes → LoadAnswer → List EntryCall → EntryCall → EntryAnswer
-told read_through initial answer before GetValue =
+abbrev pub answer_after : Bool → Option Bytes → LoadAnswer → List EntryCall → EntryCall → EntryAnswer
+answer_after read_through initial answer before GetValue =
     value_or_fault (failed_load read_through initial answer (before ++ GetValue ∷ []))
     (unwrap_or (last_mutation before) (option_or initial (loaded_in read_through answer)))
-told read_through initial answer before Exists =
+answer_after read_through initial answer before Exists =
     Present (is_none (failed_load read_through initial answer before)
     && unwrap_or (option_map is_some (last_mutation before)) (is_some initial || (uses_load read_through initial before && is_some (found_in answer))))
-told read_through initial answer before (SetValue value) = Done
-told read_through initial answer before Remove = Done
+answer_after read_through initial answer before (SetValue value) = Done
+answer_after read_through initial answer before Remove = Done
 
-abbrev pub told_after : Bool → Option Bytes → LoadAnswer → List EntryCall → List EntryCall → List EntryAnswer
-told_after read_through initial answer before [] = []
-told_after read_through initial answer before (call ∷ calls) =
-    told read_through initial answer before call ∷ told_after read_through initial answer (before ++ call ∷ []) calls
+abbrev pub answers_after : Bool → Option Bytes → LoadAnswer → List EntryCall → List EntryCall → List EntryAnswer
+answers_after read_through initial answer before [] = []
+answers_after read_through initial answer before (call ∷ calls) =
+    answer_after read_through initial answer before call ∷ answers_after read_through initial answer (before ++ call ∷ []) calls
 
 -- one answer for each call
-abbrev pub all_told : Bool → Option Bytes → LoadAnswer → List EntryCall → List EntryAnswer
-all_told read_through initial answer calls = told_after read_through initial answer [] calls
+abbrev pub all_answers : Bool → Option Bytes → LoadAnswer → List EntryCall → List EntryAnswer
+all_answers read_through initial answer calls = answers_after read_through initial answer [] calls
 
 -- 4. What the processor did.
 
@@ -163,15 +163,15 @@ up_to_get (call ∷ calls) = call ∷ (if is_get call then [] else up_to_get cal
 abbrev pub played_calls : Bool → Option Bytes → LoadAnswer → List EntryCall → List EntryCall
 played_calls read_through initial answer calls = if is_some (failed_load read_through initial answer calls) then up_to_get calls else calls
 
-abbrev pub value_told : EntryAnswer → Option (Option Bytes)
-value_told (Value value) = Some value
-value_told (Present there) = None
-value_told Done = None
-value_told (Failed code) = None
+abbrev pub answer_value : EntryAnswer → Option (Option Bytes)
+answer_value (Value value) = Some value
+answer_value (Present there) = None
+answer_value Done = None
+answer_value (Failed code) = None
 
 abbrev pub last_value : List EntryAnswer → Option (Option Bytes)
 last_value [] = None
-last_value (answer ∷ answers) = option_or (last_value answers) (value_told answer)
+last_value (answer ∷ answers) = option_or (last_value answers) (answer_value answer)
 
 abbrev pub played_return : Option ℕ → List EntryAnswer → Result (Option Bytes) ℕ
 played_return (Some code) answers = Err code

@@ -3,7 +3,7 @@
 //! A writer takes each key that it has written or deleted out of the collection that it is given. So what is left there when it
 //! returns, normally or with a fault, wasn't written; every other key was.
 ghost use Rattle.std.specs.Prelude.{◌≡◌};
-ghost use Rattle.jc_model.specs.Batches.{is_among, fault_code, batch_answer, answer_in_batch};
+ghost use Rattle.jc_model.specs.Batches.{is_among, fault_code, batch_answer};
 
 use crate::event::WriteAnswer;
 use jc_types::Key;
@@ -35,12 +35,4 @@ pub fn batch_answer(is_left: bool, fault: Option<u32>) -> WriteAnswer
     } else {
         WriteAnswer::Done
     }
-}
-
-/// The answer for one key of a bulk write, by the keys that are left and the writer's fault. A key that is left and wasn't in the
-/// batch changes no other key's answer.
-pub fn answer_in_batch(left: &[Key], fault: Option<u32>, key: &Key) -> WriteAnswer
-    ensures { result ≡ answer_in_batch left.now fault key.now }
-{
-    batch_answer(is_among(left, key), fault)
 }

@@ -23,7 +23,7 @@ mod stripes;
 pub mod table;
 pub mod table_laws;
 
-pub use batches::{answer_in_batch, batch_answer, is_among};
+pub use batches::{batch_answer, is_among};
 pub use checker::legal;
 pub use contents::Contents;
 pub use event::{

@@ -1,7 +1,9 @@
 //! The operation table: what an [`Op`] asks of the loader and the writer, which entry it leaves, and what it
 //! replies (JSR 107, "Integration", whose two tables are the first two of these; "Entry Processors").
 ghost use Rattle.std.specs.Prelude.{◌≡◌, ◌↔◌, IsTrue, is_some, is_none, if◌then◌else◌};
-ghost use Rattle.jc_model.specs.Table.{holds, replaced, value_after_load, loader_ask, always_if, wanted_if, load_fits, is_invoke, early_fault, first_fault, write_ask, answers_fit, after_effect, outcome_of, entry_without_fault, reply_without_fault, entry_after, reply_after};
+ghost use Rattle.jc_model.specs.Table.{holds, replaced, value_after_load, loader_ask, always_if, wanted_if, load_fits};
+ghost use Rattle.jc_model.specs.Table.{is_invoke, early_fault, first_fault, write_ask, answers_fit, after_effect, outcome_of};
+ghost use Rattle.jc_model.specs.Table.{entry_without_fault, reply_without_fault, entry_after, reply_after};
 ghost use Rattle.jc_model.specs.Table.{ask_if, process_ask};
 ghost use Rattle.jc_model.specs.Lawful.{loads_whole};
 

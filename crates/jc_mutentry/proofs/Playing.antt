@@ -10,10 +10,10 @@ use Rattle.jc_model.specs.declared.processor.EntryCall.{EntryCall}
 use Rattle.jc_model.specs.declared.processor.EntryCall.TheVariants.{GetValue, Exists, SetValue, Remove}
 use Rattle.jc_model.specs.declared.processor.EntryAnswer.{EntryAnswer}
 use Rattle.jc_model.specs.Table.{is_load_given}
-use Rattle.jc_model.specs.Processor.{last_mutation, effect_of, has_get, uses_load, answer_if, failed_in, all_told, net_effect, up_to_get, played_calls, value_told, last_value}
+use Rattle.jc_model.specs.Processor.{last_mutation, effect_of, has_get, uses_load, answer_if, failed_in, all_answers, net_effect, up_to_get, played_calls, answer_value, last_value}
 use Rattle.jc_mutentry.specs.Entries.{EntryState, IsAfter, Makes}
 use Rattle.jc_mutentry.specs.Inside.{is_load_failed}
-use Rattle.jc_mutentry.specs.Playing.{played_told, LoadsAs, IsPlayed}
+use Rattle.jc_mutentry.specs.Playing.{played_answers, LoadsAs, IsPlayed}
 use Rattle.jc_mutentry.proofs.LookingBack.{asks, uses-append, all-unused}
 
 -- 1. The calls up to the first `getValue`.
@@ -127,7 +127,7 @@ made-more rt i a calls call h =
       | false ↦ λ f. refl
     ] refl
 
--- 3. The values that are told.
+-- 3. The values among the answers.
 
 or-again : {A : Type 0} (a b c : Option A) → option_or (option_or a b) c ≡ option_or a (option_or b c)
 or-again None b c = refl
@@ -137,9 +137,9 @@ or-none : {A : Type 0} (o : Option A) → option_or o None ≡ o
 or-none None = refl
 or-none (Some x) = refl
 
-last_value-push : (answers : List EntryAnswer) (answer : EntryAnswer) → last_value (answers ++ answer ∷ []) ≡ option_or (value_told answer) (last_value answers)
-last_value-push [] answer = sym (or-none (value_told answer))
-last_value-push (x ∷ answers) answer = ap (λ o. option_or o (value_told x)) (last_value-push answers answer) ∙ or-again (value_told answer) (last_value answers) (value_told x)
+last_value-push : (answers : List EntryAnswer) (answer : EntryAnswer) → last_value (answers ++ answer ∷ []) ≡ option_or (answer_value answer) (last_value answers)
+last_value-push [] answer = sym (or-none (answer_value answer))
+last_value-push (x ∷ answers) answer = ap (λ o. option_or o (answer_value x)) (last_value-push answers answer) ∙ or-again (answer_value answer) (last_value answers) (answer_value x)
 
 unwrap-or : {A : Type 0} (v l : Option A) (d : A) → unwrap_or (option_or v l) d ≡ unwrap_or v (unwrap_or l d)
 unwrap-or None l d = refl
@@ -160,7 +160,7 @@ said-more a before after was is (inl h) given said w now = h ∙ said ∙ ap (λ
 said-more a before after was is (inr h) given said w now = h ∙ ap (λ u. answer_if u a) (sym given ∙ ap is_load_given (sym h) ∙ now)
 
 pub play-more : (e n : EntryState) (a : LoadAnswer) (calls : List EntryCall) (call : EntryCall) (answers : List EntryAnswer) (answer : EntryAnswer) (last next : Option Bytes)
-    → is_load_given a ≡ true → is_load_failed e.load ≡ false → Makes e call answer n → LoadsAs a e.load n.load → next ≡ unwrap_or (value_told answer) last
+    → is_load_given a ≡ true → is_load_failed e.load ≡ false → Makes e call answer n → LoadsAs a e.load n.load → next ≡ unwrap_or (answer_value answer) last
     → IsPlayed e a calls answers last → IsPlayed n a (calls ++ call ∷ []) (answers ++ answer ∷ []) next
 play-more e n a calls call answers answer last next given unfailed makes loads v p =
     let still = quiet e a calls answers last false p unfailed in
@@ -171,7 +171,7 @@ play-more e n a calls call answers answer last next given unfailed makes loads v
       after = subst (λ cs. IsAfter n cs (answers ++ answer ∷ [])) (sym made) now;
       said = said-more a e.load n.load _ _ loads given p.said p.after.asked now.asked
           ∙ ap (λ cs. answer_if (uses_load n.may_load n.initial cs) a) (sym made);
-      value = v ∙ ap (unwrap_or (value_told answer)) p.value ∙ sym (ap (λ o. unwrap_or o None) (last_value-push answers answer) ∙ unwrap-or (value_told answer) (last_value answers) None);
+      value = v ∙ ap (unwrap_or (answer_value answer)) p.value ∙ sym (ap (λ o. unwrap_or o None) (last_value-push answers answer) ∙ unwrap-or (answer_value answer) (last_value answers) None);
     }
 
 pub play-failed : (e : EntryState) (a : LoadAnswer) (calls : List EntryCall) (call : EntryCall) (answers : List EntryAnswer) (last : Option Bytes)
@@ -203,18 +203,18 @@ play-none i rt a =
     let made = cond-same (fails rt i a []) [] in
     record {
       after = subst (λ cs. IsAfter (record { initial = i; may_load = rt; load = load.NotAsked; effect = effect.Keep }) cs []) (sym made)
-          (record { asked = sym (false-and (rt && is_none i)); net = sym (none-used (uses_load rt i [])); told = refl });
+          (record { asked = sym (false-and (rt && is_none i)); net = sym (none-used (uses_load rt i [])); answers_are = refl });
       said = ap (λ u. answer_if u a) (sym (ap (uses_load rt i) made ∙ false-and (rt && is_none i)));
       value = refl;
     }
 
-pub played-told : (e : EntryState) (a : LoadAnswer) (calls : List EntryCall) (answers : List EntryAnswer) (last : Option Bytes)
-    → IsPlayed e a calls answers last → answers ≡ played_told e.may_load e.initial a calls
-played-told e a calls answers last p =
+pub played_answers-is : (e : EntryState) (a : LoadAnswer) (calls : List EntryCall) (answers : List EntryAnswer) (last : Option Bytes)
+    → IsPlayed e a calls answers last → answers ≡ played_answers e.may_load e.initial a calls
+played_answers-is e a calls answers last p =
     let made = played_calls e.may_load e.initial a calls in
-    elim (uses_load e.may_load e.initial made) as (λ u. uses_load e.may_load e.initial made ≡ u → answers ≡ all_told e.may_load e.initial a made) [
-      | true ↦ λ h. p.after.told ∙ ap (λ l. all_told e.may_load e.initial l made) (p.said ∙ ap (λ u. answer_if u a) h)
-      | false ↦ λ h. p.after.told ∙ all-unused e.may_load e.initial e.load a made h
+    elim (uses_load e.may_load e.initial made) as (λ u. uses_load e.may_load e.initial made ≡ u → answers ≡ all_answers e.may_load e.initial a made) [
+      | true ↦ λ h. p.after.answers_are ∙ ap (λ l. all_answers e.may_load e.initial l made) (p.said ∙ ap (λ u. answer_if u a) h)
+      | false ↦ λ h. p.after.answers_are ∙ all-unused e.may_load e.initial e.load a made h
     ] refl
 
 abbrev net_if : Bool → LoadAnswer → Option (Option Bytes) → Effect

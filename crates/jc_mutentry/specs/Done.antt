@@ -1,6 +1,6 @@
 -- Done values of entry processors, as data.
 --     ProcessResult    what a processor did for an ask, what its loader answered, and where that comes from
---     change_asked     what the writer is to be asked for: the net effect, and nothing after a loader's or processor's fault
+--     effect_change    what the writer is to be asked for: the net effect, and nothing after a loader's or processor's fault
 use Rattle.std.specs.Prelude.{Option, None, is_none, if◌then◌else◌}
 use Rattle.jc_model.specs.declared.event.LoadAnswer.{LoadAnswer}
 use Rattle.jc_model.specs.declared.event.WriteAnswer.TheVariants as write
@@ -15,6 +15,6 @@ pub record ProcessResult (A : Type 0) : Type 0 where
   pub load : LoadAnswer
   pub process : ProcessAnswer
 
-abbrev pub change_asked : LoadAnswer → ProcessAnswer → Option Change
-change_asked load process =
+abbrev pub effect_change : LoadAnswer → ProcessAnswer → Option Change
+effect_change load process =
     if is_none (early_fault (record { load = load; write = write.NotAsked; process = process })) then process_ask process else None

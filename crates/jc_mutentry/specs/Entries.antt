@@ -1,14 +1,14 @@
 -- An entry while a processor runs, and what the processor's calls make of it.
---     EntryState       an entry: its value when the processor began, whether it may load, what the loader answered, the net effect
---     fresh            an entry before the first call
---     asks_load        whether a `getValue` now asks the loader
---     IsAfter          an entry is after these calls, and they were answered so
---     IsSameEntry      two states of one entry: it began with the same value, and the same leave to load
---     Makes            one more call was made on an entry, and answered this
---     MutableState     an entry with its key
---     value_told       the answer to `getValue`, by what it returns
---     LoadsWhole       a loader was called once, with this key and this answer
---     LoadsOn          a loader was called once if the entry's load came meanwhile, and else not at all
+--     EntryState      an entry: its value when the processor began, whether it may load, what the loader answered, the net effect
+--     new_entry       an entry before the first call
+--     asks_load       whether a `getValue` now asks the loader
+--     IsAfter         an entry is after these calls, and they were answered so
+--     IsSameEntry     two states of one entry: it began with the same value, and the same leave to load
+--     Makes           one more call was made on an entry, and answered this
+--     MutableState    an entry with its key
+--     get_answer      the answer to `getValue`, by what it returns
+--     LoadsWhole      a loader was called once, with this key and this answer
+--     LoadsOn         a loader was called once if the entry's load came meanwhile, and else not at all
 use Rattle.std.specs.Prelude.{◌≡◌, ℕ, List, [], ◌∷◌, ◌++◌, Bool, true, false, not, ◌&&◌, ◌⊎◌, Option, Result, Ok, Err, is_none}
 use Rattle.jc_model.specs.Cache.{Bytes}
 use Rattle.jc_model.specs.declared.event.LoadAnswer.{LoadAnswer}
@@ -19,7 +19,7 @@ use Rattle.jc_model.specs.declared.processor.EntryCall.{EntryCall}
 use Rattle.jc_model.specs.declared.processor.EntryAnswer.{EntryAnswer}
 use Rattle.jc_model.specs.declared.processor.EntryAnswer.TheVariants.{Value, Failed}
 use Rattle.jc_model.specs.Table.{is_load_given}
-use Rattle.jc_model.specs.Processor.{uses_load, net_effect, all_told}
+use Rattle.jc_model.specs.Processor.{uses_load, net_effect, all_answers}
 use Rattle.jc_outside.specs.Calling.{LoadRelation, load_answer}
 
 -- 1. An entry.
@@ -30,8 +30,8 @@ pub record EntryState : Type 0 where
   pub load : LoadAnswer
   pub effect : Effect
 
-abbrev pub fresh : Option Bytes → Bool → EntryState
-fresh initial may_load = record { initial = initial; may_load = may_load; load = load.NotAsked; effect = effect.Keep }
+abbrev pub new_entry : Option Bytes → Bool → EntryState
+new_entry initial may_load = record { initial = initial; may_load = may_load; load = load.NotAsked; effect = effect.Keep }
 
 abbrev pub is_keep : Effect → Bool
 is_keep effect.Keep = true
@@ -48,7 +48,7 @@ asks_load entry = entry.may_load && is_none entry.initial && not (is_load_given 
 pub record IsAfter (entry : EntryState) (calls : List EntryCall) (answers : List EntryAnswer) : Type 0 where
   pub asked : is_load_given entry.load ≡ uses_load entry.may_load entry.initial calls
   pub net : entry.effect ≡ net_effect entry.may_load entry.initial entry.load calls
-  pub told : answers ≡ all_told entry.may_load entry.initial entry.load calls
+  pub answers_are : answers ≡ all_answers entry.may_load entry.initial entry.load calls
 
 pub record IsSameEntry (old new : EntryState) : Type 0 where
   pub initial : new.initial ≡ old.initial
@@ -65,9 +65,9 @@ pub record MutableState : Type 0 where
   pub key : Bytes
   pub entry : EntryState
 
-abbrev pub value_told : Result (Option Bytes) ℕ → EntryAnswer
-value_told (Ok value) = Value value
-value_told (Err code) = Failed code
+abbrev pub get_answer : Result (Option Bytes) ℕ → EntryAnswer
+get_answer (Ok value) = Value value
+get_answer (Err code) = Failed code
 
 -- the loader has returned the answer
 abbrev pub LoadsWhole : {L : Type 0} → LoadRelation L → (L → List ℕ) → Bytes → LoadAnswer → L → L → Type 0

@@ -1,6 +1,6 @@
 pub mod Done
 pub mod Entries
-pub mod Got
+pub mod GetOutcomes
 pub mod Inside
 pub mod Running
 pub mod Playing

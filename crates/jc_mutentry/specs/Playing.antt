@@ -1,29 +1,29 @@
 -- A played run of an entry processor: its calls on the entry are given, a code if it is to fail, and what its loader answers if it
 -- is asked.
---     played_told      what each call that it makes is told: none is made after a failed load
---     played_load      what the loader answered
---     played_answer    what the processor did
---     LoadsAs          an entry's load stays, or comes, and is this answer
---     IsPlayed         an entry is after those of these calls that are made, with these answers and the last value told
+--     played_answers    the answers to the calls that it makes: none is made after a failed load
+--     played_load       what the loader answered
+--     played_outcome    what the processor did
+--     LoadsAs           an entry's load stays, or comes, and is this answer
+--     IsPlayed          an entry is after those of these calls that are made, with these answers and the last value among them
 use Rattle.std.specs.Prelude.{◌≡◌, ◌⊎◌, ℕ, List, Bool, Option, None, unwrap_or}
 use Rattle.jc_model.specs.Cache.{Bytes}
 use Rattle.jc_model.specs.declared.event.LoadAnswer.{LoadAnswer}
 use Rattle.jc_model.specs.declared.event.ProcessAnswer.{ProcessAnswer}
 use Rattle.jc_model.specs.declared.processor.EntryCall.{EntryCall}
 use Rattle.jc_model.specs.declared.processor.EntryAnswer.{EntryAnswer}
-use Rattle.jc_model.specs.Processor.{all_told, load_said, net_effect, process_answer, played_calls, played_return, last_value}
+use Rattle.jc_model.specs.Processor.{all_answers, recorded_load, net_effect, process_answer, played_calls, played_return, last_value}
 use Rattle.jc_mutentry.specs.Entries.{EntryState, IsAfter}
 
-abbrev pub played_told : Bool → Option Bytes → LoadAnswer → List EntryCall → List EntryAnswer
-played_told may_load initial answer calls = all_told may_load initial answer (played_calls may_load initial answer calls)
+abbrev pub played_answers : Bool → Option Bytes → LoadAnswer → List EntryCall → List EntryAnswer
+played_answers may_load initial answer calls = all_answers may_load initial answer (played_calls may_load initial answer calls)
 
 abbrev pub played_load : Bool → Option Bytes → LoadAnswer → List EntryCall → LoadAnswer
-played_load may_load initial answer calls = load_said may_load initial answer (played_calls may_load initial answer calls)
+played_load may_load initial answer calls = recorded_load may_load initial answer (played_calls may_load initial answer calls)
 
-abbrev pub played_answer : Bool → Option Bytes → LoadAnswer → List EntryCall → Option ℕ → ProcessAnswer
-played_answer may_load initial answer calls fail =
+abbrev pub played_outcome : Bool → Option Bytes → LoadAnswer → List EntryCall → Option ℕ → ProcessAnswer
+played_outcome may_load initial answer calls fail =
     process_answer (net_effect may_load initial answer (played_calls may_load initial answer calls))
-    (played_return fail (played_told may_load initial answer calls))
+    (played_return fail (played_answers may_load initial answer calls))
 
 abbrev pub LoadsAs : LoadAnswer → LoadAnswer → LoadAnswer → Type 0
 LoadsAs answer before after = (after ≡ before) ⊎ (after ≡ answer)

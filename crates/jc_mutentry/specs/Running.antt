@@ -1,6 +1,9 @@
 -- A run of an entry processor.
 --     IsRun          the load, the answers and what the processor did are those of one list of calls on the entry
 --     LoadsIfGiven   a session's loader was called once if it has answered, and else not at all
+--     ProcessRelation    what a processor's run may be: the processor before, the key, the arguments, the calls on the entry, what they
+--                        answered, what the run returned, its state afterwards
+--     RunsOnce       a processor was run once, on an entry of this key that had this value at first or none, and this is what came of it
 use Rattle.std.specs.Prelude.{◌≡◌, ℕ, List, Bool, Option, Result, MatchBool}
 use Rattle.jc_model.specs.Cache.{Bytes}
 use Rattle.jc_model.specs.declared.event.LoadAnswer.{LoadAnswer}
@@ -8,15 +11,23 @@ use Rattle.jc_model.specs.declared.event.ProcessAnswer.{ProcessAnswer}
 use Rattle.jc_model.specs.declared.processor.EntryCall.{EntryCall}
 use Rattle.jc_model.specs.declared.processor.EntryAnswer.{EntryAnswer}
 use Rattle.jc_model.specs.Table.{is_load_given}
-use Rattle.jc_model.specs.Processor.{uses_load, all_told, net_effect, process_answer}
+use Rattle.jc_model.specs.Processor.{uses_load, all_answers, net_effect, process_answer}
 use Rattle.jc_outside.specs.Calling.{LoadRelation, LoadsOnce}
 
 -- of an entry that may ask the loader or not, and has this value at first or none
 pub record IsRun (may_load : Bool) (initial : Option Bytes) (load : LoadAnswer) (process : ProcessAnswer)
     (calls : List EntryCall) (answers : List EntryAnswer) (returned : Result (Option Bytes) ℕ) : Type 0 where
   pub asked : is_load_given load ≡ uses_load may_load initial calls
-  pub told : answers ≡ all_told may_load initial load calls
+  pub answers_are : answers ≡ all_answers may_load initial load calls
   pub did : process ≡ process_answer (net_effect may_load initial load calls) returned
 
 abbrev pub LoadsIfGiven : {L : Type 0} → LoadRelation L → (L → List ℕ) → Option L → Bytes → LoadAnswer → Option L → Type 0
 LoadsIfGiven loads state old key answer new = MatchBool (is_load_given answer) (LoadsOnce loads state old key answer new) (new ≡ old)
+
+abbrev pub ProcessRelation : Type 0 → Type 1
+ProcessRelation P = P → Bytes → List Bytes → List EntryCall → List EntryAnswer → Result (Option Bytes) ℕ → List ℕ → Type 0
+
+abbrev pub RunsOnce : {P : Type 0} → ProcessRelation P → (P → List ℕ) → P → Bytes → List Bytes → Bool → Option Bytes → LoadAnswer → ProcessAnswer → P → Type 0
+RunsOnce processes state old key args may_load initial load process new =
+    (calls : List EntryCall) × (answers : List EntryAnswer) × (returned : Result (Option Bytes) ℕ)
+    × IsRun may_load initial load process calls answers returned × processes old key args calls answers returned (state new)

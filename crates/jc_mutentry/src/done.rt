@@ -1,7 +1,7 @@
 //! What an entry processor did, and what its loader answered.
 ghost use Rattle.std.specs.Prelude.{◌≡◌, true};
 ghost use Rattle.jc_model.specs.Table.{is_process_given, load_fits, wanted_if, is_load_given};
-ghost use Rattle.jc_mutentry.specs.Done.{change_asked};
+ghost use Rattle.jc_mutentry.specs.Done.{effect_change};
 
 use crate::ask::AskProcess;
 use jc_model::{Change, LoadAnswer, Op, ProcessAnswer};
@@ -39,10 +39,24 @@ impl<A: AskProcess> ProcDone<A> {
         &self.ask
     }
 
+    /// What the loader answered: `NotAsked` if the processor's calls didn't ask it.
+    pub fn load(&self) -> &LoadAnswer
+        ensures { result.now ≡ self.now.load }
+    {
+        &self.load
+    }
+
+    /// What the processor did.
+    pub fn process(&self) -> &ProcessAnswer
+        ensures { result.now ≡ self.now.process }
+    {
+        &self.process
+    }
+
     /// The write or delete to ask for with write-through on: that of the net effect, or none. After a loader's or processor's
     /// fault there is none (JSR 107, "Entry Processors").
     pub fn change(&self) -> Option<Change>
-        ensures { result ≡ change_asked self.now.load self.now.process }
+        ensures { result ≡ effect_change self.now.load self.now.process }
     {
         match self.load {
             LoadAnswer::Failed(_) => None,

@@ -2,9 +2,9 @@
 ghost use Rattle.std.specs.Prelude.{◌≡◌};
 ghost use Rattle.jc_model.specs.declared.processor.EntryCall.TheVariants.{GetValue, Exists, SetValue, Remove};
 ghost use Rattle.jc_model.specs.declared.processor.EntryAnswer.TheVariants.{Present, Done};
-ghost use Rattle.jc_mutentry.specs.Entries.{fresh, value_told, Makes, LoadsOn};
+ghost use Rattle.jc_mutentry.specs.Entries.{new_entry, get_answer, Makes, LoadsOn};
 
-use crate::entry_core::{EntryCore, Got};
+use crate::entry_core::{EntryCore, GetOutcome};
 use jc_model::{Effect, LoadAnswer};
 use jc_outside::{CacheLoader, load_answer};
 use jc_types::{Key, Value};
@@ -31,7 +31,7 @@ impl Model for MutableEntry {
 impl MutableEntry {
     /// An entry on which no call was made.
     pub(crate) fn new(key: Key, initial: Option<Value>, may_load: bool) -> Self
-        ensures { result ≡ record { key = key; entry = fresh initial may_load } }
+        ensures { result ≡ record { key = key; entry = new_entry initial may_load } }
     {
         MutableEntry {
             key,
@@ -59,14 +59,14 @@ impl MutableEntry {
     /// It may wait, as long as the loader does.
     pub fn get_value(&mut self, loader: &mut dyn CacheLoader) -> Result<Option<Value>, u32>
         ensures key { self.new.key ≡ self.old.key }
-        ensures get { Makes self.old.entry GetValue (value_told result) self.new.entry }
+        ensures get { Makes self.old.entry GetValue (get_answer result) self.new.entry }
         ensures loader { LoadsOn loads load_state self.old.key
             self.old.entry.load self.new.entry.load loader.old loader.new }
     {
         match self.core.get_value() {
-            Got::Value(value) => Ok(value),
-            Got::Failed(code) => Err(code),
-            Got::MustLoad => {
+            GetOutcome::Value(value) => Ok(value),
+            GetOutcome::Failed(code) => Err(code),
+            GetOutcome::MustLoad => {
                 let answer = load_answer(loader.load(&self.key));
                 self.core.load(answer)
             }

@@ -3,9 +3,9 @@ ghost use Rattle.std.specs.Prelude.{◌≡◌, [], true};
 ghost use Rattle.jc_model.specs.Table.{is_load_given};
 ghost use Rattle.jc_model.specs.declared.processor.EntryCall.TheVariants.{GetValue, Exists, SetValue, Remove};
 ghost use Rattle.jc_model.specs.declared.processor.EntryAnswer.TheVariants.{Present, Done};
-ghost use Rattle.jc_mutentry.specs.Entries.{fresh, asks_load, value_told, IsAfter, Makes};
-ghost use Rattle.jc_mutentry.specs.Got.{GotNow};
-ghost use Rattle.jc_mutentry.specs.Inside.{is_present, value_got, got_by_load, mutated, returned};
+ghost use Rattle.jc_mutentry.specs.Entries.{new_entry, asks_load, get_answer, IsAfter, Makes};
+ghost use Rattle.jc_mutentry.specs.GetOutcomes.{IsGetOutcome};
+ghost use Rattle.jc_mutentry.specs.Inside.{is_present, get_outcome, outcome_by_load, effect_after, get_result};
 
 use jc_model::{Effect, LoadAnswer};
 use jc_types::Value;
@@ -13,7 +13,7 @@ use std::marker::Model;
 
 /// What `getValue` comes to, before a loader is asked.
 #[derive(Clone, Copy, Debug, PartialEq, Eq)]
-pub enum Got {
+pub enum GetOutcome {
     /// The value, or none.
     Value(Option<Value>),
     /// The loader is to be asked, and its answer given to [`EntryCore::load`].
@@ -46,7 +46,7 @@ impl EntryCore {
     /// An entry on which no call was made. It has this value or none; the loader may be asked, if read-through is on and nothing
     /// is there.
     pub fn new(initial: Option<Value>, may_load: bool) -> Self
-        ensures entry { result ≡ fresh initial may_load }
+        ensures entry { result ≡ new_entry initial may_load }
         ensures after { IsAfter result [] [] }
     {
         EntryCore {
@@ -66,10 +66,10 @@ impl EntryCore {
 
     /// `getValue`, as far as it goes without a loader: the value, the fault of a load that has failed, or that the loader is to
     /// be asked.
-    pub fn get_value(&self) -> Got
-        ensures { GotNow self.now result }
+    pub fn get_value(&self) -> GetOutcome
+        ensures { IsGetOutcome self.now result }
     {
-        value_got(&self.initial, self.may_load, &self.load, &self.effect)
+        get_outcome(&self.initial, self.may_load, &self.load, &self.effect)
     }
 
     /// `getValue`, once the loader has answered.
@@ -78,11 +78,11 @@ impl EntryCore {
     pub fn load(&mut self, answer: LoadAnswer) -> Result<Option<Value>, u32>
         requires asks { asks_load self.old ≡ true }
         requires given { is_load_given answer ≡ true }
-        ensures get { Makes self.old GetValue (value_told result) self.new }
+        ensures get { Makes self.old GetValue (get_answer result) self.new }
         ensures load { self.new.load ≡ answer }
     {
         self.load = answer;
-        returned(&self.load)
+        get_result(&self.load)
     }
 
     /// `setValue`. After a failed load nothing changes.
@@ -128,37 +128,42 @@ fn is_present(initial: &Option<Value>, load: &LoadAnswer, effect: &Effect) -> bo
 }
 
 /// What `getValue` comes to.
-fn value_got(initial: &Option<Value>, may_load: bool, load: &LoadAnswer, effect: &Effect) -> Got
-    ensures { result ≡ value_got initial.now may_load load.now effect.now }
+fn get_outcome(
+    initial: &Option<Value>,
+    may_load: bool,
+    load: &LoadAnswer,
+    effect: &Effect,
+) -> GetOutcome
+    ensures { result ≡ get_outcome initial.now may_load load.now effect.now }
 {
     match effect {
-        Effect::Set(value) => Got::Value(Some(*value)),
-        Effect::Remove => Got::Value(None),
-        Effect::Keep => got_by_load(initial, may_load, load),
+        Effect::Set(value) => GetOutcome::Value(Some(*value)),
+        Effect::Remove => GetOutcome::Value(None),
+        Effect::Keep => outcome_by_load(initial, may_load, load),
     }
 }
 
 /// What `getValue` comes to while nothing has mutated the entry.
-fn got_by_load(initial: &Option<Value>, may_load: bool, load: &LoadAnswer) -> Got
-    ensures { result ≡ got_by_load initial.now may_load load.now }
+fn outcome_by_load(initial: &Option<Value>, may_load: bool, load: &LoadAnswer) -> GetOutcome
+    ensures { result ≡ outcome_by_load initial.now may_load load.now }
 {
     match load {
-        LoadAnswer::Found(value) => Got::Value(Some(*value)),
-        LoadAnswer::Nothing => Got::Value(None),
-        LoadAnswer::Failed(code) => Got::Failed(*code),
+        LoadAnswer::Found(value) => GetOutcome::Value(Some(*value)),
+        LoadAnswer::Nothing => GetOutcome::Value(None),
+        LoadAnswer::Failed(code) => GetOutcome::Failed(*code),
         LoadAnswer::NotAsked => {
             if may_load && initial.is_none() {
-                Got::MustLoad
+                GetOutcome::MustLoad
             } else {
-                Got::Value(*initial)
+                GetOutcome::Value(*initial)
             }
         }
     }
 }
 
 /// What `getValue` returns once the loader has answered.
-fn returned(load: &LoadAnswer) -> Result<Option<Value>, u32>
-    ensures { result ≡ returned load.now }
+fn get_result(load: &LoadAnswer) -> Result<Option<Value>, u32>
+    ensures { result ≡ get_result load.now }
 {
     match load {
         LoadAnswer::Found(value) => Ok(Some(*value)),
@@ -169,7 +174,7 @@ fn returned(load: &LoadAnswer) -> Result<Option<Value>, u32>
 
 /// One more mutation. After a failed load none counts.
 fn mutate(load: &LoadAnswer, effect: &mut Effect, next: Effect)
-    ensures { effect.new ≡ mutated load.now effect.old next }
+    ensures { effect.new ≡ effect_after load.now effect.old next }
 {
     if !matches!(load, LoadAnswer::Failed(_)) {
         *effect = next;

@@ -12,7 +12,7 @@ mod run;
 pub use ask::AskProcess;
 pub use done::ProcDone;
 pub use entry::MutableEntry;
-pub use entry_core::{EntryCore, Got};
+pub use entry_core::{EntryCore, GetOutcome};
 pub use played::played_process;
 pub use processor::EntryProcessor;
 pub use run::run_processor;

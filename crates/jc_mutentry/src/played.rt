@@ -4,15 +4,15 @@ ghost use Rattle.jc_model.specs.declared.processor.EntryCall.{EntryCall};
 ghost use Rattle.jc_model.specs.declared.processor.EntryCall.TheVariants.{GetValue};
 ghost use Rattle.jc_model.specs.declared.processor.EntryAnswer.{EntryAnswer};
 ghost use Rattle.jc_model.specs.Table.{is_load_given};
-ghost use Rattle.jc_model.specs.Processor.{value_told};
+ghost use Rattle.jc_model.specs.Processor.{answer_value};
 ghost use Rattle.jc_outside.specs.declared.done.Origin.TheVariants.{Played};
-ghost use Rattle.jc_mutentry.specs.Entries.{fresh, Makes};
+ghost use Rattle.jc_mutentry.specs.Entries.{new_entry, Makes};
 ghost use Rattle.jc_mutentry.specs.Inside.{is_load_failed};
-ghost use Rattle.jc_mutentry.specs.Playing.{played_told, played_load, played_answer, LoadsAs, IsPlayed};
+ghost use Rattle.jc_mutentry.specs.Playing.{played_answers, played_load, played_outcome, LoadsAs, IsPlayed};
 
 use crate::ask::AskProcess;
 use crate::done::ProcDone;
-use crate::entry_core::{EntryCore, Got};
+use crate::entry_core::{EntryCore, GetOutcome};
 use crate::run::process_answer;
 use jc_model::{EntryAnswer, EntryCall, LoadAnswer};
 use jc_outside::Origin;
@@ -36,8 +36,8 @@ pub fn played_process<A: AskProcess>(
     ensures ask { result.ask ≡ ask }
     ensures origin { result.origin ≡ Played }
     ensures load { result.load ≡ played_load (A.may_load ask) (A.initial ask) load calls.now }
-    ensures process { result.process ≡ played_answer (A.may_load ask) (A.initial ask) load calls.now fail }
-    ensures told { told.new.items ≡ told.old.items ++ played_told (A.may_load ask) (A.initial ask) load calls.now }
+    ensures process { result.process ≡ played_outcome (A.may_load ask) (A.initial ask) load calls.now fail }
+    ensures told { told.new.items ≡ told.old.items ++ played_answers (A.may_load ask) (A.initial ask) load calls.now }
 {
     let mut entry = EntryCore::new(*ask.initial(), ask.may_load());
     let last = play_calls(&mut entry, calls, &load, told);
@@ -61,7 +61,7 @@ fn play_calls(
     load: &LoadAnswer,
     told: &mut Vec<EntryAnswer>,
 ) -> Option<Value>
-    requires fresh { entry.old ≡ fresh entry.old.initial entry.old.may_load }
+    requires new_entry { entry.old ≡ new_entry entry.old.initial entry.old.may_load }
     requires given { is_load_given load.now ≡ true }
     requires room { vec_len told.old + length calls.now ≤ vec_capacity told.old }
     ensures same { (entry.new.initial ≡ entry.old.initial) × (entry.new.may_load ≡ entry.old.may_load) }
@@ -102,7 +102,7 @@ fn play_call(
 
 /// Notes the value, if one was told.
 fn note(last: &mut Option<Value>, answer: &EntryAnswer)
-    ensures { last.new ≡ unwrap_or (value_told answer.now) last.old }
+    ensures { last.new ≡ unwrap_or (answer_value answer.now) last.old }
 {
     match answer {
         EntryAnswer::Value(value) => *last = *value,
@@ -144,9 +144,9 @@ fn got_with(entry: &mut EntryCore, load: &LoadAnswer) -> EntryAnswer
     ensures load { LoadsAs load.now entry.old.load entry.new.load }
 {
     match entry.get_value() {
-        Got::Value(value) => EntryAnswer::Value(value),
-        Got::Failed(code) => EntryAnswer::Failed(code),
-        Got::MustLoad => match entry.load(*load) {
+        GetOutcome::Value(value) => EntryAnswer::Value(value),
+        GetOutcome::Failed(code) => EntryAnswer::Failed(code),
+        GetOutcome::MustLoad => match entry.load(*load) {
             Ok(value) => EntryAnswer::Value(value),
             Err(code) => EntryAnswer::Failed(code),
         },

@@ -38,7 +38,7 @@ pub trait EntryProcessor {
     ghost use Rattle.jc_model.specs.declared.event.LoadAnswer.TheVariants.{Nothing};
     ghost use Rattle.jc_model.specs.Table.{is_load_given};
     ghost use Rattle.jc_model.specs.Processor.{answer_if};
-    ghost use Rattle.jc_mutentry.specs.Entries.{fresh, IsAfter, IsSameEntry, LoadsOn};
+    ghost use Rattle.jc_mutentry.specs.Entries.{new_entry, IsAfter, IsSameEntry, LoadsOn};
 
     /// The processor's state, as plain data.
     ghost process_state: { Self → List ℕ };
@@ -56,7 +56,7 @@ pub trait EntryProcessor {
         loader: &mut dyn CacheLoader,
         args: &[Value],
     ) -> Result<Option<Value>, u32>
-        requires { entry.old.entry ≡ fresh entry.old.entry.initial entry.old.entry.may_load }
+        requires { entry.old.entry ≡ new_entry entry.old.entry.initial entry.old.entry.may_load }
         ensures key { entry.new.key ≡ entry.old.key }
         ensures same { IsSameEntry entry.old.entry entry.new.entry }
         ensures calls { (calls : List EntryCall) × (answers : List EntryAnswer) × IsAfter entry.new.entry calls answers
@@ -72,7 +72,7 @@ pub trait EntryProcessor {
         entry: &mut MutableEntry,
         args: &[Value],
     ) -> Result<Option<Value>, u32>
-        requires { entry.old.entry ≡ fresh entry.old.entry.initial entry.old.entry.may_load }
+        requires { entry.old.entry ≡ new_entry entry.old.entry.initial entry.old.entry.may_load }
         ensures key { entry.new.key ≡ entry.old.key }
         ensures same { IsSameEntry entry.old.entry entry.new.entry }
         ensures calls { (calls : List EntryCall) × (answers : List EntryAnswer) × IsAfter entry.new.entry calls answers

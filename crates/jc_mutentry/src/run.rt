@@ -1,12 +1,12 @@
 //! Runs of entry processors.
-ghost use Rattle.std.specs.Prelude.{◌≡◌, ℕ, List, Option, Result};
-ghost use Rattle.jc_model.specs.Cache.{Bytes};
+ghost use Rattle.std.specs.Prelude.{◌≡◌, List, true};
+ghost use Rattle.jc_model.specs.Table.{is_process_given};
 ghost use Rattle.jc_model.specs.declared.processor.EntryCall.{EntryCall};
 ghost use Rattle.jc_model.specs.declared.processor.EntryAnswer.{EntryAnswer};
 ghost use Rattle.jc_model.specs.Processor.{process_answer};
 ghost use Rattle.jc_outside.specs.declared.done.Origin.TheVariants.{Live};
-ghost use Rattle.jc_mutentry.specs.Entries.{fresh, IsAfter, IsSameEntry};
-ghost use Rattle.jc_mutentry.specs.Running.{IsRun, LoadsIfGiven};
+ghost use Rattle.jc_mutentry.specs.Entries.{new_entry, IsAfter, IsSameEntry};
+ghost use Rattle.jc_mutentry.specs.Running.{RunsOnce, LoadsIfGiven};
 
 use crate::ask::AskProcess;
 use crate::done::ProcDone;
@@ -33,9 +33,9 @@ pub fn run_processor<A: AskProcess, R: Wait>(
     requires { hands.old.held ≡ 0 }
     ensures ask { result.ask ≡ ask }
     ensures origin { result.origin ≡ Live }
-    ensures run { (calls : List EntryCall) × (answers : List EntryAnswer) × (returned : Result (Option Bytes) ℕ)
-        × IsRun (A.may_load ask) (A.initial ask) result.load result.process calls answers returned
-        × processes processor.old (A.key ask) args.now calls answers returned (process_state processor.new) }
+    ensures given { is_process_given result.process ≡ true }
+    ensures run { RunsOnce processes process_state
+        processor.old (A.key ask) args.now (A.may_load ask) (A.initial ask) result.load result.process processor.new }
     ensures loader { LoadsIfGiven (λ b. loads (b.vtable, b.value)) (λ b. load_state (b.vtable, b.value))
         hands.old.outside.loader (A.key ask) result.load hands.new.outside.loader }
     ensures writer { hands.new.outside.writer ≡ hands.old.outside.writer }
@@ -56,7 +56,7 @@ fn run_on(
     loader: &mut Option<Box<dyn CacheLoader + Send + Drop>>,
     args: &[Value],
 ) -> Result<Option<Value>, u32>
-    requires { entry.old.entry ≡ fresh entry.old.entry.initial entry.old.entry.may_load }
+    requires { entry.old.entry ≡ new_entry entry.old.entry.initial entry.old.entry.may_load }
     ensures same { IsSameEntry entry.old.entry entry.new.entry }
     ensures calls { (calls : List EntryCall) × (answers : List EntryAnswer) × IsAfter entry.new.entry calls answers
         × processes processor.old entry.old.key args.now calls answers result (process_state processor.new) }

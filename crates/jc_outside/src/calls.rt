@@ -46,7 +46,8 @@ pub fn call_writer<A: AskWrite, R: Wait>(
     ensures ask { result.ask ≡ ask }
     ensures origin { result.origin ≡ Live }
     ensures given { is_write_given result.answer ≡ true }
-    ensures writer { WritesOnce writes write_state hands.old.outside.writer (A.key ask) (A.change ask) result.answer hands.new.outside.writer }
+    ensures writer { WritesOnce writes write_state hands.old.outside.writer
+        (A.key ask) (A.change ask) result.answer hands.new.outside.writer }
     ensures loader { hands.new.outside.loader ≡ hands.old.outside.loader }
     ensures held { hands.new.held ≡ 0 }
 {

@@ -8,7 +8,8 @@ ghost use Rattle.jc_model.specs.declared.event.LoadAnswer.{LoadAnswer as LoadAns
 ghost use Rattle.jc_model.specs.declared.event.WriteAnswer.{WriteAnswer as WriteAnswerState};
 ghost use Rattle.jc_batch.specs.Changes.{changes_of};
 ghost use Rattle.jc_outside.specs.Answers.{no_answers};
-ghost use Rattle.jc_outside.specs.CallingAll.{load_all_answer, found_or_nothing, returned_fault, LoadsKeys, WritesEntries, DeletesKeys, LoadsAllOnce, WritesAllOnce, loads_done, writes_done, asked_changes};
+ghost use Rattle.jc_outside.specs.CallingAll.{load_all_answer, found_or_nothing, returned_fault, LoadsKeys, WritesEntries};
+ghost use Rattle.jc_outside.specs.CallingAll.{DeletesKeys, LoadsAllOnce, WritesAllOnce, loads_done, writes_done, asked_changes};
 
 use crate::answers::Answers;
 use crate::ask::{Ask, AskWrite};
@@ -18,7 +19,7 @@ use crate::load_batch::LoadBatch;
 use crate::loader::CacheLoader;
 use crate::writer::CacheWriter;
 use indexmap::{IndexMap, IndexSet};
-use jc_batch::{Batch, Left};
+use jc_batch::{Batch, Leftover};
 use jc_model::{LoadAnswer, WriteAnswer, batch_answer};
 use jc_types::{Key, Value};
 use std::sync::Wait;
@@ -52,9 +53,9 @@ pub fn call_loader_all<A: Ask, R: Wait>(
     end_loads(asks, &returned, &answers, done);
 }
 
-/// Calls the writer once, for a whole batch (`writeAll` or `deleteAll`), and appends a done value for each ask, in their order: a key
-/// that the writer leaves in the collection failed, with the writer's code or, if it returned normally, with 0; every other key
-/// was written. Keys that the writer adds count for nothing. It returns what the writer returned: the writer may fail and
+/// Calls the writer once, for a whole batch (`writeAll` or `deleteAll`), and appends a done value for each ask, in their order: a
+/// key that the writer leaves in the collection failed, with the writer's code or, if it returned normally, with 0; every other
+/// key was written. Keys that the writer adds count for nothing. It returns what the writer returned: the writer may fail and
 /// leave nothing.
 ///
 /// It may wait, as long as the writer does. It takes no memory of its own.
@@ -81,13 +82,13 @@ pub fn call_writer_all<A: AskWrite, R: Wait>(
 {
     match batch {
         Batch::Writes(batch) => {
-            let (mut entries, _asked) = batch.into_parts();
+            let (mut entries, _batch_keys) = batch.into_parts();
             let returned = write_entries(&mut hands.outside.writer, &mut entries);
             end_writes(asks, &entries, returned_fault(&returned), done);
             returned
         }
         Batch::Deletes(batch) => {
-            let (mut keys, _asked) = batch.into_parts();
+            let (mut keys, _batch_keys) = batch.into_parts();
             let returned = delete_keys(&mut hands.outside.writer, &mut keys);
             end_writes(asks, &keys, returned_fault(&returned), done);
             returned
@@ -179,22 +180,23 @@ fn end_loads<A: Ask>(
 }
 
 /// What a writer's call says of one key, by what it left.
-fn write_all_answer<C: Left>(left: &C, fault: Option<u32>, key: &Key) -> WriteAnswer
-    ensures answer { result ≡ answer_in_batch (C.left_keys left.now) fault key.now }
+fn write_all_answer<C: Leftover>(left: &C, fault: Option<u32>, key: &Key) -> WriteAnswer
+    ensures answer { result ≡ answer_in_batch (C.leftover_keys left.now) fault key.now }
     ensures given { is_write_given result ≡ true }
 {
     batch_answer(left.is_left(key), fault)
 }
 
 /// Ends the asks by what the writer left.
-fn end_writes<A: AskWrite, C: Left>(
+fn end_writes<A: AskWrite, C: Leftover>(
     asks: Vec<A>,
     left: &C,
     fault: Option<u32>,
     done: &mut Vec<WriteDone<A>>,
 )
     requires { vec_len done.old + vec_len asks ≤ vec_capacity done.old }
-    ensures items { done.new.items ≡ done.old.items ++ writes_done A.key (answer_in_batch (C.left_keys left.now) fault) asks.items }
+    ensures items { done.new.items ≡ done.old.items
+        ++ writes_done A.key (answer_in_batch (C.leftover_keys left.now) fault) asks.items }
     ensures room { vec_capacity done.new ≡ vec_capacity done.old }
 {
     let mut asks = asks;

@@ -44,7 +44,8 @@ fn does_victim_fit(
     key: &Key,
     out: &Out,
 ) -> bool
-    ensures { (reply : _) → result ≡ victim_fits config.now contents.now (new_group victim.now (record { session = 0; call = 0 }) op.now key.now out.now reply) victim.now }
+    ensures { (reply : _) → result ≡ victim_fits config.now contents.now
+        (new_group victim.now (record { session = 0; call = 0 }) op.now key.now out.now reply) victim.now }
 {
     let entry = entry_before(contents, victim, key);
     match victim {
@@ -60,7 +61,8 @@ fn does_victim_fit(
 
 /// Whether the step is one of the operation table, at the entry that it found.
 fn is_made(config: &Config, entry: Option<Value>, op: &Op, out: &Out, reply: &Reply) -> bool
-    ensures { IsTrue result ↔ (IsTrue (answers_fit config.now op.now entry out.now) × (reply.now ≡ reply_after op.now entry out.now)) }
+    ensures { IsTrue result ↔ (IsTrue (answers_fit config.now op.now entry out.now)
+        × (reply.now ≡ reply_after op.now entry out.now)) }
 {
     op.answers_fit(config, &entry, out) && is_same_reply(reply, &op.reply_after(entry, out))
 }
@@ -75,7 +77,8 @@ fn does_start(
     out: &Out,
     reply: &Reply,
 ) -> bool
-    ensures { IsTrue result ↔ IsLawfulStep config.now contents.now (new_group victim.now (record { session = 0; call = 0 }) op.now key.now out.now reply.now) }
+    ensures { IsTrue result ↔ IsLawfulStep config.now contents.now
+        (new_group victim.now (record { session = 0; call = 0 }) op.now key.now out.now reply.now) }
 {
     is_made(config, entry_before(contents, victim, key), op, out, reply)
         && does_victim_fit(config, contents, victim, op, key, out)
@@ -90,7 +93,8 @@ fn does_shared_fit(
     shared_with: u32,
     reply: &Reply,
 ) -> bool
-    ensures { (caller : _) → (IsTrue result ↔ FitsShared stage.now (Event.Step caller op.now key.now out.now (Some shared_with) reply.now)) }
+    ensures { (caller : _) → (IsTrue result ↔ FitsShared stage.now
+        (Event.Step caller op.now key.now out.now (Some shared_with) reply.now)) }
 {
     match stage {
         Stage::Inside(kept) => {

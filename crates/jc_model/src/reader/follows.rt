@@ -20,7 +20,8 @@ fn opened_by(
     key: &Key,
     out: &Out,
 ) -> Opened
-    ensures { (reply : _) → result ≡ opened config.now contents.now place (new_group victim.now (record { session = 0; call = 0 }) op.now key.now out.now reply) }
+    ensures { (reply : _) → result ≡ opened config.now contents.now place
+        (new_group victim.now (record { session = 0; call = 0 }) op.now key.now out.now reply) }
 {
     let entry = entry_before(contents, victim, key);
     Opened {
@@ -44,7 +45,8 @@ fn make_step(
     key: &Key,
     out: &Out,
 ) -> Result<(), AllocError>
-    ensures { (reply : _) → OnOk result (contents.new ≡ cache_after_step contents.old (new_group victim.now (record { session = 0; call = 0 }) op.now key.now out.now reply)) }
+    ensures { (reply : _) → OnOk result (contents.new ≡ cache_after_step contents.old
+        (new_group victim.now (record { session = 0; call = 0 }) op.now key.now out.now reply)) }
 {
     if let Some(victim) = victim {
         contents.remove(victim);

@@ -6,8 +6,8 @@ use Rattle.jc_outside.proofs.calls_all.end_writes.Given as goal
 -- the asks that are left are those that come last, in the other order
 abbrev pub invariant-ending : goal.invariant-ending
 invariant-ending g l = record {
-  items : l.done.items ++ writes_done g.A.Ask.key (answer_in_batch (g.C.Left.left_keys l.left) l.fault) (reverse l.asks.items)
-      ≡ l.fn.done.items ++ writes_done g.A.Ask.key (answer_in_batch (g.C.Left.left_keys l.left) l.fault) l.fn.asks.items;
+  items : l.done.items ++ writes_done g.A.Ask.key (answer_in_batch (g.C.Leftover.leftover_keys l.left) l.fault) (reverse l.asks.items)
+      ≡ l.fn.done.items ++ writes_done g.A.Ask.key (answer_in_batch (g.C.Leftover.leftover_keys l.left) l.fault) l.fn.asks.items;
   room : vec_len l.done + vec_len l.asks ≤ vec_capacity l.done;
   capacity : vec_capacity l.done ≡ vec_capacity l.fn.done;
 }

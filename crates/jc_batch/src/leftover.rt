@@ -5,24 +5,24 @@ use indexmap::{IndexMap, IndexSet};
 use jc_types::{Key, Value};
 
 /// A collection that a writer was given, of which it has taken out what it wrote or deleted.
-pub trait Left {
+pub trait Leftover {
     ghost use Rattle.std.specs.Prelude.{◌≡◌, List};
     ghost use Rattle.jc_model.specs.Cache.{Bytes};
     ghost use Rattle.jc_model.specs.Batches.{is_among};
 
     /// The keys that are left.
-    ghost left_keys: { Self → List Bytes };
+    ghost leftover_keys: { Self → List Bytes };
 
     /// Whether a key is left. It costs one look-up.
     fn is_left(&self, key: &Key) -> bool
-        ensures { result ≡ is_among (left_keys self.now) key.now };
+        ensures { result ≡ is_among (leftover_keys self.now) key.now };
 }
 
 /// What `writeAll` leaves.
-impl Left for IndexMap<Key, Value> {
+impl Leftover for IndexMap<Key, Value> {
     ghost use Rattle.std.specs.Map.{keys_of};
 
-    ghost left_keys = { λ entries. keys_of entries.entries };
+    ghost leftover_keys = { λ entries. keys_of entries.entries };
 
     fn is_left(&self, key: &Key) -> bool {
         self.contains_key(key)
@@ -30,8 +30,8 @@ impl Left for IndexMap<Key, Value> {
 }
 
 /// What `deleteAll` leaves.
-impl Left for IndexSet<Key> {
-    ghost left_keys = { λ keys. keys.keys };
+impl Leftover for IndexSet<Key> {
+    ghost leftover_keys = { λ keys. keys.keys };
 
     fn is_left(&self, key: &Key) -> bool {
         self.contains(key)

@@ -2,9 +2,9 @@
 ghost use Rattle.std.specs.Prelude.{◌≡◌, ◌<◌, ◌≤◌, ◌+◌, ◌++◌, [], IfOk, length, vec_len, vec_capacity};
 ghost use Rattle.std.specs.List.{cons_option};
 ghost use Rattle.jc_batch.specs.Batch.{with_item, empty_batch};
-ghost use Rattle.jc_batch.specs.Splitting.{success_of, failure_of, written_in, failed_in};
+ghost use Rattle.jc_batch.specs.Splitting.{success_of, failure_of, successes_in, failures_in};
 
-use crate::left::Left;
+use crate::leftover::Leftover;
 use jc_model::{WriteAnswer, batch_answer};
 use jc_types::Key;
 use std::alloc::{AllocError, Global};
@@ -12,7 +12,7 @@ use std::marker::Model;
 
 /// The keys of a batch, in the order in which they were added, with all the room that their split takes.
 #[derive(Drop)]
-pub struct Asked {
+pub struct BatchKeys {
     keys: Vec<Key>,
     room: usize,
     split: Split,
@@ -27,28 +27,28 @@ pub struct Split {
     pub failed: Vec<(Key, u32)>,
 }
 
-impl Model for Asked {
+impl Model for BatchKeys {
     ghost use Rattle.std.specs.Prelude.{◌≡◌, ◌≤◌, ◌+◌, [], vec_len, vec_capacity};
     ghost use Rattle.jc_model.specs.Cache.{Bytes};
     ghost use Rattle.jc_batch.specs.Batch.{BatchState};
-    ghost use Rattle.jc_batch.specs.BatchInside.{IsAsked};
+    ghost use Rattle.jc_batch.specs.BatchInside.{AreBatchKeys};
 
     ghost Value = { BatchState Bytes };
 
     ghost view = { λ a. record { items = a.keys.items; room = a.room } };
 
-    ghost invariant = { λ a. IsAsked (vec_len a.keys + a.room) a.keys a.split };
+    ghost invariant = { λ a. AreBatchKeys (vec_len a.keys + a.room) a.keys a.split };
 }
 
-impl Asked {
+impl BatchKeys {
     /// No keys, with room for `n`. An `Err` says that an allocation failed.
     pub(crate) fn with_capacity(alloc: Global, n: usize) -> Result<Self, AllocError>
-        ensures { IfOk result (λ asked. asked ≡ empty_batch n) }
+        ensures { IfOk result (λ keys. keys ≡ empty_batch n) }
     {
         let keys = Vec::with_capacity(alloc, n)?;
         let written = Vec::with_capacity(alloc, n)?;
         let failed = Vec::with_capacity(alloc, n)?;
-        Ok(Asked {
+        Ok(BatchKeys {
             keys,
             room: n,
             split: Split { written, failed },
@@ -75,11 +75,11 @@ impl Asked {
 
     /// Splits the keys by what the writer left of their collection and its fault, if any: a key that is left failed, with the
     /// fault's code or, after a normal return, with 0; every other key was written. It takes no memory.
-    pub fn split<C: Left>(self, left: &C, fault: Option<u32>) -> Split
-        ensures written { result.written.items ≡ written_in (C.left_keys left.now) fault self.items }
-        ensures failed { result.failed.items ≡ failed_in (C.left_keys left.now) fault self.items }
+    pub fn split<C: Leftover>(self, left: &C, fault: Option<u32>) -> Split
+        ensures written { result.written.items ≡ successes_in (C.leftover_keys left.now) fault self.items }
+        ensures failed { result.failed.items ≡ failures_in (C.leftover_keys left.now) fault self.items }
     {
-        let Asked {
+        let BatchKeys {
             keys,
             room: _,
             split,
@@ -91,12 +91,12 @@ impl Asked {
 }
 
 /// Notes each of the keys by its answer.
-fn split_keys<C: Left>(keys: &[Key], left: &C, fault: Option<u32>, split: &mut Split)
+fn split_keys<C: Leftover>(keys: &[Key], left: &C, fault: Option<u32>, split: &mut Split)
     requires empty { (split.old.written.items ≡ []) × (split.old.failed.items ≡ []) }
     requires written_room { length keys.now ≤ vec_capacity split.old.written }
     requires failed_room { length keys.now ≤ vec_capacity split.old.failed }
-    ensures written { split.new.written.items ≡ written_in (C.left_keys left.now) fault keys.now }
-    ensures failed { split.new.failed.items ≡ failed_in (C.left_keys left.now) fault keys.now }
+    ensures written { split.new.written.items ≡ successes_in (C.leftover_keys left.now) fault keys.now }
+    ensures failed { split.new.failed.items ≡ failures_in (C.leftover_keys left.now) fault keys.now }
 {
     for key in keys {
         note(split, key, batch_answer(left.is_left(key), fault));

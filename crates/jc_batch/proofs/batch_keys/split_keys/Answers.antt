@@ -3,11 +3,11 @@ use Rattle.std.specs.List.{cons_option, filter_map}
 use Rattle.jc_model.specs.Batches.{batch_answer, answer_in_batch}
 use Rattle.jc_batch.specs.Splitting.{success_of, failure_of}
 use Rattle.jc_batch.proofs.Steps.{filter_map_more}
-use Rattle.jc_batch.proofs.asked.split_keys.Goals as goal
+use Rattle.jc_batch.proofs.batch_keys.split_keys.Goals as goal
 
 pub loop-key-preserved : goal.loop-key-preserved
 loop-key-preserved g c =
-    let left = g.C.Left.left_keys c.args.left.now in
+    let left = g.C.Leftover.leftover_keys c.args.left.now in
     let fault = c.args.fault in
     let key = c.key-item.result in
     let i = c.loop-key.key-index in
