@@ -19,7 +19,7 @@ use Rattle.jc_stripe.specs.declared.ticket.Reservation.{Reservation}
 use Rattle.jc_stripe.specs.Tickets.{EffectClaim}
 
 abbrev pub change_due : Config → ProcessResult Reservation → Option Change
-change_due config done = if config.write_through then processed.change_asked done.load done.process else None
+change_due config done = if config.write_through then processed.effect_change done.load done.process else None
 
 abbrev pub HasReport : Origin → Reservation → Option Change → Option (WriteResult EffectClaim) → Type 0
 HasReport origin r None None = Unit {0}

@@ -144,7 +144,7 @@ Begins old caller key op (begun.Write ticket) new =
 Begins old caller key op (begun.Process ticket) new =
     (first_refusal old caller key op ≡ None) × (first_asked old.config op (entry_at old.cache key) ≡ ticket.reservation.first)
     × (asks_processor ticket.reservation.first ≡ true)
-    × (ticket ≡ record { reservation = new_reservation old caller key op ticket.reservation.first; asked = false; written = false })
+    × (ticket ≡ record { reservation = new_reservation old caller key op ticket.reservation.first; asked = false; writer_asked = false })
     × (new ≡ with_reservation old ticket.reservation)
 Begins old caller key op (begun.Joined join) new =
     (first_refusal old caller key op ≡ None) × (load_joined old key op ≡ Some join.load) × (join ≡ record { caller = caller; key = key; load = join.load })

@@ -25,7 +25,7 @@ pub record Ticket : Type 0 where
 pub record ProcessClaim : Type 0 where
   pub reservation : Reservation
   pub asked : Bool  -- the processor
-  pub written : Bool  -- the writer was asked
+  pub writer_asked : Bool  -- the writer was asked
 
 pub record EffectClaim : Type 0 where
   pub reservation : Reservation

@@ -122,7 +122,15 @@ pub(crate) fn make_step<'a>(
 ) -> NewGroup<'a>
     requires room { length entries.old.list ≤ entries.old.capacity }
     requires entry { entry ≡ finite.find key_cmp key.now entries.old.list }
-    ensures group { result ≡ record { caller = caller; key = key.now; op = op.now; out = out.now; reply = reply_after op.now entry out.now; victim = result.victim; evicted = result.evicted } }
+    ensures group { result ≡ record {
+      caller = caller;
+      key = key.now;
+      op = op.now;
+      out = out.now;
+      reply = reply_after op.now entry out.now;
+      victim = result.victim;
+      evicted = result.evicted;
+    } }
     ensures applies { AppliesStep entries.old pinned.now key.now op.now out.now result.victim result.evicted entries.new }
 {
     // Copied first: a value counts as moved by the call that takes it.
@@ -148,7 +156,15 @@ pub(crate) fn touching_step<'a>(
     op: &'a Op,
     out: &'a Out,
 ) -> NewGroup<'a>
-    ensures { result ≡ record { caller = caller; key = key.now; op = op.now; out = out.now; reply = reply_after op.now (Some value) out.now; victim = None; evicted = None } }
+    ensures { result ≡ record {
+      caller = caller;
+      key = key.now;
+      op = op.now;
+      out = out.now;
+      reply = reply_after op.now (Some value) out.now;
+      victim = None;
+      evicted = None;
+    } }
 {
     NewGroup {
         caller,
@@ -161,8 +177,8 @@ pub(crate) fn touching_step<'a>(
     }
 }
 
-/// Appends an eviction. It is a function of its own, as the other that builds an event is: most steps come without, and needn't clear
-/// the room of an event.
+/// Appends an eviction. It is a function of its own, as the other that builds an event is: most steps come without, and needn't
+/// clear the room of an event.
 #[inline(never)]
 fn append_eviction(history: &mut History, key: &Key, cause: Cause)
     requires { 0 < history.old.promised }
@@ -176,7 +192,8 @@ fn append_step(history: &mut History, group: &NewGroup) -> u32
     requires few { length history.old.events + 1 < 2 ^ 32 }
     requires places { length (victim_events group.now.victim) + 1 ≤ history.old.promised }
     ensures place { result ≡ length history.old.events + length (victim_events group.now.victim) }
-    ensures history { history.new ≡ append_all (victim_events group.now.victim ++ Step group.now.caller group.now.op group.now.key group.now.out None group.now.reply ∷ []) history.old }
+    ensures history { history.new ≡ append_all (victim_events group.now.victim
+        ++ Step group.now.caller group.now.op group.now.key group.now.out None group.now.reply ∷ []) history.old }
 {
     if let Some(victim) = &group.victim {
         append_eviction(history, victim, Cause::Full);
@@ -214,7 +231,8 @@ fn shared_event(place: u32, key: &Key, answer: LoadAnswer, caller: Caller) -> Ev
 #[inline(never)]
 fn append_shared(history: &mut History, joiners: &Joiners, load: u64, place: u32, group: &NewGroup)
     requires places { length (callers_of load joiners.now) ≤ history.old.promised }
-    ensures history { history.new ≡ append_all (map (shared_event place group.now.key group.now.out.load) (callers_of load joiners.now)) history.old }
+    ensures history { history.new ≡ append_all (map (shared_event place group.now.key group.now.out.load)
+        (callers_of load joiners.now)) history.old }
 {
     for joiner in joiners.list() {
         if joiner.waits_for(load) {
@@ -255,7 +273,8 @@ pub(crate) fn append_group(
     ensures place { result.place ≡ length history.old.events + length (victim_events group.now.victim) }
     ensures victim { result.victim ≡ group.now.victim }
     ensures evicted { result.evicted ≡ eviction_of (length history.old.events) group.now (callers_in load joiners.now) }
-    ensures history { history.new ≡ append_group (group_events (length history.old.events) group.now (callers_in load joiners.now)) kept history.old }
+    ensures history { history.new ≡ append_group
+        (group_events (length history.old.events) group.now (callers_in load joiners.now)) kept history.old }
 {
     let before = history.len();
     let place = append_step(history, group);

@@ -1,6 +1,6 @@
 //! One stripe of a cache: a pure machine of phases. A first phase decides and perhaps reserves its key; then the loader, the
-//! writer or the processor is asked, while the stripe is free for others; a last phase appends the step. A `get` of a key that is being
-//! loaded joins that load, and later picks up its answer.
+//! writer or the processor is asked, while the stripe is free for others; a last phase appends the step. A `get` of a key that is
+//! being loaded joins that load, and later picks up its answer.
 #![tactic(auto)]
 
 mod appending;

@@ -1,5 +1,6 @@
 //! A stripe and its phases.
-ghost use Rattle.std.specs.Prelude.{◌≡◌, ◌≤◌, ◌<◌, ◌+◌, ◌++◌, ◌↔◌, [], true, false, IsTrue, IfOk, IsOk, OnOk, OnErr, Ok, None, Some, is_some, length, nat_le, slice_get, slice_range, vec_len, vec_capacity};
+ghost use Rattle.std.specs.Prelude.{◌≡◌, ◌≤◌, ◌<◌, ◌+◌, ◌++◌, ◌↔◌, [], true, false, IsTrue, IfOk, IsOk, OnOk, OnErr, Ok, None};
+ghost use Rattle.std.specs.Prelude.{Some, is_some, length, nat_le, slice_get, slice_range, vec_len, vec_capacity};
 ghost use Rattle.std.specs.FinMap as map;
 ghost use Rattle.jc_types.specs.Limits.{check};
 ghost use Rattle.jc_model.specs.declared.event.Op.{Op};
@@ -100,7 +101,17 @@ impl Stripe {
         origin: Origin,
     ) -> Result<Self, AllocError>
         requires { check config.now ≡ Ok tt }
-        ensures { IfOk result (λ s. s ≡ record { config = config.now; stripe = number; origin = origin; opening = []; cache = map.empty; reservations = []; joiners = []; history = []; next = 0 }) }
+        ensures { IfOk result (λ s. s ≡ record {
+          config = config.now;
+          stripe = number;
+          origin = origin;
+          opening = [];
+          cache = map.empty;
+          reservations = [];
+          joiners = [];
+          history = [];
+          next = 0;
+        }) }
     {
         let entries = Entries::new(alloc, config.capacity)?;
         let reservations = Reservations::new();
@@ -127,9 +138,9 @@ impl Stripe {
     /// that finds the entry or doesn't read through, answer from the entry even while another call has the key reserved (JSR
     /// 107, "Default Consistency").
     ///
-    /// Conditions: the key is of this stripe, by `stripe_of`. The call's number is at least that of every step of its session in this history. The session has no reservation and no join out here
-    /// under another number; a join counts until it is picked up. And there is no step, no reservation and no join here of this
-    /// call at this key.
+    /// Conditions: the key is of this stripe, by `stripe_of`. The call's number is at least that of every step of its session in
+    /// this history. The session has no reservation and no join out here under another number; a join counts until it is picked
+    /// up. And there is no step, no reservation and no join here of this call at this key.
     pub fn begin(&mut self, caller: Caller, key: &Key, op: &Op) -> Begun
         requires begins { MayBegin self.old caller key.now }
         ensures begins { Begins self.old caller key.now op.now result self.new }
@@ -241,7 +252,8 @@ impl Stripe {
         ensures withdraws { Withdraws self.old ticket.reservation self.new }
         ensures phase { IsPhaseOf ticket.reservation.caller.session self.old self.new }
     {
-        self.give_back(&ticket.spend());
+        let reservation = ticket.spend();
+        self.give_back(&reservation);
     }
 
     /// Picks up the answer of the load that a call has joined. If the load isn't over, the join comes back and nothing changes;

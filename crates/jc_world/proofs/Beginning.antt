@@ -14,9 +14,8 @@ use Rattle.jc_types.specs.declared.config.Config.{Config}
 use Rattle.jc_types.specs.Limits.{check}
 use Rattle.jc_types.specs.Stripes.{stripe_of}
 use Rattle.jc_model.specs.declared.event.Op.{Op}
-use Rattle.jc_model.specs.declared.event.Op.TheVariants.{Get, ContainsKey, Put, GetAndPut, PutIfAbsent, Remove, RemoveIf, GetAndRemove, Replace, ReplaceIf, GetAndReplace, Clear, LoadAll, Invoke}
+use Rattle.jc_model.specs.declared.event.Op.TheVariants.{Get}
 use Rattle.jc_model.specs.Cache.{Bytes, Cache, key_cmp}
-use Rattle.jc_model.specs.Table.{is_invoke}
 use Rattle.jc_model.specs.Legal.{is_of_stripe, may_come}
 use Rattle.jc_stripe.specs.declared.ticket.Reservation.{Reservation}
 use Rattle.jc_inflight.specs.declared.joiner.Joiner.{Joiner}
@@ -25,19 +24,19 @@ use Rattle.jc_stripe.specs.State.{State, is_of}
 use Rattle.jc_stripe.specs.Phases.{MayBegin, is_other_call, is_other_join as is_join_apart}
 use Rattle.jc_stripe.specs.Reached.{IsReached}
 use Rattle.jc_stripe.specs.OwnSteps.{may_come_all}
-use Rattle.jc_world.specs.declared.event.Command.{Command}
+use Rattle.jc_world.specs.declared.command.Command.{Command}
 use Rattle.jc_world.specs.declared.event.Part.{Part}
 use Rattle.jc_world.specs.declared.event.Premises.{Premises}
-use Rattle.jc_world.specs.declared.event.OpenCall.{OpenCall}
+use Rattle.jc_world.specs.Calls.{CallState, has_number, op_at, new_call}
 use Rattle.jc_world.specs.declared.event.WorldEvent.TheVariants as event
-use Rattle.jc_world.specs.World.{WorldState, Parts, home, stripe_for, empty_stripe, empty_stripes, start, has_number, is_busy, open_call, op_at, part_of, is_joined}
-use Rattle.jc_world.specs.Events.{is_single, is_session, is_new, is_free, may_start, fits}
+use Rattle.jc_world.specs.World.{WorldState, Parts, home, stripe_for, empty_stripe, empty_stripes, start, is_busy, open_call, part_of, is_joined}
+use Rattle.jc_world.specs.Events.{is_playable, is_session, is_new, is_free, may_start, fits}
 use Rattle.jc_world.specs.Sound.{IsStripe, is_up_to, has_parked_answer, is_served_in, is_served, FitsKey, FitsCall, CallsFit, IsCallOf, IsOwned, AllOwned, IsCalled, AllCalled, IsSoundWorld, Each}
 use Rattle.jc_world.proofs.Halves.{HasOrder}
 use Rattle.jc_world.proofs.Shares.{found_test, shape_same, fact_found, each_map, each_test}
 use Rattle.jc_world.proofs.Underway.{found_number, fits_found, calls_on, elsewhere_found, up_self, up_more, numbers_more, comes_new, calls_pushed, find_pushed, same_bytes, of_call-none}
 use Rattle.jc_world.proofs.Joiners.{joiner_of, other_key}
-use Rattle.jc_world.proofs.Settling.{op_of, Left}
+use Rattle.jc_world.proofs.Settling.{Left}
 use Rattle.jc_world.proofs.Facts.{refuted, not_true}
 use Rattle.jc_world.proofs.Entries.{split}
 
@@ -51,12 +50,11 @@ unless false b f h = refl
 -- an open key fits a world of the same order, where it is served if it was
 fits_key : (w n : WorldState) (caller : Caller) (key : Bytes) (op : Op) → n.order ≡ w.order → (is_served w caller key ≡ true → is_served n caller key ≡ true) → FitsKey w caller key op → FitsKey n caller key op
 fits_key w n caller key op order served h = record {
-  runs_none = h.runs_none;
   comes = λ e. ap (λ o. may_come_all o caller key) order ∙ h.comes (unless (is_served w caller key) (is_served n caller key) served e);
 }
 
 -- what is left of a call fits a world of the same order and the same last number, where it is served if it was
-pub fits_left : (w n : WorldState) (call : ℕ) (key : Bytes) (u v : OpenCall) → Left call key u v → n.last ≡ w.last → n.order ≡ w.order → ((q : Bytes) (op : Op) → op_at v q ≡ Some op → is_served w u.caller q ≡ true → is_served n u.caller q ≡ true) → FitsCall w u → FitsCall n v
+pub fits_left : (w n : WorldState) (call : ℕ) (key : Bytes) (u v : CallState) → Left call key u v → n.last ≡ w.last → n.order ≡ w.order → ((q : Bytes) (op : Op) → op_at v q ≡ Some op → is_served w u.caller q ≡ true → is_served n u.caller q ≡ true) → FitsCall w u → FitsCall n v
 fits_left w n call key u v left last order served h = record {
   number = (λ i. is_up_to (last i) (left.caller_is i).call) ∙ h.number;
   keys = λ q op is.
@@ -65,18 +63,18 @@ fits_left w n call key u v left last order served h = record {
 }
 
 -- a call fits a world of the same order and the same last number, where it is served if it was
-pub fits_same : (w n : WorldState) (u : OpenCall) → n.last ≡ w.last → n.order ≡ w.order → ((key : Bytes) (op : Op) → op_at u key ≡ Some op → is_served w u.caller key ≡ true → is_served n u.caller key ≡ true) → FitsCall w u → FitsCall n u
+pub fits_same : (w n : WorldState) (u : CallState) → n.last ≡ w.last → n.order ≡ w.order → ((key : Bytes) (op : Op) → op_at u key ≡ Some op → is_served w u.caller key ≡ true → is_served n u.caller key ≡ true) → FitsCall w u → FitsCall n u
 fits_same w n u last order served h = record {
   number = ap (λ l. is_up_to l u.caller.call) last ∙ h.number;
   keys = λ q op is. fits_key w n u.caller q op order (served q op is) (h.keys q op is);
 }
 
 -- the calls fit a world of the same order, the same last number and the same joiners
-pub calls_same : (w n : WorldState) (calls : List OpenCall) → n.last ≡ w.last → n.order ≡ w.order → ((caller : Caller) (key : Bytes) → is_served w caller key ≡ true → is_served n caller key ≡ true) → CallsFit w calls → CallsFit n calls
+pub calls_same : (w n : WorldState) (calls : List CallState) → n.last ≡ w.last → n.order ≡ w.order → ((caller : Caller) (key : Bytes) → is_served w caller key ≡ true → is_served n caller key ≡ true) → CallsFit w calls → CallsFit n calls
 calls_same w n calls last order served fit =
     calls_on w n (λ u. Unit {0}) calls (λ u t h. fits_same w n u last order (λ q op is. served u.caller q) h) (each_one calls) fit
   where
-    each_one : (xs : List OpenCall) → Each (λ (u : OpenCall). Unit {0}) xs
+    each_one : (xs : List CallState) → Each (λ (u : CallState). Unit {0}) xs
     each_one [] = tt
     each_one (x ∷ xs) = (tt, each_one xs)
 
@@ -187,38 +185,21 @@ called_parts a b c d h =
     let q = and_parts (a && b) c p.0 in
     ((and_parts a b q.0).0, q.1, p.1)
 
--- a single operation runs no processor
-pub single_runs_none : (op : Op) → is_single op ≡ true → is_invoke op ≡ false
-single_runs_none Get h = refl
-single_runs_none ContainsKey h = refl
-single_runs_none (Put value) h = refl
-single_runs_none (GetAndPut value) h = refl
-single_runs_none (PutIfAbsent value) h = refl
-single_runs_none Remove h = refl
-single_runs_none (RemoveIf old) h = refl
-single_runs_none GetAndRemove h = refl
-single_runs_none (Replace value) h = refl
-single_runs_none (ReplaceIf old value) h = refl
-single_runs_none (GetAndReplace value) h = refl
-single_runs_none Clear h = cc
-single_runs_none (LoadAll replace) h = cc
-single_runs_none Invoke h = cc
-
 -- a session begins a call
 pub order_called : (w : WorldState) (call session : ℕ) (command : Command) → fits w (event.Call call session command) ≡ true → IsSoundWorld w
-    → HasOrder (record w { last = Some call; fresh = false; calls = w.calls ++ record { caller = record { session = session; call = call }; command = command } ∷ [] })
+    → HasOrder (record w { last = Some call; fresh = false; calls = w.calls ++ new_call call session command ∷ [] })
 order_called w call session command fit old =
-    let u : OpenCall = record { caller = record { session = session; call = call }; command = command } in
+    let u : CallState = new_call call session command in
     let new : WorldState = record w { last = Some call; fresh = false; calls = w.calls ++ u ∷ [] } in
-    let ok = called_parts (is_single command.op) (is_session session) (is_new w.last call) (not (is_busy w session)) fit in
+    let ok = called_parts (is_playable command) (is_session session) (is_new w.last call) (not (is_busy w session)) fit in
     record {
       shape = shape_same w new refl refl refl old.shape;
       order = old.order;
       numbers = numbers_more w.last call w.order ok.1 old.numbers;
-      calls = calls_pushed w new u w.calls ok.1 ok.2 (λ x h. record { number = up_more w.last call x.caller.call ok.1 h.number; keys = λ q op is. let k = h.keys q op is in record { runs_none = k.runs_none; comes = k.comes } })
+      calls = calls_pushed w new u w.calls ok.1 ok.2 (λ x h. record { number = up_more w.last call x.caller.call ok.1 h.number; keys = λ q op is. let k = h.keys q op is in record { comes = k.comes } })
           (record {
             number = up_self call;
-            keys = λ q op is. record { runs_none = ap is_invoke (sym (op_of u q op is)) ∙ single_runs_none command.op ok.0; comes = λ e. comes_new w.last u.caller q w.order ok.1 old.numbers };
+            keys = λ q op is. record { comes = λ e. comes_new w.last u.caller q w.order ok.1 old.numbers };
           }) old.calls;
       owned = λ n s here. each_map (IsOwned w) (IsOwned new) s.reservations
           (λ r h. record { part = h.part; call = find_pushed (has_number r.caller.call) w.calls (u ∷ []) (IsCallOf r.caller.session r.key r.op) h.call })
@@ -228,7 +209,7 @@ order_called w call session command fit old =
 -- 4. The first phase of a call.
 
 -- what a first phase rests on
-pub record MayStart (w : WorldState) (u : OpenCall) (key : Bytes) (op : Op) : Type 0 where
+pub record MayStart (w : WorldState) (u : CallState) (key : Bytes) (op : Op) : Type 0 where
   pub here : open_call w u.caller.call ≡ Some u
   pub op_is : op_at u key ≡ Some op
   pub fit : FitsKey w u.caller key op
@@ -236,7 +217,7 @@ pub record MayStart (w : WorldState) (u : OpenCall) (key : Bytes) (op : Op) : Ty
   pub alone : is_joined w u.caller.call key ≡ false
 
 -- so where a start fits
-pub may_start_at : (w : WorldState) (call : ℕ) (key : Bytes) (u : OpenCall) (op : Op) → fits w (event.Start call key) ≡ true → open_call w call ≡ Some u → op_at u key ≡ Some op → IsSoundWorld w → MayStart w u key op
+pub may_start_at : (w : WorldState) (call : ℕ) (key : Bytes) (u : CallState) (op : Op) → fits w (event.Start call key) ≡ true → open_call w call ≡ Some u → op_at u key ≡ Some op → IsSoundWorld w → MayStart w u key op
 may_start_at w call key u op fit is op_is old =
     let free = (and_parts (is_some (op_at u key)) (is_free w call key) (sym (ap (may_start w call key) is) ∙ fit)).1 in
     let parts = and_parts (is_none (part_of w call key)) (not (is_joined w call key)) free in
@@ -269,7 +250,7 @@ first_one true b h = refl
 first_one false b h = cc
 
 -- each reservation is another session's, or at another key
-beside_own : (w : WorldState) (u : OpenCall) (key : Bytes) (op : Op) (r : Reservation) → IsSoundWorld w → MayStart w u key op → IsOwned w r → is_other_call u.caller key r ≡ true
+beside_own : (w : WorldState) (u : CallState) (key : Bytes) (op : Op) (r : Reservation) → IsSoundWorld w → MayStart w u key op → IsOwned w r → is_other_call u.caller key r ≡ true
 beside_own w u key op r old may h =
     let call = some_of (open_call w r.caller.call) (IsCallOf r.caller.session r.key r.op) h.call in
     elim (u.caller.call == r.caller.call) as (λ b. (u.caller.call == r.caller.call) ≡ b → is_other_call u.caller key r ≡ true) [
@@ -280,7 +261,7 @@ beside_own w u key op r old may h =
     ] refl
 
 -- and so is each joiner
-apart_own : (w : WorldState) (u : OpenCall) (key : Bytes) (op : Op) (m : ℕ) (j : Joiner) → IsSoundWorld w → MayStart w u key op → IsCalled w m j → is_join_apart u.caller key j ≡ true
+apart_own : (w : WorldState) (u : CallState) (key : Bytes) (op : Op) (m : ℕ) (j : Joiner) → IsSoundWorld w → MayStart w u key op → IsCalled w m j → is_join_apart u.caller key j ≡ true
 apart_own w u key op m j old may h =
     let call = some_of (open_call w j.caller.call) (IsCallOf j.caller.session j.key Get) h.call in
     elim (u.caller.call == j.caller.call) as (λ b. (u.caller.call == j.caller.call) ≡ b → is_join_apart u.caller key j ≡ true) [
@@ -311,7 +292,7 @@ own_key : (w : WorldState) (key : Bytes) (from : State) → IsStripe w (home w k
 own_key w key from h = eq-eqb (stripe_of key from.config.stripes) from.stripe (ap (λ (c : Config). stripe_of key c.stripes) h.config_is ∙ sym h.number_is)
 
 -- so the first phase may begin
-pub begins_with : (w : WorldState) (u : OpenCall) (key : Bytes) (op : Op) (from : State) → IsSoundWorld w → stripe_for w key ≡ Some from → MayStart w u key op → MayBegin from u.caller key
+pub begins_with : (w : WorldState) (u : CallState) (key : Bytes) (op : Op) (from : State) → IsSoundWorld w → stripe_for w key ≡ Some from → MayStart w u key op → MayBegin from u.caller key
 begins_with w u key op from old there may =
     let at = old.shape.each (home w key) from there in
     record {
@@ -324,6 +305,6 @@ begins_with w u key op from old there may =
     }
 
 -- the same, where a start fits
-pub begins_at : (w : WorldState) (call : ℕ) (key : Bytes) (u : OpenCall) (op : Op) (from : State) → fits w (event.Start call key) ≡ true → open_call w call ≡ Some u → op_at u key ≡ Some op → stripe_for w key ≡ Some from → IsSoundWorld w
+pub begins_at : (w : WorldState) (call : ℕ) (key : Bytes) (u : CallState) (op : Op) (from : State) → fits w (event.Start call key) ≡ true → open_call w call ≡ Some u → op_at u key ≡ Some op → stripe_for w key ≡ Some from → IsSoundWorld w
     → MayBegin from u.caller key
 begins_at w call key u op from fit is op_is there old = begins_with w u key op from old there (may_start_at w call key u op fit is op_is old)

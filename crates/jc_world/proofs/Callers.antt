@@ -34,7 +34,7 @@ use Rattle.jc_inflight.specs.Resolving.{after_resolve as resolved}
 use Rattle.jc_inflight.specs.Taking.{without_joiner as without}
 use Rattle.jc_stripe.specs.declared.begun.Picked.{Picked}
 use Rattle.jc_stripe.specs.declared.begun.Picked.TheVariants as picked
-use Rattle.jc_stripe.specs.Tickets.{Ticket, JoinClaim}
+use Rattle.jc_stripe.specs.Tickets.{Ticket, ProcessClaim, JoinClaim}
 use Rattle.jc_stripe.specs.State.{State, is_key, is_of, is_reserved, with_reservation, without_key, IsOut}
 use Rattle.jc_stripe.specs.Refusals.{reserves}
 use Rattle.jc_stripe.specs.Phases.{Begins, Commits, Withdraws, PicksUp, Steps, new_group, after_commit, with_joiner, without_joiner}
@@ -47,16 +47,17 @@ use Rattle.jc_world.specs.declared.event.Progress.{Progress}
 use Rattle.jc_world.specs.declared.event.Premises.{Premises}
 use Rattle.jc_world.specs.declared.event.Shown.{Shown}
 use Rattle.jc_world.specs.declared.event.Shown.TheVariants as shown
-use Rattle.jc_world.specs.declared.event.OpenCall.{OpenCall}
+use Rattle.jc_world.specs.Calls.{CallState, has_number, open_keys, op_at, settle}
 use Rattle.jc_world.specs.declared.event.WorldEvent.{WorldEvent}
 use Rattle.jc_world.specs.declared.event.WorldEvent.TheVariants as event
-use Rattle.jc_world.specs.World.{WorldState, Parts, home, stripe_for, has_number, open_call, open_keys, op_at, settle, part_of, is_joined, is_join, join_of, joins_without, out_of, with_stored}
-use Rattle.jc_world.specs.Events.{is_free, may_leave, fits, with_stripe, with_phase, with_settled, without_call, new_load, new_write, new_part, with_part, without_part, with_join, without_join, step_of, Starts, Ends, Picks, Happens}
+use Rattle.jc_world.specs.World.{WorldState, Parts, home, stripe_for, open_call, part_of, is_joined, is_join, join_of, joins_without, out_of, with_stored}
+use Rattle.jc_world.specs.Events.{is_free, may_leave, fits, with_stripe, with_phase, with_settled, without_call, new_load, new_write, new_part, with_part, without_part, with_join, without_join, step_of, Starts, Ends, Picks, Happens, new_process}
 use Rattle.jc_world.specs.Audit.{cache_in, cache_at, IsOrder, HasShares}
 use Rattle.jc_world.specs.Sound.{IsStripe, is_up_to, has_answer, has_parked_answer, is_served_in, is_served, FitsKey, FitsCall, CallsFit, IsCallOf, IsHeld, IsOwned, AllOwned, IsCalled, IsSoundWorld, IsWaitedFor, Each}
 use Rattle.jc_world.proofs.Halves.{HasOrder}
 use Rattle.jc_world.proofs.Places.{at_stripe, stripe_put}
 use Rattle.jc_world.proofs.Reservations.{out_reserved, was_free, writer_alone}
+use Rattle.jc_world.proofs.Processors.{processor_free}
 use Rattle.jc_world.proofs.Shares.{is_some_and, set_cases, found_test, added, share_grows, share_stays, shape_same, shape_set, AllBy, by_map, by_group, added_order, numbers_added, comes_behind, comes_added, fact_found, each_kept, each_map, each_pushed}
 use Rattle.jc_world.proofs.Underway.{found_number, find_over, fits_found, calls_filter, calls_on, each_found, elsewhere_found, all_owned, others_left, same_bytes, of_call-at}
 use Rattle.jc_world.proofs.Settling.{open_now, Left, still_called, calls_settled}
@@ -69,11 +70,11 @@ use Rattle.jc_world.proofs.Entries.{tied}
 -- 1. A key that is settled.
 
 -- the test that keeps the other calls
-abbrev is_other : ℕ → OpenCall → Bool
+abbrev is_other : ℕ → CallState → Bool
 is_other call u = not (has_number call u)
 
 -- a call is found by its number
-abbrev IsFound : WorldState → OpenCall → Type 0
+abbrev IsFound : WorldState → CallState → Type 0
 IsFound w u = find (has_number u.caller.call) w.calls ≡ Some u
 
 -- a reservation of another call, or at another key, keeps its call
@@ -81,7 +82,7 @@ call_kept : (w : WorldState) (call : ℕ) (key : Bytes) (r : Reservation) → (r
 call_kept w call key r other h = still_called call key r.caller.call r.caller.session r.key r.op w.calls other h.call
 
 -- a first phase was refused, and the key has its last refusal
-order_refused : (w : WorldState) (u : OpenCall) (key : Bytes) (op : Op) → MayStart w u key op → IsSoundWorld w → HasOrder (with_settled w u.caller.call key)
+order_refused : (w : WorldState) (u : CallState) (key : Bytes) (op : Op) → MayStart w u key op → IsSoundWorld w → HasOrder (with_settled w u.caller.call key)
 order_refused w u key op may old =
     let new : WorldState = with_settled w u.caller.call key in
     record {
@@ -95,7 +96,7 @@ order_refused w u key op may old =
     }
 
 -- a call leaves: no reservation is of it
-order_over : (w : WorldState) (call : ℕ) (u : OpenCall) → list_all (is_free w call) (open_keys u) ≡ true → open_call w call ≡ Some u → IsSoundWorld w → HasOrder (without_call w call)
+order_over : (w : WorldState) (call : ℕ) (u : CallState) → list_all (is_free w call) (open_keys u) ≡ true → open_call w call ≡ Some u → IsSoundWorld w → HasOrder (without_call w call)
 order_over w call u free is old =
     let new : WorldState = without_call w call in
     record {
@@ -105,12 +106,12 @@ order_over w call u free is old =
       calls = calls_filter w new (is_other call) (IsFound w) w.calls (λ v other found h. fits_same w new v refl refl (λ q o is k. k) h) (each_found w w.calls old.calls) old.calls;
       owned = λ n s here. each_map (IsOwned w) (IsOwned new) s.reservations
           (λ r h.
-          let P : Option OpenCall → Type 0 = λ o. IsSomeAnd o (IsCallOf r.caller.session r.key r.op) in
+          let P : Option CallState → Type 0 = λ o. IsSomeAnd o (IsCallOf r.caller.session r.key r.op) in
           let v = some_of (open_call w r.caller.call) (IsCallOf r.caller.session r.key r.op) h.call in
           let apart = refuted (call == r.caller.call) (λ e.
           let mine : r.caller.call ≡ call = sym (eqb-true call r.caller.call e) in
           let same : v.0 ≡ u = same_found (open_call w call) v.0 u (ap (open_call w) (sym mine) ∙ v.1) is in
-          let one = open_now (is_free w call) u r.key r.op (ap (λ (x : OpenCall). op_at x r.key) (sym same) ∙ v.2.1) free in
+          let one = open_now (is_free w call) u r.key r.op (ap (λ (x : CallState). op_at x r.key) (sym same) ∙ v.2.1) free in
           not_own w call r.key r (and_parts (is_none (part_of w call r.key)) (not (is_joined w call r.key)) one).0 h mine refl)
           in
           record { part = h.part; call = subst P (sym (find_over call r.caller.call w.calls apart)) h.call })
@@ -135,7 +136,7 @@ goes from mid to caller key op out callers done same history steps = record {
 -- a step is put down for a call under way, at a key where it isn't served yet: at the one that is settled then, or where it is served
 -- then
 pub record IsPut (w n : WorldState) (call : ℕ) (key : Bytes) (who : Caller) (k : Bytes) : Type 0 where
-  pub v : OpenCall
+  pub v : CallState
   pub here : open_call w who.call ≡ Some v
   pub session_is : v.caller.session ≡ who.session
   pub op : Op
@@ -157,14 +158,14 @@ served_set w key from to there keeps caller q =
     at_stripe w.stripes (home w key) (home w q) from to (λ o x. is_served_in o caller q ≡ true → is_served_in x caller q ≡ true) there (keeps caller q) (λ h. h)
 
 -- a step may still come at a key that goes on and isn't served then
-put_behind : (w n : WorldState) (call : ℕ) (key : Bytes) (u v : OpenCall) (q : Bytes) (op : Op) (who : Caller) (k : Bytes) → CallsFit w w.calls → IsFound w u → Left call key u v → op_at v q ≡ Some op → is_served n u.caller q ≡ false → IsPut w n call key who k
+put_behind : (w n : WorldState) (call : ℕ) (key : Bytes) (u v : CallState) (q : Bytes) (op : Op) (who : Caller) (k : Bytes) → CallsFit w w.calls → IsFound w u → Left call key u v → op_at v q ≡ Some op → is_served n u.caller q ≡ false → IsPut w n call key who k
     → comes_behind who k u.caller q ≡ true
 put_behind w n call key u v q op who k fit found left is free p =
     elim (u.caller.call == who.call) as (λ b. (u.caller.call == who.call) ≡ b → comes_behind who k u.caller q ≡ true) [
       | true ↦ λ e.
           let mine : who.call ≡ u.caller.call = sym (eqb-true u.caller.call who.call e) in
           let same : p.v ≡ u = same_found (open_call w who.call) p.v u p.here (ap (open_call w) mine ∙ found) in
-          let caller_is : who ≡ u.caller = sym (put_caller w n call key who k p) ∙ ap (λ (x : OpenCall). x.caller) same in
+          let caller_is : who ≡ u.caller = sym (put_caller w n call key who k p) ∙ ap (λ (x : CallState). x.caller) same in
           or_third (not (who.session == u.caller.session)) (nat_lt who.call u.caller.call) _
           (apart_or false who.call u.caller.call k q mine (λ at. clash mine caller_is at p.over))
       | false ↦ λ e. or_first (not (who.session == u.caller.session)) (nat_lt who.call u.caller.call) _ (ap (λ s. not (s == u.caller.session)) (sym p.session_is) ∙ elsewhere_found w u.caller.call who.call w.calls u p.v fit found p.here e)
@@ -218,7 +219,6 @@ order_stepped w key from to call parts old there g reached put keeps owned =
                 let k = h.keys q op (left.was q op is) in
                 subst F (sym left.caller_is)
                 (record {
-                  runs_none = k.runs_none;
                   comes = λ e. comes_added w.order from to u.caller q g (k.comes (unless (is_served w u.caller q) (is_served new u.caller q) (served_set w key from to there keeps u.caller q) e))
                       (by_map put_of (λ who x. comes_behind who x u.caller q ≡ true) g.more (λ who x p. put_behind w new call key u v q op who x old.calls found left is e p) put);
                 });
@@ -234,7 +234,7 @@ same_told : (from to : State) → to.joiners ≡ from.joiners → KeepsParked fr
 same_told from to same caller key h = ap (λ js. has_parked_answer (joiner_of caller key js)) same ∙ h
 
 -- the key is settled, with its step
-order_done : StaysReached → (w : WorldState) (u : OpenCall) (key : Bytes) (op : Op) (from to : State) (done : StepDone) → stripe_for w key ≡ Some from → Begins from u.caller key op (begun.Done done) to
+order_done : StaysReached → (w : WorldState) (u : CallState) (key : Bytes) (op : Op) (from to : State) (done : StepDone) → stripe_for w key ≡ Some from → Begins from u.caller key op (begun.Done done) to
     → MayStart w u key op → IsSoundWorld w → HasOrder (with_settled (with_phase w key from to) u.caller.call key)
 unfolding goes
 order_done stays w u key op from to done there begins may old =
@@ -265,7 +265,7 @@ free_part w key from part old there free is =
     let t : true ≡ false = sym busy ∙ ap (λ s. is_reserved s key) same ∙ free in cc
 
 -- the key is reserved, and has a part
-order_reserved : (w : WorldState) (u : OpenCall) (key : Bytes) (op : Op) (from to : State) (p : Progress) (r : Reservation) → stripe_for w key ≡ Some from → is_reserved from key ≡ false
+order_reserved : (w : WorldState) (u : CallState) (key : Bytes) (op : Op) (from to : State) (p : Progress) (r : Reservation) → stripe_for w key ≡ Some from → is_reserved from key ≡ false
     → r.caller ≡ u.caller → r.key ≡ key → r.op ≡ op → to ≡ with_reservation from r → IsReached to
     → MayStart w u key op → IsSoundWorld w → HasOrder (with_part (with_stripe w key to) key (new_part p r))
 order_reserved w u key op from to p r there free caller_is key_is op_is is reached may old =
@@ -328,7 +328,7 @@ order_joins w key from to join there is reached old =
 -- 5. The first phase.
 
 -- by what is shown of the first phase
-starts : StaysReached → (w new : WorldState) (u : OpenCall) (key : Bytes) (op : Op) (from to : State) (seen : Shown) → stripe_for w key ≡ Some from → Starts w u.caller key op from to seen new → MayStart w u key op → IsSoundWorld w → HasOrder new
+starts : StaysReached → (w new : WorldState) (u : CallState) (key : Bytes) (op : Op) (from to : State) (seen : Shown) → stripe_for w key ≡ Some from → Starts w u.caller key op from to seen new → MayStart w u key op → IsSoundWorld w → HasOrder new
 starts stays w new u key op from to (shown.Refused refusal) there h may old = subst HasOrder (sym h.1) (order_refused w u key op may old)
 starts stays w new u key op from to (shown.Stepped seen) there h may old = subst HasOrder (sym h.2) (order_done stays w u key op from to (step_of seen) there h.0 may old)
 starts stays w new u key op from to shown.Loads there h may old =
@@ -343,6 +343,12 @@ starts stays w new u key op from to (shown.Asks change) there h may old =
     let free = was_free from u.caller key op h.0.reservation.first h.1.0 (writer_alone from key op h.0.reservation.first h.1.1 h.1.2) h.1.1 (ap reserves h.2) in
     subst HasOrder (sym h.3)
     (order_reserved w u key op from to new_write h.0.reservation there free (ap (λ (t : Ticket). t.reservation.caller) h.1.3) (ap (λ (t : Ticket). t.reservation.key) h.1.3) (ap (λ (t : Ticket). t.reservation.op) h.1.3) h.1.4 reached may old)
+starts stays w new u key op from to (shown.Processes entry) there h may old =
+    let at = old.shape.each (home w key) from there in
+    let reached = stays.begins from to u.caller key op (begun.Process h.0) at.reached (begins_with w u key op from old there may) h.1 in
+    let free = processor_free from to u.caller key op h.0 h.1 in
+    subst HasOrder (sym h.3)
+    (order_reserved w u key op from to new_process h.0.reservation there free (ap (λ (t : ProcessClaim). t.reservation.caller) h.1.3) (ap (λ (t : ProcessClaim). t.reservation.key) h.1.3) (ap (λ (t : ProcessClaim). t.reservation.op) h.1.3) h.1.4 reached may old)
 starts stays w new u key op from to shown.Joins there h may old =
     let at = old.shape.each (home w key) from there in
     let reached = stays.begins from to u.caller key op (begun.Joined h.0) at.reached (begins_with w u key op from old there may) h.1 in
@@ -350,7 +356,7 @@ starts stays w new u key op from to shown.Joins there h may old =
 starts stays w new u key op from to seen there h may old = absurd h
 
 -- a first phase
-pub order_started : StaysReached → (w new : WorldState) (call : ℕ) (key : Bytes) (u : OpenCall) (op : Op) (from to : State) (seen : Shown) → fits w (event.Start call key) ≡ true → open_call w call ≡ Some u → op_at u key ≡ Some op → stripe_for w key ≡ Some from
+pub order_started : StaysReached → (w new : WorldState) (call : ℕ) (key : Bytes) (u : CallState) (op : Op) (from to : State) (seen : Shown) → fits w (event.Start call key) ≡ true → open_call w call ≡ Some u → op_at u key ≡ Some op → stripe_for w key ≡ Some from
     → Starts w u.caller key op from to seen new → IsSoundWorld w → HasOrder new
 order_started stays w new call key u op from to seen fit is op_is there h old = starts stays w new u key op from to seen there h (may_start_at w call key u op fit is op_is old) old
 
@@ -509,7 +515,7 @@ told_without one other key k js apart h =
 
 -- what a pick-up rests on: the join and its call
 pub record Picking (w : WorldState) (call : ℕ) (key : Bytes) (join : JoinClaim) : Type 0 where
-  pub u : OpenCall
+  pub u : CallState
   pub here : open_call w call ≡ Some u
   pub session_is : u.caller.session ≡ join.caller.session
   pub op_is : op_at u key ≡ Some Get
@@ -587,7 +593,7 @@ order_again stays w call key join from to joined there picks old =
     ∙ (λ i. has_parked_answer (joiner_of (caller_is i) (sym one.join_key i) from.joiners))
     ∙ again_untold (joiner_of join.caller join.key from.joiners) picks.1
     in
-    let served : (v : OpenCall) → IsFound w v → (q : Bytes) (op : Op) → op_at v q ≡ Some op → is_served w v.caller q ≡ true → is_served new v.caller q ≡ true = λ v found q op op_is h.
+    let served : (v : CallState) → IsFound w v → (q : Bytes) (op : Op) → op_at v q ≡ Some op → is_served w v.caller q ≡ true → is_served new v.caller q ≡ true = λ v found q op op_is h.
     left_keeps w call key from to join v.caller q there is one.call_is one.join_key
     (λ mine at.
     let same : v ≡ one.u = same_found (open_call w call) v one.u (ap (open_call w) (sym mine) ∙ found) one.here in
@@ -613,7 +619,7 @@ order_picks stays w new call key join from to seen joined there h old = absurd h
 pub order_left : (w : WorldState) (call : ℕ) → may_leave w call (open_call w call) ≡ true → IsSoundWorld w → HasOrder (without_call w call)
 order_left w call fit old = go (open_call w call) refl fit
   where
-    go : (o : Option OpenCall) → open_call w call ≡ o → may_leave w call o ≡ true → HasOrder (without_call w call)
+    go : (o : Option CallState) → open_call w call ≡ o → may_leave w call o ≡ true → HasOrder (without_call w call)
     go None e h = cc
     go (Some u) e h = order_over w call u h e old
 
@@ -634,6 +640,7 @@ order_happens stays w new (event.Call call session command) seen fit h old = sub
 order_happens stays w new (event.Start call key) seen fit h old = order_started stays w new call key h.0 h.1 h.4 h.6 seen fit h.2 h.3 h.5 h.7 old
 order_happens stays w new (event.Read call key) seen fit h old = subst HasOrder (sym h.3) (order_part w call key h.0 _ _ w.store h.1 refl old)
 order_happens stays w new (event.Say call key answer) seen fit h old = subst HasOrder (sym h.3) (order_part w call key h.0 _ _ w.store h.1 refl old)
+order_happens stays w new (event.Process call key source calls fail) seen fit h old = subst HasOrder (sym h.3) (order_part w call key h.0 _ _ w.store h.1 refl old)
 order_happens stays w new (event.Change call key) seen fit h old = subst HasOrder (sym h.5) (order_part w call key h.0 _ w.premises _ h.2 refl old)
 order_happens stays w new (event.Report call fault) seen fit h old = subst HasOrder (sym h.9) (order_part w call h.1 h.2 _ _ w.store h.6 refl old)
 order_happens stays w new (event.Commit call key) seen fit h old = order_ended stays w new call key h.0 h.2 h.4 seen h.1 h.3 h.5 old

@@ -153,6 +153,7 @@ ended config ss from to parts left key are at is less h =
           all_filter (λ r. is_some (get parts r.key)) (λ r. not (is_key key r)) from.reservations (h.back n from at) in
           subst B (sym is.left ∙ ap (λ (s : State). s.reservations) here) (backs parts left key (without_key key from.reservations) less some (others_left key from.reservations)))
           (λ apart here. backs parts left key s.reservations less (h.back m s here) (other_stripe config key m s s.reservations (are.each m s here) apart (are.each m s here).reached.keys));
+      due = λ q part there. h.due q part (chosen (eq_by_cmp key_cmp q key) (get parts q) part (sym (left_at parts left key q less) ∙ there)).1;
     }
 
 -- the joins are still out
@@ -308,6 +309,7 @@ pub held_out : (w : WorldState) → IsSoundWorld w → HasHeld w.config w.stripe
 held_out w sound = record {
   out = λ key part there. part_out w key part (stripe_for w key) (sound.held key part there);
   back = λ n s at. each_test (IsOwned w) (λ r. is_some (get w.parts r.key)) s.reservations (λ r h. ap is_some (some_of (get w.parts r.key) (λ part. part.reservation.caller.call ≡ r.caller.call) h.part).1) (sound.owned n s at);
+  due = sound.due;
 }
 
 -- each join is joined

@@ -16,21 +16,20 @@ use Rattle.jc_model.specs.declared.event.Op.TheVariants.{Get}
 use Rattle.jc_model.specs.Cache.{Bytes}
 use Rattle.jc_world.specs.declared.event.Part.{Part}
 use Rattle.jc_world.specs.declared.event.Progress.{Progress}
-use Rattle.jc_world.specs.declared.event.Progress.TheVariants.{Loading, Writing}
-use Rattle.jc_world.specs.declared.event.OpenCall.{OpenCall}
+use Rattle.jc_world.specs.declared.event.Progress.TheVariants.{Loading, Writing, Processing, Processed, WritingEffect}
+use Rattle.jc_world.specs.Calls.{CallState, has_number, only_key, op_at, new_call}
 use Rattle.jc_world.specs.declared.event.Shown.{Shown}
 use Rattle.jc_world.specs.declared.event.Shown.TheVariants as shown
 use Rattle.jc_world.specs.declared.event.WorldEvent.{WorldEvent}
 use Rattle.jc_world.specs.declared.event.WorldEvent.TheVariants as event
-use Rattle.jc_world.specs.World.{WorldState, has_number, open_call, open_keys, op_at, of_call, part_of, waits_for_report, is_join, is_joined, is_untouched, has_progress}
-use Rattle.jc_world.specs.Events.{fits, is_new, is_free, may_start, may_leave, may_report, after_change, with_stripe, without_part, new_call, Happens, is_fit, AllFit, StartFits, RestFits, with_change}
+use Rattle.jc_world.specs.World.{WorldState, open_call, of_call, part_of, waits_for_report, is_join, is_joined, is_untouched, has_progress}
+use Rattle.jc_world.specs.Events.{fits, is_new, is_free, may_start, may_leave, waits_at, may_report, after_change, with_stripe, without_part, Happens, is_fit, AllFit, StartFits, RestFits, with_change}
 use Rattle.jc_world.specs.Sound.{is_up_to, IsCallOf, IsSoundWorld}
 use Rattle.jc_world.proofs.Holding.{call_on}
 use Rattle.jc_world.proofs.Entries.{tied}
 use Rattle.jc_world.proofs.Underway.{found_number, fits_found, of_call-at}
 use Rattle.jc_world.proofs.Joiners.{join_any, join_is}
-use Rattle.jc_world.proofs.Settling.{open_any}
-use Rattle.jc_world.proofs.Numbered.{some_of}
+use Rattle.jc_world.proofs.Settling.{only_is}
 use Rattle.jc_world.proofs.Facts.{refuted, missing}
 
 -- 1. What fits is shown as no fault.
@@ -42,6 +41,7 @@ fit_shown old new (event.Start call key) shown.Unfit h = absurd h.7
 fit_shown old new (event.Start call key) seen h = refl
 fit_shown old new (event.Read call key) seen h = ap is_fit h.2
 fit_shown old new (event.Say call key answer) seen h = ap is_fit h.2
+fit_shown old new (event.Process call key source calls fail) seen h = ap is_fit h.2
 fit_shown old new (event.Change call key) seen h = ap is_fit h.4
 fit_shown old new (event.Report call fault) seen h = ap is_fit h.8
 fit_shown old new (event.Commit call key) shown.Unfit h = absurd h.5
@@ -78,35 +78,35 @@ still_waits call o part is waits =
     due : (p : Progress) → waits_for_report (with_change p) ≡ waits_for_report p
     due (Loading answer) = refl
     due (Writing is_changed report) = refl
+    due Processing = refl
+    due (Processed loaded process) = refl
+    due (WritingEffect loaded process is_changed report) = refl
 
 -- the writer's return, behind its change of the store
-pub report_fits : (w : WorldState) → IsSoundWorld w → (call : ℕ) (key : Bytes) (fault : Option ℕ) → fits w (event.Change call key) ≡ true → AllFit w (event.Change call key ∷ event.Report call fault ∷ [])
-report_fits w old call key fault fit =
+report_fits : (w : WorldState) (call : ℕ) (u : CallState) (key : Bytes) (fault : Option ℕ) → open_call w call ≡ Some u → only_key u ≡ Some key → fits w (event.Change call key) ≡ true
+    → AllFit w (event.Change call key ∷ event.Report call fault ∷ [])
+report_fits w call u key fault here only fit =
     fits_then w (event.Change call key) (event.Report call fault ∷ []) fit (λ seen mid happens.
     let part = happens.0 in
     let new = after_change w key part happens.1 in
     let P : WorldState → Type 0 = λ m. fits m (event.Report call fault) ≡ true in
-    let at = of_call-at call (get w.parts key) part happens.2 in
-    let C : ℕ → Type 0 = λ n. IsSomeAnd (open_call w n) (λ u. op_at u key ≡ Some part.reservation.op) in
-    let u = some_of (open_call w call) (λ u. op_at u key ≡ Some part.reservation.op) (subst C at.1 (call_on w key part at.0 old)) in
     let there : get new.parts key ≡ Some (record part { progress = with_change part.progress }) = get-insert nat_list_cmp_total w.parts key (record part { progress = with_change part.progress }) key ∙ ap (λ b. cond b (Some (record part { progress = with_change part.progress })) (get w.parts key)) (tied key) in
     one_fits mid (event.Report call fault)
     (subst P (sym happens.5)
-    (ap (may_report new call) u.1
-    ∙ open_any (λ q. has_progress waits_for_report (part_of new call q)) u.0 key part.reservation.op u.2
-    (ap (λ o. has_progress waits_for_report (of_call call o)) there ∙ still_waits call (get w.parts key) part happens.2 fit))))
+    (ap (may_report new call) here ∙ ap (waits_at new call) only
+    ∙ ap (λ o. has_progress waits_for_report (of_call call o)) there ∙ still_waits call (get w.parts key) part happens.2 fit)))
 
 -- a call's leaving, behind its withdrawal
-pub leave_fits : (w : WorldState) (call : ℕ) (u : OpenCall) (key : Bytes) → open_call w call ≡ Some u → open_keys u ≡ key ∷ [] → is_joined w call key ≡ false → fits w (event.Withdraw call key) ≡ true
+pub leave_fits : (w : WorldState) (call : ℕ) (u : CallState) (key : Bytes) → open_call w call ≡ Some u → only_key u ≡ Some key → is_joined w call key ≡ false → fits w (event.Withdraw call key) ≡ true
     → AllFit w (event.Withdraw call key ∷ event.Leave call ∷ [])
-leave_fits w call u key here keys free fit =
+leave_fits w call u key here only free fit =
     fits_then w (event.Withdraw call key) (event.Leave call ∷ []) fit (λ seen mid happens.
     let new = without_part (with_stripe w key happens.4) key in
     let P : WorldState → Type 0 = λ m. fits m (event.Leave call) ≡ true in
     let gone : get (remove w.parts key) key ≡ None = get-remove nat_list_cmp_total w.parts key key ∙ ap (λ b. cond b None (get w.parts key)) (tied key) in
     one_fits mid (event.Leave call)
     (subst P (sym happens.7)
-    (ap (may_leave new call) here ∙ ap (list_all (is_free new call)) keys
+    (ap (may_leave new call) here ∙ ap (list_all (is_free new call)) (only_is u.tasks key only)
     ∙ and_from (is_free new call key) true (and_from _ _ (ap (λ o. is_none (of_call call o)) gone) (ap not free)) refl)))
 
 -- 3. A call that has just begun.
@@ -125,8 +125,8 @@ new_under w call new old = missing (open_call w call) (λ u here.
     above w.last call new (ap (is_up_to w.last) (sym (found_number call w.calls u here)) ∙ (fits_found w (has_number call) w.calls u here old.calls).number))
 
 -- and what is of a call under way isn't of one that isn't
-nobody : (w : WorldState) (call other : ℕ) (P : OpenCall → Type 0) → open_call w call ≡ None → other ≡ call → IsSomeAnd (open_call w other) P → ⊥
-nobody w call other P none same h = let Q : Option OpenCall → Type 0 = λ o. IsSomeAnd o P in subst Q (ap (open_call w) same ∙ none) h
+nobody : (w : WorldState) (call other : ℕ) (P : CallState → Type 0) → open_call w call ≡ None → other ≡ call → IsSomeAnd (open_call w other) P → ⊥
+nobody w call other P none same h = let Q : Option CallState → Type 0 = λ o. IsSomeAnd o P in subst Q (ap (open_call w) same ∙ none) h
 
 -- nor has a new number a part or a join
 new_free : (w : WorldState) (call : ℕ) (key : Bytes) → is_new w.last call ≡ true → IsSoundWorld w → is_free w call key ≡ true
@@ -143,7 +143,7 @@ new_free w call key new old =
 -- a call's first phase, behind its beginning
 pub start_fits : (w : WorldState) → IsSoundWorld w → StartFits w
 start_fits w old call session command key fit opens =
-    let u : OpenCall = new_call call session command in
+    let u : CallState = new_call call session command in
     let new : is_new w.last call ≡ true = (and_parts _ _ (and_parts _ _ fit).0).1 in
     let here : find (has_number call) (w.calls ++ u ∷ []) ≡ Some u =
     find-append (has_number call) w.calls (u ∷ []) ∙ ap (λ o. option_or o (find (has_number call) (u ∷ []))) (new_under w call new old) ∙ ap (λ b. cond b (Some u) None) (nat_eq_equiv.refl call)
@@ -167,6 +167,6 @@ unjoined_held w call key held old = refuted (is_joined w call key) (λ joined.
 pub rest_fits : (w : WorldState) → IsSoundWorld w → RestFits w
 rest_fits w old = record {
   alone = one_fits w;
-  report = report_fits w old;
-  leave = λ call u key here keys fit. leave_fits w call u key here keys (unjoined_held w call key fit old) fit;
+  report = report_fits w;
+  leave = λ call u key here only fit. leave_fits w call u key here only (unjoined_held w call key fit old) fit;
 }

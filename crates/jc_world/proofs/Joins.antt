@@ -22,19 +22,19 @@ use Rattle.jc_inflight.specs.Joining.{belongs_to as is_joiner_of}
 use Rattle.jc_inflight.specs.Resolving.{after_resolve as resolved}
 use Rattle.jc_inflight.specs.Taking.{without_joiner as without}
 use Rattle.jc_stripe.specs.declared.ticket.Reservation.{Reservation}
-use Rattle.jc_stripe.specs.Tickets.{Ticket, JoinClaim}
+use Rattle.jc_stripe.specs.Tickets.{Ticket, ProcessClaim, JoinClaim}
 use Rattle.jc_stripe.specs.State.{State, IsJoined}
 use Rattle.jc_stripe.specs.Phases.{Withdraws, with_joiner, without_joiner}
-use Rattle.jc_world.specs.declared.event.Command.{Command}
+use Rattle.jc_world.specs.declared.command.Command.{Command}
 use Rattle.jc_world.specs.declared.event.Part.{Part}
 use Rattle.jc_world.specs.declared.event.Premises.{Premises}
 use Rattle.jc_world.specs.declared.event.Shown.{Shown}
 use Rattle.jc_world.specs.declared.event.Shown.TheVariants as shown
-use Rattle.jc_world.specs.declared.event.OpenCall.{OpenCall}
+use Rattle.jc_world.specs.Calls.{CallState, has_number, open_keys, op_at, settle, drop_call, new_call}
 use Rattle.jc_world.specs.declared.event.WorldEvent.{WorldEvent}
 use Rattle.jc_world.specs.declared.event.WorldEvent.TheVariants as event
-use Rattle.jc_world.specs.World.{WorldState, Parts, home, stripe_for, start, has_number, open_call, open_keys, op_at, settle, drop_call, of_call, part_of, is_join, join_of, is_joined, joins_without}
-use Rattle.jc_world.specs.Events.{is_free, may_leave, fits, with_stripe, with_phase, with_settled, without_call, new_load, new_write, new_part, without_part, with_join, Starts, Ends, Picks, Happens}
+use Rattle.jc_world.specs.World.{WorldState, Parts, home, stripe_for, start, open_call, of_call, part_of, is_join, join_of, is_joined, joins_without}
+use Rattle.jc_world.specs.Events.{is_free, may_leave, fits, with_stripe, with_phase, with_settled, without_call, new_load, new_write, new_part, without_part, with_join, Starts, Ends, Picks, Happens, new_process}
 use Rattle.jc_world.specs.Sound.{IsWaitedFor, AllWaitedFor, IsCalled, AllCalled, IsSoundWorld, IsCallOf}
 use Rattle.jc_world.proofs.Halves.{HasJoins}
 use Rattle.jc_world.proofs.Places.{at_stripe, stripe_put}
@@ -106,9 +106,9 @@ joins_parted w call key was part premises store is same old =
     }
 
 -- a call begins
-joins_called : (w : WorldState) (call session : ℕ) (command : Command) → IsSoundWorld w → HasJoins (record w { last = Some call; fresh = false; calls = w.calls ++ record { caller = record { session = session; call = call }; command = command } ∷ [] })
+joins_called : (w : WorldState) (call session : ℕ) (command : Command) → IsSoundWorld w → HasJoins (record w { last = Some call; fresh = false; calls = w.calls ++ new_call call session command ∷ [] })
 joins_called w call session command old =
-    let more : List OpenCall = record { caller = record { session = session; call = call }; command = command } ∷ [] in
+    let more : List CallState = new_call call session command ∷ [] in
     let new : WorldState = record w { last = Some call; fresh = false; calls = w.calls ++ more } in
     record {
       joins = kept_joins w new (λ j t h. record { out = h.out; call = find_pushed (has_number j.caller.call) w.calls more (IsCallOf j.caller.session j.key Get) h.call; no_part = h.no_part }) old;
@@ -132,27 +132,27 @@ joins_refused w call key free old =
     }
 
 -- a call without any join goes
-still_beside : (w : WorldState) (call : ℕ) (u : OpenCall) → open_call w call ≡ Some u → list_all (is_free w call) (open_keys u) ≡ true → (number session : ℕ) (q : Bytes) → is_joined w number q ≡ true
+still_beside : (w : WorldState) (call : ℕ) (u : CallState) → open_call w call ≡ Some u → list_all (is_free w call) (open_keys u) ≡ true → (number session : ℕ) (q : Bytes) → is_joined w number q ≡ true
     → IsSomeAnd (open_call w number) (IsCallOf session q Get) → IsSomeAnd (find (has_number number) (drop_call call w.calls)) (IsCallOf session q Get)
 still_beside w call u is free number session q joined h =
-    let P : Option OpenCall → Type 0 = λ o. IsSomeAnd o (IsCallOf session q Get) in
+    let P : Option CallState → Type 0 = λ o. IsSomeAnd o (IsCallOf session q Get) in
     let v = some_of (open_call w number) (IsCallOf session q Get) h in
     let apart = refuted (call == number) (λ e.
     let mine : number ≡ call = sym (eqb-true call number e) in
     let t : Some v.0 ≡ Some u = sym v.1 ∙ ap (open_call w) mine ∙ is in
     let same : v.0 ≡ u = cc in
-    let one = open_now (is_free w call) u q Get (ap (λ (x : OpenCall). op_at x q) (sym same) ∙ v.2.1) free in
+    let one = open_now (is_free w call) u q Get (ap (λ (x : CallState). op_at x q) (sym same) ∙ v.2.1) free in
     denied (is_joined w call q) (and_parts (is_none (part_of w call q)) (not (is_joined w call q)) one).1 (ap (λ n. is_joined w n q) (sym mine) ∙ joined)) in
     subst P (sym (find_over call number w.calls apart)) h
 
 -- 3. A phase that changes no join.
 
 -- the world with a stripe, an order, calls and parts that are others
-abbrev phase_world : WorldState → Bytes → State → List Event → List OpenCall → Parts → WorldState
+abbrev phase_world : WorldState → Bytes → State → List Event → List CallState → Parts → WorldState
 phase_world w key to order calls parts = record w { stripes = slice_set w.stripes (home w key) to; order = order; calls = calls; parts = parts }
 
 -- the stripe keeps its joiners, and the calls that have joined go on without a part
-joins_phase : (w : WorldState) (key : Bytes) (from to : State) (order : List Event) (calls : List OpenCall) (parts : Parts) → stripe_for w key ≡ Some from
+joins_phase : (w : WorldState) (key : Bytes) (from to : State) (order : List Event) (calls : List CallState) (parts : Parts) → stripe_for w key ≡ Some from
     → ((j : JoinClaim) → IsJoined from j → IsJoined to j)
     → ((n : WorldState) → AllCalled n (home w key) from.joiners → AllCalled n (home w key) to.joiners)
     → ((number session : ℕ) (q : Bytes) → is_joined w number q ≡ true → IsSomeAnd (open_call w number) (IsCallOf session q Get) → IsSomeAnd (find (has_number number) calls) (IsCallOf session q Get))
@@ -196,7 +196,7 @@ no_joiner w key from join there free old = missing (joiner_of join.caller join.k
     let t : true ≡ false = sym had ∙ (λ i. is_joined w (its.1 i) (its.2 i)) ∙ free in cc)
 
 -- the call has joined a load
-joins_joined : (w : WorldState) (u : OpenCall) (key : Bytes) (op : Op) (from to : State) (join : JoinClaim) → stripe_for w key ≡ Some from → join ≡ record { caller = u.caller; key = key; load = join.load } → to ≡ with_joiner from join
+joins_joined : (w : WorldState) (u : CallState) (key : Bytes) (op : Op) (from to : State) (join : JoinClaim) → stripe_for w key ≡ Some from → join ≡ record { caller = u.caller; key = key; load = join.load } → to ≡ with_joiner from join
     → op ≡ Get → MayStart w u key op → IsSoundWorld w → HasJoins (with_join (with_stripe w key to) join)
 joins_joined w u key op from to join there join_is to_is get_is may old =
     let new : WorldState = with_join (with_stripe w key to) join in
@@ -233,7 +233,7 @@ joins_joined w u key op from to join there join_is to_is get_is may old =
     }
 
 -- by what is shown of the first phase
-joins_started : (w new : WorldState) (u : OpenCall) (key : Bytes) (op : Op) (from to : State) (seen : Shown) → stripe_for w key ≡ Some from → Starts w u.caller key op from to seen new → MayStart w u key op → IsSoundWorld w → HasJoins new
+joins_started : (w new : WorldState) (u : CallState) (key : Bytes) (op : Op) (from to : State) (seen : Shown) → stripe_for w key ≡ Some from → Starts w u.caller key op from to seen new → MayStart w u key op → IsSoundWorld w → HasJoins new
 joins_started w new u key op from to (shown.Refused refusal) there h may old = subst HasJoins (sym h.1) (joins_refused w u.caller.call key may.alone old)
 joins_started w new u key op from to (shown.Stepped seen) there h may old =
     let same : to.joiners ≡ from.joiners = ap (λ (s : State). s.joiners) h.0.2.after in
@@ -252,6 +252,12 @@ joins_started w new u key op from to (shown.Asks change) there h may old =
     subst HasJoins (sym h.3)
     (joins_phase w key from to w.order w.calls (insert w.parts key part) there (same_joiners from to same) (same_called (home w key) from to same) (λ number session q t k. k)
     (none_reserved w u.caller.call key part (ap (λ (t : Ticket). t.reservation.caller.call) h.1.3) may.alone) old)
+joins_started w new u key op from to (shown.Processes entry) there h may old =
+    let same : to.joiners ≡ from.joiners = ap (λ (s : State). s.joiners) h.1.4 in
+    let part = new_part new_process h.0.reservation in
+    subst HasJoins (sym h.3)
+    (joins_phase w key from to w.order w.calls (insert w.parts key part) there (same_joiners from to same) (same_called (home w key) from to same) (λ number session q t k. k)
+    (none_reserved w u.caller.call key part (ap (λ (t : ProcessClaim). t.reservation.caller.call) h.1.3) may.alone) old)
 joins_started w new u key op from to shown.Joins there h may old = subst HasJoins (sym h.2) (joins_joined w u key op from to h.0 there h.1.2 h.1.3 (joins_get from key op h.0.load h.1.1) may old)
 joins_started w new u key op from to seen there h may old = absurd h
 
@@ -285,7 +291,7 @@ joins_withdrawn w key claim from to there h old =
 -- 6. An answer is picked up.
 
 -- the calls that go on: all of them, or all but the one at the key
-record GoOn (w : WorldState) (call : ℕ) (key : Bytes) (calls : List OpenCall) : Type 0 where
+record GoOn (w : WorldState) (call : ℕ) (key : Bytes) (calls : List CallState) : Type 0 where
   keeps : (number session : ℕ) (q : Bytes) → (number ≡ call → q ≡ key → ⊥) → IsSomeAnd (open_call w number) (IsCallOf session q Get) → IsSomeAnd (find (has_number number) calls) (IsCallOf session q Get)
 
 -- all do
@@ -302,14 +308,14 @@ session_at w call key join p number session q same h =
     let v = some_of (open_call w number) (IsCallOf session q Get) h in
     let t : Some v.0 ≡ Some p.u = sym v.1 ∙ ap (open_call w) same ∙ p.here in
     let is : v.0 ≡ p.u = cc in
-    sym v.2.0 ∙ ap (λ (x : OpenCall). x.caller.session) is ∙ p.session_is
+    sym v.2.0 ∙ ap (λ (x : CallState). x.caller.session) is ∙ p.session_is
 
 -- a test that is passed by what is so
 join_of_is : (call number : ℕ) (key q : Bytes) → q ≡ key → number ≡ call → ((number == call) && pointwise ◌==◌ key q) ≡ true
 join_of_is call number key q e f = and_from _ _ (eq-eqb number call f) (ap (pointwise ◌==◌ key) e ∙ nat_list_eq_equiv.refl key)
 
 -- the join is gone, and its joiner
-joins_picked : (w : WorldState) (call : ℕ) (key : Bytes) (join : JoinClaim) (from to : State) (calls : List OpenCall) → join_of w call key ≡ Some join → stripe_for w key ≡ Some from → to ≡ without_joiner from join → GoOn w call key calls → IsSoundWorld w
+joins_picked : (w : WorldState) (call : ℕ) (key : Bytes) (join : JoinClaim) (from to : State) (calls : List CallState) → join_of w call key ≡ Some join → stripe_for w key ≡ Some from → to ≡ without_joiner from join → GoOn w call key calls → IsSoundWorld w
     → HasJoins (record w { stripes = slice_set w.stripes (home w key) to; joins = joins_without call key w.joins; calls = calls })
 joins_picked w call key join from to calls joined there is go old =
     let new : WorldState = record w { stripes = slice_set w.stripes (home w key) to; joins = joins_without call key w.joins; calls = calls } in
@@ -369,7 +375,7 @@ joins_start config fits = record {
 joins_left : (w : WorldState) (call : ℕ) → may_leave w call (open_call w call) ≡ true → IsSoundWorld w → HasJoins (without_call w call)
 joins_left w call fit old = go (open_call w call) refl
   where
-    go : (o : Option OpenCall) → open_call w call ≡ o → HasJoins (without_call w call)
+    go : (o : Option CallState) → open_call w call ≡ o → HasJoins (without_call w call)
     go None e = let t : false ≡ true = ap (may_leave w call) (sym e) ∙ fit in cc
     go (Some u) e =
         let new = without_call w call in
@@ -386,6 +392,7 @@ joins_happens w new (event.Call call session command) seen fit h old = subst Has
 joins_happens w new (event.Start call key) seen fit h old = joins_started w new h.0 key h.1 h.4 h.6 seen h.5 h.7 (may_start_at w call key h.0 h.1 fit h.2 h.3 old) old
 joins_happens w new (event.Read call key) seen fit h old = subst HasJoins (sym h.3) (joins_parted w call key h.0 _ _ w.store h.1 refl old)
 joins_happens w new (event.Say call key answer) seen fit h old = subst HasJoins (sym h.3) (joins_parted w call key h.0 _ _ w.store h.1 refl old)
+joins_happens w new (event.Process call key source calls fail) seen fit h old = subst HasJoins (sym h.3) (joins_parted w call key h.0 _ _ w.store h.1 refl old)
 joins_happens w new (event.Change call key) seen fit h old = subst HasJoins (sym h.5) (joins_parted w call key h.0 _ w.premises _ h.2 refl old)
 joins_happens w new (event.Report call fault) seen fit h old = subst HasJoins (sym h.9) (joins_parted w call h.1 h.2 _ _ w.store h.6 refl old)
 joins_happens w new (event.Commit call key) seen fit h old = joins_ended w new call key h.0 h.2 h.4 seen h.1 h.3 h.5 old

@@ -1,5 +1,5 @@
 -- Each event keeps what the parts and the store of a world say.
-use Rattle.std.proofs.Common.{◌≡◌, ◌&&◌, ◌+◌, ℕ, zero, suc, List, [], ◌∷◌, ◌++◌, Bool, true, false, cond, Option, None, Some, IsSomeAnd, Ok, find, refl, sym, ap, ◌∙◌, subst, slice_get, slice_set}
+use Rattle.std.proofs.Common.{◌≡◌, ◌&&◌, ◌+◌, ℕ, zero, suc, List, [], ◌∷◌, ◌++◌, Bool, true, false, cond, Option, None, Some, is_none, is_some, IsSomeAnd, Ok, find, refl, sym, ap, ◌∙◌, subst, slice_get, slice_set}
 use Rattle.std.specs.Ordering.{eq_by_cmp}
 use Rattle.std.specs.Cmp.Lexicographic.{texts_ties}
 use Rattle.std.proofs.lemmas.Cmp.{nat_list_cmp_total}
@@ -25,7 +25,11 @@ use Rattle.jc_model.specs.Processor.{found_in}
 use Rattle.jc_model.proofs.CallerLemmas.{same_key, get-with_entry}
 use Rattle.jc_inflight.specs.Joining.{callers_of}
 use Rattle.jc_stripe.specs.declared.ticket.Reservation.{Reservation}
-use Rattle.jc_stripe.specs.Tickets.{Ticket, JoinClaim, asks_loader, asks_writer}
+use Rattle.jc_stripe.specs.Tickets.{Ticket, ProcessClaim, JoinClaim, asks_loader, asks_writer, asks_processor}
+use Rattle.jc_mutentry.specs.Done.{ProcessResult}
+use Rattle.jc_outside.specs.declared.done.Origin.TheVariants.{Played}
+use Rattle.jc_model.specs.declared.processor.EntryCall.{EntryCall}
+use Rattle.jc_stripe.specs.Effects.{change_due}
 use Rattle.jc_stripe.specs.State.{State, without_key, is_reserved, is_key, new_reservation, IsOut}
 use Rattle.jc_stripe.specs.Phases.{Begins, Commits, Withdraws, Steps, after_commit}
 use Rattle.jc_stripe.specs.Refusals.{reserves, first_asked}
@@ -34,22 +38,23 @@ use Rattle.jc_stripe.specs.Reached.{AllAsk}
 use Rattle.jc_stripe.specs.declared.begun.Begun.TheVariants as begun
 use Rattle.jc_stripe.specs.declared.ticket.First.{First}
 use Rattle.jc_stripe.specs.declared.ticket.First.TheVariants.{Nobody, Loader, Writer, Processor}
-use Rattle.jc_world.specs.declared.event.Command.{Command}
-use Rattle.jc_world.specs.declared.event.OpenCall.{OpenCall}
+use Rattle.jc_world.specs.declared.command.Command.{Command}
+use Rattle.jc_world.specs.Calls.{CallState, has_number, op_at, settle, drop_call, new_call}
 use Rattle.jc_world.specs.declared.event.Part.{Part}
 use Rattle.jc_world.specs.declared.event.Progress.{Progress}
-use Rattle.jc_world.specs.declared.event.Progress.TheVariants.{Loading, Writing}
+use Rattle.jc_world.specs.declared.event.Progress.TheVariants.{Loading, Writing, Processing, Processed, WritingEffect}
 use Rattle.jc_world.specs.declared.event.Premises.{Premises}
 use Rattle.jc_world.specs.declared.event.Shown.{Shown}
 use Rattle.jc_world.specs.declared.event.Shown.TheVariants as shown
 use Rattle.jc_world.specs.declared.event.WorldEvent.TheVariants as event
-use Rattle.jc_world.specs.World.{WorldState, Parts, home, stripe_for, cached_entry, entry_in, empty_stripes, start, open_call, op_at, settle, drop_call, part_of, waits_for_load, waits_for_report, is_answered, is_untouched, has_changed, out_in, join_of, joins_without, out_of, has_number, with_stored, has_progress}
+use Rattle.jc_world.specs.World.{WorldState, Parts, home, stripe_for, cached_entry, entry_in, empty_stripes, start, open_call, part_of, waits_for_load, waits_for_report, is_answered, is_untouched, has_changed, out_in, join_of, joins_without, out_of, with_stored, has_progress, waits_for_process, writer_change_in, writer_change}
 use Rattle.jc_world.specs.Premises.{changed_to, is_true_load, is_done, is_true_report, with_foreign_write, premises_hold}
-use Rattle.jc_world.specs.Events.{fits, may_leave, after_answer, after_change, after_report, new_load, new_write, new_part, with_change, with_report, with_stripe, with_phase, without_call, with_part, without_part, step_of, Starts, Ends, Picks}
+use Rattle.jc_world.specs.Events.{run_result, progress_after, after_process, fits, may_leave, after_answer, after_change, after_report, new_load, new_write, new_process, new_part, with_change, with_report, with_stripe, with_phase, without_call, with_part, without_part, step_of, Starts, Ends, Picks}
 use Rattle.jc_world.specs.Coherent.{Coherent, all_hold}
-use Rattle.jc_world.specs.Sound.{is_asked, IsHeld, Agrees, LoadAgrees, ProgressAgrees, KeyAgrees, IsWrittenFor, IsSoundWorld}
+use Rattle.jc_world.specs.Sound.{is_due_in, is_asked, IsHeld, Agrees, LoadAgrees, ProgressAgrees, KeyAgrees, IsWrittenFor, IsSoundWorld}
 use Rattle.jc_world.proofs.Holding.{call_on, is_part}
 use Rattle.jc_world.proofs.Halves.{HasParts}
+use Rattle.jc_world.proofs.Processors.{processor_free, asks_invoking, invoke_is, write_due, agrees_processed, agrees_effect}
 use Rattle.jc_world.proofs.Places.{at_stripe, stripe_put, home_stripe}
 use Rattle.jc_world.proofs.Reservations.{found_more, out_reserved, was_free, writer_alone, new_out, found_left}
 use Rattle.jc_world.proofs.Entries.{split, tied, agrees_stepped, writes, loads_asked, writes_asked, loads, asks_nobody}
@@ -135,6 +140,9 @@ told_on (Some part) stored entry next f h = go part.progress h
     go : (p : Progress) → ProgressAgrees p part.reservation.first stored entry → ProgressAgrees p part.reservation.first stored next
     go (Loading answer) h = record { loaded = h.loaded; unwritten = f h.unwritten }
     go (Writing is_changed report) h = record { written = h.written; unwritten = λ e. f (h.unwritten e); honest = h.honest }
+    go Processing h = f h
+    go (Processed loaded process) h = record { loaded = h.loaded; unwritten = f h.unwritten }
+    go (WritingEffect loaded process is_changed report) h = record { written = h.written; unwritten = λ e. f (h.unwritten e); honest = h.honest }
 
 -- nothing cached and no part say nothing
 told_none : (o : Option Part) (stored entry : Option Bytes) → o ≡ None → entry ≡ None → KeyAgrees o stored entry
@@ -150,6 +158,9 @@ told_at o part stored entry e h = let P : Option Part → Type 0 = λ o. KeyAgre
 unwritten_in : (p : Progress) (first : First) (stored entry : Option Bytes) → has_changed p ≡ false → ProgressAgrees p first stored entry → Agrees entry stored
 unwritten_in (Loading answer) first stored entry e h = h.unwritten
 unwritten_in (Writing is_changed report) first stored entry e h = h.unwritten e
+unwritten_in Processing first stored entry e h = h
+unwritten_in (Processed loaded process) first stored entry e h = h.unwritten
+unwritten_in (WritingEffect loaded process is_changed report) first stored entry e h = h.unwritten e
 
 -- 2. What is known of a sound world.
 
@@ -174,11 +185,11 @@ pub out_at : (w : WorldState) (call : ℕ) (key : Bytes) (part : Part) (from : S
 out_at w call key part from is at old = (held_at w key part from (is_part (get w.parts key) call part is) at old).out
 
 -- where no call is under way, none is found
-none_under : (call : ℕ) (calls : List OpenCall) (u : OpenCall) → calls ≡ [] → find (has_number call) calls ≡ Some u → ⊥
+none_under : (call : ℕ) (calls : List CallState) (u : CallState) → calls ≡ [] → find (has_number call) calls ≡ Some u → ⊥
 none_under call calls u none h = let e : None ≡ Some u = ap (find (has_number call)) (sym none) ∙ h in cc
 
 -- a call is under way, so the world is not fresh
-begun_before : (w : WorldState) (call : ℕ) (u : OpenCall) → open_call w call ≡ Some u → IsSoundWorld w → w.fresh ≡ true → ⊥
+begun_before : (w : WorldState) (call : ℕ) (u : CallState) → open_call w call ≡ Some u → IsSoundWorld w → w.fresh ≡ true → ⊥
 begun_before w call u is old fresh = none_under call w.calls u (old.idle fresh) is
 
 -- nor is it where a key has a part
@@ -216,25 +227,62 @@ told_insert w parts store key new all one q =
 load_asked_of : (p : Progress) (first : First) (answer : LoadAnswer) → waits_for_load p ≡ true → is_asked p first ≡ true → is_asked (Loading answer) first ≡ true
 load_asked_of (Loading was) first answer due h = h
 load_asked_of (Writing is_changed report) first answer due h = cc
+load_asked_of Processing first answer due h = cc
+load_asked_of (Processed loaded process) first answer due h = cc
+load_asked_of (WritingEffect loaded process is_changed report) first answer due h = cc
+
+run_asked_of : (p : Progress) (first : First) (change : Option Change) (done : ProcessResult Reservation) → waits_for_process p ≡ true → is_asked p first ≡ true → is_asked (progress_after change done) first ≡ true
+run_asked_of (Loading answer) first change done due h = cc
+run_asked_of (Writing is_changed report) first change done due h = cc
+run_asked_of Processing first None done due h = h
+run_asked_of Processing first (Some change) done due h = h
+run_asked_of (Processed loaded process) first change done due h = cc
+run_asked_of (WritingEffect loaded process is_changed report) first change done due h = cc
 
 change_asked_of : (p : Progress) (first : First) → is_asked p first ≡ true → is_asked (with_change p) first ≡ true
 change_asked_of (Loading answer) first h = h
 change_asked_of (Writing is_changed report) first h = h
+change_asked_of Processing first h = h
+change_asked_of (Processed loaded process) first h = h
+change_asked_of (WritingEffect loaded process is_changed report) first h = h
 
 report_asked_of : (p : Progress) (first : First) (report : WriteAnswer) → is_asked p first ≡ true → is_asked (with_report p report) first ≡ true
 report_asked_of (Loading answer) first report h = h
 report_asked_of (Writing is_changed was) first report h = h
+report_asked_of Processing first report h = h
+report_asked_of (Processed loaded process) first report h = h
+report_asked_of (WritingEffect loaded process is_changed was) first report h = h
 
 -- what is known once the loader has answered
 told_load : (p : Progress) (first : First) (answer : LoadAnswer) (stored entry : Option Bytes) → waits_for_load p ≡ true → Agrees (found_in answer) stored → ProgressAgrees p first stored entry → LoadAgrees answer stored entry
 told_load (Loading was) first answer stored entry due found h = record { loaded = found; unwritten = h.unwritten }
 told_load (Writing is_changed report) first answer stored entry due found h = cc
+told_load Processing first answer stored entry due found h = cc
+told_load (Processed loaded process) first answer stored entry due found h = cc
+told_load (WritingEffect loaded process is_changed report) first answer stored entry due found h = cc
+
+-- once the processor has run
+told_run : (p : Progress) (first : First) (change : Option Change) (done : ProcessResult Reservation) (stored entry : Option Bytes) → waits_for_process p ≡ true → Agrees (found_in done.load) stored → ProgressAgrees p first stored entry
+    → ProgressAgrees (progress_after change done) first stored entry
+told_run (Loading answer) first change done stored entry due found h = cc
+told_run (Writing is_changed report) first change done stored entry due found h = cc
+told_run Processing first None done stored entry due found h = record { loaded = found; unwritten = h }
+told_run Processing first (Some change) done stored entry due found h = record { written = λ e. absurd (let t : false ≡ true = e in cc); unwritten = λ e. h; honest = λ e. absurd (let t : false ≡ true = e in cc) }
+told_run (Processed loaded process) first change done stored entry due found h = cc
+told_run (WritingEffect loaded process is_changed report) first change done stored entry due found h = cc
 
 -- once the writer has changed the store
-told_change : (p : Progress) (first : First) (change : Change) (entry : Option Bytes) → waits_for_report p ≡ true → first ≡ Writer change → ProgressAgrees (with_change p) first (changed_to change) entry
+told_change : (p : Progress) (first : First) (change : Change) (entry : Option Bytes) → waits_for_report p ≡ true → writer_change_in first p ≡ Some change → ProgressAgrees (with_change p) first (changed_to change) entry
 told_change (Loading answer) first change entry due asks = cc
 told_change (Writing is_changed report) first change entry due asks = record {
-  written = λ e. let W : First → Type 0 = λ f. IsWrittenFor f (changed_to change) in subst W (sym asks) refl;
+  written = λ e. let W : Option Change → Type 0 = λ o. IsWrittenFor o (changed_to change) in subst W (sym asks) refl;
+  unwritten = λ e. absurd (let t : true ≡ false = e in cc);
+  honest = λ e. absurd (denied _ due e);
+}
+told_change Processing first change entry due asks = cc
+told_change (Processed loaded process) first change entry due asks = cc
+told_change (WritingEffect loaded process is_changed report) first change entry due asks = record {
+  written = λ e. let W : Option Change → Type 0 = λ o. IsWrittenFor o (changed_to change) in subst W (sym asks) refl;
   unwritten = λ e. absurd (let t : true ≡ false = e in cc);
   honest = λ e. absurd (denied _ due e);
 }
@@ -243,6 +291,9 @@ told_change (Writing is_changed report) first change entry due asks = record {
 told_report : (p : Progress) (first : First) (report : WriteAnswer) (stored entry : Option Bytes) → waits_for_report p ≡ true → is_true_report report (has_changed p) ≡ true → ProgressAgrees p first stored entry → ProgressAgrees (with_report p report) first stored entry
 told_report (Loading answer) first report stored entry due honest h = cc
 told_report (Writing is_changed was) first report stored entry due honest h = record { written = h.written; unwritten = h.unwritten; honest = λ e. same_test is_changed (is_done report) honest }
+told_report Processing first report stored entry due honest h = cc
+told_report (Processed loaded process) first report stored entry due honest h = cc
+told_report (WritingEffect loaded process is_changed was) first report stored entry due honest h = record { written = h.written; unwritten = h.unwritten; honest = λ e. same_test is_changed (is_done report) honest }
 
 -- a held key goes on: whom it asked stays, and what is then known of all keys holds
 parts_progressed : (w : WorldState) (call : ℕ) (key : Bytes) (part : Part) (p : Progress) (store : Cache) (premises : Premises) → part_of w call key ≡ Some part
@@ -272,8 +323,23 @@ parts_answered w call key part answer is waits old =
     told_insert w w.parts w.store key (record part { progress = Loading answer }) (old.told hold.0)
     (told_load part.progress part.reservation.first answer (entry_at w.store key) (cached_entry w key) due (true_found answer _ hold.1) one)) old
 
+-- the processor has run
+pub parts_processed : (w : WorldState) (key : Bytes) (call : ℕ) (part : Part) (answer : LoadAnswer) (calls : List EntryCall) (fail : Option ℕ) → part_of w call key ≡ Some part → has_progress waits_for_process (part_of w call key) ≡ true → IsSoundWorld w
+    → HasParts (after_process w key part (run_result part.reservation answer calls fail))
+parts_processed w key call part answer calls fail is waits old =
+    let there = is_part (get w.parts key) call part is in
+    let due : waits_for_process part.progress ≡ true = sym (ap (has_progress waits_for_process) is) ∙ waits in
+    let done = run_result part.reservation answer calls fail in
+    let change = change_due w.config done in
+    parts_progressed w call key part (progress_after change done) w.store (after_process w key part done).premises is (run_asked_of part.progress part.reservation.first change done due)
+    (λ h.
+    let hold = hold_loader w.config.write_through w.premises.writers w.premises.loaders (is_true_load done.load (entry_at w.store key)) w.premises.quiet h in
+    let one = told_at (get w.parts key) part (entry_at w.store key) (cached_entry w key) there (old.told hold.0 key) in
+    told_insert w w.parts w.store key (record part { progress = progress_after change done }) (old.told hold.0)
+    (told_run part.progress part.reservation.first change done (entry_at w.store key) (cached_entry w key) due (true_found done.load _ hold.1) one)) old
+
 -- the writer has changed the store
-pub parts_changed : (w : WorldState) (call : ℕ) (key : Bytes) (part : Part) (change : Change) → part_of w call key ≡ Some part → part.reservation.first ≡ Writer change → has_progress waits_for_report (part_of w call key) ≡ true → IsSoundWorld w → HasParts (after_change w key part change)
+pub parts_changed : (w : WorldState) (call : ℕ) (key : Bytes) (part : Part) (change : Change) → part_of w call key ≡ Some part → writer_change part ≡ Some change → has_progress waits_for_report (part_of w call key) ≡ true → IsSoundWorld w → HasParts (after_change w key part change)
 parts_changed w call key part change is asks waits old =
     let new : Part = record part { progress = with_change part.progress } in
     let store = (after_change w key part change).store in
@@ -341,9 +407,9 @@ parts_start config fits =
 
 -- a call has begun
 pub parts_called : (w : WorldState) (call session : ℕ) (command : Command) → fits w (event.Call call session command) ≡ true → IsSoundWorld w
-    → HasParts (record w { last = Some call; fresh = false; calls = w.calls ++ record { caller = record { session = session; call = call }; command = command } ∷ [] })
+    → HasParts (record w { last = Some call; fresh = false; calls = w.calls ++ new_call call session command ∷ [] })
 parts_called w call session command fit old =
-    let more : List OpenCall = record { caller = record { session = session; call = call }; command = command } ∷ [] in
+    let more : List CallState = new_call call session command ∷ [] in
     let n : WorldState = record w { last = Some call; fresh = false; calls = w.calls ++ more } in
     record {
       held = old.held;
@@ -359,7 +425,7 @@ held_on : (from next : State) (key : Bytes) (part : Part) → IsOut next part.re
 held_on from next key part out h = record { key_is = h.key_is; out = out; asked = h.asked }
 
 -- the calls are others
-parts_over : (w : WorldState) (call : ℕ) (u : OpenCall) (calls : List OpenCall) → open_call w call ≡ Some u → IsSoundWorld w → HasParts (record w { calls = calls })
+parts_over : (w : WorldState) (call : ℕ) (u : CallState) (calls : List CallState) → open_call w call ≡ Some u → IsSoundWorld w → HasParts (record w { calls = calls })
 parts_over w call u calls is old = record {
   held = old.held;
   told = old.told;
@@ -383,7 +449,7 @@ agrees_begun caller key op from next done q stored begins on agrees =
     (λ apart. agrees))
 
 -- so the parts and the store say what they said
-parts_stepped : (w : WorldState) (call : ℕ) (u : OpenCall) (key : Bytes) (op : Op) (from next : State) (order : List Event) (calls : List OpenCall) (done : StepDone) → open_call w call ≡ Some u → stripe_for w key ≡ Some from
+parts_stepped : (w : WorldState) (call : ℕ) (u : CallState) (key : Bytes) (op : Op) (from next : State) (order : List Event) (calls : List CallState) (done : StepDone) → open_call w call ≡ Some u → stripe_for w key ≡ Some from
     → Begins from u.caller key op (begun.Done done) next → IsSoundWorld w
     → HasParts (record w { stripes = slice_set w.stripes (home w key) next; order = order; calls = calls })
 parts_stepped w call u key op from next order calls done is at begins old =
@@ -446,7 +512,7 @@ held_new key from next p r free key_is reservations asked =
     record { key_is = key_is; out = subst P (sym reservations) (new_out from r (ap (is_reserved from) key_is ∙ free)); asked = asked }
 
 -- the key is reserved, and the loader is asked
-parts_loads : (w : WorldState) (call : ℕ) (u : OpenCall) (key : Bytes) (op : Op) (from next : State) (ticket : Ticket) → open_call w call ≡ Some u → stripe_for w key ≡ Some from
+parts_loads : (w : WorldState) (call : ℕ) (u : CallState) (key : Bytes) (op : Op) (from next : State) (ticket : Ticket) → open_call w call ≡ Some u → stripe_for w key ≡ Some from
     → Begins from u.caller key op (begun.Load ticket) next → IsSoundWorld w → HasParts (with_part (with_stripe w key next) key (new_part new_load ticket.reservation))
 parts_loads w call u key op from next ticket is at begins old =
     let r = ticket.reservation in
@@ -460,7 +526,7 @@ parts_loads w call u key op from next ticket is at begins old =
     (λ stored entry agrees. record { loaded = tt; unwritten = agrees }) (begun_before w call u is old) old
 
 -- the key is reserved, and the writer is asked
-parts_asks : (w : WorldState) (call : ℕ) (u : OpenCall) (key : Bytes) (op : Op) (from next : State) (ticket : Ticket) (change : Change) → open_call w call ≡ Some u → stripe_for w key ≡ Some from
+parts_asks : (w : WorldState) (call : ℕ) (u : CallState) (key : Bytes) (op : Op) (from next : State) (ticket : Ticket) (change : Change) → open_call w call ≡ Some u → stripe_for w key ≡ Some from
     → Begins from u.caller key op (begun.Write ticket) next → ticket.reservation.first ≡ Writer change → IsSoundWorld w → HasParts (with_part (with_stripe w key next) key (new_part new_write ticket.reservation))
 parts_asks w call u key op from next ticket change is at begins first old =
     let r = ticket.reservation in
@@ -473,8 +539,21 @@ parts_asks w call u key op from next ticket change is at begins first old =
     (held_new key from next new_write r free (ap (λ (x : Reservation). x.key) r_is) reservations (ap asks_writer first))
     (λ stored entry agrees. record { written = λ e. absurd (let t : false ≡ true = e in cc); unwritten = λ e. agrees; honest = λ e. absurd (let t : false ≡ true = e in cc) }) (begun_before w call u is old) old
 
+-- the key is reserved, and the processor is asked
+parts_processes : (w : WorldState) (call : ℕ) (u : CallState) (key : Bytes) (op : Op) (from next : State) (ticket : ProcessClaim) → open_call w call ≡ Some u → stripe_for w key ≡ Some from
+    → Begins from u.caller key op (begun.Process ticket) next → IsSoundWorld w → HasParts (with_part (with_stripe w key next) key (new_part new_process ticket.reservation))
+parts_processes w call u key op from next ticket is at begins old =
+    let r = ticket.reservation in
+    let part = new_part new_process r in
+    let r_is : r ≡ new_reservation from u.caller key op r.first = ap (λ (t : ProcessClaim). t.reservation) begins.3 in
+    let free = processor_free from next u.caller key op ticket begins in
+    let reservations = ap (λ (s : State). s.reservations) begins.4 in
+    parts_reserving w key from next r part at free reservations (ap (λ (s : State). s.cache) begins.4)
+    (held_new key from next new_process r free (ap (λ (x : Reservation). x.key) r_is) reservations begins.2)
+    (λ stored entry agrees. agrees) (begun_before w call u is old) old
+
 -- a stripe is another, whose entries and reservations are the same
-parts_aside : (w : WorldState) (key : Bytes) (from next : State) (calls : List OpenCall) (joins : List JoinClaim) → stripe_for w key ≡ Some from → next.cache ≡ from.cache → next.reservations ≡ from.reservations → (w.fresh ≡ true → ⊥) → IsSoundWorld w
+parts_aside : (w : WorldState) (key : Bytes) (from next : State) (calls : List CallState) (joins : List JoinClaim) → stripe_for w key ≡ Some from → next.cache ≡ from.cache → next.reservations ≡ from.reservations → (w.fresh ≡ true → ⊥) → IsSoundWorld w
     → HasParts (record w { stripes = slice_set w.stripes (home w key) next; calls = calls; joins = joins })
 parts_aside w key from next calls joins at cache reservations used old =
     let n : WorldState = record w { stripes = slice_set w.stripes (home w key) next; calls = calls; joins = joins } in
@@ -494,13 +573,15 @@ parts_aside w key from next calls joins at cache reservations used old =
     }
 
 -- the first phase of a key
-pub parts_started : (w new : WorldState) (call : ℕ) (key : Bytes) (u : OpenCall) (op : Op) (from to : State) (seen : Shown) → open_call w call ≡ Some u → stripe_for w key ≡ Some from
+pub parts_started : (w new : WorldState) (call : ℕ) (key : Bytes) (u : CallState) (op : Op) (from to : State) (seen : Shown) → open_call w call ≡ Some u → stripe_for w key ≡ Some from
     → Starts w u.caller key op from to seen new → IsSoundWorld w → HasParts new
 parts_started w new call key u op from to (shown.Refused refusal) is at (begins, leaves) old = subst HasParts (sym leaves) (parts_over w call u (settle u.caller.call key w.calls) is old)
 parts_started w new call key u op from to (shown.Stepped seen) is at (begins, shows, leaves) old =
     subst HasParts (sym leaves) (parts_stepped w call u key op from to (with_phase w key from to).order (settle u.caller.call key w.calls) (step_of seen) is at begins old)
 parts_started w new call key u op from to shown.Loads is at (ticket, begins, leaves) old = subst HasParts (sym leaves) (parts_loads w call u key op from to ticket is at begins old)
 parts_started w new call key u op from to (shown.Asks change) is at (ticket, begins, first, leaves) old = subst HasParts (sym leaves) (parts_asks w call u key op from to ticket change is at begins first old)
+parts_started w new call key u op from to (shown.Processes entry) is at (ticket, begins, shows, leaves) old =
+    subst HasParts (sym leaves) (parts_processes w call u key op from to ticket is at begins old)
 parts_started w new call key u op from to shown.Joins is at (join, begins, leaves) old =
     subst HasParts (sym leaves)
     (parts_aside w key from to w.calls (w.joins ++ join ∷ []) at (ap (λ (s : State). s.cache) begins.3) (ap (λ (s : State). s.reservations) begins.3) (begun_before w call u is old) old)
@@ -518,17 +599,28 @@ agrees_written op entry stored change write.Done was asked given written unwritt
     subst P (written (sym honest) ∙ sym (writes op entry change asked)) (agrees_same stored)
 
 -- what a commit leaves agrees with the store: a reservation still asks what it asked
-agrees_ended : (config : Config) (p : Progress) (op : Op) (first : First) (entry stored : Option Bytes) → first_asked config op entry ≡ first → is_asked p first ≡ true → is_answered p ≡ true → ProgressAgrees p first stored entry
-    → Agrees (entry_after op entry (out_in p)) stored
-agrees_ended config (Loading answer) op Loader entry stored asks asked over h = loads op entry answer stored (loads_asked config op entry asks) h.unwritten h.loaded
-agrees_ended config (Writing is_changed report) op (Writer change) entry stored asks asked over h =
+agrees_ended : (config : Config) (r : Reservation) (p : Progress) (op : Op) (first : First) (entry stored : Option Bytes) → first_asked config op entry ≡ first → is_asked p first ≡ true → is_answered p ≡ true → config.write_through ≡ true → is_due_in config r p ≡ true
+    → ProgressAgrees p first stored entry → Agrees (entry_after op entry (out_in p)) stored
+agrees_ended config r (Loading answer) op Loader entry stored asks asked over on due h = loads op entry answer stored (loads_asked config op entry asks) h.unwritten h.loaded
+agrees_ended config r (Writing is_changed report) op (Writer change) entry stored asks asked over on due h =
     agrees_written op entry stored change report is_changed (writes_asked config op entry change asks) over h.written h.unwritten (h.honest over)
-agrees_ended config (Loading answer) op Nobody entry stored asks asked over h = cc
-agrees_ended config (Loading answer) op (Writer change) entry stored asks asked over h = cc
-agrees_ended config (Loading answer) op (Processor seen loads) entry stored asks asked over h = cc
-agrees_ended config (Writing is_changed report) op Nobody entry stored asks asked over h = cc
-agrees_ended config (Writing is_changed report) op Loader entry stored asks asked over h = cc
-agrees_ended config (Writing is_changed report) op (Processor seen loads) entry stored asks asked over h = cc
+agrees_ended config r (Loading answer) op Nobody entry stored asks asked over on due h = cc
+agrees_ended config r (Loading answer) op (Writer change) entry stored asks asked over on due h = cc
+agrees_ended config r (Loading answer) op (Processor seen loads) entry stored asks asked over on due h = cc
+agrees_ended config r (Writing is_changed report) op Nobody entry stored asks asked over on due h = cc
+agrees_ended config r (Writing is_changed report) op Loader entry stored asks asked over on due h = cc
+agrees_ended config r (Writing is_changed report) op (Processor seen loads) entry stored asks asked over on due h = cc
+agrees_ended config r Processing op first entry stored asks asked over on due h = cc
+agrees_ended config r (Processed loaded process) op first entry stored asks asked over on due h =
+    let done : ProcessResult Reservation = record { ask = r; origin = Played; load = loaded; process = process } in
+    let A : Op → Type 0 = λ o. Agrees (entry_after o entry (record { load = loaded; write = write.NotAsked; process = process })) stored in
+    subst A (sym (invoke_is op (asks_invoking config op entry (ap asks_processor asks ∙ asked))))
+    (agrees_processed loaded process entry stored (ap is_none (sym (write_due config done on)) ∙ due) h)
+agrees_ended config r (WritingEffect loaded process is_changed report) op first entry stored asks asked over on due h =
+    let done : ProcessResult Reservation = record { ask = r; origin = Played; load = loaded; process = process } in
+    let A : Op → Type 0 = λ o. Agrees (entry_after o entry (record { load = loaded; write = report; process = process })) stored in
+    subst A (sym (invoke_is op (asks_invoking config op entry (ap asks_processor asks ∙ asked))))
+    (agrees_effect loaded process is_changed report entry stored (ap is_some (sym (write_due config done on)) ∙ due) over h)
 
 -- the reservation that is found asks what it asked
 asks_found : (config : Config) (cache : Cache) (key : Bytes) (rs : List Reservation) (r : Reservation) → find (is_key key) rs ≡ Some r → AllAsk config cache rs → first_asked config r.op (entry_at cache r.key) ≡ r.first
@@ -601,7 +693,10 @@ parts_committed w call key part from next order done is answered at commits old 
           let T : Option State → Type 0 = λ o. ProgressAgrees part.progress part.reservation.first (entry_at w.store key) (entry_in o key) in
           let told = subst T at (told_at (get w.parts key) part (entry_at w.store key) (cached_entry w key) there (all key)) in
           let asks = ap (λ k. first_asked from.config r.op (entry_at from.cache k)) (sym one.key_is) ∙ asks_found from.config from.cache r.key from.reservations r one.out reached.asks in
-          let leaves = agrees_ended from.config part.progress r.op r.first (entry_at from.cache key) (entry_at w.store key) asks one.asked (sym (ap (has_progress is_answered) is) ∙ answered) told in
+          let same_config = config_at w (home w key) from at old in
+          let on : from.config.write_through ≡ true = ap (λ (c : Config). c.write_through) same_config ∙ (and_parts w.config.write_through (premises_hold w.premises) hold).0 in
+          let due : is_due_in from.config r part.progress ≡ true = ap (λ (c : Config). is_due_in c r part.progress) same_config ∙ old.due key part there in
+          let leaves = agrees_ended from.config r part.progress r.op r.first (entry_at from.cache key) (entry_at w.store key) asks one.asked (sym (ap (has_progress is_answered) is) ∙ answered) on due told in
           subst B (sym same) (subst S (sym (stripe_put w.stripes (home w key) from next at)) (agrees_own key part from next done (entry_at w.store key) steps leaves)))
           (λ apart.
           at_stripe w.stripes (home w key) (home w q) from next (λ o x. KeyAgrees (get w.parts q) (entry_at w.store q) (entry_in o q) → KeyAgrees (get w.parts q) (entry_at w.store q) (entry_in x q)) at
@@ -626,6 +721,9 @@ unchanged : (p : Progress) → is_untouched p ≡ true → has_changed p ≡ fal
 unchanged (Loading answer) h = refl
 unchanged (Writing true report) h = cc
 unchanged (Writing false report) h = refl
+unchanged Processing h = refl
+unchanged (Processed loaded process) h = refl
+unchanged (WritingEffect loaded process is_changed report) h = cc
 
 -- a reservation is given back, and with it its part
 pub parts_withdrawn : (w : WorldState) (call : ℕ) (key : Bytes) (part : Part) (from next : State) → has_progress is_untouched (part_of w call key) ≡ true → part_of w call key ≡ Some part → stripe_for w key ≡ Some from
@@ -667,7 +765,7 @@ parts_withdrawn w call key part from next fit is at withdraws old =
 pub parts_left : (w : WorldState) (call : ℕ) → may_leave w call (open_call w call) ≡ true → IsSoundWorld w → HasParts (without_call w call)
 parts_left w call fit old = go (open_call w call) refl
   where
-    go : (o : Option OpenCall) → open_call w call ≡ o → HasParts (without_call w call)
+    go : (o : Option CallState) → open_call w call ≡ o → HasParts (without_call w call)
     go None e = let t : false ≡ true = ap (may_leave w call) (sym e) ∙ fit in cc
     go (Some u) e = parts_over w call u (drop_call call w.calls) e old
 

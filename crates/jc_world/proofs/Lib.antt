@@ -3,6 +3,7 @@ pub mod Halves
 pub mod Shares
 pub mod Underway
 pub mod Settling
+pub mod Tasks
 pub mod Joiners
 pub mod LoadKeys
 pub mod Beginning
@@ -11,6 +12,8 @@ pub mod Joins
 pub mod Places
 pub mod Entries
 pub mod Reservations
+pub mod Processors
+pub mod Dues
 pub mod Kept
 pub mod Maps
 pub mod Numbered

@@ -28,21 +28,26 @@ use Rattle.jc_stripe.specs.declared.begun.StepDone.{StepDone}
 use Rattle.jc_stripe.specs.Refusals.{reserves}
 use Rattle.jc_stripe.specs.State.{State}
 use Rattle.jc_stripe.specs.Phases.{Steps, new_group, after_commit}
-use Rattle.jc_world.specs.declared.event.OpenCall.{OpenCall}
+use Rattle.jc_world.specs.Calls.{CallState}
 use Rattle.jc_world.specs.declared.event.Part.{Part}
 use Rattle.jc_world.specs.declared.event.Progress.{Progress}
-use Rattle.jc_world.specs.declared.event.Progress.TheVariants.{Loading, Writing}
+use Rattle.jc_world.specs.declared.event.Progress.TheVariants.{Loading, Writing, Processing, Processed, WritingEffect}
 use Rattle.jc_world.specs.declared.event.Shown.{Shown}
 use Rattle.jc_world.specs.declared.event.Shown.TheVariants as shown
 use Rattle.jc_world.specs.declared.event.WorldEvent.{WorldEvent}
 use Rattle.jc_world.specs.declared.event.WorldEvent.TheVariants as event
-use Rattle.jc_world.specs.World.{WorldState, Parts, stripe_for, part_of, waits_for_load, is_untouched, out_in, out_of, has_progress}
-use Rattle.jc_world.specs.Premises.{read_answer, report_of}
-use Rattle.jc_world.specs.Events.{fits, new_load, new_write, new_part, with_change, with_report, step_of, Starts, Ends, Picks, Happens, Step, Run}
+use Rattle.jc_world.specs.World.{WorldState, Parts, stripe_for, part_of, waits_for_load, waits_for_process, is_untouched, out_in, out_of, has_progress}
+use Rattle.jc_world.specs.Premises.{read_answer, load_from, report_of}
+use Rattle.jc_model.specs.declared.event.Change.{Change}
+use Rattle.jc_mutentry.specs.Done.{ProcessResult}
+use Rattle.jc_stripe.specs.declared.ticket.Reservation.{Reservation}
+use Rattle.jc_stripe.specs.Effects.{change_due}
+use Rattle.jc_world.specs.Events.{run_result, progress_after, after_process, fits, new_load, new_write, new_process, new_part, with_change, with_report, step_of, Starts, Ends, Picks, Happens, Step, Run}
 use Rattle.jc_world.specs.Sound.{IsSoundWorld}
 use Rattle.jc_world.specs.Headline.{start_with, is_answer, is_load, is_loaded}
 use Rattle.jc_world.proofs.Shares.{added}
 use Rattle.jc_world.proofs.Reservations.{was_free, writer_alone}
+use Rattle.jc_world.proofs.Processors.{processor_free}
 use Rattle.jc_world.proofs.Callers.{part_key}
 use Rattle.jc_world.proofs.Entries.{split}
 use Rattle.jc_world.proofs.Kept.{unheld}
@@ -138,6 +143,20 @@ no_answer o part is waits = go part.progress (sym (ap (has_progress waits_for_lo
     go : (p : Progress) → waits_for_load p ≡ true → is_load_given (out_in p).load ≡ false
     go (Loading answer) h = not_true (is_load_given answer) h
     go (Writing is_changed report) h = refl
+    go Processing h = refl
+    go (Processed loaded process) h = cc
+    go (WritingEffect loaded process is_changed report) h = cc
+
+-- a processor that is waited for has had none
+no_run : (o : Option Part) (part : Part) → o ≡ Some part → has_progress waits_for_process o ≡ true → is_load_given (out_of part).load ≡ false
+no_run o part is waits = go part.progress (sym (ap (has_progress waits_for_process) is) ∙ waits)
+  where
+    go : (p : Progress) → waits_for_process p ≡ true → is_load_given (out_in p).load ≡ false
+    go (Loading answer) h = cc
+    go (Writing is_changed report) h = cc
+    go Processing h = refl
+    go (Processed loaded process) h = cc
+    go (WritingEffect loaded process is_changed report) h = cc
 
 -- what is untouched has none
 no_touch : (o : Option Part) (part : Part) → o ≡ Some part → has_progress is_untouched o ≡ true → is_load_given (out_of part).load ≡ false
@@ -146,15 +165,29 @@ no_touch o part is untouched = go part.progress (sym (ap (has_progress is_untouc
     go : (p : Progress) → is_untouched p ≡ true → is_load_given (out_in p).load ≡ false
     go (Loading answer) h = not_true (is_load_given answer) h
     go (Writing is_changed report) h = refl
+    go Processing h = refl
+    go (Processed loaded process) h = cc
+    go (WritingEffect loaded process is_changed report) h = cc
 
 -- what the writer does is no answer of the loader
 change_loads : (p : Progress) → is_load_given (out_in (with_change p)).load ≡ is_load_given (out_in p).load
 change_loads (Loading answer) = refl
 change_loads (Writing is_changed report) = refl
+change_loads Processing = refl
+change_loads (Processed loaded process) = refl
+change_loads (WritingEffect loaded process is_changed report) = refl
 
 report_loads : (p : Progress) (report : WriteAnswer) → is_load_given (out_in (with_report p report)).load ≡ is_load_given (out_in p).load
 report_loads (Loading answer) report = refl
 report_loads (Writing is_changed was) report = refl
+report_loads Processing report = refl
+report_loads (Processed loaded process) report = refl
+report_loads (WritingEffect loaded process is_changed was) report = refl
+
+-- what a processor's loader answered is kept
+run_loads : (change : Option Change) (done : ProcessResult Reservation) → is_load_given (out_in (progress_after change done)).load ≡ is_load_given done.load
+run_loads None done = refl
+run_loads (Some change) done = refl
 
 -- a loader that reads the store has answered
 read_given : (stored : Option Bytes) → is_load_given (read_answer stored) ≡ true
@@ -176,8 +209,26 @@ total_answered w call key q part answer is waits given =
     (λ apart. omega arith)
     ∙ ap (λ b. one_if b + total w q) (sym (texts_ties q key))
 
+-- a processor has run
+total_processed : (w : WorldState) (call : ℕ) (key q : Bytes) (part : Part) (done : ProcessResult Reservation) → part_of w call key ≡ Some part → has_progress waits_for_process (part_of w call key) ≡ true
+    → total (after_process w key part done) q ≡ one_if (pointwise ◌==◌ q key && is_load_given done.load) + total w q
+total_processed w call key q part done is waits =
+    let there = is_part (get w.parts key) call part is in
+    let n = count_by (is_load q) w.order in
+    let progress = progress_after (change_due w.config done) done in
+    let new : Part = record part { progress = progress } in
+    let given = is_load_given done.load in
+    let P : Bool → Type 0 = λ b. n + one_if (is_loaded (cond b (Some new) (get w.parts q))) ≡ one_if (b && given) + (n + one_if (is_loaded (get w.parts q))) in
+    ap (λ o. n + one_if (is_loaded o)) (get-insert nat_list_cmp_total w.parts key new q)
+    ∙ split q key P
+    (λ same.
+    let was : one_if (is_loaded (get w.parts q)) ≡ 0 = ap one_if (loaded_at w key q part there same ∙ no_run (part_of w call key) part is waits) in
+    let now : one_if (is_load_given (out_in progress).load) ≡ one_if given = ap one_if (run_loads (change_due w.config done) done) in omega arith)
+    (λ apart. omega arith)
+    ∙ ap (λ b. one_if (b && given) + total w q) (sym (texts_ties q key))
+
 -- the first phase
-total_started : (w new : WorldState) (u : OpenCall) (key : Bytes) (op : Op) (from to : State) (seen : Shown) (q : Bytes) → stripe_for w key ≡ Some from → Starts w u.caller key op from to seen new → IsSoundWorld w → total new q ≡ total w q
+total_started : (w new : WorldState) (u : CallState) (key : Bytes) (op : Op) (from to : State) (seen : Shown) (q : Bytes) → stripe_for w key ≡ Some from → Starts w u.caller key op from to seen new → IsSoundWorld w → total new q ≡ total w q
 total_started w new u key op from to (shown.Refused refusal) q there h old = ap (λ (x : WorldState). total x q) h.1
 total_started w new u key op from to (shown.Stepped seen) q there h old =
     let steps = h.0.2 in
@@ -197,6 +248,11 @@ total_started w new u key op from to (shown.Asks change) q there h old =
     let part = new_part new_write h.0.reservation in
     let free = was_free from u.caller key op h.0.reservation.first h.1.0 (writer_alone from key op h.0.reservation.first h.1.1 h.1.2) h.1.1 (ap reserves h.2) in
     let none = unheld w key from there free old in
+    ap (λ (x : WorldState). total x q) h.3
+    ∙ ap (λ b. count_by (is_load q) w.order + one_if b) (loaded_inserted w.parts key q part (λ same. sym (ap is_loaded (ap (get w.parts) same ∙ none))))
+total_started w new u key op from to (shown.Processes entry) q there h old =
+    let part = new_part new_process h.0.reservation in
+    let none = unheld w key from there (processor_free from to u.caller key op h.0 h.1) old in
     ap (λ (x : WorldState). total x q) h.3
     ∙ ap (λ b. count_by (is_load q) w.order + one_if b) (loaded_inserted w.parts key q part (λ same. sym (ap is_loaded (ap (get w.parts) same ∙ none))))
 total_started w new u key op from to shown.Joins q there h old = ap (λ (x : WorldState). total x q) h.2
@@ -241,6 +297,11 @@ total_happens w new (event.Say call key answer) seen q fit h old =
     let ok = and_parts (is_load_given answer) (has_progress waits_for_load (part_of w call key)) fit in
     ap (λ (x : WorldState). total x q) h.3 ∙ total_answered w call key q h.0 answer h.1 ok.1 ok.0
     ∙ ap (λ s. one_if (is_answer q (event.Say call key answer) s) + total w q) (sym h.2)
+total_happens w new (event.Process call key source calls fail) seen q fit h old =
+    let answer = load_from source (entry_at w.store key) in
+    let done = run_result h.0.reservation answer calls fail in
+    ap (λ (x : WorldState). total x q) h.3 ∙ total_processed w call key q h.0 done h.1 fit
+    ∙ ap (λ s. one_if (is_answer q (event.Process call key source calls fail) s) + total w q) (sym h.2)
 total_happens w new (event.Change call key) seen q fit h old =
     let there = is_part (get w.parts key) call h.0 h.2 in
     unanswered false (total new q) (total w q) refl
@@ -264,6 +325,7 @@ total_happens w new (event.Foreign key value) seen q fit h old = unanswered fals
 unfit_answer : (q : Bytes) (e : WorldEvent) → is_answer q e shown.Unfit ≡ false
 unfit_answer q (event.Read call key) = refl
 unfit_answer q (event.Say call key answer) = refl
+unfit_answer q (event.Process call key source calls fail) = refl
 unfit_answer q e = refl
 
 -- any event, also one that doesn't fit

@@ -1,13 +1,12 @@
 -- What the machine of a world does in a first and a last phase is what the definitions say.
-use Rattle.std.proofs.Common.{Bool, false, ◌≡◌, ◌∙◌, ℕ, zero, suc, List, [], ◌∷◌, ◌++◌, length, drop, Option, Some, None, IsSomeAnd, is_some, true, slice_get, slice_set, refl, sym, ap, subst, append-nil}
+use Rattle.std.proofs.Common.{false, ◌≡◌, ◌∙◌, ℕ, zero, suc, List, [], ◌∷◌, ◌++◌, length, drop, Option, Some, None, IsSomeAnd, is_some, true, slice_get, slice_set, refl, sym, ap, subst, append-nil}
 use Rattle.std.specs.FinMap.{get, insert, remove}
 use Rattle.jc_model.specs.Cache.{Bytes}
-use Rattle.jc_model.specs.Table.{is_invoke}
 use Rattle.jc_model.specs.declared.event.Change.{Change}
 use Rattle.jc_model.specs.declared.event.Event.{Event}
 use Rattle.jc_model.specs.declared.event.Op.{Op}
 use Rattle.std.proofs.lemmas.Bool.{and_parts}
-use Rattle.jc_stripe.specs.Tickets.{Ticket, ProcessClaim, JoinClaim, asks_writer}
+use Rattle.jc_stripe.specs.Tickets.{Ticket, ProcessClaim, JoinClaim, asks_writer, entry_seen}
 use Rattle.jc_stripe.specs.State.{State, IsOut, IsJoined}
 use Rattle.jc_stripe.specs.Refusals.{reserves}
 use Rattle.jc_stripe.specs.Phases.{MayBegin, Begins, Commits, Withdraws, PicksUp}
@@ -18,51 +17,38 @@ use Rattle.jc_stripe.specs.declared.begun.StepDone.{StepDone}
 use Rattle.jc_stripe.specs.declared.ticket.First.{First}
 use Rattle.jc_stripe.specs.declared.ticket.First.TheVariants.{Nobody, Loader, Writer, Processor}
 use Rattle.jc_outside.specs.declared.done.Origin.TheVariants.{Played}
+use Rattle.jc_types.specs.declared.config.Config.{Config}
 use Rattle.jc_types.specs.declared.refusal.Refusal.{Refusal}
-use Rattle.jc_world.specs.declared.event.OpenCall.{OpenCall}
+use Rattle.jc_world.specs.Calls.{CallState, op_at, settle}
 use Rattle.jc_world.specs.declared.event.Part.{Part}
 use Rattle.jc_world.specs.declared.event.Stepped.{Stepped}
 use Rattle.jc_world.specs.declared.event.PickedUp.{PickedUp}
 use Rattle.jc_world.specs.declared.event.WorldEvent.TheVariants as event
 use Rattle.jc_world.specs.declared.event.Shown.TheVariants as shown
-use Rattle.jc_world.specs.World.{WorldState, Parts, home, stripe_for, has_number, open_call, op_at, settle, part_of, join_of, joins_without, out_of}
-use Rattle.jc_world.specs.Events.{fits, is_free, may_start, Happens, step_of, new_load, new_write, new_part, BeginsAs}
-use Rattle.jc_world.specs.Sound.{IsHeld, IsSoundWorld, IsWaitedFor}
+use Rattle.jc_world.specs.World.{WorldState, Parts, home, stripe_for, open_call, part_of, join_of, joins_without, out_of}
+use Rattle.jc_world.specs.Events.{fits, is_free, may_start, Happens, step_of, new_load, new_write, new_part, BeginsAs, new_process}
+use Rattle.jc_world.specs.Sound.{IsHeld, IsSoundWorld, IsWaitedFor, is_due}
 use Rattle.jc_world.specs.World.{is_join}
 use Rattle.jc_world.specs.Turns.{OrderedStripes, IsPhase, IsQuietPhase}
-use Rattle.jc_stripe.proofs.CallerLemmas.{invokes}
 use Rattle.jc_world.proofs.Numbered.{some_of}
 use Rattle.jc_world.proofs.Holding.{is_part}
 use Rattle.jc_world.proofs.Reservations.{was_free, writer_alone}
+use Rattle.jc_world.proofs.Processors.{processor_free}
 use Rattle.jc_world.proofs.Joiners.{join_is}
 use Rattle.jc_world.proofs.Shares.{found_test, fact_found}
 use Rattle.jc_world.proofs.Beginning.{begins_at}
-use Rattle.jc_world.proofs.Underway.{fits_found}
 use Rattle.jc_world.proofs.Kept.{unheld, stripe_at}
 
 -- 1. Before the first phase.
 
-pub may_begin_at : (w : WorldState) (call : ℕ) (key : Bytes) (u : OpenCall) (op : Op) → fits w (event.Start call key) ≡ true → open_call w call ≡ Some u → op_at u key ≡ Some op → IsSoundWorld w → IsSomeAnd (stripe_for w key) (λ s. MayBegin s u.caller key)
+pub may_begin_at : (w : WorldState) (call : ℕ) (key : Bytes) (u : CallState) (op : Op) → fits w (event.Start call key) ≡ true → open_call w call ≡ Some u → op_at u key ≡ Some op → IsSoundWorld w → IsSomeAnd (stripe_for w key) (λ s. MayBegin s u.caller key)
 may_begin_at w call key u op fit is op_is sound =
     let s = stripe_at w key sound in
     let P : Option State → Type 0 = λ o. IsSomeAnd o (λ s. MayBegin s u.caller key) in
     subst P (sym s.1) (begins_at w call key u op s.0 fit is op_is s.1 sound)
 
--- an operation of a call under way runs no processor
-pub runs_none_at : (w : WorldState) (call : ℕ) (key : Bytes) (u : OpenCall) (op : Op) → open_call w call ≡ Some u → op_at u key ≡ Some op → IsSoundWorld w → is_invoke op ≡ false
-runs_none_at w call key u op is op_is sound = ((fits_found w (has_number call) w.calls u is sound.calls).keys key op op_is).runs_none
-
--- so its first phase gives no processor's ticket
-pub runs_none : (w : WorldState) (call : ℕ) (key : Bytes) (u : OpenCall) (op : Op) (from to : State) (ticket : ProcessClaim) → open_call w call ≡ Some u → op_at u key ≡ Some op → IsSoundWorld w
-    → BeginsAs u.caller key op (begun.Process ticket) from to → ⊥
-runs_none w call key u op from to ticket is op_is sound begins = clash (is_invoke op) (invokes from to u.caller key op ticket begins) (runs_none_at w call key u op is op_is sound)
-  where
-    clash : (b : Bool) → b ≡ true → b ≡ false → ⊥
-    clash true is other = cc
-    clash false is other = cc
-
 -- the key of a call that starts is open in it
-pub start_open : (w : WorldState) (call : ℕ) (key : Bytes) (u : OpenCall) → fits w (event.Start call key) ≡ true → open_call w call ≡ Some u → is_some (op_at u key) ≡ true
+pub start_open : (w : WorldState) (call : ℕ) (key : Bytes) (u : CallState) → fits w (event.Start call key) ≡ true → open_call w call ≡ Some u → is_some (op_at u key) ≡ true
 start_open w call key u fit is = (and_parts (is_some (op_at u key)) (is_free w call key) (sym (ap (may_start w call key) is) ∙ fit)).0
 
 -- 2. The stripe that a phase has changed.
@@ -89,7 +75,7 @@ phased_from v old new number phase stripes order p = record {
 
 -- 3. A first phase.
 
-pub started_done : (v next : WorldState) (call : ℕ) (key : Bytes) (u : OpenCall) (op : Op) (number : ℕ) (done : StepDone) (seen : Stepped) (stripes : List State) (order : List Event) → open_call v call ≡ Some u → op_at u key ≡ Some op → number ≡ home v key
+pub started_done : (v next : WorldState) (call : ℕ) (key : Bytes) (u : CallState) (op : Op) (number : ℕ) (done : StepDone) (seen : Stepped) (stripes : List State) (order : List Event) → open_call v call ≡ Some u → op_at u key ≡ Some op → number ≡ home v key
     → Phased v number (BeginsAs u.caller key op (begun.Done done)) stripes order → step_of seen ≡ done → seen.stripe ≡ number
     → next ≡ record v { stripes = stripes; order = order; calls = settle u.caller.call key v.calls } → Happens v (event.Start call key) (shown.Stepped seen) next
 started_done v next call key u op number done seen stripes order is op_is home_is p shows stripe_is next_is =
@@ -123,7 +109,7 @@ none_new order xs ys e = ap (λ zs. order ++ drop (length ys) zs) e ∙ ap (λ z
     gone [] = refl
     gone (z ∷ zs) = gone zs
 
-pub started_refused : (v next : WorldState) (call : ℕ) (key : Bytes) (u : OpenCall) (op : Op) (number : ℕ) (refusal : Refusal) (stripes : List State) (order : List Event) → open_call v call ≡ Some u → op_at u key ≡ Some op → number ≡ home v key
+pub started_refused : (v next : WorldState) (call : ℕ) (key : Bytes) (u : CallState) (op : Op) (number : ℕ) (refusal : Refusal) (stripes : List State) (order : List Event) → open_call v call ≡ Some u → op_at u key ≡ Some op → number ≡ home v key
     → Phased v number (BeginsAs u.caller key op (begun.Refused refusal)) stripes order
     → next ≡ record v { stripes = stripes; order = order; calls = settle u.caller.call key v.calls } → Happens v (event.Start call key) (shown.Refused refusal) next
 started_refused v next call key u op number refusal stripes order is op_is home_is p next_is =
@@ -145,7 +131,7 @@ started_refused v next call key u op number refusal stripes order is op_is home_
       ),
     )
 
-pub started_loads : (v next : WorldState) (call : ℕ) (key : Bytes) (u : OpenCall) (op : Op) (number : ℕ) (ticket : Ticket) (stripes : List State) (order : List Event) (parts : Parts) → open_call v call ≡ Some u → op_at u key ≡ Some op → number ≡ home v key
+pub started_loads : (v next : WorldState) (call : ℕ) (key : Bytes) (u : CallState) (op : Op) (number : ℕ) (ticket : Ticket) (stripes : List State) (order : List Event) (parts : Parts) → open_call v call ≡ Some u → op_at u key ≡ Some op → number ≡ home v key
     → Phased v number (BeginsAs u.caller key op (begun.Load ticket)) stripes order → parts ≡ insert v.parts key (new_part new_load ticket.reservation)
     → next ≡ record v { stripes = stripes; order = order; parts = parts } → Happens v (event.Start call key) shown.Loads next
 started_loads v next call key u op number ticket stripes order parts is op_is home_is p parts_are next_is =
@@ -169,7 +155,7 @@ started_loads v next call key u op number ticket stripes order parts is op_is ho
     )
 
 -- a call has joined a load
-pub started_joins : (v next : WorldState) (call : ℕ) (key : Bytes) (u : OpenCall) (op : Op) (number : ℕ) (join : JoinClaim) (stripes : List State) (order : List Event) (joins : List JoinClaim) → open_call v call ≡ Some u → op_at u key ≡ Some op → number ≡ home v key
+pub started_joins : (v next : WorldState) (call : ℕ) (key : Bytes) (u : CallState) (op : Op) (number : ℕ) (join : JoinClaim) (stripes : List State) (order : List Event) (joins : List JoinClaim) → open_call v call ≡ Some u → op_at u key ≡ Some op → number ≡ home v key
     → Phased v number (BeginsAs u.caller key op (begun.Joined join)) stripes order → joins ≡ v.joins ++ join ∷ []
     → next ≡ record v { stripes = stripes; order = order; joins = joins } → Happens v (event.Start call key) shown.Joins next
 started_joins v next call key u op number join stripes order joins is op_is home_is p joins_are next_is =
@@ -192,7 +178,7 @@ started_joins v next call key u op number join stripes order joins is op_is home
       ),
     )
 
-pub started_asks : (v next : WorldState) (call : ℕ) (key : Bytes) (u : OpenCall) (op : Op) (number : ℕ) (ticket : Ticket) (change : Change) (stripes : List State) (order : List Event) (parts : Parts) → open_call v call ≡ Some u → op_at u key ≡ Some op → number ≡ home v key
+pub started_asks : (v next : WorldState) (call : ℕ) (key : Bytes) (u : CallState) (op : Op) (number : ℕ) (ticket : Ticket) (change : Change) (stripes : List State) (order : List Event) (parts : Parts) → open_call v call ≡ Some u → op_at u key ≡ Some op → number ≡ home v key
     → Phased v number (BeginsAs u.caller key op (begun.Write ticket)) stripes order → ticket.reservation.first ≡ Writer change → parts ≡ insert v.parts key (new_part new_write ticket.reservation)
     → next ≡ record v { stripes = stripes; order = order; parts = parts } → Happens v (event.Start call key) (shown.Asks change) next
 started_asks v next call key u op number ticket change stripes order parts is op_is home_is p first parts_are next_is =
@@ -216,8 +202,32 @@ started_asks v next call key u op number ticket change stripes order parts is op
       ),
     )
 
+pub started_processes : (v next : WorldState) (call : ℕ) (key : Bytes) (u : CallState) (op : Op) (number : ℕ) (ticket : ProcessClaim) (entry : Option Bytes) (stripes : List State) (order : List Event) (parts : Parts) → open_call v call ≡ Some u → op_at u key ≡ Some op → number ≡ home v key
+    → Phased v number (BeginsAs u.caller key op (begun.Process ticket)) stripes order → entry ≡ entry_seen ticket.reservation.first → parts ≡ insert v.parts key (new_part new_process ticket.reservation)
+    → next ≡ record v { stripes = stripes; order = order; parts = parts } → Happens v (event.Start call key) (shown.Processes entry) next
+started_processes v next call key u op number ticket entry stripes order parts is op_is home_is p entry_is parts_are next_is =
+    let At : ℕ → Type 0 = λ n. slice_get v.stripes n ≡ Some p.from in (
+      u,
+      op,
+      is,
+      op_is,
+      p.from,
+      subst At home_is p.at,
+      p.to,
+      (
+        ticket,
+        p.made,
+        entry_is,
+        next_is ∙ (λ i. record v {
+          stripes = (p.stripes_are ∙ ap (λ n. slice_set v.stripes n p.to) home_is) i;
+          order = (p.order_is ∙ none_new v.order p.to.history p.from.history (ap (λ (s : State). s.history) p.made.4)) i;
+          parts = parts_are i;
+        }),
+      ),
+    )
+
 -- a key for which a ticket is given has no part yet
-pub free_load : (v : WorldState) (u : OpenCall) (key : Bytes) (op : Op) (number : ℕ) (ticket : Ticket) (stripes : List State) (order : List Event) → number ≡ home v key → Phased v number (BeginsAs u.caller key op (begun.Load ticket)) stripes order → IsSoundWorld v
+pub free_load : (v : WorldState) (u : CallState) (key : Bytes) (op : Op) (number : ℕ) (ticket : Ticket) (stripes : List State) (order : List Event) → number ≡ home v key → Phased v number (BeginsAs u.caller key op (begun.Load ticket)) stripes order → IsSoundWorld v
     → (get v.parts key ≡ None) × (ticket.reservation.key ≡ key) × (ticket.asked ≡ false)
 free_load v u key op number ticket stripes order home_is p sound =
     let At : ℕ → Type 0 = λ n. slice_get v.stripes n ≡ Some p.from in (
@@ -226,7 +236,7 @@ free_load v u key op number ticket stripes order home_is p sound =
       ap (λ (t : Ticket). t.asked) p.made.3,
     )
 
-pub free_write : (v : WorldState) (u : OpenCall) (key : Bytes) (op : Op) (number : ℕ) (ticket : Ticket) (stripes : List State) (order : List Event) → number ≡ home v key → Phased v number (BeginsAs u.caller key op (begun.Write ticket)) stripes order → IsSoundWorld v
+pub free_write : (v : WorldState) (u : CallState) (key : Bytes) (op : Op) (number : ℕ) (ticket : Ticket) (stripes : List State) (order : List Event) → number ≡ home v key → Phased v number (BeginsAs u.caller key op (begun.Write ticket)) stripes order → IsSoundWorld v
     → (get v.parts key ≡ None) × (ticket.reservation.key ≡ key) × (ticket.asked ≡ false)
 free_write v u key op number ticket stripes order home_is p sound =
     let At : ℕ → Type 0 = λ n. slice_get v.stripes n ≡ Some p.from in
@@ -242,6 +252,16 @@ free_write v u key op number ticket stripes order home_is p sound =
     writer_reserves Loader h = refl
     writer_reserves (Writer change) h = refl
     writer_reserves (Processor seen loads) h = refl
+
+pub free_process : (v : WorldState) (u : CallState) (key : Bytes) (op : Op) (number : ℕ) (ticket : ProcessClaim) (stripes : List State) (order : List Event) → number ≡ home v key → Phased v number (BeginsAs u.caller key op (begun.Process ticket)) stripes order → IsSoundWorld v
+    → (get v.parts key ≡ None) × (ticket.reservation.key ≡ key) × (ticket.asked ≡ false) × (ticket.writer_asked ≡ false)
+free_process v u key op number ticket stripes order home_is p sound =
+    let At : ℕ → Type 0 = λ n. slice_get v.stripes n ≡ Some p.from in (
+      unheld v key p.from (subst At home_is p.at) (processor_free p.from p.to u.caller key op ticket p.made) sound,
+      ap (λ (t : ProcessClaim). t.reservation.key) p.made.3,
+      ap (λ (t : ProcessClaim). t.asked) p.made.3,
+      ap (λ (t : ProcessClaim). t.writer_asked) p.made.3,
+    )
 
 -- 4. A last phase.
 
@@ -268,15 +288,17 @@ ended v next call key part number done seen stripes order parts is home_is p sho
 
 -- what a commit needs of the stripe
 pub may_end_at : (v : WorldState) (call : ℕ) (key : Bytes) (part : Part) (number : ℕ) → part_of v call key ≡ Some part → number ≡ home v key → IsSoundWorld v
-    → IsSomeAnd (slice_get v.stripes number) (λ s. IsOut s part.reservation × (s.origin ≡ Played))
+    → IsSomeAnd (slice_get v.stripes number) (λ s. IsOut s part.reservation × (s.origin ≡ Played) × (is_due s.config part ≡ true))
 may_end_at v call key part number is home_is sound =
     let found = some_of (stripe_for v key) (λ s. IsHeld s key part) (sound.held key part (is_part (get v.parts key) call part is)) in
     let s = found.0 in
     let held = found.2 in
-    let P : State → Type 0 = λ s. IsOut s part.reservation × (s.origin ≡ Played) in
+    let shape = sound.shape.each (home v key) s found.1 in
+    let due = ap (λ (c : Config). is_due c part) shape.config_is ∙ sound.due key part (is_part (get v.parts key) call part is) in
+    let P : State → Type 0 = λ s. IsOut s part.reservation × (s.origin ≡ Played) × (is_due s.config part ≡ true) in
     let Q : Option State → Type 0 = λ o. IsSomeAnd o P in
     let R : ℕ → Type 0 = λ n. IsSomeAnd (slice_get v.stripes n) P in
-    subst R (sym home_is) (subst Q (sym found.1) (held.out, (sound.shape.each (home v key) s found.1).origin_is))
+    subst R (sym home_is) (subst Q (sym found.1) (held.out, shape.origin_is, due))
 
 -- 5. A reservation that is given back.
 
@@ -303,7 +325,7 @@ pub may_withdraw_at : (v : WorldState) (call : ℕ) (key : Bytes) (part : Part) 
 may_withdraw_at v call key part number is home_is sound =
     weaker (slice_get v.stripes number) (may_end_at v call key part number is home_is sound)
   where
-    weaker : (o : Option State) → IsSomeAnd o (λ s. IsOut s part.reservation × (s.origin ≡ Played)) → IsSomeAnd o (λ s. IsOut s part.reservation)
+    weaker : (o : Option State) → IsSomeAnd o (λ s. IsOut s part.reservation × (s.origin ≡ Played) × (is_due s.config part ≡ true)) → IsSomeAnd o (λ s. IsOut s part.reservation)
     weaker None h = h
     weaker (Some s) h = h.0
 

@@ -27,12 +27,12 @@ use Rattle.jc_stripe.specs.Tickets.{JoinClaim, asks_loader}
 use Rattle.jc_stripe.specs.State.{State, is_key, reservation_of, IsOut}
 use Rattle.jc_stripe.specs.Phases.{with_joiner, without_joiner, told_to}
 use Rattle.jc_world.specs.declared.event.Part.{Part}
-use Rattle.jc_world.specs.declared.event.OpenCall.{OpenCall}
+use Rattle.jc_world.specs.Calls.{CallState, op_at}
 use Rattle.jc_world.specs.declared.event.Shown.{Shown}
 use Rattle.jc_world.specs.declared.event.Shown.TheVariants as shown
 use Rattle.jc_world.specs.declared.event.WorldEvent.{WorldEvent}
 use Rattle.jc_world.specs.declared.event.WorldEvent.TheVariants as event
-use Rattle.jc_world.specs.World.{WorldState, home, stripe_for, open_call, of_call, part_of, is_join, join_of, is_joined, joins_without, op_at}
+use Rattle.jc_world.specs.World.{WorldState, home, stripe_for, open_call, of_call, part_of, is_join, join_of, is_joined, joins_without}
 use Rattle.jc_world.specs.Events.{fits, with_stripe, with_join, Starts, Ends, Picks, Happens, Step, Run}
 use Rattle.jc_world.specs.PickUps.{ends_join, is_last_pick_up, ends_load, Resolves}
 use Rattle.jc_world.specs.Sound.{IsHeld, IsSoundWorld, IsOwned}
@@ -117,6 +117,12 @@ follows_started w new caller key op from to (shown.Asks change) shows more join 
     (ap (λ (x : WorldState). join_of x join.caller.call join.key) h.3 ∙ f.join_is) (λ apart. none)
     (tells_kept (home w join.key) shows more join r from to [] (ap (λ (s : State). s.joiners) after ∙ sym (append-nil from.joiners)) none
     (λ out. ap (λ (s : State). reservation_of s r.key) after ∙ found_more (is_key r.key) from.reservations (h.0.reservation ∷ []) r out))
+follows_started w new caller key op from to (shown.Processes entry) shows more join r there h none f =
+    let after = h.1.4 in
+    follows_set w new shows more join r key from to f (ap (λ (x : WorldState). x.config) h.3) (ap (λ (x : WorldState). x.stripes) h.3) there
+    (ap (λ (x : WorldState). join_of x join.caller.call join.key) h.3 ∙ f.join_is) (λ apart. none)
+    (tells_kept (home w join.key) shows more join r from to [] (ap (λ (s : State). s.joiners) after ∙ sym (append-nil from.joiners)) none
+    (λ out. ap (λ (s : State). reservation_of s r.key) after ∙ found_more (is_key r.key) from.reservations (h.0.reservation ∷ []) r out))
 follows_started w new caller key op from to shown.Joins shows more join r there h none f =
     let after = h.1.3 in
     let other = h.0 in
@@ -195,6 +201,7 @@ follows_happens w new (event.Call call session command) seen shows join r h last
 follows_happens w new (event.Start call key) seen shows join r h last old f = follows_started w new h.0.caller key h.1 h.4 h.6 seen shows _ join r h.5 h.7 refl f
 follows_happens w new (event.Read call key) seen shows join r h last old f = follows_beside w new _ shows _ join r f h.3 refl refl refl refl
 follows_happens w new (event.Say call key answer) seen shows join r h last old f = follows_beside w new _ shows _ join r f h.3 refl refl refl refl
+follows_happens w new (event.Process call key source calls fail) seen shows join r h last old f = follows_beside w new _ shows _ join r f h.3 refl refl refl refl
 follows_happens w new (event.Change call key) seen shows join r h last old f = follows_beside w new _ shows _ join r f h.5 refl refl refl refl
 follows_happens w new (event.Report call fault) seen shows join r h last old f = follows_beside w new _ shows _ join r f h.9 refl refl refl refl
 follows_happens w new (event.Commit call key) seen shows join r h last old f = follows_ended w new call key h.0 h.2 h.4 seen shows join r h.1 h.3 h.5 old f
@@ -268,7 +275,7 @@ can_join true o load h = h
 can_join false o load h = cc
 
 -- what has just been joined is followed
-follows_joined : (w : WorldState) (u : OpenCall) (key : Bytes) (op : Op) (from to : State) (join : JoinClaim) (r : Reservation) → stripe_for w key ≡ Some from → join ≡ record { caller = u.caller; key = key; load = join.load } → to ≡ with_joiner from join
+follows_joined : (w : WorldState) (u : CallState) (key : Bytes) (op : Op) (from to : State) (join : JoinClaim) (r : Reservation) → stripe_for w key ≡ Some from → join ≡ record { caller = u.caller; key = key; load = join.load } → to ≡ with_joiner from join
     → r.key ≡ key → r.number ≡ join.load → IsOut from r → MayStart w u key op → IsSoundWorld w → Follows (with_join (with_stripe w key to) join) [] join r
 follows_joined w u key op from to join r there join_is_of to_is r_key r_number out may old =
     let call_is : join.caller.call ≡ u.caller.call = ap (λ (j : JoinClaim). j.caller.call) join_is_of in
@@ -334,7 +341,7 @@ IsAnswered old new key shows seen =
     (load : Part) × (part_of old load.reservation.caller.call key ≡ Some load) × (asks_loader load.reservation.first ≡ true) × (load.reservation.key ≡ key) × Resolves new shows load.reservation seen
 
 -- by what is shown of the first phase
-answers_started : Laws → (old joined new newer : WorldState) (call : ℕ) (key : Bytes) (u : OpenCall) (op : Op) (from to : State) (es : List WorldEvent) (ss : List Shown) (seen : Shown) → open_call old call ≡ Some u → op_at u key ≡ Some op → fits old (event.Start call key) ≡ true
+answers_started : Laws → (old joined new newer : WorldState) (call : ℕ) (key : Bytes) (u : CallState) (op : Op) (from to : State) (es : List WorldEvent) (ss : List Shown) (seen : Shown) → open_call old call ≡ Some u → op_at u key ≡ Some op → fits old (event.Start call key) ≡ true
     → stripe_for old key ≡ Some from → Starts old u.caller key op from to shown.Joins joined → IsSoundWorld old → IsSoundWorld joined → Run joined es ss new → list_any (is_last_pick_up call key) (zip es ss) ≡ false
     → Step new (event.PickUp call key) seen newer → IsAnswered old new key (zip es ss) seen
 answers_started laws old joined new newer call key u op from to es ss seen here op_is fit there (join, begins, is) sound_old sound_joined run none step =

@@ -14,11 +14,11 @@ use Rattle.jc_model.specs.declared.event.Op.{Op}
 use Rattle.jc_model.specs.Cache.{Bytes, entry_at}
 use Rattle.jc_stripe.specs.declared.begun.Begun.TheVariants as begun
 use Rattle.jc_stripe.specs.declared.ticket.Reservation.{Reservation}
-use Rattle.jc_stripe.specs.Tickets.{Ticket, JoinClaim}
+use Rattle.jc_stripe.specs.Tickets.{Ticket, ProcessClaim, JoinClaim}
 use Rattle.jc_stripe.specs.State.{State, is_key, is_reserved, without_key, with_reservation, without_reservation, IsOut}
 use Rattle.jc_stripe.specs.Reached.{IsReached}
 use Rattle.jc_stripe.specs.Laws.{KeepsReserved}
-use Rattle.jc_world.specs.declared.event.OpenCall.{OpenCall}
+use Rattle.jc_world.specs.Calls.{CallState}
 use Rattle.jc_world.specs.declared.event.Part.{Part}
 use Rattle.jc_world.specs.declared.event.Shown.{Shown}
 use Rattle.jc_world.specs.declared.event.Shown.TheVariants as shown
@@ -45,11 +45,12 @@ cached_set : (w : WorldState) (key q : Bytes) (from to : State) → stripe_for w
 cached_set w key q from to there same = at_stripe w.stripes (home w key) (home w q) from to (λ o x. entry_in x q ≡ entry_in o q) there (ap (λ c. entry_at c q) same) refl
 
 -- the first phase
-unmoved_started : (w new : WorldState) (u : OpenCall) (key : Bytes) (op : Op) (from to : State) (seen : Shown) → stripe_for w key ≡ Some from → Starts w u.caller key op from to seen new → is_appended seen ≡ false → IsUnmoved w new
+unmoved_started : (w new : WorldState) (u : CallState) (key : Bytes) (op : Op) (from to : State) (seen : Shown) → stripe_for w key ≡ Some from → Starts w u.caller key op from to seen new → is_appended seen ≡ false → IsUnmoved w new
 unmoved_started w new u key op from to (shown.Refused refusal) there h none = subst (IsUnmoved w) (sym h.1) (refl, λ q. refl)
 unmoved_started w new u key op from to (shown.Stepped seen) there h none = absurd (let t : true ≡ false = none in cc)
 unmoved_started w new u key op from to shown.Loads there h none = subst (IsUnmoved w) (sym h.2) (refl, λ q. cached_set w key q from to there (ap (λ (s : State). s.cache) h.1.4))
 unmoved_started w new u key op from to (shown.Asks change) there h none = subst (IsUnmoved w) (sym h.3) (refl, λ q. cached_set w key q from to there (ap (λ (s : State). s.cache) h.1.4))
+unmoved_started w new u key op from to (shown.Processes entry) there h none = subst (IsUnmoved w) (sym h.3) (refl, λ q. cached_set w key q from to there (ap (λ (s : State). s.cache) h.1.4))
 unmoved_started w new u key op from to shown.Joins there h none = subst (IsUnmoved w) (sym h.2) (refl, λ q. cached_set w key q from to there (ap (λ (s : State). s.cache) h.1.3))
 unmoved_started w new u key op from to seen there h none = absurd h
 
@@ -71,6 +72,7 @@ unmoved_happens w new (event.Call call session command) seen h none = subst (IsU
 unmoved_happens w new (event.Start call key) seen h none = unmoved_started w new h.0 key h.1 h.4 h.6 seen h.5 h.7 none
 unmoved_happens w new (event.Read call key) seen h none = subst (IsUnmoved w) (sym h.3) (refl, λ q. refl)
 unmoved_happens w new (event.Say call key answer) seen h none = subst (IsUnmoved w) (sym h.3) (refl, λ q. refl)
+unmoved_happens w new (event.Process call key source calls fail) seen h none = subst (IsUnmoved w) (sym h.3) (refl, λ q. refl)
 unmoved_happens w new (event.Change call key) seen h none = subst (IsUnmoved w) (sym h.5) (refl, λ q. refl)
 unmoved_happens w new (event.Report call fault) seen h none = subst (IsUnmoved w) (sym h.9) (refl, λ q. refl)
 unmoved_happens w new (event.Commit call key) seen h none = unmoved_ended w new call key h.0 h.2 h.4 seen h.5 none
@@ -187,7 +189,7 @@ stay_set w n key from to config stripes there stays = record {
 }
 
 -- the first phase
-stay_started : KeepsReserved → (w new : WorldState) (u : OpenCall) (key : Bytes) (op : Op) (from to : State) (seen : Shown) → stripe_for w key ≡ Some from → IsReached from → Starts w u.caller key op from to seen new → StayOut w new
+stay_started : KeepsReserved → (w new : WorldState) (u : CallState) (key : Bytes) (op : Op) (from to : State) (seen : Shown) → stripe_for w key ≡ Some from → IsReached from → Starts w u.caller key op from to seen new → StayOut w new
 stay_started kept w new u key op from to (shown.Refused refusal) there reached h = stay_beside w new _ h.1 refl refl
 stay_started kept w new u key op from to (shown.Stepped seen) there reached h =
     stay_set w new key from to (ap (λ (x : WorldState). x.config) h.2) (ap (λ (x : WorldState). x.stripes) h.2) there
@@ -199,6 +201,9 @@ stay_started kept w new u key op from to shown.Loads there reached h =
 stay_started kept w new u key op from to (shown.Asks change) there reached h =
     stay_set w new key from to (ap (λ (x : WorldState). x.config) h.3) (ap (λ (x : WorldState). x.stripes) h.3) there
     (stays_reserving from to h.0.reservation h.1.4 (ap (λ (t : Ticket). t.reservation.number) h.1.3))
+stay_started kept w new u key op from to (shown.Processes entry) there reached h =
+    stay_set w new key from to (ap (λ (x : WorldState). x.config) h.3) (ap (λ (x : WorldState). x.stripes) h.3) there
+    (stays_reserving from to h.0.reservation h.1.4 (ap (λ (t : ProcessClaim). t.reservation.number) h.1.3))
 stay_started kept w new u key op from to shown.Joins there reached h =
     stay_set w new key from to (ap (λ (x : WorldState). x.config) h.2) (ap (λ (x : WorldState). x.stripes) h.2) there
     (stays_kept from to (ap (λ (s : State). s.next) h.1.3) (ap (λ (s : State). s.reservations) h.1.3) (λ q out. ap (λ (s : State). entry_at s.cache q) h.1.3))
@@ -230,6 +235,7 @@ stay_happens kept w new (event.Call call session command) seen h old = stay_besi
 stay_happens kept w new (event.Start call key) seen h old = stay_started kept w new h.0 key h.1 h.4 h.6 seen h.5 (old.shape.each (home w key) h.4 h.5).reached h.7
 stay_happens kept w new (event.Read call key) seen h old = stay_beside w new _ h.3 refl refl
 stay_happens kept w new (event.Say call key answer) seen h old = stay_beside w new _ h.3 refl refl
+stay_happens kept w new (event.Process call key source calls fail) seen h old = stay_beside w new _ h.3 refl refl
 stay_happens kept w new (event.Change call key) seen h old = stay_beside w new _ h.5 refl refl
 stay_happens kept w new (event.Report call fault) seen h old = stay_beside w new _ h.9 refl refl
 stay_happens kept w new (event.Commit call key) seen h old = stay_ended kept w new call key h.0 h.2 h.4 seen h.3 (old.shape.each (home w key) h.2 h.3).reached h.5

@@ -1,196 +1,259 @@
 -- The open keys of a call, and what is left of a call and of the calls under way once a key of one has its reply or last refusal.
---     open_now, open_any     a test of all open keys holds of each, and one that holds of some is found
+--     only_op                a call of one key does there what its command says
+--     only_is                the open key of a call that has just one key
+--     open_now               a test of all open keys holds of each
 --     Left                   a call that goes on: what is open in it was open before, and isn't the key that was settled
 --     still_called           a call goes on at each other key
 --     calls_settled          the calls fit another world
 --     each_settled           a fact of each call
-use Rattle.std.proofs.Common.{◌≡◌, ◌==◌, ◌&&◌, ◌||◌, ℕ, List, [], ◌∷◌, Bool, true, false, cond, not, Option, None, Some, IsSomeAnd, find, filter, refl, sym, ap, ◌∙◌, subst, is_some}
-use Rattle.std.specs.List.{list_all, list_any}
+--     retained               a walk that keeps what a definition keeps
+use Rattle.std.proofs.Common.{◌≡◌, ◌==◌, ◌&&◌, ◌||◌, ℕ, List, [], ◌∷◌, Bool, true, false, cond, not, Option, None, Some, IsSomeAnd, find, filter, is_some, refl, sym, ap, ◌∙◌, subst}
+use Rattle.std.specs.List.{list_all, list_any, cons_option, filter_map}
+use Rattle.std.specs.List.Retain.{RetainsInTurn}
+use Rattle.std.specs.Map.{keys_of, lookup, set_value}
+use Rattle.std.specs.Option.{option_flatten}
 use Rattle.std.specs.Cmp.Lexicographic.{pointwise}
 use Rattle.std.proofs.lemmas.Bool.{eq-eqb, eqb-true, and_parts, and_from}
 use Rattle.jc_types.specs.declared.caller.Caller.{Caller}
 use Rattle.jc_model.specs.declared.event.Op.{Op}
 use Rattle.jc_model.specs.Cache.{Bytes}
-use Rattle.jc_world.specs.declared.event.OpenCall.{OpenCall}
-use Rattle.jc_world.specs.World.{WorldState, has_number, open_keys, op_at, settle_key, with_some, settle}
+use Rattle.jc_world.specs.Calls.{CallState, Task, has_number, op_in, op_at, is_open, open_in, open_keys, only_in, going_on, settled, settle}
+use Rattle.jc_world.specs.World.{WorldState}
 use Rattle.jc_world.specs.Sound.{is_apart, FitsCall, CallsFit, IsCallOf, Each}
+use Rattle.jc_world.proofs.Facts.{refuted}
 use Rattle.jc_world.proofs.Underway.{same_bytes}
 
--- 1. The open keys of a call.
+-- 1. Open keys.
 
--- a key at which the call does something is the one of its command
-key_of : (u : OpenCall) (key : Bytes) (op : Op) → op_at u key ≡ Some op → (pointwise ◌==◌ key u.command.key ≡ true) × (u.command.op ≡ op)
-key_of u key op h =
-    elim (pointwise ◌==◌ key u.command.key) as (λ b. cond b (Some u.command.op) None ≡ Some op → (b ≡ true) × (u.command.op ≡ op)) [
-      | true ↦ λ h. (refl, let is : u.command.op ≡ op = cc in is)
+-- of one key there is one operation
+pub only_op : (key : Bytes) (one : Op) (q : Bytes) (op : Op) → op_in ((key, Some one) ∷ []) q ≡ Some op → one ≡ op
+only_op key one q op h =
+    elim (pointwise ◌==◌ q key) as (λ b. option_flatten (cond b (Some (Some one)) None) ≡ Some op → one ≡ op) [
+      | true ↦ λ h. let is : one ≡ op = cc in is
       | false ↦ λ h. cc
     ] h
 
--- and what it does there is its operation
-pub op_of : (u : OpenCall) (key : Bytes) (op : Op) → op_at u key ≡ Some op → u.command.op ≡ op
-op_of u key op h = (key_of u key op h).1
+-- where there is just one key, it is all that is open
+pub only_is : (tasks : List Task) (key : Bytes) → only_in tasks ≡ Some key → open_in tasks ≡ key ∷ []
+only_is [] key h = cc
+only_is (task ∷ []) key h =
+    elim (is_open task) as (λ b. cond b (Some task.0) None ≡ Some key → keys_of (cond b (task ∷ []) []) ≡ key ∷ []) [
+      | true ↦ λ h. let is : task.0 ≡ key = cc in ap (λ k. k ∷ []) is
+      | false ↦ λ h. cc
+    ] h
+only_is (task ∷ next ∷ tasks) key h = cc
 
--- so an open key is one at which it does that
-pub open_op : (u : OpenCall) (key : Bytes) → is_some (op_at u key) ≡ true → op_at u key ≡ Some u.command.op
-open_op u key h =
-    elim (pointwise ◌==◌ key u.command.key) as (λ b. is_some (cond b (Some u.command.op) None) ≡ true → cond b (Some u.command.op) None ≡ Some u.command.op) [ true ↦ λ h. refl | false ↦ λ h. cc ] h
+-- what is behind another key
+behind : (q : Bytes) (task : Task) (tasks : List Task) → pointwise ◌==◌ q task.0 ≡ false → op_in (task ∷ tasks) q ≡ op_in tasks q
+behind q task tasks e = ap (λ b. option_flatten (cond b (Some task.1) (lookup (pointwise ◌==◌ q) tasks))) e
+
+-- and what is at this one
+ahead : (q : Bytes) (task : Task) (tasks : List Task) → pointwise ◌==◌ q task.0 ≡ true → op_in (task ∷ tasks) q ≡ task.1
+ahead q task tasks e = ap (λ b. option_flatten (cond b (Some task.1) (lookup (pointwise ◌==◌ q) tasks))) e
+
+in_all : (p : Bytes → Bool) (tasks : List Task) (key : Bytes) (op : Op) → op_in tasks key ≡ Some op → list_all p (open_in tasks) ≡ true → p key ≡ true
+in_all p [] key op h all = cc
+in_all p (task ∷ tasks) key op h all =
+    elim (pointwise ◌==◌ key task.0) as (λ b. pointwise ◌==◌ key task.0 ≡ b → p key ≡ true) [
+      | true ↦ λ e.
+          let first : list_all p (cond true (task.0 ∷ open_in tasks) (open_in tasks)) ≡ true =
+          ap (λ b. list_all p (keys_of (cond b (task ∷ filter is_open tasks) (filter is_open tasks)))) (sym (ap is_some (sym (ahead key task tasks e) ∙ h))) ∙ all in
+          ap p (same_bytes key task.0 e) ∙ (and_parts (p task.0) (list_all p (open_in tasks)) first).0
+      | false ↦ λ e. in_all p tasks key op (sym (behind key task tasks e) ∙ h) (later (is_open task) all)
+    ] refl
+  where
+    later : (b : Bool) → list_all p (keys_of (cond b (task ∷ filter is_open tasks) (filter is_open tasks))) ≡ true → list_all p (open_in tasks) ≡ true
+    later true all = (and_parts (p task.0) (list_all p (open_in tasks)) all).1
+    later false all = all
 
 -- what is true of all open keys is true of each
-pub open_now : (p : Bytes → Bool) (u : OpenCall) (key : Bytes) (op : Op) → op_at u key ≡ Some op → list_all p (open_keys u) ≡ true → p key ≡ true
-open_now p u key op h all = ap p (same_bytes key u.command.key (key_of u key op h).0) ∙ (and_parts (p u.command.key) true all).0
+pub open_now : (p : Bytes → Bool) (u : CallState) (key : Bytes) (op : Op) → op_at u key ≡ Some op → list_all p (open_keys u) ≡ true → p key ≡ true
+open_now p u key op h all = in_all p u.tasks key op h all
 
--- what is true of one is true of some
-pub open_any : (p : Bytes → Bool) (u : OpenCall) (key : Bytes) (op : Op) → op_at u key ≡ Some op → p key ≡ true → list_any p (open_keys u) ≡ true
-open_any p u key op h one = ap (λ b. b || false) (ap p (sym (same_bytes key u.command.key (key_of u key op h).0)) ∙ one)
+-- where something is done, a key is open
+some_open : (tasks : List Task) (key : Bytes) (op : Op) → op_in tasks key ≡ Some op → list_any is_open tasks ≡ true
+some_open [] key op h = cc
+some_open (task ∷ tasks) key op h =
+    elim (pointwise ◌==◌ key task.0) as (λ b. pointwise ◌==◌ key task.0 ≡ b → (is_open task || list_any is_open tasks) ≡ true) [
+      | true ↦ λ e. ap (λ b. b || list_any is_open tasks) (ap is_some (sym (ahead key task tasks e) ∙ h))
+      | false ↦ λ e. or_right (is_open task) (list_any is_open tasks) (some_open tasks key op (sym (behind key task tasks e) ∙ h))
+    ] refl
+  where
+    or_right : (b c : Bool) → c ≡ true → (b || c) ≡ true
+    or_right true c h = refl
+    or_right false c h = h
 
--- 2. A call of which a key was settled.
+-- 2. Tasks of which a key was settled.
+
+-- nothing is done at the key
+at_self : (key q : Bytes) (tasks : List Task) → q ≡ key → op_in (set_value (pointwise ◌==◌ key) tasks None) q ≡ None
+at_self key q [] same = refl
+at_self key q (task ∷ tasks) same =
+    elim (pointwise ◌==◌ key task.0) as (λ b. pointwise ◌==◌ key task.0 ≡ b → op_in (cond b ((task.0, None) ∷ tasks) (task ∷ set_value (pointwise ◌==◌ key) tasks None)) q ≡ None) [
+      | true ↦ λ e. ahead q (task.0, None) tasks (ap (λ k. pointwise ◌==◌ k task.0) same ∙ e)
+      | false ↦ λ e. behind q task (set_value (pointwise ◌==◌ key) tasks None) (ap (λ k. pointwise ◌==◌ k task.0) same ∙ e) ∙ at_self key q tasks same
+    ] refl
+
+-- at each other key the same is done
+at_other : (key q : Bytes) (tasks : List Task) → (q ≡ key → ⊥) → op_in (set_value (pointwise ◌==◌ key) tasks None) q ≡ op_in tasks q
+at_other key q [] other = refl
+at_other key q (task ∷ tasks) other =
+    elim (pointwise ◌==◌ key task.0) as (λ b. pointwise ◌==◌ key task.0 ≡ b → op_in (cond b ((task.0, None) ∷ tasks) (task ∷ set_value (pointwise ◌==◌ key) tasks None)) q ≡ op_in (task ∷ tasks) q) [
+      | true ↦ λ e.
+          let apart = refuted (pointwise ◌==◌ q task.0) (λ at. other (same_bytes q task.0 at ∙ sym (same_bytes key task.0 e))) in
+          behind q (task.0, None) tasks apart ∙ sym (behind q task tasks apart)
+      | false ↦ λ e. elim (pointwise ◌==◌ q task.0) as (λ b. option_flatten (cond b (Some task.1) (lookup (pointwise ◌==◌ q) (set_value (pointwise ◌==◌ key) tasks None))) ≡ option_flatten (cond b (Some task.1) (lookup (pointwise ◌==◌ q) tasks))) [ true ↦ refl | false ↦ at_other key q tasks other ]
+    ] refl
+
+-- so what is done is done at another key
+not_self : (key q : Bytes) (tasks : List Task) (op : Op) → op_in (set_value (pointwise ◌==◌ key) tasks None) q ≡ Some op → q ≡ key → ⊥
+not_self key q tasks op h same = let t : None ≡ Some op = sym (at_self key q tasks same) ∙ h in cc
+
+-- 3. A call of which a key was settled.
 
 -- the call goes on: all that is open in it was open before, and another key was settled
-pub record Left (call : ℕ) (key : Bytes) (u v : OpenCall) : Type 0 where
+pub record Left (call : ℕ) (key : Bytes) (u v : CallState) : Type 0 where
   pub caller_is : v.caller ≡ u.caller
   pub was : (q : Bytes) (op : Op) → op_at v q ≡ Some op → op_at u q ≡ Some op
   pub other : (q : Bytes) (op : Op) → op_at v q ≡ Some op → u.caller.call ≡ call → q ≡ key → ⊥
 
--- so does what was open at another key
-keeps : (u v : OpenCall) (key q : Bytes) (op : Op) → settle_key u key ≡ Some v → op_at u q ≡ Some op → op_at v q ≡ Some op
-keeps u v key q op is h =
-    elim (pointwise ◌==◌ key u.command.key) as (λ b. cond b None (Some u) ≡ Some v → op_at v q ≡ Some op) [
-      | true ↦ λ is. cc
-      | false ↦ λ is. let same : u ≡ v = cc in ap (λ (x : OpenCall). op_at x q) (sym same) ∙ h
-    ] is
+-- what goes on has the tasks that are left
+going_is : (u : CallState) (tasks : List Task) (v : CallState) → going_on u tasks ≡ Some v → v ≡ record u { tasks = tasks }
+going_is u tasks v h = go (list_any is_open tasks) h
+  where
+    go : (b : Bool) → cond b (Some (record u { tasks = tasks })) None ≡ Some v → v ≡ record u { tasks = tasks }
+    go true h = let is : record u { tasks = tasks } ≡ v = cc in sym is
+    go false h = cc
 
--- a call is over with its last key
-last_key : (u : OpenCall) (key q : Bytes) (op : Op) → settle_key u key ≡ None → op_at u q ≡ Some op → q ≡ key
-last_key u key q op is h =
-    elim (pointwise ◌==◌ key u.command.key) as (λ b. pointwise ◌==◌ key u.command.key ≡ b → cond b None (Some u) ≡ None → q ≡ key) [
-      | true ↦ λ e is. same_bytes q u.command.key (key_of u q op h).0 ∙ sym (same_bytes key u.command.key e)
-      | false ↦ λ e is. cc
-    ] refl is
+-- and what doesn't has none
+none_left : (u : CallState) (tasks : List Task) (q : Bytes) (op : Op) → going_on u tasks ≡ None → op_in tasks q ≡ Some op → ⊥
+none_left u tasks q op h at =
+    let t : Some (record u { tasks = tasks }) ≡ None = ap (λ b. cond b (Some (record u { tasks = tasks })) None) (sym (some_open tasks q op at)) ∙ h in cc
 
--- what is left of it
-left_key : (call : ℕ) (key : Bytes) (u v : OpenCall) → settle_key u key ≡ Some v → Left call key u v
-left_key call key u v is =
-    elim (pointwise ◌==◌ key u.command.key) as (λ b. pointwise ◌==◌ key u.command.key ≡ b → cond b None (Some u) ≡ Some v → Left call key u v) [
-      | true ↦ λ e is. cc
-      | false ↦ λ e is.
-          let same : u ≡ v = cc in
-          let back = λ (q : Bytes) (op : Op) (h : op_at v q ≡ Some op). ap (λ (x : OpenCall). op_at x q) same ∙ h in
-          record {
-            caller_is = ap (λ (x : OpenCall). x.caller) (sym same);
-            was = back;
-            other = λ q op h mine at.
-                let t : true ≡ false = sym (key_of u q op (back q op h)).0 ∙ ap (λ k. pointwise ◌==◌ k u.command.key) at ∙ e in cc;
-          }
-    ] refl is
+-- the tasks that are left
+abbrev tasks_left : ℕ → Bytes → CallState → List Task
+tasks_left call key u = cond (has_number call u) (set_value (pointwise ◌==◌ key) u.tasks None) u.tasks
 
--- a call of another number is left as it is
-left_other : (call : ℕ) (key : Bytes) (u : OpenCall) → has_number call u ≡ false → Left call key u u
-left_other call key u apart = record {
-  caller_is = refl;
-  was = λ q op h. h;
-  other = λ q op h mine at. let t : true ≡ false = sym (eq-eqb u.caller.call call mine) ∙ apart in cc;
-}
+left_was : (call : ℕ) (key : Bytes) (u : CallState) (q : Bytes) (op : Op) → op_in (tasks_left call key u) q ≡ Some op → op_at u q ≡ Some op
+left_was call key u q op h =
+    elim (has_number call u) as (λ b. op_in (cond b (set_value (pointwise ◌==◌ key) u.tasks None) u.tasks) q ≡ Some op → op_at u q ≡ Some op) [
+      | true ↦ λ h. sym (at_other key q u.tasks (not_self key q u.tasks op h)) ∙ h
+      | false ↦ λ h. h
+    ] h
 
--- 3. The calls under way.
+left_other : (call : ℕ) (key : Bytes) (u : CallState) (q : Bytes) (op : Op) → op_in (tasks_left call key u) q ≡ Some op → u.caller.call ≡ call → q ≡ key → ⊥
+left_other call key u q op h mine =
+    not_self key q u.tasks op (ap (λ b. op_in (cond b (set_value (pointwise ◌==◌ key) u.tasks None) u.tasks) q) (sym (eq-eqb u.caller.call call mine)) ∙ h)
+
+left_of : (call : ℕ) (key : Bytes) (u v : CallState) → settled call key u ≡ Some v → Left call key u v
+left_of call key u v is =
+    let v_is = going_is u (tasks_left call key u) v is in
+    let back = λ (q : Bytes) (op : Op) (h : op_at v q ≡ Some op). ap (λ (x : CallState). op_at x q) (sym v_is) ∙ h in
+    record {
+      caller_is = ap (λ (x : CallState). x.caller) v_is;
+      was = λ q op h. left_was call key u q op (back q op h);
+      other = λ q op h. left_other call key u q op (back q op h);
+    }
+
+-- what is done at another key goes on
+still_open : (call : ℕ) (key : Bytes) (u : CallState) (q : Bytes) (op : Op) → (u.caller.call ≡ call → q ≡ key → ⊥) → op_at u q ≡ Some op → op_in (tasks_left call key u) q ≡ Some op
+still_open call key u q op other h =
+    elim (has_number call u) as (λ b. has_number call u ≡ b → op_in (cond b (set_value (pointwise ◌==◌ key) u.tasks None) u.tasks) q ≡ Some op) [
+      | true ↦ λ e. at_other key q u.tasks (other (eqb-true u.caller.call call e)) ∙ h
+      | false ↦ λ e. h
+    ] refl
+
+-- 4. The calls under way.
 
 -- a fact of a call at a key that goes on
-abbrev Goes : ℕ → ℕ → Bytes → Op → List OpenCall → Type 0
+abbrev Goes : ℕ → ℕ → Bytes → Op → List CallState → Type 0
 Goes number session q op calls = IsSomeAnd (find (has_number number) calls) (IsCallOf session q op)
 
 -- what is behind a call that is not looked for
-goes_behind : (number session : ℕ) (q : Bytes) (op : Op) (x : OpenCall) (calls : List OpenCall) → has_number number x ≡ false → Goes number session q op calls → Goes number session q op (x ∷ calls)
+goes_behind : (number session : ℕ) (q : Bytes) (op : Op) (x : CallState) (calls : List CallState) → has_number number x ≡ false → Goes number session q op calls → Goes number session q op (x ∷ calls)
 goes_behind number session q op x calls apart h = let P : Bool → Type 0 = λ b. IsSomeAnd (cond b (Some x) (find (has_number number) calls)) (IsCallOf session q op) in subst P (sym apart) h
 
 -- one that is looked for is found
-goes_here : (number session : ℕ) (q : Bytes) (op : Op) (x : OpenCall) (calls : List OpenCall) → has_number number x ≡ true → IsCallOf session q op x → Goes number session q op (x ∷ calls)
+goes_here : (number session : ℕ) (q : Bytes) (op : Op) (x : CallState) (calls : List CallState) → has_number number x ≡ true → IsCallOf session q op x → Goes number session q op (x ∷ calls)
 goes_here number session q op x calls mine h = let P : Bool → Type 0 = λ b. IsSomeAnd (cond b (Some x) (find (has_number number) calls)) (IsCallOf session q op) in subst P (sym mine) h
 
--- the call that is looked for, once a key of it is settled
-goes_settled : (number session : ℕ) (key q : Bytes) (op : Op) (x : OpenCall) (calls : List OpenCall) (o : Option OpenCall) → settle_key x key ≡ o → (q ≡ key → ⊥) → has_number number x ≡ true → IsCallOf session q op x → Goes number session q op (with_some o calls)
-goes_settled number session key q op x calls None e other mine h = absurd (other (last_key x key q op e h.1))
-goes_settled number session key q op x calls (Some v) e other mine h =
-    let left = left_key number key x v e in
-    goes_here number session q op v calls (ap (λ (c : Caller). c.call == number) left.caller_is ∙ mine) (ap (λ (c : Caller). c.session) left.caller_is ∙ h.0, keeps x v key q op e h.1)
+-- the call that is looked for, once a key is settled
+goes_settled : (call : ℕ) (key : Bytes) (number session : ℕ) (q : Bytes) (op : Op) (x : CallState) (calls : List CallState) (o : Option CallState) → settled call key x ≡ o → (number ≡ call → q ≡ key → ⊥)
+    → has_number number x ≡ true → IsCallOf session q op x → Goes number session q op (cons_option o calls)
+goes_settled call key number session q op x calls o is other mine h = go o is
+  where
+    goes : op_in (tasks_left call key x) q ≡ Some op
+    goes = still_open call key x q op (λ at. other (sym (eqb-true x.caller.call number mine) ∙ at)) h.1
+
+    go : (o : Option CallState) → settled call key x ≡ o → Goes number session q op (cons_option o calls)
+    go None e = absurd (none_left x (tasks_left call key x) q op e goes)
+    go (Some v) e =
+        let v_is = going_is x (tasks_left call key x) v e in
+        goes_here number session q op v calls (ap (λ (c : CallState). has_number number c) v_is ∙ mine) (ap (λ (c : CallState). c.caller.session) v_is ∙ h.0, ap (λ (c : CallState). op_at c q) v_is ∙ goes)
 
 -- and a call before it
-goes_passed : (call number session : ℕ) (key q : Bytes) (op : Op) (x : OpenCall) (calls : List OpenCall) (o : Option OpenCall) → settle_key x key ≡ o → has_number number x ≡ false → Goes number session q op calls → Goes number session q op (with_some o calls)
-goes_passed call number session key q op x calls None e apart h = h
-goes_passed call number session key q op x calls (Some v) e apart h = goes_behind number session q op v calls (ap (λ (c : Caller). c.call == number) (left_key call key x v e).caller_is ∙ apart) h
+goes_passed : (call : ℕ) (key : Bytes) (number session : ℕ) (q : Bytes) (op : Op) (x : CallState) (calls : List CallState) (o : Option CallState) → settled call key x ≡ o → has_number number x ≡ false → Goes number session q op calls
+    → Goes number session q op (cons_option o calls)
+goes_passed call key number session q op x calls None e apart h = h
+goes_passed call key number session q op x calls (Some v) e apart h = goes_behind number session q op v calls (ap (λ (c : Caller). c.call == number) (left_of call key x v e).caller_is ∙ apart) h
 
 -- a call goes on at each key but the one that is settled
-pub still_called : (call : ℕ) (key : Bytes) (number session : ℕ) (q : Bytes) (op : Op) (calls : List OpenCall) → (number ≡ call → q ≡ key → ⊥) → IsSomeAnd (find (has_number number) calls) (IsCallOf session q op)
+pub still_called : (call : ℕ) (key : Bytes) (number session : ℕ) (q : Bytes) (op : Op) (calls : List CallState) → (number ≡ call → q ≡ key → ⊥) → IsSomeAnd (find (has_number number) calls) (IsCallOf session q op)
     → IsSomeAnd (find (has_number number) (settle call key calls)) (IsCallOf session q op)
 still_called call key number session q op [] other h = h
 still_called call key number session q op (x ∷ xs) other h =
-    elim (has_number call x) as (λ b. has_number call x ≡ b → Goes number session q op (with_some (cond b (settle_key x key) (Some x)) (settle call key xs))) [
-      | true ↦ λ e. elim (has_number number x) as (λ c. has_number number x ≡ c → IsSomeAnd (cond c (Some x) (find (has_number number) xs)) (IsCallOf session q op) → Goes number session q op (with_some (settle_key x key) (settle call key xs))) [
-        | true ↦ λ f h. goes_settled number session key q op x (settle call key xs) (settle_key x key) refl (λ at. other (sym (eqb-true x.caller.call number f) ∙ eqb-true x.caller.call call e) at) f h
-        | false ↦ λ f h. goes_passed call number session key q op x (settle call key xs) (settle_key x key) refl f (still_called call key number session q op xs other h)
-      ] refl h
-      | false ↦ λ e. elim (has_number number x) as (λ c. has_number number x ≡ c → IsSomeAnd (cond c (Some x) (find (has_number number) xs)) (IsCallOf session q op) → Goes number session q op (x ∷ settle call key xs)) [
-        | true ↦ λ f h. goes_here number session q op x (settle call key xs) f h
-        | false ↦ λ f h. goes_behind number session q op x (settle call key xs) f (still_called call key number session q op xs other h)
-      ] refl h
-    ] refl
+    elim (has_number number x) as (λ c. has_number number x ≡ c → IsSomeAnd (cond c (Some x) (find (has_number number) xs)) (IsCallOf session q op) → Goes number session q op (cons_option (settled call key x) (settle call key xs))) [
+      | true ↦ λ f h. goes_settled call key number session q op x (settle call key xs) (settled call key x) refl other f h
+      | false ↦ λ f h. goes_passed call key number session q op x (settle call key xs) (settled call key x) refl f (still_called call key number session q op xs other h)
+    ] refl h
 
 -- calls that are apart stay so
-apart_of : (x y v : OpenCall) → v.caller ≡ y.caller → is_apart x y ≡ true → is_apart x v ≡ true
+apart_of : (x y v : CallState) → v.caller ≡ y.caller → is_apart x y ≡ true → is_apart x v ≡ true
 apart_of x y v same h = ap (λ (c : Caller). not (c.session == x.caller.session) && not (c.call == x.caller.call)) same ∙ h
 
-apart_settled : (call : ℕ) (key : Bytes) (x : OpenCall) (calls : List OpenCall) → list_all (is_apart x) calls ≡ true → list_all (is_apart x) (settle call key calls) ≡ true
+apart_settled : (call : ℕ) (key : Bytes) (x : CallState) (calls : List CallState) → list_all (is_apart x) calls ≡ true → list_all (is_apart x) (settle call key calls) ≡ true
 apart_settled call key x [] h = refl
 apart_settled call key x (y ∷ ys) h =
     let parts = and_parts (is_apart x y) (list_all (is_apart x) ys) h in
-    let rest = apart_settled call key x ys parts.1 in
-    elim (has_number call y) as (λ b. list_all (is_apart x) (with_some (cond b (settle_key y key) (Some y)) (settle call key ys)) ≡ true) [
-      | true ↦ go y ys parts.0 (settle_key y key) refl rest
-      | false ↦ and_from _ _ parts.0 rest
-    ]
+    go y ys parts.0 (settled call key y) refl (apart_settled call key x ys parts.1)
   where
-    go : (y : OpenCall) (ys : List OpenCall) → is_apart x y ≡ true → (o : Option OpenCall) → settle_key y key ≡ o → list_all (is_apart x) (settle call key ys) ≡ true → list_all (is_apart x) (with_some o (settle call key ys)) ≡ true
+    go : (y : CallState) (ys : List CallState) → is_apart x y ≡ true → (o : Option CallState) → settled call key y ≡ o → list_all (is_apart x) (settle call key ys) ≡ true → list_all (is_apart x) (cons_option o (settle call key ys)) ≡ true
     go y ys apart None e rest = rest
-    go y ys apart (Some v) e rest = and_from _ _ (apart_of x y v (left_key call key y v e).caller_is apart) rest
+    go y ys apart (Some v) e rest = and_from _ _ (apart_of x y v (left_of call key y v e).caller_is apart) rest
 
 -- so they are apart from what is left of a call
-apart_from : (x v : OpenCall) (calls : List OpenCall) → v.caller ≡ x.caller → list_all (is_apart x) calls ≡ true → list_all (is_apart v) calls ≡ true
-apart_from x v calls same h = ap (λ (c : Caller). list_all (λ (y : OpenCall). not (y.caller.session == c.session) && not (y.caller.call == c.call)) calls) same ∙ h
+apart_from : (x v : CallState) (calls : List CallState) → v.caller ≡ x.caller → list_all (is_apart x) calls ≡ true → list_all (is_apart v) calls ≡ true
+apart_from x v calls same h = ap (λ (c : Caller). list_all (λ (y : CallState). not (y.caller.session == c.session) && not (y.caller.call == c.call)) calls) same ∙ h
 
 -- the calls fit another world
-pub calls_settled : (w n : WorldState) (call : ℕ) (key : Bytes) (P : OpenCall → Type 0) (calls : List OpenCall) → ((u v : OpenCall) → Left call key u v → P u → FitsCall w u → FitsCall n v) → Each P calls → CallsFit w calls
+pub calls_settled : (w n : WorldState) (call : ℕ) (key : Bytes) (P : CallState → Type 0) (calls : List CallState) → ((u v : CallState) → Left call key u v → P u → FitsCall w u → FitsCall n v) → Each P calls → CallsFit w calls
     → CallsFit n (settle call key calls)
 calls_settled w n call key P [] f each fit = tt
-calls_settled w n call key P (x ∷ xs) f each fit =
-    let rest = calls_settled w n call key P xs f each.1 fit.2 in
-    elim (has_number call x) as (λ b. has_number call x ≡ b → CallsFit n (with_some (cond b (settle_key x key) (Some x)) (settle call key xs))) [
-      | true ↦ λ e. go (settle_key x key) refl rest
-      | false ↦ λ e. (f x x (left_other call key x e) each.0 fit.0, apart_settled call key x xs fit.1, rest)
-    ] refl
+calls_settled w n call key P (x ∷ xs) f each fit = go (settled call key x) refl (calls_settled w n call key P xs f each.1 fit.2)
   where
-    go : (o : Option OpenCall) → settle_key x key ≡ o → CallsFit n (settle call key xs) → CallsFit n (with_some o (settle call key xs))
+    go : (o : Option CallState) → settled call key x ≡ o → CallsFit n (settle call key xs) → CallsFit n (cons_option o (settle call key xs))
     go None e rest = rest
-    go (Some v) e rest = let left = left_key call key x v e in (f x v left each.0 fit.0, apart_from x v (settle call key xs) left.caller_is (apart_settled call key x xs fit.1), rest)
+    go (Some v) e rest = let left = left_of call key x v e in (f x v left each.0 fit.0, apart_from x v (settle call key xs) left.caller_is (apart_settled call key x xs fit.1), rest)
 
 -- a fact of each call goes on to what is left
-pub each_settled : (call : ℕ) (key : Bytes) (P : OpenCall → Type 0) (calls : List OpenCall) → ((u v : OpenCall) → Left call key u v → P u → P v) → Each P calls → Each P (settle call key calls)
+pub each_settled : (call : ℕ) (key : Bytes) (P : CallState → Type 0) (calls : List CallState) → ((u v : CallState) → Left call key u v → P u → P v) → Each P calls → Each P (settle call key calls)
 each_settled call key P [] f each = tt
-each_settled call key P (x ∷ xs) f each =
-    let rest = each_settled call key P xs f each.1 in
-    elim (has_number call x) as (λ b. has_number call x ≡ b → Each P (with_some (cond b (settle_key x key) (Some x)) (settle call key xs))) [
-      | true ↦ λ e. go (settle_key x key) refl rest
-      | false ↦ λ e. (each.0, rest)
-    ] refl
+each_settled call key P (x ∷ xs) f each = go (settled call key x) refl (each_settled call key P xs f each.1)
   where
-    go : (o : Option OpenCall) → settle_key x key ≡ o → Each P (settle call key xs) → Each P (with_some o (settle call key xs))
+    go : (o : Option CallState) → settled call key x ≡ o → Each P (settle call key xs) → Each P (cons_option o (settle call key xs))
     go None e rest = rest
-    go (Some v) e rest = (f x v (left_key call key x v e) each.0, rest)
+    go (Some v) e rest = (f x v (left_of call key x v e) each.0, rest)
 
--- what the code keeps is what is left
-pub settle_filters : (call : ℕ) (key : Bytes) (calls : List OpenCall) → filter (λ u. not (has_number call u) || not (pointwise ◌==◌ key u.command.key)) calls ≡ settle call key calls
-settle_filters call key [] = refl
-settle_filters call key (x ∷ xs) =
-    let rest = settle_filters call key xs in
-    let kept = λ (u : OpenCall). not (has_number call u) || not (pointwise ◌==◌ key u.command.key) in
-    elim (has_number call x) as (λ b. cond (not b || not (pointwise ◌==◌ key x.command.key)) (x ∷ filter kept xs) (filter kept xs) ≡ with_some (cond b (settle_key x key) (Some x)) (settle call key xs)) [
-      | true ↦ elim (pointwise ◌==◌ key x.command.key) as (λ c. cond (not c) (x ∷ filter kept xs) (filter kept xs) ≡ with_some (cond c None (Some x)) (settle call key xs)) [ true ↦ rest | false ↦ ap (λ us. x ∷ us) rest ]
-      | false ↦ ap (λ us. x ∷ us) rest
-    ]
+-- 5. What the code keeps is what is left.
+module _ {S X : Type 0} (R : S → X → Bool → S → X → Type 0) (f : X → Option X) (s : S)
+    (says : (x : X) (b : Bool) (t : S) (y : X) → R s x b t y → (t ≡ s) × (f x ≡ cond b (Some y) None)) where
+  kept : (b : Bool) (y : X) (o : Option X) (zs : List X) → o ≡ cond b (Some y) None → cond b (y ∷ zs) zs ≡ cons_option o zs
+  kept true y o zs e = ap (λ o. cons_option o zs) (sym e)
+  kept false y o zs e = ap (λ o. cons_option o zs) (sym e)
+
+  pub retained : (xs ys : List X) → RetainsInTurn R s xs ys → ys ≡ filter_map f xs
+  retained [] ys h = h
+  retained (x ∷ xs) ys h =
+      let one = says x h.0 h.1 h.2 h.3 in
+      let rest = retained xs h.4 (subst (λ t. RetainsInTurn R t xs h.4) one.0 h.5) in
+      h.6 ∙ kept h.0 h.2 (f x) h.4 one.1 ∙ ap (cons_option (f x)) rest

@@ -39,7 +39,7 @@ use Rattle.jc_stripe.specs.Laws.{Extends, Grows}
 use Rattle.jc_world.specs.declared.event.Part.{Part}
 use Rattle.jc_world.specs.declared.event.Shown.{Shown}
 use Rattle.jc_world.specs.declared.event.Shown.TheVariants as shown
-use Rattle.jc_world.specs.declared.event.OpenCall.{OpenCall}
+use Rattle.jc_world.specs.Calls.{CallState}
 use Rattle.jc_world.specs.declared.event.WorldEvent.{WorldEvent}
 use Rattle.jc_world.specs.declared.event.WorldEvent.TheVariants as event
 use Rattle.jc_world.specs.World.{WorldState, home, stripe_for, out_of}
@@ -217,7 +217,7 @@ due_still : (w new : WorldState) (seen : Shown) (number place : ℕ) → is_answ
 due_still w new seen number place none same = let e : one_if (is_answer_at number place seen) ≡ 0 = ap one_if none in omega arith
 
 -- by what is shown of a first phase
-due_started : Grows → (w new : WorldState) (u : OpenCall) (key : Bytes) (op : Op) (from to : State) (seen : Shown) (number place : ℕ) → stripe_for w key ≡ Some from → Starts w u.caller key op from to seen new → MayBegin from u.caller key → IsSoundWorld w → IsSoundWorld new
+due_started : Grows → (w new : WorldState) (u : CallState) (key : Bytes) (op : Op) (from to : State) (seen : Shown) (number place : ℕ) → stripe_for w key ≡ Some from → Starts w u.caller key op from to seen new → MayBegin from u.caller key → IsSoundWorld w → IsSoundWorld new
     → due new number place ≡ one_if (is_answer_at number place seen) + due w number place
 due_started grows w new u key op from to (shown.Refused refusal) number place there h may old sound = due_still w new (shown.Refused refusal) number place refl (ap (λ (x : WorldState). due x number place) h.1)
 due_started grows w new u key op from to (shown.Stepped x) number place there h may old sound =
@@ -228,6 +228,9 @@ due_started grows w new u key op from to shown.Loads number place there h may ol
     due_quiet w new key from to number place there old sound (ap (λ (v : WorldState). v.config) h.2) (ap (λ (v : WorldState). v.stripes) h.2) (ap (λ (v : WorldState). v.order) h.2)
     (gives_none from to (ap (λ (s : State). s.history) h.1.4) (λ c k. ap (λ (s : State). is_parked s.joiners c k) h.1.4))
 due_started grows w new u key op from to (shown.Asks change) number place there h may old sound =
+    due_quiet w new key from to number place there old sound (ap (λ (v : WorldState). v.config) h.3) (ap (λ (v : WorldState). v.stripes) h.3) (ap (λ (v : WorldState). v.order) h.3)
+    (gives_none from to (ap (λ (s : State). s.history) h.1.4) (λ c k. ap (λ (s : State). is_parked s.joiners c k) h.1.4))
+due_started grows w new u key op from to (shown.Processes entry) number place there h may old sound =
     due_quiet w new key from to number place there old sound (ap (λ (v : WorldState). v.config) h.3) (ap (λ (v : WorldState). v.stripes) h.3) (ap (λ (v : WorldState). v.order) h.3)
     (gives_none from to (ap (λ (s : State). s.history) h.1.4) (λ c k. ap (λ (s : State). is_parked s.joiners c k) h.1.4))
 due_started grows w new u key op from to shown.Joins number place there h may old sound =
@@ -267,6 +270,8 @@ due_happens grows w new (event.Start call key) seen number place fit h old sound
     due_started grows w new h.0 key h.1 h.4 h.6 seen number place h.5 h.7 (begins_at w call key h.0 h.1 h.4 fit h.2 h.3 h.5 old) old sound
 due_happens grows w new (event.Read call key) seen number place fit h old sound = due_still w new seen number place (ap (is_answer_at number place) h.2) (ap (λ (x : WorldState). due x number place) h.3)
 due_happens grows w new (event.Say call key answer) seen number place fit h old sound = due_still w new seen number place (ap (is_answer_at number place) h.2) (ap (λ (x : WorldState). due x number place) h.3)
+due_happens grows w new (event.Process call key source calls fail) seen number place fit h old sound =
+    due_still w new seen number place (ap (is_answer_at number place) h.2) (ap (λ (x : WorldState). due x number place) h.3)
 due_happens grows w new (event.Change call key) seen number place fit h old sound = due_still w new seen number place (ap (is_answer_at number place) h.4) (ap (λ (x : WorldState). due x number place) h.5)
 due_happens grows w new (event.Report call fault) seen number place fit h old sound = due_still w new seen number place (ap (is_answer_at number place) h.8) (ap (λ (x : WorldState). due x number place) h.9)
 due_happens grows w new (event.Commit call key) seen number place fit h old sound = due_ended grows w new call key h.0 h.2 h.4 seen number place h.3 h.5 old sound

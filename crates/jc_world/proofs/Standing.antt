@@ -24,19 +24,19 @@ use Rattle.jc_model.specs.Cache.{Bytes, key_cmp}
 use Rattle.jc_model.specs.Group.{nothing_said}
 use Rattle.jc_model.specs.Legal.{is_of_stripe, of_stripe}
 use Rattle.jc_inflight.specs.Joining.{callers_of}
-use Rattle.jc_stripe.specs.Tickets.{Ticket, JoinClaim}
+use Rattle.jc_stripe.specs.Tickets.{Ticket, ProcessClaim, JoinClaim}
 use Rattle.jc_stripe.specs.State.{State}
 use Rattle.jc_stripe.specs.Phases.{after_commit}
 use Rattle.jc_stripe.proofs.CallerLemmas.{step_at}
 use Rattle.jc_world.specs.declared.event.Part.{Part}
 use Rattle.jc_world.specs.declared.event.Shown.{Shown}
 use Rattle.jc_world.specs.declared.event.Shown.TheVariants as shown
-use Rattle.jc_world.specs.declared.event.Command.{Command}
-use Rattle.jc_world.specs.declared.event.OpenCall.{OpenCall}
+use Rattle.jc_world.specs.declared.command.Command.{Command}
+use Rattle.jc_world.specs.Calls.{CallState, has_number, op_at, new_call}
 use Rattle.jc_world.specs.declared.event.WorldEvent.{WorldEvent}
 use Rattle.jc_world.specs.declared.event.WorldEvent.TheVariants as event
-use Rattle.jc_world.specs.World.{WorldState, Parts, home, stripe_for, has_number, is_join, join_of, part_of, out_of, open_call, op_at}
-use Rattle.jc_world.specs.Events.{fits, new_call, new_load, new_write, new_part, step_of, Starts, Ends, Picks, Happens, Step, Run}
+use Rattle.jc_world.specs.World.{WorldState, Parts, home, stripe_for, is_join, join_of, part_of, out_of, open_call}
+use Rattle.jc_world.specs.Events.{fits, new_load, new_write, new_part, step_of, Starts, Ends, Picks, Happens, Step, Run, new_process}
 use Rattle.jc_world.specs.Sound.{IsSoundWorld, Each}
 use Rattle.jc_world.specs.Headline.{start_with}
 use Rattle.jc_world.specs.Replies.{IsReplyOfStep, Stands}
@@ -96,6 +96,7 @@ later_started w new caller key op from to (shown.Refused refusal) h = later_same
 later_started w new caller key op from to (shown.Stepped seen) h = record { config = ap (λ (x : WorldState). x.config) h.2; more = added from to; order = ap (λ (x : WorldState). x.order) h.2 }
 later_started w new caller key op from to shown.Loads h = later_same w new (ap (λ (x : WorldState). x.config) h.2) (ap (λ (x : WorldState). x.order) h.2)
 later_started w new caller key op from to (shown.Asks change) h = later_same w new (ap (λ (x : WorldState). x.config) h.3) (ap (λ (x : WorldState). x.order) h.3)
+later_started w new caller key op from to (shown.Processes entry) h = later_same w new (ap (λ (x : WorldState). x.config) h.3) (ap (λ (x : WorldState). x.order) h.3)
 later_started w new caller key op from to shown.Joins h = later_same w new (ap (λ (x : WorldState). x.config) h.2) (ap (λ (x : WorldState). x.order) h.2)
 later_started w new caller key op from to seen h = absurd h
 
@@ -117,6 +118,7 @@ later_happens w new (event.Call call session command) seen h = later_same w new 
 later_happens w new (event.Start call key) seen h = later_started w new h.0.caller key h.1 h.4 h.6 seen h.7
 later_happens w new (event.Read call key) seen h = later_same w new (ap (λ (x : WorldState). x.config) h.3) (ap (λ (x : WorldState). x.order) h.3)
 later_happens w new (event.Say call key answer) seen h = later_same w new (ap (λ (x : WorldState). x.config) h.3) (ap (λ (x : WorldState). x.order) h.3)
+later_happens w new (event.Process call key source calls fail) seen h = later_same w new (ap (λ (x : WorldState). x.config) h.3) (ap (λ (x : WorldState). x.order) h.3)
 later_happens w new (event.Change call key) seen h = later_same w new (ap (λ (x : WorldState). x.config) h.5) (ap (λ (x : WorldState). x.order) h.5)
 later_happens w new (event.Report call fault) seen h = later_same w new (ap (λ (x : WorldState). x.config) h.9) (ap (λ (x : WorldState). x.order) h.9)
 later_happens w new (event.Commit call key) seen h = later_ended w new call key h.0 h.2 h.4 seen h.5
@@ -176,7 +178,7 @@ abbrev pub BegunAs : List (WorldEvent × Shown) → Caller → Bytes → Op → 
 BegunAs shows caller key op =
     (at : ℕ) × (command : Command) × (slice_get shows at ≡ Some (event.Call caller.call caller.session command, shown.Begun)) × (op_at (new_call caller.call caller.session command) key ≡ Some op)
 
-abbrev IsBegun : List (WorldEvent × Shown) → OpenCall → Type 0
+abbrev IsBegun : List (WorldEvent × Shown) → CallState → Type 0
 IsBegun shows u = (key : Bytes) (op : Op) → op_at u key ≡ Some op → BegunAs shows u.caller key op
 
 abbrev PartBegun : List (WorldEvent × Shown) → Part → Type 0
@@ -206,7 +208,7 @@ all_begun_on shows more w h = record {
 }
 
 -- the call that is found under way has begun
-begun_under : (shows : List (WorldEvent × Shown)) (w : WorldState) (call : ℕ) (u : OpenCall) → open_call w call ≡ Some u → AllBegun shows w → IsBegun shows u
+begun_under : (shows : List (WorldEvent × Shown)) (w : WorldState) (call : ℕ) (u : CallState) → open_call w call ≡ Some u → AllBegun shows w → IsBegun shows u
 begun_under shows w call u here h = fact_found (IsBegun shows) (has_number call) w.calls u here h.calls
 
 -- a part is put in place, or taken away
@@ -226,7 +228,7 @@ part_begun : (shows : List (WorldEvent × Shown)) (w : WorldState) (call : ℕ) 
 part_begun shows w call key part is h = h.parts key part (of_call-at call (get w.parts key) part is).0
 
 -- what is left of a call has begun
-begun_left : (shows : List (WorldEvent × Shown)) (call : ℕ) (key : Bytes) (u v : OpenCall) → Left call key u v → IsBegun shows u → IsBegun shows v
+begun_left : (shows : List (WorldEvent × Shown)) (call : ℕ) (key : Bytes) (u v : CallState) → Left call key u v → IsBegun shows u → IsBegun shows v
 begun_left shows call key u v left h q op is = let P : Caller → Type 0 = λ c. BegunAs shows c q op in subst P (sym left.caller_is) (h q op (left.was q op is))
 
 -- by what is shown of a first phase
@@ -241,6 +243,9 @@ begun_started shows w new caller key op from to shown.Loads h one old =
 begun_started shows w new caller key op from to (shown.Asks change) h one old =
     let P : Ticket → Type 0 = λ t. PartBegun shows (new_part new_write t.reservation) in
     subst (AllBegun shows) (sym h.3) (record { calls = old.calls; parts = parts_put shows w.parts key (new_part new_write h.0.reservation) (subst P (sym h.1.3) one) old.parts; joins = old.joins })
+begun_started shows w new caller key op from to (shown.Processes entry) h one old =
+    let P : ProcessClaim → Type 0 = λ t. PartBegun shows (new_part new_process t.reservation) in
+    subst (AllBegun shows) (sym h.3) (record { calls = old.calls; parts = parts_put shows w.parts key (new_part new_process h.0.reservation) (subst P (sym h.1.3) one) old.parts; joins = old.joins })
 begun_started shows w new caller key op from to shown.Joins h one old =
     let get_is : op ≡ Get = joins_get from key op h.0.load h.1.1 in
     let P : JoinClaim → Type 0 = JoinBegun shows in
@@ -271,13 +276,15 @@ begun_picks shows w new call key join from to seen h old = absurd h
 -- of any event that fits, if it is among what has happened
 begun_happens : (shows : List (WorldEvent × Shown)) (w new : WorldState) (e : WorldEvent) (seen : Shown) → (at : ℕ) × (slice_get shows at ≡ Some (e, seen)) → Happens w e seen new → AllBegun shows w → AllBegun shows new
 begun_happens shows w new (event.Call call session command) seen last h old =
-    let one : OpenCall = record { caller = record { session = session; call = call }; command = command } in
+    let one : CallState = new_call call session command in
     let begun : IsBegun shows one = λ key op is. (last.0, command, last.1 ∙ ap (λ s. Some (event.Call call session command, s)) h.0, is) in
     subst (AllBegun shows) (sym h.1) (record { calls = each_pushed (IsBegun shows) w.calls one old.calls begun; parts = old.parts; joins = old.joins })
 begun_happens shows w new (event.Start call key) seen last h old = begun_started shows w new h.0.caller key h.1 h.4 h.6 seen h.7 (begun_under shows w call h.0 h.2 old key h.1 h.3) old
 begun_happens shows w new (event.Read call key) seen last h old =
     subst (AllBegun shows) (sym h.3) (record { calls = old.calls; parts = parts_put shows w.parts key _ (part_begun shows w call key h.0 h.1 old) old.parts; joins = old.joins })
 begun_happens shows w new (event.Say call key answer) seen last h old =
+    subst (AllBegun shows) (sym h.3) (record { calls = old.calls; parts = parts_put shows w.parts key _ (part_begun shows w call key h.0 h.1 old) old.parts; joins = old.joins })
+begun_happens shows w new (event.Process call key source calls fail) seen last h old =
     subst (AllBegun shows) (sym h.3) (record { calls = old.calls; parts = parts_put shows w.parts key _ (part_begun shows w call key h.0 h.1 old) old.parts; joins = old.joins })
 begun_happens shows w new (event.Change call key) seen last h old =
     subst (AllBegun shows) (sym h.5) (record { calls = old.calls; parts = parts_put shows w.parts key _ (part_begun shows w call key h.0 h.2 old) old.parts; joins = old.joins })
@@ -327,7 +334,7 @@ answered_for w shows call n key k reply number place shared calls keys h =
     subst P calls (subst Q keys h)
 
 -- by what is shown of a first phase
-stands_started : (shows : List (WorldEvent × Shown)) (w new : WorldState) (call : ℕ) (key : Bytes) (u : OpenCall) (op : Op) (from to : State) (seen : Shown) → open_call w call ≡ Some u → stripe_for w key ≡ Some from
+stands_started : (shows : List (WorldEvent × Shown)) (w new : WorldState) (call : ℕ) (key : Bytes) (u : CallState) (op : Op) (from to : State) (seen : Shown) → open_call w call ≡ Some u → stripe_for w key ≡ Some from
     → Starts w u.caller key op from to seen new → BegunAs shows u.caller key op → IsSoundWorld new → Stands new shows (event.Start call key) seen
 stands_started shows w new call key u op from to (shown.Refused refusal) here there h begun sound = tt
 stands_started shows w new call key u op from to (shown.Stepped x) here there h begun sound =
@@ -337,6 +344,7 @@ stands_started shows w new call key u op from to (shown.Stepped x) here there h 
     (step_at from to u.caller key op nothing_said [] (step_of x) h.0.2) begun)
 stands_started shows w new call key u op from to shown.Loads here there h begun sound = tt
 stands_started shows w new call key u op from to (shown.Asks change) here there h begun sound = tt
+stands_started shows w new call key u op from to (shown.Processes entry) here there h begun sound = tt
 stands_started shows w new call key u op from to shown.Joins here there h begun sound = tt
 stands_started shows w new call key u op from to seen here there h begun sound = absurd h
 
@@ -374,6 +382,7 @@ stands_happens shows w new (event.Call call session command) seen fit h old soun
 stands_happens shows w new (event.Start call key) seen fit h old sound begun = stands_started shows w new call key h.0 h.1 h.4 h.6 seen h.2 h.5 h.7 (begun_under shows w call h.0 h.2 begun key h.1 h.3) sound
 stands_happens shows w new (event.Read call key) seen fit h old sound begun = subst (Stands new shows (event.Read call key)) (sym h.2) tt
 stands_happens shows w new (event.Say call key answer) seen fit h old sound begun = subst (Stands new shows (event.Say call key answer)) (sym h.2) tt
+stands_happens shows w new (event.Process call key source calls fail) seen fit h old sound begun = subst (Stands new shows (event.Process call key source calls fail)) (sym h.2) tt
 stands_happens shows w new (event.Change call key) seen fit h old sound begun = subst (Stands new shows (event.Change call key)) (sym h.4) tt
 stands_happens shows w new (event.Report call fault) seen fit h old sound begun = subst (Stands new shows (event.Report call fault)) (sym h.8) tt
 stands_happens shows w new (event.Commit call key) seen fit h old sound begun =

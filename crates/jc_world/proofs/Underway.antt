@@ -20,9 +20,9 @@ use Rattle.jc_model.specs.Legal.{may_come}
 use Rattle.jc_model.proofs.CallerLemmas.{same_key}
 use Rattle.jc_stripe.specs.declared.ticket.Reservation.{Reservation}
 use Rattle.jc_stripe.specs.State.{is_key, without_key}
-use Rattle.jc_world.specs.declared.event.OpenCall.{OpenCall}
+use Rattle.jc_world.specs.Calls.{CallState, has_number, is_of_session, drop_call}
 use Rattle.jc_world.specs.declared.event.Part.{Part}
-use Rattle.jc_world.specs.World.{WorldState, has_number, is_of_session, drop_call, of_call}
+use Rattle.jc_world.specs.World.{WorldState, of_call}
 use Rattle.jc_world.specs.Events.{is_new}
 use Rattle.jc_stripe.specs.OwnSteps.{may_come_all}
 use Rattle.jc_world.specs.Sound.{is_up_to, number_up_to, is_apart, FitsCall, CallsFit, IsOwned, AllOwned, Each}
@@ -31,7 +31,7 @@ use Rattle.jc_world.proofs.Shares.{turned_eq, found_test}
 -- 1. A call that is over.
 
 -- a call that is found has the number
-pub found_number : (call : ℕ) (calls : List OpenCall) (u : OpenCall) → find (has_number call) calls ≡ Some u → u.caller.call ≡ call
+pub found_number : (call : ℕ) (calls : List CallState) (u : CallState) → find (has_number call) calls ≡ Some u → u.caller.call ≡ call
 found_number call calls u h = eqb-true u.caller.call call (found_test (has_number call) calls u h)
 
 -- a number is not two others
@@ -39,7 +39,7 @@ clash : (a b n : ℕ) → (a == b) ≡ false → (n == a) ≡ true → (n == b) 
 clash a b n h k = grind (arith, nat_tests)
 
 -- the other calls are found as before
-pub find_over : (call other : ℕ) (calls : List OpenCall) → (call == other) ≡ false → find (has_number other) (drop_call call calls) ≡ find (has_number other) calls
+pub find_over : (call other : ℕ) (calls : List CallState) → (call == other) ≡ false → find (has_number other) (drop_call call calls) ≡ find (has_number other) calls
 find_over call other [] apart = refl
 find_over call other (x ∷ xs) apart =
     elim (has_number call x) as (λ b. has_number call x ≡ b → find (has_number other) (cond (not b) (x ∷ drop_call call xs) (drop_call call xs)) ≡ cond (has_number other x) (Some x) (find (has_number other) xs)) [
@@ -48,7 +48,7 @@ find_over call other (x ∷ xs) apart =
     ] refl
 
 -- a call under way fits
-pub fits_found : (w : WorldState) (p : OpenCall → Bool) (calls : List OpenCall) (u : OpenCall) → find p calls ≡ Some u → CallsFit w calls → FitsCall w u
+pub fits_found : (w : WorldState) (p : CallState → Bool) (calls : List CallState) (u : CallState) → find p calls ≡ Some u → CallsFit w calls → FitsCall w u
 fits_found w p [] u h fit = cc
 fits_found w p (x ∷ xs) u h fit =
     elim (p x) as (λ b. cond b (Some x) (find p xs) ≡ Some u → FitsCall w u) [
@@ -57,7 +57,7 @@ fits_found w p (x ∷ xs) u h fit =
     ] h
 
 -- the calls that pass a test fit another world
-pub calls_filter : (w n : WorldState) (p : OpenCall → Bool) (P : OpenCall → Type 0) (calls : List OpenCall) → ((u : OpenCall) → p u ≡ true → P u → FitsCall w u → FitsCall n u) → Each P calls → CallsFit w calls → CallsFit n (filter p calls)
+pub calls_filter : (w n : WorldState) (p : CallState → Bool) (P : CallState → Type 0) (calls : List CallState) → ((u : CallState) → p u ≡ true → P u → FitsCall w u → FitsCall n u) → Each P calls → CallsFit w calls → CallsFit n (filter p calls)
 calls_filter w n p P [] f each fit = tt
 calls_filter w n p P (x ∷ xs) f each fit =
     elim (p x) as (λ b. p x ≡ b → CallsFit n (cond b (x ∷ filter p xs) (filter p xs))) [
@@ -66,12 +66,12 @@ calls_filter w n p P (x ∷ xs) f each fit =
     ] refl
 
 -- all calls fit another world
-pub calls_on : (w n : WorldState) (P : OpenCall → Type 0) (calls : List OpenCall) → ((u : OpenCall) → P u → FitsCall w u → FitsCall n u) → Each P calls → CallsFit w calls → CallsFit n calls
+pub calls_on : (w n : WorldState) (P : CallState → Type 0) (calls : List CallState) → ((u : CallState) → P u → FitsCall w u → FitsCall n u) → Each P calls → CallsFit w calls → CallsFit n calls
 calls_on w n P [] f each fit = tt
 calls_on w n P (x ∷ xs) f each fit = (f x each.0 fit.0, fit.1, calls_on w n P xs f each.1 fit.2)
 
 -- a call of another number is not found
-number_apart : (x u : OpenCall) → is_apart x u ≡ true → has_number u.caller.call x ≡ false
+number_apart : (x u : CallState) → is_apart x u ≡ true → has_number u.caller.call x ≡ false
 number_apart x u h = go (x.caller.call == u.caller.call) (ap not (turned_eq x.caller.call u.caller.call) ∙ (and_parts (not (u.caller.session == x.caller.session)) (not (u.caller.call == x.caller.call)) h).1)
   where
     go : (b : Bool) → not b ≡ true → b ≡ false
@@ -79,43 +79,43 @@ number_apart x u h = go (x.caller.call == u.caller.call) (ap not (turned_eq x.ca
     go false h = refl
 
 -- each call is found by its number
-pub each_found : (w : WorldState) (calls : List OpenCall) → CallsFit w calls → Each (λ (u : OpenCall). find (has_number u.caller.call) calls ≡ Some u) calls
+pub each_found : (w : WorldState) (calls : List CallState) → CallsFit w calls → Each (λ (u : CallState). find (has_number u.caller.call) calls ≡ Some u) calls
 each_found w [] fit = tt
 each_found w (x ∷ xs) fit = (
   ap (λ b. cond b (Some x) (find (has_number x.caller.call) xs)) (nat_eq_equiv.refl x.caller.call),
   behind xs (each_found w xs fit.2) fit.1,
 )
   where
-    behind : (ys : List OpenCall) → Each (λ (u : OpenCall). find (has_number u.caller.call) xs ≡ Some u) ys → list_all (is_apart x) ys ≡ true → Each (λ (u : OpenCall). find (has_number u.caller.call) (x ∷ xs) ≡ Some u) ys
+    behind : (ys : List CallState) → Each (λ (u : CallState). find (has_number u.caller.call) xs ≡ Some u) ys → list_all (is_apart x) ys ≡ true → Each (λ (u : CallState). find (has_number u.caller.call) (x ∷ xs) ≡ Some u) ys
     behind [] h apart = tt
     behind (y ∷ ys) h apart =
         let parts = and_parts (is_apart x y) (list_all (is_apart x) ys) apart in
         (ap (λ b. cond b (Some x) (find (has_number y.caller.call) xs)) (number_apart x y parts.0) ∙ h.0, behind ys h.1 parts.1)
 
 -- of another session
-abbrev pub is_elsewhere : ℕ → OpenCall → Bool
+abbrev pub is_elsewhere : ℕ → CallState → Bool
 is_elsewhere session u = not (u.caller.session == session)
 
 -- calls that are apart are of two sessions
-elsewhere : (x u : OpenCall) → is_apart x u ≡ true → is_elsewhere x.caller.session u ≡ true
+elsewhere : (x u : CallState) → is_apart x u ≡ true → is_elsewhere x.caller.session u ≡ true
 elsewhere x u h = (and_parts (not (u.caller.session == x.caller.session)) (not (u.caller.call == x.caller.call)) h).0
 
 -- the calls beside one under way are of other sessions
-pub apart_over : (w : WorldState) (call : ℕ) (calls : List OpenCall) (u : OpenCall) → find (has_number call) calls ≡ Some u → CallsFit w calls → list_all (is_elsewhere u.caller.session) (drop_call call calls) ≡ true
+pub apart_over : (w : WorldState) (call : ℕ) (calls : List CallState) (u : CallState) → find (has_number call) calls ≡ Some u → CallsFit w calls → list_all (is_elsewhere u.caller.session) (drop_call call calls) ≡ true
 apart_over w call [] u h fit = cc
 apart_over w call (x ∷ xs) u h fit =
     elim (has_number call x) as (λ b. cond b (Some x) (find (has_number call) xs) ≡ Some u → list_all (is_elsewhere u.caller.session) (cond (not b) (x ∷ drop_call call xs) (drop_call call xs)) ≡ true) [
       | true ↦ λ h.
           let is : x ≡ u = cc in
           let here = all_filter (is_elsewhere x.caller.session) (λ o. not (has_number call o)) xs (all_imply (is_apart x) (is_elsewhere x.caller.session) xs (elsewhere x) fit.1) in
-          ap (λ (y : OpenCall). list_all (is_elsewhere y.caller.session) (drop_call call xs)) (sym is) ∙ here
+          ap (λ (y : CallState). list_all (is_elsewhere y.caller.session) (drop_call call xs)) (sym is) ∙ here
       | false ↦ λ h.
           let away = elsewhere x u (all_found (has_number call) (is_apart x) xs u h fit.1) in
           and_from _ _ (ap not (turned_eq x.caller.session u.caller.session) ∙ away) (apart_over w call xs u h fit.2)
     ] h
 
 -- a call under way of another number is of another session
-pub elsewhere_found : (w : WorldState) (call other : ℕ) (calls : List OpenCall) (u v : OpenCall) → CallsFit w calls → find (has_number call) calls ≡ Some u → find (has_number other) calls ≡ Some v
+pub elsewhere_found : (w : WorldState) (call other : ℕ) (calls : List CallState) (u v : CallState) → CallsFit w calls → find (has_number call) calls ≡ Some u → find (has_number other) calls ≡ Some v
     → (call == other) ≡ false → is_elsewhere u.caller.session v ≡ true
 elsewhere_found w call other calls u v fit one two apart =
     all_found (has_number other) (is_elsewhere u.caller.session) (drop_call call calls) v (find_over call other calls apart ∙ two) (apart_over w call calls u one fit)
@@ -174,7 +174,7 @@ pub comes_new : (last : Option ℕ) (caller : Caller) (key : Bytes) (order : Lis
 comes_new last caller key order new h = all_imply (number_up_to last) (λ e. may_come e caller key) order (λ e. event_before last caller key e new) h
 
 -- a session that is not busy has no call of these
-not_busy : (session : ℕ) (x : OpenCall) (xs : List OpenCall) → not (list_any (is_of_session session) (x ∷ xs)) ≡ true → (not (session == x.caller.session) ≡ true) × (not (list_any (is_of_session session) xs) ≡ true)
+not_busy : (session : ℕ) (x : CallState) (xs : List CallState) → not (list_any (is_of_session session) (x ∷ xs)) ≡ true → (not (session == x.caller.session) ≡ true) × (not (list_any (is_of_session session) xs) ≡ true)
 not_busy session x xs h = let parts = neither (is_of_session session x) (list_any (is_of_session session) xs) h in (ap not (turned_eq session x.caller.session) ∙ parts.0, parts.1)
   where
     neither : (a b : Bool) → not (a || b) ≡ true → (not a ≡ true) × (not b ≡ true)
@@ -182,13 +182,13 @@ not_busy session x xs h = let parts = neither (is_of_session session x) (list_an
     neither false b h = (refl, h)
 
 -- a test of each, and of one more
-pushed_apart : (p : OpenCall → Bool) (xs : List OpenCall) (u : OpenCall) → list_all p xs ≡ true → p u ≡ true → list_all p (xs ++ u ∷ []) ≡ true
+pushed_apart : (p : CallState → Bool) (xs : List CallState) (u : CallState) → list_all p xs ≡ true → p u ≡ true → list_all p (xs ++ u ∷ []) ≡ true
 pushed_apart p [] u h one = and_from _ _ one refl
 pushed_apart p (x ∷ xs) u h one = let parts = and_parts (p x) (list_all p xs) h in and_from _ _ parts.0 (pushed_apart p xs u parts.1 one)
 
 -- the calls fit with a new one
-pub calls_pushed : (w n : WorldState) (u : OpenCall) (calls : List OpenCall) → is_new w.last u.caller.call ≡ true → not (list_any (is_of_session u.caller.session) calls) ≡ true
-    → ((x : OpenCall) → FitsCall w x → FitsCall n x) → FitsCall n u → CallsFit w calls → CallsFit n (calls ++ u ∷ [])
+pub calls_pushed : (w n : WorldState) (u : CallState) (calls : List CallState) → is_new w.last u.caller.call ≡ true → not (list_any (is_of_session u.caller.session) calls) ≡ true
+    → ((x : CallState) → FitsCall w x → FitsCall n x) → FitsCall n u → CallsFit w calls → CallsFit n (calls ++ u ∷ [])
 calls_pushed w n u [] new free f fit rest = (fit, refl, tt)
 calls_pushed w n u (x ∷ xs) new free f fit rest =
     let away = not_busy u.caller.session x xs free in (
@@ -198,7 +198,7 @@ calls_pushed w n u (x ∷ xs) new free f fit rest =
     )
 
 -- a call is found among more
-pub find_pushed : (p : OpenCall → Bool) (calls more : List OpenCall) (P : OpenCall → Type 0) → IsSomeAnd (find p calls) P → IsSomeAnd (find p (calls ++ more)) P
+pub find_pushed : (p : CallState → Bool) (calls more : List CallState) (P : CallState → Type 0) → IsSomeAnd (find p calls) P → IsSomeAnd (find p (calls ++ more)) P
 find_pushed p [] more P h = absurd h
 find_pushed p (x ∷ xs) more P h =
     elim (p x) as (λ b. IsSomeAnd (cond b (Some x) (find p xs)) P → IsSomeAnd (cond b (Some x) (find p (xs ++ more))) P) [ true ↦ λ h. h | false ↦ λ h. find_pushed p xs more P h ] h

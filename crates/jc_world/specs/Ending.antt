@@ -3,7 +3,8 @@
 --     AreLeft        there is a stripe for each number
 --     out_at         the stripe of a key
 --     IsPartOut      the reservation of a held key is out in the stripe of its key
---     HasHeld        each held key's is, and each reservation of a stripe has its key
+--     HasHeld        each held key's is, each reservation of a stripe has its key, and after a processor the writer is asked exactly
+--                    if it has to be
 --     IsJoinOut      a join has its joiner in the stripe of its key
 --     AllJoinsOut    each join has
 --     HasJoins       that is so, and no two joins are of one call and one key
@@ -20,7 +21,7 @@ use Rattle.jc_stripe.specs.State.{State, IsOut, IsJoined}
 use Rattle.jc_stripe.specs.Reached.{IsReached}
 use Rattle.jc_world.specs.declared.event.Part.{Part}
 use Rattle.jc_world.specs.World.{Parts}
-use Rattle.jc_world.specs.Sound.{Each, is_joined_once}
+use Rattle.jc_world.specs.Sound.{AllDue, Each, is_joined_once}
 
 pub record IsLeft (config : Config) (number : ℕ) (s : State) : Type 0 where
   pub config_is : s.config ≡ config
@@ -45,6 +46,7 @@ pub record HasHeld (config : Config) (stripes : List State) (parts : Parts) : Ty
       → IsPartOut config stripes key part
   pub back : (number : ℕ) (s : State) → slice_get stripes number ≡ Some s
       → list_all (λ r. is_some (get parts r.key)) s.reservations ≡ true
+  pub due : AllDue config parts
 
 abbrev pub IsJoinOut : Config → List State → JoinClaim → Type 0
 IsJoinOut config stripes join = IsSomeAnd (out_at config stripes join.key) (λ s. IsJoined s join)

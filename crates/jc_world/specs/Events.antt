@@ -1,20 +1,20 @@
 -- The world as a machine: when an event fits, what it shows, and what it leaves.
---     is_single                   an operation is a call by itself: each but `Clear`, `LoadAll` and `Invoke`
+--     is_single                   an operation is a call by itself: each but `Clear` and `LoadAll`
+--     is_playable                 a command that a world plays: one operation that is a call by itself
 --     is_session                  a number is that of a session: from 1 to the most sessions
 --     is_new                      a call's number is above all before it
 --     is_free                     a call has neither a reservation nor a join of a key
 --     may_start                   the key is open in the call, which has neither a reservation nor a join of it
 --     may_leave                   the call has neither a reservation nor a join of any of its open keys
---     may_report                  the writer was asked for an open key of the call, and hasn't returned
+--     waits_at, may_report        the writer was asked for the key of the call, and hasn't returned
 --     fits                        whether an event fits
 --     with_stripe                 the world with a key's stripe at another state
 --     with_phase                  the same, and what the stripe appended to its history stands at the end of the order
 --     step_of                     what is shown of a step, but for its stripe
---     new_call                    a call under way
 --     with_call                   the world with a call that has begun
 --     with_settled                the world in which a key of a call has its reply or last refusal: without the call if it was the last
 --     without_call                the world without a call that leaves
---     new_load, new_write     the progress of a key whose loader, or writer, is to be asked
+--     new_load, new_write, new_process     the progress of a key whose loader, writer or processor is to be asked
 --     new_part                    what is kept of a key that was just reserved
 --     with_part, without_part     the world with this part of a key, and with none
 --     with_new_part            the world in which a call has reserved its key
@@ -29,6 +29,11 @@
 --     after_change                the world once the writer has changed the store
 --     after_report                the world once the writer has returned
 --     shown_report                what the writer's return shows
+--     run_answers                 what the calls of a played processor are answered on the entry of a reservation
+--     run_result                  what such a processor does there, and what its loader answers
+--     progress_after              the progress once the processor has run, by what the writer is then asked for
+--     after_process               the world once the processor has run
+--     shown_process               what a processor's run shows
 --     Happens                     what an event that fits may show and leave
 --     Step                        one event: one that doesn't fit is shown as a fault and changes nothing
 --     Run                         events one after another
@@ -38,8 +43,8 @@
 --     StartFits                   where a call fits, its first phase fits directly behind it
 --     RestFits                    if the first fits, so do all: of an event alone, of a writer's change and its return, of a withdrawal
 --                                 and the call's leaving
-use Rattle.std.specs.Prelude.{◌≡◌, ◌⊎◌, ℕ, List, [], ◌∷◌, ◌++◌, length, drop, Bool, true, false, not, ◌&&◌, Option, None, Some, is_none, is_some, nat_lt, slice_set}
-use Rattle.std.specs.List.{list_all, list_any}
+use Rattle.std.specs.Prelude.{◌≡◌, ◌⊎◌, ℕ, List, [], ◌∷◌, ◌++◌, length, drop, Bool, true, false, not, ◌&&◌, Option, None, Some, is_some, nat_lt, slice_set}
+use Rattle.std.specs.List.{list_all}
 use Rattle.std.specs.FinMap.{insert, remove}
 use Rattle.jc_types.specs.declared.limits.TheConstants.{SESSIONS_MAX}
 use Rattle.jc_types.specs.declared.caller.Caller.{Caller}
@@ -47,38 +52,47 @@ use Rattle.jc_types.specs.Limits.{is_between}
 use Rattle.jc_model.specs.declared.event.Op.{Op}
 use Rattle.jc_model.specs.declared.event.Op.TheVariants.{Get, ContainsKey, Put, GetAndPut, PutIfAbsent, Remove, RemoveIf, GetAndRemove, Replace, ReplaceIf, GetAndReplace, Clear, LoadAll, Invoke}
 use Rattle.jc_model.specs.declared.event.Change.{Change}
+use Rattle.jc_model.specs.declared.processor.EntryCall.{EntryCall}
+use Rattle.jc_model.specs.declared.processor.EntryAnswer.{EntryAnswer}
 use Rattle.jc_model.specs.declared.event.LoadAnswer.{LoadAnswer}
 use Rattle.jc_model.specs.declared.event.LoadAnswer.TheVariants as load
 use Rattle.jc_model.specs.declared.event.WriteAnswer.{WriteAnswer}
 use Rattle.jc_model.specs.declared.event.WriteAnswer.TheVariants as write
 use Rattle.jc_model.specs.Cache.{Bytes, entry_at, with_entry}
 use Rattle.jc_model.specs.Table.{is_load_given}
+use Rattle.jc_types.specs.declared.config.Config.{Config}
+use Rattle.jc_outside.specs.declared.done.Origin.TheVariants.{Played}
+use Rattle.jc_mutentry.specs.Done.{ProcessResult}
+use Rattle.jc_mutentry.specs.Playing.{played_answers, played_load, played_outcome}
+use Rattle.jc_stripe.specs.Effects.{change_due}
 use Rattle.jc_stripe.specs.declared.begun.StepDone.{StepDone}
 use Rattle.jc_stripe.specs.declared.begun.Begun.{Begun}
 use Rattle.jc_stripe.specs.declared.begun.Begun.TheVariants as begun
 use Rattle.jc_stripe.specs.declared.ticket.First.TheVariants.{Writer}
 use Rattle.jc_stripe.specs.declared.ticket.Reservation.{Reservation}
 use Rattle.jc_stripe.specs.declared.begun.Picked.TheVariants as picked
-use Rattle.jc_stripe.specs.Tickets.{Ticket, JoinClaim}
+use Rattle.jc_stripe.specs.Tickets.{Ticket, ProcessClaim, JoinClaim, entry_seen, is_loadable}
 use Rattle.jc_stripe.specs.State.{State}
 use Rattle.jc_stripe.specs.Phases.{Begins, Commits, Withdraws, PicksUp}
-use Rattle.jc_world.specs.declared.event.Command.{Command}
+use Rattle.jc_world.specs.declared.command.Command.{Command}
+use Rattle.jc_world.specs.declared.command.Command.TheVariants as command
 use Rattle.jc_world.specs.declared.event.WorldEvent.{WorldEvent}
 use Rattle.jc_world.specs.declared.event.WorldEvent.TheVariants as event
 use Rattle.jc_world.specs.declared.event.Shown.{Shown}
 use Rattle.jc_world.specs.declared.event.Shown.TheVariants as shown
 use Rattle.jc_world.specs.declared.event.Stepped.{Stepped}
 use Rattle.jc_world.specs.declared.event.Reported.{Reported}
-use Rattle.jc_world.specs.declared.event.OpenCall.{OpenCall}
+use Rattle.jc_world.specs.Calls.{CallState, open_keys, only_key, op_at, new_call, settle, drop_call}
 use Rattle.jc_world.specs.declared.event.Part.{Part}
 use Rattle.jc_world.specs.declared.event.Progress.{Progress}
-use Rattle.jc_world.specs.declared.event.Progress.TheVariants.{Loading, Writing}
-use Rattle.jc_world.specs.World.{WorldState, home, stripe_for, is_busy, open_call, open_keys, op_at, settle, drop_call, part_of, waits_for_load, waits_for_report, is_answered, is_untouched, has_changed, join_of, is_joined, joins_without, out_of, has_progress}
-use Rattle.jc_world.specs.Premises.{read_answer, changed_to, report_of, is_true_load, is_true_report, with_loader, with_writer, with_foreign_write}
+use Rattle.jc_world.specs.declared.event.Progress.TheVariants.{Loading, Writing, Processing, Processed, WritingEffect}
+use Rattle.jc_world.specs.World.{WorldState, home, stripe_for, is_busy, open_call, part_of, is_free_of, waits_for_load, waits_for_report, is_answered, is_untouched, has_changed, join_of, is_joined, joins_without, out_of, has_progress, waits_for_process, writer_change}
+use Rattle.jc_world.specs.Premises.{read_answer, changed_to, report_of, is_true_load, is_true_report, with_loader, with_writer, with_foreign_write, load_from}
+use Rattle.jc_world.specs.declared.process.Processed.{Processed as ProcessShown}
 
 -- 1. When an event fits.
 
--- the operations that are calls by themselves: the others are keys of a bulk call, or an entry processor's
+-- the operations that are calls by themselves: the others are keys of a bulk call
 abbrev pub is_single : Op → Bool
 is_single Get = true
 is_single ContainsKey = true
@@ -93,7 +107,18 @@ is_single (ReplaceIf old value) = true
 is_single (GetAndReplace value) = true
 is_single Clear = false
 is_single (LoadAll replace) = false
-is_single Invoke = false
+is_single Invoke = true
+
+-- calls of many keys aren't played
+abbrev pub is_playable : Command → Bool
+is_playable (command.Single op key) = is_single op
+is_playable (command.GetAll keys) = false
+is_playable (command.PutAll entries) = false
+is_playable (command.RemoveAll keys) = false
+is_playable command.RemoveEvery = false
+is_playable command.Clear = false
+is_playable (command.LoadAll replace keys) = false
+is_playable (command.InvokeAll keys) = false
 
 -- the sessions are numbered from 1
 abbrev pub is_session : ℕ → Bool
@@ -106,33 +131,37 @@ is_new (Some last) call = nat_lt last call
 
 -- the call has neither a reservation nor a join of this key
 abbrev pub is_free : WorldState → ℕ → Bytes → Bool
-is_free w call key = is_none (part_of w call key) && not (is_joined w call key)
+is_free w call key = is_free_of w.parts w.joins call key
 
 -- the key is open in the call, and it has neither a reservation nor a join
-abbrev pub may_start : WorldState → ℕ → Bytes → Option OpenCall → Bool
+abbrev pub may_start : WorldState → ℕ → Bytes → Option CallState → Bool
 may_start w call key None = false
 may_start w call key (Some u) = is_some (op_at u key) && is_free w call key
 
 -- the call has neither a reservation nor a join
-abbrev pub may_leave : WorldState → ℕ → Option OpenCall → Bool
+abbrev pub may_leave : WorldState → ℕ → Option CallState → Bool
 may_leave w call None = false
 may_leave w call (Some u) = list_all (is_free w call) (open_keys u)
 
--- an open key of the call is asked of the writer, which hasn't returned
-abbrev pub may_report : WorldState → ℕ → Option OpenCall → Bool
+-- the call's key is asked of the writer, which hasn't returned
+abbrev pub waits_at : WorldState → ℕ → Option Bytes → Bool
+waits_at w call None = false
+waits_at w call (Some key) = has_progress waits_for_report (part_of w call key)
+
+abbrev pub may_report : WorldState → ℕ → Option CallState → Bool
 may_report w call None = false
-may_report w call (Some u) =
-    list_any (λ key. has_progress waits_for_report (part_of w call key)) (open_keys u)
+may_report w call (Some u) = waits_at w call (only_key u)
 
 abbrev pub fits : WorldState → WorldEvent → Bool
 fits w (event.Call call session command) =
-    is_single command.op && is_session session && is_new w.last call && not (is_busy w session)
+    is_playable command && is_session session && is_new w.last call && not (is_busy w session)
 fits w (event.Start call key) = may_start w call key (open_call w call)
 fits w (event.Read call key) = has_progress waits_for_load (part_of w call key)
 fits w (event.Say call key answer) =
     is_load_given answer && has_progress waits_for_load (part_of w call key)
 fits w (event.Change call key) = has_progress waits_for_report (part_of w call key)
 fits w (event.Report call fault) = may_report w call (open_call w call)
+fits w (event.Process call key source calls fail) = has_progress waits_for_process (part_of w call key)
 fits w (event.Commit call key) = has_progress is_answered (part_of w call key)
 fits w (event.Withdraw call key) = has_progress is_untouched (part_of w call key)
 fits w (event.Leave call) = may_leave w call (open_call w call)
@@ -158,12 +187,7 @@ abbrev pub step_of : Stepped → StepDone
 step_of seen =
     record { reply = seen.reply; place = seen.place; victim = seen.victim; evicted = seen.evicted }
 
--- a call under way
-abbrev pub new_call : ℕ → ℕ → Command → OpenCall
-new_call call session command =
-    record { caller = record { session = session; call = call }; command = command }
-
-abbrev pub with_call : WorldState → OpenCall → WorldState
+abbrev pub with_call : WorldState → CallState → WorldState
 with_call w u = record w { last = Some u.caller.call; fresh = false; calls = w.calls ++ u ∷ [] }
 
 -- a key of a call has its reply or last refusal
@@ -180,6 +204,9 @@ new_load = Loading load.NotAsked
 
 abbrev pub new_write : Progress
 new_write = Writing false write.NotAsked
+
+abbrev pub new_process : Progress
+new_process = Processing
 
 abbrev pub new_part : Progress → Reservation → Part
 new_part progress r = record { reservation = r; progress = progress }
@@ -221,6 +248,10 @@ Starts old caller key op from to (shown.Asks change) new =
     (ticket : Ticket) × BeginsAs caller key op (begun.Write ticket) from to
     × (ticket.reservation.first ≡ Writer change)
     × (new ≡ with_new_part old key to new_write ticket.reservation)
+Starts old caller key op from to (shown.Processes entry) new =
+    (ticket : ProcessClaim) × BeginsAs caller key op (begun.Process ticket) from to
+    × (entry ≡ entry_seen ticket.reservation.first)
+    × (new ≡ with_new_part old key to new_process ticket.reservation)
 Starts old caller key op from to shown.Joins new =
     (join : JoinClaim) × BeginsAs caller key op (begun.Joined join) from to
     × (new ≡ with_join (with_stripe old key to) join)
@@ -260,6 +291,9 @@ after_answer w key part answer =
 abbrev pub with_change : Progress → Progress
 with_change (Loading answer) = Loading answer
 with_change (Writing is_changed report) = Writing true report
+with_change Processing = Processing
+with_change (Processed loaded process) = Processed loaded process
+with_change (WritingEffect loaded process is_changed report) = WritingEffect loaded process true report
 
 -- the store is as the writer was asked
 abbrev pub after_change : WorldState → Bytes → Part → Change → WorldState
@@ -270,6 +304,9 @@ after_change w key part change =
 abbrev pub with_report : Progress → WriteAnswer → Progress
 with_report (Loading answer) report = Loading answer
 with_report (Writing is_changed was) report = Writing is_changed report
+with_report Processing report = Processing
+with_report (Processed loaded process) report = Processed loaded process
+with_report (WritingEffect loaded process is_changed was) report = WritingEffect loaded process is_changed report
 
 -- the writer's report is kept
 abbrev pub after_report : WorldState → Bytes → Part → WriteAnswer → WorldState
@@ -283,6 +320,43 @@ abbrev pub shown_report : Change → Progress → Option ℕ → Reported
 shown_report change progress fault =
     record { change = change; is_changed = has_changed progress; fault = fault }
 
+-- the entry of a reservation is the one that the call found: it stays until the commit
+abbrev pub run_answers : Reservation → LoadAnswer → List EntryCall → List EntryAnswer
+run_answers r answer calls = played_answers (is_loadable r.first) (entry_seen r.first) answer calls
+
+abbrev pub run_result : Reservation → LoadAnswer → List EntryCall → Option ℕ
+    → ProcessResult Reservation
+run_result r answer calls fail =
+    record {
+      ask = r;
+      origin = Played;
+      load = played_load (is_loadable r.first) (entry_seen r.first) answer calls;
+      process = played_outcome (is_loadable r.first) (entry_seen r.first) answer calls fail;
+    }
+
+abbrev pub progress_after : Option Change → ProcessResult Reservation → Progress
+progress_after None done = Processed done.load done.process
+progress_after (Some change) done = WritingEffect done.load done.process false write.NotAsked
+
+-- what the processor did is kept, and the writer is asked for its net effect if that is due
+abbrev pub after_process : WorldState → Bytes → Part → ProcessResult Reservation → WorldState
+after_process w key part done =
+    let progress = progress_after (change_due w.config done) done in
+    let honest = is_true_load done.load (entry_at w.store key) in
+    record (with_progress w key part progress) { premises = with_loader w.premises honest }
+
+-- what a processor's run shows
+abbrev pub shown_process : Config → Reservation → LoadAnswer → List EntryCall → Option ℕ
+    → ProcessShown
+shown_process config r answer calls fail =
+    let done = run_result r answer calls fail in
+    record {
+      answers = run_answers r answer calls;
+      load = done.load;
+      fault = fail;
+      change = change_due config done;
+    }
+
 -- 5. What an event that fits shows and leaves.
 
 abbrev pub Happens : WorldState → WorldEvent → Shown → WorldState → Type 0
@@ -290,7 +364,7 @@ Happens old (event.Call call session command) seen new =
     (seen ≡ shown.Begun)
     × (new ≡ with_call old (new_call call session command))
 Happens old (event.Start call key) seen new =
-    (u : OpenCall) × (op : Op) × (open_call old call ≡ Some u) × (op_at u key ≡ Some op)
+    (u : CallState) × (op : Op) × (open_call old call ≡ Some u) × (op_at u key ≡ Some op)
     × (from : State) × (stripe_for old key ≡ Some from) × (to : State)
     × Starts old u.caller key op from to seen new
 Happens old (event.Read call key) seen new =
@@ -302,14 +376,19 @@ Happens old (event.Say call key answer) seen new =
     × (new ≡ after_answer old key part answer)
 Happens old (event.Change call key) seen new =
     (part : Part) × (change : Change) × (part_of old call key ≡ Some part)
-    × (part.reservation.first ≡ Writer change) × (seen ≡ shown.Changed)
+    × (writer_change part ≡ Some change) × (seen ≡ shown.Changed)
     × (new ≡ after_change old key part change)
 Happens old (event.Report call fault) seen new =
-    (u : OpenCall) × (key : Bytes) × (part : Part) × (change : Change)
-    × (open_call old call ≡ Some u) × (open_keys u ≡ key ∷ [])
-    × (part_of old call key ≡ Some part) × (part.reservation.first ≡ Writer change)
+    (u : CallState) × (key : Bytes) × (part : Part) × (change : Change)
+    × (open_call old call ≡ Some u) × (only_key u ≡ Some key)
+    × (part_of old call key ≡ Some part) × (writer_change part ≡ Some change)
     × (seen ≡ shown.Reported (shown_report change part.progress fault))
     × (new ≡ after_report old key part (report_of fault))
+Happens old (event.Process call key source calls fail) seen new =
+    let answer = load_from source (entry_at old.store key) in
+    (part : Part) × (part_of old call key ≡ Some part)
+    × (seen ≡ shown.Processed (shown_process old.config part.reservation answer calls fail))
+    × (new ≡ after_process old key part (run_result part.reservation answer calls fail))
 Happens old (event.Commit call key) seen new =
     (part : Part) × (part_of old call key ≡ Some part)
     × (from : State) × (stripe_for old key ≡ Some from) × (to : State)
@@ -368,11 +447,12 @@ StartFits w =
     → is_some (op_at (new_call call session command) key) ≡ true
     → AllFit w (event.Call call session command ∷ event.Start call key ∷ [])
 
--- so do these; the second, of a call that has no other key open
+-- so do these; of two, where the call has no other key open
 pub record RestFits (w : WorldState) : Type 0 where
   pub alone : (e : WorldEvent) → fits w e ≡ true → AllFit w (e ∷ [])
-  pub report : (call : ℕ) (key : Bytes) (fault : Option ℕ) → fits w (event.Change call key) ≡ true
+  pub report : (call : ℕ) (u : CallState) (key : Bytes) (fault : Option ℕ)
+      → open_call w call ≡ Some u → only_key u ≡ Some key → fits w (event.Change call key) ≡ true
       → AllFit w (event.Change call key ∷ event.Report call fault ∷ [])
-  pub leave : (call : ℕ) (u : OpenCall) (key : Bytes) → open_call w call ≡ Some u
-      → open_keys u ≡ key ∷ [] → fits w (event.Withdraw call key) ≡ true
+  pub leave : (call : ℕ) (u : CallState) (key : Bytes) → open_call w call ≡ Some u
+      → only_key u ≡ Some key → fits w (event.Withdraw call key) ≡ true
       → AllFit w (event.Withdraw call key ∷ event.Leave call ∷ [])

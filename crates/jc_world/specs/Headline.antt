@@ -70,6 +70,8 @@ StaysCoherentFrom =
 abbrev pub is_answer : Bytes → WorldEvent → Shown → Bool
 is_answer key (event.Read call k) (shown.Reads answer) = pointwise ◌==◌ key k
 is_answer key (event.Say call k said) (shown.Says answer) = pointwise ◌==◌ key k
+is_answer key (event.Process call k source calls fail) (shown.Processed x) =
+    pointwise ◌==◌ key k && is_load_given x.load
 is_answer key e seen = false
 
 -- a step of a key that has an answer of the loader, which it shares with no step before it

@@ -1,3 +1,5 @@
+pub mod Calls
+pub mod OpenCalls
 pub mod World
 pub mod Premises
 pub mod Events

@@ -1,5 +1,6 @@
 -- Those outside: what is expected of loaders, writers and the store.
 --     read_answer                  what a loader that reads the store answers
+--     load_from                    what the loader of a played processor answers, with this in the store
 --     changed_to                   what the store holds at a key once the writer did as it was asked
 --     report_of                    the writer's report, from its fault or none
 --     is_true_load                 honest loaders: an answer is a failure, or what the store holds for the key
@@ -20,10 +21,17 @@ use Rattle.jc_model.specs.declared.event.WriteAnswer.TheVariants as write
 use Rattle.jc_model.specs.Cache.{Bytes}
 use Rattle.jc_model.specs.Table.{holds}
 use Rattle.jc_world.specs.declared.event.Premises.{Premises}
+use Rattle.jc_world.specs.declared.process.LoadSource.{LoadSource}
+use Rattle.jc_world.specs.declared.process.LoadSource.TheVariants.{Store, Stated, Failing}
 
 abbrev pub read_answer : Option Bytes → LoadAnswer
 read_answer None = load.Nothing
 read_answer (Some value) = load.Found value
+
+abbrev pub load_from : LoadSource → Option Bytes → LoadAnswer
+load_from Store stored = read_answer stored
+load_from (Stated value) stored = read_answer value
+load_from (Failing code) stored = load.Failed code
 
 abbrev pub changed_to : Change → Option Bytes
 changed_to (Write value) = Some value

@@ -19,13 +19,13 @@ use Rattle.jc_model.specs.Legal.{of_stripe}
 use Rattle.jc_inflight.specs.declared.joiner.Joiner.{Joiner}
 use Rattle.jc_stripe.specs.State.{State}
 use Rattle.jc_stripe.specs.OnePhase.{is_parked}
-use Rattle.jc_world.specs.declared.event.Command.{Command}
+use Rattle.jc_world.specs.declared.command.Command.{Command}
 use Rattle.jc_world.specs.declared.event.WorldEvent.{WorldEvent}
 use Rattle.jc_world.specs.declared.event.WorldEvent.TheVariants as event
 use Rattle.jc_world.specs.declared.event.Shown.{Shown}
 use Rattle.jc_world.specs.declared.event.Shown.TheVariants as shown
-use Rattle.jc_world.specs.World.{WorldState, home, op_at}
-use Rattle.jc_world.specs.Events.{new_call}
+use Rattle.jc_world.specs.World.{WorldState, home}
+use Rattle.jc_world.specs.Calls.{op_at, new_call}
 use Rattle.jc_world.specs.Headline.{Reaches}
 
 -- 1. Each answer is that of a step.

@@ -5,13 +5,14 @@
 --     has_answer, has_parked_answer  an answer is parked for a joiner in this state, and for a joiner that is there
 --     is_served_in, is_served       the answer of a load that it has joined is parked for a caller at a key, in a stripe and in the world
 --     is_apart                      two calls are of different sessions, and have different numbers
---     FitsKey                       an open key of a call: its operation runs no processor, and its step may still come, unless it is
---                                   served
+--     FitsKey                       an open key of a call: its step may still come, unless it is served
 --     FitsCall                      a call under way: its number is at most the last, and that is so of each open key
 --     CallsFit                      that is so of all calls under way, and no two are of one session or have one number
 --     Each                          a fact is true of each of a list
 --     is_asked                      the progress of a key is that of one who was asked: a load's of the loader, a write's of the
---                                   writer
+--                                   writer, a run's of the processor
+--     is_due_in, is_due             after a processor the writer is asked exactly if it has to be
+--     AllDue                        that is so of all parts
 --     IsHeld                        a part has its reservation, whose call is then under way
 --     IsCallOf                      a call is of a session, and an operation is open in it at a key
 --     IsOwned, AllOwned             a reservation has its part and its call; each does
@@ -20,15 +21,17 @@
 --     IsCalled, AllCalled           a joiner has its join and its call, and is in the stripe of its key; each is so
 --     Agrees                        an entry that is there is the store's value
 --     IsWrittenFor                  the store holds what the writer was asked for
---     LoadAgrees, WriteAgrees       as long as the premises hold: what is known of a key that is loaded, and of one that is written
+--     LoadAgrees, WriteAgrees       as long as the premises hold: what is known of a key that is loaded, also for a processor, and of one
+--                                   that is written
 --     ProgressAgrees                and so of a reserved key, by its part
 --     KeyAgrees                     as long as the premises hold: what is known of any key, by its part, the store's value and the
 --                                   cached one
 --     IsSoundWorld                  all of it; and while a world is fresh, nothing is cached, reserved, joined or under way
-use Rattle.std.specs.Prelude.{◌≡◌, ◌==◌, ℕ, List, [], ◌∷◌, length, Ok, Bool, true, false, not, ◌&&◌, Option, None, Some, IfSome, IsSomeAnd, find, slice_get, nat_le}
+use Rattle.std.specs.Prelude.{◌≡◌, ◌==◌, ℕ, List, [], ◌∷◌, length, Ok, Bool, true, false, not, ◌&&◌, Option, None, Some, IfSome, IsSomeAnd, is_none, is_some, find, slice_get, nat_le}
 use Rattle.std.specs.List.{list_all, list_any}
 use Rattle.std.specs.FinMap.{get}
 use Rattle.jc_types.specs.declared.caller.Caller.{Caller}
+use Rattle.jc_types.specs.declared.config.Config.{Config}
 use Rattle.jc_types.specs.Limits.{check}
 use Rattle.jc_model.specs.declared.event.Event.{Event}
 use Rattle.jc_model.specs.declared.event.Op.{Op}
@@ -37,26 +40,28 @@ use Rattle.jc_model.specs.declared.event.Event.TheVariants as stripe
 use Rattle.jc_model.specs.declared.event.LoadAnswer.{LoadAnswer}
 use Rattle.jc_model.specs.declared.event.WriteAnswer.{WriteAnswer}
 use Rattle.jc_model.specs.Cache.{Bytes, entry_at}
-use Rattle.jc_model.specs.Table.{is_write_given, is_invoke}
+use Rattle.jc_model.specs.declared.event.Change.{Change}
+use Rattle.jc_model.specs.Table.{is_write_given}
 use Rattle.jc_model.specs.Legal.{in_order, of_stripe}
 use Rattle.jc_model.specs.Processor.{found_in}
 use Rattle.jc_stripe.specs.declared.ticket.First.{First}
-use Rattle.jc_stripe.specs.declared.ticket.First.TheVariants.{Nobody, Loader, Writer, Processor}
 use Rattle.jc_outside.specs.declared.done.Origin.TheVariants.{Played}
+use Rattle.jc_mutentry.specs.Done.{effect_change}
+use Rattle.jc_stripe.specs.Effects.{change_due}
 use Rattle.jc_inflight.specs.declared.joiner.Joiner.{Joiner}
 use Rattle.jc_inflight.specs.declared.joiner.JoinState.{JoinState}
 use Rattle.jc_inflight.specs.declared.joiner.JoinState.TheVariants.{Waiting, Answered, Again}
 use Rattle.jc_inflight.specs.Joining.{belongs_to}
 use Rattle.jc_stripe.specs.declared.ticket.Reservation.{Reservation}
-use Rattle.jc_stripe.specs.Tickets.{JoinClaim, asks_loader, asks_writer}
+use Rattle.jc_stripe.specs.Tickets.{JoinClaim, asks_loader, asks_writer, asks_processor, change_asked}
 use Rattle.jc_stripe.specs.State.{State, IsOut, IsJoined}
 use Rattle.jc_stripe.specs.Reached.{IsReached}
 use Rattle.jc_stripe.specs.OwnSteps.{may_come_all}
-use Rattle.jc_world.specs.declared.event.OpenCall.{OpenCall}
+use Rattle.jc_world.specs.Calls.{CallState, op_at}
 use Rattle.jc_world.specs.declared.event.Part.{Part}
 use Rattle.jc_world.specs.declared.event.Progress.{Progress}
-use Rattle.jc_world.specs.declared.event.Progress.TheVariants.{Loading, Writing}
-use Rattle.jc_world.specs.World.{WorldState, home, stripe_for, cached_entry, open_call, op_at, part_of, is_join, is_joined}
+use Rattle.jc_world.specs.declared.event.Progress.TheVariants.{Loading, Writing, Processing, Processed, WritingEffect}
+use Rattle.jc_world.specs.World.{WorldState, home, stripe_for, cached_entry, open_call, part_of, is_join, is_joined, Parts}
 use Rattle.jc_world.specs.Premises.{changed_to, is_done}
 use Rattle.jc_world.specs.Coherent.{all_hold}
 
@@ -104,20 +109,19 @@ abbrev pub is_served : WorldState → Caller → Bytes → Bool
 is_served w caller key = is_served_in (stripe_for w key) caller key
 
 -- another session's call, with another number
-abbrev pub is_apart : OpenCall → OpenCall → Bool
+abbrev pub is_apart : CallState → CallState → Bool
 is_apart u other =
     not (other.caller.session == u.caller.session) && not (other.caller.call == u.caller.call)
 
 -- a caller that is served at a key has its step of that key in the order
 pub record FitsKey (w : WorldState) (caller : Caller) (key : Bytes) (op : Op) : Type 0 where
-  pub runs_none : is_invoke op ≡ false
   pub comes : is_served w caller key ≡ false → may_come_all w.order caller key ≡ true
 
-pub record FitsCall (w : WorldState) (u : OpenCall) : Type 0 where
+pub record FitsCall (w : WorldState) (u : CallState) : Type 0 where
   pub number : is_up_to w.last u.caller.call ≡ true
   pub keys : (key : Bytes) (op : Op) → op_at u key ≡ Some op → FitsKey w u.caller key op
 
-abbrev pub CallsFit : WorldState → List OpenCall → Type 0
+abbrev pub CallsFit : WorldState → List CallState → Type 0
 CallsFit w [] = Unit {0}
 CallsFit w (u ∷ us) = FitsCall w u × (list_all (is_apart u) us ≡ true) × CallsFit w us
 
@@ -131,6 +135,25 @@ Each P (x ∷ xs) = P x × Each P xs
 abbrev pub is_asked : Progress → First → Bool
 is_asked (Loading answer) first = asks_loader first
 is_asked (Writing is_changed report) first = asks_writer first
+is_asked Processing first = asks_processor first
+is_asked (Processed loaded process) first = asks_processor first
+is_asked (WritingEffect loaded process is_changed report) first = asks_processor first
+
+-- after a processor the writer is asked exactly if it has to be
+abbrev pub is_due_in : Config → Reservation → Progress → Bool
+is_due_in config r (Loading answer) = true
+is_due_in config r (Writing is_changed report) = true
+is_due_in config r Processing = true
+is_due_in config r (Processed loaded process) =
+    is_none (change_due config (record { ask = r; origin = Played; load = loaded; process = process }))
+is_due_in config r (WritingEffect loaded process is_changed report) =
+    is_some (change_due config (record { ask = r; origin = Played; load = loaded; process = process }))
+
+abbrev pub is_due : Config → Part → Bool
+is_due config part = is_due_in config part.reservation part.progress
+
+abbrev pub AllDue : Config → Parts → Type 0
+AllDue config parts = (key : Bytes) (part : Part) → get parts key ≡ Some part → is_due config part ≡ true
 
 -- the part of a key whose stripe is `s`
 pub record IsHeld (s : State) (key : Bytes) (part : Part) : Type 0 where
@@ -139,7 +162,7 @@ pub record IsHeld (s : State) (key : Bytes) (part : Part) : Type 0 where
   pub asked : is_asked part.progress part.reservation.first ≡ true
 
 -- a call is of this session, and this operation is open in it at this key
-abbrev pub IsCallOf : ℕ → Bytes → Op → OpenCall → Type 0
+abbrev pub IsCallOf : ℕ → Bytes → Op → CallState → Type 0
 IsCallOf session key op u = (u.caller.session ≡ session) × (op_at u key ≡ Some op)
 
 -- the reservation of a call under way, with its part
@@ -180,27 +203,29 @@ AllCalled w number js = Each (IsCalled w number) js
 abbrev pub Agrees : Option Bytes → Option Bytes → Type 0
 Agrees entry stored = IfSome entry (λ value. stored ≡ Some value)
 
--- what the store holds once the writer that this key was reserved for did as it was asked
-abbrev pub IsWrittenFor : First → Option Bytes → Type 0
-IsWrittenFor Nobody stored = ⊥
-IsWrittenFor Loader stored = ⊥
-IsWrittenFor (Writer change) stored = stored ≡ changed_to change
-IsWrittenFor (Processor entry loads) stored = ⊥
+-- what the store holds once the writer did as it was asked
+abbrev pub IsWrittenFor : Option Change → Option Bytes → Type 0
+IsWrittenFor None stored = ⊥
+IsWrittenFor (Some change) stored = stored ≡ changed_to change
 
 pub record LoadAgrees (answer : LoadAnswer) (stored entry : Option Bytes) : Type 0 where
   pub loaded : Agrees (found_in answer) stored
   pub unwritten : Agrees entry stored
 
-pub record WriteAgrees (first : First) (is_changed : Bool) (report : WriteAnswer)
+pub record WriteAgrees (change : Option Change) (is_changed : Bool) (report : WriteAnswer)
     (stored entry : Option Bytes) : Type 0 where
-  pub written : is_changed ≡ true → IsWrittenFor first stored
+  pub written : is_changed ≡ true → IsWrittenFor change stored
   pub unwritten : is_changed ≡ false → Agrees entry stored
   pub honest : is_write_given report ≡ true → is_done report ≡ is_changed
 
 abbrev pub ProgressAgrees : Progress → First → Option Bytes → Option Bytes → Type 0
 ProgressAgrees (Loading answer) first stored entry = LoadAgrees answer stored entry
 ProgressAgrees (Writing is_changed report) first stored entry =
-    WriteAgrees first is_changed report stored entry
+    WriteAgrees (change_asked first) is_changed report stored entry
+ProgressAgrees Processing first stored entry = Agrees entry stored
+ProgressAgrees (Processed loaded process) first stored entry = LoadAgrees loaded stored entry
+ProgressAgrees (WritingEffect loaded process is_changed report) first stored entry =
+    WriteAgrees (effect_change loaded process) is_changed report stored entry
 
 abbrev pub KeyAgrees : Option Part → Option Bytes → Option Bytes → Type 0
 KeyAgrees None stored entry = Agrees entry stored
@@ -215,6 +240,7 @@ pub record IsSoundWorld (w : WorldState) : Type 0 where
   pub calls : CallsFit w w.calls
   pub held : (key : Bytes) (part : Part) → get w.parts key ≡ Some part
       → IsSomeAnd (stripe_for w key) (λ s. IsHeld s key part)
+  pub due : AllDue w.config w.parts
   pub owned : (number : ℕ) (s : State) → slice_get w.stripes number ≡ Some s
       → AllOwned w s.reservations
   pub joins : AllWaitedFor w w.joins

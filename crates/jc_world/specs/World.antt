@@ -7,48 +7,49 @@
 --     cached_entry                    what is cached for a key
 --     empty_stripe, empty_stripes     a stripe in which nothing has happened, and as many as are asked for, from a number on
 --     start                           a world before anything has happened
---     has_number, is_of_session               a call has this number, and is of this session
 --     is_busy                         a session has a call under way
 --     open_call                       the call with this number, if it is under way
---     open_keys                       the keys of a call that have neither a reply nor a last refusal
---     op_at                           what a call does at a key that is open in it; none at any other key
---     settle_key                      a call once such a key has its reply or last refusal; none if no key is open any more
---     with_some, settle               the calls under way once a key of one of them has its reply or last refusal
---     drop_call                       the calls without one that is over
 --     of_call                         a part, if it is this call's
 --     part_of                         what a call has asked and heard for a key that it has reserved
 --     has_progress                    a key is reserved, and its progress passes a test
 --     waits_for_load                  the loader was asked, and hasn't answered
+--     waits_for_process               the processor was asked, and hasn't run
 --     waits_for_report                the writer was asked, and hasn't returned
---     is_answered                     the one who was asked has answered
+--     is_answered                     all that was asked is answered
+--     is_unasked                      nobody was asked yet by the reservation's ticket
 --     is_untouched                    nothing was said outside for the key, and nothing done
 --     has_changed                     the writer has changed the store
+--     writer_change_in, writer_change     what the writer is asked for, if it is
 --     out_in, out_of                  what was said outside
 --     is_join                         a join is of this call and this key
 --     join_of                         a call's join of a key, if it has one
 --     is_joined                       a call has joined a load of a key, and hasn't its answer
+--     is_free_of                      a call has neither reserved a key nor joined a load of it
 --     joins_without                   the joins of the others
 --     with_stored                     the world with this value in its store
-use Rattle.std.specs.Prelude.{◌==◌, ℕ, zero, suc, ◌+◌, List, [], ◌∷◌, Bool, true, false, not, ◌&&◌, Option, None, Some, find, filter, slice_get, if◌then◌else◌}
+use Rattle.std.specs.Prelude.{◌==◌, ℕ, zero, suc, ◌+◌, List, [], ◌∷◌, Bool, true, false, not, ◌&&◌, Option, None, Some, find, filter, is_none, slice_get, if◌then◌else◌}
 use Rattle.std.specs.List.{list_any}
 use Rattle.std.specs.Cmp.Lexicographic.{pointwise}
 use Rattle.std.specs.FinMap.{FinMap, empty}
 use Rattle.std.specs.FinMap as map
 use Rattle.jc_types.specs.declared.config.Config.{Config}
 use Rattle.jc_types.specs.Stripes.{stripe_of}
+use Rattle.jc_model.specs.declared.event.Change.{Change}
 use Rattle.jc_model.specs.declared.event.Event.{Event}
-use Rattle.jc_model.specs.declared.event.Op.{Op}
 use Rattle.jc_model.specs.declared.event.Out.{Out}
 use Rattle.jc_model.specs.Cache.{Bytes, Cache, key_cmp, entry_at, with_entry}
 use Rattle.jc_model.specs.Table.{is_load_given, is_write_given}
-use Rattle.jc_model.specs.Group.{load_only, write_only}
+use Rattle.jc_model.specs.declared.event.WriteAnswer.TheVariants as write
+use Rattle.jc_model.specs.Group.{nothing_said, load_only, write_only}
+use Rattle.jc_mutentry.specs.Done.{effect_change}
 use Rattle.jc_outside.specs.declared.done.Origin.TheVariants.{Played}
-use Rattle.jc_stripe.specs.Tickets.{JoinClaim}
+use Rattle.jc_stripe.specs.declared.ticket.First.{First}
+use Rattle.jc_stripe.specs.Tickets.{JoinClaim, change_asked}
 use Rattle.jc_stripe.specs.State.{State}
-use Rattle.jc_world.specs.declared.event.OpenCall.{OpenCall}
+use Rattle.jc_world.specs.Calls.{CallState, has_number, is_of_session}
 use Rattle.jc_world.specs.declared.event.Part.{Part}
 use Rattle.jc_world.specs.declared.event.Progress.{Progress}
-use Rattle.jc_world.specs.declared.event.Progress.TheVariants.{Loading, Writing}
+use Rattle.jc_world.specs.declared.event.Progress.TheVariants.{Loading, Writing, Processing, Processed, WritingEffect}
 use Rattle.jc_world.specs.declared.event.Premises.{Premises}
 
 -- by key, what the call that has reserved it asked and heard so far
@@ -62,7 +63,7 @@ pub record WorldState : Type 0 where
   pub store : Cache
   pub fresh : Bool  -- no call has begun, and nobody else has written the store
   pub last : Option ℕ  -- the highest number of a call so far
-  pub calls : List OpenCall  -- the calls under way, in the order in which they began
+  pub calls : List CallState  -- the calls under way, in the order in which they began
   pub parts : Parts
   pub joins : List JoinClaim  -- the calls that have joined a load and haven't its answer, in this order
   pub premises : Premises  -- what has held so far of those outside
@@ -121,42 +122,12 @@ start config =
 
 -- 2. Calls.
 
-abbrev pub has_number : ℕ → OpenCall → Bool
-has_number call u = u.caller.call == call
-
-abbrev pub is_of_session : ℕ → OpenCall → Bool
-is_of_session session u = u.caller.session == session
-
 -- the session has a call under way
 abbrev pub is_busy : WorldState → ℕ → Bool
 is_busy w session = list_any (is_of_session session) w.calls
 
-abbrev pub open_call : WorldState → ℕ → Option OpenCall
+abbrev pub open_call : WorldState → ℕ → Option CallState
 open_call w call = find (has_number call) w.calls
-
--- a call of one operation has the one key
-abbrev pub open_keys : OpenCall → List Bytes
-open_keys u = u.command.key ∷ []
-
-abbrev pub op_at : OpenCall → Bytes → Option Op
-op_at u key = if pointwise ◌==◌ key u.command.key then Some u.command.op else None
-
--- a key of the call has its reply or last refusal
-abbrev pub settle_key : OpenCall → Bytes → Option OpenCall
-settle_key u key = if pointwise ◌==◌ key u.command.key then None else Some u
-
-abbrev pub with_some : Option OpenCall → List OpenCall → List OpenCall
-with_some None us = us
-with_some (Some u) us = u ∷ us
-
-abbrev pub settle : ℕ → Bytes → List OpenCall → List OpenCall
-settle call key [] = []
-settle call key (u ∷ us) =
-    with_some (if has_number call u then settle_key u key else Some u) (settle call key us)
-
--- the calls without one that is over
-abbrev pub drop_call : ℕ → List OpenCall → List OpenCall
-drop_call call calls = filter (λ u. not (has_number call u)) calls
 
 -- 3. The keys that calls have reserved.
 
@@ -176,31 +147,76 @@ has_progress test (Some part) = test part.progress
 abbrev pub waits_for_load : Progress → Bool
 waits_for_load (Loading answer) = not (is_load_given answer)
 waits_for_load (Writing is_changed report) = false
+waits_for_load Processing = false
+waits_for_load (Processed loaded process) = false
+waits_for_load (WritingEffect loaded process is_changed report) = false
+
+-- the processor was asked, and hasn't run
+abbrev pub waits_for_process : Progress → Bool
+waits_for_process (Loading answer) = false
+waits_for_process (Writing is_changed report) = false
+waits_for_process Processing = true
+waits_for_process (Processed loaded process) = false
+waits_for_process (WritingEffect loaded process is_changed report) = false
 
 -- the writer was asked, and hasn't returned
 abbrev pub waits_for_report : Progress → Bool
 waits_for_report (Loading answer) = false
 waits_for_report (Writing is_changed report) = not (is_write_given report)
+waits_for_report Processing = false
+waits_for_report (Processed loaded process) = false
+waits_for_report (WritingEffect loaded process is_changed report) = not (is_write_given report)
 
--- the one who was asked has answered
+-- all that was asked is answered
 abbrev pub is_answered : Progress → Bool
 is_answered (Loading answer) = is_load_given answer
 is_answered (Writing is_changed report) = is_write_given report
+is_answered Processing = false
+is_answered (Processed loaded process) = true
+is_answered (WritingEffect loaded process is_changed report) = is_write_given report
+
+-- the ticket has not asked anybody yet: the loader and the writer have answered as soon as they are asked
+abbrev pub is_unasked : Progress → Bool
+is_unasked (Loading answer) = not (is_load_given answer)
+is_unasked (Writing is_changed report) = not (is_write_given report)
+is_unasked Processing = true
+is_unasked (Processed loaded process) = false
+is_unasked (WritingEffect loaded process is_changed report) = false
 
 -- nothing was said outside, and nothing done
 abbrev pub is_untouched : Progress → Bool
 is_untouched (Loading answer) = not (is_load_given answer)
 is_untouched (Writing is_changed report) = not is_changed && not (is_write_given report)
+is_untouched Processing = true
+is_untouched (Processed loaded process) = false
+is_untouched (WritingEffect loaded process is_changed report) = false
 
 -- the writer has changed the store
 abbrev pub has_changed : Progress → Bool
 has_changed (Loading answer) = false
 has_changed (Writing is_changed report) = is_changed
+has_changed Processing = false
+has_changed (Processed loaded process) = false
+has_changed (WritingEffect loaded process is_changed report) = is_changed
+
+-- what the writer is asked for: the change that it was asked for first, or the processor's net effect
+abbrev pub writer_change_in : First → Progress → Option Change
+writer_change_in first (Loading answer) = None
+writer_change_in first (Writing is_changed report) = change_asked first
+writer_change_in first Processing = None
+writer_change_in first (Processed loaded process) = None
+writer_change_in first (WritingEffect loaded process is_changed report) = effect_change loaded process
+
+abbrev pub writer_change : Part → Option Change
+writer_change part = writer_change_in part.reservation.first part.progress
 
 -- what was said outside
 abbrev pub out_in : Progress → Out
 out_in (Loading answer) = load_only answer
 out_in (Writing is_changed report) = write_only report
+out_in Processing = nothing_said
+out_in (Processed loaded process) = record { load = loaded; write = write.NotAsked; process = process }
+out_in (WritingEffect loaded process is_changed report) = record { load = loaded; write = report; process = process }
 
 abbrev pub out_of : Part → Out
 out_of part = out_in part.progress
@@ -215,6 +231,11 @@ join_of w call key = find (is_join call key) w.joins
 
 abbrev pub is_joined : WorldState → ℕ → Bytes → Bool
 is_joined w call key = list_any (is_join call key) w.joins
+
+-- a call has neither reserved a key nor joined a load of it
+abbrev pub is_free_of : Parts → List JoinClaim → ℕ → Bytes → Bool
+is_free_of parts joins call key =
+    is_none (of_call call (map.get parts key)) && not (list_any (is_join call key) joins)
 
 -- the joins of the others
 abbrev pub joins_without : ℕ → Bytes → List JoinClaim → List JoinClaim

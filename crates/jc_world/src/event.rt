@@ -1,28 +1,23 @@
 //! What may happen in a world, what is shown of it, and what a world keeps of its calls.
-ghost use Rattle.std.specs.Prelude.{◌≡◌, true, Some, is_some, option_copied};
-ghost use Rattle.jc_world.specs.World.{op_at, waits_for_load, waits_for_report, is_answered, is_untouched, has_changed};
+ghost use Rattle.std.specs.Prelude.{◌≡◌};
+ghost use Rattle.jc_world.specs.World.{waits_for_load, waits_for_process, waits_for_report, is_answered, is_unasked};
+ghost use Rattle.jc_world.specs.World.{is_untouched, has_changed};
 
-use jc_model::{Change, LoadAnswer, Op, Reply, WriteAnswer};
+use crate::command::Command;
+use crate::process::{EntryCalls, LoadSource, Processed};
+use jc_model::{Change, LoadAnswer, ProcessAnswer, Reply, WriteAnswer};
 use jc_stripe::{Eviction, Reservation};
 use jc_types::{Caller, Key, Refusal, Value};
-
-/// What a call does: one operation on one key.
-#[derive(Clone, Copy, Debug, PartialEq, Eq)]
-pub struct Command {
-    /// The operation. `Clear`, `LoadAll` and `Invoke` are no calls by themselves: a `Call` with one of them doesn't fit.
-    pub op: Op,
-    /// The key, of any stripe.
-    pub key: Key,
-}
+use std::mem;
 
 /// What may happen next. An event that names a call is about a call under way, but for `Call`. What doesn't fit is shown as
 /// `Unfit`, and changes nothing.
-#[derive(Clone, Copy, Debug, PartialEq, Eq)]
+#[derive(Drop)]
 pub enum WorldEvent {
     /// A session begins a call. It has no phase yet.
     ///
-    /// It fits if the number is above all before it, the session is one and has no call under way, and the operation is a call
-    /// by itself.
+    /// It fits if the number is above all before it, the session is one and has no call under way, and the command is one operation
+    /// on one key that is a call by itself. `Clear` and `LoadAll` are none, and calls of many keys aren't played.
     Call {
         /// The call's number, which is to be above that of every call before it, of any session.
         call: u64,
@@ -31,9 +26,9 @@ pub enum WorldEvent {
         /// What the call does.
         command: Command,
     },
-    /// The first phase of a key of the call. It fits if the key has neither a reply nor a last refusal in this call, and the call has
-    /// neither reserved it nor joined its load: before its first phase, and once the call was told to retry or has given its
-    /// reservation back.
+    /// The first phase of a key of the call. It fits if the key has neither a reply nor a last refusal in this call, and the
+    /// call has neither reserved it nor joined its load: before its first phase, and once the call was told to retry or has
+    /// given its reservation back.
     Start {
         /// The call's number.
         call: u64,
@@ -71,7 +66,22 @@ pub enum WorldEvent {
         /// The code with which the writer failed, or none where it reports success.
         fault: Option<u32>,
     },
-    /// The last phase of the call's key. It fits if the one that was asked, loader or writer, has answered.
+    /// The entry processor runs on the entry that the call found when it reserved the key (JSR 107, "Entry Processors"). It fits if
+    /// the processor is asked and hasn't run. The store isn't changed: with write-through on the writer is then asked for the
+    /// processor's net effect, unless there is none or the loader or the processor failed.
+    Process {
+        /// The number of the call that has the processor asked.
+        call: u64,
+        /// The key that the call has reserved.
+        key: Key,
+        /// How the loader answers if the processor's calls ask it.
+        load: LoadSource,
+        /// The calls that the processor makes on its entry, in their order. After a failed load it makes no further one.
+        calls: EntryCalls,
+        /// The code with which the processor then fails, or none where it returns the last value that it was given.
+        fail: Option<u32>,
+    },
+    /// The last phase of the call's key. It fits if all that was asked, of loader, processor and writer, is answered.
     Commit {
         /// The call's number.
         call: u64,
@@ -147,7 +157,7 @@ pub struct Reported {
 }
 
 /// What is shown of an event.
-#[derive(Clone, Copy, Debug, PartialEq, Eq)]
+#[derive(Drop)]
 pub enum Shown {
     /// The call has begun.
     Begun,
@@ -157,6 +167,8 @@ pub enum Shown {
     Loads,
     /// The key is reserved, and the writer is asked for this.
     Asks(Change),
+    /// The key is reserved, and the entry processor is to run on this entry: its value, or none if it is missing.
+    Processes(Option<Value>),
     /// The key is being loaded by another call, and this one has joined that load.
     Joins,
     /// The first phase was refused, and the call is over.
@@ -165,6 +177,8 @@ pub enum Shown {
     Reads(LoadAnswer),
     /// The loader said this.
     Says(LoadAnswer),
+    /// The entry processor has run.
+    Processed(Processed),
     /// The writer has changed the store.
     Changed,
     /// The writer has returned.
@@ -185,42 +199,25 @@ pub enum Shown {
     Unfit,
 }
 
-/// A call under way.
-#[derive(Clone, Copy, Debug, PartialEq, Eq)]
-pub struct OpenCall {
-    /// Who calls: a session, from 1 to [`SESSIONS_MAX`](jc_types::SESSIONS_MAX), and the call's number.
-    pub caller: Caller,
-    /// What the call does.
-    pub command: Command,
+/// Shows this. What was shown before is let go.
+pub(crate) fn show(seen: &mut Shown, now: Shown)
+    ensures { seen.new ≡ now }
+{
+    *seen = now;
 }
 
-impl OpenCall {
-    /// What the call does at a key that is open in it: one that has neither a reply nor a last refusal. None at any other key.
-    pub fn op_at(&self, key: &Key) -> Option<&Op>
-        ensures { option_copied result ≡ op_at self.now key.now }
-    {
-        if *key == self.command.key {
-            Some(&self.command.op)
-        } else {
-            None
-        }
-    }
-
-    /// What the call does at a key that is known to be open in it. A call of one operation does it at no other key, so nothing has to be
-    /// compared.
-    pub(crate) fn op_at_open(&self, key: &Key) -> &Op
-        requires { is_some (op_at self.now key.now) ≡ true }
-        ensures { op_at self.now key.now ≡ Some result.now }
-    {
-        let _ = key;
-        &self.command.op
-    }
+/// Takes what was shown out.
+pub(crate) fn take_shown(seen: &mut Shown) -> Shown
+    ensures { result ≡ seen.old }
+{
+    mem::replace(seen, Shown::Unfit)
 }
 
 /// A key that a call has reserved: for what, and how far that is.
 #[derive(Clone, Copy, Debug, PartialEq, Eq)]
 pub struct Part {
-    /// The reservation: who reserved the key, for what, and whom the call asked. It is the loader, or the writer for a change.
+    /// The reservation: who reserved the key, for what, and whom the call asked first. It is the loader, the writer for a
+    /// change, or the entry processor.
     pub reservation: Reservation,
     /// What the one who was asked has done and answered so far.
     pub progress: Progress,
@@ -241,6 +238,26 @@ pub enum Progress {
         /// Its report: `NotAsked` until it has returned.
         report: WriteAnswer,
     },
+    /// The entry processor was asked, and hasn't run.
+    Processing,
+    /// The entry processor has run, and no writer is asked after it.
+    Processed {
+        /// What the loader answered: `NotAsked` if the processor's calls didn't ask it.
+        load: LoadAnswer,
+        /// What the processor did.
+        process: ProcessAnswer,
+    },
+    /// The entry processor has run, and the writer was asked for its net effect.
+    WritingEffect {
+        /// What the loader answered: `NotAsked` if the processor's calls didn't ask it.
+        load: LoadAnswer,
+        /// What the processor did.
+        process: ProcessAnswer,
+        /// Whether the writer has changed the store.
+        is_changed: bool,
+        /// The writer's report: `NotAsked` until it has returned.
+        report: WriteAnswer,
+    },
 }
 
 impl Progress {
@@ -250,10 +267,23 @@ impl Progress {
     {
         match self {
             Progress::Loading { answer } => !answer.is_given(),
-            Progress::Writing {
-                is_changed: _,
-                report: _,
-            } => false,
+            Progress::Writing { .. }
+            | Progress::Processing
+            | Progress::Processed { .. }
+            | Progress::WritingEffect { .. } => false,
+        }
+    }
+
+    /// Whether the entry processor was asked, and hasn't run.
+    pub(crate) fn waits_for_process(&self) -> bool
+        ensures { result ≡ waits_for_process self.now }
+    {
+        match self {
+            Progress::Processing => true,
+            Progress::Loading { .. }
+            | Progress::Writing { .. }
+            | Progress::Processed { .. }
+            | Progress::WritingEffect { .. } => false,
         }
     }
 
@@ -262,24 +292,36 @@ impl Progress {
         ensures { result ≡ waits_for_report self.now }
     {
         match self {
-            Progress::Loading { answer: _ } => false,
-            Progress::Writing {
-                is_changed: _,
-                report,
-            } => !report.is_given(),
+            Progress::Writing { report, .. } | Progress::WritingEffect { report, .. } => {
+                !report.is_given()
+            }
+            Progress::Loading { .. } | Progress::Processing | Progress::Processed { .. } => false,
         }
     }
 
-    /// Whether the one who was asked has answered.
+    /// Whether all that was asked is answered.
     pub(crate) fn is_answered(&self) -> bool
         ensures { result ≡ is_answered self.now }
     {
         match self {
             Progress::Loading { answer } => answer.is_given(),
-            Progress::Writing {
-                is_changed: _,
-                report,
-            } => report.is_given(),
+            Progress::Writing { report, .. } | Progress::WritingEffect { report, .. } => {
+                report.is_given()
+            }
+            Progress::Processing => false,
+            Progress::Processed { .. } => true,
+        }
+    }
+
+    /// Whether nobody was asked yet by the reservation's ticket.
+    pub(crate) fn is_unasked(&self) -> bool
+        ensures { result ≡ is_unasked self.now }
+    {
+        match self {
+            Progress::Loading { answer } => !answer.is_given(),
+            Progress::Writing { report, .. } => !report.is_given(),
+            Progress::Processing => true,
+            Progress::Processed { .. } | Progress::WritingEffect { .. } => false,
         }
     }
 
@@ -290,6 +332,8 @@ impl Progress {
         match self {
             Progress::Loading { answer } => !answer.is_given(),
             Progress::Writing { is_changed, report } => !*is_changed && !report.is_given(),
+            Progress::Processing => true,
+            Progress::Processed { .. } | Progress::WritingEffect { .. } => false,
         }
     }
 
@@ -298,11 +342,10 @@ impl Progress {
         ensures { result ≡ has_changed self.now }
     {
         match self {
-            Progress::Loading { answer: _ } => false,
-            Progress::Writing {
-                is_changed,
-                report: _,
-            } => *is_changed,
+            Progress::Writing { is_changed, .. } | Progress::WritingEffect { is_changed, .. } => {
+                *is_changed
+            }
+            Progress::Loading { .. } | Progress::Processing | Progress::Processed { .. } => false,
         }
     }
 }

@@ -25,9 +25,9 @@ pub fn stays_coherent()
     keeps_reserved();
 }
 
-/// The same from any moment on, whatever came before. If no key is reserved then, and each cached value is the store's, both stay in
-/// step through every further list of events, under the same conditions, of which all but write-through need to hold only from then
-/// on.
+/// The same from any moment on, whatever came before. If no key is reserved then, and each cached value is the store's, both
+/// stay in step through every further list of events, under the same conditions, of which all but write-through need to hold
+/// only from then on.
 pub fn stays_coherent_from()
     ensures { StaysCoherentFrom }
 {

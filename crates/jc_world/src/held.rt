@@ -1,5 +1,5 @@
 //! A key that a call has reserved: its ticket, and what was answered for it.
-ghost use Rattle.std.specs.Prelude.{◌≡◌, ◌⊎◌, true, false, Some, OnOk, OnErr};
+ghost use Rattle.std.specs.Prelude.{◌≡◌, ◌⊎◌, ◌++◌, ◌+◌, ◌≤◌, length, true, false, None, Some, OnOk, OnErr, vec_len, vec_capacity};
 ghost use Rattle.jc_model.specs.declared.event.Out.{Out};
 ghost use Rattle.jc_model.specs.declared.event.Change.{Change};
 ghost use Rattle.jc_model.specs.Cache.{with_entry};
@@ -7,23 +7,30 @@ ghost use Rattle.jc_model.specs.Table.{is_load_given};
 ghost use Rattle.jc_stripe.specs.declared.begun.StepDone.{StepDone};
 ghost use Rattle.jc_stripe.specs.State.{IsOut};
 ghost use Rattle.jc_stripe.specs.Phases.{Commits, Withdraws};
-ghost use Rattle.jc_stripe.specs.Tickets.{asks_loader, asks_writer};
+ghost use Rattle.jc_stripe.specs.Effects.{change_due};
+ghost use Rattle.jc_stripe.specs.Tickets.{asks_loader, asks_writer, asks_processor};
 ghost use Rattle.jc_stripe.specs.declared.ticket.First.TheVariants.{Writer};
 ghost use Rattle.jc_outside.specs.declared.done.Origin.TheVariants.{Played};
 ghost use Rattle.jc_world.specs.declared.event.Progress.TheVariants.{Loading};
 ghost use Rattle.jc_world.specs.Premises.{changed_to, report_of};
-ghost use Rattle.jc_world.specs.World.{has_changed, out_of, is_answered, waits_for_load, waits_for_report};
-ghost use Rattle.jc_world.specs.Events.{new_load, new_write, new_part, with_change, with_report};
+ghost use Rattle.jc_world.specs.World.{has_changed, out_of, is_answered, is_unasked, waits_for_load, waits_for_process};
+ghost use Rattle.jc_world.specs.World.{waits_for_report, writer_change};
+ghost use Rattle.jc_world.specs.Events.{new_load, new_write, new_process, new_part, with_change, with_report, run_answers};
+ghost use Rattle.jc_world.specs.Events.{run_result, progress_after};
+ghost use Rattle.jc_world.specs.Sound.{is_due};
 ghost use Rattle.jc_world.specs.Held.{load_in, report_in};
 
 use crate::event::{Part, Progress, Reported};
 use crate::outside::{entry_after, report_with};
-use jc_model::{Change, Contents, LoadAnswer, WriteAnswer};
-use jc_stripe::{
-    First, LoadAsk, LoadDone, LoadTicket, Reservation, StepDone, Stripe, WriteAsk, WriteDone,
-    WriteTicket, played_load, played_write,
+use crate::run::{
+    Run, RunShown, change_effect, commit_run, progress_in, report_effect, run_process,
 };
-use jc_types::Key;
+use jc_model::{Change, Contents, EntryAnswer, EntryCall, LoadAnswer, WriteAnswer};
+use jc_stripe::{
+    First, LoadAsk, LoadDone, LoadTicket, ProcessTicket, Reservation, StepDone, Stripe, WriteAsk,
+    WriteDone, WriteTicket, played_load, played_write,
+};
+use jc_types::{Config, Key};
 use std::alloc::AllocError;
 use std::marker::Model;
 use std::mem;
@@ -53,6 +60,11 @@ pub(crate) enum Asked {
         ticket: WriteTicket,
         is_changed: bool,
         written: Option<Written>,
+    },
+    /// The entry processor.
+    Processor {
+        ticket: ProcessTicket,
+        run: Option<Run>,
     },
 }
 
@@ -133,6 +145,18 @@ impl Held {
         }
     }
 
+    /// The entry processor is to be asked.
+    pub(crate) fn processing(ticket: ProcessTicket) -> Held
+        requires unasked { ticket.asked ≡ false }
+        requires writer { ticket.writer_asked ≡ false }
+        requires processor { asks_processor ticket.reservation.first ≡ true }
+        ensures { result ≡ new_part new_process ticket.reservation }
+    {
+        Held {
+            asked: Asked::Processor { ticket, run: None },
+        }
+    }
+
     /// The reservation.
     fn reservation(&self) -> &Reservation
         ensures { result.now ≡ self.now.reservation }
@@ -144,6 +168,7 @@ impl Held {
                 is_changed: _,
                 written: _,
             } => ticket.reservation(),
+            Asked::Processor { ticket, run: _ } => ticket.reservation(),
         }
     }
 
@@ -177,6 +202,7 @@ impl Held {
                 is_changed: *is_changed,
                 report: report_in(written),
             },
+            Asked::Processor { ticket: _, run } => progress_in(run),
         }
     }
 
@@ -210,6 +236,45 @@ impl Held {
                 ticket: _,
                 is_changed: _,
                 written: _,
+            }
+            | Asked::Processor { ticket: _, run: _ } => unreachable!(),
+        }
+    }
+
+    /// The entry processor runs: it makes these calls, and its loader answers so if it is asked. What each call was answered is
+    /// appended to `answers`, for which there is room. Then the writer is asked for the net effect, if that is due.
+    pub(crate) fn process(
+        &mut self,
+        config: &Config,
+        load: LoadAnswer,
+        calls: &[EntryCall],
+        fail: Option<u32>,
+        answers: &mut Vec<EntryAnswer>,
+    ) -> RunShown
+        requires waits { waits_for_process self.old.progress ≡ true }
+        requires given { is_load_given load ≡ true }
+        requires room { vec_len answers.old + length calls.now ≤ vec_capacity answers.old }
+        ensures answers { answers.new.items ≡ answers.old.items ++ run_answers self.old.reservation load calls.now }
+        ensures load { result.load ≡ (run_result self.old.reservation load calls.now fail).load }
+        ensures change { result.change ≡ change_due config.now (run_result self.old.reservation load calls.now fail) }
+        ensures run { self.new ≡ record self.old {
+          progress = progress_after
+              (change_due config.now (run_result self.old.reservation load calls.now fail))
+              (run_result self.old.reservation load calls.now fail);
+        } }
+    {
+        match &mut self.asked {
+            Asked::Processor { ticket, run } => {
+                run_process(ticket, run, config, load, calls, fail, answers)
+            }
+            Asked::Loader {
+                ticket: _,
+                loaded: _,
+            }
+            | Asked::Writer {
+                ticket: _,
+                is_changed: _,
+                written: _,
             } => unreachable!(),
         }
     }
@@ -217,7 +282,7 @@ impl Held {
     /// The writer changes the store as it was asked.
     pub(crate) fn change(&mut self, store: &mut Contents, key: &Key) -> Result<(), AllocError>
         requires { waits_for_report self.old.progress ≡ true }
-        ensures ok { OnOk result ((change : Change) × (self.old.reservation.first ≡ Writer change)
+        ensures ok { OnOk result ((change : Change) × (writer_change self.old ≡ Some change)
             × (self.new ≡ record self.old { progress = with_change self.old.progress })
             × (store.new ≡ with_entry store.old key.now (changed_to change))) }
         ensures err { OnErr result ((self.new ≡ self.old) × (store.new ≡ store.old)) }
@@ -237,13 +302,14 @@ impl Held {
                 *is_changed = true;
                 Ok(())
             }
+            Asked::Processor { ticket, run } => change_effect(ticket, run, store, key),
         }
     }
 
     /// The writer returns.
     pub(crate) fn report(&mut self, fault: Option<u32>) -> Reported
         requires { waits_for_report self.old.progress ≡ true }
-        ensures change { self.old.reservation.first ≡ Writer result.change }
+        ensures change { writer_change self.old ≡ Some result.change }
         ensures changed { result.is_changed ≡ has_changed self.old.progress }
         ensures fault { result.fault ≡ fault }
         ensures report { self.new ≡
@@ -274,6 +340,7 @@ impl Held {
                     fault,
                 }
             }
+            Asked::Processor { ticket, run } => report_effect(ticket, run, fault),
         }
     }
 
@@ -282,6 +349,7 @@ impl Held {
         requires out { IsOut stripe.old self.reservation }
         requires answered { is_answered self.progress ≡ true }
         requires origin { stripe.old.origin ≡ Played }
+        requires due { is_due stripe.old.config self ≡ true }
         ensures { Commits stripe.old self.reservation (out_of self) result stripe.new }
     {
         let Held { asked } = self;
@@ -304,13 +372,17 @@ impl Held {
                 }
                 None => unreachable!(),
             },
+            Asked::Processor { ticket, run } => match run {
+                Some(run) => commit_run(ticket, run, stripe),
+                None => unreachable!(),
+            },
         }
     }
 
     /// The reservation is given back.
     pub(crate) fn withdraw(self, stripe: &mut Stripe)
         requires out { IsOut stripe.old self.reservation }
-        requires open { is_answered self.progress ≡ false }
+        requires open { is_unasked self.progress ≡ true }
         ensures { Withdraws stripe.old self.reservation stripe.new }
     {
         let Held { asked } = self;
@@ -327,21 +399,43 @@ impl Held {
                 None => stripe.withdraw_write(ticket),
                 Some(_written) => unreachable!(),
             },
+            Asked::Processor { ticket, run } => match run {
+                None => stripe.withdraw_process(ticket),
+                Some(_run) => unreachable!(),
+            },
         }
     }
 
-    /// The reservation is over, as its world ends: it is committed if it was answered, and else given back.
+    /// The last phase, of a writer that hasn't returned: it fails first, with the code 0.
+    fn commit_failed(self, stripe: &mut Stripe)
+        requires out { IsOut stripe.old self.reservation }
+        requires waits { waits_for_report self.progress ≡ true }
+        requires origin { stripe.old.origin ≡ Played }
+        requires due { is_due stripe.old.config self ≡ true }
+        ensures { (out : Out) × (done : StepDone)
+            × Commits stripe.old self.reservation out done stripe.new }
+    {
+        let mut held = self;
+        let _reported = held.report(Some(0));
+        let _step = held.commit(stripe);
+    }
+
+    /// The reservation is over, as its world ends: it is committed if it was answered, and given back if nobody was asked. Of a
+    /// processor that has run the writer that hasn't returned fails first.
     pub(crate) fn close(self, stripe: &mut Stripe)
         requires out { IsOut stripe.old self.reservation }
         requires origin { stripe.old.origin ≡ Played }
+        requires due { is_due stripe.old.config self ≡ true }
         ensures { ((out : Out) × (done : StepDone)
             × Commits stripe.old self.reservation out done stripe.new)
             ⊎ Withdraws stripe.old self.reservation stripe.new }
     {
-        if self.progress().is_answered() {
+        if self.progress().is_unasked() {
+            self.withdraw(stripe);
+        } else if self.progress().is_answered() {
             let _step = self.commit(stripe);
         } else {
-            self.withdraw(stripe);
+            self.commit_failed(stripe);
         }
     }
 }

@@ -1,24 +1,29 @@
 //! The keys that calls have reserved, in a map by key.
-ghost use Rattle.std.specs.Prelude.{◌≡◌, ◌<◌, ◌+◌, true, false, Option, Some, None, is_some, option_copied, [], IsTrue, IfSome, IfNone, OnOk, OnErr};
+ghost use Rattle.std.specs.Prelude.{◌≡◌, ◌<◌, ◌≤◌, ◌++◌, ◌+◌, length, vec_len, vec_capacity, true, false, Option, Some};
+ghost use Rattle.std.specs.Prelude.{None, is_some, option_copied, [], IsTrue, IfSome, IfNone, OnOk, OnErr};
 ghost use Rattle.std.specs.FinMap as map;
 ghost use Rattle.indexmap.specs.IndexMap.{spare, index_map_len};
 ghost use Rattle.jc_model.specs.declared.event.Change.{Change};
 ghost use Rattle.jc_model.specs.Cache.{Bytes, with_entry};
 ghost use Rattle.jc_model.specs.Table.{is_load_given};
 ghost use Rattle.jc_stripe.specs.declared.ticket.First.TheVariants.{Writer};
+ghost use Rattle.jc_stripe.specs.Tickets.{entry_seen};
+ghost use Rattle.jc_stripe.specs.Effects.{change_due};
 ghost use Rattle.jc_world.specs.declared.event.Part.{Part};
 ghost use Rattle.jc_world.specs.declared.event.Progress.TheVariants.{Loading};
 ghost use Rattle.jc_world.specs.Premises.{changed_to, report_of};
-ghost use Rattle.jc_world.specs.World.{has_progress, of_call, waits_for_load, waits_for_report};
-ghost use Rattle.jc_world.specs.Events.{new_load, new_write, new_part, with_change, with_report, shown_report};
+ghost use Rattle.jc_world.specs.World.{has_progress, of_call, waits_for_load, waits_for_process, waits_for_report, writer_change};
+ghost use Rattle.jc_world.specs.Events.{new_load, new_write, new_process, new_part, with_change, with_report, shown_report};
+ghost use Rattle.jc_world.specs.Events.{run_answers, run_result, progress_after};
 ghost use Rattle.jc_world.specs.Held.{parts_of};
 
 use crate::event::Reported;
 use crate::held::{Held, change_for};
+use crate::run::RunShown;
 use indexmap::IndexMap;
-use jc_model::{Change, Contents, LoadAnswer};
-use jc_stripe::{LoadTicket, WriteTicket};
-use jc_types::Key;
+use jc_model::{Change, Contents, EntryAnswer, EntryCall, LoadAnswer};
+use jc_stripe::{LoadTicket, ProcessTicket, WriteTicket};
+use jc_types::{Config, Key, Value};
 use std::alloc::AllocError;
 
 /// The keys that are held, each with its ticket.
@@ -75,6 +80,24 @@ pub(crate) fn hold_write(held: &mut HeldKeys, ticket: WriteTicket) -> Change
     change
 }
 
+/// A call has reserved its key, and the entry processor is to be asked, about this entry. It is a function of its own, as
+/// `hold_load` is.
+#[inline(never)]
+pub(crate) fn hold_process(held: &mut HeldKeys, ticket: ProcessTicket) -> Option<Value>
+    requires room { 0 < spare held.old }
+    requires unasked { ticket.asked ≡ false }
+    requires writer { ticket.writer_asked ≡ false }
+    requires free { map.get (parts_of held.old) ticket.reservation.key ≡ None }
+    ensures entry { result ≡ entry_seen ticket.reservation.first }
+    ensures parts { parts_of held.new ≡
+        map.insert (parts_of held.old) ticket.reservation.key (new_part new_process ticket.reservation) }
+{
+    let entry = *ticket.entry();
+    let key = ticket.reservation().key;
+    put_reserved(held, &key, Held::processing(ticket));
+    entry
+}
+
 /// What is held of a key. An empty map is asked for nothing: to hash a key costs time, and most calls hold none.
 pub(crate) fn held_at<'a>(held: &'a HeldKeys, key: &Key) -> Option<&'a Held>
     ensures { option_copied result ≡ map.get (parts_of held.now) key.now }
@@ -111,7 +134,7 @@ pub(crate) fn change(held: &mut HeldKeys, store: &mut Contents, key: &Key) -> Re
     requires { has_progress waits_for_report (map.get (parts_of held.old) key.now) ≡ true }
     ensures ok { OnOk result ((part : Part) × (change : Change)
         × (map.get (parts_of held.old) key.now ≡ Some part)
-        × (part.reservation.first ≡ Writer change)
+        × (writer_change part ≡ Some change)
         × (parts_of held.new ≡ map.insert (parts_of held.old) key.now
         (record part { progress = with_change part.progress }))
         × (store.new ≡ with_entry store.old key.now (changed_to change))) }
@@ -127,13 +150,43 @@ pub(crate) fn change(held: &mut HeldKeys, store: &mut Contents, key: &Key) -> Re
 pub(crate) fn report(held: &mut HeldKeys, key: &Key, fault: Option<u32>) -> Reported
     requires { has_progress waits_for_report (map.get (parts_of held.old) key.now) ≡ true }
     ensures { (part : Part) × (change : Change) × (map.get (parts_of held.old) key.now ≡ Some part)
-        × (part.reservation.first ≡ Writer change)
+        × (writer_change part ≡ Some change)
         × (result ≡ shown_report change part.progress fault)
         × (parts_of held.new ≡ map.insert (parts_of held.old) key.now
         (record part { progress = with_report part.progress (report_of fault) })) }
 {
     match held.get_mut(key) {
         Some(one) => one.report(fault),
+        None => unreachable!(),
+    }
+}
+
+/// The entry processor of a key runs, and the writer is then asked for its net effect if that is due.
+pub(crate) fn process(
+    held: &mut HeldKeys,
+    config: &Config,
+    key: &Key,
+    load: LoadAnswer,
+    calls: &[EntryCall],
+    fail: Option<u32>,
+    answers: &mut Vec<EntryAnswer>,
+) -> RunShown
+    requires waits { has_progress waits_for_process (map.get (parts_of held.old) key.now) ≡ true }
+    requires given { is_load_given load ≡ true }
+    requires room { vec_len answers.old + length calls.now ≤ vec_capacity answers.old }
+    ensures { (part : Part) × (map.get (parts_of held.old) key.now ≡ Some part)
+        × (answers.new.items ≡ answers.old.items ++ run_answers part.reservation load calls.now)
+        × (result.load ≡ (run_result part.reservation load calls.now fail).load)
+        × (result.change ≡ change_due config.now (run_result part.reservation load calls.now fail))
+        × (parts_of held.new ≡ map.insert (parts_of held.old) key.now
+        (record part {
+          progress = progress_after
+              (change_due config.now (run_result part.reservation load calls.now fail))
+              (run_result part.reservation load calls.now fail);
+        })) }
+{
+    match held.get_mut(key) {
+        Some(one) => one.process(config, load, calls, fail, answers),
         None => unreachable!(),
     }
 }

@@ -3,6 +3,7 @@
 
 pub mod audit;
 mod calls;
+pub mod command;
 mod ending;
 pub mod event;
 pub mod headline;
@@ -10,9 +11,12 @@ mod held;
 mod held_keys;
 mod joining;
 mod machine;
+pub mod open_call;
 mod outside;
 pub mod pick_ups;
+pub mod process;
 pub mod replies;
 pub mod reserved;
+mod run;
 mod stripes;
 pub mod world;

@@ -11,13 +11,18 @@ ghost use Rattle.jc_world.specs.Sound.{IsSoundWorld};
 mod answering;
 mod auditing;
 mod fitting;
+mod processing;
 
 use crate::calls::{drop_call, find_call, has_call, is_above, settle};
+use crate::command::Command;
 use crate::ending::{end_all, pick_all};
-use crate::event::{Command, OpenCall, PickedUp, Premises, Shown, WorldEvent};
+use crate::event::{PickedUp, Premises, Shown, WorldEvent, show};
 use crate::held::Held;
-use crate::held_keys::{HeldKeys, held_at, held_by, hold_load, hold_write, make_room, take};
+use crate::held_keys::{
+    HeldKeys, held_at, held_by, hold_load, hold_process, hold_write, make_room, take,
+};
 use crate::joining::{has_joined, put_back, take_join};
+use crate::open_call::OpenCall;
 use crate::stripes::{Stripes, shown_of};
 use jc_model::{Change, Contents, Event, Op};
 use jc_stripe::{Begun, Join, Picked};
@@ -27,6 +32,7 @@ use std::marker::Model;
 
 /// Stripes, a store, and the calls under way.
 pub(crate) struct Machine {
+    alloc: Global,
     config: Config,
     stripes: Stripes,
     store: Contents,
@@ -60,6 +66,7 @@ impl Machine {
     {
         let stripes = Stripes::new(alloc, config)?;
         Ok(Machine {
+            alloc,
             config: *config,
             stripes,
             store: Contents::new(alloc),
@@ -189,6 +196,13 @@ impl Machine {
                 self.writer_returns(*call, *fault, seen);
                 Ok(())
             }
+            WorldEvent::Process {
+                call,
+                key,
+                load,
+                calls,
+                fail,
+            } => self.process(*call, key, load, calls, *fail, seen),
             WorldEvent::Commit { call, key } => self.commit(*call, key, seen),
             WorldEvent::Withdraw { call, key } => {
                 self.withdraw(*call, key, seen);
@@ -222,10 +236,9 @@ impl Machine {
         // Names the types of the values that a generic call moves here: the prover looks for their models in the types that a
         // function names. So does the other of this name below.
         let _types: Option<(Op, Value)> = None;
-        self.calls.push(OpenCall {
-            caller: Caller { session, call },
-            command: *command,
-        })?;
+        let alloc = *self.calls.allocator();
+        let opened = OpenCall::new(alloc, Caller { session, call }, command)?;
+        self.calls.push(opened)?;
         self.last = Some(call);
         self.fresh = false;
         *seen = Shown::Begun;
@@ -248,7 +261,7 @@ impl Machine {
             unreachable!()
         };
         let op = u.op_at_open(key);
-        let caller = u.caller;
+        let caller = u.caller();
         let number = stripe_of(key, self.config.stripes);
         let begun = self.stripes.begin(number, &caller, key, op);
         match begun {
@@ -266,7 +279,10 @@ impl Machine {
                 *seen = Shown::Asks(hold_write(&mut self.held, ticket));
                 Ok(())
             }
-            Begun::Process(_ticket) => unreachable!(),
+            Begun::Process(ticket) => {
+                *seen = Shown::Processes(hold_process(&mut self.held, ticket));
+                Ok(())
+            }
             Begun::Joined(join) => {
                 self.joins.push_reserved(join);
                 *seen = Shown::Joins;
@@ -326,17 +342,18 @@ impl Machine {
                 shared_with: shared,
             } => {
                 settle(&mut self.calls, call, key);
-                *seen = Shown::PickedUp(PickedUp {
+                let answer = PickedUp {
                     reply,
                     stripe,
                     place: step,
                     shared,
-                });
+                };
+                show(seen, Shown::PickedUp(answer));
             }
-            Picked::Again => *seen = Shown::Again,
+            Picked::Again => show(seen, Shown::Again),
             Picked::NotYet(join) => {
                 put_back(&mut self.joins, join, place);
-                *seen = Shown::Waits;
+                show(seen, Shown::Waits);
             }
         }
     }
@@ -346,6 +363,7 @@ impl Machine {
         requires { IsSoundWorld self }
     {
         let Machine {
+            alloc: _,
             config,
             stripes,
             store: _,

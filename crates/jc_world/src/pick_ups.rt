@@ -10,8 +10,8 @@ use jc_stripe::phase_laws::{keeps_reserved, stays_reached};
 /// - it was withdrawn since: the call is told to retry;
 /// - neither: the load is still out, and the call waits.
 ///
-/// That a call joins the load of another is this provider's own rule; JSR 107 has none for it. That the call's own step has the same
-/// answer of the loader is the rule for shared steps (`jc_model`), and part of what makes a history legal.
+/// That a call joins the load of another is this provider's own rule; JSR 107 has none for it. That the call's own step has the
+/// same answer of the loader is the rule for shared steps (`jc_model`), and part of what makes a history legal.
 pub fn answers_joins()
     ensures { AnswersJoins }
 {

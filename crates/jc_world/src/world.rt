@@ -1,5 +1,6 @@
 //! A world: stripes beside a store, driven by a list of events, with what there is to see of it.
-ghost use Rattle.std.specs.Prelude.{[], ◌≡◌, ◌≤◌, ◌⊎◌, ◌<◌, true, IsTrue, IfOk, IfErr, IsOk, option_copied, OnErr, OnOk, Ok, Err, take, length};
+ghost use Rattle.std.specs.Prelude.{[], ◌≡◌, ◌≤◌, ◌⊎◌, ◌<◌, true, IsTrue, IfOk, IfErr, IsOk, option_copied, OnErr, OnOk, Ok};
+ghost use Rattle.std.specs.Prelude.{Err, take, length};
 ghost use Rattle.jc_types.specs.Limits.{check};
 ghost use Rattle.jc_world.specs.World.{start, is_busy, open_call, part_of, is_joined, with_stored};
 ghost use Rattle.jc_world.specs.Events.{fits, is_new, RestFits, RunAppending, StartFits};
@@ -7,8 +8,9 @@ ghost use Rattle.jc_world.specs.Coherent.{all_hold, Coherent};
 ghost use Rattle.jc_world.specs.Audit.{IsOrder, HasShares, IsAudit};
 
 use crate::audit::Audit;
-use crate::event::{OpenCall, Part, PickedUp, Reported, Shown, Stepped, WorldEvent};
+use crate::event::{Part, PickedUp, Reported, Shown, Stepped, WorldEvent, take_shown};
 use crate::machine::Machine;
+use crate::open_call::OpenCall;
 use jc_model::{Change, Event, LoadAnswer, Reply};
 use jc_stripe::Eviction;
 use jc_stripe::phase_laws::{keeps_reserved, stays_reached};
@@ -70,8 +72,8 @@ impl World {
 
     /// Plays events in their order, and appends what each shows to `shown`.
     ///
-    /// An event that doesn't fit is shown as `Unfit` and changes nothing. After an error of memory exactly the first `played` events
-    /// were taken, what they show is appended, and nothing of the others.
+    /// An event that doesn't fit is shown as `Unfit` and changes nothing. After an error of memory exactly the first `played`
+    /// events were taken, what they show is appended, and nothing of the others.
     pub fn play(&mut self, events: &[WorldEvent], shown: &mut Vec<Shown>) -> Result<(), AllocError>
         ensures run { OnOk result (
             RunAppending self.old.world events.now shown.old.items shown.new.items self.new.world
@@ -101,7 +103,7 @@ impl World {
         let mut seen = Shown::Unfit;
         for event in events {
             self.machine.step(event, &mut seen)?;
-            shown.push_reserved(seen);
+            shown.push_reserved(take_shown(&mut seen));
             self.played += 1;
         }
         Ok(())
@@ -208,8 +210,8 @@ impl World {
         self.machine.audit(alloc)
     }
 
-    /// Ends the world: each reservation that was answered is committed, each other one is given back, and each call that has joined a
-    /// load picks up its answer. Nothing is left that would have to be ended.
+    /// Ends the world: each reservation that was answered is committed, each other one is given back, and each call that has
+    /// joined a load picks up its answer. Nothing is left that would have to be ended.
     ///
     /// It takes no memory, so it doesn't fail.
     pub fn close(self) {

@@ -1,7 +1,9 @@
 //! The command line.
 ghost use Rattle.std.specs.Prelude.{◌≡◌, map, string_bytes, IfOk, IfErr};
 ghost use Rattle.clap.specs.Words.{FailsBy, app_of, kind_of};
-ghost use Rattle.jcache.specs.CommandLine.{program, faults_at, RunIsRight, NoWordIsWrong, UnknownWordIsWrong, WordTooManyIsWrong, FlagIsWrong, HelpIsShown, HelpWordIsShownOrWrong, VersionIsShown};
+ghost use Rattle.jcache.specs.CommandLine.{program, faults_at, RunIsRight, NoWordIsWrong, UnknownWordIsWrong};
+ghost use Rattle.jcache.specs.CommandLine.{WordTooManyIsWrong, FlagIsWrong, HelpIsShown, HelpWordIsShownOrWrong};
+ghost use Rattle.jcache.specs.CommandLine.{VersionIsShown};
 
 use clap::error::ErrorKind;
 use clap::{Command, Error};

@@ -34,8 +34,10 @@ fn play<R: Read, W: Write, E: Write>(
     out: &mut Noted<W>,
     err: &mut E,
 ) -> u8
-    ensures played { ExitOfPlay result (R.remaining reader.old.inner) (R.remaining reader.new.inner) (W.contents out.old.inner) (W.contents out.new.inner) (out.new ≡ out.old) }
-    ensures streams { reader.old.failed ≡ false → out.old.failed ≡ false → FailsByStreams result reader.new.failed out.new.failed (R.remaining reader.old.inner) (out.new ≡ out.old) }
+    ensures played { ExitOfPlay result (R.remaining reader.old.inner) (R.remaining reader.new.inner)
+        (W.contents out.old.inner) (W.contents out.new.inner) (out.new ≡ out.old) }
+    ensures streams { reader.old.failed ≡ false → out.old.failed ≡ false
+        → FailsByStreams result reader.new.failed out.new.failed (R.remaining reader.old.inner) (out.new ≡ out.old) }
 {
     match run(alloc, reader, out) {
         Ok(RunEnd::Clean) => CLEAN,
@@ -87,10 +89,12 @@ pub fn exec<R: Read, W: Write, E: Write>(
 ) -> u8
     // Right words are played. Others are told so, or the text that they ask for; then nothing is read.
     ensures answered { Exit (faults_at (map string_bytes words.now)) result
-        (ExitOfPlay result (R.remaining reader.old.inner) (R.remaining reader.new.inner) (W.contents out.old.inner) (W.contents out.new.inner) (out.new ≡ out.old))
+        (ExitOfPlay result (R.remaining reader.old.inner) (R.remaining reader.new.inner) (W.contents out.old.inner)
+        (W.contents out.new.inner) (out.new ≡ out.old))
         (reader.new ≡ reader.old) (out.new ≡ out.old) }
     // Status 3 comes if a stream failed in this call, and only then or if the script is too long.
-    ensures streams { reader.old.failed ≡ false → out.old.failed ≡ false → FailsByStreams result reader.new.failed out.new.failed (R.remaining reader.old.inner) (out.new ≡ out.old) }
+    ensures streams { reader.old.failed ≡ false → out.old.failed ≡ false
+        → FailsByStreams result reader.new.failed out.new.failed (R.remaining reader.old.inner) (out.new ≡ out.old) }
 {
     match read_task(alloc, words) {
         Ok(Task::Run) => play(alloc, reader, out, err),

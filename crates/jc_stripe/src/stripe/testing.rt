@@ -152,8 +152,8 @@ impl Stripe {
         stripe_of(key, self.config.stripes) == self.number
     }
 
-    /// Whether a call would ask the loader, the writer or the processor, or join a load, if it isn't refused. A call that may not wait
-    /// for an outside answer tests this first.
+    /// Whether a call would ask the loader, the writer or the processor, or join a load, if it isn't refused. A call that may not
+    /// wait for an outside answer tests this first.
     pub fn asks_outside(&self, key: &Key, op: &Op) -> bool
         ensures { result ≡ asks_outside self.now key.now op.now }
     {

@@ -15,7 +15,7 @@ use std::marker::Model;
 pub struct ProcessTicket {
     reservation: Reservation,
     is_asked: bool,
-    is_written: bool,
+    is_writer_asked: bool,
 }
 
 impl Model for ProcessTicket {
@@ -24,7 +24,7 @@ impl Model for ProcessTicket {
 
     ghost Value = { ProcessClaim };
 
-    ghost view = { λ t. record { reservation = t.reservation; asked = t.is_asked; written = t.is_written } };
+    ghost view = { λ t. record { reservation = t.reservation; asked = t.is_asked; writer_asked = t.is_writer_asked } };
 
     ghost invariant = { λ t. asks_processor t.reservation.first ≡ true };
 }
@@ -33,12 +33,12 @@ impl ProcessTicket {
     /// The ticket of a reservation that was made. Neither the processor nor the writer was asked yet.
     pub(crate) fn new(reservation: Reservation) -> Self
         requires { asks_processor reservation.first ≡ true }
-        ensures { result ≡ record { reservation = reservation; asked = false; written = false } }
+        ensures { result ≡ record { reservation = reservation; asked = false; writer_asked = false } }
     {
         ProcessTicket {
             reservation,
             is_asked: false,
-            is_written: false,
+            is_writer_asked: false,
         }
     }
 
@@ -76,13 +76,15 @@ impl ProcessTicket {
     /// change to ask for: neither the loader nor the processor failed, and the processor set or removed the entry.
     pub fn ask_writer(&mut self, done: &ProcDone<ProcessAsk>) -> EffectAsk
         requires asked { self.old.asked ≡ true }
-        requires unwritten { self.old.written ≡ false }
+        requires writer { self.old.writer_asked ≡ false }
         requires claim { done.now.ask ≡ self.old.reservation }
-        requires change { is_some (processed.change_asked done.now.load done.now.process) ≡ true }
-        ensures ask { Some result ≡ option_map (λ change. record { reservation = self.old.reservation; change = change }) (processed.change_asked done.now.load done.now.process) }
-        ensures written { self.new ≡ record self.old { written = true } }
+        requires change { is_some (processed.effect_change done.now.load done.now.process) ≡ true }
+        ensures ask { Some result ≡ option_map
+            (λ change. record { reservation = self.old.reservation; change = change })
+            (processed.effect_change done.now.load done.now.process) }
+        ensures writer_asked { self.new ≡ record self.old { writer_asked = true } }
     {
-        self.is_written = true;
+        self.is_writer_asked = true;
         match done.change() {
             Some(change) => EffectAsk {
                 reservation: self.reservation,
@@ -100,7 +102,7 @@ impl ProcessTicket {
         let ProcessTicket {
             reservation,
             is_asked: _,
-            is_written: _,
+            is_writer_asked: _,
         } = self;
         reservation
     }

@@ -1,15 +1,14 @@
 //! What loaders, writers and others do.
 ghost use Rattle.std.specs.Prelude.{◌≡◌, true, false, Ok, OnOk, OnErr, Option, None, Some};
 ghost use Rattle.jc_model.specs.Table.{is_load_given};
-ghost use Rattle.jc_stripe.specs.declared.ticket.First.TheVariants.{Writer};
 ghost use Rattle.jc_model.specs.declared.event.Change.{Change};
 ghost use Rattle.jc_world.specs.declared.event.WorldEvent.TheVariants as event;
 ghost use Rattle.jc_world.specs.declared.event.Part.{Part};
-ghost use Rattle.jc_world.specs.World.{has_progress, open_call, part_of, waits_for_load, waits_for_report};
+ghost use Rattle.jc_world.specs.World.{has_progress, open_call, part_of, waits_for_load, waits_for_report, writer_change};
 ghost use Rattle.jc_world.specs.Premises.{report_of};
 ghost use Rattle.jc_world.specs.Events.{fits, after_answer, after_report, shown_report, Happens};
 
-use crate::event::{Reported, Shown};
+use crate::event::{Reported, Shown, show};
 use crate::held_keys::{change, loader_answers, report};
 use crate::machine::Machine;
 use crate::outside::{and_now, answer_of, is_honest_load, is_honest_report};
@@ -78,7 +77,7 @@ impl Machine {
     fn report(&mut self, call: u64, key: &Key, fault: Option<u32>) -> Reported
         requires { has_progress waits_for_report (part_of self.old call key.now) ≡ true }
         ensures { (part : Part) × (change : Change) × (part_of self.old call key.now ≡ Some part)
-            × (part.reservation.first ≡ Writer change)
+            × (writer_change part ≡ Some change)
             × (result ≡ shown_report change part.progress fault)
             × (self.new ≡ after_report self.old key.now part (report_of fault)) }
     {
@@ -94,10 +93,13 @@ impl Machine {
         requires { fits self.old (event.Report call fault) ≡ true }
         ensures { Happens self.old (event.Report call fault) seen.new self.new }
     {
-        let Some(u) = self.open_call(call).copied() else {
+        let Some(u) = self.open_call(call) else {
             unreachable!()
         };
-        *seen = Shown::Reported(self.report(call, &u.command.key, fault));
+        let Some(key) = u.only_key().copied() else {
+            unreachable!()
+        };
+        show(seen, Shown::Reported(self.report(call, &key, fault)));
     }
 
     /// Somebody else changes the store.

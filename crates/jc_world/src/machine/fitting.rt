@@ -1,11 +1,14 @@
 //! Whether an event fits.
 ghost use Rattle.std.specs.Prelude.{◌≡◌, ◌&&◌, not, true, false, None, Some};
 ghost use Rattle.jc_world.specs.declared.event.WorldEvent.TheVariants as event;
-ghost use Rattle.jc_world.specs.World.{has_progress, is_busy, is_joined, open_call, part_of, waits_for_load, waits_for_report};
-ghost use Rattle.jc_world.specs.Events.{is_single, is_session, is_new, may_start, may_leave, is_free, may_report, fits};
+ghost use Rattle.jc_world.specs.World.{has_progress, is_busy, is_joined, open_call, part_of, waits_for_load};
+ghost use Rattle.jc_world.specs.World.{waits_for_report, waits_for_process};
+ghost use Rattle.jc_world.specs.Events.{is_playable, is_session, is_new, may_start, may_leave, is_free, may_report, fits};
+ghost use Rattle.jc_world.specs.Events.{is_single};
 
-use crate::calls::{is_known, is_single_op};
-use crate::event::{Command, WorldEvent};
+use crate::calls::{is_known, is_playable};
+use crate::command::Command;
+use crate::event::WorldEvent;
 use crate::machine::Machine;
 use jc_types::Key;
 
@@ -27,6 +30,7 @@ impl Machine {
             }
             WorldEvent::Change { call, key } => self.waits_for_report(*call, key),
             WorldEvent::Report { call, fault: _ } => self.may_report(*call),
+            WorldEvent::Process { call, key, .. } => self.waits_for_process(*call, key),
             WorldEvent::Commit { call, key } => {
                 self.held_by(*call, key)
                     .is_some_and(|held| held.progress().is_answered())
@@ -49,6 +53,14 @@ impl Machine {
             .is_some_and(|held| held.progress().waits_for_load())
     }
 
+    /// Whether the entry processor was asked for a key of the call, and hasn't run.
+    fn waits_for_process(&self, call: u64, key: &Key) -> bool
+        ensures { result ≡ has_progress waits_for_process (part_of self.now call key.now) }
+    {
+        self.held_by(call, key)
+            .is_some_and(|held| held.progress().waits_for_process())
+    }
+
     /// Whether the writer was asked for a key of the call, and hasn't returned.
     fn waits_for_report(&self, call: u64, key: &Key) -> bool
         ensures { result ≡ has_progress waits_for_report (part_of self.now call key.now) }
@@ -65,11 +77,11 @@ impl Machine {
     }
 
     fn may_call(&self, call: u64, session: u32, command: &Command) -> bool
-        ensures { result ≡ (is_single command.now.op && is_session session
+        ensures { result ≡ (is_playable command.now && is_session session
             && is_new self.now.last call && not (is_busy self.now session)) }
     {
         let busy = self.is_busy(session);
-        is_single_op(&command.op) && is_known(session) && self.is_new(call) && !busy
+        is_playable(command) && is_known(session) && self.is_new(call) && !busy
     }
 
     fn may_start(&self, call: u64, key: &Key) -> bool
@@ -85,7 +97,7 @@ impl Machine {
         ensures { result ≡ may_leave self.now call (open_call self.now call) }
     {
         match self.open_call(call) {
-            Some(u) => self.is_free(call, &u.command.key),
+            Some(u) => u.is_free(call, &self.held, &self.joins),
             None => false,
         }
     }
@@ -94,7 +106,10 @@ impl Machine {
         ensures { result ≡ may_report self.now call (open_call self.now call) }
     {
         match self.open_call(call) {
-            Some(u) => self.waits_for_report(call, &u.command.key),
+            Some(u) => {
+                u.only_key()
+                    .is_some_and(|key| self.waits_for_report(call, key))
+            }
             None => false,
         }
     }

@@ -6,6 +6,7 @@ use Rattle.jc_model.specs.Cache.{Bytes}
 use Rattle.jc_stripe.specs.State.{State}
 use Rattle.jc_world.specs.declared.event.Part.{Part}
 use Rattle.jc_world.specs.Ending.{AreLeft, HasHeld, HasJoins}
+use Rattle.jc_world.specs.Sound.{is_due}
 use Rattle.jc_world.specs.Held.{parts_of}
 use Rattle.jc_world.specs.World.{Parts, empty_stripe}
 use Rattle.jc_world.proofs.Closing.{IsOver, over, left_set, ended, joins_kept, none_reserved, home_of_key, key_of}
@@ -49,6 +50,15 @@ close-requires-clause-origin c =
     let number = number_is c.args.config.now c.ending.stripes.items (parts_of c.ending.held) some.0 c.key.result c.in-Some.one c.stripe_of-number.result c.stripe_of-number.ensures c.key.ensures some.1 i.held in
     let read = c.index_mut-stripe.ensures.value ∙ ap (λ n. get_or c.ending.stripes.items n c.index_mut-stripe.result.now) number in
     (i.left.each (stripe_of some.0 c.args.config.now.stripes) c.index_mut-stripe.result.now (home.at read)).origin_is
+
+pub close-requires-clause-due : goal.close-requires-clause-due
+close-requires-clause-due c =
+    let i = c.ending.invariant in
+    let some = c.in-Some.ensures.some in
+    let home = home_of_key c.args.config.now c.ending.stripes.items (parts_of c.ending.held) some.0 c.in-Some.one c.index_mut-stripe.result.now some.1 i.left i.held in
+    let number = number_is c.args.config.now c.ending.stripes.items (parts_of c.ending.held) some.0 c.key.result c.in-Some.one c.stripe_of-number.result c.stripe_of-number.ensures c.key.ensures some.1 i.held in
+    let read = c.index_mut-stripe.ensures.value ∙ ap (λ n. get_or c.ending.stripes.items n c.index_mut-stripe.result.now) number in
+    ap (λ (x : Config). is_due x c.in-Some.one) (i.left.each (stripe_of some.0 c.args.config.now.stripes) c.index_mut-stripe.result.now (home.at read)).config_is ∙ i.held.due some.0 c.in-Some.one some.1
 
 pub ending-preserved : goal.ending-preserved
 ending-preserved c =

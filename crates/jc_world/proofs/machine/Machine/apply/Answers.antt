@@ -47,3 +47,8 @@ pub returns-in-Start-clause-ok : goal.returns-in-Start-clause-ok
 returns-in-Start-clause-ok c =
     let P : WorldEvent → Type 0 = λ e. OnOk c.start.result (Happens c.args.self.now e c.start.new.seen c.start.new.self) in
     subst P (sym c.in-Start.is) c.start.ensures.ok
+
+pub returns-in-Process-clause-ok : goal.returns-in-Process-clause-ok
+returns-in-Process-clause-ok c =
+    let P : WorldEvent → Type 0 = λ e. OnOk c.process.result (Happens c.args.self.now e c.process.new.seen c.process.new.self) in
+    subst P (sym c.in-Process.is) c.process.ensures.ok

@@ -1,11 +1,11 @@
-use Rattle.std.proofs.Common.{◌≡◌, IsSomeAnd, is_some, slice_get, sym, subst, ap}
+use Rattle.std.proofs.Common.{◌≡◌, true, IsSomeAnd, is_some, slice_get, sym, subst, ap}
 use Rattle.jc_stripe.specs.State.{IsOut}
 use Rattle.jc_outside.specs.declared.done.Origin.TheVariants.{Played}
 use Rattle.jc_world.specs.declared.event.Shown.TheVariants as shown
 use Rattle.jc_world.specs.declared.event.WorldEvent.TheVariants as event
 use Rattle.jc_world.specs.World.{WorldState}
 use Rattle.jc_world.specs.Events.{Happens}
-use Rattle.jc_world.specs.Sound.{IsSoundWorld}
+use Rattle.jc_world.specs.Sound.{is_due, IsSoundWorld}
 use Rattle.jc_world.specs.Inside.{world_of}
 use Rattle.jc_world.specs.Turns.{OrderedStripes}
 use Rattle.jc_world.specs.Held.{parts_of}
@@ -21,7 +21,7 @@ commit-done-requires-clause-out c =
     let v : WorldState = world_of c.self.inside in
     let part = c.take-held.result in
     let own = may_commit v c.args.self.now c.args.call c.args.key.now part c.self.view_is c.requires.fits c.take-held.ensures.one in
-    let R : OrderedStripes → Type 0 = λ v. IsSomeAnd (slice_get v.stripes c.stripe_of-number.result) (λ s. IsOut s part.reservation × (s.origin ≡ Played)) in
+    let R : OrderedStripes → Type 0 = λ v. IsSomeAnd (slice_get v.stripes c.stripe_of-number.result) (λ s. IsOut s part.reservation × (s.origin ≡ Played) × (is_due s.config part ≡ true)) in
     subst R (sym c.in_ok-reserve.ensures.same) (may_end_at v c.args.call c.args.key.now part c.stripe_of-number.result own.0 c.stripe_of-number.ensures (subst IsSoundWorld (sym c.self.view_is) c.requires.sound))
 
 pub commit-done-requires-clause-answered : goal.commit-done-requires-clause-answered

@@ -4,6 +4,7 @@ use Rattle.jc_stripe.specs.declared.begun.Picked.{Picked}
 use Rattle.jc_stripe.specs.declared.begun.Picked.TheVariants as picked
 use Rattle.jc_world.specs.declared.event.PickedUp.{PickedUp}
 use Rattle.jc_world.specs.declared.event.WorldEvent.TheVariants as event
+use Rattle.jc_world.specs.declared.event.Shown.{Shown}
 use Rattle.jc_world.specs.declared.event.Shown.TheVariants as shown
 use Rattle.jc_world.specs.World.{WorldState}
 use Rattle.jc_world.specs.Events.{Happens}
@@ -33,8 +34,9 @@ returns-in-Answer c =
     let p = changed_from v c.self.inside.stripes c.pick_up.new.self number (PicksAs join (picked.Answer seen.reply seen.place seen.shared)) refl quiet in
     let next = world_of (record c.self.inside { stripes = c.pick_up.new.self; calls = c.settle.new.calls; joins = c.take_join-join.new.joins }) in
     let R : WorldState → Type 0 = λ x. Happens x (event.PickUp c.args.call key) (shown.PickedUp seen) next in
-    subst R c.self.view_is (picked_answer v next c.args.call key join number seen c.pick_up.new.self.stripes c.take_join-join.ensures.join c.stripe_of-stripe.ensures refl p
-    (λ i. record v { stripes = c.pick_up.new.self.stripes; order = quiet.order_is i; joins = c.take_join-join.ensures.others i; calls = c.settle.ensures i }))
+    let S : Shown → Type 0 = λ s. Happens c.args.self.now (event.PickUp c.args.call key) s next in
+    subst S (sym c.show.ensures) (subst R c.self.view_is (picked_answer v next c.args.call key join number seen c.pick_up.new.self.stripes c.take_join-join.ensures.join c.stripe_of-stripe.ensures refl p
+    (λ i. record v { stripes = c.pick_up.new.self.stripes; order = quiet.order_is i; joins = c.take_join-join.ensures.others i; calls = c.settle.ensures i })))
 
 pub returns-in-Again : goal.returns-in-Again
 returns-in-Again c =
@@ -46,8 +48,9 @@ returns-in-Again c =
     let p = changed_from v c.self.inside.stripes c.pick_up.new.self number (PicksAs join picked.Again) refl quiet in
     let next = world_of (record c.self.inside { stripes = c.pick_up.new.self; joins = c.take_join-join.new.joins }) in
     let R : WorldState → Type 0 = λ x. Happens x (event.PickUp c.args.call key) shown.Again next in
-    subst R c.self.view_is (picked_again v next c.args.call key join number c.pick_up.new.self.stripes c.take_join-join.ensures.join c.stripe_of-stripe.ensures p
-    (λ i. record v { stripes = c.pick_up.new.self.stripes; order = quiet.order_is i; joins = c.take_join-join.ensures.others i }))
+    let S : Shown → Type 0 = λ s. Happens c.args.self.now (event.PickUp c.args.call key) s next in
+    subst S (sym c.show-in-Again.ensures) (subst R c.self.view_is (picked_again v next c.args.call key join number c.pick_up.new.self.stripes c.take_join-join.ensures.join c.stripe_of-stripe.ensures p
+    (λ i. record v { stripes = c.pick_up.new.self.stripes; order = quiet.order_is i; joins = c.take_join-join.ensures.others i })))
 
 pub returns-in-NotYet : goal.returns-in-NotYet
 returns-in-NotYet c =
@@ -62,5 +65,6 @@ returns-in-NotYet c =
     c.put_back.ensures ∙ ap (insert c.take_join-join.new.joins.items c.take_join-join.result.1) p.made.2 ∙ c.take_join-join.ensures.back in
     let next = world_of (record c.self.inside { stripes = c.pick_up.new.self; joins = c.put_back.new.joins }) in
     let R : WorldState → Type 0 = λ x. Happens x (event.PickUp c.args.call key) shown.Waits next in
-    subst R c.self.view_is (picked_nothing v next c.args.call key join back number c.pick_up.new.self.stripes c.take_join-join.ensures.join c.stripe_of-stripe.ensures p
-    (λ i. record v { stripes = c.pick_up.new.self.stripes; order = quiet.order_is i; joins = joins i }))
+    let S : Shown → Type 0 = λ s. Happens c.args.self.now (event.PickUp c.args.call key) s next in
+    subst S (sym c.show-in-NotYet.ensures) (subst R c.self.view_is (picked_nothing v next c.args.call key join back number c.pick_up.new.self.stripes c.take_join-join.ensures.join c.stripe_of-stripe.ensures p
+    (λ i. record v { stripes = c.pick_up.new.self.stripes; order = quiet.order_is i; joins = joins i })))

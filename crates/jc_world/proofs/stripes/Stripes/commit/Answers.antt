@@ -1,8 +1,9 @@
-use Rattle.std.proofs.Common.{◌≡◌, slice_set, refl, sym, subst, ap, arith}
+use Rattle.std.proofs.Common.{◌≡◌, true, slice_set, refl, sym, subst, ap, arith}
 use Rattle.jc_stripe.specs.State.{IsOut}
 use Rattle.jc_stripe.specs.Phases.{Commits}
 use Rattle.jc_outside.specs.declared.done.Origin.TheVariants.{Played}
 use Rattle.jc_world.specs.World.{out_of}
+use Rattle.jc_world.specs.Sound.{is_due}
 use Rattle.jc_world.specs.Turns.{AreTurns}
 use Rattle.jc_world.specs.Turns.{OrderedStripes}
 use Rattle.jc_world.proofs.Lengths.{ended_length, has_room}
@@ -23,7 +24,7 @@ invariant_of-self c =
     let items = c.self.inside.items.items in
     let from = c.index_mut-stripe.result.now in
     let to = c.commit-done.new.stripe in
-    let at = is_at c.self.inside c.args.self.now c.args.number from (λ s. IsOut s c.args.held.reservation × (s.origin ≡ Played)) c.self.view_is c.requires.out c.index_mut-stripe.ensures.value in
+    let at = is_at c.self.inside c.args.self.now c.args.number from (λ s. IsOut s c.args.held.reservation × (s.origin ≡ Played) × (is_due s.config c.args.held ≡ true)) c.self.view_is c.requires.out c.index_mut-stripe.ensures.value in
     let longer = c.grows.ensures.commits from to c.args.held.reservation (out_of c.args.held) c.commit-done.result c.commit-done.ensures in
     record {
       turns = subst (AreTurns (slice_set items c.args.number to)) (sym c.give_turns.ensures)
@@ -35,6 +36,6 @@ pub returns : goal.returns
 returns c =
     let from = c.index_mut-stripe.result.now in
     let to = c.commit-done.new.stripe in
-    let at = is_at c.self.inside c.args.self.now c.args.number from (λ s. IsOut s c.args.held.reservation × (s.origin ≡ Played)) c.self.view_is c.requires.out c.index_mut-stripe.ensures.value in
+    let at = is_at c.self.inside c.args.self.now c.args.number from (λ s. IsOut s c.args.held.reservation × (s.origin ≡ Played) × (is_due s.config c.args.held ≡ true)) c.self.view_is c.requires.out c.index_mut-stripe.ensures.value in
     let longer = c.grows.ensures.commits from to c.args.held.reservation (out_of c.args.held) c.commit-done.result c.commit-done.ensures in
     phase_made c.self.inside c.args.self.now c.args.number c.history_len-before.result from to (λ old new. Commits old c.args.held.reservation (out_of c.args.held) c.commit-done.result new) c.give_turns.new.turns.items _ c.self.view_is c.self.invariant at longer c.history_len-before.ensures.len c.commit-done.ensures c.give_turns.ensures refl refl

@@ -1,0 +1,119 @@
+-- After a processor the writer is asked exactly if it has to be: each event keeps that.
+--     dues_insert, dues_remove   a part is put in place, or taken away
+--     due_run                    the progress of a key once its processor has run
+--     dues_happens               any event that fits
+use Rattle.std.proofs.Common.{◌≡◌, ℕ, true, cond, Option, None, Some, is_none, is_some, refl, sym, ap, ◌∙◌, subst}
+use Rattle.std.specs.FinMap.{get, insert, remove, get-empty, get-insert, get-remove}
+use Rattle.std.proofs.lemmas.Cmp.{nat_list_cmp_total}
+use Rattle.jc_types.specs.declared.caller.Caller.{Caller}
+use Rattle.jc_types.specs.declared.config.Config.{Config}
+use Rattle.jc_model.specs.declared.event.Op.{Op}
+use Rattle.jc_model.specs.declared.event.Change.{Change}
+use Rattle.jc_model.specs.declared.event.WriteAnswer.{WriteAnswer}
+use Rattle.jc_model.specs.Cache.{Bytes, key_cmp, entry_at}
+use Rattle.jc_mutentry.specs.Done.{ProcessResult}
+use Rattle.jc_stripe.specs.declared.ticket.Reservation.{Reservation}
+use Rattle.jc_stripe.specs.Effects.{change_due}
+use Rattle.jc_stripe.specs.State.{State}
+use Rattle.jc_stripe.specs.Tickets.{JoinClaim}
+use Rattle.jc_world.specs.declared.event.Part.{Part}
+use Rattle.jc_world.specs.declared.event.Progress.{Progress}
+use Rattle.jc_world.specs.declared.event.Progress.TheVariants.{Loading, Writing, Processing, Processed, WritingEffect}
+use Rattle.jc_world.specs.declared.event.Shown.{Shown}
+use Rattle.jc_world.specs.declared.event.Shown.TheVariants as shown
+use Rattle.jc_world.specs.declared.event.WorldEvent.{WorldEvent}
+use Rattle.jc_world.specs.declared.event.WorldEvent.TheVariants as event
+use Rattle.jc_world.specs.World.{WorldState, Parts, start, part_of}
+use Rattle.jc_world.specs.Premises.{load_from, report_of}
+use Rattle.jc_world.specs.Events.{with_change, with_report, new_load, new_write, new_process, new_part, run_result, progress_after, Starts, Ends, Picks, Happens}
+use Rattle.jc_world.specs.Sound.{is_due_in, is_due, AllDue}
+use Rattle.jc_world.proofs.Entries.{split}
+use Rattle.jc_world.proofs.Holding.{is_part}
+
+-- 1. One part more, and one less.
+
+dues_insert : (config : Config) (parts : Parts) (key : Bytes) (new : Part) → AllDue config parts → is_due config new ≡ true → AllDue config (insert parts key new)
+dues_insert config parts key new all one q part e =
+    split q key (λ b. cond b (Some new) (get parts q) ≡ Some part → is_due config part ≡ true)
+    (λ same e. let is : new ≡ part = cc in ap (is_due config) (sym is) ∙ one)
+    (λ apart e. all q part e)
+    (sym (get-insert nat_list_cmp_total parts key new q) ∙ e)
+
+dues_remove : (config : Config) (parts : Parts) (key : Bytes) → AllDue config parts → AllDue config (remove parts key)
+dues_remove config parts key all q part e =
+    split q key (λ b. cond b None (get parts q) ≡ Some part → is_due config part ≡ true)
+    (λ same e. cc)
+    (λ apart e. all q part e)
+    (sym (get-remove nat_list_cmp_total parts key q) ∙ e)
+
+-- 2. A part goes on.
+
+due_change : (config : Config) (r : Reservation) (p : Progress) → is_due_in config r p ≡ true → is_due_in config r (with_change p) ≡ true
+due_change config r (Loading answer) h = h
+due_change config r (Writing is_changed report) h = h
+due_change config r Processing h = h
+due_change config r (Processed loaded process) h = h
+due_change config r (WritingEffect loaded process is_changed report) h = h
+
+due_report : (config : Config) (r : Reservation) (p : Progress) (report : WriteAnswer) → is_due_in config r p ≡ true → is_due_in config r (with_report p report) ≡ true
+due_report config r (Loading answer) report h = h
+due_report config r (Writing is_changed was) report h = h
+due_report config r Processing report h = h
+due_report config r (Processed loaded process) report h = h
+due_report config r (WritingEffect loaded process is_changed was) report h = h
+
+due_run : (config : Config) (r : Reservation) (done : ProcessResult Reservation) → is_due_in config r (progress_after (change_due config done) done) ≡ true
+due_run config r done = go (change_due config done) refl
+  where
+    go : (change : Option Change) → change_due config done ≡ change → is_due_in config r (progress_after change done) ≡ true
+    go None e = ap is_none e
+    go (Some change) e = ap is_some e
+
+-- 3. Each event.
+
+abbrev pub AllDueAt : WorldState → Type 0
+AllDueAt w = AllDue w.config w.parts
+
+due_of : (w : WorldState) (call : ℕ) (key : Bytes) (part : Part) → part_of w call key ≡ Some part → AllDueAt w → is_due w.config part ≡ true
+due_of w call key part is old = old key part (is_part (get w.parts key) call part is)
+
+dues_started : (w new : WorldState) (caller : Caller) (key : Bytes) (op : Op) (from to : State) (seen : Shown) → Starts w caller key op from to seen new → AllDueAt w → AllDueAt new
+dues_started w new caller key op from to (shown.Refused refusal) h old = subst AllDueAt (sym h.1) old
+dues_started w new caller key op from to (shown.Stepped seen) h old = subst AllDueAt (sym h.2) old
+dues_started w new caller key op from to shown.Loads h old = subst AllDueAt (sym h.2) (dues_insert w.config w.parts key (new_part new_load h.0.reservation) old refl)
+dues_started w new caller key op from to (shown.Asks change) h old = subst AllDueAt (sym h.3) (dues_insert w.config w.parts key (new_part new_write h.0.reservation) old refl)
+dues_started w new caller key op from to (shown.Processes entry) h old = subst AllDueAt (sym h.3) (dues_insert w.config w.parts key (new_part new_process h.0.reservation) old refl)
+dues_started w new caller key op from to shown.Joins h old = subst AllDueAt (sym h.2) old
+dues_started w new caller key op from to seen h old = absurd h
+
+dues_ended : (w new : WorldState) (call : ℕ) (key : Bytes) (part : Part) (from to : State) (seen : Shown) → Ends w call key part from to seen new → AllDueAt w → AllDueAt new
+dues_ended w new call key part from to (shown.Stepped seen) h old = subst AllDueAt (sym h.2) (dues_remove w.config w.parts key old)
+dues_ended w new call key part from to seen h old = absurd h
+
+dues_picks : (w new : WorldState) (call : ℕ) (key : Bytes) (join : JoinClaim) (from to : State) (seen : Shown) → Picks w call key join from to seen new → AllDueAt w → AllDueAt new
+dues_picks w new call key join from to (shown.PickedUp seen) h old = subst AllDueAt (sym h.2) old
+dues_picks w new call key join from to shown.Again h old = subst AllDueAt (sym h.1) old
+dues_picks w new call key join from to shown.Waits h old = subst AllDueAt (sym h.1) old
+dues_picks w new call key join from to seen h old = absurd h
+
+pub dues_happens : (w new : WorldState) (e : WorldEvent) (seen : Shown) → Happens w e seen new → AllDueAt w → AllDueAt new
+dues_happens w new (event.Call call session command) seen h old = subst AllDueAt (sym h.1) old
+dues_happens w new (event.Start call key) seen h old = dues_started w new h.0.caller key h.1 h.4 h.6 seen h.7 old
+dues_happens w new (event.Read call key) seen h old = subst AllDueAt (sym h.3) (dues_insert w.config w.parts key _ old refl)
+dues_happens w new (event.Say call key answer) seen h old = subst AllDueAt (sym h.3) (dues_insert w.config w.parts key _ old refl)
+dues_happens w new (event.Process call key source calls fail) seen h old =
+    let r = h.0.reservation in
+    subst AllDueAt (sym h.3) (dues_insert w.config w.parts key _ old (due_run w.config r (run_result r (load_from source (entry_at w.store key)) calls fail)))
+dues_happens w new (event.Change call key) seen h old =
+    subst AllDueAt (sym h.5) (dues_insert w.config w.parts key _ old (due_change w.config h.0.reservation h.0.progress (due_of w call key h.0 h.2 old)))
+dues_happens w new (event.Report call fault) seen h old =
+    subst AllDueAt (sym h.9) (dues_insert w.config w.parts h.1 _ old (due_report w.config h.2.reservation h.2.progress (report_of fault) (due_of w call h.1 h.2 h.6 old)))
+dues_happens w new (event.Commit call key) seen h old = dues_ended w new call key h.0 h.2 h.4 seen h.5 old
+dues_happens w new (event.Withdraw call key) seen h old = subst AllDueAt (sym h.7) (dues_remove w.config w.parts key old)
+dues_happens w new (event.Leave call) seen h old = subst AllDueAt (sym h.1) old
+dues_happens w new (event.PickUp call key) seen h old = dues_picks w new call key h.0 h.2 h.4 seen h.5 old
+dues_happens w new (event.Foreign key value) seen h old = subst AllDueAt (sym h.1) old
+
+-- nothing is reserved at the start
+pub dues_start : (config : Config) → AllDueAt (start config)
+dues_start config key part there = absurd (let e : Some part ≡ None = sym there ∙ get-empty key_cmp key in cc)

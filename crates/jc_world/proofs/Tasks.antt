@@ -1,0 +1,225 @@
+-- How a call keeps its tasks: a map by key, in which a key that is settled keeps its place.
+--     absent                  a key isn't among those before it, where all differ
+--     at_each-more, put_each_of-more
+--                             one key more, and one entry more
+--     new_at, new_put         so it goes last
+--     put_in_place            a key that is there keeps its place
+--     open_more, open_fails   a test of the open keys, at one task more, and at one that fails
+--     absent_same             a key that isn't there can't be settled
+--     counted                 a key is open exactly if the count isn't 0
+--     counted_less            a key that is settled counts no more
+use Rattle.std.proofs.Common.{◌≡◌, ◌==◌, ◌<◌, ◌+◌, ◌&&◌, ◌||◌, ℕ, zero, suc, Bool, true, false, cond, not, List, [], ◌∷◌, ◌++◌, map, filter, take, length, subst, slice_get, Option, None, Some, is_some, refl, sym, ap, ◌∙◌, arith, true≢false}
+use Rattle.std.specs.List.{list_all, list_any, IsDistinct, AllByRecursion}
+use Rattle.std.specs.Map.{keys_of, lookup, set_value}
+use Rattle.std.specs.Option.{option_flatten}
+use Rattle.std.specs.Prelude.{get_or}
+use Rattle.std.specs.Cmp.Lexicographic.{pointwise}
+use Rattle.std.proofs.lemmas.Map.Keys.{IsDistinct-head, IsDistinct-tail}
+use Rattle.std.proofs.lemmas.Map.Made.{is_some-lookup}
+use Rattle.std.proofs.lemmas.Bool.{and_parts, and_from}
+use Rattle.std.proofs.lemmas.Bool.Decides.{nat_tests}
+use Rattle.std.proofs.lemmas.List.{take_more}
+use Rattle.std.proofs.lemmas.Option.{get_or_from_slice_get, slice_get_within}
+use Rattle.indexmap.specs.IndexMap.{IndexMap, insert_entry}
+use Rattle.indexmap.proofs.CallerLemmas.{insert_entry-new}
+use Rattle.jc_model.specs.declared.event.Op.{Op}
+use Rattle.jc_model.specs.declared.event.Op.TheVariants as op
+use Rattle.jc_model.specs.Cache.{Bytes}
+use Rattle.jc_world.specs.Calls.{Task, at_each, put_each_of, op_in, is_open, open_in}
+use Rattle.jc_world.specs.OpenCalls.{open_count}
+use Rattle.jc_world.proofs.Facts.{refuted}
+use Rattle.jc_world.proofs.Underway.{same_bytes}
+
+-- 1. New keys.
+
+-- what is so of all is so at each place
+at_place : {X : Type 0} (P : X → Type 0) (xs : List X) (i : ℕ) (x : X) → AllByRecursion P xs → slice_get xs i ≡ Some x → P x
+at_place P [] i x all at = cc
+at_place P (y ∷ ys) zero x all at = let is : y ≡ x = cc in subst P is all.0
+at_place P (y ∷ ys) (suc i) x all at = at_place P ys i x all.1 at
+
+-- a key isn't among those before it
+pub absent : (keys : List Bytes) (i : ℕ) (key : Bytes) → IsDistinct (pointwise ◌==◌) keys → slice_get keys i ≡ Some key → list_any (pointwise ◌==◌ key) (take i keys) ≡ false
+absent [] zero key d at = refl
+absent [] (suc i) key d at = refl
+absent (x ∷ keys) zero key d at = refl
+absent (x ∷ keys) (suc i) key d at =
+    let no : pointwise ◌==◌ x key ≡ false = at_place (λ y. pointwise ◌==◌ x y ≡ false) keys i key (IsDistinct-head (pointwise ◌==◌) x keys d) at in
+    let apart : pointwise ◌==◌ key x ≡ false = refuted (pointwise ◌==◌ key x) (λ e. let t : true ≡ false = sym e ∙ ap (λ k. pointwise ◌==◌ k x) (same_bytes key x e) ∙ ap (pointwise ◌==◌ x) (sym (same_bytes key x e)) ∙ no in cc) in
+    ap (λ b. b || list_any (pointwise ◌==◌ key) (take i keys)) apart ∙ absent keys i key (IsDistinct-tail (pointwise ◌==◌) x keys d) at
+
+-- what stands at a place
+slice_get_here : {X : Type 0} (xs : List X) (i : ℕ) (x : X) → i < length xs → x ≡ get_or xs i x → slice_get xs i ≡ Some x
+slice_get_here [] i x lt is = absurd (not_less i lt)
+  where
+    not_less : (i : ℕ) → i < 0 → ⊥
+    not_less i lt = omega (arith, lt)
+slice_get_here (y ∷ ys) zero x lt is = ap Some (sym is)
+slice_get_here (y ∷ ys) (suc i) x lt is = slice_get_here ys i x (omega (arith, lt)) is
+
+key_at : (entries : List (Bytes × Bytes)) (i : ℕ) (key value : Bytes) → slice_get entries i ≡ Some (key, value) → slice_get (keys_of entries) i ≡ Some key
+key_at [] i key value at = cc
+key_at (e ∷ entries) zero key value at = let is : e ≡ (key, value) = cc in ap (λ (x : Bytes × Bytes). Some x.0) is
+key_at (e ∷ entries) (suc i) key value at = key_at entries i key value at
+
+pub none_from : {X : Type 0} (o : Option X) → is_some o ≡ false → o ≡ None
+none_from None e = refl
+none_from (Some x) e = absurd (true≢false e)
+
+map-push : {X Y : Type 0} (f : X → Y) (xs : List X) (x : X) → map f (xs ++ x ∷ []) ≡ map f xs ++ f x ∷ []
+map-push f [] x = refl
+map-push f (y ∷ ys) x = ap (λ zs. f y ∷ zs) (map-push f ys x)
+
+-- a key that is new goes last
+new_last : {S : Type 0} (m : IndexMap Bytes (Option Op) S) (key : Bytes) (o : Option Op) → list_any (pointwise ◌==◌ key) (keys_of m.entries) ≡ false
+    → insert_entry (pointwise ◌==◌) m.entries key o ≡ m.entries ++ (key, o) ∷ []
+new_last m key o free = insert_entry-new (pointwise ◌==◌) m key o (none_from (lookup (pointwise ◌==◌ key) m.entries) (is_some-lookup (pointwise ◌==◌ key) m.entries ∙ free))
+
+keys-at_each : (one : Op) (keys : List Bytes) → keys_of (at_each one keys) ≡ keys
+keys-at_each one [] = refl
+keys-at_each one (key ∷ keys) = ap (λ ks. key ∷ ks) (keys-at_each one keys)
+
+keys-put_each_of : (entries : List (Bytes × Bytes)) → keys_of (put_each_of entries) ≡ keys_of entries
+keys-put_each_of [] = refl
+keys-put_each_of (e ∷ entries) = ap (λ ks. e.0 ∷ ks) (keys-put_each_of entries)
+
+take-keys : (i : ℕ) (entries : List (Bytes × Bytes)) → keys_of (take i entries) ≡ take i (keys_of entries)
+take-keys zero entries = refl
+take-keys (suc i) [] = refl
+take-keys (suc i) (e ∷ entries) = ap (λ ks. e.0 ∷ ks) (take-keys i entries)
+
+-- one key more
+pub at_each-more : {S : Type 0} (m : IndexMap Bytes (Option Op) S) (one : Op) (keys : List Bytes) (i : ℕ) (key : Bytes) → IsDistinct (pointwise ◌==◌) keys → i < length keys → key ≡ get_or keys i key
+    → m.entries ≡ at_each one (take i keys) → insert_entry (pointwise ◌==◌) m.entries key (Some one) ≡ at_each one (take (i + 1) keys)
+at_each-more m one keys i key distinct lt is made =
+    let at : slice_get keys i ≡ Some key = slice_get_here keys i key lt is in
+    new_last m key (Some one) (ap (λ es. list_any (pointwise ◌==◌ key) (keys_of es)) made ∙ ap (list_any (pointwise ◌==◌ key)) (keys-at_each one (take i keys)) ∙ absent keys i key distinct at)
+    ∙ ap (λ es. es ++ (key, Some one) ∷ []) made
+    ∙ sym (ap (at_each one) (take_more keys i key lt ∙ ap (λ x. take i keys ++ x ∷ []) (sym is)) ∙ map-push (λ k. (k, Some one)) (take i keys) key)
+
+-- one entry more
+pub put_each_of-more : {S : Type 0} (m : IndexMap Bytes (Option Op) S) (entries : List (Bytes × Bytes)) (i : ℕ) (key value : Bytes) → IsDistinct (pointwise ◌==◌) (keys_of entries) → slice_get entries i ≡ Some (key, value)
+    → m.entries ≡ put_each_of (take i entries) → insert_entry (pointwise ◌==◌) m.entries key (Some (op.Put value)) ≡ put_each_of (take (i + 1) entries)
+put_each_of-more m entries i key value distinct at made =
+    let lt = slice_get_within entries i (key, value) at in
+    let is = sym (get_or_from_slice_get entries i (key, value) (key, value) at) in
+    new_last m key (Some (op.Put value))
+    (ap (λ es. list_any (pointwise ◌==◌ key) (keys_of es)) made ∙ ap (list_any (pointwise ◌==◌ key)) (keys-put_each_of (take i entries) ∙ take-keys i entries) ∙ absent (keys_of entries) i key distinct (key_at entries i key value at))
+    ∙ ap (λ es. es ++ (key, Some (op.Put value)) ∷ []) made
+    ∙ sym (ap put_each_of (take_more entries i (key, value) lt ∙ ap (λ x. take i entries ++ x ∷ []) (sym is)) ∙ map-push (λ (e : Bytes × Bytes). (e.0, Some (op.Put e.1))) (take i entries) (key, value))
+
+-- 2. A key that is settled.
+
+-- a key that is there keeps its place
+pub put_in_place : (test : Bytes) (tasks : List Task) (o : Option Op) → is_some (lookup (pointwise ◌==◌ test) tasks) ≡ true → insert_entry (pointwise ◌==◌) tasks test o ≡ set_value (pointwise ◌==◌ test) tasks o
+put_in_place key [] o there = cc
+put_in_place key (task ∷ tasks) o there =
+    elim (pointwise ◌==◌ key task.0) as (λ b. is_some (cond b (Some task.1) (lookup (pointwise ◌==◌ key) tasks)) ≡ true → cond b ((task.0, o) ∷ tasks) (task ∷ insert_entry (pointwise ◌==◌) tasks key o) ≡ cond b ((task.0, o) ∷ tasks) (task ∷ set_value (pointwise ◌==◌ key) tasks o)) [
+      | true ↦ λ there. refl
+      | false ↦ λ there. ap (λ ts. task ∷ ts) (put_in_place key tasks o there)
+    ] there
+
+-- where something is done the key is there
+pub there_at : (key : Bytes) (tasks : List Task) → is_some (op_in tasks key) ≡ true → is_some (lookup (pointwise ◌==◌ key) tasks) ≡ true
+there_at key tasks h = go (lookup (pointwise ◌==◌ key) tasks) h
+  where
+    go : (o : Option (Option Op)) → is_some (option_flatten o) ≡ true → is_some o ≡ true
+    go None h = h
+    go (Some one) h = refl
+
+-- where nothing is done nothing is settled
+pub absent_same : (key : Bytes) (tasks : List Task) → op_in tasks key ≡ None → set_value (pointwise ◌==◌ key) tasks None ≡ tasks
+absent_same key [] none = refl
+absent_same key (task ∷ tasks) none =
+    elim (pointwise ◌==◌ key task.0) as (λ b. option_flatten (cond b (Some task.1) (lookup (pointwise ◌==◌ key) tasks)) ≡ None → cond b ((task.0, None) ∷ tasks) (task ∷ set_value (pointwise ◌==◌ key) tasks None) ≡ task ∷ tasks) [
+      | true ↦ λ none. ap (λ (o : Option Op). (task.0, o) ∷ tasks) (sym none)
+      | false ↦ λ none. ap (λ ts. task ∷ ts) (absent_same key tasks none)
+    ] none
+
+-- 3. The open keys.
+
+-- one task more
+more_open : (p : Bytes → Bool) (tasks : List Task) (i : ℕ) (key : Bytes) (one : Option Op) → slice_get tasks i ≡ Some (key, one) → (is_some one ≡ true → p key ≡ true) → list_all p (open_in (take i tasks)) ≡ true
+    → list_all p (open_in (take (suc i) tasks)) ≡ true
+more_open p [] zero key one at holds before = cc
+more_open p [] (suc i) key one at holds before = cc
+more_open p (task ∷ tasks) zero key one at holds before =
+    let is : task ≡ (key, one) = cc in
+    subst (λ (t : Task). list_all p (open_in (t ∷ [])) ≡ true) (sym is) (alone (is_some one) holds)
+  where
+    alone : (b : Bool) → (b ≡ true → p key ≡ true) → list_all p (keys_of (cond b ((key, one) ∷ []) [])) ≡ true
+    alone true h = and_from (p key) true (h refl) refl
+    alone false h = refl
+more_open p (task ∷ tasks) (suc i) key one at holds before =
+    elim (is_open task) as (λ b. list_all p (keys_of (cond b (task ∷ filter is_open (take i tasks)) (filter is_open (take i tasks)))) ≡ true → list_all p (keys_of (cond b (task ∷ filter is_open (take (suc i) tasks)) (filter is_open (take (suc i) tasks)))) ≡ true) [
+      | true ↦ λ before. let parts = and_parts (p task.0) (list_all p (open_in (take i tasks))) before in and_from _ _ parts.0 (more_open p tasks i key one at holds parts.1)
+      | false ↦ λ before. more_open p tasks i key one at holds before
+    ] before
+
+pub open_more : (p : Bytes → Bool) (tasks : List Task) (i : ℕ) (key : Bytes) (one : Option Op) → slice_get tasks i ≡ Some (key, one) → (is_some one ≡ true → p key ≡ true) → list_all p (open_in (take i tasks)) ≡ true
+    → list_all p (open_in (take (i + 1) tasks)) ≡ true
+open_more p tasks i key one at holds before =
+    let next : i + 1 ≡ suc i = omega (arith) in
+    ap (λ n. list_all p (open_in (take n tasks))) next ∙ more_open p tasks i key one at holds before
+
+-- a task whose key is open, and fails
+pub open_fails : (p : Bytes → Bool) (tasks : List Task) (i : ℕ) (key : Bytes) (one : Option Op) → slice_get tasks i ≡ Some (key, one) → is_some one ≡ true → p key ≡ false → list_all p (open_in tasks) ≡ false
+open_fails p [] i key one at there fails = cc
+open_fails p (task ∷ tasks) zero key one at there fails =
+    let is : task ≡ (key, one) = cc in
+    ap (λ (t : Task). list_all p (open_in (t ∷ tasks))) is ∙ ap (λ b. list_all p (keys_of (cond b ((key, one) ∷ filter is_open tasks) (filter is_open tasks)))) there ∙ ap (λ b. b && list_all p (open_in tasks)) fails
+open_fails p (task ∷ tasks) (suc i) key one at there fails =
+    let rest = open_fails p tasks i key one at there fails in
+    elim (is_open task) as (λ b. list_all p (keys_of (cond b (task ∷ filter is_open tasks) (filter is_open tasks))) ≡ false) [
+      | true ↦ and_false (p task.0) _ rest
+      | false ↦ rest
+    ]
+  where
+    and_false : (b c : Bool) → c ≡ false → (b && c) ≡ false
+    and_false true c h = h
+    and_false false c h = refl
+
+-- 4. The count of open keys.
+
+-- a key is open exactly if the count isn't 0
+pub counted : (tasks : List Task) → list_any is_open tasks ≡ not (open_count tasks == 0)
+counted [] = refl
+counted (task ∷ tasks) =
+    elim (is_open task) as (λ b. (b || list_any is_open tasks) ≡ not (length (keys_of (cond b (task ∷ filter is_open tasks) (filter is_open tasks))) == 0)) [
+      | true ↦ sym (ap not (not_zero (length (open_in tasks))))
+      | false ↦ counted tasks
+    ]
+  where
+    not_zero : (n : ℕ) → (suc n == 0) ≡ false
+    not_zero n = grind (arith, nat_tests)
+
+-- all keys are open at first
+pub count_all : (one : Op) (keys : List Bytes) → open_count (at_each one keys) ≡ length (at_each one keys)
+count_all one [] = refl
+count_all one (key ∷ keys) = let rest = count_all one keys in omega (arith, rest)
+
+pub count_puts : (entries : List (Bytes × Bytes)) → open_count (put_each_of entries) ≡ length (put_each_of entries)
+count_puts [] = refl
+count_puts (e ∷ entries) = let rest = count_puts entries in omega (arith, rest)
+
+-- where as many were put in
+pub counted_new : (tasks made : List Task) (n : ℕ) → n ≡ length tasks → tasks ≡ made → open_count made ≡ length made → n ≡ open_count tasks
+counted_new tasks made n len is all = len ∙ ap length is ∙ sym all ∙ sym (ap open_count is)
+
+-- a key that is settled counts no more
+pub counted_less : (key : Bytes) (tasks : List Task) → is_some (op_in tasks key) ≡ true → open_count (set_value (pointwise ◌==◌ key) tasks None) + 1 ≡ open_count tasks
+counted_less key [] there = cc
+counted_less key (task ∷ tasks) there =
+    elim (pointwise ◌==◌ key task.0) as (λ b. is_some (option_flatten (cond b (Some task.1) (lookup (pointwise ◌==◌ key) tasks))) ≡ true → open_count (cond b ((task.0, None) ∷ tasks) (task ∷ set_value (pointwise ◌==◌ key) tasks None)) + 1 ≡ open_count (task ∷ tasks)) [
+      | true ↦ λ there. first (is_open task) there
+      | false ↦ λ there. behind (is_open task) (counted_less key tasks there)
+    ] there
+  where
+    first : (b : Bool) → b ≡ true → open_count tasks + 1 ≡ length (keys_of (cond b (task ∷ filter is_open tasks) (filter is_open tasks)))
+    first true h = omega (arith)
+    first false h = cc
+
+    behind : (b : Bool) → open_count (set_value (pointwise ◌==◌ key) tasks None) + 1 ≡ open_count tasks
+        → length (keys_of (cond b (task ∷ filter is_open (set_value (pointwise ◌==◌ key) tasks None)) (filter is_open (set_value (pointwise ◌==◌ key) tasks None)))) + 1 ≡ length (keys_of (cond b (task ∷ filter is_open tasks) (filter is_open tasks)))
+    behind true h = omega (arith, h)
+    behind false h = h

@@ -1,0 +1,26 @@
+use Rattle.std.proofs.Common.{is_some, ap, sym, ◌∙◌}
+use Rattle.std.specs.FinMap as map
+use Rattle.jc_world.specs.World.{waits_for_process, has_progress}
+use Rattle.jc_world.specs.Held.{parts_of}
+use Rattle.jc_outside.proofs.CallerLemmas.{get-entries, insert-entries}
+use Rattle.jc_world.proofs.held_keys.process.Goals as goal
+
+pub process-requires-clause-waits : goal.process-requires-clause-waits
+process-requires-clause-waits c = ap (has_progress waits_for_process) (c.in-Some.ensures.value ∙ get-entries c.args.held.now c.args.key.now) ∙ c.requires.waits
+
+pub unreachable-requires : goal.unreachable-requires
+unreachable-requires c = let e = ap (has_progress waits_for_process) (c.in-None.ensures.value ∙ get-entries c.args.held.now c.args.key.now) ∙ c.requires.waits in cc
+
+pub returns : goal.returns
+returns c =
+    let m = c.args.held.now in
+    let key = c.args.key.now in
+    let there = sym (ap is_some c.in-Some.ensures.value) in
+    let left = c.get_mut.follows.lender c.process.new.self in (
+      c.in-Some.one.now,
+      sym (c.in-Some.ensures.value ∙ get-entries m key),
+      c.process.ensures.answers,
+      c.process.ensures.load,
+      c.process.ensures.change,
+      insert-entries m left key c.process.new.self ((c.get_mut.follows.holds c.process.new.self).3 there) ∙ ap (map.insert (parts_of m) key) c.process.ensures.run,
+    )
