@@ -26,7 +26,7 @@ operation_single (op.ReplaceIf old value) known = refl
 operation_single (op.GetAndReplace value) known = refl
 operation_single op.Clear known = absurd known
 operation_single (op.LoadAll replace) known = absurd known
-operation_single op.Invoke known = absurd known
+operation_single op.Invoke known = refl
 
 session_known : (session : ℕ) → IsSession session → is_session session ≡ true
 session_known session known = and_from _ _ (le-leb _ _ known.0) (le-leb _ _ known.1)

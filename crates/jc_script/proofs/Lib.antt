@@ -1,9 +1,12 @@
 pub mod Pieces
 pub mod Spelling
 pub mod SpelledWords
+pub mod SpelledValues
+pub mod SpelledProcess
 pub mod SpelledLines
 pub mod Given
 pub mod ReadWords
+pub mod ReadProcess
 pub mod ReadLines
 pub mod Callable
 pub mod Fitting

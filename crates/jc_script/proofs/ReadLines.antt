@@ -1,5 +1,5 @@
 -- Lines that are read are spelled as what they ask for.
-use Rattle.std.proofs.Common.{◌≡◌, ◌∙◌, ◌==◌, ℕ, ◌≤◌, Bool, true, false, not, cond, List, [], ◌∷◌, length, Option, None, Some, Result, Ok, Err, refl, sym, ap, IfOk, IfSome}
+use Rattle.std.proofs.Common.{◌≡◌, ◌++◌, ◌∙◌, ◌==◌, ℕ, ◌≤◌, Bool, true, false, not, cond, List, [], ◌∷◌, length, Option, None, Some, Result, Ok, Err, refl, sym, ap, IfOk, IfSome}
 use Rattle.std.specs.Prelude.{decimal, codes, nat_lt, ◌&&◌}
 use Rattle.std.specs.List.{list_all, join_with_byte}
 use Rattle.std.specs.Str.{bytes_eq}
@@ -7,7 +7,7 @@ use Rattle.std.proofs.lemmas.Bool.{ltb-false, and_parts}
 use Rattle.std.proofs.lemmas.Slice.Eq.{bytes_eq-Decides}
 use Rattle.std.proofs.lemmas.List.Splits.{join_with_byte-slice_split}
 use Rattle.jc_model.specs.Cache.{Bytes}
-use Rattle.jc_world.specs.declared.event.Command.{Command}
+use Rattle.jc_script.specs.declared.line.Operation.{Operation}
 use Rattle.jc_script.specs.declared.fault.Fault.{Fault}
 use Rattle.jc_script.specs.declared.fault.Fault.TheVariants.{LineTooLong, BadByte, BadLine}
 use Rattle.jc_script.specs.declared.line.Line.{Line}
@@ -26,8 +26,10 @@ use Rattle.jc_script.specs.declared.grammar.LineKind.TheVariants as kind
 use Rattle.jc_script.specs.declared.line.Line.TheVariants.{OfCall}
 use Rattle.jc_script.specs.Printing.{value_text}
 use Rattle.jc_script.specs.Words.{◌>>=◌, words_of, number_of, caller_of, key_of, value_of, value_or_none_of, pairs_of}
-use Rattle.jc_script.specs.Lines.{form_named, line_named, flags_of, takes_words, bare_op, valued_op, value_alone_of, replace_if_of, command_of, open_of, set_of, begin_of, number_alone, lone_act, coded_act, coded_of, say_of, foreign_of, line_of, are_words, parsed, is_plain, is_comment, some_line, read_line}
+use Rattle.jc_script.specs.Lines.{form_named, line_named, flags_of, takes_words, bare_op, valued_op, value_alone_of, replace_if_of, command_of, open_of, set_of, begin_of, number_alone, lone_act, coded_act, coded_of, process_of, say_of, foreign_of, line_of, are_words, parsed, is_plain, is_comment, some_line, read_line}
 use Rattle.jc_script.specs.Spelled.{IsNumber, IsValue, IsKey, IsOperation, SaysWords, IsSpellable, LinesAreSpelled, spelling, line_words, operation_words, flag_words}
+use Rattle.jc_script.specs.ProcessWords.{without_load, has_process_shape, source_of, calls_of, source_words}
+use Rattle.jc_script.proofs.ReadProcess.{SaysSource, source_read, SaysCalls, calls_read}
 use Rattle.jc_script.proofs.Given.{ok_bind, ok_then, ok_if, ok_unless, ok_since, ok_named, ok_weaker}
 use Rattle.jc_script.proofs.ReadWords.{SaysNumber, number_read, SaysSession, session_read, SaysKey, key_read, SaysValue, value_read, SaysValueOrNone, value_or_none_read, ArePairs, pairs_read}
 
@@ -38,6 +40,7 @@ form_word (form.Bare bare.Get) = codes "get"
 form_word (form.Bare bare.Contains) = codes "contains"
 form_word (form.Bare bare.Remove) = codes "remove"
 form_word (form.Bare bare.GetRemove) = codes "getremove"
+form_word (form.Bare bare.Invoke) = codes "invoke"
 form_word (form.Valued valued.Put) = codes "put"
 form_word (form.Valued valued.GetPut) = codes "getput"
 form_word (form.Valued valued.PutIf) = codes "putif"
@@ -60,6 +63,7 @@ kind_word (kind.Coded coded.ReadFail) = codes "readfail"
 kind_word (kind.Coded coded.ApplyFail) = codes "applyfail"
 kind_word (kind.Coded coded.ApplyLie) = codes "applylie"
 kind_word kind.Say = codes "say"
+kind_word kind.Process = codes "process"
 kind_word kind.Foreign = codes "foreign"
 kind_word kind.Audit = codes "audit"
 
@@ -70,7 +74,7 @@ form_read w =
     ok_named w (codes "get") _ _ P (λ e. e) (ok_named w (codes "contains") _ _ P (λ e. e) (ok_named w (codes "put") _ _ P (λ e. e)
     (ok_named w (codes "getput") _ _ P (λ e. e) (ok_named w (codes "putif") _ _ P (λ e. e) (ok_named w (codes "remove") _ _ P (λ e. e)
     (ok_named w (codes "removeif") _ _ P (λ e. e) (ok_named w (codes "getremove") _ _ P (λ e. e) (ok_named w (codes "replace") _ _ P (λ e. e)
-    (ok_named w (codes "replaceif") _ _ P (λ e. e) (ok_named w (codes "getreplace") _ (Err BadLine) P (λ e. e) tt))))))))))
+    (ok_named w (codes "replaceif") _ _ P (λ e. e) (ok_named w (codes "getreplace") _ _ P (λ e. e) (ok_named w (codes "invoke") _ (Err BadLine) P (λ e. e) tt)))))))))))
 
 kind_read : (w : List ℕ) → IfOk (line_named w) (λ kind. w ≡ kind_word kind)
 unfolding kind_word
@@ -81,11 +85,11 @@ kind_read w =
     (ok_named w (codes "read") _ _ P (λ e. e) (ok_named w (codes "apply") _ _ P (λ e. e) (ok_named w (codes "end") _ _ P (λ e. e)
     (ok_named w (codes "drop") _ _ P (λ e. e) (ok_named w (codes "more") _ _ P (λ e. e) (ok_named w (codes "take") _ _ P (λ e. e)
     (ok_named w (codes "say") _ _ P (λ e. e) (ok_named w (codes "readfail") _ _ P (λ e. e) (ok_named w (codes "applyfail") _ _ P (λ e. e)
-    (ok_named w (codes "applylie") _ (Err BadLine) P (λ e. e) tt))))))))))))))
+    (ok_named w (codes "applylie") _ _ P (λ e. e) (ok_named w (codes "process") _ (Err BadLine) P (λ e. e) tt)))))))))))))))
 
 -- 2. Operations.
 
-record SaysCommand (form : Form) (words : List (List ℕ)) (command : Command) : Type 0 where
+record SaysCommand (form : Form) (words : List (List ℕ)) (command : Operation) : Type 0 where
   operation : IsOperation command.op
   key : IsKey command.key
   spelled : form_word form ∷ words ≡ operation_words command.op command.key
@@ -96,6 +100,7 @@ bare_says bare.Get key k = record { operation = tt; key = k; spelled = refl }
 bare_says bare.Contains key k = record { operation = tt; key = k; spelled = refl }
 bare_says bare.Remove key k = record { operation = tt; key = k; spelled = refl }
 bare_says bare.GetRemove key k = record { operation = tt; key = k; spelled = refl }
+bare_says bare.Invoke key k = record { operation = tt; key = k; spelled = refl }
 
 valued_says : (o : Valued) (key value : Bytes) → IsKey key → IsValue value → SaysCommand (form.Valued o) (key ∷ value_text value ∷ []) (record { op = valued_op o value; key = key })
 unfolding form_word
@@ -116,7 +121,7 @@ unfolding replace_if_of form_word
 replace_if_read [] = tt
 replace_if_read (k ∷ []) = tt
 replace_if_read (k ∷ v ∷ words) =
-    let P : Command → Type 0 = SaysCommand form.ReplaceIf (k ∷ v ∷ words) in
+    let P : Operation → Type 0 = SaysCommand form.ReplaceIf (k ∷ v ∷ words) in
     ok_then (key_of k) _ (SaysKey k) P (key_read k) (λ key a.
     ok_then (value_of v) _ (SaysValue v) P (value_read v) (λ old b.
     ok_then (value_alone_of words) _ (λ value. IsValue value × (words ≡ value_text value ∷ [])) P (value_alone_read words) (λ value c.
@@ -129,7 +134,7 @@ command_read (form.Bare b) (k ∷ x ∷ more) = tt
 command_read (form.Valued o) [] = tt
 command_read (form.Valued o) (k ∷ []) = tt
 command_read (form.Valued o) (k ∷ v ∷ []) =
-    let P : Command → Type 0 = SaysCommand (form.Valued o) (k ∷ v ∷ []) in
+    let P : Operation → Type 0 = SaysCommand (form.Valued o) (k ∷ v ∷ []) in
     ok_then (key_of k) _ (SaysKey k) P (key_read k) (λ key a. ok_then (value_of v) _ (SaysValue v) P (value_read v) (λ value b. rw (a.1, b.1) (valued_says o key value a.0 b.0)))
 command_read (form.Valued o) (k ∷ v ∷ x ∷ more) = tt
 command_read form.ReplaceIf words = replace_if_read words
@@ -226,6 +231,18 @@ say_read (n ∷ words) =
     let P : Line → Type 0 = SaysLine kind.Say (n ∷ words) in
     ok_then (number_of n) _ (SaysNumber n) P (number_read n) (λ call a. ok_then (pairs_of words) _ (ArePairs words) P (pairs_read words) (λ pairs b. ((a.0, b.0), rw (a.1, b.1) refl)))
 
+process_read : (words : List (List ℕ)) → IfOk (process_of words) (SaysLine kind.Process words)
+unfolding process_of kind_word
+process_read [] = tt
+process_read (n ∷ words) =
+    let P : Line → Type 0 = SaysLine kind.Process (n ∷ words) in
+    let shape = has_process_shape words in
+    ok_then (cond shape (Ok true) (Err BadLine)) _ (λ b. shape ≡ true) P (ok_if shape (Ok true) BadLine (λ b. shape ≡ true) (λ e. e)) (λ shaped e.
+    ok_then (number_of n) _ (SaysNumber n) P (number_read n) (λ call a.
+    ok_then (source_of words) _ (SaysSource words) P (source_read words) (λ source b.
+    ok_then (calls_of (without_load words)) _ (SaysCalls (without_load words)) P (calls_read (without_load words) e) (λ run c.
+    ((a.0, (b.0, c.0, c.1)), (λ i. codes "process" ∷ a.1 i ∷ (b.1 ∙ ap (λ rest. source_words source ++ rest) c.2) i))))))
+
 foreign_read : (words : List (List ℕ)) → IfOk (foreign_of words) (SaysLine kind.Foreign words)
 unfolding foreign_of kind_word
 foreign_read [] = tt
@@ -243,6 +260,7 @@ line_read kind.Begin words = begin_read words
 line_read (kind.Lone act) words = lone_read act words
 line_read (kind.Coded act) words = coded_read act words
 line_read kind.Say words = say_read words
+line_read kind.Process words = process_read words
 line_read kind.Foreign words = foreign_read words
 line_read kind.Audit [] = (tt, refl)
 line_read kind.Audit (x ∷ more) = tt

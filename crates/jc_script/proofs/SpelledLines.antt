@@ -1,17 +1,16 @@
 -- Lines that are spelled are read as what they say.
-use Rattle.std.proofs.Common.{◌≡◌, ◌∙◌, ◌==◌, ℕ, ◌+◌, ◌≤◌, Bool, true, false, not, List, [], ◌∷◌, ◌++◌, length, map, drop, Option, None, Some, Ok, Err, inl, inr, refl, sym, ap, append_assoc, append-nil, arith}
+use Rattle.std.proofs.Common.{◌≡◌, ◌∙◌, ◌==◌, ℕ, ◌+◌, ◌≤◌, Bool, true, false, not, List, [], ◌∷◌, ◌++◌, length, map, drop, Option, None, Some, Ok, Err, refl, sym, ap, append_assoc, append-nil, arith}
 use Rattle.std.specs.Prelude.{decimal, codes, ◌&&◌, nat_lt, nat_le}
 use Rattle.std.specs.List.{All, list_all, position_or_len}
-use Rattle.std.specs.Str.{bytes_eq}
-use Rattle.std.proofs.lemmas.Bool.{and_from, and_left, and_parts, cond-true, cond-false, not_from_false}
+use Rattle.std.proofs.lemmas.Bool.{and_from, and_parts, cond-true, not_from_false}
 use Rattle.std.proofs.lemmas.Grind.{common_steps}
 use Rattle.std.proofs.lemmas.List.{take_at}
 use Rattle.std.proofs.Math.Seq.{drop-append-add}
 use Rattle.std.proofs.lemmas.List.Elements.{All-head, All-tail}
-use Rattle.jc_types.specs.declared.limits.TheConstants.{KEY_MAX, VALUE_MAX}
+use Rattle.jc_types.specs.declared.limits.TheConstants.{KEY_MAX}
 use Rattle.jc_model.specs.Cache.{Bytes}
 use Rattle.jc_types.specs.declared.config.Config.{Config}
-use Rattle.jc_world.specs.declared.event.Command.{Command}
+use Rattle.jc_script.specs.declared.line.Operation.{Operation}
 use Rattle.jc_script.specs.declared.commands.Bare.{Bare}
 use Rattle.jc_script.specs.declared.commands.Bare.TheVariants as bare
 use Rattle.jc_script.specs.declared.commands.Valued.{Valued}
@@ -27,15 +26,18 @@ use Rattle.jc_script.specs.declared.fault.Fault.TheVariants.{BadKey}
 use Rattle.jc_script.specs.declared.line.Line.{Line}
 use Rattle.jc_script.specs.declared.line.Line.TheVariants.{Open, Set, Begin, OfCall, Foreign, Audit}
 use Rattle.jc_script.specs.declared.line.Act.{Act}
-use Rattle.jc_script.specs.declared.line.Act.TheVariants.{Read, ReadFail, Say, Apply, ApplyFail, ApplyLie, End, Drop, More, Take}
-use Rattle.jc_script.specs.Words.{is_letter, is_text, key_of, some_value, value_or_none_of, Pairs, equals_at, pair_onto, pairs_from, pairs_of}
+use Rattle.jc_script.specs.declared.line.Act.TheVariants.{Read, ReadFail, Say, Apply, ApplyFail, ApplyLie, End, Drop, More, Take, Process}
+use Rattle.jc_script.specs.ProcessWords.{source_words, call_text, fail_words}
+use Rattle.jc_script.specs.Words.{is_letter, is_text, key_of, Pairs, equals_at, pair_onto, pairs_from, pairs_of}
 use Rattle.jc_script.specs.Lines.{form_named, flags_of, takes_words, bare_op, valued_op, bare_of, valued_of, replace_if_of, command_of, open_of, set_of, begin_of, lone_act, lone_of, coded_act, coded_of, say_of, foreign_of, read_line}
 use Rattle.jc_script.specs.Printing.{value_text, value_or_none_text}
 use Rattle.jc_script.specs.Spelled.{IsNumber, IsSession, IsKey, IsValue, IsValueOrNone, IsPair, IsOperation, IsAct, LinesReadBack, spelling, session_text, pair_text, flag_words, operation_words}
 use Rattle.jc_script.proofs.Spelling.{number_back, caller_back, value_back}
-use Rattle.jc_script.proofs.SpelledWords.{AreWords, line_of_words, number_word, session_word, text_word, text_shown, value_word, value_or_none_word, pair_word, pair_parts}
+use Rattle.jc_script.proofs.SpelledValues.{value_or_none_back}
+use Rattle.jc_script.proofs.SpelledProcess.{process_words, process_back}
+use Rattle.jc_script.proofs.SpelledWords.{AreWords, line_of_words, number_word, session_word, text_word, value_word, value_or_none_word, pair_word, pair_parts}
 
-key_back : (key : Bytes) → IsKey key → key_of key ≡ Ok key
+pub key_back : (key : Bytes) → IsKey key → key_of key ≡ Ok key
 key_back key known = cond-true (is_text KEY_MAX key) (Ok key) (Err BadKey) known
 
 flags_back : (read write : Bool) → flags_of (flag_words read write) ≡ Ok (read, write)
@@ -49,17 +51,6 @@ flags_are_words false false = refl
 flags_are_words true false = refl
 flags_are_words false true = refl
 flags_are_words true true = refl
-
-dash_is_no_letter : (b : ℕ) → is_letter b ≡ true → (b == 45) ≡ false
-dash_is_no_letter b e = grind (arith, common_steps)
-
--- no value is printed as a dash
-no_dash : (value : Bytes) → IsValue value → bytes_eq (value_text value) (codes "-") ≡ false
-no_dash value (inl e) = rw e refl
-no_dash [] (inr t) = refl
-no_dash (b ∷ bs) (inr t) =
-    let letters = and_parts (nat_lt 0 (length (b ∷ bs)) && nat_le (length (b ∷ bs)) VALUE_MAX) (list_all is_letter (b ∷ bs)) t in
-    rw (text_shown b bs) (and_left _ _ (dash_is_no_letter b (and_parts (is_letter b) (list_all is_letter bs) letters.1).0))
 
 -- 1. Pairs.
 
@@ -114,11 +105,6 @@ set_back : (key value : Bytes) → IsKey key → IsValue value → set_of (key �
 unfolding set_of
 set_back key value k v = rw (key_back key k, value_back value v) refl
 
--- a dash is no value, and no value is printed as a dash
-value_or_none_back : (value : Option Bytes) → IsValueOrNone value → value_or_none_of (value_or_none_text value) ≡ Ok value
-value_or_none_back None known = refl
-value_or_none_back (Some value) known = cond-false _ (Ok None) _ (no_dash value known) ∙ ap some_value (value_back value known)
-
 foreign_back : (key : Bytes) (value : Option Bytes) → IsKey key → IsValueOrNone value → foreign_of (key ∷ value_or_none_text value ∷ []) ≡ Ok (Foreign key value)
 unfolding foreign_of
 foreign_back key value k v = rw (key_back key k, value_or_none_back value v) refl
@@ -150,10 +136,10 @@ operation_word (op.ReplaceIf old value) key o k = and_from _ _ (text_word _ key 
 operation_word (op.GetAndReplace value) key o k = and_from _ _ (text_word _ key k) (and_from _ _ (value_word value o) refl)
 operation_word op.Clear key o k = absurd o
 operation_word (op.LoadAll replace) key o k = absurd o
-operation_word op.Invoke key o k = absurd o
+operation_word op.Invoke key o k = and_from _ _ (text_word _ key k) refl
 
 -- the begin of a call, from what the words after the session ask for
-begin_asks : (call session : ℕ) (name : List ℕ) (words : List (List ℕ)) (form : Form) (command : Command) → IsNumber call → IsSession session → form_named name ≡ Ok form
+begin_asks : (call session : ℕ) (name : List ℕ) (words : List (List ℕ)) (form : Form) (command : Operation) → IsNumber call → IsSession session → form_named name ≡ Ok form
     → takes_words form (length words) ≡ true → command_of form words ≡ Ok command → begin_of (decimal call ∷ session_text session ∷ name ∷ words) ≡ Ok (Begin call session command)
 unfolding begin_of
 begin_asks call session name words form command n s named shaped asks =
@@ -175,7 +161,7 @@ begin_back call session (op.ReplaceIf old value) key n s o k =
 begin_back call session (op.GetAndReplace value) key n s o k = begin_asks call session (codes "getreplace") (key ∷ value_text value ∷ []) _ _ n s refl refl (valued_back valued.GetReplace key value k o)
 begin_back call session op.Clear key n s o k = absurd o
 begin_back call session (op.LoadAll replace) key n s o k = absurd o
-begin_back call session op.Invoke key n s o k = absurd o
+begin_back call session op.Invoke key n s o k = begin_asks call session (codes "invoke") (key ∷ []) _ _ n s refl refl (bare_back bare.Invoke key k)
 
 -- 4. What happens next to a call.
 
@@ -213,6 +199,9 @@ act_back call End n a short = line_of_words (codes "end") (decimal call ∷ []) 
 act_back call Drop n a short = line_of_words (codes "drop") (decimal call ∷ []) _ refl (and_from _ _ (number_word call n) refl) short (lone_back lone.Drop call n)
 act_back call More n a short = line_of_words (codes "more") (decimal call ∷ []) _ refl (and_from _ _ (number_word call n) refl) short (lone_back lone.More call n)
 act_back call Take n a short = line_of_words (codes "take") (decimal call ∷ []) _ refl (and_from _ _ (number_word call n) refl) short (lone_back lone.Take call n)
+act_back call (Process source calls fail) n a short =
+    line_of_words (codes "process") (decimal call ∷ (source_words source ++ (map call_text calls ++ fail_words fail))) _ refl (and_from _ _ (number_word call n) (process_words source calls fail a.0 a.1 a.2)) short
+    (process_back call source calls fail n a.0 a.1 a.2)
 
 pub line_back : LinesReadBack
 line_back (Open config) known =

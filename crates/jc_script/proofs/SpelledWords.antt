@@ -25,7 +25,7 @@ is_mark b = nat_le 33 b && nat_le b 126
 abbrev pub is_word : List ℕ → Bool
 is_word w = nat_lt 0 (length w) && list_all is_mark w
 
-word_marks : (w : List ℕ) → is_word w ≡ true → list_all is_mark w ≡ true
+pub word_marks : (w : List ℕ) → is_word w ≡ true → list_all is_mark w ≡ true
 word_marks w e = (and_parts (nat_lt 0 (length w)) (list_all is_mark w) e).1
 
 mark_is_plain : (b : ℕ) → is_mark b ≡ true → is_plain b ≡ true

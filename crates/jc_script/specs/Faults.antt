@@ -10,7 +10,8 @@ use Rattle.jc_types.specs.declared.refusal.Refusal.{Refusal}
 use Rattle.jc_types.specs.declared.refusal.Refusal.TheVariants as refusal
 use Rattle.jc_types.specs.declared.config.Field.TheVariants.{Stripes, Capacity, History}
 use Rattle.jc_types.specs.Limits.{check}
-use Rattle.jc_world.specs.declared.event.OpenCall.{OpenCall}
+use Rattle.jc_model.specs.Cache.{Bytes}
+use Rattle.jc_world.specs.Calls.{CallState, only_key}
 use Rattle.jc_world.specs.World.{WorldState, open_call, part_of, is_busy}
 use Rattle.jc_world.specs.Events.{is_new}
 use Rattle.jc_script.specs.LineEvents.{events_of, first_fits}
@@ -55,10 +56,15 @@ begin_fault w number session =
     if is_new w.last number then (if is_busy w session then Some CallerBusy else None) else Some NotRising
 
 -- it isn't the time for an act if the first event that it stands for doesn't fit
-abbrev pub act_fault : WorldState → ℕ → Act → Option OpenCall → Option Fault
+abbrev pub act_fault_at : WorldState → ℕ → Act → Option Bytes → Option Fault
+act_fault_at w number act None = Some NotNow
+act_fault_at w number act (Some key) =
+    if first_fits w (events_of number key (part_of w number key) act) then None else Some NotNow
+
+abbrev pub act_fault : WorldState → ℕ → Act → Option CallState → Option Fault
 act_fault w number act None = Some NoSuchCall
 act_fault w number act (Some u) =
-    if first_fits w (events_of number u.command.key (part_of w number u.command.key) act) then None else Some NotNow
+    act_fault_at w number act (only_key u)
 
 abbrev pub state_fault : Option WorldState → Line → Option Fault
 state_fault None (Open config) = config_fault (check config)

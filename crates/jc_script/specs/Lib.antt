@@ -1,4 +1,5 @@
 pub mod Words
+pub mod ProcessWords
 pub mod LineEvents
 pub mod Faults
 pub mod Lines

@@ -17,6 +17,7 @@
 --     number_alone                  one number, and no word behind it
 --     lone_act, lone_of             the act of a line with a call's number alone, and what its words ask for
 --     coded_act, coded_of           the act of a line with a call's number and a code, and what its words ask for
+--     process_of                    what the words after `process` ask for
 --     say_of, foreign_of, audit_of      what the words after `say`, `foreign` and `audit` ask for
 --     line_of                       what the words after the first ask for, by the kind of line
 --     are_words                     no two spaces stand together, and none at either end: no word is empty
@@ -32,7 +33,7 @@ use Rattle.std.specs.List.{list_all}
 use Rattle.jc_model.specs.Cache.{Bytes}
 use Rattle.jc_model.specs.declared.event.Op.{Op}
 use Rattle.jc_model.specs.declared.event.Op.TheVariants as op
-use Rattle.jc_world.specs.declared.event.Command.{Command}
+use Rattle.jc_script.specs.declared.line.Operation.{Operation}
 use Rattle.jc_world.specs.Events.{is_single, is_session}
 use Rattle.jc_script.specs.declared.fault.Fault.{Fault}
 use Rattle.jc_script.specs.declared.fault.Fault.TheVariants.{LineTooLong, BadByte, BadLine}
@@ -41,7 +42,7 @@ use Rattle.jc_script.specs.declared.fault.ReadError.TheVariants as errors
 use Rattle.jc_script.specs.declared.line.Line.{Line}
 use Rattle.jc_script.specs.declared.line.Line.TheVariants.{Open, Set, Begin, OfCall, Foreign, Audit}
 use Rattle.jc_script.specs.declared.line.Act.{Act}
-use Rattle.jc_script.specs.declared.line.Act.TheVariants.{Read, ReadFail, Say, Apply, ApplyFail, ApplyLie, End, Drop, More, Take}
+use Rattle.jc_script.specs.declared.line.Act.TheVariants.{Read, ReadFail, Say, Apply, ApplyFail, ApplyLie, End, Drop, More, Take, Process}
 use Rattle.jc_script.specs.declared.commands.Bare.{Bare}
 use Rattle.jc_script.specs.declared.commands.Bare.TheVariants as bare
 use Rattle.jc_script.specs.declared.commands.Valued.{Valued}
@@ -55,6 +56,7 @@ use Rattle.jc_script.specs.declared.grammar.Coded.TheVariants as coded
 use Rattle.jc_script.specs.declared.grammar.LineKind.{LineKind}
 use Rattle.jc_script.specs.declared.grammar.LineKind.TheVariants as line
 use Rattle.jc_script.specs.Words.{◌>>=◌, words_of, number_of, caller_of, key_of, value_of, value_or_none_of, pairs_of}
+use Rattle.jc_script.specs.ProcessWords.{without_load, has_process_shape, source_of, calls_of}
 
 abbrev pub Gives : {X : Type 0} → Result X ReadError → Result X Fault → Type 0
 Gives (Ok x) said = said ≡ Ok x
@@ -87,6 +89,7 @@ form_named word =
     if bytes_eq word (codes "replace") then Ok (form.Valued valued.Replace) else
     if bytes_eq word (codes "replaceif") then Ok form.ReplaceIf else
     if bytes_eq word (codes "getreplace") then Ok (form.Valued valued.GetReplace) else
+    if bytes_eq word (codes "invoke") then Ok (form.Bare bare.Invoke) else
     Err BadLine
 
 -- of a call that was begun
@@ -102,6 +105,7 @@ act_named word =
     if bytes_eq word (codes "readfail") then Ok (line.Coded coded.ReadFail) else
     if bytes_eq word (codes "applyfail") then Ok (line.Coded coded.ApplyFail) else
     if bytes_eq word (codes "applylie") then Ok (line.Coded coded.ApplyLie) else
+    if bytes_eq word (codes "process") then Ok line.Process else
     Err BadLine
 
 abbrev pub line_named : List ℕ → Result LineKind Fault
@@ -135,6 +139,7 @@ bare_op bare.Get = op.Get
 bare_op bare.Contains = op.ContainsKey
 bare_op bare.Remove = op.Remove
 bare_op bare.GetRemove = op.GetAndRemove
+bare_op bare.Invoke = op.Invoke
 
 abbrev pub valued_op : Valued → Bytes → Op
 valued_op valued.Put value = op.Put value
@@ -144,14 +149,14 @@ valued_op valued.RemoveIf value = op.RemoveIf value
 valued_op valued.Replace value = op.Replace value
 valued_op valued.GetReplace value = op.GetAndReplace value
 
-abbrev pub bare_of : Bare → List (List ℕ) → Result Command Fault
+abbrev pub bare_of : Bare → List (List ℕ) → Result Operation Fault
 bare_of b (k ∷ []) = do
   key ← key_of k
   Ok (record { op = bare_op b; key = key })
 bare_of b [] = Err BadLine
 bare_of b (k ∷ x ∷ more) = Err BadLine
 
-abbrev pub valued_of : Valued → List (List ℕ) → Result Command Fault
+abbrev pub valued_of : Valued → List (List ℕ) → Result Operation Fault
 valued_of o (k ∷ v ∷ []) = do
   key ← key_of k
   value ← value_of v
@@ -165,7 +170,7 @@ value_alone_of (v ∷ []) = value_of v
 value_alone_of [] = Err BadLine
 value_alone_of (v ∷ x ∷ more) = Err BadLine
 
-unfoldable pub replace_if_of : List (List ℕ) → Result Command Fault
+unfoldable pub replace_if_of : List (List ℕ) → Result Operation Fault
 replace_if_of (k ∷ v ∷ words) = do
   key ← key_of k
   old ← value_of v
@@ -174,7 +179,7 @@ replace_if_of (k ∷ v ∷ words) = do
 replace_if_of [] = Err BadLine
 replace_if_of (k ∷ []) = Err BadLine
 
-abbrev pub command_of : Form → List (List ℕ) → Result Command Fault
+abbrev pub command_of : Form → List (List ℕ) → Result Operation Fault
 command_of (form.Bare b) words = bare_of b words
 command_of (form.Valued v) words = valued_of v words
 command_of form.ReplaceIf words = replace_if_of words
@@ -202,7 +207,7 @@ set_of (k ∷ []) = Err BadLine
 set_of (k ∷ v ∷ x ∷ more) = Err BadLine
 
 -- or the fault of the command
-abbrev pub begin_with : ℕ → ℕ → Result Command Fault → Result Line Fault
+abbrev pub begin_with : ℕ → ℕ → Result Operation Fault → Result Line Fault
 begin_with number session command = command >>= λ command. Ok (Begin number session command)
 
 unfoldable pub begin_of : List (List ℕ) → Result Line Fault
@@ -255,6 +260,15 @@ say_of (n ∷ words) = do
   Ok (OfCall number (Say pairs))
 say_of [] = Err BadLine
 
+unfoldable pub process_of : List (List ℕ) → Result Line Fault
+process_of (n ∷ words) = do
+  shaped ← (if has_process_shape words then Ok true else Err BadLine)
+  number ← number_of n
+  source ← source_of words
+  run ← calls_of (without_load words)
+  Ok (OfCall number (Process source run.0 run.1))
+process_of [] = Err BadLine
+
 unfoldable pub foreign_of : List (List ℕ) → Result Line Fault
 foreign_of (k ∷ v ∷ []) = do
   key ← key_of k
@@ -275,6 +289,7 @@ line_of line.Begin words = begin_of words
 line_of (line.Lone act) words = lone_of act words
 line_of (line.Coded act) words = coded_of act words
 line_of line.Say words = say_of words
+line_of line.Process words = process_of words
 line_of line.Foreign words = foreign_of words
 line_of line.Audit words = audit_of words
 

@@ -13,12 +13,18 @@
 --     picked_line                    the answer of a load that the call had joined
 --     loads_line, write_line, delete_line, asks_text      that the loader is asked; that the writer is asked to write, and to
 --                                    delete; either of these two
+--     process_line                   that the processor is asked, on this entry
 --     joined_line, waits_line, again_line      that a call has joined, that its load isn't over, that it is to begin again
 --     dropped_line, refused_line     that a call has left; that it was refused
 --     fails_line, fails_text         a failure's code; the same, if there is one
 --     answer_line, answer_text       a value or none that a loader read or said; any answer of a loader
 --     done_name, change_name         the word for a change that was made; the same, or that for one that wasn't
 --     reported_text                  a writer's return
+--     got_line, exists_line          what a processor's `getValue` gave, and its `exists`
+--     load_verb, run_load_text       the word for a processor's loader; the line of its load, if it gave a value or none
+--     answers_text                   what a processor's calls were answered, with the line of its load before the first value
+--     ready_line, due_text           that a processor has ended and no writer is asked; the same, or what the writer is asked for
+--     processed_text, process_text   a processor's run; what is printed of it, from what the world showed
 --     shown_text                     what is printed of what the world showed, for a call and a key
 --     foreign_line                   a write or a delete of somebody else
 --     told                           what is printed of an event, from what the world showed of it
@@ -40,6 +46,8 @@ use Rattle.jc_model.specs.declared.event.Change.{Change}
 use Rattle.jc_model.specs.declared.event.Change.TheVariants.{Write, Delete}
 use Rattle.jc_model.specs.declared.event.LoadAnswer.{LoadAnswer}
 use Rattle.jc_model.specs.declared.event.LoadAnswer.TheVariants as load
+use Rattle.jc_model.specs.declared.processor.EntryAnswer.{EntryAnswer}
+use Rattle.jc_model.specs.declared.processor.EntryAnswer.TheVariants as entry
 use Rattle.jc_model.specs.declared.event.Reply.{Reply}
 use Rattle.jc_model.specs.declared.event.Reply.TheVariants as reply
 use Rattle.jc_world.specs.declared.event.WorldEvent.{WorldEvent}
@@ -50,6 +58,9 @@ use Rattle.jc_stripe.specs.declared.begun.Eviction.{Eviction}
 use Rattle.jc_world.specs.declared.event.Stepped.{Stepped}
 use Rattle.jc_world.specs.declared.event.PickedUp.{PickedUp}
 use Rattle.jc_world.specs.declared.event.Reported.{Reported}
+use Rattle.jc_world.specs.declared.process.LoadSource.{LoadSource}
+use Rattle.jc_world.specs.declared.process.LoadSource.TheVariants.{Store, Stated, Failing}
+use Rattle.jc_world.specs.declared.process.Processed.{Processed}
 use Rattle.jc_script.specs.declared.fault.Fault.{Fault}
 use Rattle.jc_script.specs.Faults.{text_of}
 
@@ -146,6 +157,9 @@ abbrev pub asks_text : ℕ → Bytes → Change → List ℕ
 asks_text call key (Write value) = write_line call key value
 asks_text call key Delete = delete_line call key
 
+unfoldable pub process_line : ℕ → Bytes → Option Bytes → List ℕ
+process_line call key entry = subject call key ++ codes " process " ++ value_or_none_text entry ++ codes "\n"
+
 unfoldable pub joined_line : ℕ → Bytes → List ℕ
 joined_line call key = subject call key ++ codes " joined\n"
 
@@ -188,11 +202,50 @@ fails_text call (Some code) = fails_line call code
 unfoldable pub reported_text : ℕ → Bytes → Reported → List ℕ
 reported_text call key seen = subject call key ++ change_name seen.change seen.is_changed ++ fails_text call seen.fault
 
+unfoldable pub got_line : ℕ → Option Bytes → List ℕ
+got_line call value = decimal call ++ codes " got " ++ value_or_none_text value ++ codes "\n"
+
+unfoldable pub exists_line : ℕ → Bool → List ℕ
+exists_line call there = decimal call ++ codes " exists " ++ flag_text there ++ codes "\n"
+
+abbrev pub load_verb : LoadSource → List ℕ
+load_verb Store = codes " reads "
+load_verb (Stated value) = codes " says "
+load_verb (Failing code) = codes " says "
+
+-- a load that fails is printed where its `getValue` is
+abbrev pub run_load_text : ℕ → Bytes → List ℕ → LoadAnswer → List ℕ
+run_load_text call key verb load.NotAsked = []
+run_load_text call key verb (load.Found value) = answer_line call key verb (Some value)
+run_load_text call key verb load.Nothing = answer_line call key verb None
+run_load_text call key verb (load.Failed code) = []
+
+-- the first `getValue` asks the loader, so its load stands before the first value
+abbrev pub answers_text : ℕ → List ℕ → List EntryAnswer → List ℕ
+answers_text call loaded [] = []
+answers_text call loaded (entry.Value value ∷ answers) = loaded ++ got_line call value ++ answers_text call [] answers
+answers_text call loaded (entry.Present there ∷ answers) = exists_line call there ++ answers_text call loaded answers
+answers_text call loaded (entry.Done ∷ answers) = answers_text call loaded answers
+answers_text call loaded (entry.Failed code ∷ answers) = fails_line call code ++ answers_text call loaded answers
+
+unfoldable pub ready_line : ℕ → Bytes → List ℕ
+ready_line call key = subject call key ++ codes " ready\n"
+
+abbrev pub due_text : ℕ → Bytes → Option Change → List ℕ
+due_text call key None = ready_line call key
+due_text call key (Some change) = asks_text call key change
+
+unfoldable pub processed_text : ℕ → Bytes → List ℕ → Processed → List ℕ
+processed_text call key verb seen =
+    answers_text call (run_load_text call key verb seen.load) seen.answers ++ fails_text call seen.fault ++ due_text call key seen.change
+
 abbrev pub shown_text : ℕ → Bytes → Shown → List ℕ
 shown_text call key shown.Begun = []
 shown_text call key (shown.Stepped seen) = stepped_text call key seen
 shown_text call key shown.Loads = loads_line call key
 shown_text call key (shown.Asks change) = asks_text call key change
+shown_text call key (shown.Processes entry) = process_line call key entry
+shown_text call key (shown.Processed seen) = []
 shown_text call key shown.Joins = joined_line call key
 shown_text call key (shown.Refused refusal) = refused_line call key refusal
 shown_text call key (shown.Reads answer) = answer_text call key (codes " reads ") answer
@@ -207,6 +260,11 @@ shown_text call key shown.Again = again_line call key
 shown_text call key shown.Written = []
 shown_text call key shown.Unfit = []
 
+-- a run is printed with the word for its loader
+abbrev pub process_text : ℕ → Bytes → LoadSource → Shown → List ℕ
+process_text call key source (shown.Processed seen) = processed_text call key (load_verb source) seen
+process_text call key source seen = shown_text call key seen
+
 -- 3. What is printed of events.
 
 unfoldable pub foreign_line : Bytes → Option Bytes → List ℕ
@@ -220,6 +278,7 @@ told about (event.Read call key) seen = shown_text call key seen
 told about (event.Say call key answer) seen = shown_text call key seen
 told about (event.Change call key) seen = shown_text call key seen
 told about (event.Report call fault) seen = shown_text call about seen
+told about (event.Process call key source calls fail) seen = process_text call key source seen
 told about (event.Commit call key) seen = shown_text call key seen
 told about (event.Withdraw call key) seen = shown_text call key seen
 told about (event.Leave call) seen = shown_text call about seen

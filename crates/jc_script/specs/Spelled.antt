@@ -11,6 +11,7 @@
 --     act_words                  what happens next to a call
 --     line_words                 the words of what a line asks for
 --     spelling                   the line itself: its words, separated by single spaces
+--     IsSource, IsEntryCall, IsCode     how a processor's loader answers; a call of a processor, and its value; a code, or none
 --     IsOperation, IsAct         an operation that has a name, and its values; an act, and its code or its pairs
 --     SaysWords                  what a line asks for consists of what words can say
 --     IsSpellable                that, and the line isn't too long
@@ -26,7 +27,12 @@ use Rattle.jc_model.specs.declared.event.Op.TheVariants as op
 use Rattle.jc_script.specs.declared.line.Line.{Line}
 use Rattle.jc_script.specs.declared.line.Line.TheVariants.{Open, Set, Begin, OfCall, Foreign, Audit}
 use Rattle.jc_script.specs.declared.line.Act.{Act}
-use Rattle.jc_script.specs.declared.line.Act.TheVariants.{Read, ReadFail, Say, Apply, ApplyFail, ApplyLie, End, Drop, More, Take}
+use Rattle.jc_script.specs.declared.line.Act.TheVariants.{Read, ReadFail, Say, Apply, ApplyFail, ApplyLie, End, Drop, More, Take, Process}
+use Rattle.jc_model.specs.declared.processor.EntryCall.{EntryCall}
+use Rattle.jc_model.specs.declared.processor.EntryCall.TheVariants as entry
+use Rattle.jc_world.specs.declared.process.LoadSource.{LoadSource}
+use Rattle.jc_world.specs.declared.process.LoadSource.TheVariants.{Store, Stated, Failing}
+use Rattle.jc_script.specs.ProcessWords.{source_words, call_text, fail_words}
 use Rattle.jc_script.specs.Words.{number_of, caller_of, key_of, value_of, is_text}
 use Rattle.jc_script.specs.Lines.{read_line}
 use Rattle.jc_script.specs.Printing.{value_text, value_or_none_text}
@@ -80,7 +86,7 @@ flag_words true false = codes "read" ∷ []
 flag_words false true = codes "write" ∷ []
 flag_words true true = codes "read" ∷ codes "write" ∷ []
 
--- no script can say an operation of a bulk call, or a processor
+-- no script can say an operation of a bulk call
 abbrev pub operation_words : Op → Bytes → List Bytes
 operation_words op.Get key = codes "get" ∷ key ∷ []
 operation_words op.ContainsKey key = codes "contains" ∷ key ∷ []
@@ -95,7 +101,7 @@ operation_words (op.ReplaceIf old value) key = codes "replaceif" ∷ key ∷ val
 operation_words (op.GetAndReplace value) key = codes "getreplace" ∷ key ∷ value_text value ∷ []
 operation_words op.Clear key = []
 operation_words (op.LoadAll replace) key = []
-operation_words op.Invoke key = []
+operation_words op.Invoke key = codes "invoke" ∷ key ∷ []
 
 abbrev pub act_words : ℕ → Act → List Bytes
 act_words call Read = codes "read" ∷ decimal call ∷ []
@@ -108,6 +114,7 @@ act_words call End = codes "end" ∷ decimal call ∷ []
 act_words call Drop = codes "drop" ∷ decimal call ∷ []
 act_words call More = codes "more" ∷ decimal call ∷ []
 act_words call Take = codes "take" ∷ decimal call ∷ []
+act_words call (Process source calls fail) = codes "process" ∷ decimal call ∷ (source_words source ++ (map call_text calls ++ fail_words fail))
 
 abbrev pub line_words : Line → List Bytes
 line_words (Open config) =
@@ -139,7 +146,22 @@ IsOperation (op.ReplaceIf old value) = IsValue old × IsValue value
 IsOperation (op.GetAndReplace value) = IsValue value
 IsOperation op.Clear = ⊥
 IsOperation (op.LoadAll replace) = ⊥
-IsOperation op.Invoke = ⊥
+IsOperation op.Invoke = Unit {0}
+
+abbrev pub IsSource : LoadSource → Type 0
+IsSource Store = Unit {0}
+IsSource (Stated value) = IsValueOrNone value
+IsSource (Failing code) = IsNumber code
+
+abbrev pub IsEntryCall : EntryCall → Type 0
+IsEntryCall entry.GetValue = Unit {0}
+IsEntryCall entry.Exists = Unit {0}
+IsEntryCall entry.Remove = Unit {0}
+IsEntryCall (entry.SetValue value) = IsValue value
+
+abbrev pub IsCode : Option ℕ → Type 0
+IsCode None = Unit {0}
+IsCode (Some code) = IsNumber code
 
 abbrev pub IsAct : Act → Type 0
 IsAct Read = Unit {0}
@@ -152,6 +174,7 @@ IsAct End = Unit {0}
 IsAct Drop = Unit {0}
 IsAct More = Unit {0}
 IsAct Take = Unit {0}
+IsAct (Process source calls fail) = IsSource source × All IsEntryCall calls × IsCode fail
 
 abbrev pub SaysWords : Line → Type 0
 SaysWords (Open config) = IsNumber config.stripes × IsNumber config.capacity × IsNumber config.history

@@ -16,7 +16,7 @@
 use Rattle.std.specs.Prelude.{◌≡◌, ◌==◌, ◌⊎◌, ℕ, ◌+◌, List, [], ◌∷◌, ◌++◌, Bool, true, IsTrue, Option, None, Some, Result, Ok, Err, codes}
 use Rattle.std.specs.List.{slice_split}
 use Rattle.jc_model.specs.Cache.{Bytes}
-use Rattle.jc_world.specs.declared.event.OpenCall.{OpenCall}
+use Rattle.jc_world.specs.Calls.{CallState, only_key}
 use Rattle.jc_world.specs.declared.event.Shown.{Shown}
 use Rattle.jc_world.specs.declared.event.WorldEvent.{WorldEvent}
 use Rattle.jc_world.specs.declared.event.WorldEvent.TheVariants as event
@@ -57,10 +57,14 @@ pub record PlaysEvents (w : WorldState) (key : Bytes) (events : List WorldEvent)
   pub new_is : new ≡ Some after
 
 -- the call's own key
-abbrev pub PlaysAct : WorldState → ℕ → Act → Option OpenCall → List ℕ → State → Type 0
+abbrev pub PlaysActAt : WorldState → ℕ → Act → Option Bytes → List ℕ → State → Type 0
+PlaysActAt w number act None text new = ⊥
+PlaysActAt w number act (Some key) text new = PlaysEvents w key (events_of number key (part_of w number key) act) text new
+
+abbrev pub PlaysAct : WorldState → ℕ → Act → Option CallState → List ℕ → State → Type 0
 PlaysAct w number act None text new = ⊥
 PlaysAct w number act (Some u) text new =
-    PlaysEvents w u.command.key (events_of number u.command.key (part_of w number u.command.key) act) text new
+    PlaysActAt w number act (only_key u) text new
 
 -- an audit always says legal, and never names a key while write-through is on and the premises have held
 pub record Audited (w : WorldState) (text : List ℕ) : Type 0 where

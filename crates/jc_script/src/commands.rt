@@ -1,13 +1,13 @@
 //! Operations as words: their names, and what stands after a name.
 ghost use Rattle.std.specs.Prelude.{◌≡◌, map, length};
-ghost use Rattle.jc_script.specs.Lines.{with_value, form_named, takes_words, bare_op, valued_op, bare_of, valued_of, value_alone_of, replace_if_of, command_of, begin_with};
+ghost use Rattle.jc_script.specs.Lines.{with_value, form_named, takes_words, bare_op, valued_op, bare_of, valued_of};
+ghost use Rattle.jc_script.specs.Lines.{value_alone_of, replace_if_of, command_of, begin_with};
 
 use crate::fault::Fault;
-use crate::line::Line;
+use crate::line::{Line, Operation};
 use crate::words::{is, key, value};
 use jc_model::Op;
 use jc_types::Value;
-use jc_world::event::Command;
 
 /// An operation with no value.
 #[derive(Clone, Copy)]
@@ -16,6 +16,7 @@ pub enum Bare {
     Contains,
     Remove,
     GetRemove,
+    Invoke,
 }
 
 /// An operation with one value.
@@ -75,6 +76,9 @@ pub fn read_form(word: &[u8]) -> Result<Form, Fault>
     if is(word, "getreplace") {
         return Ok(Form::Valued(Valued::GetReplace));
     }
+    if is(word, "invoke") {
+        return Ok(Form::Bare(Bare::Invoke));
+    }
     Err(Fault::BadLine)
 }
 
@@ -97,6 +101,7 @@ fn op_bare(bare: Bare) -> Op
         Bare::Contains => Op::ContainsKey,
         Bare::Remove => Op::Remove,
         Bare::GetRemove => Op::GetAndRemove,
+        Bare::Invoke => Op::Invoke,
     }
 }
 
@@ -127,7 +132,7 @@ fn begin_bare(
         [k] => {
             let key = key(k)?;
             let op = op_bare(bare);
-            *line = Line::Begin(call, session, Command { op, key });
+            *line = Line::Begin(call, session, Operation { op, key });
             Ok(())
         }
         _ => Err(Fault::BadLine),
@@ -148,7 +153,7 @@ fn begin_valued(
         [k, v] => {
             let key = key(k)?;
             let op = op_valued(valued, value(v)?);
-            *line = Line::Begin(call, session, Command { op, key });
+            *line = Line::Begin(call, session, Operation { op, key });
             Ok(())
         }
         _ => Err(Fault::BadLine),
@@ -175,7 +180,7 @@ fn begin_replace_if(call: u32, session: u32, words: &[&[u8]], line: &mut Line) -
             let old = value(v)?;
             let new = value_alone(rest)?;
             let op = Op::ReplaceIf { old, new };
-            *line = Line::Begin(call, session, Command { op, key });
+            *line = Line::Begin(call, session, Operation { op, key });
             Ok(())
         }
         _ => Err(Fault::BadLine),

@@ -1,11 +1,14 @@
 //! The kinds of line, and what each asks for.
 ghost use Rattle.std.specs.Prelude.{◌≡◌, map, length, IfOk};
 ghost use Rattle.std.specs.List.{list_all};
-ghost use Rattle.jc_script.specs.Lines.{Gives, with_value, with_line, act_named, line_named, flags_of, open_of, set_of, begin_of, number_alone, lone_act, lone_of, coded_act, coded_of, say_of, foreign_of, audit_of, line_of, are_words, parsed, is_plain, is_comment, read_line};
+ghost use Rattle.jc_script.specs.Lines.{Gives, with_value, with_line, act_named, line_named, flags_of, open_of, set_of};
+ghost use Rattle.jc_script.specs.Lines.{begin_of, number_alone, lone_act, lone_of, coded_act, coded_of, process_of, say_of};
+ghost use Rattle.jc_script.specs.Lines.{foreign_of, audit_of, line_of, are_words, parsed, is_plain, is_comment, read_line};
 
 use crate::commands::{begin_command, has_shape, read_form};
 use crate::fault::{Fault, ReadError};
 use crate::line::{Act, Line};
+use crate::process_words::{has_process_shape, read_calls, read_source, without_load};
 use crate::words::{caller, is, key, number, pairs, split, value, value_or_none};
 use jc_types::Config;
 use std::alloc::Global;
@@ -38,6 +41,7 @@ pub enum LineKind {
     Lone(Lone),
     Coded(Coded),
     Say,
+    Process,
     Foreign,
     Audit,
 }
@@ -74,6 +78,9 @@ fn read_act(word: &[u8]) -> Result<LineKind, Fault>
     }
     if is(word, "applylie") {
         return Ok(LineKind::Coded(Coded::ApplyLie));
+    }
+    if is(word, "process") {
+        return Ok(LineKind::Process);
     }
     Err(Fault::BadLine)
 }
@@ -256,6 +263,26 @@ fn say(alloc: Global, words: &[&[u8]], line: &mut Line) -> Result<(), ReadError>
     }
 }
 
+#[tactic(auto, unfolding(crate::specs::Lines::process_of))]
+#[inline(never)]
+fn process(alloc: Global, words: &[&[u8]], line: &mut Line) -> Result<(), ReadError>
+    ensures { Gives (with_value line.new result) (process_of (map (λ w. w.now) words.now)) }
+{
+    match words {
+        [n, rest @ ..] => {
+            if !has_process_shape(rest) {
+                return Err(ReadError::Fault(Fault::BadLine));
+            }
+            let n = number(n)?;
+            let load = read_source(rest)?;
+            let (calls, fail) = read_calls(alloc, without_load(rest))?;
+            *line = Line::OfCall(n, Act::Process { load, calls, fail });
+            Ok(())
+        }
+        _ => Err(ReadError::Fault(Fault::BadLine)),
+    }
+}
+
 #[tactic(auto, unfolding(crate::specs::Lines::foreign_of))]
 #[inline(never)]
 fn foreign(words: &[&[u8]], line: &mut Line) -> Result<(), Fault>
@@ -298,6 +325,7 @@ fn line_after(
         LineKind::Lone(lone) => Ok(lone_line(lone, words, line)?),
         LineKind::Coded(coded) => Ok(coded_line(coded, words, line)?),
         LineKind::Say => say(alloc, words, line),
+        LineKind::Process => process(alloc, words, line),
         LineKind::Foreign => Ok(foreign(words, line)?),
         LineKind::Audit => Ok(audit(words, line)?),
     }

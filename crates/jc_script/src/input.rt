@@ -1,5 +1,6 @@
 //! All that a reader gives, and all that a writer takes.
-ghost use Rattle.std.specs.Prelude.{◌≡◌, ◌<◌, ◌≤◌, ◌↔◌, ℕ, take, drop, length, List, IfOk, IfErr, IsErr, OnOk, OnErr, IfSome, true, false};
+ghost use Rattle.std.specs.Prelude.{◌≡◌, ◌<◌, ◌≤◌, ◌↔◌, ℕ, take, drop, length, List, IfOk, IfErr, IsErr, OnOk, OnErr};
+ghost use Rattle.std.specs.Prelude.{IfSome, true, false};
 ghost use Rattle.std.specs.Io.KnownBytes.{Appends, Consumes, IsAtEnd};
 ghost use Rattle.jc_script.specs.Running.{ReadsAll};
 

@@ -1,5 +1,6 @@
 //! Laws of the script's language: what is spelled reads back.
-ghost use Rattle.jc_script.specs.Spelled.{NumbersReadBack, CallersReadBack, KeysReadBack, ValuesReadBack, LinesReadBack, LinesAreSpelled};
+ghost use Rattle.jc_script.specs.Spelled.{NumbersReadBack, CallersReadBack, KeysReadBack, ValuesReadBack, LinesReadBack};
+ghost use Rattle.jc_script.specs.Spelled.{LinesAreSpelled};
 
 /// A number, a session, a key and a value are read as what they are spelled as.
 pub fn words_read_back()

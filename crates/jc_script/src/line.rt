@@ -1,7 +1,17 @@
 //! What the lines of a script ask for.
 use crate::pairs::Pairs;
+use jc_model::Op;
 use jc_types::{Config, Key, Value};
-use jc_world::event::Command;
+use jc_world::process::{EntryCalls, LoadSource};
+
+/// One operation on one key.
+#[derive(Clone, Copy, Debug, PartialEq, Eq)]
+pub struct Operation {
+    /// The operation.
+    pub op: Op,
+    /// The key.
+    pub key: Key,
+}
 
 /// What happens next to a call.
 #[derive(Drop)]
@@ -26,6 +36,15 @@ pub enum Act {
     More,
     /// The call asks for the answer of the load that it has joined.
     Take,
+    /// The entry processor runs.
+    Process {
+        /// How its loader answers if it is asked.
+        load: LoadSource,
+        /// The calls that it makes on its entry.
+        calls: EntryCalls,
+        /// The code with which it fails, if it does.
+        fail: Option<u32>,
+    },
 }
 
 /// What a line asks for.
@@ -36,7 +55,7 @@ pub enum Line {
     /// An entry of the store, before anything happens.
     Set(Key, Value),
     /// A call with this number, by this session.
-    Begin(u32, u32, Command),
+    Begin(u32, u32, Operation),
     /// What happens next to the call with this number.
     OfCall(u32, Act),
     /// Somebody else writes the store, or deletes in it.

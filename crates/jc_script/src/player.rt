@@ -2,23 +2,26 @@
 ghost use Rattle.std.specs.Prelude.{◌≡◌, ◌++◌, ◌∷◌, List, ℕ, [], Some, None, true, OnOk, IfOk, MatchOption};
 ghost use Rattle.jc_types.specs.Limits.{check};
 ghost use Rattle.jc_world.specs.declared.event.WorldEvent.TheVariants as event;
-ghost use Rattle.jc_world.specs.World.{start};
+ghost use Rattle.jc_world.specs.Calls.{CallState, only_key};
+ghost use Rattle.jc_world.specs.World.{start, open_call};
 ghost use Rattle.jc_world.specs.Events.{fits, AllFit};
 ghost use Rattle.jc_script.specs.declared.line.Line.TheVariants as lines;
 ghost use Rattle.jc_script.specs.Lines.{is_callable};
 ghost use Rattle.jc_script.specs.Faults.{config_fault, begin_fault};
-ghost use Rattle.jc_script.specs.LineEvents.{begin_events, drop_events, events_of, first_fits};
+ghost use Rattle.jc_script.specs.LineEvents.{single, begin_events, drop_events, events_of, first_fits};
 ghost use Rattle.jc_script.specs.Transcript.{state_of, PlaysEvents, Audited, PlaysLine, Prints, fault_of};
 
 use crate::fault::{Fault, ReadError};
 use crate::grammar::read;
-use crate::line::{Act, Line};
+use crate::line::{Act, Line, Operation};
 use crate::print_audit::put_audit;
 use crate::print_shown::put_texts;
 use crate::printing::put;
-use jc_model::{LoadAnswer, Op};
+use jc_model::{EntryCall, LoadAnswer, Op};
 use jc_types::{Config, Key, Refusal, Value};
-use jc_world::event::{Command, Part, Shown, WorldEvent};
+use jc_world::command::Command;
+use jc_world::event::{Part, Shown, WorldEvent};
+use jc_world::process::{EntryCalls, LoadSource};
 use jc_world::world::World;
 use std::alloc::{AllocError, Global};
 
@@ -125,14 +128,14 @@ fn play_line_on(
             world.set(key, value)?;
             Ok(None)
         }
-        Line::Begin(number, session, command) => {
+        Line::Begin(number, session, operation) => {
             if let Some(fault) = fault_of_begin(world, *number, *session) {
                 return Ok(Some(fault));
             }
-            begin(world, *number, *session, command, buffers, out)?;
+            begin(world, *number, *session, operation, buffers, out)?;
             Ok(None)
         }
-        Line::OfCall(number, act) => act_on(world, *number, act, buffers, out),
+        Line::OfCall(number, act) => act_on(alloc, world, *number, act, buffers, out),
         Line::Foreign(key, value) => {
             foreign(world, key, value, buffers, out)?;
             Ok(None)
@@ -203,16 +206,16 @@ fn begin(
     world: &mut World,
     number: u32,
     session: u32,
-    command: &Command,
+    operation: &Operation,
     buffers: &mut LineBuffers,
     out: &mut Vec<u8>,
 ) -> Result<(), AllocError>
-    requires { fits world.old.world (event.Call number session command.now) ≡ true }
-    ensures { OnOk result ((text : List ℕ) × PlaysEvents world.old.world command.now.key (begin_events number session command.now) text (Some world.new.world) × (out.new.items ≡ out.old.items ++ text)) }
+    requires { fits world.old.world (event.Call number session (single operation.now)) ≡ true }
+    ensures { OnOk result ((text : List ℕ) × PlaysEvents world.old.world operation.now.key (begin_events number session operation.now) text (Some world.new.world) × (out.new.items ≡ out.old.items ++ text)) }
 {
-    put_begun(&mut buffers.events, number as u64, session, command)?;
+    put_begun(&mut buffers.events, number as u64, session, operation)?;
     world.lets_calls_start();
-    buffers.play(world, &command.key, out)?;
+    buffers.play(world, &operation.key, out)?;
     Ok(())
 }
 
@@ -220,19 +223,19 @@ fn put_begun(
     events: &mut Vec<WorldEvent>,
     call: u64,
     session: u32,
-    command: &Command,
+    operation: &Operation,
 ) -> Result<(), AllocError>
-    ensures { OnOk result (events.new.items ≡ begin_events call session command.now) }
+    ensures { OnOk result (events.new.items ≡ begin_events call session operation.now) }
 {
     let _types: Option<(Op, Value, LoadAnswer)> = None;
+    let Operation { op, key } = *operation;
     events.clear();
     events.try_reserve(2)?;
     events.push_reserved(WorldEvent::Call {
         call,
         session,
-        command: *command,
+        command: Command::Single { op, key },
     });
-    let key = command.key;
     events.push_reserved(WorldEvent::Start { call, key });
     Ok(())
 }
@@ -262,6 +265,7 @@ fn first_fits(world: &World, events: &[WorldEvent]) -> bool
 
 #[inline(never)]
 fn act_on(
+    alloc: Global,
     world: &mut World,
     number: u32,
     act: &Act,
@@ -273,18 +277,34 @@ fn act_on(
     let call = number as u64;
     match world.open_call(call) {
         None => Ok(Some(Fault::NoSuchCall)),
-        Some(open_call) => {
-            let key = open_call.command.key;
-            let part = world.part(call, &key);
-            put_events(&mut buffers.events, call, &key, &part, act)?;
-            if !first_fits(world, &buffers.events) {
-                return Ok(Some(Fault::NotNow));
-            }
-            world.lets_calls_continue();
-            buffers.play(world, &key, out)?;
-            Ok(None)
-        }
+        Some(open_call) => match open_call.only_key().copied() {
+            Some(key) => act_at(alloc, world, call, &key, act, buffers, out),
+            None => Ok(Some(Fault::NotNow)),
+        },
     }
+}
+
+/// The same, at the key of a call under way.
+fn act_at(
+    alloc: Global,
+    world: &mut World,
+    call: u64,
+    key: &Key,
+    act: &Act,
+    buffers: &mut LineBuffers,
+    out: &mut Vec<u8>,
+) -> Result<Option<Fault>, AllocError>
+    requires { (u : CallState) × (open_call world.old.world call ≡ Some u) × (only_key u ≡ Some key.now) }
+    ensures { IfOk result (λ r. PlaysLine (Some world.old.world) (lines.OfCall call act.now) r out.old.items out.new.items (Some world.new.world)) }
+{
+    let part = world.part(call, key);
+    put_events(alloc, &mut buffers.events, call, key, &part, act)?;
+    if !first_fits(world, &buffers.events) {
+        return Ok(Some(Fault::NotNow));
+    }
+    world.lets_calls_continue();
+    buffers.play(world, key, out)?;
+    Ok(None)
 }
 
 fn put_dropped(
@@ -303,7 +323,31 @@ fn put_dropped(
     Ok(())
 }
 
+fn put_process(
+    alloc: Global,
+    events: &mut Vec<WorldEvent>,
+    call: u64,
+    key: Key,
+    load: &LoadSource,
+    calls: &EntryCalls,
+    fail: Option<u32>,
+) -> Result<(), AllocError>
+    ensures { OnOk result (events.new.items ≡ events.old.items ++ event.Process call key load.now calls.now fail ∷ []) }
+{
+    let _types: Option<(Command, EntryCall, Op, Value, LoadAnswer)> = None;
+    let calls = calls.copy(alloc)?;
+    events.push(WorldEvent::Process {
+        call,
+        key,
+        load: *load,
+        calls,
+        fail,
+    })?;
+    Ok(())
+}
+
 fn put_events(
+    alloc: Global,
     events: &mut Vec<WorldEvent>,
     call: u64,
     key: &Key,
@@ -343,6 +387,9 @@ fn put_events(
         Act::Drop => put_dropped(events, call, key, part)?,
         Act::More => events.push_reserved(WorldEvent::Start { call, key }),
         Act::Take => events.push_reserved(WorldEvent::PickUp { call, key }),
+        Act::Process { load, calls, fail } => put_process(
+            alloc, events, call, key, load, calls, *fail,
+        )?,
     }
     Ok(())
 }

@@ -1,7 +1,8 @@
 //! An audit, as lines.
 ghost use Rattle.std.specs.Prelude.{◌≡◌, ◌++◌, OnOk, decimal, codes, List, ℕ};
 ghost use Rattle.std.specs.List.{flat_map};
-ghost use Rattle.jc_script.specs.Printing.{entry_text, entries_line, key_text, differs_line, coherence_text, legal_name, history_line, audit_text};
+ghost use Rattle.jc_script.specs.Printing.{entry_text, entries_line, key_text, differs_line, coherence_text, legal_name};
+ghost use Rattle.jc_script.specs.Printing.{history_line, audit_text};
 
 use crate::printing::{put, put_key, put_number, put_value};
 use jc_types::{Key, Value};

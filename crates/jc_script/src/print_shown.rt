@@ -1,25 +1,19 @@
 //! What a world shows of events, as lines.
-ghost use Rattle.std.specs.Prelude.{◌≡◌, ◌++◌, ◌-◌, OnOk, decimal, codes, List, ℕ};
-ghost use Rattle.jc_types.specs.Refusals.{refusal_name};
-ghost use Rattle.jc_script.specs.Printing.{subject, cause_name, evict_line, victim_text, evicted_text, outcome_text, stepped_text, picked_line, loads_line, write_line, delete_line, asks_text, joined_line, waits_line, again_line, dropped_line, refused_line, fails_line, answer_line, answer_text, done_name, change_name, fails_text, reported_text, shown_text, foreign_line, told, texts};
+ghost use Rattle.std.specs.Prelude.{◌≡◌, ◌++◌, OnOk};
+ghost use Rattle.jc_script.specs.Printing.{process_text, cause_name, evict_line, victim_text, evicted_text, outcome_text};
+ghost use Rattle.jc_script.specs.Printing.{stepped_text, picked_line, loads_line, joined_line, waits_line, again_line};
+ghost use Rattle.jc_script.specs.Printing.{dropped_line, refused_line, answer_text, done_name, change_name, reported_text};
+ghost use Rattle.jc_script.specs.Printing.{shown_text, foreign_line, told, texts};
 
-use crate::printing::{
-    put, put_key, put_number, put_place, put_reply, put_value, put_value_or_none,
-};
+use crate::print_lines::{put_answer_line, put_asks, put_fails, put_fault_code, put_subject};
+use crate::print_process::{put_process, put_processed, verb};
+use crate::printing::{put, put_key, put_number, put_place, put_reply, put_value_or_none};
 use jc_model::{Cause, Change, LoadAnswer, Reply};
 use jc_stripe::Eviction;
 use jc_types::{Key, Refusal, Value};
 use jc_world::event::{PickedUp, Reported, Shown, Stepped, WorldEvent};
+use jc_world::process::{LoadSource, Processed};
 use std::alloc::AllocError;
-
-#[tactic(auto, unfolding(crate::specs::Printing::subject))]
-fn put_subject(out: &mut Vec<u8>, call: u64, key: &Key) -> Result<(), AllocError>
-    ensures { OnOk result (out.new.items ≡ out.old.items ++ subject call key.now) }
-{
-    put_number(out, call)?;
-    put(out, " ")?;
-    put_key(out, key)
-}
 
 fn name_of(cause: Cause) -> &'static str
     ensures { result.now ≡ cause_name cause }
@@ -121,33 +115,6 @@ fn put_loads(out: &mut Vec<u8>, call: u64, key: &Key) -> Result<(), AllocError>
     put(out, " load\n")
 }
 
-#[tactic(auto, unfolding(crate::specs::Printing::write_line))]
-fn put_write(out: &mut Vec<u8>, call: u64, key: &Key, value: &Value) -> Result<(), AllocError>
-    ensures { OnOk result (out.new.items ≡ out.old.items ++ write_line call key.now value.now) }
-{
-    put_subject(out, call, key)?;
-    put(out, " write ")?;
-    put_value(out, value)?;
-    put(out, "\n")
-}
-
-#[tactic(auto, unfolding(crate::specs::Printing::delete_line))]
-fn put_delete(out: &mut Vec<u8>, call: u64, key: &Key) -> Result<(), AllocError>
-    ensures { OnOk result (out.new.items ≡ out.old.items ++ delete_line call key.now) }
-{
-    put_subject(out, call, key)?;
-    put(out, " delete\n")
-}
-
-fn put_asks(out: &mut Vec<u8>, call: u64, key: &Key, change: &Change) -> Result<(), AllocError>
-    ensures { OnOk result (out.new.items ≡ out.old.items ++ asks_text call key.now change.now) }
-{
-    match change {
-        Change::Write(value) => put_write(out, call, key, value),
-        Change::Delete => put_delete(out, call, key),
-    }
-}
-
 #[tactic(auto, unfolding(crate::specs::Printing::joined_line))]
 fn put_joined(out: &mut Vec<u8>, call: u64, key: &Key) -> Result<(), AllocError>
     ensures { OnOk result (out.new.items ≡ out.old.items ++ joined_line call key.now) }
@@ -190,32 +157,6 @@ fn put_refused(out: &mut Vec<u8>, call: u64, key: &Key, refusal: &Refusal) -> Re
     put(out, "\n")
 }
 
-#[tactic(auto, unfolding(crate::specs::Printing::fails_line))]
-fn put_fails(out: &mut Vec<u8>, call: u64, code: u32) -> Result<(), AllocError>
-    ensures { OnOk result (out.new.items ≡ out.old.items ++ fails_line call code) }
-{
-    put_number(out, call)?;
-    put(out, " fails ")?;
-    put_number(out, code as u64)?;
-    put(out, "\n")
-}
-
-#[tactic(auto, unfolding(crate::specs::Printing::answer_line))]
-fn put_answer_line(
-    out: &mut Vec<u8>,
-    call: u64,
-    key: &Key,
-    verb: &str,
-    value: &Option<Value>,
-) -> Result<(), AllocError>
-    ensures { OnOk result (out.new.items ≡ out.old.items ++ answer_line call key.now verb.now value.now) }
-{
-    put_subject(out, call, key)?;
-    put(out, verb)?;
-    put_value_or_none(out, value)?;
-    put(out, "\n")
-}
-
 fn put_answer(
     out: &mut Vec<u8>,
     call: u64,
@@ -248,15 +189,6 @@ fn changed(change: &Change, is_changed: bool) -> &'static str
     if is_changed { done(change) } else { " left\n" }
 }
 
-fn put_fault_code(out: &mut Vec<u8>, call: u64, fault: Option<u32>) -> Result<(), AllocError>
-    ensures { OnOk result (out.new.items ≡ out.old.items ++ fails_text call fault) }
-{
-    match fault {
-        None => Ok(()),
-        Some(code) => put_fails(out, call, code),
-    }
-}
-
 #[tactic(auto, unfolding(crate::specs::Printing::reported_text))]
 fn put_reported(out: &mut Vec<u8>, call: u64, key: &Key, seen: &Reported) -> Result<(), AllocError>
     ensures { OnOk result (out.new.items ≡ out.old.items ++ reported_text call key.now seen.now) }
@@ -264,6 +196,22 @@ fn put_reported(out: &mut Vec<u8>, call: u64, key: &Key, seen: &Reported) -> Res
     put_subject(out, call, key)?;
     put(out, changed(&seen.change, seen.is_changed))?;
     put_fault_code(out, call, seen.fault)
+}
+
+/// What was shown of a processor's run.
+fn put_process_shown(
+    out: &mut Vec<u8>,
+    call: u64,
+    key: &Key,
+    source: &LoadSource,
+    seen: &Shown,
+) -> Result<(), AllocError>
+    ensures { OnOk result (out.new.items ≡ out.old.items ++ process_text call key.now source.now seen.now) }
+{
+    match seen {
+        Shown::Processed(seen) => put_processed(out, call, key, verb(source), seen),
+        _ => put_shown(out, call, key, seen),
+    }
 }
 
 /// What was shown of an event of a call at a key.
@@ -275,6 +223,8 @@ fn put_shown(out: &mut Vec<u8>, call: u64, key: &Key, seen: &Shown) -> Result<()
         Shown::Stepped(seen) => put_stepped(out, call, key, seen),
         Shown::Loads => put_loads(out, call, key),
         Shown::Asks(change) => put_asks(out, call, key, change),
+        Shown::Processes(entry) => put_process(out, call, key, entry),
+        Shown::Processed(_) => Ok(()),
         Shown::Joins => put_joined(out, call, key),
         Shown::Refused(refusal) => put_refused(out, call, key, refusal),
         Shown::Reads(answer) => put_answer(out, call, key, " reads ", answer),
@@ -317,6 +267,12 @@ fn put_told(
         WorldEvent::Say { call, key, .. } => put_shown(out, *call, key, seen),
         WorldEvent::Change { call, key } => put_shown(out, *call, key, seen),
         WorldEvent::Report { call, .. } => put_shown(out, *call, about, seen),
+        WorldEvent::Process {
+            call,
+            key,
+            load,
+            ..
+        } => put_process_shown(out, *call, key, load, seen),
         WorldEvent::Commit { call, key } => put_shown(out, *call, key, seen),
         WorldEvent::Withdraw { call, key } => put_shown(out, *call, key, seen),
         WorldEvent::Leave { call } => put_shown(out, *call, about, seen),

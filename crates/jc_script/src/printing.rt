@@ -1,7 +1,8 @@
 //! What is printed, as bytes at the end of what stands already.
 ghost use Rattle.std.specs.Prelude.{◌≡◌, ◌++◌, OnOk, decimal, codes, List, ℕ};
 ghost use Rattle.jc_types.specs.Refusals.{refusal_name};
-ghost use Rattle.jc_script.specs.Printing.{value_text, value_or_none_text, coded_text, refusal_text, flag_text, reply_text, place_text, fault_line};
+ghost use Rattle.jc_script.specs.Printing.{value_text, value_or_none_text, coded_text, refusal_text, flag_text, reply_text};
+ghost use Rattle.jc_script.specs.Printing.{place_text, fault_line};
 
 use crate::fault::{Fault, text};
 use itoa::Buffer;
@@ -76,7 +77,8 @@ fn put_refusal(out: &mut Vec<u8>, refusal: &Refusal) -> Result<(), AllocError>
     }
 }
 
-fn put_flag(out: &mut Vec<u8>, flag: bool) -> Result<(), AllocError>
+/// A yes or no.
+pub fn put_flag(out: &mut Vec<u8>, flag: bool) -> Result<(), AllocError>
     ensures { OnOk result (out.new.items ≡ out.old.items ++ flag_text flag) }
 {
     if flag {

@@ -1,5 +1,6 @@
 //! A script's run, from the bytes that are read to the bytes that are written.
-ghost use Rattle.std.specs.Prelude.{◌≡◌, ◌≢◌, ◌↔◌, true, false, ◌<◌, ◌≤◌, ◌∷◌, ◌==◌, [], None, length, position, IfOk, IfErr, IfSome, MatchOption};
+ghost use Rattle.std.specs.Prelude.{◌≡◌, ◌≢◌, ◌↔◌, true, false, ◌<◌, ◌≤◌, ◌∷◌, ◌==◌, [], None, length, position, IfOk};
+ghost use Rattle.std.specs.Prelude.{IfErr, IfSome, MatchOption};
 ghost use Rattle.jc_script.specs.Transcript.{pieces_of, IsTranscript};
 ghost use Rattle.jc_script.specs.Running.{Ran, Broke};
 

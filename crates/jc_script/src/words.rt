@@ -3,7 +3,8 @@ ghost use Rattle.std.specs.Prelude.{◌≡◌, ◌≤◌, ◌<◌, OnOk, IfSome,
 ghost use Rattle.std.specs.Str.{bytes_eq};
 ghost use Rattle.std.specs.List.{list_all};
 ghost use Rattle.jc_types.specs.declared.limits.TheConstants.{VALUE_MAX};
-ghost use Rattle.jc_script.specs.Words.{words_of, is_letter, is_text, digits_from, number_of, caller_of, key_of, value_of, value_or_none_of, equals_at, key_part, value_part, pair_onto, pairs_of};
+ghost use Rattle.jc_script.specs.Words.{words_of, is_letter, is_text, digits_from, number_of, caller_of, key_of, value_of};
+ghost use Rattle.jc_script.specs.Words.{value_or_none_of, equals_at, key_part, value_part, pair_onto, pairs_of};
 ghost use Rattle.jc_script.specs.Lines.{Gives, with_value};
 
 use crate::fault::{Fault, ReadError};

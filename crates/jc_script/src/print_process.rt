@@ -1,0 +1,140 @@
+//! What is printed of an entry processor.
+ghost use Rattle.std.specs.Prelude.{◌≡◌, ◌++◌, OnOk};
+ghost use Rattle.jc_script.specs.Printing.{process_line, got_line, exists_line, load_verb, run_load_text, answers_text};
+ghost use Rattle.jc_script.specs.Printing.{ready_line, due_text, processed_text};
+
+use crate::print_lines::{put_answer_line, put_asks, put_fails, put_fault_code, put_subject};
+use crate::printing::{put, put_flag, put_number, put_value_or_none};
+use jc_model::{Change, EntryAnswer, LoadAnswer};
+use jc_types::{Key, Value};
+use jc_world::process::{LoadSource, Processed};
+use std::alloc::AllocError;
+
+/// The key is reserved, and the processor is asked, about this entry.
+#[tactic(auto, unfolding(crate::specs::Printing::process_line))]
+pub fn put_process(
+    out: &mut Vec<u8>,
+    call: u64,
+    key: &Key,
+    entry: &Option<Value>,
+) -> Result<(), AllocError>
+    ensures { OnOk result (out.new.items ≡ out.old.items ++ process_line call key.now entry.now) }
+{
+    put_subject(out, call, key)?;
+    put(out, " process ")?;
+    put_value_or_none(out, entry)?;
+    put(out, "\n")
+}
+
+#[tactic(auto, unfolding(crate::specs::Printing::got_line))]
+fn put_got(out: &mut Vec<u8>, call: u64, value: &Option<Value>) -> Result<(), AllocError>
+    ensures { OnOk result (out.new.items ≡ out.old.items ++ got_line call value.now) }
+{
+    put_number(out, call)?;
+    put(out, " got ")?;
+    put_value_or_none(out, value)?;
+    put(out, "\n")
+}
+
+#[tactic(auto, unfolding(crate::specs::Printing::exists_line))]
+fn put_exists(out: &mut Vec<u8>, call: u64, there: bool) -> Result<(), AllocError>
+    ensures { OnOk result (out.new.items ≡ out.old.items ++ exists_line call there) }
+{
+    put_number(out, call)?;
+    put(out, " exists ")?;
+    put_flag(out, there)?;
+    put(out, "\n")
+}
+
+/// How a line begins that says what such a loader answered.
+pub fn verb(source: &LoadSource) -> &'static str
+    ensures { result.now ≡ load_verb source.now }
+{
+    match source {
+        LoadSource::Store => " reads ",
+        LoadSource::Stated(_) => " says ",
+        LoadSource::Failing(_) => " says ",
+    }
+}
+
+/// The load of a processor, where it gave a value or none.
+fn put_run_load(
+    out: &mut Vec<u8>,
+    call: u64,
+    key: &Key,
+    verb: &str,
+    load: &LoadAnswer,
+) -> Result<(), AllocError>
+    ensures { OnOk result (out.new.items ≡ out.old.items ++ run_load_text call key.now verb.now load.now) }
+{
+    match load {
+        LoadAnswer::NotAsked | LoadAnswer::Failed(_) => Ok(()),
+        LoadAnswer::Found(value) => put_answer_line(out, call, key, verb, &Some(*value)),
+        LoadAnswer::Nothing => put_answer_line(out, call, key, verb, &None),
+    }
+}
+
+/// What a processor's calls were answered, with its load before the first value.
+fn put_answers(
+    out: &mut Vec<u8>,
+    call: u64,
+    key: &Key,
+    verb: &str,
+    load: &LoadAnswer,
+    answers: &[EntryAnswer],
+) -> Result<(), AllocError>
+    ensures { OnOk result (out.new.items ≡ out.old.items ++ answers_text call (run_load_text call key.now verb.now load.now) answers.now) }
+{
+    let mut loaded = *load;
+    for answer in answers {
+        match answer {
+            EntryAnswer::Value(value) => {
+                put_run_load(out, call, key, verb, &loaded)?;
+                loaded = LoadAnswer::NotAsked;
+                put_got(out, call, value)?;
+            }
+            EntryAnswer::Present(there) => put_exists(out, call, *there)?,
+            EntryAnswer::Done => {}
+            EntryAnswer::Failed(code) => put_fails(out, call, *code)?,
+        }
+    }
+    Ok(())
+}
+
+#[tactic(auto, unfolding(crate::specs::Printing::ready_line))]
+fn put_ready(out: &mut Vec<u8>, call: u64, key: &Key) -> Result<(), AllocError>
+    ensures { OnOk result (out.new.items ≡ out.old.items ++ ready_line call key.now) }
+{
+    put_subject(out, call, key)?;
+    put(out, " ready\n")
+}
+
+fn put_due(
+    out: &mut Vec<u8>,
+    call: u64,
+    key: &Key,
+    change: &Option<Change>,
+) -> Result<(), AllocError>
+    ensures { OnOk result (out.new.items ≡ out.old.items ++ due_text call key.now change.now) }
+{
+    match change {
+        None => put_ready(out, call, key),
+        Some(change) => put_asks(out, call, key, change),
+    }
+}
+
+/// What a processor did: what its calls were answered, its fault, and what the writer is asked for.
+#[tactic(auto, unfolding(crate::specs::Printing::processed_text))]
+pub fn put_processed(
+    out: &mut Vec<u8>,
+    call: u64,
+    key: &Key,
+    verb: &str,
+    seen: &Processed,
+) -> Result<(), AllocError>
+    ensures { OnOk result (out.new.items ≡ out.old.items ++ processed_text call key.now verb.now seen.now) }
+{
+    put_answers(out, call, key, verb, &seen.load, seen.answers.as_slice())?;
+    put_fault_code(out, call, seen.fault)?;
+    put_due(out, call, key, &seen.change)
+}

@@ -1,0 +1,147 @@
+//! The words of a `process` line behind the call's number: how the loader answers, the processor's calls, and a code.
+ghost use Rattle.std.specs.Prelude.{◌≡◌, ◌&&◌, ◌||◌, drop, map, not};
+ghost use Rattle.jc_script.specs.Lines.{Gives, with_value};
+ghost use Rattle.jc_script.specs.ProcessWords.{begins_with, is_load, is_call, is_fail, are_calls, without_load};
+ghost use Rattle.jc_script.specs.ProcessWords.{has_process_shape, source_of, call_of, with_word, calls_of};
+
+use crate::fault::{Fault, ReadError};
+use crate::words::{is, number, value, value_or_none};
+use jc_model::EntryCall;
+use jc_types::Value;
+use jc_world::process::{EntryCalls, LoadSource};
+use std::alloc::Global;
+
+/// Whether a word begins with this text.
+fn begins_with(text: &str, word: &[u8]) -> bool
+    ensures { result ≡ begins_with text.now word.now }
+{
+    let text = text.as_bytes();
+    text.len() <= word.len() && &word[..text.len()] == text
+}
+
+fn is_load(word: &[u8]) -> bool
+    ensures { result ≡ is_load word.now }
+{
+    begins_with("loadfail=", word) || begins_with("loadsay=", word)
+}
+
+fn is_call(word: &[u8]) -> bool
+    ensures { result ≡ is_call word.now }
+{
+    is(word, "get") || is(word, "exists") || is(word, "remove") || begins_with("set=", word)
+}
+
+fn is_fail(word: &[u8]) -> bool
+    ensures { result ≡ is_fail word.now }
+{
+    begins_with("fail=", word)
+}
+
+/// Whether a call or a failure may stand here: the failure hasn't come yet.
+fn may_follow(ended: bool, word: &[u8]) -> bool
+    ensures { result ≡ (not ended && (is_call word.now || is_fail word.now)) }
+{
+    !ended && (is_call(word) || is_fail(word))
+}
+
+/// Whether there is no word but calls, and a failure at the end.
+fn are_calls(words: &[&[u8]]) -> bool
+    ensures { result ≡ are_calls (map (λ w. w.now) words.now) }
+{
+    let mut ended = false;
+    for word in words {
+        if !may_follow(ended, word) {
+            return false;
+        }
+        ended = is_fail(word);
+    }
+    true
+}
+
+/// The words behind the one for the loader, if there is one.
+pub fn without_load<'a, 'b>(words: &'a [&'b [u8]]) -> &'a [&'b [u8]]
+    ensures { map (λ w. w.now) result.now ≡ without_load (map (λ w. w.now) words.now) }
+{
+    match words {
+        [first, rest @ ..] => { if is_load(first) { rest } else { words } }
+        _ => words,
+    }
+}
+
+/// Whether the words have the shape of those behind a call's number.
+pub fn has_process_shape(words: &[&[u8]]) -> bool
+    ensures { result ≡ has_process_shape (map (λ w. w.now) words.now) }
+{
+    are_calls(without_load(words))
+}
+
+/// How the loader answers.
+pub fn read_source(words: &[&[u8]]) -> Result<LoadSource, Fault>
+    ensures { result ≡ source_of (map (λ w. w.now) words.now) }
+{
+    match words {
+        [first, ..] => {
+            if begins_with("loadfail=", first) {
+                return Ok(LoadSource::Failing(number(behind(9, first))?));
+            }
+            if begins_with("loadsay=", first) {
+                return Ok(LoadSource::Stated(value_or_none(behind(8, first))?));
+            }
+            Ok(LoadSource::Store)
+        }
+        _ => Ok(LoadSource::Store),
+    }
+}
+
+/// What stands behind so many bytes of a word.
+fn behind(count: usize, word: &[u8]) -> &[u8]
+    ensures { result.now ≡ drop count word.now }
+{
+    if word.len() < count {
+        &[]
+    } else {
+        &word[count..]
+    }
+}
+
+/// A call on the entry.
+fn read_call(word: &[u8]) -> Result<EntryCall, Fault>
+    ensures { result ≡ call_of word.now }
+{
+    if is(word, "get") {
+        return Ok(EntryCall::GetValue);
+    }
+    if is(word, "exists") {
+        return Ok(EntryCall::Exists);
+    }
+    if is(word, "remove") {
+        return Ok(EntryCall::Remove);
+    }
+    Ok(EntryCall::SetValue(value(behind(4, word))?))
+}
+
+/// One word more: a code, or a call.
+fn add_word(calls: &mut EntryCalls, fail: &mut Option<u32>, word: &[u8]) -> Result<(), ReadError>
+    ensures { Gives (with_value (calls.new, fail.new) result) (with_word calls.old fail.old word.now) }
+{
+    let _types: Option<Value> = None;
+    if is_fail(word) {
+        *fail = Some(number(behind(5, word))?);
+        return Ok(());
+    }
+    let call = read_call(word)?;
+    calls.push(call)?;
+    Ok(())
+}
+
+/// The calls of the processor, and its code.
+pub fn read_calls(alloc: Global, words: &[&[u8]]) -> Result<(EntryCalls, Option<u32>), ReadError>
+    ensures { Gives result (calls_of (map (λ w. w.now) words.now)) }
+{
+    let mut calls = EntryCalls::new(alloc);
+    let mut fail = None;
+    for word in words {
+        add_word(&mut calls, &mut fail, word)?;
+    }
+    Ok((calls, fail))
+}
