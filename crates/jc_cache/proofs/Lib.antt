@@ -1,6 +1,9 @@
+pub mod CallerLemmas
 pub mod Asking
 pub mod Others
+pub mod Processing
 pub mod SessionAfter
 pub mod Stripes
 pub mod WholeCalls
 pub mod Unasked
+pub mod Answered

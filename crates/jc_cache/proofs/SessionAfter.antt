@@ -1,6 +1,7 @@
 -- What a call leaves of its session.
 --     after_first    after a first phase that ends the call: the counts are other ones
 --     after_both     after a first phase that reserves, an outside call, and a last phase
+--     after_calls    two outside calls, one after the other, change the hands alone
 use Rattle.std.proofs.Common.{◌≡◌, ◌-◌, sym, ap, ◌∙◌}
 use Rattle.jc_session.specs.Counting.{one_more, counts_ended}
 use Rattle.jc_session.specs.declared.counts.Counts.{Counts}
@@ -24,3 +25,6 @@ module _ {I J : Type 0} {D : I → Type 0} {E : J → Type 0} where
       ∙ ap (λ (s : Session I J D E). record s { counts = record old.counts { own = one_more old.counts.own } }) rest
       ∙ ap (λ (s : Session I J D E). record s { counts = record old.counts { own = one_more old.counts.own }; hands = asked.hands }) first
       ∙ sym (ap (λ (s : Session I J D E). record old { counts = record old.counts { own = one_more old.counts.own }; hands = s.hands }) last)
+
+  pub after_calls : (old mid new : Session I J D E) → mid ≡ record old { hands = mid.hands } → new ≡ record mid { hands = new.hands } → new ≡ record old { hands = new.hands }
+  after_calls old mid new first second = second ∙ ap (λ (s : Session I J D E). record s { hands = new.hands }) first

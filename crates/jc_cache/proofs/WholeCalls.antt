@@ -1,9 +1,11 @@
 -- What the phases of a call leave of its stripe, as one call.
 --     writes_through    the writer is asked only with write-through on
+--     wanted_is         and then for the change that the writer table asks for
 --     done_step         a call that is done at once is one step
 --     loaded_step       a first phase that reserves for the loader, and its commit
 --     written_step      a first phase that reserves for the writer, and its commit
-use Rattle.std.proofs.Common.{◌≡◌, ◌+◌, ℕ, [], Bool, true, false, cond, Option, None, refl, sym, ap, ◌∙◌, subst}
+--     processed_step    a first phase that reserves for the processor, and its commit
+use Rattle.std.proofs.Common.{◌≡◌, ◌+◌, ℕ, [], Bool, true, false, cond, Option, None, Some, refl, sym, ap, ◌∙◌, subst}
 use Rattle.jc_types.specs.declared.caller.Caller.{Caller}
 use Rattle.jc_types.specs.declared.config.Config.{Config}
 use Rattle.jc_model.specs.declared.event.Change.{Change}
@@ -16,11 +18,11 @@ use Rattle.jc_model.specs.Cache.{Bytes, entry_at}
 use Rattle.jc_model.specs.Table.{loader_ask, write_ask, is_invoke}
 use Rattle.jc_model.specs.Group.{nothing_said}
 use Rattle.jc_stripe.specs.declared.begun.StepDone.{StepDone}
-use Rattle.jc_stripe.specs.declared.begun.Begun.TheVariants.{Done, Load, Write}
+use Rattle.jc_stripe.specs.declared.begun.Begun.TheVariants.{Done, Load, Write, Process}
 use Rattle.jc_stripe.specs.declared.ticket.First.{First}
 use Rattle.jc_stripe.specs.declared.ticket.First.TheVariants.{Nobody, Loader, Writer, Processor}
 use Rattle.jc_stripe.specs.State.{State}
-use Rattle.jc_stripe.specs.Tickets.{Ticket, asks_writer}
+use Rattle.jc_stripe.specs.Tickets.{Ticket, ProcessClaim, asks_writer, asks_processor, change_asked}
 use Rattle.jc_stripe.specs.Refusals.{first_asked, first_by, is_wanted, reserves}
 use Rattle.jc_stripe.specs.Phases.{Steps, Begins, Commits}
 use Rattle.jc_stripe.specs.Reached.{IsReached}
@@ -50,11 +52,41 @@ asks_through false seen wanted Never false change first h asks = absurd (differs
 pub writes_through : (config : Config) (op : Op) (entry : Option Bytes) (first : First) → first_asked config op entry ≡ first → asks_writer first ≡ true → config.write_through ≡ true
 writes_through config op entry first h asks = asks_through (is_invoke op) entry (is_wanted (loader_ask config.read_through op entry)) (loader_ask config.read_through op entry) config.write_through (write_ask op entry NotAsked) first h asks
 
+wanted_by : (invokes : Bool) (seen : Option Bytes) (wanted : Bool) (ask : LoaderAsk) (change : Option Change) (first : First) → cond invokes (Processor seen wanted) (first_by ask change) ≡ first
+    → asks_writer first ≡ true → change ≡ change_asked first
+wanted_by true seen wanted ask change first h asks = absurd (unasked (ap asks_writer h ∙ asks))
+  where
+    unasked : false ≡ true → ⊥
+    unasked h = cc
+wanted_by false seen wanted Always change first h asks = absurd (unasked (ap asks_writer h ∙ asks))
+  where
+    unasked : false ≡ true → ⊥
+    unasked h = cc
+wanted_by false seen wanted IfWanted change first h asks = absurd (unasked (ap asks_writer h ∙ asks))
+  where
+    unasked : false ≡ true → ⊥
+    unasked h = cc
+wanted_by false seen wanted Never (Some change) first h asks = ap change_asked h
+wanted_by false seen wanted Never None first h asks = absurd (unasked (ap asks_writer h ∙ asks))
+  where
+    unasked : false ≡ true → ⊥
+    unasked h = cc
+
+pub wanted_is : (config : Config) (op : Op) (entry : Option Bytes) (first : First) → first_asked config op entry ≡ first → asks_writer first ≡ true
+    → cond config.write_through (write_ask op entry NotAsked) None ≡ change_asked first
+wanted_is config op entry first h asks = wanted_by (is_invoke op) entry (is_wanted (loader_ask config.read_through op entry)) (loader_ask config.read_through op entry) (cond config.write_through (write_ask op entry NotAsked) None) first h asks
+
 writer_reserves : (first : First) → asks_writer first ≡ true → reserves first ≡ true
 writer_reserves Nobody h = cc
 writer_reserves Loader h = refl
 writer_reserves (Writer change) h = refl
 writer_reserves (Processor seen loads) h = refl
+
+processor_reserves : (first : First) → asks_processor first ≡ true → reserves first ≡ true
+processor_reserves Nobody h = cc
+processor_reserves Loader h = refl
+processor_reserves (Writer change) h = refl
+processor_reserves (Processor seen loads) h = refl
 
 -- the number after the call, by whom it asked first
 next_is : (a : State) (key : Bytes) (op : Op) (first : First) (b : Bool) → first_asked a.config op (entry_at a.cache key) ≡ first → reserves first ≡ b → next_after a key op ≡ cond b (a.next + 1) a.next
@@ -75,3 +107,8 @@ pub written_step : WholeCall → (a m c : State) (caller : Caller) (key : Bytes)
     → Begins a caller key op (Write ticket) m → Commits m ticket.reservation out done c → OneStep a caller key op out done.reply c
 written_step law a m c caller key op ticket out done reached begins commits =
     one_step a c caller key op out done (a.next + 1) (next_is a key op ticket.reservation.first true begins.1 (writer_reserves ticket.reservation.first begins.2)) (law.writes a m c caller key op ticket out done reached begins commits)
+
+pub processed_step : WholeCall → (a m c : State) (caller : Caller) (key : Bytes) (op : Op) (ticket : ProcessClaim) (out : Out) (done : StepDone) → IsReached a
+    → Begins a caller key op (Process ticket) m → Commits m ticket.reservation out done c → OneStep a caller key op out done.reply c
+processed_step law a m c caller key op ticket out done reached begins commits =
+    one_step a c caller key op out done (a.next + 1) (next_is a key op ticket.reservation.first true begins.1 (processor_reserves ticket.reservation.first begins.2)) (law.processes a m c caller key op ticket out done reached begins commits)

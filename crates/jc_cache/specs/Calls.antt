@@ -2,21 +2,24 @@
 --     Called      a session's next call, whole, which ended so: the key's stripe appends one step, or the call is refused; what the step
 --                 says of the loader and the writer, they answered; every other stripe, and what other sessions need, stays
 --     Returns     a session's next call, whole, and what it returns by how it ended
+--     Invoked     a session's next call, whole, which runs a processor on its key
 --     value_in, flag_in, unit_in    what a call returns that replies with a value, with yes or no, or with nothing: a fault is an error
 use Rattle.std.specs.Prelude.{◌≡◌, ℕ, List, Bool, false, Option, None, Result, Ok, Err}
 use Rattle.jc_types.specs.declared.caller.Caller.{Caller}
 use Rattle.jc_types.specs.declared.refusal.Refusal.{Refusal}
 use Rattle.jc_model.specs.declared.event.Op.{Op}
+use Rattle.jc_model.specs.declared.event.Op.TheVariants.{Invoke}
 use Rattle.jc_model.specs.declared.event.Out.{Out}
 use Rattle.jc_model.specs.declared.event.Reply.{Reply}
 use Rattle.jc_model.specs.declared.event.Reply.TheVariants as reply
 use Rattle.jc_model.specs.Cache.{Bytes}
 use Rattle.jc_outside.specs.Calling.{LoadRelation, WriteRelation}
+use Rattle.jc_mutentry.specs.Running.{ProcessRelation}
 use Rattle.jc_stripe.specs.State.{State}
 use Rattle.jc_session.specs.Boxed.{boxed}
 use Rattle.jc_session.specs.Counting.{one_more}
 use Rattle.jc_session.specs.declared.session.Session.{Session}
-use Rattle.jc_cache.specs.Whole.{Ends, AsksLoader, AsksWriter, change_wanted, own_after}
+use Rattle.jc_cache.specs.Whole.{Ends, AsksLoader, AsksWriter, RunsProcessor, change_wanted, own_after}
 use Rattle.jc_cache.specs.Caches.{CacheState, IsAt}
 use Rattle.jc_cache.specs.Sessions.{LeavesSessions}
 
@@ -33,7 +36,7 @@ pub record Called
   pub at : IsAt key cache cache' before after
   pub ends : Ends before caller key op out ended after
   pub loader : AsksLoader (boxed loads) (boxed load_state) session.hands.outside.loader key out.load session'.hands.outside.loader
-  pub writer : AsksWriter (boxed writes) (boxed write_state) session.hands.outside.writer key (change_wanted before key op) out.write session'.hands.outside.writer
+  pub writer : AsksWriter (boxed writes) (boxed write_state) session.hands.outside.writer key (change_wanted before key op out.process) out.write session'.hands.outside.writer
   pub left : session' ≡ record session { caller = caller; counts = record session.counts { own = own_after session.counts.own ended }; hands = session'.hands }
   pub sessions : LeavesSessions session cache cache'
 
@@ -41,6 +44,16 @@ abbrev pub Returns : {I J T : Type 0} {D : I → Type 0} {E : J → Type 0} → 
     → CacheState → Session I J D E → Bytes → Op → (Result Reply Refusal → T) → T → CacheState → Session I J D E → Type 0
 Returns loads load_state writes write_state old session key op answer_in result new session' =
     (ended : Result Reply Refusal) × Called loads load_state writes write_state old session key op ended new session' × (result ≡ answer_in ended)
+
+pub record Invoked
+    {I J P : Type 0} {D : I → Type 0} {E : J → Type 0}
+    (loads : LoadRelation ((i : I) × D i)) (load_state : (i : I) × D i → List ℕ)
+    (writes : WriteRelation ((j : J) × E j)) (write_state : (j : J) × E j → List ℕ)
+    (processes : ProcessRelation P) (process_state : P → List ℕ)
+    (cache : CacheState) (session : Session I J D E) (key : Bytes) (args : List Bytes) (processor : P) (ended : Result Reply Refusal)
+    (cache' : CacheState) (session' : Session I J D E) (processor' : P) : Type 0 where
+  pub call : Called loads load_state writes write_state cache session key Invoke ended cache' session'
+  pub run : RunsProcessor processes process_state processor call.before key args call.out processor'
 
 abbrev pub value_in : Result Reply Refusal → Result (Option Bytes) Refusal
 value_in (Err refusal) = Err refusal

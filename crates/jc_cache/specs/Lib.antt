@@ -5,4 +5,7 @@ pub mod Sessions
 pub mod Calls
 pub mod CacheInside
 pub mod Outstanding
+pub mod Processed
+pub mod OutstandingAll
+pub mod OutstandingInside
 pub mod Begun

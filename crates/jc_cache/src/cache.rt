@@ -1,15 +1,18 @@
 //! A cache of plainly owned stripes, its sessions, and a whole call.
-ghost use Rattle.std.specs.Prelude.{◌≡◌, ◌⊎◌, ◌+◌, ◌<◌, ◌≤◌, false, Ok, Err, Some, None, IfOk, IfErr, is_some, slice_get, vec_len, vec_capacity};
+ghost use Rattle.std.specs.Prelude.{◌≡◌, ◌⊎◌, ◌+◌, ◌<◌, ◌≤◌, false, Ok, Err, Some, None, IfOk, IfErr, is_some, slice_get};
+ghost use Rattle.std.specs.Prelude.{vec_len, vec_capacity};
 ghost use Rattle.jc_types.specs.Limits.{check};
 ghost use Rattle.jc_types.specs.declared.refusal.Refusal.TheVariants.{OutOfMemory};
 ghost use Rattle.jc_types.specs.declared.limits.TheConstants.{SESSIONS_MAX};
 ghost use Rattle.jc_model.specs.Table.{is_invoke};
 ghost use Rattle.jc_stripe.specs.State.{State};
 ghost use Rattle.jc_stripe.specs.Keys.{Looks};
-ghost use Rattle.jc_cache.specs.Caches.{AreNewUpTo, IsIdleCache, session_refusal};
+ghost use Rattle.jc_cache.specs.Caches.{AreNewUpTo, EachStripe, IsIdleCache, session_refusal};
+ghost use Rattle.jc_cache.specs.CacheInside.{IsPlaced};
 ghost use Rattle.jc_cache.specs.Sessions.{IsOf, MayCall, LeavesSessions};
 ghost use Rattle.jc_cache.specs.Calls.{Called};
 
+mod invoking;
 mod phase_calls;
 
 use crate::engine::call;
@@ -111,6 +114,14 @@ impl Cache {
             }),
             None => Ok(self.give_out(loader, writer)),
         }
+    }
+
+    /// The shape of the cache. Each of its stripes is of this shape, and its number is its place.
+    pub fn config(&self) -> &Config
+        ensures config { result.now ≡ self.now.config }
+        ensures placed { EachStripe (IsPlaced self.now.config) self.now.stripes }
+    {
+        &self.config
     }
 
     /// One of the stripes, to look at: its history, and what it caches. They are numbered from 0.

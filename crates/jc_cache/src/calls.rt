@@ -1,7 +1,8 @@
 //! The calls on one key, each whole (JSR 107, `javax.cache.Cache`).
 //!
-//! A call is the session's next one. It is one step of the key's stripe, which is appended to the stripe's history; if it is refused,
-//! nothing is done and nothing appended. A loader's or writer's failure is the step's reply, and leaves the entry as it was.
+//! A call is the session's next one. It is one step of the key's stripe, which is appended to the stripe's history; if it is
+//! refused, nothing is done and nothing appended. A loader's or writer's failure is the step's reply, and leaves the entry as
+//! it was.
 ghost use Rattle.std.specs.Prelude.{◌≡◌};
 ghost use Rattle.jc_model.specs.declared.event.Op.TheVariants as op;
 ghost use Rattle.jc_cache.specs.Sessions.{MayCall};
@@ -60,8 +61,8 @@ impl Cache {
         unit_of(self.call(rt, session, key, &Op::Put(*value)))
     }
 
-    /// Gives the key a value, and returns the one before, or none (`getAndPut`). With write-through on, the value is written first. It
-    /// never loads.
+    /// Gives the key a value, and returns the one before, or none (`getAndPut`). With write-through on, the value is written
+    /// first. It never loads.
     pub fn get_and_put<R: Wait>(
         &mut self,
         rt: &R,
@@ -77,8 +78,8 @@ impl Cache {
         value_of(self.call(rt, session, key, &Op::GetAndPut(*value)))
     }
 
-    /// Gives the key a value if it has no entry, and says whether it did (`putIfAbsent`). With write-through on, the value is written
-    /// first, if it is to be given.
+    /// Gives the key a value if it has no entry, and says whether it did (`putIfAbsent`). With write-through on, the value is
+    /// written first, if it is to be given.
     pub fn put_if_absent<R: Wait>(
         &mut self,
         rt: &R,
@@ -94,8 +95,8 @@ impl Cache {
         flag_of(self.call(rt, session, key, &Op::PutIfAbsent(*value)))
     }
 
-    /// Removes the key's entry, and says whether there was one (`remove`). With write-through on, the key is deleted in the store first,
-    /// whether it has an entry or not.
+    /// Removes the key's entry, and says whether there was one (`remove`). With write-through on, the key is deleted in the
+    /// store first, whether it has an entry or not.
     pub fn remove<R: Wait>(
         &mut self,
         rt: &R,
@@ -110,8 +111,8 @@ impl Cache {
         flag_of(self.call(rt, session, key, &Op::Remove))
     }
 
-    /// Removes the key's entry if it has this value, and says whether it did (`remove(key, oldValue)`). With write-through on, the key is
-    /// deleted in the store first, if the entry is to be removed.
+    /// Removes the key's entry if it has this value, and says whether it did (`remove(key, oldValue)`). With write-through on,
+    /// the key is deleted in the store first, if the entry is to be removed.
     pub fn remove_if<R: Wait>(
         &mut self,
         rt: &R,
@@ -127,8 +128,8 @@ impl Cache {
         flag_of(self.call(rt, session, key, &Op::RemoveIf(*old)))
     }
 
-    /// Removes the key's entry, and returns its value, or none (`getAndRemove`). With write-through on, the key is deleted in the store
-    /// first, whether it has an entry or not.
+    /// Removes the key's entry, and returns its value, or none (`getAndRemove`). With write-through on, the key is deleted in
+    /// the store first, whether it has an entry or not.
     pub fn get_and_remove<R: Wait>(
         &mut self,
         rt: &R,
@@ -143,8 +144,8 @@ impl Cache {
         value_of(self.call(rt, session, key, &Op::GetAndRemove))
     }
 
-    /// Gives the key a value if it has an entry, and says whether it did (`replace(key, value)`). With write-through on, the value is
-    /// written first, if it is to be given.
+    /// Gives the key a value if it has an entry, and says whether it did (`replace(key, value)`). With write-through on, the
+    /// value is written first, if it is to be given.
     pub fn replace<R: Wait>(
         &mut self,
         rt: &R,
@@ -186,8 +187,8 @@ impl Cache {
         ))
     }
 
-    /// Gives the key a value if it has an entry, and returns the one before, or none (`getAndReplace`). With write-through on, the value
-    /// is written first, if it is to be given.
+    /// Gives the key a value if it has an entry, and returns the one before, or none (`getAndReplace`). With write-through on,
+    /// the value is written first, if it is to be given.
     pub fn get_and_replace<R: Wait>(
         &mut self,
         rt: &R,

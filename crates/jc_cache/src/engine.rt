@@ -1,26 +1,31 @@
 //! A whole call on one key, over any gate.
-ghost use Rattle.std.specs.Prelude.{◌≡◌, ℕ, true, false, IsSome};
+ghost use Rattle.std.specs.Prelude.{◌≡◌, ℕ, true, false, None, IsSome, if◌then◌else◌};
 ghost use Rattle.jc_outside.specs.declared.done.Origin.TheVariants.{Live};
+ghost use Rattle.jc_mutentry.specs.Done.{effect_change};
+ghost use Rattle.jc_stripe.specs.Effects.{HasReport, write_answer};
 ghost use Rattle.jc_stripe.specs.State.{State, IsIdle};
-ghost use Rattle.jc_model.specs.Table.{is_invoke};
+ghost use Rattle.jc_model.specs.Table.{is_invoke, process_ask};
 ghost use Rattle.jc_stripe.specs.Phases.{MayBegin};
-ghost use Rattle.jc_cache.specs.Whole.{IsCall};
+ghost use Rattle.jc_session.specs.Boxed.{boxed};
+ghost use Rattle.jc_cache.specs.Whole.{AsksWriter, IsCall, IsInvocation};
 
-use crate::phases::{commit_load, commit_write, start};
+use crate::phases::{commit_load, commit_process, commit_write, start};
 use jc_gate::Gate;
 use jc_model::{Op, Reply};
+use jc_mutentry::EntryProcessor;
 use jc_session::Session;
-use jc_stripe::Begun;
 use jc_stripe::phase_laws::{
     caller_numbers, is_uniform, joins_only_loads, stays_reached, whole_call,
 };
-use jc_types::{Key, Refusal};
+use jc_stripe::{Begun, EffectAsk, ProcDone, ProcessAsk, ProcessTicket, WriteDone};
+use jc_types::{Key, Refusal, Value};
 use std::sync::Wait;
 
 /// The session's current call, whole: its first phase, then the loader or the writer while no stripe is held, and its last phase.
 ///
-/// Conditions: the call may begin on the stripe that a take finds; the stripe is live, and no reservation and no join is out there or of
-/// the session; the session has a writer if write-through is on. And nobody else takes the stripe before the call ends.
+/// Conditions: the call may begin on the stripe that a take finds; the stripe is live, and no reservation and no join is out
+/// there or of the session; the session has a writer if write-through is on. And nobody else takes the stripe before the call
+/// ends.
 pub(crate) fn call<G: Gate, R: Wait>(
     rt: &R,
     gate: &mut G,
@@ -67,5 +72,88 @@ pub(crate) fn call<G: Gate, R: Wait>(
         }
         Begun::Process(_ticket) => unreachable!(),
         Begun::Joined(_join) => unreachable!(),
+    }
+}
+
+/// The session's current call, whole, which runs a processor: its first phase, then the processor and, if its net effect is to be
+/// written, the writer, while no stripe is held, and its last phase.
+///
+/// Conditions: as those of [`call`], and write-through is on or off as the stripe has it.
+pub(crate) fn invoke<G: Gate, R: Wait>(
+    rt: &R,
+    gate: &mut G,
+    token: &mut G::Token,
+    session: &mut Session,
+    key: &Key,
+    write_through: bool,
+    processor: &mut Box<dyn EntryProcessor + Send + Drop>,
+    args: &[Value],
+) -> Result<Reply, Refusal>
+    requires held { session.old.hands.held ≡ 0 }
+    requires free { G.is_free gate.old token.old }
+    requires there { (g : G) (t : G.Token) → G.may_fail g t → ⊥ }
+    requires speaks { G.speaks_for token.old session.old.caller.session }
+    requires may { (a : State) → G.finds gate.old token.old a → MayBegin a session.old.caller key.now }
+    requires idle { (a : State) → G.finds gate.old token.old a → IsIdle a × (a.origin ≡ Live) }
+    requires own { (session.old.counts.reservations ≡ 0) × (session.old.counts.joins ≡ 0) }
+    requires through { (a : State) → G.finds gate.old token.old a → a.config.write_through ≡ write_through }
+    requires writer { write_through ≡ true → IsSome session.old.hands.outside.writer }
+    requires alone { (g : G) (t : G.Token) (a b : State) → G.leaves g t a → G.finds g t b → b ≡ a }
+    ensures free { G.is_free gate.new token.new }
+    ensures speaks { (n : ℕ) → G.speaks_for token.old n → G.speaks_for token.new n }
+    ensures call { IsInvocation loads load_state writes write_state processes process_state
+        (G.finds gate.old token.old) (G.leaves gate.new token.new)
+        session.old key.now args.now processor.old result session.new processor.new }
+{
+    is_uniform();
+    stays_reached();
+    whole_call();
+    caller_numbers();
+    match start(gate, token, session, key, &Op::Invoke) {
+        Begun::Refused(refusal) => Err(refusal),
+        Begun::Process(ticket) => {
+            let mut ticket = ticket;
+            let done = session.run_processor(rt, ticket.ask(), processor, args);
+            let report = write_effect(rt, session, write_through, &mut ticket, &done);
+            let step = commit_process(gate, token, session, ticket, done, report);
+            Ok(step.reply)
+        }
+        Begun::Done(_step) => unreachable!(),
+        Begun::Load(_ticket) => unreachable!(),
+        Begun::Write(_ticket) => unreachable!(),
+        Begun::Joined(_join) => unreachable!(),
+    }
+}
+
+/// Calls the writer for a processor's net effect: once, with write-through on, if there is a change to ask for.
+fn write_effect<R: Wait>(
+    rt: &R,
+    session: &mut Session,
+    write_through: bool,
+    ticket: &mut ProcessTicket,
+    done: &ProcDone<ProcessAsk>,
+) -> Option<WriteDone<EffectAsk>>
+    requires held { session.old.hands.held ≡ 0 }
+    requires writer { write_through ≡ true → IsSome session.old.hands.outside.writer }
+    requires asked { ticket.old.asked ≡ true }
+    requires once { ticket.old.writer_asked ≡ false }
+    requires claim { done.now.ask ≡ ticket.old.reservation }
+    ensures report { HasReport Live ticket.old.reservation
+        (if write_through then effect_change done.now.load done.now.process else None) result }
+    ensures writer { AsksWriter (boxed writes) (boxed write_state)
+        session.old.hands.outside.writer ticket.old.reservation.key
+        (if write_through then process_ask done.now.process else None)
+        (write_answer result) session.new.hands.outside.writer }
+    ensures ticket { ticket.new.reservation ≡ ticket.old.reservation }
+    ensures loader { session.new.hands.outside.loader ≡ session.old.hands.outside.loader }
+    ensures held { session.new.hands.held ≡ 0 }
+    ensures rest { session.new ≡ record session.old { hands = session.new.hands } }
+{
+    if !write_through {
+        return None;
+    }
+    match done.change() {
+        Some(_change) => Some(session.ask_writer(rt, ticket.ask_writer(done))),
+        None => None,
     }
 }

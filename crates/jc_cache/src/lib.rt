@@ -10,5 +10,8 @@ mod started;
 
 pub use cache::Cache;
 pub use jc_session::{Session, SessionFault};
-pub use outstanding::{JoinedCall, LoadCall, LoadedCall, WriteCall, WrittenCall};
+pub use outstanding::{
+    JoinedCall, LoadCall, LoadCalls, LoadedCall, LoadedCalls, ProcessCall, ProcessedCall,
+    WriteCall, WriteCalls, WrittenCall, WrittenCalls,
+};
 pub use started::{PickedUp, Started};

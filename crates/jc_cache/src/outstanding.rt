@@ -1,20 +1,28 @@
 //! Calls that were begun on a cache, and are not ended.
 //!
-//! Each of them is of one cache, whose mark it has: it can be ended on that cache alone. It holds what a stripe gave for it, and the
-//! answer that the call was given outside, so nobody can commit a call with an answer of another cache. None of them can be
-//! dropped or copied.
+//! Each of them is of one cache, whose mark it has: it can be ended on that cache alone. It holds what a stripe gave for it,
+//! and the answer that the call was given outside, so nobody can commit a call with an answer of another cache. None of them
+//! can be dropped or copied.
 ghost use Rattle.std.specs.Prelude.{◌≡◌, false, IsSome};
 ghost use Rattle.jc_outside.specs.declared.done.Origin.TheVariants.{Live};
 ghost use Rattle.jc_outside.specs.Calling.{LoadsOnce, WritesOnce};
 ghost use Rattle.jc_stripe.specs.Tickets.{change_asked};
 ghost use Rattle.jc_session.specs.Boxed.{boxed};
 
+mod loads;
+mod process;
+mod room;
+mod writes;
+
 use jc_session::{Mark, Session};
 use jc_stripe::{
     Join, LoadAsk, LoadDone, LoadTicket, Reservation, WriteAsk, WriteDone, WriteTicket,
 };
+pub use loads::{LoadCalls, LoadedCalls};
+pub use process::{ProcessCall, ProcessedCall};
 use std::marker::Model;
 use std::sync::Wait;
+pub use writes::{WriteCalls, WrittenCalls};
 
 /// A call that has reserved its key, and whose loader is to be asked.
 pub struct LoadCall {

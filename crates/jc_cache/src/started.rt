@@ -1,5 +1,5 @@
 //! What the phase calls of a cache give.
-use crate::outstanding::{JoinedCall, LoadCall, WriteCall};
+use crate::outstanding::{JoinedCall, LoadCall, ProcessCall, WriteCall};
 use jc_model::Reply;
 use jc_session::Mark;
 use jc_stripe::{Begun, Picked, StepDone};
@@ -13,6 +13,8 @@ pub enum Started {
     Load(LoadCall),
     /// The key is reserved, and the writer is to be asked.
     Write(WriteCall),
+    /// The key is reserved, and the processor is to run on the entry that the call found.
+    Process(ProcessCall),
     /// The key is being loaded by another call: the call has joined that load, and its answer is to be picked up.
     Joined(JoinedCall),
     /// Nothing was done.
@@ -50,7 +52,7 @@ impl Started {
             Begun::Done(step) => Started::Done(step),
             Begun::Load(ticket) => Started::Load(LoadCall::new(cache, ticket)),
             Begun::Write(ticket) => Started::Write(WriteCall::new(cache, ticket)),
-            Begun::Process(_ticket) => unreachable!(),
+            Begun::Process(ticket) => Started::Process(ProcessCall::new(cache, ticket)),
             Begun::Joined(join) => Started::Joined(JoinedCall::new(cache, join)),
             Begun::Refused(refusal) => Started::Refused(refusal),
         }

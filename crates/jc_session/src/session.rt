@@ -1,23 +1,28 @@
 //! Sessions.
 ghost use Rattle.std.specs.Prelude.{◌≡◌, ℕ, true, IsSome, IfSome, IfNone};
-ghost use Rattle.jc_model.specs.Table.{is_load_given, is_write_given};
+ghost use Rattle.jc_model.specs.Table.{is_load_given, is_write_given, is_process_given};
 ghost use Rattle.jc_outside.specs.declared.done.Origin.TheVariants.{Live};
 ghost use Rattle.jc_outside.specs.Calling.{LoadsOnce, WritesOnce};
+ghost use Rattle.jc_mutentry.specs.Running.{RunsOnce, LoadsIfGiven};
 ghost use Rattle.jc_stripe.specs.State.{State};
-ghost use Rattle.jc_stripe.specs.Tickets.{change_asked};
+ghost use Rattle.jc_stripe.specs.Tickets.{entry_seen, is_loadable};
 ghost use Rattle.jc_stripe.specs.Reached.{IsReached};
 ghost use Rattle.jc_stripe.specs.OnePhase.{IsPhaseOf};
 ghost use Rattle.jc_session.specs.Boxed.{boxed};
 ghost use Rattle.jc_session.specs.Counting.{one_more, counts_begun, counts_ended, counts_picked};
 
+mod calls_all;
+
 use crate::counts::Counts;
 use crate::mark::Mark;
 use jc_gate::Gate;
+use jc_mutentry::{EntryProcessor, ProcDone, run_processor};
 use jc_outside::{
-    CacheLoader, CacheWriter, Hands, LoadDone, Outside, WriteDone, call_loader, call_writer,
+    AskWrite, CacheLoader, CacheWriter, Hands, LoadDone, Outside, WriteDone, call_loader,
+    call_writer,
 };
-use jc_stripe::{Begun, LoadAsk, Picked, Stripe, WriteAsk};
-use jc_types::Caller;
+use jc_stripe::{Begun, LoadAsk, Picked, ProcessAsk, Stripe};
+use jc_types::{Caller, Value};
 use std::sync::Wait;
 
 /// Who calls a cache.
@@ -143,20 +148,50 @@ impl Session {
     /// It may wait, as long as the writer does.
     ///
     /// Conditions: the session holds no stripe, and has a writer.
-    pub fn ask_writer<R: Wait>(&mut self, rt: &R, ask: WriteAsk) -> WriteDone<WriteAsk>
+    pub fn ask_writer<A: AskWrite, R: Wait>(&mut self, rt: &R, ask: A) -> WriteDone<A>
         requires held { self.old.hands.held ≡ 0 }
         requires writer { IsSome self.old.hands.outside.writer }
         ensures ask { result.ask ≡ ask }
         ensures origin { result.origin ≡ Live }
         ensures given { is_write_given result.answer ≡ true }
         ensures writer { WritesOnce (boxed writes) (boxed write_state)
-            self.old.hands.outside.writer ask.key (change_asked ask.first)
+            self.old.hands.outside.writer (A.key ask) (A.change ask)
             result.answer self.new.hands.outside.writer }
         ensures loader { self.new.hands.outside.loader ≡ self.old.hands.outside.loader }
         ensures held { self.new.hands.held ≡ 0 }
         ensures rest { self.new ≡ record self.old { hands = self.new.hands } }
     {
         call_writer(rt, &mut self.hands, ask)
+    }
+
+    /// Runs an entry processor once, on the key and the entry of the ask (`javax.cache.processor.EntryProcessor.process`). The
+    /// loader is called at most once, if the processor asks for the value of an entry that it may load; without a loader
+    /// nothing is found.
+    ///
+    /// It may wait, as long as the processor and the loader do.
+    ///
+    /// Condition: the session holds no stripe.
+    pub fn run_processor<R: Wait>(
+        &mut self,
+        rt: &R,
+        ask: ProcessAsk,
+        processor: &mut Box<dyn EntryProcessor + Send + Drop>,
+        args: &[Value],
+    ) -> ProcDone<ProcessAsk>
+        requires { self.old.hands.held ≡ 0 }
+        ensures ask { result.ask ≡ ask }
+        ensures origin { result.origin ≡ Live }
+        ensures given { is_process_given result.process ≡ true }
+        ensures run { RunsOnce processes process_state
+            processor.old ask.key args.now (is_loadable ask.first) (entry_seen ask.first)
+            result.load result.process processor.new }
+        ensures loader { LoadsIfGiven (boxed loads) (boxed load_state)
+            self.old.hands.outside.loader ask.key result.load self.new.hands.outside.loader }
+        ensures writer { self.new.hands.outside.writer ≡ self.old.hands.outside.writer }
+        ensures held { self.new.hands.held ≡ 0 }
+        ensures rest { self.new ≡ record self.old { hands = self.new.hands } }
+    {
+        run_processor(rt, &mut self.hands, processor, ask, args)
     }
 
     /// Counts what a first phase has given.

@@ -1,9 +1,14 @@
-//! A tour: a store, a cache in front of it, and a session that gets, puts and removes.
+//! A tour: a store, a cache in front of it, and a session that gets, puts, removes and counts.
 #![tactic(auto)]
 
 ghost use Rattle.jc_cache.specs.Sessions.{MayCall};
 
+mod increment;
+
+use increment::Increment;
 use jc_cache::Cache;
+use jc_invoke::invoke;
+use jc_mutentry::EntryProcessor;
 use jc_outside::{CacheLoader, CacheWriter};
 use jc_session::Session;
 use jc_store::{SharedCounts, SharedStore, Store};
@@ -11,7 +16,12 @@ use jc_types::{Config, Key, Value};
 use std::sync::Wait;
 
 /// Some calls. As each of them does, it has the condition that the session is of this cache and may call it.
-fn visit(rt: &(impl Print + Wait), cache: &mut Cache, session: &mut Session) -> anyhow::Result<()>
+fn visit(
+    rt: &(impl Print + Wait),
+    cache: &mut Cache,
+    session: &mut Session,
+    increment: &mut Box<dyn EntryProcessor + Send + Drop>,
+) -> anyhow::Result<()>
     requires { MayCall cache.old session.old }
 {
     let (apple, pear, two) = (Key::new(b"apple")?, Key::new(b"pear")?, Value::new(b"2")?);
@@ -23,6 +33,9 @@ fn visit(rt: &(impl Print + Wait), cache: &mut Cache, session: &mut Session) -> 
     println!(rt; "put pear, remove apple: {removed}")?;
     let replaced = cache.replace(rt, session, &apple, &two)?;
     println!(rt; "replace apple: {replaced}")?;
+    let three = invoke(rt, cache, session, &pear, increment, &[])?;
+    let one = invoke(rt, cache, session, &apple, increment, &[])?;
+    println!(rt; "increment pear: {three:?}, and apple: {one:?}")?;
     println!(rt; "the session has made {} steps", session.own())?;
     Ok(())
 }
@@ -47,8 +60,9 @@ fn main(rt: HostRuntime) -> anyhow::Result<()> {
         write_through: true,
     };
     let mut cache = Cache::new(alloc, &config)?;
+    let mut increment: Box<dyn EntryProcessor + Send + Drop> = Box::new(alloc, Increment)?;
     match cache.session(Some(loader), Some(writer)) {
-        Ok(mut session) => visit(&rt, &mut cache, &mut session)?,
+        Ok(mut session) => visit(&rt, &mut cache, &mut session, &mut increment)?,
         Err(fault) => return Err(fault.refusal.into()),
     }
 

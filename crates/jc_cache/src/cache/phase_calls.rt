@@ -1,16 +1,16 @@
 //! The phase calls: each is one take, one phase of the key's stripe by the session's current call, and one give.
-ghost use Rattle.std.specs.Prelude.{◌≡◌, false};
+ghost use Rattle.std.specs.Prelude.{◌≡◌, true};
 ghost use Rattle.jc_model.specs.Group.{load_only, write_only};
 ghost use Rattle.jc_stripe.specs.State.{State, IsOut, IsJoined};
-ghost use Rattle.jc_model.specs.Table.{is_invoke};
 ghost use Rattle.jc_stripe.specs.Phases.{MayBegin, Begins, Commits, PicksUp};
 ghost use Rattle.jc_session.specs.Counting.{counts_begun, counts_ended, counts_picked};
 ghost use Rattle.jc_cache.specs.Caches.{IsStripeOf};
 ghost use Rattle.jc_cache.specs.Sessions.{IsOf};
+ghost use Rattle.jc_cache.specs.Outstanding.{is_reported_if_due};
 ghost use Rattle.jc_cache.specs.Begun.{begun_of, picked_of, IsOfCache, IsBackOfCache, MakesPhaseAt};
 
 use super::Cache;
-use crate::outstanding::{JoinedCall, LoadedCall, WrittenCall};
+use crate::outstanding::{JoinedCall, LoadedCall, ProcessedCall, WrittenCall};
 use crate::phases;
 use crate::started::{PickedUp, Started};
 use jc_model::Op;
@@ -23,11 +23,10 @@ impl Cache {
     /// The first phase of the session's current call at a key. What it gives is of this cache; it is refused as
     /// [`Stripe::begin`](jc_stripe::Stripe::begin) says, and nothing changes then.
     ///
-    /// Conditions: the session is one of this cache's. The operation isn't `Invoke`. The session's current call may begin at the key, by
-    /// the conditions of [`Stripe::begin`](jc_stripe::Stripe::begin).
+    /// Conditions: the session is one of this cache's. Its current call may begin at the key, by the conditions of
+    /// [`Stripe::begin`](jc_stripe::Stripe::begin).
     pub fn start(&mut self, session: &mut Session, key: &Key, op: &Op) -> Started
         requires own { IsOf self.old session.old }
-        requires op { is_invoke op.now ≡ false }
         requires may { (a : State) → IsStripeOf self.old key.now a → MayBegin a session.old.caller key.now }
         ensures own { IsOf self.new session.new }
         ensures session { session.new ≡ record session.old { counts = counts_begun session.old.counts (begun_of result) } }
@@ -44,8 +43,8 @@ impl Cache {
 
     /// The last phase of a call whose loader has answered.
     ///
-    /// Conditions: the session is one of this cache's, and the call is this session's on this cache. Its reservation is out: it is the
-    /// stripe's of its key.
+    /// Conditions: the session is one of this cache's, and the call is this session's on this cache. Its reservation is out: it
+    /// is the stripe's of its key.
     pub fn commit_load(&mut self, session: &mut Session, call: LoadedCall) -> StepDone
         requires own { IsOf self.old session.old }
         requires cache { call.cache ≡ self.old.mark }
@@ -65,8 +64,8 @@ impl Cache {
 
     /// The last phase of a call whose writer has reported.
     ///
-    /// Conditions: the session is one of this cache's, and the call is this session's on this cache. Its reservation is out: it is the
-    /// stripe's of its key.
+    /// Conditions: the session is one of this cache's, and the call is this session's on this cache. Its reservation is out: it
+    /// is the stripe's of its key.
     pub fn commit_write(&mut self, session: &mut Session, call: WrittenCall) -> StepDone
         requires own { IsOf self.old session.old }
         requires cache { call.cache ≡ self.old.mark }
@@ -84,10 +83,33 @@ impl Cache {
         phases::commit_write(owner, &mut (), session, ticket, done)
     }
 
+    /// The last phase of a call whose processor has run: with the writer's report, if the processor's net effect is to be written.
+    ///
+    /// Conditions: the session is one of this cache's, and the call is this session's on this cache. Its reservation is out: it
+    /// is the stripe's of its key. The writer was asked exactly if write-through is on and the call has a change to ask for
+    /// ([`ProcessedCall::change`]).
+    pub fn commit_process(&mut self, session: &mut Session, call: ProcessedCall) -> StepDone
+        requires own { IsOf self.old session.old }
+        requires cache { call.cache ≡ self.old.mark }
+        requires caller { call.reservation.caller.session ≡ session.old.caller.session }
+        requires out { (a : State) → IsStripeOf self.old call.reservation.key a → IsOut a call.reservation }
+        requires report { is_reported_if_due self.old.config call.answer ≡ true }
+        ensures own { IsOf self.new session.new }
+        ensures session { session.new ≡ record session.old { counts = counts_ended session.old.counts } }
+        ensures phase { MakesPhaseAt call.reservation.key session.old.caller.session self.old self.new
+            (λ a b. Commits a call.reservation call.answer result b) }
+    {
+        is_uniform();
+        let at = stripe_of(&call.reservation().key, self.config.stripes);
+        let owner = &mut self.owners[at];
+        let (ticket, done, report) = call.into_parts();
+        phases::commit_process(owner, &mut (), session, ticket, done, report)
+    }
+
     /// Picks up the answer of the load that a call has joined. If the load isn't over, the call comes back and nothing changes.
     ///
-    /// Conditions: the session is one of this cache's, and the call is this session's on this cache. Its join is out: its caller is among
-    /// the stripe's joiners of its key, and joined this load.
+    /// Conditions: the session is one of this cache's, and the call is this session's on this cache. Its join is out: its
+    /// caller is among the stripe's joiners of its key, and joined this load.
     pub fn pick_up(&mut self, session: &mut Session, call: JoinedCall) -> PickedUp
         requires own { IsOf self.old session.old }
         requires cache { call.cache ≡ self.old.mark }

@@ -1,14 +1,14 @@
 use Rattle.std.proofs.Common.{◌≡◌, ◌∙◌, sym, refl, ap, subst, IsSome}
 use Rattle.jc_model.specs.Group.{nothing_said, load_only, write_only}
-use Rattle.jc_stripe.specs.declared.begun.Begun.TheVariants.{Load, Write, Process}
+use Rattle.jc_stripe.specs.declared.begun.Begun.TheVariants.{Load, Write}
 use Rattle.jc_stripe.specs.Tickets.{Ticket, change_asked}
 use Rattle.jc_stripe.specs.Phases.{Commits}
 use Rattle.jc_stripe.specs.OnePhase.{IsPhaseOf}
 use Rattle.jc_cache.proofs.Asking.{asked_loader, asked_writer}
 use Rattle.jc_cache.proofs.Others.{leaves_others, leaves_both}
 use Rattle.jc_cache.proofs.SessionAfter.{after_first, after_both}
-use Rattle.jc_cache.proofs.Unasked.{unasked}
-use Rattle.jc_cache.proofs.WholeCalls.{writes_through, done_step, loaded_step, written_step}
+use Rattle.jc_cache.proofs.Unasked.{no_process}
+use Rattle.jc_cache.proofs.WholeCalls.{writes_through, wanted_is, done_step, loaded_step, written_step}
 use Rattle.jc_cache.proofs.engine.call.Goals as goal
 
 pub ask_writer-done-requires-clause-writer : goal.ask_writer-done-requires-clause-writer
@@ -17,7 +17,7 @@ ask_writer-done-requires-clause-writer g c =
     subst IsSome (sym (ap (λ s. s.hands.outside.writer) c.in-Write.ensures.session)) (c.requires.writer h.before h.found (writes_through h.before.config _ _ _ h.made.1 h.made.2))
 
 pub unreachable-requires : goal.unreachable-requires
-unreachable-requires g c = unasked _ _ _ _ _ (Process c.in-Process._ticket) c.requires.op c.in-Process.ensures.phase.made
+unreachable-requires g c = no_process _ _ _ _ _ c.in-Process._ticket c.requires.op c.in-Process.ensures.phase.made
 
 pub returns-in-Done-clause-call : goal.returns-in-Done-clause-call
 returns-in-Done-clause-call g c = let h = c.in-Done.ensures.phase in let e = c.in-Done.ensures.session in
@@ -107,7 +107,7 @@ returns-in-Write-clause-call g c =
       loader = ap (λ s. s.hands.outside.loader) e ∙ d.loader ∙ ap (λ s. s.hands.outside.loader) s;
       writer = asked_writer (λ b. (goal.CacheWriter-dyn g (b.vtable, b.value)).writes b.value) (λ b. (goal.CacheWriter-dyn g (b.vtable, b.value)).write_state b.value) _ _ _ _ _ _ _ _ _
           (ap (λ s. s.hands.outside.writer) s) (ap (λ r. r.key) c.ask-in-Write.ensures.ask ∙ ap (λ (t : Ticket). t.reservation.key) h.made.3)
-          (ap (λ r. change_asked r.first) c.ask-in-Write.ensures.ask ∙ ap change_asked (sym h.made.1)) d.given d.writer (ap (λ s. s.hands.outside.writer) e);
+          (ap (λ r. change_asked r.first) c.ask-in-Write.ensures.ask ∙ sym (wanted_is h.before.config _ _ _ h.made.1 h.made.2)) d.given d.writer (ap (λ s. s.hands.outside.writer) e);
       held = ap (λ s. s.hands.held) e ∙ d.held;
       session = after_both c.args.session.now c.start.new.session c.ask_writer-done.new.self c.commit_write-step.new.session c.requires.own.0 s d.rest e;
       others = leaves_both _ _ _ _ (leaves_others _ _ _ (c.is_uniform.ensures _ _ _ h.reached h.one)) (leaves_others _ _ _ (c.is_uniform.ensures _ _ _ reached one));

@@ -1,7 +1,6 @@
 use Rattle.std.proofs.Common.{◌≡◌, ◌<◌, ◌≤◌, ◌+◌, ◌∙◌, ℕ, length, refl, ap, sym, subst, rules, Some, slice_get, vec_len, vec_capacity}
 use Rattle.std.proofs.lemmas.Option.{slice_get_read}
 use Rattle.jc_types.specs.declared.config.Config.{Config}
-use Rattle.jc_stripe.specs.State.{State}
 use Rattle.jc_cache.specs.Caches.{CacheState}
 use Rattle.jc_cache.specs.CacheInside.{IsPlaced}
 use Rattle.jc_cache.proofs.Stripes.{is_there, all_at}

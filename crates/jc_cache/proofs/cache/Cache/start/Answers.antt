@@ -26,7 +26,7 @@ start-begun-requires-clause-may g c a is =
 pub new-requires : goal.new-requires
 new-requires g c =
     let k = c.start-begun.ensures.phase in
-    unasked k.before k.after c.args.session.now.caller c.args.key.now c.args.op.now c.start-begun.result c.requires.op k.made
+    unasked k.before k.after c.args.session.now.caller c.args.key.now c.args.op.now c.start-begun.result k.made
 
 pub invariant_of-self : goal.invariant_of-self
 invariant_of-self g c =

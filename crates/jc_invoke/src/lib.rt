@@ -1,0 +1,7 @@
+//! Calls that run an entry processor on a cache, each whole (JSR 107, "Entry Processors"; `javax.cache.Cache.invoke`).
+#![tactic(auto)]
+
+mod one_key;
+
+pub use one_key::invoke;
+pub use jc_mutentry::{EntryProcessor, MutableEntry};

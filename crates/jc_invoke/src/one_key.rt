@@ -1,0 +1,54 @@
+//! An entry processor on one key.
+ghost use Rattle.std.specs.Prelude.{◌≡◌, Result};
+ghost use Rattle.jc_types.specs.declared.refusal.Refusal.{Refusal};
+ghost use Rattle.jc_model.specs.declared.event.Reply.{Reply};
+ghost use Rattle.jc_cache.specs.Sessions.{MayCall};
+ghost use Rattle.jc_cache.specs.Calls.{Invoked, value_in};
+
+use jc_cache::Cache;
+use jc_model::Reply;
+use jc_mutentry::EntryProcessor;
+use jc_session::Session;
+use jc_types::{Key, Refusal, Value};
+use std::sync::Wait;
+
+/// Runs a processor on the entry of a key, as the session's next call, and returns its result, or none (`javax.cache.Cache.invoke`;
+/// JSR 107, "Entry Processors").
+///
+/// The call is one step of the key's stripe. The processor runs once, on the entry as it is then, which nobody else changes
+/// meanwhile; what it does counts once it has ended. With read-through on, a missing entry is loaded if the processor asks for
+/// its value; with write-through on, the net effect is written before the cache changes, in one call.
+///
+/// An `Err` has the first fault of the loader (`LoaderFailed`), the processor (`ProcessorFailed`) and the writer
+/// (`WriterFailed`): the step is made, and leaves the entry as it was, also a missing one that was loaded. Or it has the
+/// refusal of the first phase (`HistoryFull`): then nobody was asked, and nothing changes.
+///
+/// It may wait, as long as the processor, the loader and the writer do, and holds no stripe meanwhile.
+pub fn invoke<R: Wait>(
+    rt: &R,
+    cache: &mut Cache,
+    session: &mut Session,
+    key: &Key,
+    processor: &mut Box<dyn EntryProcessor + Send + Drop>,
+    args: &[Value],
+) -> Result<Option<Value>, Refusal>
+    requires may { MayCall cache.old session.old }
+    ensures may { MayCall cache.new session.new }
+    ensures call { (ended : Result Reply Refusal)
+        × Invoked loads load_state writes write_state processes process_state
+        cache.old session.old key.now args.now processor.old ended cache.new session.new processor.new
+        × (result ≡ value_in ended) }
+{
+    value_of(cache.invoke(rt, session, key, processor, args))
+}
+
+/// What the call returns by how it ended.
+fn value_of(ended: Result<Reply, Refusal>) -> Result<Option<Value>, Refusal>
+    ensures { result ≡ value_in ended }
+{
+    match ended {
+        Ok(Reply::Value(value)) => Ok(value),
+        Ok(Reply::Fault(fault)) | Err(fault) => Err(fault),
+        Ok(Reply::Flag(_) | Reply::Unit) => Ok(None),
+    }
+}
