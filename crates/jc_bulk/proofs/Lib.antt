@@ -1,0 +1,5 @@
+mod Steps
+mod Under
+mod Phases
+mod Records
+mod Starting

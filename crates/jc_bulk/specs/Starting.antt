@@ -1,0 +1,48 @@
+-- One key of a bulk call that writes, in one of its rounds.
+--     steps_started     the call's step that a first phase of the key has made, if it made one
+--     reservations_in   the reservations of calls that are out
+--     HasReason         a key is refused, or put off, exactly as its first phase refuses it, by whether a later round tries it again
+--     IsCallOf          a call that has reserved this key, of this caller and operation
+--     StartsCall        what a first phase of the key makes of the calls whose writer is to be asked: one more of this key if it has
+--                       reserved it, and else the same
+use Rattle.std.specs.Prelude.{◌≡◌, List, [], ◌∷◌, map, true, false, None, Some, Ok, Err}
+use Rattle.jc_types.specs.Refusals.{is_put_off}
+use Rattle.jc_types.specs.declared.refusal.Refusal.{Refusal}
+use Rattle.jc_types.specs.declared.caller.Caller.{Caller}
+use Rattle.jc_model.specs.declared.event.Event.{Event}
+use Rattle.jc_model.specs.declared.event.Event.TheVariants.{Step}
+use Rattle.jc_model.specs.declared.event.Op.{Op}
+use Rattle.jc_model.specs.Cache.{Bytes}
+use Rattle.jc_model.specs.Group.{nothing_said}
+use Rattle.jc_stripe.specs.declared.ticket.Reservation.{Reservation}
+use Rattle.jc_stripe.specs.Refusals.{first_refusal}
+use Rattle.jc_stripe.specs.State.{State}
+use Rattle.jc_cache.specs.Outstanding.{ReservedState}
+use Rattle.jc_cache.specs.OutstandingAll.{WriteCallsState, with_write_call}
+use Rattle.jc_bulk.specs.declared.round.Start.{Start}
+use Rattle.jc_bulk.specs.declared.round.Start.TheVariants.{Ended, Reserved, PutOff}
+
+abbrev pub steps_started : Caller → Bytes → Op → Start → List Event
+steps_started caller key op (Ended (Ok reply)) = Step caller op key nothing_said None reply ∷ []
+steps_started caller key op (Ended (Err refusal)) = []
+steps_started caller key op Reserved = []
+steps_started caller key op PutOff = []
+
+abbrev pub HasReason : State → Caller → Bytes → Op → Start → Type 0
+HasReason state caller key op (Ended (Ok reply)) = first_refusal state caller key op ≡ None
+HasReason state caller key op (Ended (Err refusal)) = (first_refusal state caller key op ≡ Some refusal) × (is_put_off refusal ≡ false)
+HasReason state caller key op Reserved = first_refusal state caller key op ≡ None
+HasReason state caller key op PutOff = (refusal : Refusal) × (first_refusal state caller key op ≡ Some refusal) × (is_put_off refusal ≡ true)
+
+abbrev pub reservations_in : List ReservedState → List Reservation
+reservations_in calls = map (λ (c : ReservedState). c.reservation) calls
+
+pub record IsCallOf (caller : Caller) (key : Bytes) (op : Op) (call : ReservedState) : Type 0 where
+  pub caller_is : call.reservation.caller ≡ caller
+  pub key_is : call.reservation.key ≡ key
+  pub op_is : call.reservation.op ≡ op
+
+abbrev pub StartsCall : Caller → Bytes → Op → Start → WriteCallsState → WriteCallsState → Type 0
+StartsCall caller key op (Ended ended) old new = new ≡ old
+StartsCall caller key op Reserved old new = (call : ReservedState) × IsCallOf caller key op call × (new ≡ with_write_call old call)
+StartsCall caller key op PutOff old new = new ≡ old
