@@ -1,5 +1,5 @@
-//! Whole calls, as lines of text: an operation, its key and its values; what it is to answer; and how often, by then, the loader was
-//! called, and the writer to write and to delete.
+//! Whole calls, as lines of text: an operation, its key and its values; what it is to answer; and how often, by then, the loader
+//! was called, and the writer to write and to delete.
 //!
 //!     get a = 1 | 1 0 0
 ghost use Rattle.std.specs.Prelude.{◌≡◌};
@@ -12,8 +12,10 @@ mod asking_all;
 mod bytes;
 mod calls;
 mod histories;
+mod invoking;
 mod limits;
 mod outside;
+mod scripted;
 mod stores;
 
 use answers::{answer_of, called, first_word, key, value};

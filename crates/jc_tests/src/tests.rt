@@ -11,6 +11,7 @@ mod joins;
 mod limits;
 mod loading;
 mod operations;
+mod processors;
 mod script;
 mod withdrawals;
 mod world;

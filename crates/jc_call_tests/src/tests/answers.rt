@@ -39,12 +39,13 @@ pub fn answer_of(rt: &impl Abort, text: &str) -> Answer {
         "-" => Ok(Reply::Value(None)),
         "LoaderFailed" => Err(Refusal::LoaderFailed(code(rt, rest))),
         "WriterFailed" => Err(Refusal::WriterFailed(code(rt, rest))),
+        "ProcessorFailed" => Err(Refusal::ProcessorFailed(code(rt, rest))),
         "HistoryFull" => Err(Refusal::HistoryFull),
         _ => Ok(Reply::Value(Some(value(rt, word)))),
     }
 }
 
-fn entry(answer: Result<Option<Value>, Refusal>) -> Answer {
+pub fn entry(answer: Result<Option<Value>, Refusal>) -> Answer {
     Ok(Reply::Value(answer?))
 }
 

@@ -24,8 +24,8 @@ fn step(event: &Event) -> Option<(Caller, LoadAnswer)> {
     }
 }
 
-/// Two sessions, one of which loads another value each time. The history is legal, and says whose call each step is of, by its number,
-/// and what was loaded.
+/// Two sessions, one of which loads another value each time. The history is legal, and says whose call each step is of, by its
+/// number, and what was loaded.
 #[test]
 fn says_who_called_and_what_was_loaded(rt: HostRuntime) {
     let alloc = rt.alloc();

@@ -128,8 +128,10 @@ fn plays_a_list_in_its_order(rt: HostRuntime) {
     world
         .play(&[begin, start, commit], &mut seen)
         .expect(&rt, "memory");
-    let wanted = [Shown::Begun, Shown::Loads, Shown::Unfit];
-    assert!(rt; seen.as_slice() == wanted.as_slice(), "{seen:?}");
+    assert!(rt;
+        matches!(seen.as_slice(), [Shown::Begun, Shown::Loads, Shown::Unfit]),
+        "what is shown"
+    );
     assert!(rt; world.played() == 3, "all are played");
     world.close();
 }
@@ -160,10 +162,20 @@ start 202 a: stepped; none
 /// Call 101 is under way, and call 102 is over.
 fn is_under_way(rt: &impl Abort, world: &World) {
     let open = world.open_call(101).expect(rt, "call 101 is under way");
-    assert!(rt; open.caller.session == 1 && open.caller.call == 101);
-    assert!(rt; open.command.op == Op::Put(value_of(rt, "101")));
-    assert!(rt; open.command.key == key_of(rt, "a"));
+    let caller = open.caller();
+    assert!(rt; caller.session == 1 && caller.call == 101);
+    assert!(rt; open.only_key() == Some(&key_of(rt, "a")), "its key is a");
+    assert!(rt; open.op_at(&key_of(rt, "a")) == Some(&Op::Put(value_of(rt, "101"))), "it puts there");
+    assert!(rt; open.op_at(&key_of(rt, "b")).is_none(), "it does nothing elsewhere");
     assert!(rt; world.open_call(102).is_none(), "call 102 is over");
+}
+
+/// Call 101 does its put at a, which is open in it, and nothing at another key.
+fn is_open_at_a_alone(rt: &impl Abort, world: &World) {
+    let open = world.open_call(101).expect(rt, "call 101 is under way");
+    let put = Op::Put(value_of(rt, "101"));
+    assert!(rt; open.op_at(&key_of(rt, "a")).copied() == Some(put), "the put at a");
+    assert!(rt; open.op_at(&key_of(rt, "b")).is_none(), "nothing at b");
 }
 
 /// Call 101 has reserved a, and the writer has changed the store and not returned.
@@ -210,6 +222,7 @@ fn shows_a_put_after_its_commit(rt: HostRuntime) {
     let mut world = opened_world(&rt, alloc);
     plays(&rt, alloc, &mut world, PUT_CHANGED);
     is_under_way(&rt, &world);
+    is_open_at_a_alone(&rt, &world);
     is_reserved(&rt, &world);
     is_busy_with_the_put(&rt, &world);
     audits(&rt, alloc, &world, "1", "101", 2);

@@ -3,8 +3,8 @@ ghost use Rattle.std.specs.Prelude.{◌≡◌, length};
 
 use super::{is, key, value};
 use indexmap::{IndexMap, IndexSet};
-use jc_batch::{Asked, DeleteBatch, Split, WriteBatch};
-use jc_model::{WriteAnswer, answer_in_batch, batch_answer, is_among};
+use jc_batch::{BatchKeys, DeleteBatch, Split, WriteBatch};
+use jc_model::{WriteAnswer, batch_answer, is_among};
 use jc_types::{Key, Value};
 use std::alloc::Global;
 use std::process::Abort;
@@ -39,7 +39,7 @@ fn split_as(rt: &impl Abort, split: &Split, row: &Row, code: u32) {
     }
 }
 
-fn written(rt: &impl Abort, alloc: Global) -> Asked {
+fn written(rt: &impl Abort, alloc: Global) -> BatchKeys {
     let (a, b, c, v) = (key(rt, b"a"), key(rt, b"b"), key(rt, b"c"), value(rt, b"1"));
     let mut batch = WriteBatch::with_capacity(alloc, 3).expect(rt, "memory");
     batch.insert(a, v);
@@ -48,13 +48,13 @@ fn written(rt: &impl Abort, alloc: Global) -> Asked {
     assert!(rt; !is_among(&[a, b], &c));
     batch.insert(c, v);
     is(rt, "entries", batch.len(), 3);
-    let (entries, asked) = batch.into_parts();
+    let (entries, keys) = batch.into_parts();
     is(rt, "first", entries.get_index(0), Some((&a, &v)));
-    is(rt, "keys", asked.len(), 3);
-    asked
+    is(rt, "keys", keys.len(), 3);
+    keys
 }
 
-fn deleted(rt: &impl Abort, alloc: Global) -> Asked {
+fn deleted(rt: &impl Abort, alloc: Global) -> BatchKeys {
     let (a, b, c) = (key(rt, b"a"), key(rt, b"b"), key(rt, b"c"));
     let mut batch = DeleteBatch::with_capacity(alloc, 3).expect(rt, "memory");
     batch.insert(a);
@@ -63,12 +63,12 @@ fn deleted(rt: &impl Abort, alloc: Global) -> Asked {
     assert!(rt; !is_among(&[a, b], &c));
     batch.insert(c);
     is(rt, "keys", batch.len(), 3);
-    let (keys, asked) = batch.into_parts();
-    is(rt, "last", keys.get_index(2), Some(&c));
-    asked
+    let (collection, keys) = batch.into_parts();
+    is(rt, "last", collection.get_index(2), Some(&c));
+    keys
 }
 
-fn left_entries(rt: &impl Abort, alloc: Global, names: &str) -> IndexMap<Key, Value> {
+fn leftover_entries(rt: &impl Abort, alloc: Global, names: &str) -> IndexMap<Key, Value> {
     let mut left = IndexMap::new(alloc);
     for byte in names.as_bytes() {
         left.insert(key(rt, &[*byte]), value(rt, b"2"))
@@ -77,7 +77,7 @@ fn left_entries(rt: &impl Abort, alloc: Global, names: &str) -> IndexMap<Key, Va
     left
 }
 
-fn left_keys(rt: &impl Abort, alloc: Global, names: &str) -> IndexSet<Key> {
+fn leftover_keys(rt: &impl Abort, alloc: Global, names: &str) -> IndexSet<Key> {
     let mut left = IndexSet::new(alloc);
     for byte in names.as_bytes() {
         left.insert(key(rt, &[*byte])).expect(rt, "memory");
@@ -89,12 +89,12 @@ fn left_keys(rt: &impl Abort, alloc: Global, names: &str) -> IndexSet<Key> {
 fn splits_by_what_is_left(rt: HostRuntime) {
     let alloc = rt.alloc();
     for row in ROWS {
-        let entries = left_entries(&rt, alloc, row.0);
+        let entries = leftover_entries(&rt, alloc, row.0);
         let split = written(&rt, alloc).split(&entries, Some(7));
         split_as(&rt, &split, row, 7);
         let split = written(&rt, alloc).split(&entries, None);
         split_as(&rt, &split, row, 0);
-        let keys = left_keys(&rt, alloc, row.0);
+        let keys = leftover_keys(&rt, alloc, row.0);
         let split = deleted(&rt, alloc).split(&keys, Some(u32::MAX));
         split_as(&rt, &split, row, u32::MAX);
         let split = deleted(&rt, alloc).split(&keys, None);
@@ -108,19 +108,19 @@ fn answers_by_what_is_left(rt: HostRuntime) {
     is(
         &rt,
         "left",
-        answer_in_batch(&[a], Some(4), &a),
+        batch_answer(is_among(&[a], &a), Some(4)),
         WriteAnswer::Failed(4),
     );
     is(
         &rt,
         "left, no fault",
-        answer_in_batch(&[b, a], None, &a),
+        batch_answer(is_among(&[b, a], &a), None),
         WriteAnswer::Failed(0),
     );
     is(
         &rt,
         "gone, a fault",
-        answer_in_batch(&[b], Some(4), &a),
+        batch_answer(is_among(&[b], &a), Some(4)),
         WriteAnswer::Done,
     );
     is(&rt, "gone", batch_answer(false, None), WriteAnswer::Done);

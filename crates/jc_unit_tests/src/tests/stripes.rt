@@ -37,7 +37,7 @@ fn is_played(stripe: &Stripe) -> bool
 fn begin(rt: &impl Abort, stripe: &mut Stripe, who: (u32, u64), key: &Key, op: &Op) -> Begun
     ensures load { (t : Ticket) → result ≡ Load t → t.asked ≡ false }
     ensures write { (t : Ticket) → result ≡ Write t → t.asked ≡ false }
-    ensures process { (t : ProcessClaim) → result ≡ Process t → (t.asked ≡ false) × (t.written ≡ false) }
+    ensures process { (t : ProcessClaim) → result ≡ Process t → (t.asked ≡ false) × (t.writer_asked ≡ false) }
 {
     let (session, call) = who;
     let caller = Caller { session, call };
@@ -83,7 +83,7 @@ fn write(rt: &impl Abort, stripe: &mut Stripe, who: (u32, u64), key: &Key, op: &
 /// A first phase that asks the processor.
 fn process(rt: &impl Abort, stripe: &mut Stripe, who: (u32, u64), key: &Key) -> ProcessTicket
     ensures asked { result.asked ≡ false }
-    ensures written { result.written ≡ false }
+    ensures writer_asked { result.writer_asked ≡ false }
 {
     match begin(rt, stripe, who, key, &Op::Invoke) {
         Begun::Process(ticket) => ticket,
@@ -135,7 +135,7 @@ fn report(
     answer: WriteAnswer,
 ) -> Option<WriteDone<EffectAsk>>
     requires asked { ticket.old.asked ≡ true }
-    requires written { ticket.old.written ≡ false }
+    requires writer { ticket.old.writer_asked ≡ false }
     requires claim { done.now.ask ≡ ticket.old.reservation }
     requires given { is_write_given answer ≡ true }
     ensures report { HasReport Played ticket.old.reservation
@@ -162,7 +162,7 @@ fn commit_process(
     answer: WriteAnswer,
 ) -> StepDone
     requires asked { ticket.asked ≡ false }
-    requires written { ticket.written ≡ false }
+    requires writer { ticket.writer_asked ≡ false }
 {
     assert!(rt; stripe.holds(ticket.reservation()), "out");
     assert!(rt; is_played(stripe) && answer.is_given(), "played");

@@ -29,6 +29,14 @@ drop 1 2
 drop x y
 more 1 a
 take 1 but a
+process
+process x got
+process 1 set
+process 1 fail
+process 1 fail=1 get
+process 1 get loadfail=1
+process 1 loadfail=1 loadsay=2
+process 1 fail=1 fail=2
 ";
 
 #[test]
@@ -49,6 +57,11 @@ begin x y get !
 drop x
 more 01
 take 1000000000
+process x get
+process 1 loadfail=
+process 1 loadfail=01 set=!
+process 1 fail=
+process 1 get set=1 fail=x
 ==
 bad caller
 begin 1 s0 get !
@@ -68,6 +81,10 @@ bad value
 begin 1 s1 put a !
 begin 1 s1 replaceif a 1 !
 begin 1 s1 put a -
+process 1 set=
+process 1 loadsay=
+process 1 loadsay=! fail=x
+process 1 set=- fail=x
 set a vvvvvvvvvvvvvvvvvvvvvvvvvvvvvvvvvvvvvvvvvvvvvvvvvvvvvvvvvvvvvvvvv
 foreign a !
 say 1 a=
@@ -166,6 +183,15 @@ open 1 2 100 read; begin 1 s1 get a; begin 2 s2 get a; drop 1; more 2
 open 1 2 100 read; begin 1 s1 get a; begin 2 s2 get a; drop 1; take 2; more 2; more 2
 open 1 2 100 read; begin 1 s1 get a; take 1
 open 1 2 100 read; begin 1 s1 get a; begin 2 s2 get a; drop 1; take 2; take 2
+open 1 2 100 read write; begin 1 s1 invoke a; read 1
+open 1 2 100 read write; begin 1 s1 invoke a; apply 1
+open 1 2 100 read write; begin 1 s1 invoke a; end 1
+open 1 2 100 read write; begin 1 s1 invoke a; process 1; process 1
+open 1 2 100 read write; begin 1 s1 invoke a; process 1 set=1; process 1
+open 1 2 100 read write; begin 1 s1 invoke a; process 1 set=1; end 1
+open 1 2 100 read write; begin 1 s1 invoke a; process 1; drop 1
+open 1 2 100 read write; begin 1 s1 get a; process 1
+open 1 2 100 read write; begin 1 s1 put a 1; process 1
 ";
 
 #[test]

@@ -8,7 +8,8 @@
 use super::{audits, differs, key_of, opened_world, value_of};
 use jc_model::{LoadAnswer, Op};
 use jc_types::Key;
-use jc_world::event::{Command, Shown, WorldEvent};
+use jc_world::command::Command;
+use jc_world::event::{Shown, WorldEvent};
 use jc_world::world::World;
 use std::alloc::Global;
 use std::process::Abort;
@@ -41,7 +42,7 @@ pub fn event_of(rt: &impl Abort, name: &str, number: &str, key: Key) -> WorldEve
         _ => WorldEvent::Call {
             call,
             session: (call % 100) as u32,
-            command: Command {
+            command: Command::Single {
                 op: op_of(rt, name, number),
                 key,
             },
@@ -85,6 +86,8 @@ fn word_of(shown: &Shown) -> &'static str {
         Shown::Waits => "waits",
         Shown::Again => "again",
         Shown::Written => "written",
+        Shown::Processes(_) => "processes",
+        Shown::Processed(_) => "processed",
         Shown::Unfit => "unfit",
     }
 }
@@ -149,7 +152,6 @@ pub fn plays(rt: &impl Abort, alloc: Global, world: &mut World, course: &str) {
 const LOAD: &str = "\
 clear 1 b: unfit; none
 loadall 1 b: unfit; none
-invoke 1 b: unfit; none
 get 100 b: unfit; none
 get 33 b: unfit; none
 start 1 a: unfit; none
