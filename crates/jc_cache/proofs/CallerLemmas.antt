@@ -43,7 +43,7 @@ each_phase P Q key n old new made each here others =
     let k = stripe_of key old.config.stripes in
     let before : P k made.before = at_key P old key made.before each made.at.was in
     subst (λ (c : CacheState). EachStripe Q c.stripes) (sym made.at.now)
-        (each_moved P Q old.stripes k made.after (slice_get_within old.stripes k (Some made.before) made.at.was) each (here before) others)
+    (each_moved P Q old.stripes k made.after (slice_get_within old.stripes k (Some made.before) made.at.was) each (here before) others)
 
 pub later_call : (a : State) (session call : ℕ) → HasNoCallFrom a session call → list_all (is_before_call session (call + 1)) a.history ≡ true
 later_call a session call none = (later_numbers a session call (call + 1) (omega arith) none).steps

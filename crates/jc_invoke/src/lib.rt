@@ -3,5 +3,5 @@
 
 mod one_key;
 
-pub use one_key::invoke;
 pub use jc_mutentry::{EntryProcessor, MutableEntry};
+pub use one_key::invoke;

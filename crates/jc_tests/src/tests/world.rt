@@ -165,8 +165,14 @@ fn is_under_way(rt: &impl Abort, world: &World) {
     let caller = open.caller();
     assert!(rt; caller.session == 1 && caller.call == 101);
     assert!(rt; open.only_key() == Some(&key_of(rt, "a")), "its key is a");
-    assert!(rt; open.op_at(&key_of(rt, "a")) == Some(&Op::Put(value_of(rt, "101"))), "it puts there");
-    assert!(rt; open.op_at(&key_of(rt, "b")).is_none(), "it does nothing elsewhere");
+    assert!(rt;
+        open.op_at(&key_of(rt, "a")) == Some(&Op::Put(value_of(rt, "101"))),
+        "it puts there"
+    );
+    assert!(rt;
+        open.op_at(&key_of(rt, "b")).is_none(),
+        "it does nothing elsewhere"
+    );
     assert!(rt; world.open_call(102).is_none(), "call 102 is over");
 }
 
@@ -174,7 +180,10 @@ fn is_under_way(rt: &impl Abort, world: &World) {
 fn is_open_at_a_alone(rt: &impl Abort, world: &World) {
     let open = world.open_call(101).expect(rt, "call 101 is under way");
     let put = Op::Put(value_of(rt, "101"));
-    assert!(rt; open.op_at(&key_of(rt, "a")).copied() == Some(put), "the put at a");
+    assert!(rt;
+        open.op_at(&key_of(rt, "a")).copied() == Some(put),
+        "the put at a"
+    );
     assert!(rt; open.op_at(&key_of(rt, "b")).is_none(), "nothing at b");
 }
 
