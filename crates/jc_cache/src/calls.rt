@@ -205,8 +205,10 @@ impl Cache {
     }
 }
 
-/// What a call returns that replies with a value.
-fn value_of(ended: Result<Reply, Refusal>) -> Result<Option<Value>, Refusal>
+/// What a call returns that replies with a value: the value, or none; or the fault of its step, or why it was refused.
+///
+/// `ended` is what became of the call: the reply of its step, or the refusal of its first phase.
+pub fn value_of(ended: Result<Reply, Refusal>) -> Result<Option<Value>, Refusal>
     ensures { result ≡ value_in ended }
 {
     match ended {

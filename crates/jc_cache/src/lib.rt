@@ -9,6 +9,7 @@ mod phases;
 mod started;
 
 pub use cache::Cache;
+pub use calls::value_of;
 pub use jc_session::{Session, SessionFault};
 pub use outstanding::{
     JoinedCall, LoadCall, LoadCalls, LoadedCall, LoadedCalls, ProcessCall, ProcessedCall,

@@ -5,8 +5,7 @@ ghost use Rattle.jc_model.specs.declared.event.Reply.{Reply};
 ghost use Rattle.jc_cache.specs.Sessions.{MayCall};
 ghost use Rattle.jc_cache.specs.Calls.{Invoked, value_in};
 
-use jc_cache::Cache;
-use jc_model::Reply;
+use jc_cache::{Cache, value_of};
 use jc_mutentry::EntryProcessor;
 use jc_session::Session;
 use jc_types::{Key, Refusal, Value};
@@ -40,15 +39,4 @@ pub fn invoke<R: Wait>(
         × (result ≡ value_in ended) }
 {
     value_of(cache.invoke(rt, session, key, processor, args))
-}
-
-/// What the call returns by how it ended.
-fn value_of(ended: Result<Reply, Refusal>) -> Result<Option<Value>, Refusal>
-    ensures { result ≡ value_in ended }
-{
-    match ended {
-        Ok(Reply::Value(value)) => Ok(value),
-        Ok(Reply::Fault(fault)) | Err(fault) => Err(fault),
-        Ok(Reply::Flag(_) | Reply::Unit) => Ok(None),
-    }
 }

@@ -19,9 +19,9 @@ use jc_outside::Origin;
 use jc_types::Value;
 
 /// A run of a processor that is played: it makes these calls on the entry, and then fails with the code, or answers what its last
-/// `getValue` was told, or none. If the loader is asked, it answers `load`. After a failed load no further call is made.
+/// `getValue` was answered, or none. If the loader is asked, it answers `load`. After a failed load no further call is made.
 ///
-/// What each call was told is appended to `told`, in their order.
+/// What each call was answered is appended to `answers`, in their order.
 ///
 /// Conditions: the loader's answer is one, and there is room for one answer for each call.
 pub fn played_process<A: AskProcess>(
@@ -29,18 +29,18 @@ pub fn played_process<A: AskProcess>(
     calls: &[EntryCall],
     fail: Option<u32>,
     load: LoadAnswer,
-    told: &mut Vec<EntryAnswer>,
+    answers: &mut Vec<EntryAnswer>,
 ) -> ProcDone<A>
     requires given { is_load_given load ≡ true }
-    requires room { vec_len told.old + length calls.now ≤ vec_capacity told.old }
+    requires room { vec_len answers.old + length calls.now ≤ vec_capacity answers.old }
     ensures ask { result.ask ≡ ask }
     ensures origin { result.origin ≡ Played }
     ensures load { result.load ≡ played_load (A.may_load ask) (A.initial ask) load calls.now }
     ensures process { result.process ≡ played_outcome (A.may_load ask) (A.initial ask) load calls.now fail }
-    ensures told { told.new.items ≡ told.old.items ++ played_answers (A.may_load ask) (A.initial ask) load calls.now }
+    ensures answers { answers.new.items ≡ answers.old.items ++ played_answers (A.may_load ask) (A.initial ask) load calls.now }
 {
     let mut entry = EntryCore::new(*ask.initial(), ask.may_load());
-    let last = play_calls(&mut entry, calls, &load, told);
+    let last = play_calls(&mut entry, calls, &load, answers);
     let returned = match fail {
         Some(code) => Err(code),
         None => Ok(last),
@@ -54,23 +54,23 @@ pub fn played_process<A: AskProcess>(
     )
 }
 
-/// Makes the calls, each unless the load has failed, and gives the last value that one was told.
+/// Makes the calls, each unless the load has failed, and gives the last value that one was answered.
 fn play_calls(
     entry: &mut EntryCore,
     calls: &[EntryCall],
     load: &LoadAnswer,
-    told: &mut Vec<EntryAnswer>,
+    answers: &mut Vec<EntryAnswer>,
 ) -> Option<Value>
     requires new_entry { entry.old ≡ new_entry entry.old.initial entry.old.may_load }
     requires given { is_load_given load.now ≡ true }
-    requires room { vec_len told.old + length calls.now ≤ vec_capacity told.old }
+    requires room { vec_len answers.old + length calls.now ≤ vec_capacity answers.old }
     ensures same { (entry.new.initial ≡ entry.old.initial) × (entry.new.may_load ≡ entry.old.may_load) }
-    ensures played { (answers : List EntryAnswer) × IsPlayed entry.new load.now calls.now answers result
-        × (told.new.items ≡ told.old.items ++ answers) }
+    ensures played { (given : List EntryAnswer) × IsPlayed entry.new load.now calls.now given result
+        × (answers.new.items ≡ answers.old.items ++ given) }
 {
     let mut last = None;
     for call in calls {
-        play_call(entry, call, load, told, &mut last);
+        play_call(entry, call, load, answers, &mut last);
     }
     last
 }
@@ -80,27 +80,27 @@ fn play_call(
     entry: &mut EntryCore,
     call: &EntryCall,
     load: &LoadAnswer,
-    told: &mut Vec<EntryAnswer>,
+    answers: &mut Vec<EntryAnswer>,
     last: &mut Option<Value>,
 )
     requires given { is_load_given load.now ≡ true }
-    requires room { vec_len told.old < vec_capacity told.old }
+    requires room { vec_len answers.old < vec_capacity answers.old }
     ensures same { (entry.new.initial ≡ entry.old.initial) × (entry.new.may_load ≡ entry.old.may_load) }
-    ensures capacity { vec_capacity told.new ≡ vec_capacity told.old }
-    ensures len { vec_len told.new ≤ vec_len told.old + 1 }
-    ensures played { (calls : List EntryCall) (answers : List EntryAnswer) → IsPlayed entry.old load.now calls answers last.old
-        → (more : List EntryAnswer) × IsPlayed entry.new load.now (calls ++ call.now ∷ []) (answers ++ more) last.new
-        × (told.new.items ≡ told.old.items ++ more) }
+    ensures capacity { vec_capacity answers.new ≡ vec_capacity answers.old }
+    ensures len { vec_len answers.new ≤ vec_len answers.old + 1 }
+    ensures played { (calls : List EntryCall) (given : List EntryAnswer) → IsPlayed entry.old load.now calls given last.old
+        → (more : List EntryAnswer) × IsPlayed entry.new load.now (calls ++ call.now ∷ []) (given ++ more) last.new
+        × (answers.new.items ≡ answers.old.items ++ more) }
 {
     if has_failed(&entry.load_answer()) {
         return;
     }
-    let answer = made(entry, call, load);
+    let answer = make_call(entry, call, load);
     note(last, &answer);
-    told.push_reserved(answer);
+    answers.push_reserved(answer);
 }
 
-/// Notes the value, if one was told.
+/// Notes the value, if one was answered.
 fn note(last: &mut Option<Value>, answer: &EntryAnswer)
     ensures { last.new ≡ unwrap_or (answer_value answer.now) last.old }
 {
@@ -118,7 +118,7 @@ fn has_failed(load: &LoadAnswer) -> bool
 }
 
 /// Makes a call, and gives its answer. If the loader is asked, it answers this.
-fn made(entry: &mut EntryCore, call: &EntryCall, load: &LoadAnswer) -> EntryAnswer
+fn make_call(entry: &mut EntryCore, call: &EntryCall, load: &LoadAnswer) -> EntryAnswer
     requires { is_load_given load.now ≡ true }
     ensures makes { Makes entry.old call.now result entry.new }
     ensures load { LoadsAs load.now entry.old.load entry.new.load }

@@ -147,7 +147,8 @@ no_processor false true None h A = cc
 no_processor false true (Some change) h A = cc
 no_processor false false change h A = cc
 
-asks_invoking : (config : Config) (op : Op) (entry : Option Bytes) → asks_processor (first_asked config op entry) ≡ true → is_invoke op ≡ true
+-- what asks a processor first is an `Invoke`
+pub asks_invoking : (config : Config) (op : Op) (entry : Option Bytes) → asks_processor (first_asked config op entry) ≡ true → is_invoke op ≡ true
 asks_invoking config Invoke entry h = refl
 asks_invoking config Get entry h = no_processor (config.read_through && is_none entry) config.write_through None h _
 asks_invoking config (LoadAll replace) entry h = no_processor (replace || is_none entry) config.write_through None h _

@@ -73,14 +73,14 @@ one_fits w e fit = fits_then w e [] fit (λ seen mid happens. none_fit mid)
 still_waits : (call : ℕ) (o : Option Part) (part : Part) → of_call call o ≡ Some part → has_progress waits_for_report (of_call call o) ≡ true → has_progress waits_for_report (of_call call (Some (record part { progress = with_change part.progress }))) ≡ true
 still_waits call o part is waits =
     ap (λ b. has_progress waits_for_report (cond b (Some (record part { progress = with_change part.progress })) None)) (eq-eqb part.reservation.caller.call call (of_call-at call o part is).1)
-    ∙ due part.progress ∙ sym (ap (has_progress waits_for_report) is) ∙ waits
+    ∙ unchanged part.progress ∙ sym (ap (has_progress waits_for_report) is) ∙ waits
   where
-    due : (p : Progress) → waits_for_report (with_change p) ≡ waits_for_report p
-    due (Loading answer) = refl
-    due (Writing is_changed report) = refl
-    due Processing = refl
-    due (Processed loaded process) = refl
-    due (WritingEffect loaded process is_changed report) = refl
+    unchanged : (p : Progress) → waits_for_report (with_change p) ≡ waits_for_report p
+    unchanged (Loading answer) = refl
+    unchanged (Writing is_changed report) = refl
+    unchanged Processing = refl
+    unchanged (Processed loaded process) = refl
+    unchanged (WritingEffect loaded process is_changed report) = refl
 
 -- the writer's return, behind its change of the store
 report_fits : (w : WorldState) (call : ℕ) (u : CallState) (key : Bytes) (fault : Option ℕ) → open_call w call ≡ Some u → only_key u ≡ Some key → fits w (event.Change call key) ≡ true

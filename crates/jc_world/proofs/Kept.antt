@@ -54,7 +54,8 @@ use Rattle.jc_world.specs.Coherent.{Coherent, all_hold}
 use Rattle.jc_world.specs.Sound.{is_due_in, is_asked, IsHeld, Agrees, LoadAgrees, ProgressAgrees, KeyAgrees, IsWrittenFor, IsSoundWorld}
 use Rattle.jc_world.proofs.Holding.{call_on, is_part}
 use Rattle.jc_world.proofs.Halves.{HasParts}
-use Rattle.jc_world.proofs.Processors.{processor_free, asks_invoking, invoke_is, write_due, agrees_processed, agrees_effect}
+use Rattle.jc_stripe.proofs.CallerLemmas.{asks_invoking}
+use Rattle.jc_world.proofs.Processors.{processor_free, invoke_is, write_due, agrees_processed, agrees_effect}
 use Rattle.jc_world.proofs.Places.{at_stripe, stripe_put, home_stripe}
 use Rattle.jc_world.proofs.Reservations.{found_more, out_reserved, was_free, writer_alone, new_out, found_left}
 use Rattle.jc_world.proofs.Entries.{split, tied, agrees_stepped, writes, loads_asked, writes_asked, loads, asks_nobody}

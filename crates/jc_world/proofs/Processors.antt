@@ -1,6 +1,5 @@
 -- Keys whose entry processor is asked, runs, and is committed.
 --     processor_free     a key that gets a processor's ticket was free
---     asks_invoking      what asks a processor first is an `Invoke`
 --     invoke_is          what runs a processor is an `Invoke`
 --     write_due          with write-through on, what is due of the writer is the processor's net effect
 --     agrees_processed   what a processor leaves after which no writer is asked agrees with the store
@@ -50,18 +49,6 @@ processor_reserves (Processor entry loads) h = refl
 pub processor_free : (s to : State) (caller : Caller) (key : Bytes) (op : Op) (ticket : ProcessClaim) → Begins s caller key op (begun.Process ticket) to → is_reserved s key ≡ false
 processor_free s to caller key op ticket begins =
     was_free s caller key op ticket.reservation.first begins.0 (alone_invoking s key op (invokes s to caller key op ticket begins)) begins.1 (processor_reserves ticket.reservation.first begins.2)
-
-no_processor : (b w : Bool) (change : Option Change) → asks_processor (first_by (always_if b) (cond w change None)) ≡ true → (A : Type 0) → A
-no_processor true w change h A = cc
-no_processor false true None h A = cc
-no_processor false true (Some change) h A = cc
-no_processor false false change h A = cc
-
-pub asks_invoking : (config : Config) (op : Op) (entry : Option Bytes) → asks_processor (first_asked config op entry) ≡ true → is_invoke op ≡ true
-asks_invoking config Invoke entry h = refl
-asks_invoking config Get entry h = no_processor (config.read_through && is_none entry) config.write_through None h _
-asks_invoking config (LoadAll replace) entry h = no_processor (replace || is_none entry) config.write_through None h _
-asks_invoking config op entry h = no_processor false config.write_through (write_ask op entry process.NotAsked) h _
 
 pub invoke_is : (op : Op) → is_invoke op ≡ true → op ≡ Invoke
 invoke_is Invoke h = refl

@@ -1,9 +1,9 @@
 -- Each step of the order was shown once, or its answer is parked.
---     times_due      how often the answer of an event is to have been shown: once if it is a step that isn't parked, and else never
---     due            the same of the event at a place of a stripe's part of the order
+--     times_owed      how often the answer of an event is to have been shown: once if it is a step that isn't parked, and else never
+--     owed            the same of the event at a place of a stripe's part of the order
 --     Gives          a phase raises that by one at the places that it answers, and leaves it at the others
 --     gives_done, gives_commit, gives_picked and so on      what each kind of phase answers
---     due_run        so a run raises it by the answers that it shows
+--     owed_run        so a run raises it by the answers that it shows
 use Rattle.std.proofs.Common.{inl, inr, ◌≡◌, ◌==◌, ◌&&◌, ◌+◌, ℕ, zero, suc, List, [], ◌∷◌, ◌++◌, length, map, count_by, Bool, true, false, cond, Option, None, Some, slice_get, slice_set, refl, sym, ap, ◌∙◌, subst, arith}
 use Rattle.std.specs.List.{list_all}
 use Rattle.std.proofs.lemmas.Bool.{and_parts, eqb-true, eqb-false, eq-eqb}
@@ -57,31 +57,31 @@ use Rattle.jc_world.proofs.Standing.{config_run, config_opened}
 
 -- 1. How often an answer is to have been shown.
 
-abbrev pub times_due : List Joiner → Option Event → ℕ
-times_due js None = 0
-times_due js (Some (stripe.Step caller op key out shared reply)) = times_shown (is_parked js caller key)
-times_due js (Some (stripe.Evict key cause)) = 0
+abbrev pub times_owed : List Joiner → Option Event → ℕ
+times_owed js None = 0
+times_owed js (Some (stripe.Step caller op key out shared reply)) = times_shown (is_parked js caller key)
+times_owed js (Some (stripe.Evict key cause)) = 0
 
 -- other joiners that park the same of the event leave it
-due_same : (js next : List Joiner) (o : Option Event) → ((c : Caller) (op : Op) (k : Bytes) (out : Out) (shared : Option ℕ) (reply : Reply) → o ≡ Some (stripe.Step c op k out shared reply) → is_parked next c k ≡ is_parked js c k)
-    → times_due next o ≡ times_due js o
-due_same js next None same = refl
-due_same js next (Some (stripe.Step c op k out shared reply)) same = ap times_shown (same c op k out shared reply refl)
-due_same js next (Some (stripe.Evict k cause)) same = refl
+owed_same : (js next : List Joiner) (o : Option Event) → ((c : Caller) (op : Op) (k : Bytes) (out : Out) (shared : Option ℕ) (reply : Reply) → o ≡ Some (stripe.Step c op k out shared reply) → is_parked next c k ≡ is_parked js c k)
+    → times_owed next o ≡ times_owed js o
+owed_same js next None same = refl
+owed_same js next (Some (stripe.Step c op k out shared reply)) same = ap times_shown (same c op k out shared reply refl)
+owed_same js next (Some (stripe.Evict k cause)) same = refl
 
--- behind a group's step nothing is due, if those that share its load are parked
-none_due : (js : List Joiner) (place : ℕ) (key : Bytes) (answer : LoadAnswer) (callers : List Caller) (cause : Option Cause) (p : ℕ) → list_all (λ c. is_parked js c key) callers ≡ true
-    → times_due js (slice_get (map (shared_event place key answer) callers ++ evicted_events key cause) p) ≡ 0
-none_due js place key answer [] None p h = refl
-none_due js place key answer [] (Some cause) zero h = refl
-none_due js place key answer [] (Some cause) (suc p) h = refl
-none_due js place key answer (c ∷ cs) cause zero h = ap times_shown (and_parts (is_parked js c key) (list_all (λ c. is_parked js c key) cs) h).0
-none_due js place key answer (c ∷ cs) cause (suc p) h = none_due js place key answer cs cause p (and_parts (is_parked js c key) (list_all (λ c. is_parked js c key) cs) h).1
+-- behind a group's step nothing is owed, if those that share its load are parked
+none_owed : (js : List Joiner) (place : ℕ) (key : Bytes) (answer : LoadAnswer) (callers : List Caller) (cause : Option Cause) (p : ℕ) → list_all (λ c. is_parked js c key) callers ≡ true
+    → times_owed js (slice_get (map (shared_event place key answer) callers ++ evicted_events key cause) p) ≡ 0
+none_owed js place key answer [] None p h = refl
+none_owed js place key answer [] (Some cause) zero h = refl
+none_owed js place key answer [] (Some cause) (suc p) h = refl
+none_owed js place key answer (c ∷ cs) cause zero h = ap times_shown (and_parts (is_parked js c key) (list_all (λ c. is_parked js c key) cs) h).0
+none_owed js place key answer (c ∷ cs) cause (suc p) h = none_owed js place key answer cs cause p (and_parts (is_parked js c key) (list_all (λ c. is_parked js c key) cs) h).1
 
--- of a group's events the step is due once, at its place
-group_due : (js : List Joiner) (place : ℕ) (group : Group) (p : ℕ) → is_parked js group.caller group.step.key ≡ false → list_all (λ c. is_parked js c group.step.key) group.joined ≡ true
-    → times_due js (slice_get (events_of place group) p) ≡ one_if (length (victim_events group.victim) == p)
-group_due js place group p free parked = go group.victim p
+-- of a group's events the step is owed once, at its place
+group_owed : (js : List Joiner) (place : ℕ) (group : Group) (p : ℕ) → is_parked js group.caller group.step.key ≡ false → list_all (λ c. is_parked js c group.step.key) group.joined ≡ true
+    → times_owed js (slice_get (events_of place group) p) ≡ one_if (length (victim_events group.victim) == p)
+group_owed js place group p free parked = go group.victim p
   where
     behind : List Event
     behind = map (shared_event (step_place place group) group.step.key group.step.out.load) group.joined
@@ -89,33 +89,33 @@ group_due js place group p free parked = go group.victim p
     own : List Event
     own = evicted_events group.step.key group.evicted
 
-    from_step : (p : ℕ) → times_due js (slice_get ((step_event group ∷ behind) ++ own) p) ≡ one_if (0 == p)
+    from_step : (p : ℕ) → times_owed js (slice_get ((step_event group ∷ behind) ++ own) p) ≡ one_if (0 == p)
     from_step zero = ap times_shown free
-    from_step (suc p) = none_due js (step_place place group) group.step.key group.step.out.load group.joined group.evicted p parked ∙ ap one_if (sym (eqb-zero-suc p))
+    from_step (suc p) = none_owed js (step_place place group) group.step.key group.step.out.load group.joined group.evicted p parked ∙ ap one_if (sym (eqb-zero-suc p))
 
-    go : (victim : Option Bytes) (p : ℕ) → times_due js (slice_get ((victim_events victim ++ (step_event group ∷ behind)) ++ own) p) ≡ one_if (length (victim_events victim) == p)
+    go : (victim : Option Bytes) (p : ℕ) → times_owed js (slice_get ((victim_events victim ++ (step_event group ∷ behind)) ++ own) p) ≡ one_if (length (victim_events victim) == p)
     go None p = from_step p
     go (Some key) zero = ap one_if (sym (eqb-suc-zero 0))
     go (Some key) (suc p) = from_step p ∙ ap one_if (sym (eqb-suc-suc 0 p))
 
 -- and so it is where the group follows a history of which as much is parked as before
-history_due : (js next : List Joiner) (events more : List Event) (n p : ℕ) → ((i : ℕ) (c : Caller) (op : Op) (k : Bytes) (out : Out) (shared : Option ℕ) (reply : Reply) → slice_get events i ≡ Some (stripe.Step c op k out shared reply) → is_parked next c k ≡ is_parked js c k)
-    → ((i : ℕ) → times_due next (slice_get more i) ≡ one_if (n == i))
-    → times_due next (slice_get (events ++ more) p) ≡ one_if (length events + n == p) + times_due js (slice_get events p)
-history_due js next [] more n p same due_is = due_is p ∙ (let e : one_if (n == p) ≡ one_if (n == p) + 0 = omega arith in e) ∙ ap (λ m. one_if (m == p) + 0) (let e : n ≡ 0 + n = omega arith in e)
-history_due js next (x ∷ xs) more n zero same due_is =
-    due_same js next (Some x) (same 0)
-    ∙ (let e : times_due js (Some x) ≡ 0 + times_due js (Some x) = omega arith in e)
-    ∙ ap (λ b. one_if b + times_due js (Some x)) (sym (ap (λ m. m == 0) (let e : suc (length xs) + n ≡ suc (length xs + n) = omega arith in e) ∙ eqb-suc-zero (length xs + n)))
-history_due js next (x ∷ xs) more n (suc p) same due_is =
-    history_due js next xs more n p (λ i. same (suc i)) due_is
-    ∙ ap (λ b. one_if b + times_due js (slice_get xs p)) (sym (ap (λ m. m == suc p) (let e : suc (length xs) + n ≡ suc (length xs + n) = omega arith in e) ∙ eqb-suc-suc (length xs + n) p))
+history_owed : (js next : List Joiner) (events more : List Event) (n p : ℕ) → ((i : ℕ) (c : Caller) (op : Op) (k : Bytes) (out : Out) (shared : Option ℕ) (reply : Reply) → slice_get events i ≡ Some (stripe.Step c op k out shared reply) → is_parked next c k ≡ is_parked js c k)
+    → ((i : ℕ) → times_owed next (slice_get more i) ≡ one_if (n == i))
+    → times_owed next (slice_get (events ++ more) p) ≡ one_if (length events + n == p) + times_owed js (slice_get events p)
+history_owed js next [] more n p same owed_is = owed_is p ∙ (let e : one_if (n == p) ≡ one_if (n == p) + 0 = omega arith in e) ∙ ap (λ m. one_if (m == p) + 0) (let e : n ≡ 0 + n = omega arith in e)
+history_owed js next (x ∷ xs) more n zero same owed_is =
+    owed_same js next (Some x) (same 0)
+    ∙ (let e : times_owed js (Some x) ≡ 0 + times_owed js (Some x) = omega arith in e)
+    ∙ ap (λ b. one_if b + times_owed js (Some x)) (sym (ap (λ m. m == 0) (let e : suc (length xs) + n ≡ suc (length xs + n) = omega arith in e) ∙ eqb-suc-zero (length xs + n)))
+history_owed js next (x ∷ xs) more n (suc p) same owed_is =
+    history_owed js next xs more n p (λ i. same (suc i)) owed_is
+    ∙ ap (λ b. one_if b + times_owed js (slice_get xs p)) (sym (ap (λ m. m == suc p) (let e : suc (length xs) + n ≡ suc (length xs + n) = omega arith in e) ∙ eqb-suc-suc (length xs + n) p))
 
 -- 2. A phase of a stripe.
 
--- a phase raises what is due by one at the places that it answers
+-- a phase raises what is owed by one at the places that it answers
 abbrev pub Gives : State → State → (ℕ → Bool) → Type 0
-Gives from to answers = (p : ℕ) → times_due to.joiners (slice_get to.history p) ≡ one_if (answers p) + times_due from.joiners (slice_get from.history p)
+Gives from to answers = (p : ℕ) → times_owed to.joiners (slice_get to.history p) ≡ one_if (answers p) + times_owed from.joiners (slice_get from.history p)
 
 -- none
 abbrev nowhere : ℕ → Bool
@@ -124,19 +124,19 @@ nowhere p = false
 -- a phase that appends nothing and parks what was parked answers none
 gives_none : (from to : State) → to.history ≡ from.history → ((c : Caller) (k : Bytes) → is_parked to.joiners c k ≡ is_parked from.joiners c k) → Gives from to nowhere
 gives_none from to history same p =
-    ap (λ h. times_due to.joiners (slice_get h p)) history ∙ due_same from.joiners to.joiners (slice_get from.history p) (λ c op k out shared reply e. same c k)
-    ∙ (let e : times_due from.joiners (slice_get from.history p) ≡ 0 + times_due from.joiners (slice_get from.history p) = omega arith in e)
+    ap (λ h. times_owed to.joiners (slice_get h p)) history ∙ owed_same from.joiners to.joiners (slice_get from.history p) (λ c op k out shared reply e. same c k)
+    ∙ (let e : times_owed from.joiners (slice_get from.history p) ≡ 0 + times_owed from.joiners (slice_get from.history p) = omega arith in e)
 
 -- the step of a stripe is answered at its place
 gives_step : (js : List Joiner) (mid to : State) (caller : Caller) (key : Bytes) (op : Op) (out : Out) (callers : List Caller) (done : StepDone) → Steps mid caller key op out callers done to
     → ((i : ℕ) (c : Caller) (op : Op) (k : Bytes) (out : Out) (shared : Option ℕ) (reply : Reply) → slice_get mid.history i ≡ Some (stripe.Step c op k out shared reply) → is_parked mid.joiners c k ≡ is_parked js c k)
     → is_parked mid.joiners caller key ≡ false → list_all (λ c. is_parked mid.joiners c key) callers ≡ true
-    → (p : ℕ) → times_due to.joiners (slice_get to.history p) ≡ one_if (done.place == p) + times_due js (slice_get mid.history p)
+    → (p : ℕ) → times_owed to.joiners (slice_get to.history p) ≡ one_if (done.place == p) + times_owed js (slice_get mid.history p)
 gives_step js mid to caller key op out callers done steps same free parked p =
     let group = new_group mid caller key op out callers steps.short in
-    (λ i. times_due (steps.after i).joiners (slice_get (steps.after i).history p))
-    ∙ history_due js mid.joiners mid.history (events_of (length mid.history) group) (length (victim_events group.victim)) p same (λ i. group_due mid.joiners (length mid.history) group i free parked)
-    ∙ ap (λ n. one_if (n == p) + times_due js (slice_get mid.history p)) (sym steps.place)
+    (λ i. times_owed (steps.after i).joiners (slice_get (steps.after i).history p))
+    ∙ history_owed js mid.joiners mid.history (events_of (length mid.history) group) (length (victim_events group.victim)) p same (λ i. group_owed mid.joiners (length mid.history) group i free parked)
+    ∙ ap (λ n. one_if (n == p) + times_owed js (slice_get mid.history p)) (sym steps.place)
 
 -- a first phase that is done at once
 gives_done : (from to : State) (caller : Caller) (key : Bytes) (op : Op) (done : StepDone) → MayBegin from caller key → Begins from caller key op (begun.Done done) to → Gives from to (λ p. done.place == p)
@@ -156,165 +156,165 @@ gives_picked from to join reply place shared reached h p =
     let next = without_joiner from join in
     let step = h.2 in
     let at : (q : ℕ) → Option Event = slice_get from.history in
-    let here : times_due next.joiners (at place) ≡ 1 + times_due from.joiners (at place) =
-    ap (times_due next.joiners) step.1 ∙ ap times_shown (picked_parks from join)
-    ∙ sym (ap (λ o. 1 + times_due from.joiners o) step.1 ∙ ap (λ b. 1 + times_shown b) (picker_parks from join place shared h.1)) in
-    ap (λ (s : State). times_due s.joiners (slice_get s.history p)) h.3
-    ∙ (elim (place == p) as (λ b. (place == p) ≡ b → times_due next.joiners (at p) ≡ one_if b + times_due from.joiners (at p)) [
-      | true ↦ λ e. ap (λ q. times_due next.joiners (at q)) (sym (eqb-true place p e)) ∙ here ∙ ap (λ q. 1 + times_due from.joiners (at q)) (eqb-true place p e)
+    let here : times_owed next.joiners (at place) ≡ 1 + times_owed from.joiners (at place) =
+    ap (times_owed next.joiners) step.1 ∙ ap times_shown (picked_parks from join)
+    ∙ sym (ap (λ o. 1 + times_owed from.joiners o) step.1 ∙ ap (λ b. 1 + times_shown b) (picker_parks from join place shared h.1)) in
+    ap (λ (s : State). times_owed s.joiners (slice_get s.history p)) h.3
+    ∙ (elim (place == p) as (λ b. (place == p) ≡ b → times_owed next.joiners (at p) ≡ one_if b + times_owed from.joiners (at p)) [
+      | true ↦ λ e. ap (λ q. times_owed next.joiners (at q)) (sym (eqb-true place p e)) ∙ here ∙ ap (λ q. 1 + times_owed from.joiners (at q)) (eqb-true place p e)
       | false ↦ λ e.
-          due_same from.joiners next.joiners (at p)
+          owed_same from.joiners next.joiners (at p)
           (λ c op k out shared' reply' there. others_park from join Get step.0 (Some shared) reply place p c op k out shared' reply' reached step.1 there
           (λ same. let t : true ≡ false = sym (eq-eqb place p same) ∙ e in cc))
-          ∙ (let z : times_due from.joiners (at p) ≡ 0 + times_due from.joiners (at p) = omega arith in z)
+          ∙ (let z : times_owed from.joiners (at p) ≡ 0 + times_owed from.joiners (at p) = omega arith in z)
     ] refl)
 
 -- 3. An event.
 
-abbrev pub due : WorldState → ℕ → ℕ → ℕ
-due w number place = times_due (joiners_at w number) (slice_get (of_stripe w.config.stripes number w.order) place)
+abbrev pub owed : WorldState → ℕ → ℕ → ℕ
+owed w number place = times_owed (joiners_at w number) (slice_get (of_stripe w.config.stripes number w.order) place)
 
 -- a phase of one stripe answers there what it answers
-due_set : (w new : WorldState) (key : Bytes) (from to : State) (answers : ℕ → Bool) (number place : ℕ) → stripe_for w key ≡ Some from → IsSoundWorld w → IsSoundWorld new → new.config ≡ w.config → new.stripes ≡ slice_set w.stripes (home w key) to
+owed_set : (w new : WorldState) (key : Bytes) (from to : State) (answers : ℕ → Bool) (number place : ℕ) → stripe_for w key ≡ Some from → IsSoundWorld w → IsSoundWorld new → new.config ≡ w.config → new.stripes ≡ slice_set w.stripes (home w key) to
     → ((m : ℕ) → (home w key ≡ m → ⊥) → of_stripe w.config.stripes m new.order ≡ of_stripe w.config.stripes m w.order) → Gives from to answers
-    → due new number place ≡ one_if ((home w key == number) && answers place) + due w number place
-due_set w new key from to answers number place there old sound config stripes rest gives =
+    → owed new number place ≡ one_if ((home w key == number) && answers place) + owed w number place
+owed_set w new key from to answers number place there old sound config stripes rest gives =
     let n = home w key in
-    elim (n == number) as (λ b. (n == number) ≡ b → due new number place ≡ one_if (b && answers place) + due w number place) [
+    elim (n == number) as (λ b. (n == number) ≡ b → owed new number place ≡ one_if (b && answers place) + owed w number place) [
       | true ↦ λ e.
           let placed : slice_get new.stripes n ≡ Some to = ap (λ ss. slice_get ss n) stripes ∙ stripe_put w.stripes n from to there in
           let now = (sound.shape.each n to placed).share in
           let was = (old.shape.each n from there).share in
-          let P : ℕ → Type 0 = λ m. due new m place ≡ one_if (answers place) + due w m place in
+          let P : ℕ → Type 0 = λ m. owed new m place ≡ one_if (answers place) + owed w m place in
           subst P (eqb-true n number e)
-          ((λ i. times_due (joiners_in (placed i)) (slice_get (now i) place))
+          ((λ i. times_owed (joiners_in (placed i)) (slice_get (now i) place))
           ∙ gives place
-          ∙ sym (λ i. one_if (answers place) + times_due (joiners_in (there i)) (slice_get (was i) place)))
+          ∙ sym (λ i. one_if (answers place) + times_owed (joiners_in (there i)) (slice_get (was i) place)))
       | false ↦ λ e.
           let others : slice_get new.stripes number ≡ slice_get w.stripes number = ap (λ ss. slice_get ss number) stripes ∙ other_set w.stripes n number to e in
           let share : of_stripe new.config.stripes number new.order ≡ of_stripe w.config.stripes number w.order = ap (λ (c : Config). of_stripe c.stripes number new.order) config ∙ rest number (eqb-false n number e) in
-          (λ i. times_due (joiners_in (others i)) (slice_get (share i) place)) ∙ (let z : due w number place ≡ 0 + due w number place = omega arith in z)
+          (λ i. times_owed (joiners_in (others i)) (slice_get (share i) place)) ∙ (let z : owed w number place ≡ 0 + owed w number place = omega arith in z)
     ] refl
 
 -- one that appends nothing and answers nothing
-due_quiet : (w new : WorldState) (key : Bytes) (from to : State) (number place : ℕ) → stripe_for w key ≡ Some from → IsSoundWorld w → IsSoundWorld new → new.config ≡ w.config → new.stripes ≡ slice_set w.stripes (home w key) to
-    → new.order ≡ w.order → Gives from to nowhere → due new number place ≡ 0 + due w number place
-due_quiet w new key from to number place there old sound config stripes order gives =
-    due_set w new key from to nowhere number place there old sound config stripes (λ m apart. ap (of_stripe w.config.stripes m) order) gives
-    ∙ ap (λ b. one_if b + due w number place) (and-false (home w key == number))
+owed_quiet : (w new : WorldState) (key : Bytes) (from to : State) (number place : ℕ) → stripe_for w key ≡ Some from → IsSoundWorld w → IsSoundWorld new → new.config ≡ w.config → new.stripes ≡ slice_set w.stripes (home w key) to
+    → new.order ≡ w.order → Gives from to nowhere → owed new number place ≡ 0 + owed w number place
+owed_quiet w new key from to number place there old sound config stripes order gives =
+    owed_set w new key from to nowhere number place there old sound config stripes (λ m apart. ap (of_stripe w.config.stripes m) order) gives
+    ∙ ap (λ b. one_if b + owed w number place) (and-false (home w key == number))
 
 -- one that appends a group, and answers its step
-due_grown : (w new : WorldState) (key : Bytes) (from to : State) (at number place : ℕ) → stripe_for w key ≡ Some from → IsSoundWorld w → IsSoundWorld new → new.config ≡ w.config → new.stripes ≡ slice_set w.stripes (home w key) to
-    → new.order ≡ w.order ++ added from to → Extends from to → Gives from to (λ p. at == p) → due new number place ≡ one_if ((home w key == number) && (at == place)) + due w number place
-due_grown w new key from to at number place there old sound config stripes order grows gives =
+owed_grown : (w new : WorldState) (key : Bytes) (from to : State) (at number place : ℕ) → stripe_for w key ≡ Some from → IsSoundWorld w → IsSoundWorld new → new.config ≡ w.config → new.stripes ≡ slice_set w.stripes (home w key) to
+    → new.order ≡ w.order ++ added from to → Extends from to → Gives from to (λ p. at == p) → owed new number place ≡ one_if ((home w key == number) && (at == place)) + owed w number place
+owed_grown w new key from to at number place there old sound config stripes order grows gives =
     let n = home w key in
     let placed : slice_get new.stripes n ≡ Some to = ap (λ ss. slice_get ss n) stripes ∙ stripe_put w.stripes n from to there in
-    due_set w new key from to (λ p. at == p) number place there old sound config stripes
+    owed_set w new key from to (λ p. at == p) number place there old sound config stripes
     (λ m apart. ap (of_stripe w.config.stripes m) order ∙ share_stays w n m from to grows (old.shape.each n from there) (sound.shape.each n to placed).reached apart) gives
 
 -- what leaves the stripes and the order answers nothing
-due_still : (w new : WorldState) (seen : Shown) (number place : ℕ) → is_answer_at number place seen ≡ false → due new number place ≡ due w number place → due new number place ≡ one_if (is_answer_at number place seen) + due w number place
-due_still w new seen number place none same = let e : one_if (is_answer_at number place seen) ≡ 0 = ap one_if none in omega arith
+owed_still : (w new : WorldState) (seen : Shown) (number place : ℕ) → is_answer_at number place seen ≡ false → owed new number place ≡ owed w number place → owed new number place ≡ one_if (is_answer_at number place seen) + owed w number place
+owed_still w new seen number place none same = let e : one_if (is_answer_at number place seen) ≡ 0 = ap one_if none in omega arith
 
 -- by what is shown of a first phase
-due_started : Grows → (w new : WorldState) (u : CallState) (key : Bytes) (op : Op) (from to : State) (seen : Shown) (number place : ℕ) → stripe_for w key ≡ Some from → Starts w u.caller key op from to seen new → MayBegin from u.caller key → IsSoundWorld w → IsSoundWorld new
-    → due new number place ≡ one_if (is_answer_at number place seen) + due w number place
-due_started grows w new u key op from to (shown.Refused refusal) number place there h may old sound = due_still w new (shown.Refused refusal) number place refl (ap (λ (x : WorldState). due x number place) h.1)
-due_started grows w new u key op from to (shown.Stepped x) number place there h may old sound =
-    due_grown w new key from to x.place number place there old sound (ap (λ (v : WorldState). v.config) h.2) (ap (λ (v : WorldState). v.stripes) h.2) (ap (λ (v : WorldState). v.order) h.2)
+owed_started : Grows → (w new : WorldState) (u : CallState) (key : Bytes) (op : Op) (from to : State) (seen : Shown) (number place : ℕ) → stripe_for w key ≡ Some from → Starts w u.caller key op from to seen new → MayBegin from u.caller key → IsSoundWorld w → IsSoundWorld new
+    → owed new number place ≡ one_if (is_answer_at number place seen) + owed w number place
+owed_started grows w new u key op from to (shown.Refused refusal) number place there h may old sound = owed_still w new (shown.Refused refusal) number place refl (ap (λ (x : WorldState). owed x number place) h.1)
+owed_started grows w new u key op from to (shown.Stepped x) number place there h may old sound =
+    owed_grown w new key from to x.place number place there old sound (ap (λ (v : WorldState). v.config) h.2) (ap (λ (v : WorldState). v.stripes) h.2) (ap (λ (v : WorldState). v.order) h.2)
     (grows.begins from to u.caller key op (begun.Done (step_of x)) h.0) (gives_done from to u.caller key op (step_of x) may h.0)
-    ∙ ap (λ s. one_if ((s == number) && (x.place == place)) + due w number place) (sym h.1)
-due_started grows w new u key op from to shown.Loads number place there h may old sound =
-    due_quiet w new key from to number place there old sound (ap (λ (v : WorldState). v.config) h.2) (ap (λ (v : WorldState). v.stripes) h.2) (ap (λ (v : WorldState). v.order) h.2)
+    ∙ ap (λ s. one_if ((s == number) && (x.place == place)) + owed w number place) (sym h.1)
+owed_started grows w new u key op from to shown.Loads number place there h may old sound =
+    owed_quiet w new key from to number place there old sound (ap (λ (v : WorldState). v.config) h.2) (ap (λ (v : WorldState). v.stripes) h.2) (ap (λ (v : WorldState). v.order) h.2)
     (gives_none from to (ap (λ (s : State). s.history) h.1.4) (λ c k. ap (λ (s : State). is_parked s.joiners c k) h.1.4))
-due_started grows w new u key op from to (shown.Asks change) number place there h may old sound =
-    due_quiet w new key from to number place there old sound (ap (λ (v : WorldState). v.config) h.3) (ap (λ (v : WorldState). v.stripes) h.3) (ap (λ (v : WorldState). v.order) h.3)
+owed_started grows w new u key op from to (shown.Asks change) number place there h may old sound =
+    owed_quiet w new key from to number place there old sound (ap (λ (v : WorldState). v.config) h.3) (ap (λ (v : WorldState). v.stripes) h.3) (ap (λ (v : WorldState). v.order) h.3)
     (gives_none from to (ap (λ (s : State). s.history) h.1.4) (λ c k. ap (λ (s : State). is_parked s.joiners c k) h.1.4))
-due_started grows w new u key op from to (shown.Processes entry) number place there h may old sound =
-    due_quiet w new key from to number place there old sound (ap (λ (v : WorldState). v.config) h.3) (ap (λ (v : WorldState). v.stripes) h.3) (ap (λ (v : WorldState). v.order) h.3)
+owed_started grows w new u key op from to (shown.Processes entry) number place there h may old sound =
+    owed_quiet w new key from to number place there old sound (ap (λ (v : WorldState). v.config) h.3) (ap (λ (v : WorldState). v.stripes) h.3) (ap (λ (v : WorldState). v.order) h.3)
     (gives_none from to (ap (λ (s : State). s.history) h.1.4) (λ c k. ap (λ (s : State). is_parked s.joiners c k) h.1.4))
-due_started grows w new u key op from to shown.Joins number place there h may old sound =
-    due_quiet w new key from to number place there old sound (ap (λ (v : WorldState). v.config) h.2) (ap (λ (v : WorldState). v.stripes) h.2) (ap (λ (v : WorldState). v.order) h.2)
+owed_started grows w new u key op from to shown.Joins number place there h may old sound =
+    owed_quiet w new key from to number place there old sound (ap (λ (v : WorldState). v.config) h.2) (ap (λ (v : WorldState). v.stripes) h.2) (ap (λ (v : WorldState). v.order) h.2)
     (gives_none from to (ap (λ (s : State). s.history) h.1.3) (λ c k. ap (λ (s : State). is_parked s.joiners c k) h.1.3 ∙ joined_parks from h.0 c k))
-due_started grows w new u key op from to seen number place there h may old sound = absurd h
+owed_started grows w new u key op from to seen number place there h may old sound = absurd h
 
 -- of a last phase
-due_ended : Grows → (w new : WorldState) (call : ℕ) (key : Bytes) (part : Part) (from to : State) (seen : Shown) (number place : ℕ) → stripe_for w key ≡ Some from → Ends w call key part from to seen new → IsSoundWorld w → IsSoundWorld new
-    → due new number place ≡ one_if (is_answer_at number place seen) + due w number place
-due_ended grows w new call key part from to (shown.Stepped x) number place there h old sound =
-    due_grown w new key from to x.place number place there old sound (ap (λ (v : WorldState). v.config) h.2) (ap (λ (v : WorldState). v.stripes) h.2) (ap (λ (v : WorldState). v.order) h.2)
+owed_ended : Grows → (w new : WorldState) (call : ℕ) (key : Bytes) (part : Part) (from to : State) (seen : Shown) (number place : ℕ) → stripe_for w key ≡ Some from → Ends w call key part from to seen new → IsSoundWorld w → IsSoundWorld new
+    → owed new number place ≡ one_if (is_answer_at number place seen) + owed w number place
+owed_ended grows w new call key part from to (shown.Stepped x) number place there h old sound =
+    owed_grown w new key from to x.place number place there old sound (ap (λ (v : WorldState). v.config) h.2) (ap (λ (v : WorldState). v.stripes) h.2) (ap (λ (v : WorldState). v.order) h.2)
     (grows.commits from to part.reservation (out_of part) (step_of x) h.0) (gives_commit from to part.reservation (out_of part) (step_of x) (old.shape.each (home w key) from there).reached h.0)
-    ∙ ap (λ s. one_if ((s == number) && (x.place == place)) + due w number place) (sym h.1)
-due_ended grows w new call key part from to seen number place there h old sound = absurd h
+    ∙ ap (λ s. one_if ((s == number) && (x.place == place)) + owed w number place) (sym h.1)
+owed_ended grows w new call key part from to seen number place there h old sound = absurd h
 
 -- of a pick-up
-due_picks : (w new : WorldState) (call : ℕ) (key : Bytes) (join : JoinClaim) (from to : State) (seen : Shown) (number place : ℕ) → stripe_for w key ≡ Some from → Picks w call key join from to seen new → IsSoundWorld w → IsSoundWorld new
-    → due new number place ≡ one_if (is_answer_at number place seen) + due w number place
-due_picks w new call key join from to (shown.PickedUp x) number place there h old sound =
+owed_picks : (w new : WorldState) (call : ℕ) (key : Bytes) (join : JoinClaim) (from to : State) (seen : Shown) (number place : ℕ) → stripe_for w key ≡ Some from → Picks w call key join from to seen new → IsSoundWorld w → IsSoundWorld new
+    → owed new number place ≡ one_if (is_answer_at number place seen) + owed w number place
+owed_picks w new call key join from to (shown.PickedUp x) number place there h old sound =
     let order : new.order ≡ w.order = ap (λ (v : WorldState). v.order) h.2 in
-    due_set w new key from to (λ p. x.place == p) number place there old sound (ap (λ (v : WorldState). v.config) h.2) (ap (λ (v : WorldState). v.stripes) h.2)
+    owed_set w new key from to (λ p. x.place == p) number place there old sound (ap (λ (v : WorldState). v.config) h.2) (ap (λ (v : WorldState). v.stripes) h.2)
     (λ m apart. ap (of_stripe w.config.stripes m) order)
     (gives_picked from to join x.reply x.place x.shared (old.shape.each (home w key) from there).reached h.0)
-    ∙ ap (λ s. one_if ((s == number) && (x.place == place)) + due w number place) (sym h.1)
-due_picks w new call key join from to shown.Again number place there h old sound =
+    ∙ ap (λ s. one_if ((s == number) && (x.place == place)) + owed w number place) (sym h.1)
+owed_picks w new call key join from to shown.Again number place there h old sound =
     let reached = (old.shape.each (home w key) from there).reached in
-    due_quiet w new key from to number place there old sound (ap (λ (v : WorldState). v.config) h.1) (ap (λ (v : WorldState). v.stripes) h.1) (ap (λ (v : WorldState). v.order) h.1)
+    owed_quiet w new key from to number place there old sound (ap (λ (v : WorldState). v.config) h.1) (ap (λ (v : WorldState). v.stripes) h.1) (ap (λ (v : WorldState). v.order) h.1)
     (gives_none from to (ap (λ (s : State). s.history) h.0.2) (λ c k. ap (λ (s : State). is_parked s.joiners c k) h.0.2 ∙ again_parks_same from join c k reached h.0.1))
-due_picks w new call key join from to shown.Waits number place there h old sound = due_still w new shown.Waits number place refl (ap (λ (x : WorldState). due x number place) h.1)
-due_picks w new call key join from to seen number place there h old sound = absurd h
+owed_picks w new call key join from to shown.Waits number place there h old sound = owed_still w new shown.Waits number place refl (ap (λ (x : WorldState). owed x number place) h.1)
+owed_picks w new call key join from to seen number place there h old sound = absurd h
 
 -- of any event that fits
-due_happens : Grows → (w new : WorldState) (e : WorldEvent) (seen : Shown) (number place : ℕ) → fits w e ≡ true → Happens w e seen new → IsSoundWorld w → IsSoundWorld new → due new number place ≡ one_if (is_answer_at number place seen) + due w number place
-due_happens grows w new (event.Call call session command) seen number place fit h old sound = due_still w new seen number place (ap (is_answer_at number place) h.0) (ap (λ (x : WorldState). due x number place) h.1)
-due_happens grows w new (event.Start call key) seen number place fit h old sound =
-    due_started grows w new h.0 key h.1 h.4 h.6 seen number place h.5 h.7 (begins_at w call key h.0 h.1 h.4 fit h.2 h.3 h.5 old) old sound
-due_happens grows w new (event.Read call key) seen number place fit h old sound = due_still w new seen number place (ap (is_answer_at number place) h.2) (ap (λ (x : WorldState). due x number place) h.3)
-due_happens grows w new (event.Say call key answer) seen number place fit h old sound = due_still w new seen number place (ap (is_answer_at number place) h.2) (ap (λ (x : WorldState). due x number place) h.3)
-due_happens grows w new (event.Process call key source calls fail) seen number place fit h old sound =
-    due_still w new seen number place (ap (is_answer_at number place) h.2) (ap (λ (x : WorldState). due x number place) h.3)
-due_happens grows w new (event.Change call key) seen number place fit h old sound = due_still w new seen number place (ap (is_answer_at number place) h.4) (ap (λ (x : WorldState). due x number place) h.5)
-due_happens grows w new (event.Report call fault) seen number place fit h old sound = due_still w new seen number place (ap (is_answer_at number place) h.8) (ap (λ (x : WorldState). due x number place) h.9)
-due_happens grows w new (event.Commit call key) seen number place fit h old sound = due_ended grows w new call key h.0 h.2 h.4 seen number place h.3 h.5 old sound
-due_happens grows w new (event.Withdraw call key) seen number place fit h old sound =
+owed_happens : Grows → (w new : WorldState) (e : WorldEvent) (seen : Shown) (number place : ℕ) → fits w e ≡ true → Happens w e seen new → IsSoundWorld w → IsSoundWorld new → owed new number place ≡ one_if (is_answer_at number place seen) + owed w number place
+owed_happens grows w new (event.Call call session command) seen number place fit h old sound = owed_still w new seen number place (ap (is_answer_at number place) h.0) (ap (λ (x : WorldState). owed x number place) h.1)
+owed_happens grows w new (event.Start call key) seen number place fit h old sound =
+    owed_started grows w new h.0 key h.1 h.4 h.6 seen number place h.5 h.7 (begins_at w call key h.0 h.1 h.4 fit h.2 h.3 h.5 old) old sound
+owed_happens grows w new (event.Read call key) seen number place fit h old sound = owed_still w new seen number place (ap (is_answer_at number place) h.2) (ap (λ (x : WorldState). owed x number place) h.3)
+owed_happens grows w new (event.Say call key answer) seen number place fit h old sound = owed_still w new seen number place (ap (is_answer_at number place) h.2) (ap (λ (x : WorldState). owed x number place) h.3)
+owed_happens grows w new (event.Process call key source calls fail) seen number place fit h old sound =
+    owed_still w new seen number place (ap (is_answer_at number place) h.2) (ap (λ (x : WorldState). owed x number place) h.3)
+owed_happens grows w new (event.Change call key) seen number place fit h old sound = owed_still w new seen number place (ap (is_answer_at number place) h.4) (ap (λ (x : WorldState). owed x number place) h.5)
+owed_happens grows w new (event.Report call fault) seen number place fit h old sound = owed_still w new seen number place (ap (is_answer_at number place) h.8) (ap (λ (x : WorldState). owed x number place) h.9)
+owed_happens grows w new (event.Commit call key) seen number place fit h old sound = owed_ended grows w new call key h.0 h.2 h.4 seen number place h.3 h.5 old sound
+owed_happens grows w new (event.Withdraw call key) seen number place fit h old sound =
     let r = h.0.reservation in
-    due_quiet w new key h.2 h.4 number place h.3 old sound (ap (λ (v : WorldState). v.config) h.7) (ap (λ (v : WorldState). v.stripes) h.7) (ap (λ (v : WorldState). v.order) h.7)
+    owed_quiet w new key h.2 h.4 number place h.3 old sound (ap (λ (v : WorldState). v.config) h.7) (ap (λ (v : WorldState). v.stripes) h.7) (ap (λ (v : WorldState). v.order) h.7)
     (gives_none h.2 h.4 (ap (λ (s : State). s.history) h.5.1) (λ c k. ap (λ (s : State). is_parked s.joiners c k) h.5.1 ∙ withdrawn_parks h.2 r c k))
-    ∙ ap (λ s. one_if (is_answer_at number place s) + due w number place) (sym h.6)
-due_happens grows w new (event.Leave call) seen number place fit h old sound = due_still w new seen number place (ap (is_answer_at number place) h.0) (ap (λ (x : WorldState). due x number place) h.1)
-due_happens grows w new (event.PickUp call key) seen number place fit h old sound = due_picks w new call key h.0 h.2 h.4 seen number place h.3 h.5 old sound
-due_happens grows w new (event.Foreign key value) seen number place fit h old sound = due_still w new seen number place (ap (is_answer_at number place) h.0) (ap (λ (x : WorldState). due x number place) h.1)
+    ∙ ap (λ s. one_if (is_answer_at number place s) + owed w number place) (sym h.6)
+owed_happens grows w new (event.Leave call) seen number place fit h old sound = owed_still w new seen number place (ap (is_answer_at number place) h.0) (ap (λ (x : WorldState). owed x number place) h.1)
+owed_happens grows w new (event.PickUp call key) seen number place fit h old sound = owed_picks w new call key h.0 h.2 h.4 seen number place h.3 h.5 old sound
+owed_happens grows w new (event.Foreign key value) seen number place fit h old sound = owed_still w new seen number place (ap (is_answer_at number place) h.0) (ap (λ (x : WorldState). owed x number place) h.1)
 
 -- and of any event
-due_step : Grows → (w new : WorldState) (e : WorldEvent) (seen : Shown) (number place : ℕ) → Step w e seen new → IsSoundWorld w → IsSoundWorld new → due new number place ≡ one_if (is_answer_at number place seen) + due w number place
-due_step grows w new e seen number place (inl (fit, happens)) old sound = due_happens grows w new e seen number place fit happens old sound
-due_step grows w new e seen number place (inr (unfit, shows, is)) old sound = due_still w new seen number place (ap (is_answer_at number place) shows) (ap (λ (x : WorldState). due x number place) is)
+owed_step : Grows → (w new : WorldState) (e : WorldEvent) (seen : Shown) (number place : ℕ) → Step w e seen new → IsSoundWorld w → IsSoundWorld new → owed new number place ≡ one_if (is_answer_at number place seen) + owed w number place
+owed_step grows w new e seen number place (inl (fit, happens)) old sound = owed_happens grows w new e seen number place fit happens old sound
+owed_step grows w new e seen number place (inr (unfit, shows, is)) old sound = owed_still w new seen number place (ap (is_answer_at number place) shows) (ap (λ (x : WorldState). owed x number place) is)
 
 -- 4. A run.
 
-pub due_run : Laws → Grows → (w new : WorldState) (es : List WorldEvent) (ss : List Shown) (number place : ℕ) → Run w es ss new → IsSoundWorld w → due new number place ≡ count_by (is_answer_at number place) ss + due w number place
-due_run laws grows w new [] [] number place run old = let e : due new number place ≡ due w number place = ap (λ (x : WorldState). due x number place) run in omega arith
-due_run laws grows w new [] (s ∷ ss) number place run old = absurd run
-due_run laws grows w new (e ∷ es) [] number place run old = absurd run
-due_run laws grows w new (e ∷ es) (s ∷ ss) number place (mid, step, rest) old =
+pub owed_run : Laws → Grows → (w new : WorldState) (es : List WorldEvent) (ss : List Shown) (number place : ℕ) → Run w es ss new → IsSoundWorld w → owed new number place ≡ count_by (is_answer_at number place) ss + owed w number place
+owed_run laws grows w new [] [] number place run old = let e : owed new number place ≡ owed w number place = ap (λ (x : WorldState). owed x number place) run in omega arith
+owed_run laws grows w new [] (s ∷ ss) number place run old = absurd run
+owed_run laws grows w new (e ∷ es) [] number place run old = absurd run
+owed_run laws grows w new (e ∷ es) (s ∷ ss) number place (mid, step, rest) old =
     let sound = sound_step laws w e s mid step old in
-    let one = due_step grows w mid e s number place step old sound in
-    let more = due_run laws grows mid new es ss number place rest sound in
+    let one = owed_step grows w mid e s number place step old sound in
+    let more = owed_run laws grows mid new es ss number place rest sound in
     let split_off : count_by (is_answer_at number place) (s ∷ ss) ≡ one_if (is_answer_at number place s) + count_by (is_answer_at number place) ss = sum_by-cons (λ x. cond (is_answer_at number place x) 1 0) s ss in
     omega arith
 
--- nothing is due before anything has happened
-due_opened : (config : Config) (stored : List (Bytes × Bytes)) (number place : ℕ) → due (start_with config stored) number place ≡ 0
-due_opened config [] number place = refl
-due_opened config (e ∷ es) number place = due_opened config es number place
+-- nothing is owed before anything has happened
+owed_opened : (config : Config) (stored : List (Bytes × Bytes)) (number place : ℕ) → owed (start_with config stored) number place ≡ 0
+owed_opened config [] number place = refl
+owed_opened config (e ∷ es) number place = owed_opened config es number place
 
--- so what is due was shown
+-- so what is owed was shown
 pub shown_once : Laws → Grows → (config : Config) (stored : List (Bytes × Bytes)) (new : WorldState) (es : List WorldEvent) (ss : List Shown) (number place : ℕ) (caller : Caller) (op : Op) (key : Bytes) (out : Out) (shared : Option ℕ) (reply : Reply)
     → Run (start_with config stored) es ss new → IsSoundWorld (start_with config stored) → slice_get (of_stripe config.stripes number new.order) place ≡ Some (stripe.Step caller op key out shared reply)
     → count_by (is_answer_at number place) ss ≡ times_shown (is_parked (joiners_at new number) caller key)
 shown_once laws grows config stored new es ss number place caller op key out shared reply run sound there =
-    let total = due_run laws grows (start_with config stored) new es ss number place run sound in
-    let none = due_opened config stored number place in
-    let is : due new number place ≡ times_shown (is_parked (joiners_at new number) caller key) =
-    ap (λ (c : Config). times_due (joiners_at new number) (slice_get (of_stripe c.stripes number new.order) place)) (config_run (start_with config stored) new es ss run ∙ config_opened config stored)
-    ∙ ap (times_due (joiners_at new number)) there in
+    let total = owed_run laws grows (start_with config stored) new es ss number place run sound in
+    let none = owed_opened config stored number place in
+    let is : owed new number place ≡ times_shown (is_parked (joiners_at new number) caller key) =
+    ap (λ (c : Config). times_owed (joiners_at new number) (slice_get (of_stripe c.stripes number new.order) place)) (config_run (start_with config stored) new es ss run ∙ config_opened config stored)
+    ∙ ap (times_owed (joiners_at new number)) there in
     omega arith

@@ -1,4 +1,4 @@
-use Rattle.jc_call_tests.proofs.Loading.{four_calls, four_loads}
+use Rattle.jc_mutentry.proofs.CallerLemmas.{four_calls, four_loads}
 use Rattle.jc_call_tests.proofs.tests.scripted.ScriptedEntryProcessor.process.Goals as goal
 
 pub returns-in-Some-clause-calls : goal.returns-in-Some-clause-calls
