@@ -3,7 +3,7 @@ use Rattle.std.proofs.Common.{◌≡◌, ℕ, true, Option, None, Some}
 use Rattle.jc_model.specs.declared.event.LoadAnswer.TheVariants.{Failed}
 use Rattle.jc_model.specs.Cache.{Bytes}
 use Rattle.jc_world.specs.declared.event.Part.{Part}
-use Rattle.jc_world.specs.Calls.{CallState, only_key}
+use Rattle.jc_world.specs.Calls.{CallState, current_key}
 use Rattle.jc_world.specs.declared.event.WorldEvent.TheVariants as event
 use Rattle.jc_world.specs.World.{WorldState, open_call}
 use Rattle.jc_world.specs.Events.{AllFit, RestFits}
@@ -13,13 +13,13 @@ use Rattle.jc_script.specs.Words.{said}
 use Rattle.jc_script.specs.LineEvents.{drop_events, events_of, first_fits}
 
 -- a call that is dropped leaves, and gives back first what it has reserved
-drop_fits : (w : WorldState) → RestFits w → (number : ℕ) (u : CallState) (key : Bytes) (part : Option Part) → open_call w number ≡ Some u → only_key u ≡ Some key → first_fits w (drop_events number key part) ≡ true
+drop_fits : (w : WorldState) → RestFits w → (number : ℕ) (u : CallState) (key : Bytes) (part : Option Part) → open_call w number ≡ Some u → current_key u ≡ Some key → first_fits w (drop_events number key part) ≡ true
     → AllFit w (drop_events number key part)
 drop_fits w rest number u key None here only first = rest.alone (event.Leave number) first
 drop_fits w rest number u key (Some part) here only first = rest.leave number u key here only first
 
 -- the events of an act fit if the first one does
-pub act_fits : (w : WorldState) → RestFits w → (number : ℕ) (act : Act) (u : CallState) (key : Bytes) (part : Option Part) → open_call w number ≡ Some u → only_key u ≡ Some key → first_fits w (events_of number key part act) ≡ true
+pub act_fits : (w : WorldState) → RestFits w → (number : ℕ) (act : Act) (u : CallState) (key : Bytes) (part : Option Part) → open_call w number ≡ Some u → current_key u ≡ Some key → first_fits w (events_of number key part act) ≡ true
     → AllFit w (events_of number key part act)
 act_fits w rest number Read u key part here only first = rest.alone (event.Read number key) first
 act_fits w rest number (ReadFail code) u key part here only first = rest.alone (event.Say number key (Failed code)) first

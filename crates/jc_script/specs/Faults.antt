@@ -11,7 +11,7 @@ use Rattle.jc_types.specs.declared.refusal.Refusal.TheVariants as refusal
 use Rattle.jc_types.specs.declared.config.Field.TheVariants.{Stripes, Capacity, History}
 use Rattle.jc_types.specs.Limits.{check}
 use Rattle.jc_model.specs.Cache.{Bytes}
-use Rattle.jc_world.specs.Calls.{CallState, only_key}
+use Rattle.jc_world.specs.Calls.{CallState, current_key}
 use Rattle.jc_world.specs.World.{WorldState, open_call, part_of, is_busy}
 use Rattle.jc_world.specs.Events.{is_new}
 use Rattle.jc_script.specs.LineEvents.{events_of, first_fits}
@@ -64,7 +64,7 @@ act_fault_at w number act (Some key) =
 abbrev pub act_fault : WorldState → ℕ → Act → Option CallState → Option Fault
 act_fault w number act None = Some NoSuchCall
 act_fault w number act (Some u) =
-    act_fault_at w number act (only_key u)
+    act_fault_at w number act (current_key u)
 
 abbrev pub state_fault : Option WorldState → Line → Option Fault
 state_fault None (Open config) = config_fault (check config)

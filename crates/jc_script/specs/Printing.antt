@@ -15,7 +15,7 @@
 --                                    delete; either of these two
 --     process_line                   that the processor is asked, on this entry
 --     joined_line, waits_line, again_line      that a call has joined, that its load isn't over, that it is to begin again
---     dropped_line, refused_line     that a call has left; that it was refused
+--     dropped_line, refused_line, put_off_line     that a call has left; that it was refused; that a key is to be tried again
 --     fails_line, fails_text         a failure's code; the same, if there is one
 --     answer_line, answer_text       a value or none that a loader read or said; any answer of a loader
 --     done_name, change_name         the word for a change that was made; the same, or that for one that wasn't
@@ -175,6 +175,9 @@ dropped_line call = decimal call ++ codes " dropped\n"
 unfoldable pub refused_line : ℕ → Bytes → Refusal → List ℕ
 refused_line call key refusal = subject call key ++ codes " refused " ++ refusal_name refusal ++ codes "\n"
 
+unfoldable pub put_off_line : ℕ → Bytes → List ℕ
+put_off_line call key = subject call key ++ codes " put off\n"
+
 unfoldable pub fails_line : ℕ → ℕ → List ℕ
 fails_line call code = decimal call ++ codes " fails " ++ decimal code ++ codes "\n"
 
@@ -248,6 +251,7 @@ shown_text call key (shown.Processes entry) = process_line call key entry
 shown_text call key (shown.Processed seen) = []
 shown_text call key shown.Joins = joined_line call key
 shown_text call key (shown.Refused refusal) = refused_line call key refusal
+shown_text call key (shown.PutOff refusal) = put_off_line call key
 shown_text call key (shown.Reads answer) = answer_text call key (codes " reads ") answer
 shown_text call key (shown.Says answer) = answer_text call key (codes " says ") answer
 shown_text call key shown.Changed = []

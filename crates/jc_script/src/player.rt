@@ -2,7 +2,7 @@
 ghost use Rattle.std.specs.Prelude.{◌≡◌, ◌++◌, ◌∷◌, List, ℕ, [], Some, None, true, OnOk, IfOk, MatchOption};
 ghost use Rattle.jc_types.specs.Limits.{check};
 ghost use Rattle.jc_world.specs.declared.event.WorldEvent.TheVariants as event;
-ghost use Rattle.jc_world.specs.Calls.{CallState, only_key};
+ghost use Rattle.jc_world.specs.Calls.{CallState, current_key};
 ghost use Rattle.jc_world.specs.World.{start, open_call};
 ghost use Rattle.jc_world.specs.Events.{fits, AllFit};
 ghost use Rattle.jc_script.specs.declared.line.Line.TheVariants as lines;
@@ -277,7 +277,7 @@ fn act_on(
     let call = number as u64;
     match world.open_call(call) {
         None => Ok(Some(Fault::NoSuchCall)),
-        Some(open_call) => match open_call.only_key().copied() {
+        Some(open_call) => match open_call.current_key().copied() {
             Some(key) => act_at(alloc, world, call, &key, act, buffers, out),
             None => Ok(Some(Fault::NotNow)),
         },
@@ -294,7 +294,7 @@ fn act_at(
     buffers: &mut LineBuffers,
     out: &mut Vec<u8>,
 ) -> Result<Option<Fault>, AllocError>
-    requires { (u : CallState) × (open_call world.old.world call ≡ Some u) × (only_key u ≡ Some key.now) }
+    requires { (u : CallState) × (open_call world.old.world call ≡ Some u) × (current_key u ≡ Some key.now) }
     ensures { IfOk result (λ r. PlaysLine (Some world.old.world) (lines.OfCall call act.now) r out.old.items out.new.items (Some world.new.world)) }
 {
     let part = world.part(call, key);

@@ -2,7 +2,7 @@
 ghost use Rattle.std.specs.Prelude.{◌≡◌, ◌++◌, OnOk};
 ghost use Rattle.jc_script.specs.Printing.{process_text, cause_name, evict_line, victim_text, evicted_text, outcome_text};
 ghost use Rattle.jc_script.specs.Printing.{stepped_text, picked_line, loads_line, joined_line, waits_line, again_line};
-ghost use Rattle.jc_script.specs.Printing.{dropped_line, refused_line, answer_text, done_name, change_name, reported_text};
+ghost use Rattle.jc_script.specs.Printing.{dropped_line, refused_line, put_off_line, answer_text, done_name, change_name, reported_text};
 ghost use Rattle.jc_script.specs.Printing.{shown_text, foreign_line, told, texts};
 
 use crate::print_lines::{put_answer_line, put_asks, put_fails, put_fault_code, put_subject};
@@ -157,6 +157,14 @@ fn put_refused(out: &mut Vec<u8>, call: u64, key: &Key, refusal: &Refusal) -> Re
     put(out, "\n")
 }
 
+#[tactic(auto, unfolding(crate::specs::Printing::put_off_line))]
+fn put_put_off(out: &mut Vec<u8>, call: u64, key: &Key) -> Result<(), AllocError>
+    ensures { OnOk result (out.new.items ≡ out.old.items ++ put_off_line call key.now) }
+{
+    put_subject(out, call, key)?;
+    put(out, " put off\n")
+}
+
 fn put_answer(
     out: &mut Vec<u8>,
     call: u64,
@@ -227,6 +235,7 @@ fn put_shown(out: &mut Vec<u8>, call: u64, key: &Key, seen: &Shown) -> Result<()
         Shown::Processed(_) => Ok(()),
         Shown::Joins => put_joined(out, call, key),
         Shown::Refused(refusal) => put_refused(out, call, key, refusal),
+        Shown::PutOff(_) => put_put_off(out, call, key),
         Shown::Reads(answer) => put_answer(out, call, key, " reads ", answer),
         Shown::Says(answer) => put_answer(out, call, key, " says ", answer),
         Shown::Changed => Ok(()),

@@ -2,7 +2,8 @@
 --     order_stored, order_parted     after a change of the store, and of what was told of a key
 --     order_start, order_called      at the start, and once a call has begun
 --     may_start_at, begins_at        the conditions on a first phase
-use Rattle.std.proofs.Common.{◌≡◌, ◌==◌, ◌&&◌, ◌||◌, ◌+◌, ℕ, zero, suc, List, [], ◌∷◌, ◌++◌, length, Ok, Bool, true, false, cond, not, Option, None, Some, IsSomeAnd, slice_get, is_none, is_some, refl, sym, ap, ◌∙◌, subst, arith, add-zero, zero-add}
+--     may_turn, part_turn            a call may work at a key that it starts, and at one that it has reserved
+use Rattle.std.proofs.Common.{◌≡◌, ◌==◌, ◌&&◌, ◌||◌, ◌+◌, ℕ, zero, suc, List, [], ◌∷◌, ◌++◌, length, Ok, Bool, true, false, cond, not, Option, None, Some, IsSomeAnd, find, slice_get, is_none, is_some, refl, sym, ap, ◌∙◌, subst, arith, add-zero, zero-add, append-nil}
 use Rattle.std.specs.Cmp.Lexicographic.{pointwise}
 use Rattle.std.proofs.lemmas.Bool.{eq-eqb, eqb-true, and_parts, and_from}
 use Rattle.std.proofs.lemmas.Cmp.{nat_list_cmp_total}
@@ -20,24 +21,25 @@ use Rattle.jc_model.specs.Legal.{is_of_stripe, may_come}
 use Rattle.jc_stripe.specs.declared.ticket.Reservation.{Reservation}
 use Rattle.jc_inflight.specs.declared.joiner.Joiner.{Joiner}
 use Rattle.jc_inflight.specs.Joining.{belongs_to as is_joiner_of}
-use Rattle.jc_stripe.specs.State.{State, is_of}
+use Rattle.jc_stripe.specs.State.{State, is_key, is_of}
 use Rattle.jc_stripe.specs.Phases.{MayBegin, is_other_call, is_other_join as is_join_apart}
 use Rattle.jc_stripe.specs.Reached.{IsReached}
 use Rattle.jc_stripe.specs.OwnSteps.{may_come_all}
 use Rattle.jc_world.specs.declared.command.Command.{Command}
 use Rattle.jc_world.specs.declared.event.Part.{Part}
 use Rattle.jc_world.specs.declared.event.Premises.{Premises}
-use Rattle.jc_world.specs.Calls.{CallState, has_number, op_at, new_call}
+use Rattle.jc_world.specs.Calls.{CallState, has_number, op_at, is_turn, new_call, opened}
 use Rattle.jc_world.specs.declared.event.WorldEvent.TheVariants as event
 use Rattle.jc_world.specs.World.{WorldState, Parts, home, stripe_for, empty_stripe, empty_stripes, start, is_busy, open_call, part_of, is_joined}
 use Rattle.jc_world.specs.Events.{is_playable, is_session, is_new, is_free, may_start, fits}
-use Rattle.jc_world.specs.Sound.{IsStripe, is_up_to, has_parked_answer, is_served_in, is_served, FitsKey, FitsCall, CallsFit, IsCallOf, IsOwned, AllOwned, IsCalled, AllCalled, IsSoundWorld, Each}
+use Rattle.jc_world.specs.Sound.{IsStripe, is_up_to, has_parked_answer, is_served_in, is_served, FitsKey, FitsCall, CallsFit, IsCallOf, IsHeld, IsOwned, AllOwned, IsCalled, AllCalled, IsSoundWorld, Each}
 use Rattle.jc_world.proofs.Halves.{HasOrder}
 use Rattle.jc_world.proofs.Shares.{found_test, shape_same, fact_found, each_map, each_test}
-use Rattle.jc_world.proofs.Underway.{found_number, fits_found, calls_on, elsewhere_found, up_self, up_more, numbers_more, comes_new, calls_pushed, find_pushed, same_bytes, of_call-none}
+use Rattle.jc_world.proofs.Underway.{found_number, fits_found, calls_on, elsewhere_found, up_self, up_more, numbers_more, comes_new, calls_pushed, each_found, find_pushed, same_bytes, of_call-none}
 use Rattle.jc_world.proofs.Joiners.{joiner_of, other_key}
-use Rattle.jc_world.proofs.Settling.{Left}
-use Rattle.jc_world.proofs.Facts.{refuted, not_true}
+use Rattle.jc_world.proofs.Settling.{Left, IsTurnOf}
+use Rattle.jc_world.proofs.NewCalls.{opened_cases}
+use Rattle.jc_world.proofs.Facts.{refuted, not_true, same_found}
 use Rattle.jc_world.proofs.Entries.{split}
 
 -- 1. What changes nothing of the callers' order.
@@ -185,26 +187,49 @@ called_parts a b c d h =
     let q = and_parts (a && b) c p.0 in
     ((and_parts a b q.0).0, q.1, p.1)
 
--- a session begins a call
-pub order_called : (w : WorldState) (call session : ℕ) (command : Command) → fits w (event.Call call session command) ≡ true → IsSoundWorld w
-    → HasOrder (record w { last = Some call; fresh = false; calls = w.calls ++ new_call call session command ∷ [] })
-order_called w call session command fit old =
-    let u : CallState = new_call call session command in
-    let new : WorldState = record w { last = Some call; fresh = false; calls = w.calls ++ u ∷ [] } in
-    let ok = called_parts (is_playable command) (is_session session) (is_new w.last call) (not (is_busy w session)) fit in
+-- the world with more calls
+abbrev begun_world : WorldState → ℕ → List CallState → WorldState
+begun_world w call more = record w { last = Some call; fresh = false; calls = w.calls ++ more }
+
+-- a call fits behind a new number
+fits_more : (w : WorldState) (call : ℕ) (more : List CallState) (x : CallState) → is_new w.last call ≡ true → FitsCall w x → FitsCall (begun_world w call more) x
+fits_more w call more x new h = record {
+  number = up_more w.last call x.caller.call new h.number;
+  keys = λ q op is. let k = h.keys q op is in record { comes = k.comes };
+}
+
+-- calls that fit are in order
+order_more : (w : WorldState) (call : ℕ) (more : List CallState) → is_new w.last call ≡ true → CallsFit (begun_world w call more) (w.calls ++ more) → IsSoundWorld w → HasOrder (begun_world w call more)
+order_more w call more is fit old =
+    let new : WorldState = begun_world w call more in
     record {
       shape = shape_same w new refl refl refl old.shape;
       order = old.order;
-      numbers = numbers_more w.last call w.order ok.1 old.numbers;
-      calls = calls_pushed w new u w.calls ok.1 ok.2 (λ x h. record { number = up_more w.last call x.caller.call ok.1 h.number; keys = λ q op is. let k = h.keys q op is in record { comes = k.comes } })
-          (record {
-            number = up_self call;
-            keys = λ q op is. record { comes = λ e. comes_new w.last u.caller q w.order ok.1 old.numbers };
-          }) old.calls;
+      numbers = numbers_more w.last call w.order is old.numbers;
+      calls = fit;
       owned = λ n s here. each_map (IsOwned w) (IsOwned new) s.reservations
-          (λ r h. record { part = h.part; call = find_pushed (has_number r.caller.call) w.calls (u ∷ []) (IsCallOf r.caller.session r.key r.op) h.call })
+          (λ r h. record { part = h.part; call = find_pushed (has_number r.caller.call) w.calls more (IsCallOf r.caller.session r.key r.op) h.call })
           (old.owned n s here);
     }
+
+-- a session begins a call
+pub order_called : (w : WorldState) (call session : ℕ) (command : Command) → fits w (event.Call call session command) ≡ true → IsSoundWorld w
+    → HasOrder (record w { last = Some call; fresh = false; calls = w.calls ++ opened (new_call call session command) })
+order_called w call session command fit old =
+    let u : CallState = new_call call session command in
+    let one : WorldState = begun_world w call (u ∷ []) in
+    let none : WorldState = begun_world w call [] in
+    let ok = called_parts (is_playable command) (is_session session) (is_new w.last call) (not (is_busy w session)) fit in
+    opened_cases u (λ more. HasOrder (begun_world w call more))
+    (order_more w call (u ∷ []) ok.1
+    (calls_pushed w one u w.calls ok.1 ok.2 (λ x h. fits_more w call (u ∷ []) x ok.1 h)
+    (record {
+      number = up_self call;
+      keys = λ q op is. record { comes = λ e. comes_new w.last u.caller q w.order ok.1 old.numbers };
+    }) old.calls) old)
+    (order_more w call [] ok.1
+    (subst (CallsFit none) (sym (append-nil w.calls))
+    (calls_on w none (λ (x : CallState). find (has_number x.caller.call) w.calls ≡ Some x) w.calls (λ x found h. fits_more w call [] x ok.1 h) (each_found w w.calls old.calls) old.calls)) old)
 
 -- 4. The first phase of a call.
 
@@ -212,6 +237,7 @@ order_called w call session command fit old =
 pub record MayStart (w : WorldState) (u : CallState) (key : Bytes) (op : Op) : Type 0 where
   pub here : open_call w u.caller.call ≡ Some u
   pub op_is : op_at u key ≡ Some op
+  pub turn : is_turn u key ≡ true
   pub fit : FitsKey w u.caller key op
   pub none : is_none (part_of w u.caller.call key) ≡ true
   pub alone : is_joined w u.caller.call key ≡ false
@@ -219,16 +245,31 @@ pub record MayStart (w : WorldState) (u : CallState) (key : Bytes) (op : Op) : T
 -- so where a start fits
 pub may_start_at : (w : WorldState) (call : ℕ) (key : Bytes) (u : CallState) (op : Op) → fits w (event.Start call key) ≡ true → open_call w call ≡ Some u → op_at u key ≡ Some op → IsSoundWorld w → MayStart w u key op
 may_start_at w call key u op fit is op_is old =
-    let free = (and_parts (is_some (op_at u key)) (is_free w call key) (sym (ap (may_start w call key) is) ∙ fit)).1 in
-    let parts = and_parts (is_none (part_of w call key)) (not (is_joined w call key)) free in
+    let tests = and_parts (is_some (op_at u key) && is_turn u key) (is_free w call key) (sym (ap (may_start w call key) is) ∙ fit) in
+    let parts = and_parts (is_none (part_of w call key)) (not (is_joined w call key)) tests.1 in
     let number = found_number call w.calls u is in
     record {
       here = ap (open_call w) number ∙ is;
       op_is = op_is;
+      turn = (and_parts (is_some (op_at u key)) (is_turn u key) tests.0).1;
       fit = (fits_found w (has_number call) w.calls u is old.calls).keys key op op_is;
       none = ap (λ n. is_none (part_of w n key)) number ∙ parts.0;
       alone = ap (λ n. is_joined w n key) number ∙ not_true (is_joined w call key) parts.1;
     }
+
+-- a call may work at a key that it starts
+pub may_turn : (w : WorldState) (u : CallState) (key : Bytes) (op : Op) → MayStart w u key op → IsTurnOf w.calls u.caller.call key
+may_turn w u key op may v here = ap (λ (x : CallState). is_turn x key) (same_found (open_call w u.caller.call) v u here may.here) ∙ may.turn
+
+-- and at one that it has reserved
+pub part_turn : (w : WorldState) (call : ℕ) (key : Bytes) (part : Part) → get w.parts key ≡ Some part → part.reservation.caller.call ≡ call → IsSoundWorld w → IsTurnOf w.calls call key
+part_turn w call key part there mine old v here =
+    let r = part.reservation in
+    let held = some_of (stripe_for w key) (λ s. IsHeld s key part) (old.held key part there) in
+    let own = fact_found (IsOwned w) (is_key r.key) held.0.reservations r held.2.out (old.owned (home w key) held.0 held.1) in
+    let u = some_of (open_call w r.caller.call) (IsCallOf r.caller.session r.key r.op) own.call in
+    let same : v ≡ u.0 = same_found (open_call w call) v u.0 here (ap (open_call w) (sym mine) ∙ u.1) in
+    (λ i. is_turn (same i) (sym held.2.key_is i)) ∙ u.2.2
 
 -- no reservation is of this call and this key
 pub not_own : (w : WorldState) (call : ℕ) (key : Bytes) (r : Reservation) → is_none (part_of w call key) ≡ true → IsOwned w r → r.caller.call ≡ call → r.key ≡ key → ⊥

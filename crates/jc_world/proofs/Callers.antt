@@ -47,7 +47,7 @@ use Rattle.jc_world.specs.declared.event.Progress.{Progress}
 use Rattle.jc_world.specs.declared.event.Premises.{Premises}
 use Rattle.jc_world.specs.declared.event.Shown.{Shown}
 use Rattle.jc_world.specs.declared.event.Shown.TheVariants as shown
-use Rattle.jc_world.specs.Calls.{CallState, has_number, open_keys, op_at, settle}
+use Rattle.jc_world.specs.Calls.{CallState, has_number, open_keys, op_at, is_turn, settle}
 use Rattle.jc_world.specs.declared.event.WorldEvent.{WorldEvent}
 use Rattle.jc_world.specs.declared.event.WorldEvent.TheVariants as event
 use Rattle.jc_world.specs.World.{WorldState, Parts, home, stripe_for, open_call, part_of, is_joined, is_join, join_of, joins_without, out_of, with_stored}
@@ -60,10 +60,10 @@ use Rattle.jc_world.proofs.Reservations.{out_reserved, was_free, writer_alone}
 use Rattle.jc_world.proofs.Processors.{processor_free}
 use Rattle.jc_world.proofs.Shares.{is_some_and, set_cases, found_test, added, share_grows, share_stays, shape_same, shape_set, AllBy, by_map, by_group, added_order, numbers_added, comes_behind, comes_added, fact_found, each_kept, each_map, each_pushed}
 use Rattle.jc_world.proofs.Underway.{found_number, find_over, fits_found, calls_filter, calls_on, each_found, elsewhere_found, all_owned, others_left, same_bytes, of_call-at}
-use Rattle.jc_world.proofs.Settling.{open_now, Left, still_called, calls_settled}
+use Rattle.jc_world.proofs.Settling.{open_now, Left, IsTurnOf, still_called, calls_settled}
 use Rattle.jc_world.proofs.LoadKeys.{key_of_load, each_fits}
 use Rattle.jc_world.proofs.Joiners.{joiner_of, unanswered, told_resolved, told_waiting, told_dissolved, told_pushed, find_kept, each_own, each_caller, each_both, join_is, joined_no_part}
-use Rattle.jc_world.proofs.Beginning.{unless, fits_left, fits_same, calls_same, order_stored, owned_part, order_parted, order_called, MayStart, may_start_at, not_own, apart_or, unserved, begins_with}
+use Rattle.jc_world.proofs.Beginning.{unless, fits_left, fits_same, calls_same, order_stored, owned_part, order_parted, order_called, MayStart, may_start_at, may_turn, part_turn, not_own, apart_or, unserved, begins_with}
 use Rattle.jc_world.proofs.Facts.{refuted, not_true, same_found}
 use Rattle.jc_world.proofs.Entries.{tied}
 
@@ -78,8 +78,8 @@ abbrev IsFound : WorldState → CallState → Type 0
 IsFound w u = find (has_number u.caller.call) w.calls ≡ Some u
 
 -- a reservation of another call, or at another key, keeps its call
-call_kept : (w : WorldState) (call : ℕ) (key : Bytes) (r : Reservation) → (r.caller.call ≡ call → r.key ≡ key → ⊥) → IsOwned w r → IsSomeAnd (find (has_number r.caller.call) (settle call key w.calls)) (IsCallOf r.caller.session r.key r.op)
-call_kept w call key r other h = still_called call key r.caller.call r.caller.session r.key r.op w.calls other h.call
+call_kept : (w : WorldState) (call : ℕ) (key : Bytes) (r : Reservation) → (r.caller.call ≡ call → r.key ≡ key → ⊥) → IsTurnOf w.calls call key → IsOwned w r → IsSomeAnd (find (has_number r.caller.call) (settle call key w.calls)) (IsCallOf r.caller.session r.key r.op)
+call_kept w call key r other turn h = still_called call key r.caller.call r.caller.session r.key r.op w.calls other turn h.call
 
 -- a first phase was refused, and the key has its last refusal
 order_refused : (w : WorldState) (u : CallState) (key : Bytes) (op : Op) → MayStart w u key op → IsSoundWorld w → HasOrder (with_settled w u.caller.call key)
@@ -91,7 +91,7 @@ order_refused w u key op may old =
       numbers = old.numbers;
       calls = calls_settled w new u.caller.call key (IsFound w) w.calls (λ x v left found h. fits_left w new u.caller.call key x v left refl refl (λ q o is k. k) h) (each_found w w.calls old.calls) old.calls;
       owned = λ n s here. each_map (IsOwned w) (IsOwned new) s.reservations
-          (λ r h. record { part = h.part; call = call_kept w u.caller.call key r (not_own w u.caller.call key r may.none h) h })
+          (λ r h. record { part = h.part; call = call_kept w u.caller.call key r (not_own w u.caller.call key r may.none h) (may_turn w u key op may) h })
           (old.owned n s here);
     }
 
@@ -244,7 +244,7 @@ order_done stays w u key op from to done there begins may old =
     let reached = stays.begins from to u.caller key op (begun.Done done) at.reached (begins_with w u key op from old there may) begins in
     let g = goes from from to u.caller key op nothing_said [] done (record { config = refl; stripe = refl; origin = refl; opening = refl }) refl begins.2 in
     let one : IsPut w new call key u.caller key = record { v = u; here = may.here; session_is = refl; op = op; op_is = may.op_is; unserved = unserved w u.caller key may.alone old; over = inl (refl, refl) } in
-    let kept : (rs : List Reservation) → AllOwned w rs → AllOwned new rs = λ rs. each_map (IsOwned w) (IsOwned new) rs (λ r h. record { part = h.part; call = call_kept w call key r (not_own w call key r may.none h) h }) in
+    let kept : (rs : List Reservation) → AllOwned w rs → AllOwned new rs = λ rs. each_map (IsOwned w) (IsOwned new) rs (λ r h. record { part = h.part; call = call_kept w call key r (not_own w call key r may.none h) (may_turn w u key op may) h }) in
     order_stepped w key from to call w.parts old there g reached
     (by_group (IsPut w new call key) (length from.history) (new_group from u.caller key op nothing_said [] begins.2.short) one tt)
     (same_told from to (ap (λ (s : State). s.joiners) begins.2.after))
@@ -279,7 +279,7 @@ order_reserved w u key op from to p r there free caller_is key_is op_is is reach
     }) in
     let one : IsOwned new r = record {
       part = is_some_and (get new.parts r.key) (λ p. p.reservation.caller.call ≡ r.caller.call) (new_part p r) (ap (get new.parts) key_is ∙ get-insert nat_list_cmp_total w.parts key (new_part p r) key ∙ ap (λ b. cond b (Some (new_part p r)) (get w.parts key)) (tied key)) refl;
-      call = is_some_and (open_call new r.caller.call) (IsCallOf r.caller.session r.key r.op) u (ap (λ (c : Caller). open_call w c.call) caller_is ∙ may.here) (ap (λ (c : Caller). c.session) (sym caller_is), ap (op_at u) key_is ∙ may.op_is ∙ ap Some (sym op_is));
+      call = is_some_and (open_call new r.caller.call) (IsCallOf r.caller.session r.key r.op) u (ap (λ (c : Caller). open_call w c.call) caller_is ∙ may.here) (ap (λ (c : Caller). c.session) (sym caller_is), ap (op_at u) key_is ∙ may.op_is ∙ ap Some (sym op_is), ap (is_turn u) key_is ∙ may.turn);
     } in
     record {
       shape = shape_set w new key from to refl refl old.shape there (ap (λ (s : State). s.config) is) (ap (λ (s : State). s.stripe) is) (ap (λ (s : State). s.origin) is) reached
@@ -327,9 +327,14 @@ order_joins w key from to join there is reached old =
 
 -- 5. The first phase.
 
+-- the half of a sound world
+order_of : (w : WorldState) → IsSoundWorld w → HasOrder w
+order_of w h = record { shape = h.shape; order = h.order; numbers = h.numbers; calls = h.calls; owned = h.owned }
+
 -- by what is shown of the first phase
 starts : StaysReached → (w new : WorldState) (u : CallState) (key : Bytes) (op : Op) (from to : State) (seen : Shown) → stripe_for w key ≡ Some from → Starts w u.caller key op from to seen new → MayStart w u key op → IsSoundWorld w → HasOrder new
 starts stays w new u key op from to (shown.Refused refusal) there h may old = subst HasOrder (sym h.1) (order_refused w u key op may old)
+starts stays w new u key op from to (shown.PutOff refusal) there h may old = subst HasOrder (sym h.1) (order_of w old)
 starts stays w new u key op from to (shown.Stepped seen) there h may old = subst HasOrder (sym h.2) (order_done stays w u key op from to (step_of seen) there h.0 may old)
 starts stays w new u key op from to shown.Loads there h may old =
     let at = old.shape.each (home w key) from there in
@@ -458,14 +463,14 @@ ending_at w call key part from to done is there commits old =
     (fact_found (IsOwned w) (is_key part.reservation.key) from.reservations part.reservation commits.0 (old.owned (home w key) from there)) old
 
 -- the key of the commit is settled
-order_commit : (w : WorldState) (call : ℕ) (key : Bytes) (from to : State) → IsSoundWorld w → stripe_for w key ≡ Some from → (e : Ending w call key from to) → IsReached to → HasOrder (ended_world w key from to call)
-order_commit w call key from to old there e reached =
+order_commit : (w : WorldState) (call : ℕ) (key : Bytes) (from to : State) → IsSoundWorld w → stripe_for w key ≡ Some from → IsTurnOf w.calls call key → (e : Ending w call key from to) → IsReached to → HasOrder (ended_world w key from to call)
+order_commit w call key from to old there turn e reached =
     let new : WorldState = ended_world w key from to call in
     order_stepped w key from to call (remove w.parts key) old there e.extends reached e.put e.keeps
     (owned_left_over w new key from to there e.left
     (λ r apart h. record {
       part = part_kept w key r apart h;
-      call = call_kept w call key r (λ mine at. let t : true ≡ false = sym (ap (pointwise ◌==◌ key) at ∙ nat_list_eq_equiv.refl key) ∙ apart in cc) h;
+      call = call_kept w call key r (λ mine at. let t : true ≡ false = sym (ap (pointwise ◌==◌ key) at ∙ nat_list_eq_equiv.refl key) ∙ apart in cc) turn h;
     }) old)
 
 -- by what is shown of the last phase
@@ -474,7 +479,8 @@ ended stays w new call key part from to (shown.Stepped seen) is there h old =
     let at = old.shape.each (home w key) from there in
     let e = ending_at w call key part from to (step_of seen) is there h.0 old in
     let reached = stays.commits from to part.reservation (out_of part) (step_of seen) at.reached h.0 in
-    subst HasOrder (sym h.2) (order_commit w call key from to old there e reached)
+    let mine = of_call-at call (get w.parts key) part is in
+    subst HasOrder (sym h.2) (order_commit w call key from to old there (part_turn w call key part mine.0 mine.1 old) e reached)
 ended stays w new call key part from to seen is there h old = absurd h
 
 -- a last phase
@@ -519,6 +525,7 @@ pub record Picking (w : WorldState) (call : ℕ) (key : Bytes) (join : JoinClaim
   pub here : open_call w call ≡ Some u
   pub session_is : u.caller.session ≡ join.caller.session
   pub op_is : op_at u key ≡ Some Get
+  pub turn : is_turn u key ≡ true
   pub call_is : join.caller.call ≡ call
   pub join_key : join.key ≡ key
   pub none : part_of w call key ≡ None
@@ -533,10 +540,15 @@ picking w call key join there old =
       here = ap (open_call w) (sym is.0) ∙ u.1;
       session_is = u.2.0;
       op_is = ap (op_at u.0) (sym is.1) ∙ u.2.1;
+      turn = ap (is_turn u.0) (sym is.1) ∙ u.2.2;
       call_is = is.0;
       join_key = is.1;
       none = (λ i. part_of w (sym is.0 i) (sym is.1 i)) ∙ h.no_part;
     }
+
+-- the call may work at the key
+pub picking_turn : (w : WorldState) (call : ℕ) (key : Bytes) (join : JoinClaim) → Picking w call key join → IsTurnOf w.calls call key
+picking_turn w call key join p v here = ap (λ (x : CallState). is_turn x key) (same_found (open_call w call) v p.u here p.here) ∙ p.turn
 
 -- the stripe once a call has picked its answer up
 left_keeps : (w : WorldState) (call : ℕ) (key : Bytes) (from to : State) (join : JoinClaim) (caller : Caller) (q : Bytes) → stripe_for w key ≡ Some from → to ≡ without_joiner from join → join.caller.call ≡ call → join.key ≡ key
@@ -553,7 +565,7 @@ order_picked stays w call key join from to p joined there picks is old =
     let new : WorldState = with_settled (without_join (with_stripe w key to) call key) call key in
     let one = picking w call key join joined old in
     let at = old.shape.each (home w key) from there in
-    let kept : (rs : List Reservation) → AllOwned w rs → AllOwned new rs = λ rs. each_map (IsOwned w) (IsOwned new) rs (λ r h. record { part = h.part; call = call_kept w call key r (not_own w call key r (ap is_none one.none) h) h }) in
+    let kept : (rs : List Reservation) → AllOwned w rs → AllOwned new rs = λ rs. each_map (IsOwned w) (IsOwned new) rs (λ r h. record { part = h.part; call = call_kept w call key r (not_own w call key r (ap is_none one.none) h) (picking_turn w call key join one) h }) in
     record {
       shape = shape_set w new key from to refl refl old.shape there (ap (λ (s : State). s.config) is) (ap (λ (s : State). s.stripe) is) (ap (λ (s : State). s.origin) is) (stays.picks_up from to join p at.reached picks)
           (at.share ∙ sym (ap (λ (s : State). s.history) is)) (λ n apart. refl);
@@ -602,10 +614,6 @@ order_again stays w call key join from to joined there picks old =
     order_aside w key from to (joins_without call key w.joins) there (ap (λ (s : State). s.config) is) (ap (λ (s : State). s.stripe) is) (ap (λ (s : State). s.origin) is) (ap (λ (s : State). s.history) is) (ap (λ (s : State). s.reservations) is)
     (stays.picks_up from to join picked.Again at.reached picks)
     (calls_on w new (IsFound w) w.calls (λ v found h. fits_same w new v refl refl (served v found) h) (each_found w w.calls old.calls) old.calls) old
-
--- the half of a sound world
-order_of : (w : WorldState) → IsSoundWorld w → HasOrder w
-order_of w h = record { shape = h.shape; order = h.order; numbers = h.numbers; calls = h.calls; owned = h.owned }
 
 -- by what is shown of it
 pub order_picks : StaysReached → (w new : WorldState) (call : ℕ) (key : Bytes) (join : JoinClaim) (from to : State) (seen : Shown) → join_of w call key ≡ Some join → stripe_for w key ≡ Some from → Picks w call key join from to seen new → IsSoundWorld w → HasOrder new

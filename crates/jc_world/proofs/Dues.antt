@@ -79,6 +79,7 @@ due_of w call key part is old = old key part (is_part (get w.parts key) call par
 
 dues_started : (w new : WorldState) (caller : Caller) (key : Bytes) (op : Op) (from to : State) (seen : Shown) → Starts w caller key op from to seen new → AllDueAt w → AllDueAt new
 dues_started w new caller key op from to (shown.Refused refusal) h old = subst AllDueAt (sym h.1) old
+dues_started w new caller key op from to (shown.PutOff refusal) h old = subst AllDueAt (sym h.1) old
 dues_started w new caller key op from to (shown.Stepped seen) h old = subst AllDueAt (sym h.2) old
 dues_started w new caller key op from to shown.Loads h old = subst AllDueAt (sym h.2) (dues_insert w.config w.parts key (new_part new_load h.0.reservation) old refl)
 dues_started w new caller key op from to (shown.Asks change) h old = subst AllDueAt (sym h.3) (dues_insert w.config w.parts key (new_part new_write h.0.reservation) old refl)

@@ -4,7 +4,7 @@
 --     leave_fits     a call's leaving, behind its withdrawal
 --     start_fits     a call's first phase, behind its beginning
 --     rest_fits      what follows in a line, if its first event fits
-use Rattle.std.proofs.Common.{◌≡◌, ℕ, List, [], ◌∷◌, ◌++◌, true, false, cond, not, Option, None, Some, IsSomeAnd, find, inl, inr, refl, sym, ap, ◌∙◌, subst, arith, is_none, nat_lt, nat_le}
+use Rattle.std.proofs.Common.{◌≡◌, ℕ, List, [], ◌∷◌, ◌++◌, Bool, true, false, cond, not, Option, None, Some, IsSomeAnd, find, inl, inr, refl, sym, ap, ◌∙◌, subst, arith, is_none, nat_lt, nat_le}
 use Rattle.std.specs.Option.{option_or}
 use Rattle.std.specs.FinMap.{get, remove, get-insert, get-remove}
 use Rattle.std.proofs.lemmas.Bool.{eq-eqb, and_parts, and_from}
@@ -13,30 +13,34 @@ use Rattle.std.proofs.lemmas.Cmp.{nat_list_cmp_total, nat_eq_equiv}
 use Rattle.std.proofs.lemmas.List.Folds.{find-append}
 use Rattle.std.specs.List.{list_all}
 use Rattle.jc_model.specs.declared.event.Op.TheVariants.{Get}
-use Rattle.jc_model.specs.Cache.{Bytes}
+use Rattle.jc_model.specs.Cache.{Bytes, key_cmp}
 use Rattle.jc_world.specs.declared.event.Part.{Part}
 use Rattle.jc_world.specs.declared.event.Progress.{Progress}
 use Rattle.jc_world.specs.declared.event.Progress.TheVariants.{Loading, Writing, Processing, Processed, WritingEffect}
-use Rattle.jc_world.specs.Calls.{CallState, has_number, only_key, op_at, new_call}
+use Rattle.jc_world.specs.Calls.{CallState, has_number, current_key, is_turn, open_keys, op_at, opened, new_call}
 use Rattle.jc_world.specs.declared.event.Shown.{Shown}
 use Rattle.jc_world.specs.declared.event.Shown.TheVariants as shown
 use Rattle.jc_world.specs.declared.event.WorldEvent.{WorldEvent}
 use Rattle.jc_world.specs.declared.event.WorldEvent.TheVariants as event
+use Rattle.std.specs.Ordering.{eq_by_cmp}
 use Rattle.jc_world.specs.World.{WorldState, open_call, of_call, part_of, waits_for_report, is_join, is_joined, is_untouched, has_progress}
 use Rattle.jc_world.specs.Events.{fits, is_new, is_free, may_start, may_leave, waits_at, may_report, after_change, with_stripe, without_part, Happens, is_fit, AllFit, StartFits, RestFits, with_change}
 use Rattle.jc_world.specs.Sound.{is_up_to, IsCallOf, IsSoundWorld}
 use Rattle.jc_world.proofs.Holding.{call_on}
-use Rattle.jc_world.proofs.Entries.{tied}
+use Rattle.jc_world.proofs.Entries.{split, tied}
 use Rattle.jc_world.proofs.Underway.{found_number, fits_found, of_call-at}
 use Rattle.jc_world.proofs.Joiners.{join_any, join_is}
-use Rattle.jc_world.proofs.Settling.{only_is}
-use Rattle.jc_world.proofs.Facts.{refuted, missing}
+use Rattle.jc_world.proofs.Settling.{turn_is}
+use Rattle.jc_world.proofs.NewCalls.{begun_cases, opened_one}
+use Rattle.jc_world.proofs.Beginning.{part_turn}
+use Rattle.jc_world.proofs.Facts.{refuted, missing, same_found}
+use Rattle.jc_world.proofs.Numbered.{some_of}
 
 -- 1. What fits is shown as no fault.
 
 -- what happens is no fault
 fit_shown : (old new : WorldState) (e : WorldEvent) (seen : Shown) → Happens old e seen new → is_fit seen ≡ true
-fit_shown old new (event.Call call session command) seen h = ap is_fit h.0
+fit_shown old new (event.Call call session command) seen h = ap is_fit h.0 ∙ begun_cases (new_call call session command) (λ s. is_fit s ≡ true) refl refl
 fit_shown old new (event.Start call key) shown.Unfit h = absurd h.7
 fit_shown old new (event.Start call key) seen h = refl
 fit_shown old new (event.Read call key) seen h = ap is_fit h.2
@@ -83,9 +87,9 @@ still_waits call o part is waits =
     unchanged (WritingEffect loaded process is_changed report) = refl
 
 -- the writer's return, behind its change of the store
-report_fits : (w : WorldState) (call : ℕ) (u : CallState) (key : Bytes) (fault : Option ℕ) → open_call w call ≡ Some u → only_key u ≡ Some key → fits w (event.Change call key) ≡ true
+report_fits : (w : WorldState) (call : ℕ) (u : CallState) (key : Bytes) (fault : Option ℕ) → open_call w call ≡ Some u → current_key u ≡ Some key → fits w (event.Change call key) ≡ true
     → AllFit w (event.Change call key ∷ event.Report call fault ∷ [])
-report_fits w call u key fault here only fit =
+report_fits w call u key fault here current fit =
     fits_then w (event.Change call key) (event.Report call fault ∷ []) fit (λ seen mid happens.
     let part = happens.0 in
     let new = after_change w key part happens.1 in
@@ -93,21 +97,45 @@ report_fits w call u key fault here only fit =
     let there : get new.parts key ≡ Some (record part { progress = with_change part.progress }) = get-insert nat_list_cmp_total w.parts key (record part { progress = with_change part.progress }) key ∙ ap (λ b. cond b (Some (record part { progress = with_change part.progress })) (get w.parts key)) (tied key) in
     one_fits mid (event.Report call fault)
     (subst P (sym happens.5)
-    (ap (may_report new call) here ∙ ap (waits_at new call) only
+    (ap (may_report new call) here ∙ ap (waits_at new call) current
     ∙ ap (λ o. has_progress waits_for_report (of_call call o)) there ∙ still_waits call (get w.parts key) part happens.2 fit)))
 
+-- once a call has given its current key back, it has no reservation of any key
+no_part : (w : WorldState) (call : ℕ) (u : CallState) (key : Bytes) → open_call w call ≡ Some u → current_key u ≡ Some key → IsSoundWorld w → (q : Bytes) → of_call call (get (remove w.parts key) q) ≡ None
+no_part w call u key here current old q = missing (of_call call (get (remove w.parts key) q)) (λ part is.
+    let at = of_call-at call (get (remove w.parts key) q) part is in
+    split q key (λ b. cond b None (get w.parts q) ≡ Some part → ⊥)
+    (λ same e. cc)
+    (λ apart e.
+    let same : q ≡ key = turn_is u q key current (part_turn w call q part e at.1 old u here) in
+    let t : true ≡ false = sym (tied key) ∙ ap (λ k. eq_by_cmp key_cmp k key) (sym same) ∙ apart in cc)
+    (sym (get-remove nat_list_cmp_total w.parts key q) ∙ at.0))
+
+-- nor a join, where it has none of that one
+no_join : (w : WorldState) (call : ℕ) (u : CallState) (key : Bytes) → open_call w call ≡ Some u → current_key u ≡ Some key → is_joined w call key ≡ false → IsSoundWorld w → (q : Bytes) → is_joined w call q ≡ false
+no_join w call u key here current free old q = refuted (is_joined w call q) (λ joined.
+    let j = join_any w (is_join call q) w.joins joined old.joins in
+    let same = join_is call q j.0 j.2 in
+    let v = some_of (open_call w j.0.caller.call) (IsCallOf j.0.caller.session j.0.key Get) j.3.call in
+    let it : v.0 ≡ u = same_found (open_call w call) v.0 u (ap (open_call w) (sym same.0) ∙ v.1) here in
+    let at : q ≡ key = turn_is u q key current ((λ i. is_turn (sym it i) (sym same.1 i)) ∙ v.2.2) in
+    let t : true ≡ false = sym joined ∙ ap (is_joined w call) at ∙ free in cc)
+
+all_hold_of : (p : Bytes → Bool) (keys : List Bytes) → ((q : Bytes) → p q ≡ true) → list_all p keys ≡ true
+all_hold_of p [] h = refl
+all_hold_of p (q ∷ keys) h = and_from _ _ (h q) (all_hold_of p keys h)
+
 -- a call's leaving, behind its withdrawal
-pub leave_fits : (w : WorldState) (call : ℕ) (u : CallState) (key : Bytes) → open_call w call ≡ Some u → only_key u ≡ Some key → is_joined w call key ≡ false → fits w (event.Withdraw call key) ≡ true
+pub leave_fits : (w : WorldState) (call : ℕ) (u : CallState) (key : Bytes) → open_call w call ≡ Some u → current_key u ≡ Some key → is_joined w call key ≡ false → IsSoundWorld w → fits w (event.Withdraw call key) ≡ true
     → AllFit w (event.Withdraw call key ∷ event.Leave call ∷ [])
-leave_fits w call u key here only free fit =
+leave_fits w call u key here current free old fit =
     fits_then w (event.Withdraw call key) (event.Leave call ∷ []) fit (λ seen mid happens.
     let new = without_part (with_stripe w key happens.4) key in
     let P : WorldState → Type 0 = λ m. fits m (event.Leave call) ≡ true in
-    let gone : get (remove w.parts key) key ≡ None = get-remove nat_list_cmp_total w.parts key key ∙ ap (λ b. cond b None (get w.parts key)) (tied key) in
     one_fits mid (event.Leave call)
     (subst P (sym happens.7)
-    (ap (may_leave new call) here ∙ ap (list_all (is_free new call)) (only_is u.tasks key only)
-    ∙ and_from (is_free new call key) true (and_from _ _ (ap (λ o. is_none (of_call call o)) gone) (ap not free)) refl)))
+    (ap (may_leave new call) here
+    ∙ all_hold_of (is_free new call) (open_keys u) (λ q. and_from _ _ (ap is_none (no_part w call u key here current old q)) (ap not (no_join w call u key here current free old q))))))
 
 -- 3. A call that has just begun.
 
@@ -142,17 +170,18 @@ new_free w call key new old =
 
 -- a call's first phase, behind its beginning
 pub start_fits : (w : WorldState) → IsSoundWorld w → StartFits w
-start_fits w old call session command key fit opens =
+start_fits w old call session command key fit opens turn few =
     let u : CallState = new_call call session command in
     let new : is_new w.last call ≡ true = (and_parts _ _ (and_parts _ _ fit).0).1 in
-    let here : find (has_number call) (w.calls ++ u ∷ []) ≡ Some u =
-    find-append (has_number call) w.calls (u ∷ []) ∙ ap (λ o. option_or o (find (has_number call) (u ∷ []))) (new_under w call new old) ∙ ap (λ b. cond b (Some u) None) (nat_eq_equiv.refl call)
+    let here : find (has_number call) (w.calls ++ opened u) ≡ Some u =
+    ap (λ more. find (has_number call) (w.calls ++ more)) (opened_one u key opens few)
+    ∙ find-append (has_number call) w.calls (u ∷ []) ∙ ap (λ o. option_or o (find (has_number call) (u ∷ []))) (new_under w call new old) ∙ ap (λ b. cond b (Some u) None) (nat_eq_equiv.refl call)
     in
-    let next : WorldState = record w { last = Some call; fresh = false; calls = w.calls ++ u ∷ [] } in
+    let next : WorldState = record w { last = Some call; fresh = false; calls = w.calls ++ opened u } in
     fits_then w (event.Call call session command) (event.Start call key ∷ []) fit (λ seen mid happens.
     let P : WorldState → Type 0 = λ m. fits m (event.Start call key) ≡ true in
     one_fits mid (event.Start call key)
-    (subst P (sym happens.1) (ap (may_start next call key) here ∙ and_from _ _ opens (new_free w call key new old))))
+    (subst P (sym happens.1) (ap (may_start next call key) here ∙ and_from _ _ (and_from _ _ opens turn) (new_free w call key new old))))
 
 -- 4. What follows in a line.
 
@@ -168,5 +197,5 @@ pub rest_fits : (w : WorldState) → IsSoundWorld w → RestFits w
 rest_fits w old = record {
   alone = one_fits w;
   report = report_fits w;
-  leave = λ call u key here only fit. leave_fits w call u key here only (unjoined_held w call key fit old) fit;
+  leave = λ call u key here current fit. leave_fits w call u key here current (unjoined_held w call key fit old) old fit;
 }

@@ -30,7 +30,7 @@ use Rattle.jc_world.specs.declared.event.Part.{Part}
 use Rattle.jc_world.specs.declared.event.Premises.{Premises}
 use Rattle.jc_world.specs.declared.event.Shown.{Shown}
 use Rattle.jc_world.specs.declared.event.Shown.TheVariants as shown
-use Rattle.jc_world.specs.Calls.{CallState, has_number, open_keys, op_at, settle, drop_call, new_call}
+use Rattle.jc_world.specs.Calls.{CallState, has_number, open_keys, op_at, is_turn, opened, settle, drop_call, new_call}
 use Rattle.jc_world.specs.declared.event.WorldEvent.{WorldEvent}
 use Rattle.jc_world.specs.declared.event.WorldEvent.TheVariants as event
 use Rattle.jc_world.specs.World.{WorldState, Parts, home, stripe_for, start, open_call, of_call, part_of, is_join, join_of, is_joined, joins_without}
@@ -40,11 +40,11 @@ use Rattle.jc_world.proofs.Halves.{HasJoins}
 use Rattle.jc_world.proofs.Places.{at_stripe, stripe_put}
 use Rattle.jc_world.proofs.Shares.{is_some_and, set_cases, found_test, fact_found, each_kept, each_map, each_pushed}
 use Rattle.jc_world.proofs.Underway.{find_over, find_pushed, of_call-at, same_bytes}
-use Rattle.jc_world.proofs.Settling.{open_now, still_called}
+use Rattle.jc_world.proofs.Settling.{open_now, still_called, IsTurnOf}
 use Rattle.jc_world.proofs.LoadKeys.{joins_get}
 use Rattle.jc_world.proofs.Joiners.{joiner_of, any_kept, any_front, any_last, joined_resolved, joined_dissolved, joined_front, joined_last, find_kept, called_resolved, called_dissolved, once_pushed, once_filter, waited_on, each_joined, join_is, joined_no_part, other_key, none_inserted, none_removed, part_other, each_both}
-use Rattle.jc_world.proofs.Beginning.{MayStart, may_start_at, start_is}
-use Rattle.jc_world.proofs.Callers.{Picking, picking}
+use Rattle.jc_world.proofs.Beginning.{MayStart, may_start_at, may_turn, part_turn, start_is}
+use Rattle.jc_world.proofs.Callers.{Picking, picking, picking_turn}
 use Rattle.jc_world.proofs.Facts.{denied, missing, refuted}
 
 -- 1. What goes on.
@@ -106,9 +106,9 @@ joins_parted w call key was part premises store is same old =
     }
 
 -- a call begins
-joins_called : (w : WorldState) (call session : ℕ) (command : Command) → IsSoundWorld w → HasJoins (record w { last = Some call; fresh = false; calls = w.calls ++ new_call call session command ∷ [] })
+joins_called : (w : WorldState) (call session : ℕ) (command : Command) → IsSoundWorld w → HasJoins (record w { last = Some call; fresh = false; calls = w.calls ++ opened (new_call call session command) })
 joins_called w call session command old =
-    let more : List CallState = new_call call session command ∷ [] in
+    let more : List CallState = opened (new_call call session command) in
     let new : WorldState = record w { last = Some call; fresh = false; calls = w.calls ++ more } in
     record {
       joins = kept_joins w new (λ j t h. record { out = h.out; call = find_pushed (has_number j.caller.call) w.calls more (IsCallOf j.caller.session j.key Get) h.call; no_part = h.no_part }) old;
@@ -117,17 +117,17 @@ joins_called w call session command old =
     }
 
 -- a call that has joined goes on where a key that isn't joined is settled
-still_under : (w : WorldState) (call : ℕ) (key : Bytes) → is_joined w call key ≡ false → (number session : ℕ) (q : Bytes) → is_joined w number q ≡ true
+still_under : (w : WorldState) (call : ℕ) (key : Bytes) → is_joined w call key ≡ false → IsTurnOf w.calls call key → (number session : ℕ) (q : Bytes) → is_joined w number q ≡ true
     → IsSomeAnd (open_call w number) (IsCallOf session q Get) → IsSomeAnd (find (has_number number) (settle call key w.calls)) (IsCallOf session q Get)
-still_under w call key free number session q joined h = still_called call key number session q Get w.calls (other_key w call key number q free joined) h
+still_under w call key free turn number session q joined h = still_called call key number session q Get w.calls (other_key w call key number q free joined) turn h
 
 -- a first phase was refused, and the key has its last refusal
-joins_refused : (w : WorldState) (call : ℕ) (key : Bytes) → is_joined w call key ≡ false → IsSoundWorld w → HasJoins (with_settled w call key)
-joins_refused w call key free old =
+joins_refused : (w : WorldState) (call : ℕ) (key : Bytes) → is_joined w call key ≡ false → IsTurnOf w.calls call key → IsSoundWorld w → HasJoins (with_settled w call key)
+joins_refused w call key free turn old =
     let new = with_settled w call key in
     record {
-      joins = kept_joins w new (λ j t h. record { out = h.out; call = still_under w call key free j.caller.call j.caller.session j.key t h.call; no_part = h.no_part }) old;
-      called = λ m s at. each_map (IsCalled w m) (IsCalled new m) s.joiners (λ j h. record { home_is = h.home_is; join = h.join; call = still_under w call key free j.caller.call j.caller.session j.key h.join h.call }) (old.called m s at);
+      joins = kept_joins w new (λ j t h. record { out = h.out; call = still_under w call key free turn j.caller.call j.caller.session j.key t h.call; no_part = h.no_part }) old;
+      called = λ m s at. each_map (IsCalled w m) (IsCalled new m) s.joiners (λ j h. record { home_is = h.home_is; join = h.join; call = still_under w call key free turn j.caller.call j.caller.session j.key h.join h.call }) (old.called m s at);
       once = old.once;
     }
 
@@ -208,7 +208,7 @@ joins_joined w u key op from to join there join_is to_is get_is may old =
     let call_is : join.caller.call ≡ u.caller.call = ap (λ (j : JoinClaim). j.caller.call) join_is in
     let key_is : join.key ≡ key = ap (λ (j : JoinClaim). j.key) join_is in
     let on : (m : ℕ) (j : Joiner) → IsCalled w m j → IsCalled new m j = λ m j h. record { home_is = h.home_is; join = any_front (is_join j.caller.call j.key) w.joins (join ∷ []) h.join; call = h.call } in
-    let its_call : IsSomeAnd (open_call w join.caller.call) (IsCallOf join.caller.session join.key Get) = is_some_and (open_call w join.caller.call) (IsCallOf join.caller.session join.key Get) u (ap (open_call w) call_is ∙ may.here) (sym session_is, ap (op_at u) key_is ∙ may.op_is ∙ ap Some get_is) in
+    let its_call : IsSomeAnd (open_call w join.caller.call) (IsCallOf join.caller.session join.key Get) = is_some_and (open_call w join.caller.call) (IsCallOf join.caller.session join.key Get) u (ap (open_call w) call_is ∙ may.here) (sym session_is, ap (op_at u) key_is ∙ may.op_is ∙ ap Some get_is, ap (is_turn u) key_is ∙ may.turn) in
     let one : IsCalled new (home w key) next = record {
       home_is = ap (home w) key_is;
       join = any_last (is_join join.caller.call join.key) w.joins join (and_from _ _ (nat_eq_equiv.refl join.caller.call) (nat_list_eq_equiv.refl join.key));
@@ -234,12 +234,13 @@ joins_joined w u key op from to join there join_is to_is get_is may old =
 
 -- by what is shown of the first phase
 joins_started : (w new : WorldState) (u : CallState) (key : Bytes) (op : Op) (from to : State) (seen : Shown) → stripe_for w key ≡ Some from → Starts w u.caller key op from to seen new → MayStart w u key op → IsSoundWorld w → HasJoins new
-joins_started w new u key op from to (shown.Refused refusal) there h may old = subst HasJoins (sym h.1) (joins_refused w u.caller.call key may.alone old)
+joins_started w new u key op from to (shown.Refused refusal) there h may old = subst HasJoins (sym h.1) (joins_refused w u.caller.call key may.alone (may_turn w u key op may) old)
+joins_started w new u key op from to (shown.PutOff refusal) there h may old = subst HasJoins (sym h.1) (record { joins = old.joins; once = old.once; called = old.called })
 joins_started w new u key op from to (shown.Stepped seen) there h may old =
     let same : to.joiners ≡ from.joiners = ap (λ (s : State). s.joiners) h.0.2.after in
     subst HasJoins (sym h.2)
     (joins_phase w key from to (with_phase w key from to).order (settle u.caller.call key w.calls) w.parts there (same_joiners from to same) (same_called (home w key) from to same)
-    (λ number session q t k. still_under w u.caller.call key may.alone number session q t k) (λ number q t k. k) old)
+    (λ number session q t k. still_under w u.caller.call key may.alone (may_turn w u key op may) number session q t k) (λ number q t k. k) old)
 joins_started w new u key op from to shown.Loads there h may old =
     let same : to.joiners ≡ from.joiners = ap (λ (s : State). s.joiners) h.1.4 in
     let part = new_part new_load h.0.reservation in
@@ -272,11 +273,13 @@ joins_ended : (w new : WorldState) (call : ℕ) (key : Bytes) (part : Part) (fro
 joins_ended w new call key part from to (shown.Stepped seen) is there h old =
     let joiners : to.joiners ≡ resolved part.reservation.number seen.place from.joiners = ap (λ (s : State). s.joiners) h.0.1.after in
     let free = unjoined_part w call key part is old in
+    let at = of_call-at call (get w.parts key) part is in
+    let turn = part_turn w call key part at.0 at.1 old in
     subst HasJoins (sym h.2)
     (joins_phase w key from to (with_phase w key from to).order (settle call key w.calls) (remove w.parts key) there
     (λ j t. let J : List Joiner → Type 0 = λ js. IsSomeAnd (joiner_of j.caller j.key js) (λ x. x.load ≡ j.load) in subst J (sym joiners) (joined_resolved (λ x. x.load ≡ j.load) part.reservation.number seen.place (seen.place + 1) j.caller j.key from.joiners (λ place x k. k) t))
     (λ n t. subst (AllCalled n (home w key)) (sym joiners) (called_resolved n (home w key) part.reservation.number seen.place (seen.place + 1) from.joiners t))
-    (λ number session q t k. still_under w call key free number session q t k) (λ number q t k. none_removed w.parts key q number k) old)
+    (λ number session q t k. still_under w call key free turn number session q t k) (λ number q t k. none_removed w.parts key q number k) old)
 joins_ended w new call key part from to seen is there h old = absurd h
 
 -- a reservation is given back
@@ -299,8 +302,8 @@ all_go_on : (w : WorldState) (call : ℕ) (key : Bytes) → GoOn w call key w.ca
 all_go_on w call key = record { keeps = λ number session q apart h. h }
 
 -- the others do, where the key is settled
-others_go_on : (w : WorldState) (call : ℕ) (key : Bytes) → GoOn w call key (settle call key w.calls)
-others_go_on w call key = record { keeps = λ number session q apart h. still_called call key number session q Get w.calls apart h }
+others_go_on : (w : WorldState) (call : ℕ) (key : Bytes) → IsTurnOf w.calls call key → GoOn w call key (settle call key w.calls)
+others_go_on w call key turn = record { keeps = λ number session q apart h. still_called call key number session q Get w.calls apart turn h }
 
 -- a call of the number is of the session of the join
 session_at : (w : WorldState) (call : ℕ) (key : Bytes) (join : JoinClaim) → Picking w call key join → (number session : ℕ) (q : Bytes) → number ≡ call → IsSomeAnd (open_call w number) (IsCallOf session q Get) → session ≡ join.caller.session
@@ -356,7 +359,7 @@ joins_picked w call key join from to calls joined there is go old =
 
 -- by what is shown of a pick-up
 joins_picks : (w new : WorldState) (call : ℕ) (key : Bytes) (join : JoinClaim) (from to : State) (seen : Shown) → join_of w call key ≡ Some join → stripe_for w key ≡ Some from → Picks w call key join from to seen new → IsSoundWorld w → HasJoins new
-joins_picks w new call key join from to (shown.PickedUp seen) joined there h old = subst HasJoins (sym h.2) (joins_picked w call key join from to (settle call key w.calls) joined there h.0.3 (others_go_on w call key) old)
+joins_picks w new call key join from to (shown.PickedUp seen) joined there h old = subst HasJoins (sym h.2) (joins_picked w call key join from to (settle call key w.calls) joined there h.0.3 (others_go_on w call key (picking_turn w call key join (picking w call key join joined old))) old)
 joins_picks w new call key join from to shown.Again joined there h old = subst HasJoins (sym h.1) (joins_picked w call key join from to w.calls joined there h.0.2 (all_go_on w call key) old)
 joins_picks w new call key join from to shown.Waits joined there h old = subst HasJoins (sym h.1) (record { joins = old.joins; once = old.once; called = old.called })
 joins_picks w new call key join from to seen joined there h old = absurd h

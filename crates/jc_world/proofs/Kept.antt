@@ -39,7 +39,7 @@ use Rattle.jc_stripe.specs.declared.begun.Begun.TheVariants as begun
 use Rattle.jc_stripe.specs.declared.ticket.First.{First}
 use Rattle.jc_stripe.specs.declared.ticket.First.TheVariants.{Nobody, Loader, Writer, Processor}
 use Rattle.jc_world.specs.declared.command.Command.{Command}
-use Rattle.jc_world.specs.Calls.{CallState, has_number, op_at, settle, drop_call, new_call}
+use Rattle.jc_world.specs.Calls.{CallState, has_number, op_at, opened, settle, drop_call, new_call}
 use Rattle.jc_world.specs.declared.event.Part.{Part}
 use Rattle.jc_world.specs.declared.event.Progress.{Progress}
 use Rattle.jc_world.specs.declared.event.Progress.TheVariants.{Loading, Writing, Processing, Processed, WritingEffect}
@@ -408,9 +408,9 @@ parts_start config fits =
 
 -- a call has begun
 pub parts_called : (w : WorldState) (call session : ℕ) (command : Command) → fits w (event.Call call session command) ≡ true → IsSoundWorld w
-    → HasParts (record w { last = Some call; fresh = false; calls = w.calls ++ new_call call session command ∷ [] })
+    → HasParts (record w { last = Some call; fresh = false; calls = w.calls ++ opened (new_call call session command) })
 parts_called w call session command fit old =
-    let more : List CallState = new_call call session command ∷ [] in
+    let more : List CallState = opened (new_call call session command) in
     let n : WorldState = record w { last = Some call; fresh = false; calls = w.calls ++ more } in
     record {
       held = old.held;
@@ -577,6 +577,7 @@ parts_aside w key from next calls joins at cache reservations used old =
 pub parts_started : (w new : WorldState) (call : ℕ) (key : Bytes) (u : CallState) (op : Op) (from to : State) (seen : Shown) → open_call w call ≡ Some u → stripe_for w key ≡ Some from
     → Starts w u.caller key op from to seen new → IsSoundWorld w → HasParts new
 parts_started w new call key u op from to (shown.Refused refusal) is at (begins, leaves) old = subst HasParts (sym leaves) (parts_over w call u (settle u.caller.call key w.calls) is old)
+parts_started w new call key u op from to (shown.PutOff refusal) is at (begins, leaves) old = subst HasParts (sym leaves) (record { held = old.held; told = old.told; fresh = old.fresh; idle = old.idle })
 parts_started w new call key u op from to (shown.Stepped seen) is at (begins, shows, leaves) old =
     subst HasParts (sym leaves) (parts_stepped w call u key op from to (with_phase w key from to).order (settle u.caller.call key w.calls) (step_of seen) is at begins old)
 parts_started w new call key u op from to shown.Loads is at (ticket, begins, leaves) old = subst HasParts (sym leaves) (parts_loads w call u key op from to ticket is at begins old)

@@ -3,6 +3,7 @@ pub mod Halves
 pub mod Shares
 pub mod Underway
 pub mod Settling
+pub mod NewCalls
 pub mod Tasks
 pub mod Joiners
 pub mod LoadKeys

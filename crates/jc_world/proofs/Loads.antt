@@ -230,6 +230,7 @@ total_processed w call key q part done is waits =
 -- the first phase
 total_started : (w new : WorldState) (u : CallState) (key : Bytes) (op : Op) (from to : State) (seen : Shown) (q : Bytes) → stripe_for w key ≡ Some from → Starts w u.caller key op from to seen new → IsSoundWorld w → total new q ≡ total w q
 total_started w new u key op from to (shown.Refused refusal) q there h old = ap (λ (x : WorldState). total x q) h.1
+total_started w new u key op from to (shown.PutOff refusal) q there h old = ap (λ (x : WorldState). total x q) h.1
 total_started w new u key op from to (shown.Stepped seen) q there h old =
     let steps = h.0.2 in
     let added_is = step_loads from to u.caller key op nothing_said [] (step_of seen) q steps in

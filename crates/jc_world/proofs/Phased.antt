@@ -1,5 +1,5 @@
 -- What the machine of a world does in a first and a last phase is what the definitions say.
-use Rattle.std.proofs.Common.{false, ◌≡◌, ◌∙◌, ℕ, zero, suc, List, [], ◌∷◌, ◌++◌, length, drop, Option, Some, None, IsSomeAnd, is_some, true, slice_get, slice_set, refl, sym, ap, subst, append-nil}
+use Rattle.std.proofs.Common.{false, ◌≡◌, ◌&&◌, ◌∙◌, cond, ℕ, zero, suc, List, [], ◌∷◌, ◌++◌, length, drop, Option, Some, None, IsSomeAnd, is_some, true, slice_get, slice_set, refl, sym, ap, subst, append-nil}
 use Rattle.std.specs.FinMap.{get, insert, remove}
 use Rattle.jc_model.specs.Cache.{Bytes}
 use Rattle.jc_model.specs.declared.event.Change.{Change}
@@ -19,11 +19,12 @@ use Rattle.jc_stripe.specs.declared.ticket.First.TheVariants.{Nobody, Loader, Wr
 use Rattle.jc_outside.specs.declared.done.Origin.TheVariants.{Played}
 use Rattle.jc_types.specs.declared.config.Config.{Config}
 use Rattle.jc_types.specs.declared.refusal.Refusal.{Refusal}
-use Rattle.jc_world.specs.Calls.{CallState, op_at, settle}
+use Rattle.jc_world.specs.Calls.{CallState, op_at, is_turn, puts_off, settle}
 use Rattle.jc_world.specs.declared.event.Part.{Part}
 use Rattle.jc_world.specs.declared.event.Stepped.{Stepped}
 use Rattle.jc_world.specs.declared.event.PickedUp.{PickedUp}
 use Rattle.jc_world.specs.declared.event.WorldEvent.TheVariants as event
+use Rattle.jc_world.specs.declared.event.Shown.{Shown}
 use Rattle.jc_world.specs.declared.event.Shown.TheVariants as shown
 use Rattle.jc_world.specs.World.{WorldState, Parts, home, stripe_for, open_call, part_of, join_of, joins_without, out_of}
 use Rattle.jc_world.specs.Events.{fits, is_free, may_start, Happens, step_of, new_load, new_write, new_part, BeginsAs, new_process}
@@ -49,7 +50,7 @@ may_begin_at w call key u op fit is op_is sound =
 
 -- the key of a call that starts is open in it
 pub start_open : (w : WorldState) (call : ℕ) (key : Bytes) (u : CallState) → fits w (event.Start call key) ≡ true → open_call w call ≡ Some u → is_some (op_at u key) ≡ true
-start_open w call key u fit is = (and_parts (is_some (op_at u key)) (is_free w call key) (sym (ap (may_start w call key) is) ∙ fit)).0
+start_open w call key u fit is = (and_parts (is_some (op_at u key)) (is_turn u key) (and_parts (is_some (op_at u key) && is_turn u key) (is_free w call key) (sym (ap (may_start w call key) is) ∙ fit)).0).0
 
 -- 2. The stripe that a phase has changed.
 
@@ -93,6 +94,7 @@ started_done v next call key u op number done seen stripes order is op_is home_i
         stripe_is ∙ home_is,
         next_is ∙ (λ i. record v { stripes = (p.stripes_are ∙ ap (λ n. slice_set v.stripes n p.to) home_is) i; order = p.order_is i; calls = settle u.caller.call key v.calls }),
       ),
+      tt,
     )
 
 -- a refused call leaves its stripe
@@ -109,27 +111,23 @@ none_new order xs ys e = ap (λ zs. order ++ drop (length ys) zs) e ∙ ap (λ z
     gone [] = refl
     gone (z ∷ zs) = gone zs
 
-pub started_refused : (v next : WorldState) (call : ℕ) (key : Bytes) (u : CallState) (op : Op) (number : ℕ) (refusal : Refusal) (stripes : List State) (order : List Event) → open_call v call ≡ Some u → op_at u key ≡ Some op → number ≡ home v key
+-- a call was refused at a key, and is to try again there, or has its last refusal
+pub started_refused : (v next : WorldState) (call : ℕ) (key : Bytes) (u : CallState) (op : Op) (number : ℕ) (refusal : Refusal) (seen : Shown) (stripes : List State) (order : List Event) (calls : List CallState) → open_call v call ≡ Some u → op_at u key ≡ Some op → number ≡ home v key
     → Phased v number (BeginsAs u.caller key op (begun.Refused refusal)) stripes order
-    → next ≡ record v { stripes = stripes; order = order; calls = settle u.caller.call key v.calls } → Happens v (event.Start call key) (shown.Refused refusal) next
-started_refused v next call key u op number refusal stripes order is op_is home_is p next_is =
-    let At : ℕ → Type 0 = λ n. slice_get v.stripes n ≡ Some p.from in (
-      u,
-      op,
-      is,
-      op_is,
-      p.from,
-      subst At home_is p.at,
-      p.to,
-      (
-        p.made,
-        next_is ∙ (λ i. record v {
-          stripes = (p.stripes_are ∙ same_set v.stripes number p.from p.to p.at p.made.1) i;
-          order = (p.order_is ∙ none_new v.order p.to.history p.from.history (ap (λ (s : State). s.history) p.made.1)) i;
-          calls = settle u.caller.call key v.calls;
-        }),
-      ),
-    )
+    → seen ≡ cond (puts_off u.kind refusal) (shown.PutOff refusal) (shown.Refused refusal)
+    → calls ≡ cond (puts_off u.kind refusal) v.calls (settle u.caller.call key v.calls)
+    → next ≡ record v { stripes = stripes; order = order; calls = calls } → Happens v (event.Start call key) seen next
+started_refused v next call key u op number refusal seen stripes order calls is op_is home_is p shows calls_are next_is =
+    let At : ℕ → Type 0 = λ n. slice_get v.stripes n ≡ Some p.from in
+    let left : (cs : List CallState) → calls ≡ cs → next ≡ record v { calls = cs } = λ cs e. next_is ∙ (λ i. record v {
+      stripes = (p.stripes_are ∙ same_set v.stripes number p.from p.to p.at p.made.1) i;
+      order = (p.order_is ∙ none_new v.order p.to.history p.from.history (ap (λ (s : State). s.history) p.made.1)) i;
+      calls = e i;
+    }) in
+    elim (puts_off u.kind refusal) as (λ b. puts_off u.kind refusal ≡ b → seen ≡ cond b (shown.PutOff refusal) (shown.Refused refusal) → calls ≡ cond b v.calls (settle u.caller.call key v.calls) → Happens v (event.Start call key) seen next) [
+      | true ↦ λ e s c. subst (λ x. Happens v (event.Start call key) x next) (sym s) (u, op, is, op_is, p.from, subst At home_is p.at, p.to, (p.made, left v.calls c), e)
+      | false ↦ λ e s c. subst (λ x. Happens v (event.Start call key) x next) (sym s) (u, op, is, op_is, p.from, subst At home_is p.at, p.to, (p.made, left (settle u.caller.call key v.calls) c), e)
+    ] refl shows calls_are
 
 pub started_loads : (v next : WorldState) (call : ℕ) (key : Bytes) (u : CallState) (op : Op) (number : ℕ) (ticket : Ticket) (stripes : List State) (order : List Event) (parts : Parts) → open_call v call ≡ Some u → op_at u key ≡ Some op → number ≡ home v key
     → Phased v number (BeginsAs u.caller key op (begun.Load ticket)) stripes order → parts ≡ insert v.parts key (new_part new_load ticket.reservation)
@@ -152,6 +150,7 @@ started_loads v next call key u op number ticket stripes order parts is op_is ho
           parts = parts_are i;
         }),
       ),
+      tt,
     )
 
 -- a call has joined a load
@@ -176,6 +175,7 @@ started_joins v next call key u op number join stripes order joins is op_is home
           joins = joins_are i;
         }),
       ),
+      tt,
     )
 
 pub started_asks : (v next : WorldState) (call : ℕ) (key : Bytes) (u : CallState) (op : Op) (number : ℕ) (ticket : Ticket) (change : Change) (stripes : List State) (order : List Event) (parts : Parts) → open_call v call ≡ Some u → op_at u key ≡ Some op → number ≡ home v key
@@ -200,6 +200,7 @@ started_asks v next call key u op number ticket change stripes order parts is op
           parts = parts_are i;
         }),
       ),
+      tt,
     )
 
 pub started_processes : (v next : WorldState) (call : ℕ) (key : Bytes) (u : CallState) (op : Op) (number : ℕ) (ticket : ProcessClaim) (entry : Option Bytes) (stripes : List State) (order : List Event) (parts : Parts) → open_call v call ≡ Some u → op_at u key ≡ Some op → number ≡ home v key
@@ -224,6 +225,7 @@ started_processes v next call key u op number ticket entry stripes order parts i
           parts = parts_are i;
         }),
       ),
+      tt,
     )
 
 -- a key for which a ticket is given has no part yet

@@ -100,6 +100,7 @@ follows_beside w n m shows more join r h is config stripes joins none =
 follows_started : (w new : WorldState) (caller : Caller) (key : Bytes) (op : Op) (from to : State) (seen : Shown) (shows more : Shows) (join : JoinClaim) (r : Reservation) → stripe_for w key ≡ Some from → Starts w caller key op from to seen new → list_any (ends_load r) more ≡ false
     → Follows w shows join r → Follows new (shows ++ more) join r
 follows_started w new caller key op from to (shown.Refused refusal) shows more join r there h none f = follows_beside w new _ shows more join r f h.1 refl refl refl none
+follows_started w new caller key op from to (shown.PutOff refusal) shows more join r there h none f = follows_beside w new _ shows more join r f h.1 refl refl refl none
 follows_started w new caller key op from to (shown.Stepped seen) shows more join r there h none f =
     let after = h.0.2.after in
     follows_set w new shows more join r key from to f (ap (λ (x : WorldState). x.config) h.2) (ap (λ (x : WorldState). x.stripes) h.2) there
@@ -364,7 +365,7 @@ answers_started laws old joined new newer call key u op from to es ss seen here 
 
 pub answers_joins : Laws → (old joined new newer : WorldState) (call : ℕ) (key : Bytes) (es : List WorldEvent) (ss : List Shown) (seen : Shown) → Step old (event.Start call key) shown.Joins joined → IsSoundWorld old → Run joined es ss new
     → list_any (is_last_pick_up call key) (zip es ss) ≡ false → Step new (event.PickUp call key) seen newer → IsAnswered old new key (zip es ss) seen
-answers_joins laws old joined new newer call key es ss seen (inl (fit, (u, op, here, op_is, from, there, to, starts))) sound_old run none step =
+answers_joins laws old joined new newer call key es ss seen (inl (fit, (u, op, here, op_is, from, there, to, starts, refuses))) sound_old run none step =
     answers_started laws old joined new newer call key u op from to es ss seen here op_is fit there starts sound_old
-    (sound_step laws old (event.Start call key) shown.Joins joined (inl (fit, (u, op, here, op_is, from, there, to, starts))) sound_old) run none step
+    (sound_step laws old (event.Start call key) shown.Joins joined (inl (fit, (u, op, here, op_is, from, there, to, starts, refuses))) sound_old) run none step
 answers_joins laws old joined new newer call key es ss seen (inr (unfit, shown_is, is)) sound_old run none step = cc

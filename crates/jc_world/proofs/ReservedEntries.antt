@@ -47,6 +47,7 @@ cached_set w key q from to there same = at_stripe w.stripes (home w key) (home w
 -- the first phase
 unmoved_started : (w new : WorldState) (u : CallState) (key : Bytes) (op : Op) (from to : State) (seen : Shown) → stripe_for w key ≡ Some from → Starts w u.caller key op from to seen new → is_appended seen ≡ false → IsUnmoved w new
 unmoved_started w new u key op from to (shown.Refused refusal) there h none = subst (IsUnmoved w) (sym h.1) (refl, λ q. refl)
+unmoved_started w new u key op from to (shown.PutOff refusal) there h none = subst (IsUnmoved w) (sym h.1) (refl, λ q. refl)
 unmoved_started w new u key op from to (shown.Stepped seen) there h none = absurd (let t : true ≡ false = none in cc)
 unmoved_started w new u key op from to shown.Loads there h none = subst (IsUnmoved w) (sym h.2) (refl, λ q. cached_set w key q from to there (ap (λ (s : State). s.cache) h.1.4))
 unmoved_started w new u key op from to (shown.Asks change) there h none = subst (IsUnmoved w) (sym h.3) (refl, λ q. cached_set w key q from to there (ap (λ (s : State). s.cache) h.1.4))
@@ -191,6 +192,7 @@ stay_set w n key from to config stripes there stays = record {
 -- the first phase
 stay_started : KeepsReserved → (w new : WorldState) (u : CallState) (key : Bytes) (op : Op) (from to : State) (seen : Shown) → stripe_for w key ≡ Some from → IsReached from → Starts w u.caller key op from to seen new → StayOut w new
 stay_started kept w new u key op from to (shown.Refused refusal) there reached h = stay_beside w new _ h.1 refl refl
+stay_started kept w new u key op from to (shown.PutOff refusal) there reached h = stay_beside w new _ h.1 refl refl
 stay_started kept w new u key op from to (shown.Stepped seen) there reached h =
     stay_set w new key from to (ap (λ (x : WorldState). x.config) h.2) (ap (λ (x : WorldState). x.stripes) h.2) there
     (stays_kept from to (ap (λ (s : State). s.next) h.0.2.after) (ap (λ (s : State). s.reservations) h.0.2.after)

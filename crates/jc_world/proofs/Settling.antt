@@ -1,13 +1,14 @@
 -- The open keys of a call, and what is left of a call and of the calls under way once a key of one has its reply or last refusal.
 --     only_op                a call of one key does there what its command says
---     only_is                the open key of a call that has just one key
 --     open_now               a test of all open keys holds of each
 --     Left                   a call that goes on: what is open in it was open before, and isn't the key that was settled
+--     turn_is                a call that works at one key at a time may work at its current one alone
+--     IsTurnOf               a call may work at a key, if it is under way
 --     still_called           a call goes on at each other key
 --     calls_settled          the calls fit another world
 --     each_settled           a fact of each call
 --     retained               a walk that keeps what a definition keeps
-use Rattle.std.proofs.Common.{◌≡◌, ◌==◌, ◌&&◌, ◌||◌, ℕ, List, [], ◌∷◌, Bool, true, false, cond, not, Option, None, Some, IsSomeAnd, find, filter, is_some, refl, sym, ap, ◌∙◌, subst}
+use Rattle.std.proofs.Common.{◌≡◌, ◌==◌, ◌&&◌, ◌||◌, ℕ, List, [], ◌∷◌, Bool, true, false, cond, not, Option, None, Some, IsSomeAnd, find, filter, is_some, slice_get, refl, sym, ap, ◌∙◌, subst}
 use Rattle.std.specs.List.{list_all, list_any, cons_option, filter_map}
 use Rattle.std.specs.List.Retain.{RetainsInTurn}
 use Rattle.std.specs.Map.{keys_of, lookup, set_value}
@@ -17,7 +18,7 @@ use Rattle.std.proofs.lemmas.Bool.{eq-eqb, eqb-true, and_parts, and_from}
 use Rattle.jc_types.specs.declared.caller.Caller.{Caller}
 use Rattle.jc_model.specs.declared.event.Op.{Op}
 use Rattle.jc_model.specs.Cache.{Bytes}
-use Rattle.jc_world.specs.Calls.{CallState, Task, has_number, op_in, op_at, is_open, open_in, open_keys, only_in, going_on, settled, settle}
+use Rattle.jc_world.specs.Calls.{CallState, Task, has_number, op_in, op_at, is_open, open_in, open_keys, current_key, is_at, is_turn, takes_turns, going_on, settled, settle}
 use Rattle.jc_world.specs.World.{WorldState}
 use Rattle.jc_world.specs.Sound.{is_apart, FitsCall, CallsFit, IsCallOf, Each}
 use Rattle.jc_world.proofs.Facts.{refuted}
@@ -32,16 +33,6 @@ only_op key one q op h =
       | true ↦ λ h. let is : one ≡ op = cc in is
       | false ↦ λ h. cc
     ] h
-
--- where there is just one key, it is all that is open
-pub only_is : (tasks : List Task) (key : Bytes) → only_in tasks ≡ Some key → open_in tasks ≡ key ∷ []
-only_is [] key h = cc
-only_is (task ∷ []) key h =
-    elim (is_open task) as (λ b. cond b (Some task.0) None ≡ Some key → keys_of (cond b (task ∷ []) []) ≡ key ∷ []) [
-      | true ↦ λ h. let is : task.0 ≡ key = cc in ap (λ k. k ∷ []) is
-      | false ↦ λ h. cc
-    ] h
-only_is (task ∷ next ∷ tasks) key h = cc
 
 -- what is behind another key
 behind : (q : Bytes) (task : Task) (tasks : List Task) → pointwise ◌==◌ q task.0 ≡ false → op_in (task ∷ tasks) q ≡ op_in tasks q
@@ -71,7 +62,7 @@ pub open_now : (p : Bytes → Bool) (u : CallState) (key : Bytes) (op : Op) → 
 open_now p u key op h all = in_all p u.tasks key op h all
 
 -- where something is done, a key is open
-some_open : (tasks : List Task) (key : Bytes) (op : Op) → op_in tasks key ≡ Some op → list_any is_open tasks ≡ true
+pub some_open : (tasks : List Task) (key : Bytes) (op : Op) → op_in tasks key ≡ Some op → list_any is_open tasks ≡ true
 some_open [] key op h = cc
 some_open (task ∷ tasks) key op h =
     elim (pointwise ◌==◌ key task.0) as (λ b. pointwise ◌==◌ key task.0 ≡ b → (is_open task || list_any is_open tasks) ≡ true) [
@@ -163,7 +154,40 @@ still_open call key u q op other h =
       | false ↦ λ e. h
     ] refl
 
+-- the current key is the only one
+pub turn_is : (u : CallState) (q key : Bytes) → current_key u ≡ Some key → is_turn u q ≡ true → q ≡ key
+turn_is u q key current turn =
+    elim (takes_turns u.kind) as (λ b. cond b (slice_get (open_keys u) 0) None ≡ Some key → cond b (is_at (cond b (slice_get (open_keys u) 0) None) q) true ≡ true → q ≡ key) [
+      | true ↦ λ c t. same_bytes q key (ap (λ o. is_at o q) (sym c) ∙ t)
+      | false ↦ λ c t. cc
+    ] current turn
+
+-- so of two keys at which such a call may work, one is the other
+one_turn : (u : CallState) (q key : Bytes) → takes_turns u.kind ≡ true → is_turn u q ≡ true → is_turn u key ≡ true → q ≡ key
+one_turn u q key turns a b = go (current_key u) (at q a) (at key b)
+  where
+    at : (k : Bytes) → is_turn u k ≡ true → is_at (current_key u) k ≡ true
+    at k h = ap (λ t. cond t (is_at (current_key u) k) true) (sym turns) ∙ h
+
+    go : (o : Option Bytes) → is_at o q ≡ true → is_at o key ≡ true → q ≡ key
+    go None a b = cc
+    go (Some own) a b = same_bytes q own a ∙ sym (same_bytes key own b)
+
+-- what a call may still work at, where a key at which it may work is settled
+turn_left : (call : ℕ) (key : Bytes) (u : CallState) (q : Bytes) → (has_number call u ≡ true → is_turn u key ≡ true) → (u.caller.call ≡ call → q ≡ key → ⊥) → is_turn u q ≡ true → is_turn (record u { tasks = tasks_left call key u }) q ≡ true
+turn_left call key u q turn other h =
+    elim (has_number call u) as (λ b. has_number call u ≡ b → is_turn (record u { tasks = cond b (set_value (pointwise ◌==◌ key) u.tasks None) u.tasks }) q ≡ true) [
+      | true ↦ λ e. batch (record u { tasks = set_value (pointwise ◌==◌ key) u.tasks None }) (refuted (takes_turns u.kind) (λ t. other (eqb-true u.caller.call call e) (one_turn u q key t h (turn e))))
+      | false ↦ λ e. h
+    ] refl
+  where
+    batch : (v : CallState) → takes_turns v.kind ≡ false → is_turn v q ≡ true
+    batch v e = ap (λ t. cond t (is_at (current_key v) q) true) e
+
 -- 4. The calls under way.
+
+abbrev pub IsTurnOf : List CallState → ℕ → Bytes → Type 0
+IsTurnOf calls call key = (u : CallState) → find (has_number call) calls ≡ Some u → is_turn u key ≡ true
 
 -- a fact of a call at a key that goes on
 abbrev Goes : ℕ → ℕ → Bytes → Op → List CallState → Type 0
@@ -178,9 +202,9 @@ goes_here : (number session : ℕ) (q : Bytes) (op : Op) (x : CallState) (calls 
 goes_here number session q op x calls mine h = let P : Bool → Type 0 = λ b. IsSomeAnd (cond b (Some x) (find (has_number number) calls)) (IsCallOf session q op) in subst P (sym mine) h
 
 -- the call that is looked for, once a key is settled
-goes_settled : (call : ℕ) (key : Bytes) (number session : ℕ) (q : Bytes) (op : Op) (x : CallState) (calls : List CallState) (o : Option CallState) → settled call key x ≡ o → (number ≡ call → q ≡ key → ⊥)
+goes_settled : (call : ℕ) (key : Bytes) (number session : ℕ) (q : Bytes) (op : Op) (x : CallState) (calls : List CallState) (o : Option CallState) → settled call key x ≡ o → (number ≡ call → q ≡ key → ⊥) → (number ≡ call → is_turn x key ≡ true)
     → has_number number x ≡ true → IsCallOf session q op x → Goes number session q op (cons_option o calls)
-goes_settled call key number session q op x calls o is other mine h = go o is
+goes_settled call key number session q op x calls o is other turn mine h = go o is
   where
     goes : op_in (tasks_left call key x) q ≡ Some op
     goes = still_open call key x q op (λ at. other (sym (eqb-true x.caller.call number mine) ∙ at)) h.1
@@ -189,7 +213,10 @@ goes_settled call key number session q op x calls o is other mine h = go o is
     go None e = absurd (none_left x (tasks_left call key x) q op e goes)
     go (Some v) e =
         let v_is = going_is x (tasks_left call key x) v e in
-        goes_here number session q op v calls (ap (λ (c : CallState). has_number number c) v_is ∙ mine) (ap (λ (c : CallState). c.caller.session) v_is ∙ h.0, ap (λ (c : CallState). op_at c q) v_is ∙ goes)
+        let number_is : x.caller.call ≡ number = eqb-true x.caller.call number mine in
+        let turns = turn_left call key x q (λ e. turn (sym number_is ∙ eqb-true x.caller.call call e)) (λ at. other (sym number_is ∙ at)) h.2 in
+        goes_here number session q op v calls (ap (λ (c : CallState). has_number number c) v_is ∙ mine)
+        (ap (λ (c : CallState). c.caller.session) v_is ∙ h.0, ap (λ (c : CallState). op_at c q) v_is ∙ goes, ap (λ (c : CallState). is_turn c q) v_is ∙ turns)
 
 -- and a call before it
 goes_passed : (call : ℕ) (key : Bytes) (number session : ℕ) (q : Bytes) (op : Op) (x : CallState) (calls : List CallState) (o : Option CallState) → settled call key x ≡ o → has_number number x ≡ false → Goes number session q op calls
@@ -198,14 +225,19 @@ goes_passed call key number session q op x calls None e apart h = h
 goes_passed call key number session q op x calls (Some v) e apart h = goes_behind number session q op v calls (ap (λ (c : Caller). c.call == number) (left_of call key x v e).caller_is ∙ apart) h
 
 -- a call goes on at each key but the one that is settled
-pub still_called : (call : ℕ) (key : Bytes) (number session : ℕ) (q : Bytes) (op : Op) (calls : List CallState) → (number ≡ call → q ≡ key → ⊥) → IsSomeAnd (find (has_number number) calls) (IsCallOf session q op)
+goes_on : (call : ℕ) (key : Bytes) (number session : ℕ) (q : Bytes) (op : Op) (calls : List CallState) → (number ≡ call → q ≡ key → ⊥) → (number ≡ call → IsTurnOf calls number key) → IsSomeAnd (find (has_number number) calls) (IsCallOf session q op)
     → IsSomeAnd (find (has_number number) (settle call key calls)) (IsCallOf session q op)
-still_called call key number session q op [] other h = h
-still_called call key number session q op (x ∷ xs) other h =
+goes_on call key number session q op [] other turn h = h
+goes_on call key number session q op (x ∷ xs) other turn h =
     elim (has_number number x) as (λ c. has_number number x ≡ c → IsSomeAnd (cond c (Some x) (find (has_number number) xs)) (IsCallOf session q op) → Goes number session q op (cons_option (settled call key x) (settle call key xs))) [
-      | true ↦ λ f h. goes_settled call key number session q op x (settle call key xs) (settled call key x) refl other f h
-      | false ↦ λ f h. goes_passed call key number session q op x (settle call key xs) (settled call key x) refl f (still_called call key number session q op xs other h)
+      | true ↦ λ f h. goes_settled call key number session q op x (settle call key xs) (settled call key x) refl other (λ e. turn e x (ap (λ b. cond b (Some x) (find (has_number number) xs)) f)) f h
+      | false ↦ λ f h. goes_passed call key number session q op x (settle call key xs) (settled call key x) refl f (goes_on call key number session q op xs other (λ e u is. turn e u (ap (λ b. cond b (Some x) (find (has_number number) xs)) f ∙ is)) h)
     ] refl h
+
+-- the settled key is one at which its call may work
+pub still_called : (call : ℕ) (key : Bytes) (number session : ℕ) (q : Bytes) (op : Op) (calls : List CallState) → (number ≡ call → q ≡ key → ⊥) → IsTurnOf calls call key → IsSomeAnd (find (has_number number) calls) (IsCallOf session q op)
+    → IsSomeAnd (find (has_number number) (settle call key calls)) (IsCallOf session q op)
+still_called call key number session q op calls other turn h = goes_on call key number session q op calls other (λ e u is. turn u (ap (λ n. find (has_number n) calls) (sym e) ∙ is)) h
 
 -- calls that are apart stay so
 apart_of : (x y v : CallState) → v.caller ≡ y.caller → is_apart x y ≡ true → is_apart x v ≡ true

@@ -39,7 +39,8 @@ use Rattle.jc_stripe.specs.Laws.{Extends, Grows}
 use Rattle.jc_world.specs.declared.event.Part.{Part}
 use Rattle.jc_world.specs.declared.event.Shown.{Shown}
 use Rattle.jc_world.specs.declared.event.Shown.TheVariants as shown
-use Rattle.jc_world.specs.Calls.{CallState}
+use Rattle.jc_world.specs.Calls.{CallState, new_call}
+use Rattle.jc_world.proofs.NewCalls.{begun_cases}
 use Rattle.jc_world.specs.declared.event.WorldEvent.{WorldEvent}
 use Rattle.jc_world.specs.declared.event.WorldEvent.TheVariants as event
 use Rattle.jc_world.specs.World.{WorldState, home, stripe_for, out_of}
@@ -220,6 +221,7 @@ owed_still w new seen number place none same = let e : one_if (is_answer_at numb
 owed_started : Grows → (w new : WorldState) (u : CallState) (key : Bytes) (op : Op) (from to : State) (seen : Shown) (number place : ℕ) → stripe_for w key ≡ Some from → Starts w u.caller key op from to seen new → MayBegin from u.caller key → IsSoundWorld w → IsSoundWorld new
     → owed new number place ≡ one_if (is_answer_at number place seen) + owed w number place
 owed_started grows w new u key op from to (shown.Refused refusal) number place there h may old sound = owed_still w new (shown.Refused refusal) number place refl (ap (λ (x : WorldState). owed x number place) h.1)
+owed_started grows w new u key op from to (shown.PutOff refusal) number place there h may old sound = owed_still w new (shown.PutOff refusal) number place refl (ap (λ (x : WorldState). owed x number place) h.1)
 owed_started grows w new u key op from to (shown.Stepped x) number place there h may old sound =
     owed_grown w new key from to x.place number place there old sound (ap (λ (v : WorldState). v.config) h.2) (ap (λ (v : WorldState). v.stripes) h.2) (ap (λ (v : WorldState). v.order) h.2)
     (grows.begins from to u.caller key op (begun.Done (step_of x)) h.0) (gives_done from to u.caller key op (step_of x) may h.0)
@@ -265,7 +267,8 @@ owed_picks w new call key join from to seen number place there h old sound = abs
 
 -- of any event that fits
 owed_happens : Grows → (w new : WorldState) (e : WorldEvent) (seen : Shown) (number place : ℕ) → fits w e ≡ true → Happens w e seen new → IsSoundWorld w → IsSoundWorld new → owed new number place ≡ one_if (is_answer_at number place seen) + owed w number place
-owed_happens grows w new (event.Call call session command) seen number place fit h old sound = owed_still w new seen number place (ap (is_answer_at number place) h.0) (ap (λ (x : WorldState). owed x number place) h.1)
+owed_happens grows w new (event.Call call session command) seen number place fit h old sound =
+    owed_still w new seen number place (ap (is_answer_at number place) h.0 ∙ begun_cases (new_call call session command) (λ s. is_answer_at number place s ≡ false) refl refl) (ap (λ (x : WorldState). owed x number place) h.1)
 owed_happens grows w new (event.Start call key) seen number place fit h old sound =
     owed_started grows w new h.0 key h.1 h.4 h.6 seen number place h.5 h.7 (begins_at w call key h.0 h.1 h.4 fit h.2 h.3 h.5 old) old sound
 owed_happens grows w new (event.Read call key) seen number place fit h old sound = owed_still w new seen number place (ap (is_answer_at number place) h.2) (ap (λ (x : WorldState). owed x number place) h.3)

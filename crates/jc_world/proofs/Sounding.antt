@@ -5,7 +5,7 @@ use Rattle.jc_types.specs.declared.config.Config.{Config}
 use Rattle.jc_types.specs.Limits.{check}
 use Rattle.jc_model.specs.Cache.{Bytes, entry_at, with_entry}
 use Rattle.jc_model.specs.Table.{is_load_given}
-use Rattle.jc_world.specs.Calls.{CallState, only_key}
+use Rattle.jc_world.specs.Calls.{CallState, current_key}
 use Rattle.jc_world.specs.declared.event.Shown.{Shown}
 use Rattle.jc_world.specs.declared.event.WorldEvent.{WorldEvent}
 use Rattle.jc_world.specs.declared.event.WorldEvent.TheVariants as event
@@ -22,13 +22,13 @@ use Rattle.jc_world.proofs.Joins.{joins_start, joins_happens, joins_stored}
 use Rattle.jc_world.proofs.Dues.{dues_start, dues_happens}
 use Rattle.jc_world.proofs.Kept.{parts_processed, parts_start, parts_called, parts_started, parts_ended, parts_answered, parts_changed, parts_reported, parts_disturbed, parts_stored, parts_withdrawn, parts_left, parts_picks}
 
--- the writer that may report is waited for at the one key of the call
-waits_there : (w : WorldState) (call : ℕ) (u : CallState) (key : Bytes) → open_call w call ≡ Some u → only_key u ≡ Some key → may_report w call (open_call w call) ≡ true → has_progress waits_for_report (part_of w call key) ≡ true
-waits_there w call u key is only h = sym (ap (may_report w call) is ∙ ap (waits_at w call) only) ∙ h
+-- the writer that may report is waited for at the key at which the call works
+waits_there : (w : WorldState) (call : ℕ) (u : CallState) (key : Bytes) → open_call w call ≡ Some u → current_key u ≡ Some key → may_report w call (open_call w call) ≡ true → has_progress waits_for_report (part_of w call key) ≡ true
+waits_there w call u key is current h = sym (ap (may_report w call) is ∙ ap (waits_at w call) current) ∙ h
 
 parts_happens : (w new : WorldState) (e : WorldEvent) (seen : Shown) → fits w e ≡ true → Happens w e seen new → IsSoundWorld w → HasParts new
 parts_happens w new (event.Call call session command) seen fit (shows, is) h = subst HasParts (sym is) (parts_called w call session command fit h)
-parts_happens w new (event.Start call key) seen fit (u, op, there, op_is, from, at, to, starts) h = parts_started w new call key u op from to seen there at starts h
+parts_happens w new (event.Start call key) seen fit (u, op, there, op_is, from, at, to, starts, refuses) h = parts_started w new call key u op from to seen there at starts h
 parts_happens w new (event.Read call key) seen fit (part, there, shows, is) h = subst HasParts (sym is) (parts_answered w call key part (read_answer (entry_at w.store key)) there fit h)
 parts_happens w new (event.Say call key answer) seen fit (part, there, shows, is) h =
     subst HasParts (sym is) (parts_answered w call key part answer there ((and_parts (is_load_given answer) (has_progress waits_for_load (part_of w call key)) fit).1) h)

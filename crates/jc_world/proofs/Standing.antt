@@ -5,6 +5,7 @@
 --     AllStand       each answer that was shown is that of its call's step, and the call has begun before it
 --     stands_run     so a run of events keeps that
 use Rattle.std.proofs.Common.{inl, inr, ◌≡◌, ℕ, zero, suc, List, [], ◌∷◌, ◌++◌, length, take, zip, Bool, true, false, cond, not, Option, None, Some, filter, slice_get, refl, sym, ap, ◌∙◌, subst, append-nil, append_assoc, arith}
+use Rattle.std.specs.List.{list_any}
 use Rattle.std.specs.FinMap.{get, insert, remove, get-empty, get-insert, get-remove}
 use Rattle.std.proofs.lemmas.Cmp.{nat_list_cmp_total}
 use Rattle.std.proofs.lemmas.List.Elements.{filter-append}
@@ -32,7 +33,7 @@ use Rattle.jc_world.specs.declared.event.Part.{Part}
 use Rattle.jc_world.specs.declared.event.Shown.{Shown}
 use Rattle.jc_world.specs.declared.event.Shown.TheVariants as shown
 use Rattle.jc_world.specs.declared.command.Command.{Command}
-use Rattle.jc_world.specs.Calls.{CallState, has_number, op_at, new_call}
+use Rattle.jc_world.specs.Calls.{CallState, has_number, has_too_many_keys, is_open, op_at, new_call, opened}
 use Rattle.jc_world.specs.declared.event.WorldEvent.{WorldEvent}
 use Rattle.jc_world.specs.declared.event.WorldEvent.TheVariants as event
 use Rattle.jc_world.specs.World.{WorldState, Parts, home, stripe_for, is_join, join_of, part_of, out_of, open_call}
@@ -43,6 +44,7 @@ use Rattle.jc_world.specs.Replies.{IsReplyOfStep, Stands}
 use Rattle.jc_world.proofs.Shares.{found_test, each_map, added, fact_found}
 use Rattle.jc_world.proofs.Underway.{found_number, of_call-at}
 use Rattle.jc_world.proofs.Settling.{Left, each_settled}
+use Rattle.jc_world.proofs.NewCalls.{begun_cases, begun_shown}
 use Rattle.jc_world.proofs.LoadKeys.{joins_get}
 use Rattle.jc_world.proofs.Joiners.{join_is}
 use Rattle.jc_world.proofs.Places.{stripe_put}
@@ -93,6 +95,7 @@ later_same old new config order = record { config = config; more = []; order = o
 -- by what is shown of a first phase
 later_started : (w new : WorldState) (caller : Caller) (key : Bytes) (op : Op) (from to : State) (seen : Shown) → Starts w caller key op from to seen new → IsLater w new
 later_started w new caller key op from to (shown.Refused refusal) h = later_same w new (ap (λ (x : WorldState). x.config) h.1) (ap (λ (x : WorldState). x.order) h.1)
+later_started w new caller key op from to (shown.PutOff refusal) h = later_same w new (ap (λ (x : WorldState). x.config) h.1) (ap (λ (x : WorldState). x.order) h.1)
 later_started w new caller key op from to (shown.Stepped seen) h = record { config = ap (λ (x : WorldState). x.config) h.2; more = added from to; order = ap (λ (x : WorldState). x.order) h.2 }
 later_started w new caller key op from to shown.Loads h = later_same w new (ap (λ (x : WorldState). x.config) h.2) (ap (λ (x : WorldState). x.order) h.2)
 later_started w new caller key op from to (shown.Asks change) h = later_same w new (ap (λ (x : WorldState). x.config) h.3) (ap (λ (x : WorldState). x.order) h.3)
@@ -235,6 +238,7 @@ begun_left shows call key u v left h q op is = let P : Caller → Type 0 = λ c.
 begun_started : (shows : List (WorldEvent × Shown)) (w new : WorldState) (caller : Caller) (key : Bytes) (op : Op) (from to : State) (seen : Shown) → Starts w caller key op from to seen new → BegunAs shows caller key op → AllBegun shows w → AllBegun shows new
 begun_started shows w new caller key op from to (shown.Refused refusal) h one old =
     subst (AllBegun shows) (sym h.1) (record { calls = each_settled caller.call key (IsBegun shows) w.calls (begun_left shows caller.call key) old.calls; parts = old.parts; joins = old.joins })
+begun_started shows w new caller key op from to (shown.PutOff refusal) h one old = subst (AllBegun shows) (sym h.1) old
 begun_started shows w new caller key op from to (shown.Stepped seen) h one old =
     subst (AllBegun shows) (sym h.2) (record { calls = each_settled caller.call key (IsBegun shows) w.calls (begun_left shows caller.call key) old.calls; parts = old.parts; joins = old.joins })
 begun_started shows w new caller key op from to shown.Loads h one old =
@@ -277,8 +281,18 @@ begun_picks shows w new call key join from to seen h old = absurd h
 begun_happens : (shows : List (WorldEvent × Shown)) (w new : WorldState) (e : WorldEvent) (seen : Shown) → (at : ℕ) × (slice_get shows at ≡ Some (e, seen)) → Happens w e seen new → AllBegun shows w → AllBegun shows new
 begun_happens shows w new (event.Call call session command) seen last h old =
     let one : CallState = new_call call session command in
-    let begun : IsBegun shows one = λ key op is. (last.0, command, last.1 ∙ ap (λ s. Some (event.Call call session command, s)) h.0, is) in
-    subst (AllBegun shows) (sym h.1) (record { calls = each_pushed (IsBegun shows) w.calls one old.calls begun; parts = old.parts; joins = old.joins })
+    let begun : has_too_many_keys one ≡ false → IsBegun shows one = λ few key op is. (last.0, command, last.1 ∙ ap (λ s. Some (event.Call call session command, s)) (h.0 ∙ begun_shown one few), is) in
+    let none : Each (IsBegun shows) (w.calls ++ []) = subst (Each (IsBegun shows)) (sym (append-nil w.calls)) old.calls in
+    let calls : Each (IsBegun shows) (w.calls ++ opened one) =
+    elim (has_too_many_keys one) as (λ b. has_too_many_keys one ≡ b → Each (IsBegun shows) (w.calls ++ cond b [] (cond (list_any is_open one.tasks) (one ∷ []) []))) [
+      | true ↦ λ e. none
+      | false ↦ λ e. elim (list_any is_open one.tasks) as (λ b. Each (IsBegun shows) (w.calls ++ cond b (one ∷ []) [])) [
+        | true ↦ each_pushed (IsBegun shows) w.calls one old.calls (begun e)
+        | false ↦ none
+      ]
+    ] refl
+    in
+    subst (AllBegun shows) (sym h.1) (record { calls = calls; parts = old.parts; joins = old.joins })
 begun_happens shows w new (event.Start call key) seen last h old = begun_started shows w new h.0.caller key h.1 h.4 h.6 seen h.7 (begun_under shows w call h.0 h.2 old key h.1 h.3) old
 begun_happens shows w new (event.Read call key) seen last h old =
     subst (AllBegun shows) (sym h.3) (record { calls = old.calls; parts = parts_put shows w.parts key _ (part_begun shows w call key h.0 h.1 old) old.parts; joins = old.joins })
@@ -337,6 +351,7 @@ answered_for w shows call n key k reply number place shared calls keys h =
 stands_started : (shows : List (WorldEvent × Shown)) (w new : WorldState) (call : ℕ) (key : Bytes) (u : CallState) (op : Op) (from to : State) (seen : Shown) → open_call w call ≡ Some u → stripe_for w key ≡ Some from
     → Starts w u.caller key op from to seen new → BegunAs shows u.caller key op → IsSoundWorld new → Stands new shows (event.Start call key) seen
 stands_started shows w new call key u op from to (shown.Refused refusal) here there h begun sound = tt
+stands_started shows w new call key u op from to (shown.PutOff refusal) here there h begun sound = tt
 stands_started shows w new call key u op from to (shown.Stepped x) here there h begun sound =
     let placed : slice_get new.stripes (home w key) ≡ Some to = ap (λ (v : WorldState). slice_get v.stripes (home w key)) h.2 ∙ stripe_put w.stripes (home w key) from to there in
     answered_for new shows u.caller.call call key key x.reply x.stripe x.place None (found_number call w.calls u here) refl
@@ -378,7 +393,8 @@ stands_picks shows w new call key join from to seen is there h begun sound = abs
 
 -- of any event that fits
 stands_happens : (shows : List (WorldEvent × Shown)) (w new : WorldState) (e : WorldEvent) (seen : Shown) → fits w e ≡ true → Happens w e seen new → IsSoundWorld w → IsSoundWorld new → AllBegun shows w → Stands new shows e seen
-stands_happens shows w new (event.Call call session command) seen fit h old sound begun = subst (Stands new shows (event.Call call session command)) (sym h.0) tt
+stands_happens shows w new (event.Call call session command) seen fit h old sound begun =
+    subst (Stands new shows (event.Call call session command)) (sym h.0) (begun_cases (new_call call session command) (Stands new shows (event.Call call session command)) tt tt)
 stands_happens shows w new (event.Start call key) seen fit h old sound begun = stands_started shows w new call key h.0 h.1 h.4 h.6 seen h.2 h.5 h.7 (begun_under shows w call h.0 h.2 begun key h.1 h.3) sound
 stands_happens shows w new (event.Read call key) seen fit h old sound begun = subst (Stands new shows (event.Read call key)) (sym h.2) tt
 stands_happens shows w new (event.Say call key answer) seen fit h old sound begun = subst (Stands new shows (event.Say call key answer)) (sym h.2) tt

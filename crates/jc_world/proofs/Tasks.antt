@@ -6,9 +6,14 @@
 --     put_in_place            a key that is there keeps its place
 --     open_more, open_fails   a test of the open keys, at one task more, and at one that fails
 --     absent_same             a key that isn't there can't be settled
---     counted                 a key is open exactly if the count isn't 0
---     counted_less            a key that is settled counts no more
-use Rattle.std.proofs.Common.{◌≡◌, ◌==◌, ◌<◌, ◌+◌, ◌&&◌, ◌||◌, ℕ, zero, suc, Bool, true, false, cond, not, List, [], ◌∷◌, ◌++◌, map, filter, take, length, subst, slice_get, Option, None, Some, is_some, refl, sym, ap, ◌∙◌, arith, true≢false}
+--     first_each, first_put   all keys are open at first
+--     open_within             a key is open exactly if the first one stands before the end
+--     first_key_at            the first of the open keys stands there
+--     first_here, first_next, first_end
+--                             the first open key from a place on
+--     first_settled, first_fits
+--                             once a key is settled, the first open one is found from where it was
+use Rattle.std.proofs.Common.{◌≡◌, ◌==◌, ◌<◌, ◌≤◌, ◌+◌, ◌&&◌, ◌||◌, ℕ, zero, suc, Bool, true, false, cond, not, List, [], ◌∷◌, ◌++◌, map, filter, take, drop, length, option_map, subst, slice_get, Option, None, Some, is_some, refl, sym, ap, ◌∙◌, arith, true≢false, zero-add}
 use Rattle.std.specs.List.{list_all, list_any, IsDistinct, AllByRecursion}
 use Rattle.std.specs.Map.{keys_of, lookup, set_value}
 use Rattle.std.specs.Option.{option_flatten}
@@ -26,7 +31,7 @@ use Rattle.jc_model.specs.declared.event.Op.{Op}
 use Rattle.jc_model.specs.declared.event.Op.TheVariants as op
 use Rattle.jc_model.specs.Cache.{Bytes}
 use Rattle.jc_world.specs.Calls.{Task, at_each, put_each_of, op_in, is_open, open_in}
-use Rattle.jc_world.specs.OpenCalls.{open_count}
+use Rattle.jc_world.specs.OpenCalls.{first_open}
 use Rattle.jc_world.proofs.Facts.{refuted}
 use Rattle.jc_world.proofs.Underway.{same_bytes}
 
@@ -179,47 +184,107 @@ open_fails p (task ∷ tasks) (suc i) key one at there fails =
     and_false true c h = h
     and_false false c h = refl
 
--- 4. The count of open keys.
-
--- a key is open exactly if the count isn't 0
-pub counted : (tasks : List Task) → list_any is_open tasks ≡ not (open_count tasks == 0)
-counted [] = refl
-counted (task ∷ tasks) =
-    elim (is_open task) as (λ b. (b || list_any is_open tasks) ≡ not (length (keys_of (cond b (task ∷ filter is_open tasks) (filter is_open tasks))) == 0)) [
-      | true ↦ sym (ap not (not_zero (length (open_in tasks))))
-      | false ↦ counted tasks
-    ]
-  where
-    not_zero : (n : ℕ) → (suc n == 0) ≡ false
-    not_zero n = grind (arith, nat_tests)
+-- 4. The first open key.
 
 -- all keys are open at first
-pub count_all : (one : Op) (keys : List Bytes) → open_count (at_each one keys) ≡ length (at_each one keys)
-count_all one [] = refl
-count_all one (key ∷ keys) = let rest = count_all one keys in omega (arith, rest)
+pub first_each : (one : Op) (keys : List Bytes) → first_open (at_each one keys) ≡ 0
+first_each one [] = refl
+first_each one (key ∷ keys) = refl
 
-pub count_puts : (entries : List (Bytes × Bytes)) → open_count (put_each_of entries) ≡ length (put_each_of entries)
-count_puts [] = refl
-count_puts (e ∷ entries) = let rest = count_puts entries in omega (arith, rest)
+pub first_put : (entries : List (Bytes × Bytes)) → first_open (put_each_of entries) ≡ 0
+first_put [] = refl
+first_put (e ∷ entries) = refl
 
--- where as many were put in
-pub counted_new : (tasks made : List Task) (n : ℕ) → n ≡ length tasks → tasks ≡ made → open_count made ≡ length made → n ≡ open_count tasks
-counted_new tasks made n len is all = len ∙ ap length is ∙ sym all ∙ sym (ap open_count is)
+same_suc : (a b : ℕ) → (a == b) ≡ (suc a == suc b)
+same_suc a b = grind (arith, nat_tests)
 
--- a key that is settled counts no more
-pub counted_less : (key : Bytes) (tasks : List Task) → is_some (op_in tasks key) ≡ true → open_count (set_value (pointwise ◌==◌ key) tasks None) + 1 ≡ open_count tasks
-counted_less key [] there = cc
-counted_less key (task ∷ tasks) there =
-    elim (pointwise ◌==◌ key task.0) as (λ b. is_some (option_flatten (cond b (Some task.1) (lookup (pointwise ◌==◌ key) tasks))) ≡ true → open_count (cond b ((task.0, None) ∷ tasks) (task ∷ set_value (pointwise ◌==◌ key) tasks None)) + 1 ≡ open_count (task ∷ tasks)) [
-      | true ↦ λ there. first (is_open task) there
-      | false ↦ λ there. behind (is_open task) (counted_less key tasks there)
-    ] there
+-- a key is open exactly if the first one stands before the end
+pub open_within : (tasks : List Task) → list_any is_open tasks ≡ not (first_open tasks == length tasks)
+open_within [] = refl
+open_within (task ∷ tasks) =
+    elim (is_open task) as (λ b. (b || list_any is_open tasks) ≡ not (cond b 0 (suc (first_open tasks)) == suc (length tasks))) [
+      | true ↦ sym (ap not (no_zero (length tasks)))
+      | false ↦ open_within tasks ∙ ap not (same_suc (first_open tasks) (length tasks))
+    ]
   where
-    first : (b : Bool) → b ≡ true → open_count tasks + 1 ≡ length (keys_of (cond b (task ∷ filter is_open tasks) (filter is_open tasks)))
-    first true h = omega (arith)
-    first false h = cc
+    no_zero : (n : ℕ) → (0 == suc n) ≡ false
+    no_zero n = grind (arith, nat_tests)
 
-    behind : (b : Bool) → open_count (set_value (pointwise ◌==◌ key) tasks None) + 1 ≡ open_count tasks
-        → length (keys_of (cond b (task ∷ filter is_open (set_value (pointwise ◌==◌ key) tasks None)) (filter is_open (set_value (pointwise ◌==◌ key) tasks None)))) + 1 ≡ length (keys_of (cond b (task ∷ filter is_open tasks) (filter is_open tasks)))
-    behind true h = omega (arith, h)
-    behind false h = h
+-- the first of the open keys stands there
+pub first_key_at : (tasks : List Task) → slice_get (open_in tasks) 0 ≡ option_map (λ (task : Task). task.0) (slice_get tasks (first_open tasks))
+first_key_at [] = refl
+first_key_at (task ∷ tasks) =
+    elim (is_open task) as (λ b. slice_get (keys_of (cond b (task ∷ filter is_open tasks) (filter is_open tasks))) 0 ≡ option_map (λ (t : Task). t.0) (slice_get (task ∷ tasks) (cond b 0 (suc (first_open tasks))))) [
+      | true ↦ refl
+      | false ↦ first_key_at tasks
+    ]
+
+-- where a key at a place is open, it is the first from there
+pub first_here : (tasks : List Task) (i : ℕ) (key : Bytes) (one : Option Op) → slice_get tasks i ≡ Some (key, one) → is_some one ≡ true → first_open (drop i tasks) ≡ 0
+first_here [] i key one at there = cc
+first_here (task ∷ tasks) zero key one at there = let is : task ≡ (key, one) = cc in ap (λ b. cond b 0 (suc (first_open tasks))) (ap (λ (t : Task). is_open t) is ∙ there)
+first_here (task ∷ tasks) (suc i) key one at there = first_here tasks i key one at there
+
+-- where it isn't, the first one stands behind it
+next_open : (tasks : List Task) (i : ℕ) (key : Bytes) (one : Option Op) → slice_get tasks i ≡ Some (key, one) → is_some one ≡ false → first_open (drop i tasks) ≡ suc (first_open (drop (suc i) tasks))
+next_open [] i key one at gone = cc
+next_open (task ∷ tasks) zero key one at gone = let is : task ≡ (key, one) = cc in ap (λ b. cond b 0 (suc (first_open tasks))) (ap (λ (t : Task). is_open t) is ∙ gone)
+next_open (task ∷ tasks) (suc i) key one at gone = next_open tasks i key one at gone
+
+pub first_next : (tasks : List Task) (i : ℕ) (key : Bytes) (one : Option Op) → slice_get tasks i ≡ Some (key, one) → is_some one ≡ false → i + first_open (drop i tasks) ≡ (i + 1) + first_open (drop (i + 1) tasks)
+first_next tasks i key one at gone =
+    let next : i + 1 ≡ suc i = omega (arith) in
+    let now : first_open (drop i tasks) ≡ suc (first_open (drop (suc i) tasks)) = next_open tasks i key one at gone in
+    let here : i + first_open (drop i tasks) ≡ suc i + first_open (drop (suc i) tasks) = omega (arith, now) in
+    here ∙ ap (λ n. n + first_open (drop n tasks)) (sym next)
+
+-- behind the end there is none
+pub first_end : (tasks : List Task) → first_open (drop (length tasks) tasks) ≡ 0
+first_end [] = refl
+first_end (task ∷ tasks) = first_end tasks
+
+-- from the first one on it is still the first
+first_self : (tasks : List Task) → first_open tasks + first_open (drop (first_open tasks) tasks) ≡ first_open tasks
+first_self [] = refl
+first_self (task ∷ tasks) =
+    elim (is_open task) as (λ b. is_open task ≡ b → cond b 0 (suc (first_open tasks)) + first_open (drop (cond b 0 (suc (first_open tasks))) (task ∷ tasks)) ≡ cond b 0 (suc (first_open tasks))) [
+      | true ↦ λ e. zero-add (first_open (task ∷ tasks)) ∙ ap (λ b. cond b 0 (suc (first_open tasks))) e
+      | false ↦ λ e. let rest = first_self tasks in omega (arith, rest)
+    ] refl
+
+-- once a key is settled, the first open one is found from where it was
+pub first_settled : (key : Bytes) (tasks : List Task)
+    → first_open tasks + first_open (drop (first_open tasks) (set_value (pointwise ◌==◌ key) tasks None)) ≡ first_open (set_value (pointwise ◌==◌ key) tasks None)
+first_settled key [] = refl
+first_settled key (task ∷ tasks) =
+    let rest = first_settled key tasks in
+    let next : suc (first_open tasks) + first_open (drop (first_open tasks) (set_value (pointwise ◌==◌ key) tasks None)) ≡ suc (first_open (set_value (pointwise ◌==◌ key) tasks None)) = omega (arith, rest) in
+    elim (is_open task) as (λ b. is_open task ≡ b
+    → cond b 0 (suc (first_open tasks)) + first_open (drop (cond b 0 (suc (first_open tasks))) (set_value (pointwise ◌==◌ key) (task ∷ tasks) None)) ≡ first_open (set_value (pointwise ◌==◌ key) (task ∷ tasks) None)) [
+      | true ↦ λ e. zero-add (first_open (set_value (pointwise ◌==◌ key) (task ∷ tasks) None))
+      | false ↦ λ e. elim (pointwise ◌==◌ key task.0) as (λ c. suc (first_open tasks) + first_open (drop (suc (first_open tasks)) (cond c ((task.0, None) ∷ tasks) (task ∷ set_value (pointwise ◌==◌ key) tasks None)))
+          ≡ first_open (cond c ((task.0, None) ∷ tasks) (task ∷ set_value (pointwise ◌==◌ key) tasks None))) [
+            | true ↦ let own = first_self tasks in omega (arith, own)
+            | false ↦ next ∙ ap (λ b. cond b 0 (suc (first_open (set_value (pointwise ◌==◌ key) tasks None)))) (sym e)
+          ]
+    ] refl
+
+-- and that place is within
+pub first_fits : (key : Bytes) (tasks : List Task) → first_open tasks ≤ length (set_value (pointwise ◌==◌ key) tasks None)
+first_fits key [] = omega (arith)
+first_fits key (task ∷ tasks) =
+    let rest = first_fits key tasks in
+    let own = within tasks in
+    elim (is_open task) as (λ b. cond b 0 (suc (first_open tasks)) ≤ length (set_value (pointwise ◌==◌ key) (task ∷ tasks) None)) [
+      | true ↦ omega (arith)
+      | false ↦ elim (pointwise ◌==◌ key task.0) as (λ c. suc (first_open tasks) ≤ length (cond c ((task.0, None) ∷ tasks) (task ∷ set_value (pointwise ◌==◌ key) tasks None))) [
+        | true ↦ omega (arith, own)
+        | false ↦ omega (arith, rest)
+      ]
+    ]
+  where
+    within : (ts : List Task) → first_open ts ≤ length ts
+    within [] = omega (arith)
+    within (t ∷ ts) =
+        let rest = within ts in
+        elim (is_open t) as (λ b. cond b 0 (suc (first_open ts)) ≤ suc (length ts)) [ true ↦ omega (arith) | false ↦ omega (arith, rest) ]

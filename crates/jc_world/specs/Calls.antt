@@ -4,29 +4,42 @@
 --     put_each_of     a `Put` of each of some entries
 --     tasks           what a command does at each of its keys, in their order. Those of `removeAll()` and `clear()` are found stripe
 --                     by stripe
---     CallState       a call under way: who calls, and what it does
+--     kind_of         how the call of a command takes its keys
+--     takes_turns     a call of a kind works at one key at a time
+--     puts_off        a key of a call of a kind that meets a refusal stays open, to be tried again: in a call of one key it doesn't
+--     has_too_many    tasks are more than a call may have keys
+--     CallState       a call under way: who calls, how it takes its keys, and what it does
 --     new_call        a call that has just begun
+--     has_too_many_keys
+--                     a call names too many keys: it is refused whole
+--     opened          a call that has just begun, if it is then under way: it is not refused whole, and a key of it is open
 --     has_number      a call has this number
 --     is_of_session   a call is of this session
 --     op_in, op_at    what tasks, and a call, do at a key that is open; none at any other key
 --     is_open         the key of a task is open
 --     open_in, open_keys
 --                     the open keys of tasks, and of a call, in their order
---     only_in, only_key
---                     the key of tasks, and of a call, that have just one, if it is open
+--     current_key     the key at which a call works: the first open one of a call that works at one key at a time
+--     is_at           a key is the one that there is
+--     is_turn         a call may work at a key: the current one, if it works at one key at a time
 --     going_on        a call with these tasks, if a key is open
 --     settled         what is left of a call once a key of the call with this number has its reply or last refusal
 --     settle          the calls that are then under way
 --     drop_call       the calls without one that is over
-use Rattle.std.specs.Prelude.{◌==◌, ℕ, List, [], ◌∷◌, Bool, not, Option, None, Some, filter, map, is_some, if◌then◌else◌}
+use Rattle.std.specs.Prelude.{◌==◌, ℕ, List, [], ◌∷◌, length, nat_lt, slice_get, Bool, true, false, not, Option, None, Some, filter, map, is_some, if◌then◌else◌}
 use Rattle.std.specs.List.{filter_map, list_any}
 use Rattle.std.specs.Map.{keys_of, lookup, set_value}
 use Rattle.std.specs.Option.{option_flatten}
 use Rattle.std.specs.Cmp.Lexicographic.{pointwise}
 use Rattle.jc_types.specs.declared.caller.Caller.{Caller}
+use Rattle.jc_types.specs.declared.limits.TheConstants.{BULK_KEYS_MAX}
+use Rattle.jc_types.specs.declared.refusal.Refusal.{Refusal}
+use Rattle.jc_types.specs.Refusals.{is_put_off}
 use Rattle.jc_model.specs.declared.event.Op.{Op}
 use Rattle.jc_model.specs.declared.event.Op.TheVariants as op
 use Rattle.jc_model.specs.Cache.{Bytes}
+use Rattle.jc_world.specs.declared.command.CallKind.{CallKind}
+use Rattle.jc_world.specs.declared.command.CallKind.TheVariants as kind
 use Rattle.jc_world.specs.declared.command.Command.{Command}
 use Rattle.jc_world.specs.declared.command.Command.TheVariants.{Single, GetAll, PutAll, RemoveAll, RemoveEvery, Clear, LoadAll, InvokeAll}
 
@@ -51,15 +64,44 @@ tasks Clear = []
 tasks (LoadAll replace keys) = at_each (op.LoadAll replace) keys.keys
 tasks (InvokeAll keys) = at_each op.Invoke keys.keys
 
+abbrev pub kind_of : Command → CallKind
+kind_of (Single op key) = kind.Single
+kind_of (GetAll keys) = kind.Batch
+kind_of (PutAll entries) = kind.Batch
+kind_of (RemoveAll keys) = kind.Batch
+kind_of RemoveEvery = kind.Batch
+kind_of Clear = kind.Batch
+kind_of (LoadAll replace keys) = kind.Batch
+kind_of (InvokeAll keys) = kind.KeyByKey
+
+-- one key at a time
+abbrev pub takes_turns : CallKind → Bool
+takes_turns kind.Single = true
+takes_turns kind.KeyByKey = true
+takes_turns kind.Batch = false
+
+abbrev pub puts_off : CallKind → Refusal → Bool
+puts_off kind.Single refusal = false
+puts_off kind.KeyByKey refusal = is_put_off refusal
+puts_off kind.Batch refusal = is_put_off refusal
+
+abbrev pub has_too_many : List Task → Bool
+has_too_many tasks = nat_lt BULK_KEYS_MAX (length tasks)
+
 -- 2. Calls under way.
 
 pub record CallState : Type 0 where
   pub caller : Caller
+  pub kind : CallKind
   pub tasks : List Task  -- in the order of its command
 
 abbrev pub new_call : ℕ → ℕ → Command → CallState
 new_call call session command =
-    record { caller = record { session = session; call = call }; tasks = tasks command }
+    record {
+      caller = record { session = session; call = call };
+      kind = kind_of command;
+      tasks = tasks command;
+    }
 
 abbrev pub has_number : ℕ → CallState → Bool
 has_number call u = u.caller.call == call
@@ -84,13 +126,24 @@ open_in tasks = keys_of (filter is_open tasks)
 abbrev pub open_keys : CallState → List Bytes
 open_keys u = open_in u.tasks
 
-abbrev pub only_in : List Task → Option Bytes
-only_in [] = None
-only_in (task ∷ []) = if is_open task then Some task.0 else None
-only_in (task ∷ next ∷ tasks) = None
+-- the first open key
+abbrev pub current_key : CallState → Option Bytes
+current_key u = if takes_turns u.kind then slice_get (open_keys u) 0 else None
 
-abbrev pub only_key : CallState → Option Bytes
-only_key u = only_in u.tasks
+abbrev pub is_at : Option Bytes → Bytes → Bool
+is_at None key = false
+is_at (Some own) key = pointwise ◌==◌ key own
+
+abbrev pub is_turn : CallState → Bytes → Bool
+is_turn u key = if takes_turns u.kind then is_at (current_key u) key else true
+
+-- a call that has just begun
+abbrev pub has_too_many_keys : CallState → Bool
+has_too_many_keys u = has_too_many u.tasks
+
+abbrev pub opened : CallState → List CallState
+opened u =
+    if has_too_many_keys u then [] else if list_any is_open u.tasks then u ∷ [] else []
 
 -- 4. Keys that are settled.
 

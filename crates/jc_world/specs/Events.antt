@@ -1,17 +1,18 @@
 -- The world as a machine: when an event fits, what it shows, and what it leaves.
 --     is_single                   an operation is a call by itself: each but `Clear` and `LoadAll`
---     is_playable                 a command that a world plays: one operation that is a call by itself
+--     is_playable                 a command that a world plays: one operation that is a call by itself, or `invokeAll`
 --     is_session                  a number is that of a session: from 1 to the most sessions
 --     is_new                      a call's number is above all before it
 --     is_free                     a call has neither a reservation nor a join of a key
---     may_start                   the key is open in the call, which has neither a reservation nor a join of it
+--     may_start                   the key is open in the call, which may work at it and has neither a reservation nor a join of it
 --     may_leave                   the call has neither a reservation nor a join of any of its open keys
---     waits_at, may_report        the writer was asked for the key of the call, and hasn't returned
+--     waits_at, may_report        the writer was asked for the key at which the call works, and hasn't returned
 --     fits                        whether an event fits
 --     with_stripe                 the world with a key's stripe at another state
 --     with_phase                  the same, and what the stripe appended to its history stands at the end of the order
 --     step_of                     what is shown of a step, but for its stripe
---     with_call                   the world with a call that has begun
+--     with_call                   the world once a call has begun: it is under way, unless it is over at once
+--     shown_begun                 what the beginning of a call shows: it has begun, or it is refused whole
 --     with_settled                the world in which a key of a call has its reply or last refusal: without the call if it was the last
 --     without_call                the world without a call that leaves
 --     new_load, new_write, new_process     the progress of a key whose loader, writer or processor is to be asked
@@ -21,6 +22,7 @@
 --     with_join, without_join     the world with one join more, and without a call's join of a key
 --     BeginsAs                    the first phase of a call, by what it returns
 --     Starts                      a first phase, by what is shown of it
+--     RefusesAs                   a refusal is shown as one that a call of a kind is to try again, or as its last for the key
 --     Ends                        a last phase
 --     Picks                       a pick-up, by what is shown of it
 --     with_progress               the world with another progress of a reserved key
@@ -40,14 +42,16 @@
 --     RunAppending                the same, and what they show is appended to a list
 --     is_fit, all_fit             what is shown is not the fault of an event that doesn't fit, and nothing that is shown is
 --     AllFit                      whatever the world may choose, each of these events fits when it comes
---     StartFits                   where a call fits, its first phase fits directly behind it
+--     StartFits                   where a call fits that isn't refused whole, its first phase fits directly behind it
 --     RestFits                    if the first fits, so do all: of an event alone, of a writer's change and its return, of a withdrawal
---                                 and the call's leaving
-use Rattle.std.specs.Prelude.{◌≡◌, ◌⊎◌, ℕ, List, [], ◌∷◌, ◌++◌, length, drop, Bool, true, false, not, ◌&&◌, Option, None, Some, is_some, nat_lt, slice_set}
+--                                 and the call's leaving. The last two are at the key at which a call works that works at one at a
+--                                 time
+use Rattle.std.specs.Prelude.{◌≡◌, ◌⊎◌, ℕ, List, [], ◌∷◌, ◌++◌, length, drop, Bool, true, false, not, ◌&&◌, Option, None, Some, is_some, nat_lt, slice_set, if◌then◌else◌}
 use Rattle.std.specs.List.{list_all}
 use Rattle.std.specs.FinMap.{insert, remove}
 use Rattle.jc_types.specs.declared.limits.TheConstants.{SESSIONS_MAX}
 use Rattle.jc_types.specs.declared.caller.Caller.{Caller}
+use Rattle.jc_types.specs.declared.refusal.Refusal.TheVariants.{TooManyKeys}
 use Rattle.jc_types.specs.Limits.{is_between}
 use Rattle.jc_model.specs.declared.event.Op.{Op}
 use Rattle.jc_model.specs.declared.event.Op.TheVariants.{Get, ContainsKey, Put, GetAndPut, PutIfAbsent, Remove, RemoveIf, GetAndRemove, Replace, ReplaceIf, GetAndReplace, Clear, LoadAll, Invoke}
@@ -74,6 +78,7 @@ use Rattle.jc_stripe.specs.declared.begun.Picked.TheVariants as picked
 use Rattle.jc_stripe.specs.Tickets.{Ticket, ProcessClaim, JoinClaim, entry_seen, is_loadable}
 use Rattle.jc_stripe.specs.State.{State}
 use Rattle.jc_stripe.specs.Phases.{Begins, Commits, Withdraws, PicksUp}
+use Rattle.jc_world.specs.declared.command.CallKind.{CallKind}
 use Rattle.jc_world.specs.declared.command.Command.{Command}
 use Rattle.jc_world.specs.declared.command.Command.TheVariants as command
 use Rattle.jc_world.specs.declared.event.WorldEvent.{WorldEvent}
@@ -82,7 +87,7 @@ use Rattle.jc_world.specs.declared.event.Shown.{Shown}
 use Rattle.jc_world.specs.declared.event.Shown.TheVariants as shown
 use Rattle.jc_world.specs.declared.event.Stepped.{Stepped}
 use Rattle.jc_world.specs.declared.event.Reported.{Reported}
-use Rattle.jc_world.specs.Calls.{CallState, open_keys, only_key, op_at, new_call, settle, drop_call}
+use Rattle.jc_world.specs.Calls.{CallState, open_keys, current_key, is_turn, puts_off, op_at, new_call, has_too_many_keys, opened, settle, drop_call}
 use Rattle.jc_world.specs.declared.event.Part.{Part}
 use Rattle.jc_world.specs.declared.event.Progress.{Progress}
 use Rattle.jc_world.specs.declared.event.Progress.TheVariants.{Loading, Writing, Processing, Processed, WritingEffect}
@@ -109,7 +114,7 @@ is_single Clear = false
 is_single (LoadAll replace) = false
 is_single Invoke = true
 
--- calls of many keys aren't played
+-- of the calls of many keys `invokeAll` alone is played
 abbrev pub is_playable : Command → Bool
 is_playable (command.Single op key) = is_single op
 is_playable (command.GetAll keys) = false
@@ -118,7 +123,7 @@ is_playable (command.RemoveAll keys) = false
 is_playable command.RemoveEvery = false
 is_playable command.Clear = false
 is_playable (command.LoadAll replace keys) = false
-is_playable (command.InvokeAll keys) = false
+is_playable (command.InvokeAll keys) = true
 
 -- the sessions are numbered from 1
 abbrev pub is_session : ℕ → Bool
@@ -133,24 +138,24 @@ is_new (Some last) call = nat_lt last call
 abbrev pub is_free : WorldState → ℕ → Bytes → Bool
 is_free w call key = is_free_of w.parts w.joins call key
 
--- the key is open in the call, and it has neither a reservation nor a join
+-- the key is open in the call, which may work at it, and it has neither a reservation nor a join
 abbrev pub may_start : WorldState → ℕ → Bytes → Option CallState → Bool
 may_start w call key None = false
-may_start w call key (Some u) = is_some (op_at u key) && is_free w call key
+may_start w call key (Some u) = is_some (op_at u key) && is_turn u key && is_free w call key
 
 -- the call has neither a reservation nor a join
 abbrev pub may_leave : WorldState → ℕ → Option CallState → Bool
 may_leave w call None = false
 may_leave w call (Some u) = list_all (is_free w call) (open_keys u)
 
--- the call's key is asked of the writer, which hasn't returned
+-- the key at which the call works is asked of the writer, which hasn't returned
 abbrev pub waits_at : WorldState → ℕ → Option Bytes → Bool
 waits_at w call None = false
 waits_at w call (Some key) = has_progress waits_for_report (part_of w call key)
 
 abbrev pub may_report : WorldState → ℕ → Option CallState → Bool
 may_report w call None = false
-may_report w call (Some u) = waits_at w call (only_key u)
+may_report w call (Some u) = waits_at w call (current_key u)
 
 abbrev pub fits : WorldState → WorldEvent → Bool
 fits w (event.Call call session command) =
@@ -188,7 +193,10 @@ step_of seen =
     record { reply = seen.reply; place = seen.place; victim = seen.victim; evicted = seen.evicted }
 
 abbrev pub with_call : WorldState → CallState → WorldState
-with_call w u = record w { last = Some u.caller.call; fresh = false; calls = w.calls ++ u ∷ [] }
+with_call w u = record w { last = Some u.caller.call; fresh = false; calls = w.calls ++ opened u }
+
+abbrev pub shown_begun : CallState → Shown
+shown_begun u = if has_too_many_keys u then shown.Refused TooManyKeys else shown.Begun
 
 -- a key of a call has its reply or last refusal
 abbrev pub with_settled : WorldState → ℕ → Bytes → WorldState
@@ -238,6 +246,8 @@ BeginsAs caller key op b from to = Begins from caller key op b to
 abbrev pub Starts : WorldState → Caller → Bytes → Op → State → State → Shown → WorldState → Type 0
 Starts old caller key op from to (shown.Refused refusal) new =
     BeginsAs caller key op (begun.Refused refusal) from to × (new ≡ with_settled old caller.call key)
+Starts old caller key op from to (shown.PutOff refusal) new =
+    BeginsAs caller key op (begun.Refused refusal) from to × (new ≡ old)
 Starts old caller key op from to (shown.Stepped seen) new =
     BeginsAs caller key op (begun.Done (step_of seen)) from to × (seen.stripe ≡ home old key)
     × (new ≡ with_settled (with_phase old key from to) caller.call key)
@@ -256,6 +266,11 @@ Starts old caller key op from to shown.Joins new =
     (join : JoinClaim) × BeginsAs caller key op (begun.Joined join) from to
     × (new ≡ with_join (with_stripe old key to) join)
 Starts old caller key op from to seen new = ⊥
+
+abbrev pub RefusesAs : CallKind → Shown → Type 0
+RefusesAs kind (shown.Refused refusal) = puts_off kind refusal ≡ false
+RefusesAs kind (shown.PutOff refusal) = puts_off kind refusal ≡ true
+RefusesAs kind seen = Unit {0}
 
 abbrev pub Ends : WorldState → ℕ → Bytes → Part → State → State → Shown → WorldState → Type 0
 Ends old call key part from to (shown.Stepped seen) new =
@@ -361,12 +376,12 @@ shown_process config r answer calls fail =
 
 abbrev pub Happens : WorldState → WorldEvent → Shown → WorldState → Type 0
 Happens old (event.Call call session command) seen new =
-    (seen ≡ shown.Begun)
+    (seen ≡ shown_begun (new_call call session command))
     × (new ≡ with_call old (new_call call session command))
 Happens old (event.Start call key) seen new =
     (u : CallState) × (op : Op) × (open_call old call ≡ Some u) × (op_at u key ≡ Some op)
     × (from : State) × (stripe_for old key ≡ Some from) × (to : State)
-    × Starts old u.caller key op from to seen new
+    × Starts old u.caller key op from to seen new × RefusesAs u.kind seen
 Happens old (event.Read call key) seen new =
     let answer = read_answer (entry_at old.store key) in
     (part : Part) × (part_of old call key ≡ Some part) × (seen ≡ shown.Reads answer)
@@ -380,7 +395,7 @@ Happens old (event.Change call key) seen new =
     × (new ≡ after_change old key part change)
 Happens old (event.Report call fault) seen new =
     (u : CallState) × (key : Bytes) × (part : Part) × (change : Change)
-    × (open_call old call ≡ Some u) × (only_key u ≡ Some key)
+    × (open_call old call ≡ Some u) × (current_key u ≡ Some key)
     × (part_of old call key ≡ Some part) × (writer_change part ≡ Some change)
     × (seen ≡ shown.Reported (shown_report change part.progress fault))
     × (new ≡ after_report old key part (report_of fault))
@@ -439,20 +454,22 @@ abbrev pub AllFit : WorldState → List WorldEvent → Type 0
 AllFit old events =
     (seen : List Shown) (new : WorldState) → Run old events seen new → all_fit seen ≡ true
 
--- it does so in every world that is reached, at each key of the call
+-- it does so in every world that is reached, at each key at which the call may work
 abbrev pub StartFits : WorldState → Type 0
 StartFits w =
     (call session : ℕ) (command : Command) (key : Bytes)
     → fits w (event.Call call session command) ≡ true
     → is_some (op_at (new_call call session command) key) ≡ true
+    → is_turn (new_call call session command) key ≡ true
+    → has_too_many_keys (new_call call session command) ≡ false
     → AllFit w (event.Call call session command ∷ event.Start call key ∷ [])
 
--- so do these; of two, where the call has no other key open
+-- so do these; of two, where the call works at one key at a time
 pub record RestFits (w : WorldState) : Type 0 where
   pub alone : (e : WorldEvent) → fits w e ≡ true → AllFit w (e ∷ [])
   pub report : (call : ℕ) (u : CallState) (key : Bytes) (fault : Option ℕ)
-      → open_call w call ≡ Some u → only_key u ≡ Some key → fits w (event.Change call key) ≡ true
+      → open_call w call ≡ Some u → current_key u ≡ Some key → fits w (event.Change call key) ≡ true
       → AllFit w (event.Change call key ∷ event.Report call fault ∷ [])
   pub leave : (call : ℕ) (u : CallState) (key : Bytes) → open_call w call ≡ Some u
-      → only_key u ≡ Some key → fits w (event.Withdraw call key) ≡ true
+      → current_key u ≡ Some key → fits w (event.Withdraw call key) ≡ true
       → AllFit w (event.Withdraw call key ∷ event.Leave call ∷ [])

@@ -14,7 +14,7 @@
 --     is_due_in, is_due             after a processor the writer is asked exactly if it has to be
 --     AllDue                        that is so of all parts
 --     IsHeld                        a part has its reservation, whose call is then under way
---     IsCallOf                      a call is of a session, and an operation is open in it at a key
+--     IsCallOf                      a call is of a session, and an operation is open in it at a key, at which it may work
 --     IsOwned, AllOwned             a reservation has its part and its call; each does
 --     IsWaitedFor, AllWaitedFor     a join has its joiner and its call, which has no part; each does
 --     is_joined_once                no two joins are of one call and one key
@@ -57,7 +57,7 @@ use Rattle.jc_stripe.specs.Tickets.{JoinClaim, asks_loader, asks_writer, asks_pr
 use Rattle.jc_stripe.specs.State.{State, IsOut, IsJoined}
 use Rattle.jc_stripe.specs.Reached.{IsReached}
 use Rattle.jc_stripe.specs.OwnSteps.{may_come_all}
-use Rattle.jc_world.specs.Calls.{CallState, op_at}
+use Rattle.jc_world.specs.Calls.{CallState, op_at, is_turn}
 use Rattle.jc_world.specs.declared.event.Part.{Part}
 use Rattle.jc_world.specs.declared.event.Progress.{Progress}
 use Rattle.jc_world.specs.declared.event.Progress.TheVariants.{Loading, Writing, Processing, Processed, WritingEffect}
@@ -161,9 +161,9 @@ pub record IsHeld (s : State) (key : Bytes) (part : Part) : Type 0 where
   pub out : IsOut s part.reservation
   pub asked : is_asked part.progress part.reservation.first ≡ true
 
--- a call is of this session, and this operation is open in it at this key
+-- a call is of this session, and this operation is open in it at this key, at which it may work
 abbrev pub IsCallOf : ℕ → Bytes → Op → CallState → Type 0
-IsCallOf session key op u = (u.caller.session ≡ session) × (op_at u key ≡ Some op)
+IsCallOf session key op u = (u.caller.session ≡ session) × (op_at u key ≡ Some op) × (is_turn u key ≡ true)
 
 -- the reservation of a call under way, with its part
 pub record IsOwned (w : WorldState) (r : Reservation) : Type 0 where

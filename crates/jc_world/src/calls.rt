@@ -1,13 +1,16 @@
 //! The calls under way. A session has one at most, so there are never more than there are sessions.
-ghost use Rattle.std.specs.Prelude.{◌≡◌, true, find, option_copied};
+ghost use Rattle.std.specs.Prelude.{◌≡◌, ◌++◌, true, find, cond, option_copied, OnOk, OnErr, IfOk};
 ghost use Rattle.std.specs.List.{list_any};
-ghost use Rattle.jc_world.specs.Calls.{has_number, is_of_session, drop_call, settle};
+ghost use Rattle.jc_world.specs.Calls.{has_number, has_too_many_keys, is_of_session, drop_call, new_call, opened, puts_off, settle};
 ghost use Rattle.jc_world.specs.Events.{is_single, is_playable, is_session, is_new};
+ghost use Rattle.jc_world.specs.declared.event.Shown.TheVariants as shown;
 
-use crate::command::Command;
+use crate::command::{CallKind, Command};
+use crate::event::Shown;
 use crate::open_call::OpenCall;
 use jc_model::Op;
-use jc_types::{Key, SESSIONS_MAX};
+use jc_types::{Caller, Key, Refusal, SESSIONS_MAX, Value};
+use std::alloc::{AllocError, Global};
 
 /// Whether an operation is a call by itself.
 fn is_single(op: &Op) -> bool
@@ -16,12 +19,13 @@ fn is_single(op: &Op) -> bool
     !matches!(op, Op::Clear | Op::LoadAll { .. })
 }
 
-/// Whether a command is played: one operation that is a call by itself.
+/// Whether a command is played: one operation that is a call by itself, or `invokeAll`.
 pub(crate) fn is_playable(command: &Command) -> bool
     ensures { result ≡ is_playable command.now }
 {
     match command {
         Command::Single { op, key: _ } => is_single(op),
+        Command::InvokeAll { keys: _ } => true,
         Command::GetAll { keys: _ }
         | Command::PutAll { entries: _ }
         | Command::RemoveAll { keys: _ }
@@ -30,8 +34,7 @@ pub(crate) fn is_playable(command: &Command) -> bool
         | Command::LoadAll {
             replace: _,
             keys: _,
-        }
-        | Command::InvokeAll { keys: _ } => false,
+        } => false,
     }
 }
 
@@ -64,6 +67,60 @@ pub(crate) fn find_call(calls: &[OpenCall], call: u64) -> Option<&OpenCall>
     ensures { option_copied result ≡ find (has_number call) calls.now }
 {
     calls.iter().find(|u| u.caller().call == call)
+}
+
+/// A call begins. It is then under way, unless it has too many keys or none. Says whether it has too many.
+pub(crate) fn begin(
+    alloc: Global,
+    calls: &mut Vec<OpenCall>,
+    caller: Caller,
+    command: &Command,
+) -> Result<bool, AllocError>
+    ensures refused { IfOk result (λ refused. refused ≡ has_too_many_keys (new_call caller.call caller.session command.now)) }
+    ensures ok { OnOk result (
+        calls.new.items ≡ calls.old.items ++ opened (new_call caller.call caller.session command.now)) }
+    ensures err { OnErr result (calls.new.items ≡ calls.old.items) }
+{
+    // Names the types of the values that a generic call moves here: the prover looks for their models in the types that a function
+    // names.
+    let _types: Option<(Op, Value)> = None;
+    if command.has_too_many_keys() {
+        return Ok(true);
+    }
+    let call = OpenCall::new(alloc, caller, command)?;
+    if call.is_open() {
+        calls.push(call)?;
+    }
+    Ok(false)
+}
+
+/// What the beginning of a call shows.
+pub(crate) fn shown_begun(refused: bool) -> Shown
+    ensures { result ≡ cond refused (shown.Refused Refusal.TooManyKeys) shown.Begun }
+{
+    if refused {
+        Shown::Refused(Refusal::TooManyKeys)
+    } else {
+        Shown::Begun
+    }
+}
+
+/// The first phase of a key of a call was refused. The key is settled, unless it is put off. Gives what this shows.
+pub(crate) fn refuse(
+    calls: &mut Vec<OpenCall>,
+    kind: CallKind,
+    call: u64,
+    key: &Key,
+    refusal: Refusal,
+) -> Shown
+    ensures calls { calls.new.items ≡ cond (puts_off kind refusal) calls.old.items (settle call key.now calls.old.items) }
+    ensures shown { result ≡ cond (puts_off kind refusal) (shown.PutOff refusal) (shown.Refused refusal) }
+{
+    if kind.puts_off(&refusal) {
+        return Shown::PutOff(refusal);
+    }
+    settle(calls, call, key);
+    Shown::Refused(refusal)
 }
 
 /// A key of a call has its reply or last refusal. The call is taken out if no key of it is open any more.

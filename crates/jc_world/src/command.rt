@@ -1,7 +1,10 @@
 //! What calls do.
+ghost use Rattle.std.specs.Prelude.{◌≡◌, length};
+ghost use Rattle.jc_world.specs.Calls.{kind_of, takes_turns, puts_off, tasks, has_too_many};
+
 use indexmap::{IndexMap, IndexSet};
 use jc_model::Op;
-use jc_types::{Key, Value};
+use jc_types::{BULK_KEYS_MAX, Key, Refusal, Value};
 
 /// What a call does: one operation on one key, or one operation on each of many keys, in their order.
 #[derive(Drop)]
@@ -44,4 +47,82 @@ pub enum Command {
         /// The keys.
         keys: IndexSet<Key>,
     },
+}
+
+impl Command {
+    /// How the call takes its keys.
+    pub fn kind(&self) -> CallKind
+        ensures { result ≡ kind_of self.now }
+    {
+        match self {
+            Command::Single { op: _, key: _ } => CallKind::Single,
+            Command::InvokeAll { keys: _ } => CallKind::KeyByKey,
+            Command::GetAll { keys: _ }
+            | Command::PutAll { entries: _ }
+            | Command::RemoveAll { keys: _ }
+            | Command::RemoveEvery
+            | Command::Clear
+            | Command::LoadAll {
+                replace: _,
+                keys: _,
+            } => CallKind::Batch,
+        }
+    }
+
+    /// How many keys the command names. `removeAll()` and `clear` name none: theirs are those that are cached.
+    fn keys_len(&self) -> usize
+        ensures { result ≡ length (tasks self.now) }
+    {
+        match self {
+            Command::Single { op: _, key: _ } => 1,
+            Command::PutAll { entries } => entries.len(),
+            Command::RemoveEvery | Command::Clear => 0,
+            Command::GetAll { keys }
+            | Command::RemoveAll { keys }
+            | Command::LoadAll { replace: _, keys }
+            | Command::InvokeAll { keys } => keys.len(),
+        }
+    }
+
+    /// Whether the command names more than [`BULK_KEYS_MAX`](jc_types::BULK_KEYS_MAX) keys: its call is refused whole.
+    pub(crate) fn has_too_many_keys(&self) -> bool
+        ensures { result ≡ has_too_many (tasks self.now) }
+    {
+        self.keys_len() > BULK_KEYS_MAX
+    }
+}
+
+/// How a call takes its keys.
+#[derive(Clone, Copy, Debug, PartialEq, Eq)]
+pub enum CallKind {
+    /// It has one key.
+    Single,
+    /// It has many keys, and takes one after the other, in their order: the next once the one before has its reply or last refusal.
+    /// So does `invokeAll`.
+    KeyByKey,
+    /// It has many keys, and takes each that it can, whatever becomes of the others. So do the other calls of many keys.
+    Batch,
+}
+
+impl CallKind {
+    /// Whether such a call works at one key at a time.
+    pub(crate) fn takes_turns(self) -> bool
+        ensures { result ≡ takes_turns self }
+    {
+        match self {
+            CallKind::Single | CallKind::KeyByKey => true,
+            CallKind::Batch => false,
+        }
+    }
+
+    /// Whether a key of such a call that meets this refusal stays open, to be tried again. In a call of one key each refusal is the
+    /// last.
+    pub(crate) fn puts_off(self, refusal: &Refusal) -> bool
+        ensures { result ≡ puts_off self refusal.now }
+    {
+        match self {
+            CallKind::Single => false,
+            CallKind::KeyByKey | CallKind::Batch => refusal.is_put_off(),
+        }
+    }
 }

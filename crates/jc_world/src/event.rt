@@ -17,7 +17,11 @@ pub enum WorldEvent {
     /// A session begins a call. It has no phase yet.
     ///
     /// It fits if the number is above all before it, the session is one and has no call under way, and the command is one operation
-    /// on one key that is a call by itself. `Clear` and `LoadAll` are none, and calls of many keys aren't played.
+    /// on one key that is a call by itself, or an `invokeAll`. `Clear` and `LoadAll` are no calls by themselves, and other calls of
+    /// many keys aren't played.
+    ///
+    /// A call of more than [`BULK_KEYS_MAX`](jc_types::BULK_KEYS_MAX) keys is refused whole: it is over at once, and its number is
+    /// used. So is a call of no keys over at once.
     Call {
         /// The call's number, which is to be above that of every call before it, of any session.
         call: u64,
@@ -27,8 +31,9 @@ pub enum WorldEvent {
         command: Command,
     },
     /// The first phase of a key of the call. It fits if the key has neither a reply nor a last refusal in this call, and the
-    /// call has neither reserved it nor joined its load: before its first phase, and once the call was told to retry or has
-    /// given its reservation back.
+    /// call has neither reserved it nor joined its load: before its first phase, and once the key was put off, or the call was told
+    /// to retry or has given its reservation back. An `invokeAll` takes its keys one after the other: of its keys it fits at the
+    /// first one that has neither a reply nor a last refusal.
     Start {
         /// The call's number.
         call: u64,
@@ -59,7 +64,7 @@ pub enum WorldEvent {
         key: Key,
     },
     /// The writer returns. It fits if the writer is asked for the call's key and hasn't returned, whether it has changed the
-    /// store or not.
+    /// store or not. In an `invokeAll` that is the one key at which it works.
     Report {
         /// The number of the call that has the writer asked.
         call: u64,
@@ -171,8 +176,10 @@ pub enum Shown {
     Processes(Option<Value>),
     /// The key is being loaded by another call, and this one has joined that load.
     Joins,
-    /// The first phase was refused, and the call is over.
+    /// The first phase was refused, and the key has no reply in this call; or the call was refused whole.
     Refused(Refusal),
+    /// The first phase of a key of a call of many keys was refused, and the key is to be tried again.
+    PutOff(Refusal),
     /// The loader read this.
     Reads(LoadAnswer),
     /// The loader said this.

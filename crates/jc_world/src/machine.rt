@@ -13,7 +13,7 @@ mod auditing;
 mod fitting;
 mod processing;
 
-use crate::calls::{drop_call, find_call, has_call, is_above, settle};
+use crate::calls::{begin, drop_call, find_call, has_call, is_above, refuse, settle, shown_begun};
 use crate::command::Command;
 use crate::ending::{end_all, pick_all};
 use crate::event::{PickedUp, Premises, Shown, WorldEvent, show};
@@ -24,7 +24,7 @@ use crate::held_keys::{
 use crate::joining::{has_joined, put_back, take_join};
 use crate::open_call::OpenCall;
 use crate::stripes::{Stripes, shown_of};
-use jc_model::{Change, Contents, Event, Op};
+use jc_model::{Change, Contents, Event};
 use jc_stripe::{Begun, Join, Picked};
 use jc_types::{Caller, Config, Key, Value, stripe_of};
 use std::alloc::{AllocError, Global};
@@ -181,44 +181,29 @@ impl Machine {
                 call,
                 session,
                 command,
-            } => self.begin_call(*call, *session, command, seen),
-            WorldEvent::Start { call, key } => self.start(*call, key, seen),
-            WorldEvent::Read { call, key } => {
-                self.read(*call, key, seen);
-                Ok(())
-            }
-            WorldEvent::Say { call, key, answer } => {
-                self.say(*call, key, *answer, seen);
-                Ok(())
-            }
-            WorldEvent::Change { call, key } => self.change(*call, key, seen),
-            WorldEvent::Report { call, fault } => {
-                self.writer_returns(*call, *fault, seen);
-                Ok(())
-            }
+            } => self.begin_call(*call, *session, command, seen)?,
+            WorldEvent::Start { call, key } => self.start(*call, key, seen)?,
+            WorldEvent::Read { call, key } => self.read(*call, key, seen),
+            WorldEvent::Say { call, key, answer } => self.say(*call, key, *answer, seen),
+            WorldEvent::Change { call, key } => self.change(*call, key, seen)?,
+            WorldEvent::Report { call, fault } => self.writer_returns(*call, *fault, seen),
             WorldEvent::Process {
                 call,
                 key,
                 load,
                 calls,
                 fail,
-            } => self.process(*call, key, load, calls, *fail, seen),
-            WorldEvent::Commit { call, key } => self.commit(*call, key, seen),
-            WorldEvent::Withdraw { call, key } => {
-                self.withdraw(*call, key, seen);
-                Ok(())
-            }
+            } => self.process(*call, key, load, calls, *fail, seen)?,
+            WorldEvent::Commit { call, key } => self.commit(*call, key, seen)?,
+            WorldEvent::Withdraw { call, key } => self.withdraw(*call, key, seen),
             WorldEvent::Leave { call } => {
                 drop_call(&mut self.calls, *call);
                 *seen = Shown::Left;
-                Ok(())
             }
-            WorldEvent::PickUp { call, key } => {
-                self.pick_up(*call, key, seen);
-                Ok(())
-            }
-            WorldEvent::Foreign { key, value } => self.foreign_write(key, *value, seen),
+            WorldEvent::PickUp { call, key } => self.pick_up(*call, key, seen),
+            WorldEvent::Foreign { key, value } => self.foreign_write(key, *value, seen)?,
         }
+        Ok(())
     }
 
     /// A call begins.
@@ -233,15 +218,11 @@ impl Machine {
             Happens self.old (event.Call call session command.now) seen.new self.new) }
         ensures err { OnErr result (self.new ≡ self.old) }
     {
-        // Names the types of the values that a generic call moves here: the prover looks for their models in the types that a
-        // function names. So does the other of this name below.
-        let _types: Option<(Op, Value)> = None;
-        let alloc = *self.calls.allocator();
-        let opened = OpenCall::new(alloc, Caller { session, call }, command)?;
-        self.calls.push(opened)?;
+        let caller = Caller { session, call };
+        let refused = begin(self.alloc, &mut self.calls, caller, command)?;
         self.last = Some(call);
         self.fresh = false;
-        *seen = Shown::Begun;
+        *seen = shown_begun(refused);
         Ok(())
     }
 
@@ -253,6 +234,8 @@ impl Machine {
         ensures ok { OnOk result (Happens self.old (event.Start call key.now) seen.new self.new) }
         ensures err { OnErr result (self.new ≡ self.old) }
     {
+        // Names the types of the values that a generic call moves here: the prover looks for their models in the types that a
+        // function names.
         let _types: Option<Change> = None;
         make_room(&mut self.held)?;
         self.joins.try_reserve(1)?;
@@ -262,9 +245,9 @@ impl Machine {
         };
         let op = u.op_at_open(key);
         let caller = u.caller();
+        let kind = u.kind();
         let number = stripe_of(key, self.config.stripes);
-        let begun = self.stripes.begin(number, &caller, key, op);
-        match begun {
+        match self.stripes.begin(number, &caller, key, op) {
             Begun::Done(done) => {
                 settle(&mut self.calls, caller.call, key);
                 *seen = Shown::Stepped(shown_of(number, done));
@@ -289,8 +272,7 @@ impl Machine {
                 Ok(())
             }
             Begun::Refused(refusal) => {
-                settle(&mut self.calls, caller.call, key);
-                *seen = Shown::Refused(refusal);
+                *seen = refuse(&mut self.calls, kind, caller.call, key, refusal);
                 Ok(())
             }
         }

@@ -1,15 +1,16 @@
 //! A call under way, by what it does at its keys.
-ghost use Rattle.std.specs.Prelude.{◌≡◌, ◌==◌, [], true, Some, None, is_some, cond, option_copied, OnOk, IfOk};
+ghost use Rattle.std.specs.Prelude.{◌≡◌, ◌==◌, ◌+◌, ◌≤◌, [], true, Some, None, is_some, cond, drop, length, option_copied, slice_get};
+ghost use Rattle.std.specs.Prelude.{OnOk, IfOk};
 ghost use Rattle.std.specs.List.{list_all, list_any, IsDistinct};
 ghost use Rattle.std.specs.Map.{set_value};
 ghost use Rattle.std.specs.Cmp.Lexicographic.{pointwise};
-ghost use Rattle.jc_world.specs.Calls.{at_each, put_each_of, tasks, op_in, op_at, is_open, open_in, open_keys, only_in};
-ghost use Rattle.jc_world.specs.Calls.{only_key, new_call, settled};
-ghost use Rattle.jc_world.specs.OpenCalls.{tasks_of, open_count, IsCounted};
+ghost use Rattle.jc_world.specs.Calls.{at_each, put_each_of, tasks, op_in, op_at, is_open, open_in, open_keys, current_key};
+ghost use Rattle.jc_world.specs.Calls.{is_turn, new_call, settled};
+ghost use Rattle.jc_world.specs.OpenCalls.{tasks_of, first_open, IsPlaced};
 ghost use Rattle.jc_world.specs.World.{is_free_of};
 ghost use Rattle.jc_world.specs.Held.{parts_of};
 
-use crate::command::Command;
+use crate::command::{CallKind, Command};
 use crate::held_keys::{HeldKeys, held_by};
 use crate::joining::has_joined;
 use indexmap::{IndexMap, IndexSet};
@@ -27,10 +28,10 @@ enum Tasks {
         key: Key,
         op: Option<Op>,
     },
-    /// At each of many keys, with the count of those that are open.
+    /// At each of many keys, with the place of the first one that is open: their number, if none is.
     Many {
         ops: IndexMap<Key, Option<Op>>,
-        count: usize,
+        first: usize,
     },
 }
 
@@ -38,18 +39,19 @@ enum Tasks {
 #[derive(Drop)]
 pub struct OpenCall {
     caller: Caller,
+    kind: CallKind,
     tasks: Tasks,
 }
 
 impl Model for OpenCall {
     ghost use Rattle.jc_world.specs.Calls.{CallState};
-    ghost use Rattle.jc_world.specs.OpenCalls.{tasks_of, IsCounted};
+    ghost use Rattle.jc_world.specs.OpenCalls.{tasks_of, IsPlaced};
 
     ghost Value = { CallState };
 
-    ghost view = { λ u. record { caller = u.caller; tasks = tasks_of u.tasks } };
+    ghost view = { λ u. record { caller = u.caller; kind = u.kind; tasks = tasks_of u.tasks } };
 
-    ghost invariant = { λ u. IsCounted u.tasks };
+    ghost invariant = { λ u. IsPlaced u.tasks };
 }
 
 impl OpenCall {
@@ -57,8 +59,13 @@ impl OpenCall {
     pub(crate) fn new(alloc: Global, caller: Caller, command: &Command) -> Result<Self, AllocError>
         ensures { IfOk result (λ u. u ≡ new_call caller.call caller.session command.now) }
     {
+        let kind = command.kind();
         let tasks = tasks_for(alloc, command)?;
-        Ok(OpenCall { caller, tasks })
+        Ok(OpenCall {
+            caller,
+            kind,
+            tasks,
+        })
     }
 
     /// Who calls: a session, from 1 to [`SESSIONS_MAX`](jc_types::SESSIONS_MAX), and the call's number.
@@ -68,14 +75,42 @@ impl OpenCall {
         self.caller
     }
 
-    /// The key of a call that has just one, if it is open.
-    pub fn only_key(&self) -> Option<&Key>
-        ensures { option_copied result ≡ only_key self.now }
+    /// How the call takes its keys.
+    pub fn kind(&self) -> CallKind
+        ensures { result ≡ self.now.kind }
     {
-        match &self.tasks {
-            Tasks::One { key, op } => if op.is_some() { Some(key) } else { None },
-            Tasks::Many { ops, count: _ } => only_among(ops),
+        self.kind
+    }
+
+    /// The key at which the call works, if it works at one key at a time: the first that is open. It costs one look-up.
+    pub fn current_key(&self) -> Option<&Key>
+        ensures { option_copied result ≡ current_key self.now }
+    {
+        if self.kind.takes_turns() {
+            first_key(&self.tasks)
+        } else {
+            None
         }
+    }
+
+    /// Whether the call may work at a key now, as far as the order of its keys goes.
+    pub(crate) fn is_turn(&self, key: &Key) -> bool
+        ensures { result ≡ is_turn self.now key.now }
+    {
+        if !self.kind.takes_turns() {
+            return true;
+        }
+        match self.current_key() {
+            Some(current) => *key == *current,
+            None => false,
+        }
+    }
+
+    /// Whether a key of the call is open.
+    pub(crate) fn is_open(&self) -> bool
+        ensures { result ≡ list_any is_open self.now.tasks }
+    {
+        are_open(&self.tasks)
     }
 
     /// What the call does at a key that is open in it: one that has neither a reply nor a last refusal. None at any other key. It
@@ -85,7 +120,7 @@ impl OpenCall {
     {
         match &self.tasks {
             Tasks::One { key: own, op } => { if *key == *own { op.as_ref() } else { None } }
-            Tasks::Many { ops, count: _ } => op_among(ops, key),
+            Tasks::Many { ops, first: _ } => op_among(ops, key),
         }
     }
 
@@ -101,7 +136,7 @@ impl OpenCall {
                 op: Some(op),
             } => op,
             Tasks::One { key: _, op: None } => unreachable!(),
-            Tasks::Many { ops, count: _ } => match op_among(ops, key) {
+            Tasks::Many { ops, first: _ } => match op_among(ops, key) {
                 Some(op) => op,
                 None => unreachable!(),
             },
@@ -115,7 +150,7 @@ impl OpenCall {
     {
         match &self.tasks {
             Tasks::One { key, op } => op.is_none() || is_free_at(call, key, held, joins),
-            Tasks::Many { ops, count: _ } => are_free(call, ops, held, joins),
+            Tasks::Many { ops, first: _ } => are_free(call, ops, held, joins),
         }
     }
 
@@ -133,7 +168,7 @@ impl OpenCall {
 /// What a command does, at keys that are all open.
 fn tasks_for(alloc: Global, command: &Command) -> Result<Tasks, AllocError>
     ensures tasks { IfOk result (λ t. tasks_of t ≡ tasks command.now) }
-    ensures counted { IfOk result (λ t. IsCounted t) }
+    ensures placed { IfOk result (λ t. IsPlaced t) }
 {
     match command {
         Command::Single { op, key } => Ok(Tasks::One {
@@ -145,7 +180,7 @@ fn tasks_for(alloc: Global, command: &Command) -> Result<Tasks, AllocError>
         Command::RemoveAll { keys } => at_each(alloc, keys, &Op::Remove),
         Command::RemoveEvery | Command::Clear => Ok(Tasks::Many {
             ops: IndexMap::new(alloc),
-            count: 0,
+            first: 0,
         }),
         Command::LoadAll { replace, keys } => {
             at_each(alloc, keys, &Op::LoadAll { replace: *replace })
@@ -157,12 +192,11 @@ fn tasks_for(alloc: Global, command: &Command) -> Result<Tasks, AllocError>
 /// One operation at each of some keys.
 fn at_each(alloc: Global, keys: &IndexSet<Key>, op: &Op) -> Result<Tasks, AllocError>
     ensures tasks { IfOk result (λ t. tasks_of t ≡ at_each op.now keys.now.keys) }
-    ensures counted { IfOk result (λ t. IsCounted t) }
+    ensures placed { IfOk result (λ t. IsPlaced t) }
 {
     let mut ops = IndexMap::with_capacity(alloc, keys.len())?;
     put_each(&mut ops, keys.as_slice(), op)?;
-    let count = ops.len();
-    Ok(Tasks::Many { ops, count })
+    Ok(Tasks::Many { ops, first: 0 })
 }
 
 fn put_each(ops: &mut IndexMap<Key, Option<Op>>, keys: &[Key], op: &Op) -> Result<(), AllocError>
@@ -179,12 +213,11 @@ fn put_each(ops: &mut IndexMap<Key, Option<Op>>, keys: &[Key], op: &Op) -> Resul
 /// A `Put` of each of some entries.
 fn puts(alloc: Global, entries: &IndexMap<Key, Value>) -> Result<Tasks, AllocError>
     ensures tasks { IfOk result (λ t. tasks_of t ≡ put_each_of entries.now.entries) }
-    ensures counted { IfOk result (λ t. IsCounted t) }
+    ensures placed { IfOk result (λ t. IsPlaced t) }
 {
     let mut ops = IndexMap::with_capacity(alloc, entries.len())?;
     put_values(&mut ops, entries)?;
-    let count = ops.len();
-    Ok(Tasks::Many { ops, count })
+    Ok(Tasks::Many { ops, first: 0 })
 }
 
 fn put_values(
@@ -205,16 +238,17 @@ fn put_values(
     Ok(())
 }
 
-/// The key, if there is just one and it is open.
-fn only_among(ops: &IndexMap<Key, Option<Op>>) -> Option<&Key>
-    ensures { option_copied result ≡ only_in ops.now.entries }
+/// The first key that is open.
+fn first_key(tasks: &Tasks) -> Option<&Key>
+    requires { IsPlaced tasks.now }
+    ensures { option_copied result ≡ slice_get (open_in (tasks_of tasks.now)) 0 }
 {
-    if ops.len() != 1 {
-        return None;
-    }
-    match ops.get_index(0) {
-        Some((key, op)) => if op.is_some() { Some(key) } else { None },
-        None => None,
+    match tasks {
+        Tasks::One { key, op } => if op.is_some() { Some(key) } else { None },
+        Tasks::Many { ops, first } => match ops.get_index(*first) {
+            Some((key, _op)) => Some(key),
+            None => None,
+        },
     }
 }
 
@@ -261,9 +295,9 @@ fn are_free(call: u64, ops: &IndexMap<Key, Option<Op>>, held: &HeldKeys, joins: 
 
 /// A key is settled.
 fn settle_at(tasks: &mut Tasks, key: &Key)
-    requires counted { IsCounted tasks.old }
+    requires placed { IsPlaced tasks.old }
     ensures tasks { tasks_of tasks.new ≡ set_value (pointwise ◌==◌ key.now) (tasks_of tasks.old) None }
-    ensures counted { IsCounted tasks.new }
+    ensures placed { IsPlaced tasks.new }
 {
     match tasks {
         Tasks::One { key: own, op } => {
@@ -271,31 +305,49 @@ fn settle_at(tasks: &mut Tasks, key: &Key)
                 *op = None;
             }
         }
-        Tasks::Many { ops, count } => settle_among(ops, count, key),
+        Tasks::Many { ops, first } => settle_among(ops, first, key),
     }
 }
 
-fn settle_among(ops: &mut IndexMap<Key, Option<Op>>, count: &mut usize, key: &Key)
-    requires counted { count.old ≡ open_count ops.old.entries }
+fn settle_among(ops: &mut IndexMap<Key, Option<Op>>, first: &mut usize, key: &Key)
+    requires placed { first.old ≡ first_open ops.old.entries }
     ensures ops { ops.new.entries ≡ set_value (pointwise ◌==◌ key.now) ops.old.entries None }
-    ensures counted { count.new ≡ open_count ops.new.entries }
+    ensures placed { first.new ≡ first_open ops.new.entries }
 {
     if !is_open_among(ops, key) {
         return;
     }
     match ops.insert(*key, None) {
-        Ok(_op) => *count -= 1,
+        Ok(_op) => *first = first_from(ops, *first),
         Err(_failed) => unreachable!(),
     }
 }
 
+/// The place of the first key that is open, from a place on: the number of keys, if none is.
+fn first_from(ops: &IndexMap<Key, Option<Op>>, from: usize) -> usize
+    requires { from ≤ length ops.now.entries }
+    ensures { result ≡ from + first_open (drop from ops.now.entries) }
+{
+    for place in from..ops.len() {
+        match ops.get_index(place) {
+            Some((_key, op)) => {
+                if op.is_some() {
+                    return place;
+                }
+            }
+            None => unreachable!(),
+        }
+    }
+    ops.len()
+}
+
 /// Whether a key is open.
 fn are_open(tasks: &Tasks) -> bool
-    requires { IsCounted tasks.now }
+    requires { IsPlaced tasks.now }
     ensures { result ≡ list_any is_open (tasks_of tasks.now) }
 {
     match tasks {
         Tasks::One { key: _, op } => op.is_some(),
-        Tasks::Many { ops: _, count } => *count != 0,
+        Tasks::Many { ops, first } => *first != ops.len(),
     }
 }

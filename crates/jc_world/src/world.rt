@@ -181,14 +181,15 @@ impl World {
     }
 
     /// If the first event of a line fits, so do those that follow: the writer's return after its change of the store, and a call's
-    /// leaving after its withdrawal. This does nothing: what it says is its contract.
+    /// leaving after its withdrawal, for a call that works at one key at a time. This does nothing: what it says is its contract.
     pub fn lets_calls_continue(&self)
         ensures { RestFits self.now.world }
     {
         let _ = &self.machine;
     }
 
-    /// Where a call fits, its first phase fits directly behind it. This does nothing: what it says is its contract.
+    /// Where a call fits that isn't refused whole, its first phase fits directly behind it, at each key at which it may work then. This
+    /// does nothing: what it says is its contract.
     pub fn lets_calls_start(&self)
         ensures { StartFits self.now.world }
     {

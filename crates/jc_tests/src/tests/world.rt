@@ -12,6 +12,7 @@ use std::alloc::Global;
 use std::process::Abort;
 
 mod courses;
+mod key_by_key;
 mod random;
 
 /// A cache with read-through and write-through.
@@ -164,7 +165,10 @@ fn is_under_way(rt: &impl Abort, world: &World) {
     let open = world.open_call(101).expect(rt, "call 101 is under way");
     let caller = open.caller();
     assert!(rt; caller.session == 1 && caller.call == 101);
-    assert!(rt; open.only_key() == Some(&key_of(rt, "a")), "its key is a");
+    assert!(rt;
+        open.current_key() == Some(&key_of(rt, "a")),
+        "its key is a"
+    );
     assert!(rt;
         open.op_at(&key_of(rt, "a")) == Some(&Op::Put(value_of(rt, "101"))),
         "it puts there"

@@ -87,7 +87,7 @@ impl Machine {
         reported
     }
 
-    /// The writer of a single-key call returns.
+    /// The writer of a call that works at one key at a time returns.
     #[inline(never)]
     pub(super) fn writer_returns(&mut self, call: u64, fault: Option<u32>, seen: &mut Shown)
         requires { fits self.old (event.Report call fault) ≡ true }
@@ -96,7 +96,7 @@ impl Machine {
         let Some(u) = self.open_call(call) else {
             unreachable!()
         };
-        let Some(key) = u.only_key().copied() else {
+        let Some(key) = u.current_key().copied() else {
             unreachable!()
         };
         show(seen, Shown::Reported(self.report(call, &key, fault)));

@@ -88,7 +88,7 @@ impl Machine {
         ensures { result ≡ may_start self.now call key.now (open_call self.now call) }
     {
         match self.open_call(call) {
-            Some(u) => u.op_at(key).is_some() && self.is_free(call, key),
+            Some(u) => u.op_at(key).is_some() && u.is_turn(key) && self.is_free(call, key),
             None => false,
         }
     }
@@ -107,7 +107,7 @@ impl Machine {
     {
         match self.open_call(call) {
             Some(u) => {
-                u.only_key()
+                u.current_key()
                     .is_some_and(|key| self.waits_for_report(call, key))
             }
             None => false,

@@ -70,6 +70,7 @@ fn word_of(shown: &Shown) -> &'static str {
         Shown::Asks(_) => "asks",
         Shown::Joins => "joins",
         Shown::Refused(_) => "refused",
+        Shown::PutOff(_) => "putoff",
         Shown::Reads(_) => "reads",
         Shown::Says(_) => "says",
         Shown::Changed => "changed",

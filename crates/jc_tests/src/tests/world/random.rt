@@ -234,7 +234,7 @@ impl Shelf {
 
 // 3. The runs.
 
-/// How many kinds of things are shown, but for those of entry processors, which these runs don't call.
+/// How many kinds of things are shown, but for those of entry processors and of calls of many keys, which these runs do not make.
 const KINDS: usize = 17;
 
 fn kind(shown: &Shown) -> usize {
@@ -256,7 +256,7 @@ fn kind(shown: &Shown) -> usize {
         Shown::Again => 14,
         Shown::Written => 15,
         Shown::Unfit => 16,
-        Shown::Processes(_) | Shown::Processed(_) => KINDS,
+        Shown::Processes(_) | Shown::Processed(_) | Shown::PutOff(_) => KINDS,
     }
 }
 

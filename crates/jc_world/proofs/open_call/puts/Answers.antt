@@ -1,5 +1,7 @@
-use Rattle.jc_world.proofs.Tasks.{counted_new, count_puts}
+use Rattle.std.proofs.Common.{ap, sym, ◌∙◌}
+use Rattle.jc_world.specs.OpenCalls.{first_open}
+use Rattle.jc_world.proofs.Tasks.{first_put}
 use Rattle.jc_world.proofs.open_call.puts.Goals as goal
 
-pub returns-clause-counted : goal.returns-clause-counted
-returns-clause-counted c = counted_new c.put_values.new.ops.entries _ c.len-count.result c.len-count.ensures.len c.in_ok-put_values.ensures (count_puts c.args.entries.now.entries)
+pub returns-clause-placed : goal.returns-clause-placed
+returns-clause-placed c = sym (ap first_open c.in_ok-put_values.ensures ∙ first_put c.args.entries.now.entries)

@@ -1,12 +1,12 @@
-use Rattle.std.proofs.Common.{sym, subst, OnOk}
+use Rattle.std.proofs.Common.{sym, subst}
 use Rattle.jc_world.specs.declared.event.WorldEvent.{WorldEvent}
 use Rattle.jc_world.specs.Events.{Happens}
 use Rattle.jc_world.proofs.machine.Machine.apply.Goals as goal
 
-pub returns-in-Commit-clause-ok : goal.returns-in-Commit-clause-ok
-returns-in-Commit-clause-ok c =
-    let P : WorldEvent → Type 0 = λ e. OnOk c.commit.result (Happens c.args.self.now e c.commit.new.seen c.commit.new.self) in
-    subst P (sym c.in-Commit.is) c.commit.ensures.ok
+pub returns-in_ok-commit-in-Commit-clause-ok : goal.returns-in_ok-commit-in-Commit-clause-ok
+returns-in_ok-commit-in-Commit-clause-ok c =
+    let P : WorldEvent → Type 0 = λ e. Happens c.args.self.now e c.commit.new.seen c.commit.new.self in
+    subst P (sym c.in-Commit.is) c.in_ok-commit-in-Commit.ensures.ok
 
 pub returns-in-Withdraw-clause-ok : goal.returns-in-Withdraw-clause-ok
 returns-in-Withdraw-clause-ok c =
@@ -28,27 +28,7 @@ returns-in-Report-clause-ok c =
     let P : WorldEvent → Type 0 = λ e. Happens c.args.self.now e c.writer_returns.new.seen c.writer_returns.new.self in
     subst P (sym c.in-Report.is) c.writer_returns.ensures
 
-pub returns-in-Call-clause-ok : goal.returns-in-Call-clause-ok
-returns-in-Call-clause-ok c =
-    let P : WorldEvent → Type 0 = λ e. OnOk c.begin_call.result (Happens c.args.self.now e c.begin_call.new.seen c.begin_call.new.self) in
-    subst P (sym c.in-Call.is) c.begin_call.ensures.ok
-
-pub returns-in-Change-clause-ok : goal.returns-in-Change-clause-ok
-returns-in-Change-clause-ok c =
-    let P : WorldEvent → Type 0 = λ e. OnOk c.change.result (Happens c.args.self.now e c.change.new.seen c.change.new.self) in
-    subst P (sym c.in-Change.is) c.change.ensures.ok
-
-pub returns-in-Foreign-clause-ok : goal.returns-in-Foreign-clause-ok
-returns-in-Foreign-clause-ok c =
-    let P : WorldEvent → Type 0 = λ e. OnOk c.foreign_write.result (Happens c.args.self.now e c.foreign_write.new.seen c.foreign_write.new.self) in
-    subst P (sym c.in-Foreign.is) c.foreign_write.ensures.ok
-
-pub returns-in-Start-clause-ok : goal.returns-in-Start-clause-ok
-returns-in-Start-clause-ok c =
-    let P : WorldEvent → Type 0 = λ e. OnOk c.start.result (Happens c.args.self.now e c.start.new.seen c.start.new.self) in
-    subst P (sym c.in-Start.is) c.start.ensures.ok
-
-pub returns-in-Process-clause-ok : goal.returns-in-Process-clause-ok
-returns-in-Process-clause-ok c =
-    let P : WorldEvent → Type 0 = λ e. OnOk c.process.result (Happens c.args.self.now e c.process.new.seen c.process.new.self) in
-    subst P (sym c.in-Process.is) c.process.ensures.ok
+pub returns-in_ok-start-in-Start-clause-ok : goal.returns-in_ok-start-in-Start-clause-ok
+returns-in_ok-start-in-Start-clause-ok c =
+    let P : WorldEvent → Type 0 = λ e. Happens c.args.self.now e c.start.new.seen c.start.new.self in
+    subst P (sym c.in-Start.is) c.in_ok-start-in-Start.ensures.ok
