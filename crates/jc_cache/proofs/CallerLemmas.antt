@@ -3,6 +3,7 @@
 --     later_call    what is before a call is before the next one
 --     one_of_two    a stripe is that of the key, before and after, or it is another one and stays
 --     each_phase    it stays true, or something else becomes true, if it does at that stripe and at every other one
+--     stripe_was    a stripe, once that of a key has changed, is that one, or was so before
 use Rattle.std.proofs.Common.{◌≡◌, ◌<◌, ◌+◌, ◌⊎◌, inl, inr, ℕ, true, List, length, set, get_or, Option, None, Some, IsSomeAnd, slice_get, refl, sym, ap, ◌∙◌, subst, arith, length-set, get_or-set_same, get_or-set_other}
 use Rattle.std.proofs.lemmas.Option.{slice_get_within, slice_get-get_or, get_or_from_slice_get}
 use mathlib.Core.Logic.{dite}
@@ -13,7 +14,7 @@ use Rattle.std.specs.List.{list_all}
 use Rattle.jc_stripe.specs.OwnSteps.{HasNoCallFrom, is_before_call}
 use Rattle.jc_stripe.specs.State.{State}
 use Rattle.jc_cache.specs.Begun.{MakesPhaseAt}
-use Rattle.jc_cache.specs.Caches.{CacheState, EachStripe, IsStripeOf}
+use Rattle.jc_cache.specs.Caches.{CacheState, EachStripe, IsStripeOf, IsAt}
 use Rattle.jc_cache.proofs.Stripes.{all_at, later_numbers}
 
 pub at_key : (P : ℕ → State → Type 0) (cache : CacheState) (key : Bytes) (s : State) → EachStripe P cache.stripes → IsStripeOf cache key s → P (stripe_of key cache.config.stripes) s
@@ -71,3 +72,13 @@ one_of_two key q n old new s t made was now =
     dite (ℕ_discrete j k)
     (λ e. inl (same_state old.stripes j k s made.before e was made.at.was, same_state (set old.stripes k (Some made.after)) j k t made.after e here (at_set old.stripes k made.after near)))
     (λ ne. inr (ne, same_state old.stripes j j t s refl (at_other old.stripes j k made.after t ne here) was))
+
+pub stripe_was : (key q : Bytes) (old new : CacheState) (a b t : State) → IsAt key old new a b → IsStripeOf new q t → (IsStripeOf old q a × (t ≡ b)) ⊎ IsStripeOf old q t
+stripe_was key q old new a b t at now =
+    let k = stripe_of key old.config.stripes in
+    let j = stripe_of q old.config.stripes in
+    let near : k < length old.stripes = slice_get_within old.stripes k (Some a) at.was in
+    let here : slice_get (set old.stripes k (Some b)) j ≡ Some (Some t) = subst (λ (c : CacheState). slice_get c.stripes (stripe_of q c.config.stripes) ≡ Some (Some t)) at.now now in
+    dite (ℕ_discrete j k)
+    (λ e. inl (ap (λ n. slice_get old.stripes n) e ∙ at.was, same_state (set old.stripes k (Some b)) j k t b e here (at_set old.stripes k b near)))
+    (λ ne. inr (at_other old.stripes j k b t ne here))

@@ -7,3 +7,4 @@ pub mod Stripes
 pub mod WholeCalls
 pub mod Unasked
 pub mod Answered
+pub mod ManyKeys

@@ -6,7 +6,9 @@
 --     is_at                        the stripe of a key changes, and all else stays
 --     stays_placed                 a stripe stays in its place
 --     later_numbers                later numbers are free, too
+--     same_number                  a number is itself
 --     may_begin                    a session may begin its next call
+--     low                          a call that isn't refused has a number before the last one
 --     numbers_after, idle_after    what a call leaves of its session's numbers, and of what is out
 --     stays_whole                  the cache's invariant, once one stripe has changed
 --     stripe_there, phase_at       the stripe of a key, and one phase of it
@@ -136,7 +138,7 @@ more_numbers a session n none = later_numbers a session n (one_more n) (at_least
     at_least true = omega arith
     at_least false = omega arith
 
-same_number : (n : ℕ) → (n == n) ≡ true
+pub same_number : (n : ℕ) → (n == n) ≡ true
 same_number n = grind (arith, nat_tests)
 
 pub may_begin : CallerNumbers → (config : Config) (i : ℕ) (a : State) (caller : Caller) (key : Bytes) → IsPlaced config i a → i ≡ stripe_of key config.stripes → HasNoCallFrom a caller.session caller.call → MayBegin a caller key
@@ -148,8 +150,7 @@ has_room_of : (x : Bool) (f : Refusal) (y : Option Refusal) → cond (not x) (So
 has_room_of true f y h = refl
 has_room_of false f y h = cc
 
--- a call that isn't refused has a number before the last one
-low : (a : State) (caller : Caller) (key : Bytes) (op : Op) → first_refusal a caller key op ≡ None → nat_lt caller.call last_number ≡ true
+pub low : (a : State) (caller : Caller) (key : Bytes) (op : Op) → first_refusal a caller key op ≡ None → nat_lt caller.call last_number ≡ true
 low a caller key op h = (and_parts _ _ (and_parts _ _ (has_room_of _ _ _ h)).0).1
 
 -- the next number is free after a call

@@ -1,11 +1,13 @@
 -- Whole calls on a cache.
---     Called      a session's next call, whole, which ended so: the key's stripe appends one step, or the call is refused; what the step
---                 says of the loader and the writer, they answered; every other stripe, and what other sessions need, stays
+--     next_call   a session that has begun its next call
+--     CallsAt     a session's current call, whole, at a key, which ended so: the key's stripe appends one step, or the key is refused; what
+--                 the step says of the loader and the writer, they answered; every other stripe, and what other sessions need, stays
+--     Called      the same of a session's next call, which has this key alone
 --     Returns     a session's next call, whole, and what it returns by how it ended
---     Invoked     a session's next call, whole, which runs a processor on its key
+--     InvokesAt   a session's current call, whole, at a key, where it runs a processor
+--     Invoked     the same of a session's next call, which has this key alone
 --     value_in, flag_in, unit_in    what a call returns that replies with a value, with yes or no, or with nothing: a fault is an error
 use Rattle.std.specs.Prelude.{◌≡◌, ℕ, List, Bool, false, Option, None, Result, Ok, Err}
-use Rattle.jc_types.specs.declared.caller.Caller.{Caller}
 use Rattle.jc_types.specs.declared.refusal.Refusal.{Refusal}
 use Rattle.jc_model.specs.declared.event.Op.{Op}
 use Rattle.jc_model.specs.declared.event.Op.TheVariants.{Invoke}
@@ -23,7 +25,10 @@ use Rattle.jc_cache.specs.Whole.{Ends, AsksLoader, AsksWriter, RunsProcessor, ch
 use Rattle.jc_cache.specs.Caches.{CacheState, IsAt}
 use Rattle.jc_cache.specs.Sessions.{LeavesSessions}
 
-pub record Called
+abbrev pub next_call : {I J : Type 0} {D : I → Type 0} {E : J → Type 0} → Session I J D E → Session I J D E
+next_call session = record session { caller = record session.caller { call = one_more session.caller.call } }
+
+pub record CallsAt
     {I J : Type 0} {D : I → Type 0} {E : J → Type 0}
     (loads : LoadRelation ((i : I) × D i)) (load_state : (i : I) × D i → List ℕ)
     (writes : WriteRelation ((j : J) × E j)) (write_state : (j : J) × E j → List ℕ)
@@ -31,29 +36,37 @@ pub record Called
   pub before : State
   pub after : State
   pub out : Out
-  pub caller : Caller
-  pub caller_is : caller ≡ record session.caller { call = one_more session.caller.call }
   pub at : IsAt key cache cache' before after
-  pub ends : Ends before caller key op out ended after
+  pub ends : Ends before session.caller key op out ended after
   pub loader : AsksLoader (boxed loads) (boxed load_state) session.hands.outside.loader key out.load session'.hands.outside.loader
   pub writer : AsksWriter (boxed writes) (boxed write_state) session.hands.outside.writer key (change_wanted before key op out.process) out.write session'.hands.outside.writer
-  pub left : session' ≡ record session { caller = caller; counts = record session.counts { own = own_after session.counts.own ended }; hands = session'.hands }
+  pub left : session' ≡ record session { counts = record session.counts { own = own_after session.counts.own ended }; hands = session'.hands }
   pub sessions : LeavesSessions session cache cache'
+
+abbrev pub Called : {I J : Type 0} {D : I → Type 0} {E : J → Type 0} → LoadRelation ((i : I) × D i) → ((i : I) × D i → List ℕ) → WriteRelation ((j : J) × E j) → ((j : J) × E j → List ℕ)
+    → CacheState → Session I J D E → Bytes → Op → Result Reply Refusal → CacheState → Session I J D E → Type 0
+Called loads load_state writes write_state cache session key op ended cache' session' =
+    CallsAt loads load_state writes write_state cache (next_call session) key op ended cache' session'
 
 abbrev pub Returns : {I J T : Type 0} {D : I → Type 0} {E : J → Type 0} → LoadRelation ((i : I) × D i) → ((i : I) × D i → List ℕ) → WriteRelation ((j : J) × E j) → ((j : J) × E j → List ℕ)
     → CacheState → Session I J D E → Bytes → Op → (Result Reply Refusal → T) → T → CacheState → Session I J D E → Type 0
 Returns loads load_state writes write_state old session key op answer_in result new session' =
     (ended : Result Reply Refusal) × Called loads load_state writes write_state old session key op ended new session' × (result ≡ answer_in ended)
 
-pub record Invoked
+pub record InvokesAt
     {I J P : Type 0} {D : I → Type 0} {E : J → Type 0}
     (loads : LoadRelation ((i : I) × D i)) (load_state : (i : I) × D i → List ℕ)
     (writes : WriteRelation ((j : J) × E j)) (write_state : (j : J) × E j → List ℕ)
     (processes : ProcessRelation P) (process_state : P → List ℕ)
     (cache : CacheState) (session : Session I J D E) (key : Bytes) (args : List Bytes) (processor : P) (ended : Result Reply Refusal)
     (cache' : CacheState) (session' : Session I J D E) (processor' : P) : Type 0 where
-  pub call : Called loads load_state writes write_state cache session key Invoke ended cache' session'
+  pub call : CallsAt loads load_state writes write_state cache session key Invoke ended cache' session'
   pub run : RunsProcessor processes process_state processor call.before key args call.out processor'
+
+abbrev pub Invoked : {I J P : Type 0} {D : I → Type 0} {E : J → Type 0} → LoadRelation ((i : I) × D i) → ((i : I) × D i → List ℕ) → WriteRelation ((j : J) × E j) → ((j : J) × E j → List ℕ)
+    → ProcessRelation P → (P → List ℕ) → CacheState → Session I J D E → Bytes → List Bytes → P → Result Reply Refusal → CacheState → Session I J D E → P → Type 0
+Invoked loads load_state writes write_state processes process_state cache session key args processor ended cache' session' processor' =
+    InvokesAt loads load_state writes write_state processes process_state cache (next_call session) key args processor ended cache' session' processor'
 
 abbrev pub value_in : Result Reply Refusal → Result (Option Bytes) Refusal
 value_in (Err refusal) = Err refusal

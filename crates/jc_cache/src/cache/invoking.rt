@@ -1,6 +1,9 @@
-//! A whole call that runs an entry processor.
-ghost use Rattle.jc_cache.specs.Sessions.{MayCall};
-ghost use Rattle.jc_cache.specs.Calls.{Invoked};
+//! Whole calls that run an entry processor, on one key or on several.
+ghost use Rattle.std.specs.Prelude.{◌≡◌, ◌==◌, false};
+ghost use Rattle.std.specs.Cmp.Lexicographic.{pointwise};
+ghost use Rattle.jc_model.specs.Cache.{Bytes};
+ghost use Rattle.jc_cache.specs.Sessions.{MayCall, MayCallAt};
+ghost use Rattle.jc_cache.specs.Calls.{next_call, InvokesAt, Invoked};
 
 use super::Cache;
 use crate::engine::invoke;
@@ -30,10 +33,44 @@ impl Cache {
         ensures call { Invoked loads load_state writes write_state processes process_state
             self.old session.old key.now args.now processor.old result self.new session.new processor.new }
     {
+        self.begin_call(session);
+        self.invoke_at(rt, session, key, processor, args)
+    }
+
+    /// Begins the session's next call, which may have many keys: it may begin at each. No stripe changes.
+    pub fn begin_call(&self, session: &mut Session)
+        requires may { MayCall self.now session.old }
+        ensures may { MayCall self.now session.new }
+        ensures call { session.new ≡ next_call session.old }
+        ensures keys { (key : Bytes) → MayCallAt self.now session.new.caller key }
+    {
         caller_numbers();
+        let _mark = &self.mark;
+        session.next_call();
+    }
+
+    /// The session's current call, whole, at one of its keys, where it runs a processor. It gives what [`Cache::invoke`] gives,
+    /// waits as that does, and leaves the call at its other keys as it was.
+    ///
+    /// Condition: the call may begin at the key.
+    pub fn invoke_at<R: Wait>(
+        &mut self,
+        rt: &R,
+        session: &mut Session,
+        key: &Key,
+        processor: &mut Box<dyn EntryProcessor + Send + Drop>,
+        args: &[Value],
+    ) -> Result<Reply, Refusal>
+        requires may { MayCall self.old session.old }
+        requires key { MayCallAt self.old session.old.caller key.now }
+        ensures may { MayCall self.new session.new }
+        ensures keys { (other : Bytes) → pointwise ◌==◌ key.now other ≡ false
+            → MayCallAt self.old session.old.caller other → MayCallAt self.new session.old.caller other }
+        ensures call { InvokesAt loads load_state writes write_state processes process_state
+            self.old session.old key.now args.now processor.old result self.new session.new processor.new }
+    {
         let at = stripe_of(key, self.config.stripes);
         let write_through = self.config.write_through;
-        session.next_call();
         let owner = &mut self.owners[at];
         invoke(
             rt,

@@ -2,10 +2,10 @@
 ghost use Rattle.std.specs.Prelude.{◌≡◌, true};
 ghost use Rattle.jc_model.specs.Group.{load_only, write_only};
 ghost use Rattle.jc_stripe.specs.State.{State, IsOut, IsJoined};
-ghost use Rattle.jc_stripe.specs.Phases.{MayBegin, Begins, Commits, PicksUp};
+ghost use Rattle.jc_stripe.specs.Phases.{Begins, Commits, PicksUp};
 ghost use Rattle.jc_session.specs.Counting.{counts_begun, counts_ended, counts_picked};
 ghost use Rattle.jc_cache.specs.Caches.{IsStripeOf};
-ghost use Rattle.jc_cache.specs.Sessions.{IsOf};
+ghost use Rattle.jc_cache.specs.Sessions.{IsOf, MayCallAt};
 ghost use Rattle.jc_cache.specs.Outstanding.{is_reported_if_due};
 ghost use Rattle.jc_cache.specs.Begun.{begun_of, picked_of, IsOfCache, IsBackOfCache, MakesPhaseAt};
 
@@ -27,7 +27,7 @@ impl Cache {
     /// [`Stripe::begin`](jc_stripe::Stripe::begin).
     pub fn start(&mut self, session: &mut Session, key: &Key, op: &Op) -> Started
         requires own { IsOf self.old session.old }
-        requires may { (a : State) → IsStripeOf self.old key.now a → MayBegin a session.old.caller key.now }
+        requires may { MayCallAt self.old session.old.caller key.now }
         ensures own { IsOf self.new session.new }
         ensures session { session.new ≡ record session.old { counts = counts_begun session.old.counts (begun_of result) } }
         ensures cache { IsOfCache self.old.mark result }

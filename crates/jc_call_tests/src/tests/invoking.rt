@@ -8,7 +8,8 @@ use super::answers::{Answer, answer_of, entry, first_word, key};
 use super::asking::Counting as Failing;
 use super::scripted::Scripted;
 use super::*;
-use jc_invoke::invoke;
+use indexmap::IndexSet;
+use jc_invoke::{invoke, invoke_all};
 use jc_mutentry::EntryProcessor;
 
 /// Runs a scripted processor, as the text says.
@@ -188,5 +189,46 @@ fn goes_on_after_a_failed_load(rt: HostRuntime) {
         "! get get fail=3 = LoaderFailed 2 | 0 0 0",
     );
     desk.call(&rt, cache, session, "contains ! = false | 0 0 0");
+    desk.holds(&rt, alloc, "a=1");
+}
+
+/// A processor at two keys: without a result there is none, and no loader is asked; a failure is each key's, in their order.
+#[test]
+fn runs_at_each_key(rt: HostRuntime) {
+    let alloc = rt.alloc();
+    let desk = Desk::new(&rt, alloc);
+    let mut cache = opened(&rt, alloc, &config(100, true, true));
+    let loader: Loader = Some(Box::new(alloc, desk.loader(rt)).ok().expect(&rt, "memory"));
+    let writer: Writer = Some(Box::new(alloc, desk.writer(rt)).ok().expect(&rt, "memory"));
+    let mut session = started(&rt, &mut cache, loader, writer);
+    let (cache, session) = (&mut cache, &mut session);
+    let mut keys = IndexSet::new(alloc);
+    keys.insert(key(&rt, "b")).ok().expect(&rt, "memory");
+    keys.insert(key(&rt, "a")).ok().expect(&rt, "memory");
+    let scripted = Scripted::of(&rt, "exists");
+    let mut processor: Box<dyn EntryProcessor + Send + Drop> = Box::new(alloc, scripted)
+        .ok()
+        .expect(&rt, "memory");
+    let none = invoke_all(alloc, &rt, cache, session, &keys, &mut processor, &[]);
+    is(&rt, none.ok().map(|results| results.len()), Some(0));
+    is(&rt, desk.counts.now(&rt).loads, 0);
+    let scripted = Scripted::of(&rt, "get fail=3");
+    let mut processor: Box<dyn EntryProcessor + Send + Drop> = Box::new(alloc, scripted)
+        .ok()
+        .expect(&rt, "memory");
+    let failed = invoke_all(alloc, &rt, cache, session, &keys, &mut processor, &[]);
+    let failed = failed.ok().expect(&rt, "results");
+    let fault = Err(Refusal::ProcessorFailed(3));
+    is(
+        &rt,
+        failed.get_index(0).map(|e| (*e.0, *e.1)),
+        Some((key(&rt, "b"), fault)),
+    );
+    is(
+        &rt,
+        failed.get_index(1).map(|e| (*e.0, *e.1)),
+        Some((key(&rt, "a"), fault)),
+    );
+    is(&rt, session.own(), 4);
     desk.holds(&rt, alloc, "a=1");
 }
