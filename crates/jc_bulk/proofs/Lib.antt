@@ -3,3 +3,5 @@ mod Under
 mod Phases
 mod Records
 mod Starting
+mod Phased
+mod Refusing

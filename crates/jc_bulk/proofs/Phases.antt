@@ -1,5 +1,6 @@
 -- The phases of a bulk call, on a cache.
 --     is_caller         whose a reservation is
+--     no_load           a free key has no load to join
 --     stays_underway    what they leave of it
 use Rattle.std.proofs.Common.{◌≡◌, ◌==◌, ◌&&◌, ◌||◌, ◌++◌, ℕ, List, [], ◌∷◌, Bool, true, false, cond, Option, None, Some, is_none, find, IsSomeAnd, refl, sym, ap, ◌∙◌, subst}
 use Rattle.std.proofs.lemmas.Bool.{and_parts, eqb-true}
@@ -42,7 +43,7 @@ none_either true load e = e
 none_either false load e = refl
 
 -- a key that is free has no load to join
-no_load : (s : State) (key : Bytes) (op : Op) → list_any (is_key key) s.reservations ≡ false → load_joined s key op ≡ None
+pub no_load : (s : State) (key : Bytes) (op : Op) → list_any (is_key key) s.reservations ≡ false → load_joined s key op ≡ None
 no_load s key op free = none_either (may_join op && s.config.read_through && is_none (entry_at s.cache key)) (load_at (reservation_of s key)) (ap load_at (no_one s.reservations key free))
 
 joins_not : (load : Option ℕ) (n : ℕ) → load ≡ None → load ≡ Some n → ⊥

@@ -5,3 +5,5 @@ pub mod Bulk
 pub mod Underway
 pub mod Laws
 pub mod Starting
+pub mod Phased
+pub mod StartingLoads

@@ -3,7 +3,9 @@
 
 mod fault;
 pub mod laws;
+mod loads;
 mod round;
 
 pub use fault::BulkFault;
+pub use loads::{commit_first_load, start_get};
 pub use round::{Start, commit_first, start_put};

@@ -1,4 +1,4 @@
-//! One key of a bulk call in one of its rounds.
+//! One key of a bulk call that writes, in one of its rounds.
 ghost use Rattle.std.specs.Prelude.{◌≡◌, ◌<◌, ◌++◌, ◌∷◌, List, [], None, false};
 ghost use Rattle.jc_model.specs.declared.event.Event.TheVariants.{Step};
 ghost use Rattle.jc_model.specs.Group.{write_only};
@@ -25,7 +25,7 @@ use jc_types::{Key, Refusal, Value};
 pub enum Start {
     /// The key is over: its step was made, or it is refused for good.
     Ended(Result<Reply, Refusal>),
-    /// The key is reserved, and the writer is to be asked.
+    /// The key is reserved, and the loader or the writer is to be asked.
     Reserved,
     /// The key is put off to the next round.
     PutOff,
