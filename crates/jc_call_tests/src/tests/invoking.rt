@@ -8,7 +8,7 @@ use super::answers::{Answer, answer_of, entry, first_word, key};
 use super::asking::Counting as Failing;
 use super::scripted::Scripted;
 use super::*;
-use indexmap::IndexSet;
+use indexmap::{IndexMap, IndexSet};
 use jc_invoke::{invoke, invoke_all};
 use jc_mutentry::EntryProcessor;
 
@@ -192,6 +192,18 @@ fn goes_on_after_a_failed_load(rt: HostRuntime) {
     desk.holds(&rt, alloc, "a=1");
 }
 
+/// At this place is the fault of this key.
+fn fails_at(
+    rt: &impl Abort,
+    results: &IndexMap<Key, Result<Value, Refusal>>,
+    place: usize,
+    name: &str,
+) {
+    let (found, answer) = results.get_index(place).expect(rt, "a result");
+    assert!(rt; *found == key(rt, name), "the key");
+    assert!(rt; *answer == Err(Refusal::ProcessorFailed(3)), "its fault");
+}
+
 /// A processor at two keys: without a result there is none, and no loader is asked; a failure is each key's, in their order.
 #[test]
 fn runs_at_each_key(rt: HostRuntime) {
@@ -218,17 +230,8 @@ fn runs_at_each_key(rt: HostRuntime) {
         .expect(&rt, "memory");
     let failed = invoke_all(alloc, &rt, cache, session, &keys, &mut processor, &[]);
     let failed = failed.ok().expect(&rt, "results");
-    let fault = Err(Refusal::ProcessorFailed(3));
-    is(
-        &rt,
-        failed.get_index(0).map(|e| (*e.0, *e.1)),
-        Some((key(&rt, "b"), fault)),
-    );
-    is(
-        &rt,
-        failed.get_index(1).map(|e| (*e.0, *e.1)),
-        Some((key(&rt, "a"), fault)),
-    );
+    fails_at(&rt, &failed, 0, "b");
+    fails_at(&rt, &failed, 1, "a");
     is(&rt, session.own(), 4);
     desk.holds(&rt, alloc, "a=1");
 }
