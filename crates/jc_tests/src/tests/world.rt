@@ -12,7 +12,6 @@ use std::alloc::Global;
 use std::process::Abort;
 
 mod courses;
-mod key_by_key;
 mod random;
 
 /// A cache with read-through and write-through.
