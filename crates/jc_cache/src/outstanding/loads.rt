@@ -105,6 +105,21 @@ impl LoadCalls {
         done.reverse();
         LoadedCalls { tickets, done }
     }
+
+    /// Ends calls of which there are none: their loader isn't called.
+    pub fn end(self)
+        requires { self.items ≡ [] }
+    {
+        let LoadCalls {
+            tickets,
+            asks,
+            batch: _,
+            done,
+        } = self;
+        tickets.destroy_empty();
+        asks.destroy_empty();
+        done.destroy_empty();
+    }
 }
 
 /// Calls whose loader has answered. They are to be committed, one after the other. They can't be dropped.

@@ -136,6 +136,21 @@ impl WriteCalls {
         done.reverse();
         (WrittenCalls { tickets, done }, returned)
     }
+
+    /// Ends calls of which there are none: their writer isn't called.
+    pub fn end(self)
+        requires { self.items ≡ [] }
+    {
+        let WriteCalls {
+            tickets,
+            asks,
+            batch: _,
+            done,
+        } = self;
+        tickets.destroy_empty();
+        asks.destroy_empty();
+        done.destroy_empty();
+    }
 }
 
 /// Adds a change to a batch of its kind.
