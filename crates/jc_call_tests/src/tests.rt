@@ -13,6 +13,7 @@ mod bytes;
 mod calls;
 mod histories;
 mod invoking;
+mod invoking_all;
 mod limits;
 mod outside;
 mod scripted;
@@ -106,6 +107,11 @@ impl Desk {
         let (call, counts) = line.split_once(" | ").expect(rt, "a call and counts");
         let (call, answer) = call.split_once(" = ").expect(rt, "a call and its answer");
         is(rt, called(rt, cache, session, call), answer_of(rt, answer));
+        self.counted(rt, counts);
+    }
+
+    /// The loader was called so often, and the writer to write and to delete.
+    fn counted<R: Abort + Wait>(&self, rt: &R, counts: &str) {
         let counted = self.counts.now(rt);
         let mut wanted = counts.split(' ');
         for count in [counted.loads, counted.writes, counted.deletes] {

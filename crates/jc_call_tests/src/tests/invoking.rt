@@ -8,8 +8,7 @@ use super::answers::{Answer, answer_of, entry, first_word, key};
 use super::asking::Counting as Failing;
 use super::scripted::Scripted;
 use super::*;
-use indexmap::{IndexMap, IndexSet};
-use jc_invoke::{invoke, invoke_all};
+use jc_invoke::invoke;
 use jc_mutentry::EntryProcessor;
 
 /// Runs a scripted processor, as the text says.
@@ -51,11 +50,7 @@ impl Desk {
             invoked(rt, alloc, cache, session, call),
             answer_of(rt, answer),
         );
-        let counted = self.counts.now(rt);
-        let mut wanted = counts.split(' ');
-        for count in [counted.loads, counted.writes, counted.deletes] {
-            is(rt, wanted.next().and_then(|w| w.parse().ok()), Some(count));
-        }
+        self.counted(rt, counts);
     }
 }
 
@@ -189,49 +184,5 @@ fn goes_on_after_a_failed_load(rt: HostRuntime) {
         "! get get fail=3 = LoaderFailed 2 | 0 0 0",
     );
     desk.call(&rt, cache, session, "contains ! = false | 0 0 0");
-    desk.holds(&rt, alloc, "a=1");
-}
-
-/// At this place is the fault of this key.
-fn fails_at(
-    rt: &impl Abort,
-    results: &IndexMap<Key, Result<Value, Refusal>>,
-    place: usize,
-    name: &str,
-) {
-    let (found, answer) = results.get_index(place).expect(rt, "a result");
-    assert!(rt; *found == key(rt, name), "the key");
-    assert!(rt; *answer == Err(Refusal::ProcessorFailed(3)), "its fault");
-}
-
-/// A processor at two keys: without a result there is none, and no loader is asked; a failure is each key's, in their order.
-#[test]
-fn runs_at_each_key(rt: HostRuntime) {
-    let alloc = rt.alloc();
-    let desk = Desk::new(&rt, alloc);
-    let mut cache = opened(&rt, alloc, &config(100, true, true));
-    let loader: Loader = Some(Box::new(alloc, desk.loader(rt)).ok().expect(&rt, "memory"));
-    let writer: Writer = Some(Box::new(alloc, desk.writer(rt)).ok().expect(&rt, "memory"));
-    let mut session = started(&rt, &mut cache, loader, writer);
-    let (cache, session) = (&mut cache, &mut session);
-    let mut keys = IndexSet::new(alloc);
-    keys.insert(key(&rt, "b")).ok().expect(&rt, "memory");
-    keys.insert(key(&rt, "a")).ok().expect(&rt, "memory");
-    let scripted = Scripted::of(&rt, "exists");
-    let mut processor: Box<dyn EntryProcessor + Send + Drop> = Box::new(alloc, scripted)
-        .ok()
-        .expect(&rt, "memory");
-    let none = invoke_all(alloc, &rt, cache, session, &keys, &mut processor, &[]);
-    is(&rt, none.ok().map(|results| results.len()), Some(0));
-    is(&rt, desk.counts.now(&rt).loads, 0);
-    let scripted = Scripted::of(&rt, "get fail=3");
-    let mut processor: Box<dyn EntryProcessor + Send + Drop> = Box::new(alloc, scripted)
-        .ok()
-        .expect(&rt, "memory");
-    let failed = invoke_all(alloc, &rt, cache, session, &keys, &mut processor, &[]);
-    let failed = failed.ok().expect(&rt, "results");
-    fails_at(&rt, &failed, 0, "b");
-    fails_at(&rt, &failed, 1, "a");
-    is(&rt, session.own(), 4);
     desk.holds(&rt, alloc, "a=1");
 }

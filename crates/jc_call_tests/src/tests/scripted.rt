@@ -10,37 +10,63 @@ use jc_outside::CacheLoader;
 use jc_types::Value;
 use std::process::Abort;
 
+/// One of its calls.
+#[derive(Drop)]
+enum Scene {
+    Call(EntryCall),
+    /// Sets the digit after the one that it got last. None counts as 0.
+    SetNext,
+}
+
 /// Makes four calls on its entry, whatever they answer. It returns the last value that it got, or fails with a code.
 #[derive(Drop)]
 pub struct Scripted {
-    calls: [EntryCall; 4],
+    scenes: [Scene; 4],
     fail: Option<u32>,
 }
 
 impl Scripted {
-    /// Words such as `get set=2 remove exists`, and `fail=C` at the end if it is to fail. Where less than four are given, it also
+    /// Words such as `get set=2 next remove exists`, and `fail=C` at the end if it is to fail. If less than four are given, it also
     /// asks whether the entry is there.
     pub fn of(rt: &impl Abort, text: &str) -> Self {
         let (words, fail) = text.split_once(" fail=").unwrap_or((text, ""));
         let mut words = words.split(' ');
         Scripted {
-            calls: [
-                call(rt, words.next()),
-                call(rt, words.next()),
-                call(rt, words.next()),
-                call(rt, words.next()),
+            scenes: [
+                read_scene(rt, words.next()),
+                read_scene(rt, words.next()),
+                read_scene(rt, words.next()),
+                read_scene(rt, words.next()),
             ],
             fail: fail.parse().ok(),
         }
     }
 }
 
-fn call(rt: &impl Abort, word: Option<&str>) -> EntryCall {
-    match word {
+fn read_scene(rt: &impl Abort, word: Option<&str>) -> Scene {
+    Scene::Call(match word {
         None | Some("exists") => EntryCall::Exists,
+        Some("next") => return Scene::SetNext,
         Some("get") => EntryCall::GetValue,
         Some("remove") => EntryCall::Remove,
         Some(word) => EntryCall::SetValue(value(rt, word.strip_prefix("set=").expect(rt, word))),
+    })
+}
+
+/// The value of the digit after the one that this value begins with.
+fn next(last: &Option<Value>) -> Option<Value> {
+    let digit = match last {
+        Some(value) => *value.bytes().first()?,
+        None => b'0',
+    };
+    Value::new(&[digit.saturating_add(1)]).ok()
+}
+
+/// The call that follows, after this value was got last.
+fn call_after(scene: &Scene, last: &Option<Value>) -> EntryCall {
+    match scene {
+        Scene::Call(call) => *call,
+        Scene::SetNext => next(last).map_or(EntryCall::Exists, EntryCall::SetValue),
     }
 }
 
@@ -80,10 +106,30 @@ impl EntryProcessor for Scripted {
         _args: &[Value],
     ) -> Result<Option<Value>, u32> {
         let mut last = None;
-        make_call(entry, loader, &self.calls[0], &mut last);
-        make_call(entry, loader, &self.calls[1], &mut last);
-        make_call(entry, loader, &self.calls[2], &mut last);
-        make_call(entry, loader, &self.calls[3], &mut last);
+        make_call(
+            entry,
+            loader,
+            &call_after(&self.scenes[0], &last),
+            &mut last,
+        );
+        make_call(
+            entry,
+            loader,
+            &call_after(&self.scenes[1], &last),
+            &mut last,
+        );
+        make_call(
+            entry,
+            loader,
+            &call_after(&self.scenes[2], &last),
+            &mut last,
+        );
+        make_call(
+            entry,
+            loader,
+            &call_after(&self.scenes[3], &last),
+            &mut last,
+        );
         match self.fail {
             Some(code) => Err(code),
             None => Ok(last),
