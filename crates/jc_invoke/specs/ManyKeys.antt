@@ -1,22 +1,29 @@
 -- A call that runs a processor at many keys, one after the other.
+--     IsRefusedFull   a key that is refused is refused with HistoryFull, and its stripe's history has too few free places for a step more,
+--                     or a number is at its end
 --     InvokesEach     a session's current call, at each of these keys in their order, which ended so: each key is carried out whole, where
 --                     the one before it left the cache, the session and the processor
 --     result_entry    what the call returns of a key: its processor's result, or why it failed, and nothing if there is no result
 --     result_entries  the same of each key, in their order
 --     IsRefusedWhole  the call has too many keys, or an allocation failed, and nothing changes
-use Rattle.std.specs.Prelude.{◌≡◌, ◌<◌, ◌≤◌, ◌⊎◌, ℕ, List, [], ◌∷◌, ◌++◌, Option, None, Some, Result, Ok, Err}
-use Rattle.jc_types.specs.declared.limits.TheConstants.{BULK_KEYS_MAX}
+use Rattle.std.specs.Prelude.{◌≡◌, ◌<◌, ◌≤◌, ◌⊎◌, ℕ, List, [], ◌∷◌, ◌++◌, Option, None, Some, Result, Ok, Err, IfErr, false}
+use Rattle.jc_types.specs.declared.limits.TheConstants.{BULK_KEYS_MAX, STEP_PLACES}
 use Rattle.jc_types.specs.declared.refusal.Refusal.{Refusal}
-use Rattle.jc_types.specs.declared.refusal.Refusal.TheVariants.{OutOfMemory, TooManyKeys}
+use Rattle.jc_types.specs.declared.refusal.Refusal.TheVariants.{HistoryFull, OutOfMemory, TooManyKeys}
 use Rattle.jc_model.specs.declared.event.Reply.{Reply}
 use Rattle.jc_model.specs.Cache.{Bytes}
 use Rattle.jc_outside.specs.Calling.{LoadRelation, WriteRelation}
 use Rattle.jc_mutentry.specs.Running.{ProcessRelation}
+use Rattle.jc_stripe.specs.State.{State}
+use Rattle.jc_stripe.specs.Refusals.{has_room}
 use Rattle.jc_session.specs.declared.session.Session.{Session}
 use Rattle.jc_cache.specs.Caches.{CacheState}
 use Rattle.jc_cache.specs.Calls.{InvokesAt, value_in}
 
 -- 1. The keys, one after the other.
+
+abbrev pub IsRefusedFull : State → ℕ → Result Reply Refusal → Type 0
+IsRefusedFull found call ended = IfErr ended (λ cause. (cause ≡ HistoryFull) × (has_room found call STEP_PLACES ≡ false))
 
 module _ {I J P : Type 0} {D : I → Type 0} {E : J → Type 0}
     (loads : LoadRelation ((i : I) × D i)) (load_state : (i : I) × D i → List ℕ)
@@ -28,7 +35,8 @@ module _ {I J P : Type 0} {D : I → Type 0} {E : J → Type 0}
   InvokesEach cache session (key ∷ keys) args processor [] cache' session' processor' = ⊥
   InvokesEach cache session (key ∷ keys) args processor (ended ∷ ends) cache' session' processor' =
       (next : CacheState) × (left : Session I J D E) × (after : P)
-      × InvokesAt loads load_state writes write_state processes process_state cache session key args processor ended next left after
+      × (one : InvokesAt loads load_state writes write_state processes process_state cache session key args processor ended next left after)
+      × IsRefusedFull one.call.before session.caller.call ended
       × InvokesEach next left keys args after ends cache' session' processor'
 
 -- 2. What the call returns.

@@ -26,8 +26,8 @@ use std::sync::Wait;
 /// Each key that isn't refused is one step of its stripe, with the number of this one call. There the processor runs once, on the
 /// entry as it is then, and what it does is loaded, written and kept as [`invoke`](crate::invoke) says. The results are in the
 /// order of the keys. A key whose processor gives none has no result. A key that failed has its fault (`LoaderFailed`,
-/// `ProcessorFailed`, `WriterFailed`), or why its first phase was refused (`HistoryFull`); the keys after it are carried out all
-/// the same.
+/// `ProcessorFailed`, `WriterFailed`), or `HistoryFull` if its stripe had too few free places or a number was at its end, and no
+/// other refusal; the keys after it are carried out all the same.
 ///
 /// An `Err` refuses the call whole, and nothing changes: there are more than [`BULK_KEYS_MAX`] keys (`TooManyKeys`), or the
 /// allocation of the results failed (`OutOfMemory`). The call takes no other memory.

@@ -8,6 +8,7 @@ use Rattle.std.proofs.lemmas.List.{take_more, take_all}
 use Rattle.std.proofs.lemmas.List.Folds.{list_any-append}
 use Rattle.jc_cache.specs.Sessions.{MayCallAt}
 use Rattle.jc_invoke.specs.ManyKeys.{InvokesEach, result_entry, result_entries}
+use Rattle.jc_invoke.proofs.Full.{refused_full}
 use Rattle.jc_invoke.proofs.Results.{absent, key_there, no_result, results_push}
 use Rattle.jc_invoke.proofs.Runs.{runs_push, as_many, leaves_both}
 use Rattle.jc_invoke.proofs.many_keys.invoke_each.Goals as goal
@@ -52,6 +53,7 @@ loop-key-preserved g c =
     let old = c.loop-key.invariant in
     let each = old.each in
     let one = c.invoke_at.ensures.call in
+    let full = refused_full c.loop-key.cache key one.call.before one.call.after c.loop-key.session.caller one.call.out c.invoke_at.result old.may.idle one.call.at.was one.call.ends in
     let left : c.invoke_at.new.session.caller ≡ c.loop-key.session.caller = ap (λ s. s.caller) one.call.left in
     let more : take (i + 1) keys ≡ take i keys ++ key ∷ [] = take_more keys i key c.loop-key-test.true ∙ ap (λ k. take i keys ++ k ∷ []) (sym c.key-item.is) in
     let ends = each.0 ++ c.invoke_at.result ∷ [] in
@@ -70,7 +72,7 @@ loop-key-preserved g c =
             c.args.cache.now c.args.session.now ks c.args.args.now c.args.processor.now ends c.invoke_at.new.self c.invoke_at.new.session c.invoke_at.new.processor) (sym more)
             (runs_push (λ v. (goal.CacheLoader-dyn g v).loads v.1) (λ v. (goal.CacheLoader-dyn g v).load_state v.1) (λ v. (goal.CacheWriter-dyn g v).writes v.1) (λ v. (goal.CacheWriter-dyn g v).write_state v.1)
             (λ b. (goal.EntryProcessor-dyn g (b.vtable, b.value)).processes b.value) (λ b. (goal.EntryProcessor-dyn g (b.vtable, b.value)).process_state b.value)
-            _ _ _ _ _ _ _ _ _ c.args.args.now (take i keys) each.0 key c.invoke_at.result each.1 one),
+            _ _ _ _ _ _ _ _ _ c.args.args.now (take i keys) each.0 key c.invoke_at.result each.1 (one, full)),
         c.push_ended.ensures.entries
             ∙ ap (λ es. es ++ result_entry key c.value_of-ended.result) each.2
             ∙ ap (λ e. result_entries (take i keys) each.0 ++ result_entry key e) c.value_of-ended.ensures
