@@ -1,22 +1,30 @@
--- One key of a bulk call that writes, in one of its rounds.
+-- One key of a bulk call, in one of its rounds.
 --     steps_started     the call's step that a first phase of the key has made, if it made one
 --     reservations_in   the reservations of calls that are out
 --     HasReason         a key is refused, or put off, exactly as its first phase refuses it, by whether a later round tries it again
 --     IsCallOf          a call that has reserved this key, of this caller and operation
---     StartsCall        what a first phase of the key makes of the calls whose writer is to be asked: one more of this key if it has
---                       reserved it, and else the same
-use Rattle.std.specs.Prelude.{◌≡◌, List, [], ◌∷◌, map, true, false, None, Some, Ok, Err}
+--     WritesAs          the operation of calls that write is a `Put`, and of calls that delete a `Remove`
+--     change_wanted     what an operation asks the writer for at a key without an entry: a `Put` and a `Remove` ask for that at every key
+--     StartsWrite       what a first phase of the key makes of the calls whose writer is to be asked: one more of this key on this cache,
+--                       which asks for its operation's change, if it has reserved it, and else the same
+use Rattle.std.specs.Prelude.{◌≡◌, ◌⊎◌, List, [], ◌∷◌, map, Bool, true, false, Option, None, Some, Ok, Err}
 use Rattle.jc_types.specs.Refusals.{is_put_off}
 use Rattle.jc_types.specs.declared.refusal.Refusal.{Refusal}
 use Rattle.jc_types.specs.declared.caller.Caller.{Caller}
+use Rattle.jc_model.specs.declared.event.Change.{Change}
 use Rattle.jc_model.specs.declared.event.Event.{Event}
 use Rattle.jc_model.specs.declared.event.Event.TheVariants.{Step}
 use Rattle.jc_model.specs.declared.event.Op.{Op}
+use Rattle.jc_model.specs.declared.event.Op.TheVariants.{Put, Remove}
+use Rattle.jc_model.specs.declared.event.ProcessAnswer.TheVariants as process
 use Rattle.jc_model.specs.Cache.{Bytes}
 use Rattle.jc_model.specs.Group.{nothing_said}
+use Rattle.jc_model.specs.Table.{write_ask}
 use Rattle.jc_stripe.specs.declared.ticket.Reservation.{Reservation}
 use Rattle.jc_stripe.specs.Refusals.{first_refusal}
 use Rattle.jc_stripe.specs.State.{State}
+use Rattle.jc_stripe.specs.Tickets.{change_asked}
+use Rattle.jc_session.specs.declared.mark.Mark.{Mark}
 use Rattle.jc_cache.specs.Outstanding.{ReservedState}
 use Rattle.jc_cache.specs.OutstandingAll.{WriteCallsState, with_write_call}
 use Rattle.jc_bulk.specs.declared.round.Start.{Start}
@@ -42,7 +50,15 @@ pub record IsCallOf (caller : Caller) (key : Bytes) (op : Op) (call : ReservedSt
   pub key_is : call.reservation.key ≡ key
   pub op_is : call.reservation.op ≡ op
 
-abbrev pub StartsCall : Caller → Bytes → Op → Start → WriteCallsState → WriteCallsState → Type 0
-StartsCall caller key op (Ended ended) old new = new ≡ old
-StartsCall caller key op Reserved old new = (call : ReservedState) × IsCallOf caller key op call × (new ≡ with_write_call old call)
-StartsCall caller key op PutOff old new = new ≡ old
+abbrev pub WritesAs : Bool → Op → Type 0
+WritesAs deletes op = ((deletes ≡ false) × ((value : Bytes) × (op ≡ Put value))) ⊎ ((deletes ≡ true) × (op ≡ Remove))
+
+abbrev pub change_wanted : Op → Option Change
+change_wanted op = write_ask op None process.NotAsked
+
+abbrev pub StartsWrite : Mark → Caller → Bytes → Op → Start → WriteCallsState → WriteCallsState → Type 0
+StartsWrite mark caller key op (Ended ended) old new = new ≡ old
+StartsWrite mark caller key op Reserved old new =
+    (call : ReservedState) × IsCallOf caller key op call × (call.cache ≡ mark) × (change_asked call.reservation.first ≡ change_wanted op)
+    × (new ≡ with_write_call old call)
+StartsWrite mark caller key op PutOff old new = new ≡ old

@@ -8,4 +8,4 @@ mod round;
 
 pub use fault::BulkFault;
 pub use loads::{commit_first_load, start_get};
-pub use round::{Start, commit_first, start_put};
+pub use round::{Start, commit_first, start_write};

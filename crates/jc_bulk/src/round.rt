@@ -1,24 +1,26 @@
 //! One key of a bulk call that writes, in one of its rounds.
-ghost use Rattle.std.specs.Prelude.{◌≡◌, ◌<◌, ◌++◌, ◌∷◌, List, [], None, false};
+ghost use Rattle.std.specs.Prelude.{◌≡◌, ◌<◌, ◌∷◌, List, [], None, false};
 ghost use Rattle.jc_model.specs.declared.event.Event.TheVariants.{Step};
+ghost use Rattle.jc_model.specs.Batches.{is_among};
 ghost use Rattle.jc_model.specs.Group.{write_only};
 ghost use Rattle.jc_stripe.specs.declared.ticket.Reservation.{Reservation};
-ghost use Rattle.jc_bulk.specs.Laws.{keys_out};
-ghost use Rattle.jc_model.specs.declared.event.Op.TheVariants as op;
-ghost use Rattle.jc_model.specs.Batches.{is_among};
-ghost use Rattle.jc_model.specs.Cache.{Bytes};
 ghost use Rattle.jc_stripe.specs.State.{State};
+ghost use Rattle.jc_session.specs.Counting.{counts_ended};
 ghost use Rattle.jc_cache.specs.Caches.{IsStripeOf};
 ghost use Rattle.jc_cache.specs.OutstandingAll.{reserved_keys};
 ghost use Rattle.jc_cache.specs.Sessions.{IsOf};
+ghost use Rattle.jc_bulk.specs.Laws.{keys_out};
+ghost use Rattle.jc_bulk.specs.Phased.{counts_started, LeavesCalls, AddsSteps};
 ghost use Rattle.jc_bulk.specs.Recorded.{steps_of};
-ghost use Rattle.jc_bulk.specs.Starting.{steps_started, HasReason, reservations_in, StartsCall};
+ghost use Rattle.jc_bulk.specs.Starting.{steps_started, reservations_in, WritesAs, StartsWrite};
+ghost use Rattle.jc_bulk.specs.StartingLoads.{StartsFor};
 ghost use Rattle.jc_bulk.specs.Underway.{IsUnderway};
 
 use crate::laws::{records, stays_underway};
 use jc_cache::{Cache, Session, Started, WriteCalls, WrittenCall};
 use jc_model::{Op, Reply};
-use jc_types::{Key, Refusal, Value};
+use jc_stripe::phase_laws::grows;
+use jc_types::{Key, Refusal};
 
 /// What the first phase of one key of a bulk call has given.
 #[derive(Clone, Copy)]
@@ -31,39 +33,40 @@ pub enum Start {
     PutOff,
 }
 
-/// The first phase of a `putAll` at one of its keys. A key that has to be written is reserved, and is among `calls` from then on.
+/// The first phase of a `putAll` or a `removeAll` at one of its keys: a `Put` if `calls` write, and a `Remove` if they delete. A key
+/// that has to be written is reserved, and is among `calls` from then on; without write-through its step is made at once.
 ///
-/// A key is put off if it is refused as a later round may find it free (`Busy`, `TooManyInFlight`), and is over if it is refused
-/// for good (`HistoryFull`). Nothing is recorded of a key that is refused.
+/// A key is put off if it is refused as a later round may find it free (`TooManyInFlight`), and is over if it is refused for good
+/// (`HistoryFull`). Nothing is recorded of a key that is refused.
 ///
 /// Conditions: the session is of this cache, and its current call, a bulk call, is under way, with the reservations of `calls`
-/// out. The key has no step of it, and isn't among those of `calls`, which have room, and write.
-pub fn start_put(
+/// out. The key has no step of it, and isn't among those of `calls`, which have room.
+pub fn start_write(
     cache: &mut Cache,
     session: &mut Session,
     key: &Key,
-    value: &Value,
+    op: &Op,
     calls: &mut WriteCalls,
 ) -> Start
     requires own { IsOf cache.old session.old }
     requires underway { IsUnderway cache.old session.old.caller (reservations_in calls.old.items) }
     requires room { 0 < calls.old.room }
-    requires kind { calls.old.deletes ≡ false }
+    requires kind { WritesAs calls.old.deletes op.now }
     requires away { is_among (reserved_keys calls.old.items) key.now ≡ false }
     requires none { (s : State) → IsStripeOf cache.old key.now s → steps_of session.old.caller key.now s.history ≡ [] }
     ensures own { IsOf cache.new session.new }
-    ensures caller { session.new.caller ≡ session.old.caller }
-    ensures why { (s : State) → IsStripeOf cache.old key.now s
-        → HasReason s session.old.caller key.now (op.Put value.now) result }
-    ensures calls { StartsCall session.old.caller key.now (op.Put value.now) result calls.old calls.new }
+    ensures session { session.new ≡ record session.old { counts = counts_started session.old.counts result } }
+    ensures why { (s : State) × IsStripeOf cache.old key.now s
+        × StartsFor s session.old.caller (reservations_in calls.old.items) key.now op.now result }
+    ensures calls { StartsWrite cache.old.mark session.old.caller key.now op.now result calls.old calls.new }
     ensures underway { IsUnderway cache.new session.old.caller (reservations_in calls.new.items) }
-    ensures steps { (q : Bytes) (before after : State) → IsStripeOf cache.old q before → IsStripeOf cache.new q after
-        → steps_of session.old.caller q after.history ≡ steps_of session.old.caller q before.history
-        ++ steps_of session.old.caller q (steps_started session.old.caller key.now (op.Put value.now) result) }
+    ensures adds { AddsSteps session.old.caller (steps_started session.old.caller key.now op.now result) cache.old cache.new }
+    ensures others { LeavesCalls session.old.caller.session cache.old cache.new }
 {
     stays_underway();
     records();
-    match cache.start(session, key, &Op::Put(*value)) {
+    grows();
+    match cache.start(session, key, op) {
         Started::Done(step) => Start::Ended(Ok(step.reply)),
         Started::Write(call) => {
             calls.push(call);
@@ -94,14 +97,14 @@ pub fn commit_first(cache: &mut Cache, session: &mut Session, call: WrittenCall)
     requires underway { IsUnderway cache.old session.old.caller (call.reservation ∷ rest) }
     requires once { is_among (keys_out rest) call.reservation.key ≡ false }
     ensures own { IsOf cache.new session.new }
-    ensures caller { session.new.caller ≡ session.old.caller }
+    ensures session { session.new ≡ record session.old { counts = counts_ended session.old.counts } }
     ensures underway { IsUnderway cache.new session.old.caller rest }
-    ensures steps { (q : Bytes) (before after : State) → IsStripeOf cache.old q before → IsStripeOf cache.new q after
-        → steps_of session.old.caller q after.history ≡ steps_of session.old.caller q before.history
-        ++ steps_of session.old.caller q (Step session.old.caller call.reservation.op call.reservation.key
-        (write_only call.answer) None result ∷ []) }
+    ensures adds { AddsSteps session.old.caller (Step session.old.caller call.reservation.op call.reservation.key
+        (write_only call.answer) None result ∷ []) cache.old cache.new }
+    ensures others { LeavesCalls session.old.caller.session cache.old cache.new }
 {
     stays_underway();
     records();
+    grows();
     cache.commit_write(session, call).reply
 }

@@ -1,9 +1,11 @@
-use Rattle.std.proofs.Common.{ap}
+use Rattle.std.proofs.Common.{[], ◌∷◌, None, ap}
 use Rattle.std.proofs.lemmas.Bool.{and_parts}
 use Rattle.std.specs.List.{list_all}
 use Rattle.jc_types.specs.declared.caller.Caller.{Caller}
+use Rattle.jc_model.specs.declared.event.Event.TheVariants.{Step}
 use Rattle.jc_model.specs.Group.{write_only}
 use Rattle.jc_bulk.specs.Recorded.{is_by}
+use Rattle.jc_bulk.proofs.Phased.{commits_after, adds_at}
 use Rattle.jc_bulk.proofs.Phases.{is_caller}
 use Rattle.jc_bulk.proofs.round.commit_first.Goals as goal
 
@@ -22,7 +24,12 @@ returns-clause-underway g c =
     c.stays_underway.ensures.commits c.args.cache.now c.commit_write.new.self c.args.session.now.caller c.args.call.reservation g.rest
     (write_only c.args.call.answer) c.commit_write.result c.requires.1.1.0 c.requires.1.1.1 c.commit_write.ensures.phase
 
-pub returns-clause-steps : goal.returns-clause-steps
-returns-clause-steps g c q before after was now =
-    c.records.ensures.commits c.args.cache.now c.commit_write.new.self c.args.session.now.caller c.args.call.reservation g.rest
-    (write_only c.args.call.answer) c.commit_write.result q before after c.requires.1.1.0 c.commit_write.ensures.phase was now
+pub returns-clause-adds : goal.returns-clause-adds
+returns-clause-adds g c =
+    let who = c.args.session.now.caller in
+    let r = c.args.call.reservation in
+    let out = write_only c.args.call.answer in
+    let made = c.commit_write.ensures.phase in
+    adds_at who (Step who r.op r.key out None c.commit_write.result.reply ∷ []) r.key who.session c.args.cache.now c.commit_write.new.self made
+    (commits_after made.before made.after r out c.commit_write.result c.grows.ensures made.made)
+    (λ q s t was now. c.records.ensures.commits c.args.cache.now c.commit_write.new.self who r g.rest out c.commit_write.result q s t c.requires.1.1.0 made was now)
