@@ -1,9 +1,10 @@
 -- What one step more makes of a call's steps, and who may begin behind them.
+--     early           a call that is not refused has not the last number
 --     steps_after     the steps of a call at a key, behind the group of one step
 --     befores_after   no call of a later number, behind the group of one step
 --     may_come_all    a call that has no step at a key may make one
 --     beside_all      the same of its reservations at other keys
-use Rattle.std.proofs.Common.{◌≡◌, ◌==◌, ◌&&◌, ◌||◌, ◌+◌, ℕ, List, [], ◌∷◌, ◌++◌, map, cond, Bool, true, false, not, Option, None, Some, nat_lt, refl, sym, ap, ◌∙◌, length, arith}
+use Rattle.std.proofs.Common.{◌≡◌, ◌==◌, ◌&&◌, ◌||◌, ◌+◌, ◌<◌, ℕ, List, [], ◌∷◌, ◌++◌, map, cond, Bool, true, false, not, Option, None, Some, nat_lt, nat_le, refl, sym, ap, ◌∙◌, length, arith}
 use Rattle.std.proofs.lemmas.Bool.{and_parts}
 use Rattle.std.proofs.lemmas.Bool.Decides.{nat_tests}
 use Rattle.std.proofs.lemmas.Cmp.{nat_list_eq_equiv}
@@ -12,6 +13,8 @@ use Rattle.std.proofs.lemmas.List.Folds.{list_all-append}
 use Rattle.std.specs.List.{list_all}
 use Rattle.std.specs.Cmp.Lexicographic.{pointwise}
 use Rattle.jc_types.specs.declared.caller.Caller.{Caller}
+use Rattle.jc_types.specs.declared.refusal.Refusal.{Refusal}
+use Rattle.jc_types.specs.declared.refusal.Refusal.TheVariants.{HistoryFull}
 use Rattle.jc_model.specs.declared.event.Cause.{Cause}
 use Rattle.jc_model.specs.declared.event.Event.{Event}
 use Rattle.jc_model.specs.declared.event.Event.TheVariants.{Step, Evict}
@@ -23,7 +26,9 @@ use Rattle.jc_model.specs.Group.{victim_events, evicted_events, events_of}
 use Rattle.jc_model.specs.Legal.{may_come}
 use Rattle.jc_stripe.specs.declared.begun.StepDone.{StepDone}
 use Rattle.jc_stripe.specs.declared.ticket.Reservation.{Reservation}
-use Rattle.jc_stripe.specs.State.{State}
+use Rattle.jc_stripe.specs.State.{State, promised}
+use Rattle.jc_stripe.specs.Refusals.{first_refusal, has_room, places_needed, needs_free_key, last_number}
+use Rattle.jc_session.specs.Counting.{one_more}
 use Rattle.jc_stripe.specs.OwnSteps.{is_before_call}
 use Rattle.jc_stripe.specs.Phases.{Steps, new_group, is_other_call}
 use Rattle.jc_bulk.specs.Recorded.{is_step_of, steps_of, is_by}
@@ -53,20 +58,38 @@ steps_after old new caller c key q op out done steps =
     ∙ ap (λ xs. steps_of c q old.history ++ xs) (steps_in c q g.victim (Step caller op key out None g.step.reply) key g.evicted)
     ∙ ap (λ r. steps_of c q old.history ++ steps_of c q (Step caller op key out None r ∷ [])) (sym steps.reply)
 
-next_is_after : (session : Bool) (n : ℕ) → ((not session || nat_lt n (n + 1)) && true) ≡ true
-next_is_after true n = grind (arith, nat_tests)
-next_is_after false n = refl
+next_number : (n : ℕ) → n < last_number → one_more n ≡ n + 1
+next_number n below = grind (arith, nat_tests)
+
+next_is_after : (session : Bool) (n : ℕ) → n < last_number → ((not session || nat_lt n (one_more n)) && true) ≡ true
+next_is_after true n below = grind (arith, nat_tests, next_number n below)
+next_is_after false n below = refl
+
+has_some_room : (room : Bool) (rest : Option Refusal) → cond (not room) (Some HistoryFull) rest ≡ None → room ≡ true
+has_some_room true rest none = refl
+has_some_room false rest none = cc
+
+less : (m n : ℕ) → nat_lt m n ≡ true → m < n
+less m n e = grind (arith, nat_tests)
+
+pub early : (s : State) (caller : Caller) (key : Bytes) (op : Op) → first_refusal s caller key op ≡ None → caller.call < last_number
+early s caller key op none =
+    let needed = places_needed (needs_free_key s key op) in
+    let fits = nat_le (length s.history + promised s + needed) s.config.history in
+    let room = has_some_room (has_room s caller.call needed) _ none in
+    let first = and_parts (fits && nat_lt caller.call last_number) (nat_lt s.next last_number) room in
+    less caller.call last_number (and_parts fits (nat_lt caller.call last_number) first.0).1
 
 pub befores_after : (old new : State) (caller : Caller) (key : Bytes) (op : Op) (out : Out) (done : StepDone) → Steps old caller key op out [] done new
-    → list_all (is_before_call caller.session (caller.call + 1)) old.history ≡ true → list_all (is_before_call caller.session (caller.call + 1)) new.history ≡ true
-befores_after old new caller key op out done steps before =
+    → caller.call < last_number → list_all (is_before_call caller.session (one_more caller.call)) old.history ≡ true → list_all (is_before_call caller.session (one_more caller.call)) new.history ≡ true
+befores_after old new caller key op out done steps below before =
     let g = new_group old caller key op out [] steps.short in
-    let p : Event → Bool = is_before_call caller.session (caller.call + 1) in
+    let p : Event → Bool = is_before_call caller.session (one_more caller.call) in
     ap (λ (s : State). list_all p s.history) steps.after
     ∙ list_all-append p old.history (events_of (length old.history) g)
     ∙ ap (λ b. b && list_all p (events_of (length old.history) g)) before
-    ∙ all_in caller.session (caller.call + 1) g.victim (Step caller op key out None g.step.reply) key g.evicted
-    ∙ next_is_after (caller.session == caller.session) caller.call
+    ∙ all_in caller.session (one_more caller.call) g.victim (Step caller op key out None g.step.reply) key g.evicted
+    ∙ next_is_after (caller.session == caller.session) caller.call below
 
 -- 2. Who may begin.
 
@@ -81,17 +104,17 @@ none_head : {A : Type 0} (b : Bool) (x : A) (xs ys : List A) → cond b (x ∷ x
 none_head true x xs ys h = cc
 none_head false x xs ys h = (refl, h)
 
-is_this : (m n : ℕ) → nat_lt m (n + 1) ≡ true → nat_lt m n ≡ false → (m == n) ≡ true
+is_this : (m n : ℕ) → nat_lt m (one_more n) ≡ true → nat_lt m n ≡ false → (m == n) ≡ true
 is_this m n h g = grind (arith, nat_tests)
 
-pub may_come_all : (c : Caller) (key : Bytes) (h : List Event) → list_all (is_before_call c.session (c.call + 1)) h ≡ true → steps_of c key h ≡ []
+pub may_come_all : (c : Caller) (key : Bytes) (h : List Event) → list_all (is_before_call c.session (one_more c.call)) h ≡ true → steps_of c key h ≡ []
     → list_all (λ e. may_come e c key) h ≡ true
 may_come_all c key [] before none = refl
 may_come_all c key (Evict k cause ∷ es) before none = may_come_all c key es before none
 may_come_all c key (Step who op k out shared reply ∷ es) before none =
-    let b = and_parts (not (who.session == c.session) || nat_lt who.call (c.call + 1)) (list_all (is_before_call c.session (c.call + 1)) es) before in
+    let b = and_parts (not (who.session == c.session) || nat_lt who.call (one_more c.call)) (list_all (is_before_call c.session (one_more c.call)) es) before in
     let n = none_head (is_step_of c key (Step who op k out shared reply)) (Step who op k out shared reply) (steps_of c key es) (steps_of c key es) none in
-    let one = come_one (who.session == c.session) (nat_lt who.call c.call) (nat_lt who.call (c.call + 1)) (who.call == c.call) (pointwise ◌==◌ k key) (is_this who.call c.call) b.0 n.0 in
+    let one = come_one (who.session == c.session) (nat_lt who.call c.call) (nat_lt who.call (one_more c.call)) (who.call == c.call) (pointwise ◌==◌ k key) (is_this who.call c.call) b.0 n.0 in
     ap (λ x. x && list_all (λ e. may_come e c key) es) one ∙ may_come_all c key es b.1 n.1
 
 beside_one : (s c p : Bool) → (s && c) ≡ true → p ≡ false → (not s || (c && not p)) ≡ true

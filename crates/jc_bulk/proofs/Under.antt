@@ -6,7 +6,7 @@
 --     under_reserved, not_reserved  a reservation more is one at its stripe alone
 --     is_out                        the first one that is out is out at its stripe
 --     under_commit, not_committed   its commit ends it at its stripe alone
-use Rattle.std.proofs.Common.{◌≡◌, ◌==◌, ◌&&◌, ◌||◌, ◌+◌, ℕ, List, [], ◌∷◌, ◌++◌, filter, find, map, cond, Bool, true, false, not, Some, refl, sym, ap, ◌∙◌, subst, arith}
+use Rattle.std.proofs.Common.{◌≡◌, ◌==◌, ◌&&◌, ◌||◌, ◌<◌, ℕ, List, [], ◌∷◌, ◌++◌, filter, find, map, cond, Bool, true, false, not, Some, refl, sym, ap, ◌∙◌, subst, arith}
 use Rattle.std.proofs.lemmas.Bool.{and_parts, eqb-true}
 use Rattle.std.proofs.lemmas.Bool.Decides.{nat_tests}
 use Rattle.std.proofs.lemmas.Cmp.{nat_list_eq_equiv}
@@ -25,6 +25,8 @@ use Rattle.jc_inflight.specs.Resolving.{after_resolve}
 use Rattle.jc_stripe.specs.declared.begun.StepDone.{StepDone}
 use Rattle.jc_stripe.specs.declared.ticket.Reservation.{Reservation}
 use Rattle.jc_stripe.specs.OwnSteps.{is_before_call}
+use Rattle.jc_stripe.specs.Refusals.{last_number}
+use Rattle.jc_session.specs.Counting.{one_more}
 use Rattle.jc_stripe.specs.State.{State, is_key, is_reserved, without_key, with_reservation, IsOut}
 use Rattle.jc_stripe.specs.Phases.{MayBegin, Steps, Commits, after_commit, is_other_call, is_other_join}
 use Rattle.jc_bulk.specs.Recorded.{steps_of, is_by}
@@ -84,14 +86,14 @@ may_begin config caller out i s key under i_is by away none = record {
   apart = ap (list_all (is_other_join caller key)) under.joiners;
 }
 
-pub under_step : (config : Config) (caller : Caller) (out : List Reservation) (i : ℕ) (old new : State) (key : Bytes) (op : Op) (o : Out) (done : StepDone) → IsUnder config caller out i old
+pub under_step : (config : Config) (caller : Caller) (out : List Reservation) (i : ℕ) (old new : State) (key : Bytes) (op : Op) (o : Out) (done : StepDone) → caller.call < last_number → IsUnder config caller out i old
     → Steps old caller key op o [] done new → IsUnder config caller out i new
-under_step config caller out i old new key op o done under steps = record {
+under_step config caller out i old new key op o done below under steps = record {
   config_is = ap (λ (s : State). s.config) steps.after ∙ under.config_is;
   stripe_is = ap (λ (s : State). s.stripe) steps.after ∙ under.stripe_is;
   reservations = ap (λ (s : State). s.reservations) steps.after ∙ under.reservations;
   joiners = ap (λ (s : State). s.joiners) steps.after ∙ under.joiners;
-  numbers = befores_after old new caller key op o done steps under.numbers;
+  numbers = befores_after old new caller key op o done steps below under.numbers;
 }
 
 filter_one : (config : Config) (i : ℕ) (r : Reservation) (b : Bool) → at_stripe config i r ≡ b → filter (at_stripe config i) (r ∷ []) ≡ cond b (r ∷ []) []
@@ -105,7 +107,7 @@ under_reserved config caller out i old new r under i_is is = record {
   reservations = ap (λ (s : State). s.reservations) is ∙ ap (λ rs. rs ++ r ∷ []) under.reservations
       ∙ sym (filter-append (at_stripe config i) out (r ∷ []) ∙ ap (λ rs. filter (at_stripe config i) out ++ rs) (filter_one config i r true (same_number _ _ (sym i_is))));
   joiners = ap (λ (s : State). s.joiners) is ∙ under.joiners;
-  numbers = ap (λ (s : State). list_all (is_before_call caller.session (caller.call + 1)) s.history) is ∙ under.numbers;
+  numbers = ap (λ (s : State). list_all (is_before_call caller.session (one_more caller.call)) s.history) is ∙ under.numbers;
 }
 
 pub no_more : {A : Type 0} (xs : List A) → xs ++ [] ≡ xs
@@ -144,9 +146,9 @@ without_none key (r ∷ rs) none = by (is_key key r) none (without_none key rs)
     by true h rest = cc
     by false h rest = ap (λ xs. r ∷ xs) (rest h)
 
-pub under_commit : (config : Config) (caller : Caller) (r : Reservation) (rest : List Reservation) (i : ℕ) (old new : State) (o : Out) (done : StepDone) → IsUnder config caller (r ∷ rest) i old
+pub under_commit : (config : Config) (caller : Caller) (r : Reservation) (rest : List Reservation) (i : ℕ) (old new : State) (o : Out) (done : StepDone) → caller.call < last_number → IsUnder config caller (r ∷ rest) i old
     → i ≡ stripe_of r.key config.stripes → r.caller ≡ caller → is_among (map (λ (x : Reservation). x.key) rest) r.key ≡ false → Commits old r o done new → IsUnder config caller rest i new
-under_commit config caller r rest i old new o done under i_is who away commits =
+under_commit config caller r rest i old new o done below under i_is who away commits =
     let mid = after_commit old r done.place in
     let callers : callers_of r.number old.joiners ≡ [] = ap (callers_of r.number) under.joiners in
     let steps : Steps mid caller r.key r.op o [] done new = subst (λ c. Steps mid c r.key r.op o [] done new) who (subst (λ cs. Steps mid r.caller r.key r.op o cs done new) callers commits.1) in
@@ -159,7 +161,7 @@ under_commit config caller r rest i old new o done under i_is who away commits =
       joiners = ap (after_resolve r.number done.place) under.joiners;
       numbers = under.numbers;
     } in
-    under_step config caller rest i mid new r.key r.op o done left steps
+    under_step config caller rest i mid new r.key r.op o done below left steps
 
 pub not_committed : (config : Config) (caller : Caller) (r : Reservation) (rest : List Reservation) (i : ℕ) (s : State) → IsUnder config caller (r ∷ rest) i s → (i ≡ stripe_of r.key config.stripes → ⊥)
     → IsUnder config caller rest i s

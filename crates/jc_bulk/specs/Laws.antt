@@ -6,7 +6,8 @@
 --     keys_out             the keys of the reservations that are out
 --     StaysUnderway        the law of a bulk call on a cache: once no session has anything out, it is under way with nothing out; a key of
 --                          which it has neither step nor reservation may begin, and joins nothing; each first phase and each commit, in
---                          the order of the reservations, leaves it under way; and with nothing out, no session has
+--                          the order of the reservations, leaves it under way; and with nothing out, no session has, and neither is the
+--                          next call's number nor a later one taken
 --     Records              the law of its steps: of each key, a first phase and a commit add the call's step if they are of the key, and
 --                          else nothing
 use Rattle.std.specs.Prelude.{◌≡◌, ◌++◌, List, [], ◌∷◌, map, false, Option, None, Some}
@@ -25,6 +26,7 @@ use Rattle.jc_stripe.specs.declared.begun.StepDone.{StepDone}
 use Rattle.jc_stripe.specs.declared.ticket.Reservation.{Reservation}
 use Rattle.jc_stripe.specs.State.{State, IsOut}
 use Rattle.jc_stripe.specs.Phases.{MayBegin, Begins, Commits}
+use Rattle.jc_session.specs.Counting.{one_more}
 use Rattle.jc_cache.specs.Begun.{MakesPhaseAt}
 use Rattle.jc_cache.specs.CacheInside.{IsPlaced}
 use Rattle.jc_cache.specs.Caches.{CacheState, EachStripe, IsIdleCache, HasNoCallsFrom, IsStripeOf}
@@ -73,7 +75,7 @@ pub record StaysUnderway : Type 0 where
   pub is_out : (cache : CacheState) (caller : Caller) (r : Reservation) (rest : List Reservation) (state : State) → IsUnderway cache caller (r ∷ rest) → IsStripeOf cache r.key state → IsOut state r
   pub commits : (old new : CacheState) (caller : Caller) (r : Reservation) (rest : List Reservation) (out : Out) (done : StepDone) → IsUnderway old caller (r ∷ rest) → is_among (keys_out rest) r.key ≡ false
       → MakesPhaseAt r.key caller.session old new (λ a c. Commits a r out done c) → IsUnderway new caller rest
-  pub closes : (cache : CacheState) (caller : Caller) → IsUnderway cache caller [] → IsIdleCache cache
+  pub closes : (cache : CacheState) (caller : Caller) → IsUnderway cache caller [] → IsIdleCache cache × HasNoCallsFrom cache caller.session (one_more caller.call)
 
 pub record Records : Type 0 where
   pub begins : (old new : CacheState) (caller : Caller) (key : Bytes) (op : Op) (b : Begun) (q : Bytes) (before after : State) → MakesPhaseAt key caller.session old new (λ a c. Begins a caller key op b c)

@@ -3,7 +3,7 @@ ghost use Rattle.jc_bulk.specs.Laws.{StaysUnderway, Records};
 
 /// A bulk call is under way from a cache with nothing out on. A key of which it has neither a step nor a reservation may begin,
 /// and joins no load. Whatever a first phase gives, and each commit in the order of the reservations, the call stays under way;
-/// once nothing of it is out, no session has anything out.
+/// once nothing of it is out, no session has anything out, and the session may begin its next call.
 pub fn stays_underway()
     ensures { StaysUnderway }
 {}
