@@ -8,3 +8,4 @@ pub mod WholeCalls
 pub mod Unasked
 pub mod Answered
 pub mod ManyKeys
+pub mod Clearing

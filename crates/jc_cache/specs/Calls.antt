@@ -4,17 +4,20 @@
 --                 the step says of the loader and the writer, they answered; every other stripe, and what other sessions need, stays
 --     Called      the same of a session's next call, which has this key alone
 --     Returns     a session's next call, whole, and what it returns by how it ended
+--     ClearsAt    a session's current call, whole, at a key that it clears: neither the loader nor the writer is asked, and nothing of the
+--                 session changes but how many steps it has made
 --     InvokesAt   a session's current call, whole, at a key, where it runs a processor
 --     Invoked     the same of a session's next call, which has this key alone
 --     value_in, flag_in, unit_in    what a call returns that replies with a value, with yes or no, or with nothing: a fault is an error
 use Rattle.std.specs.Prelude.{◌≡◌, ℕ, List, Bool, false, Option, None, Result, Ok, Err}
 use Rattle.jc_types.specs.declared.refusal.Refusal.{Refusal}
 use Rattle.jc_model.specs.declared.event.Op.{Op}
-use Rattle.jc_model.specs.declared.event.Op.TheVariants.{Invoke}
+use Rattle.jc_model.specs.declared.event.Op.TheVariants.{Clear, Invoke}
 use Rattle.jc_model.specs.declared.event.Out.{Out}
 use Rattle.jc_model.specs.declared.event.Reply.{Reply}
 use Rattle.jc_model.specs.declared.event.Reply.TheVariants as reply
 use Rattle.jc_model.specs.Cache.{Bytes}
+use Rattle.jc_model.specs.Group.{nothing_said}
 use Rattle.jc_outside.specs.Calling.{LoadRelation, WriteRelation}
 use Rattle.jc_mutentry.specs.Running.{ProcessRelation}
 use Rattle.jc_stripe.specs.State.{State}
@@ -52,6 +55,16 @@ abbrev pub Returns : {I J T : Type 0} {D : I → Type 0} {E : J → Type 0} → 
     → CacheState → Session I J D E → Bytes → Op → (Result Reply Refusal → T) → T → CacheState → Session I J D E → Type 0
 Returns loads load_state writes write_state old session key op answer_in result new session' =
     (ended : Result Reply Refusal) × Called loads load_state writes write_state old session key op ended new session' × (result ≡ answer_in ended)
+
+pub record ClearsAt
+    {I J : Type 0} {D : I → Type 0} {E : J → Type 0}
+    (cache : CacheState) (session : Session I J D E) (key : Bytes) (ended : Result Reply Refusal) (cache' : CacheState) (session' : Session I J D E) : Type 0 where
+  pub before : State
+  pub after : State
+  pub at : IsAt key cache cache' before after
+  pub ends : Ends before session.caller key Clear nothing_said ended after
+  pub left : session' ≡ record session { counts = record session.counts { own = own_after session.counts.own ended } }
+  pub sessions : LeavesSessions session cache cache'
 
 pub record InvokesAt
     {I J P : Type 0} {D : I → Type 0} {E : J → Type 0}

@@ -1,5 +1,5 @@
 //! A cache of plainly owned stripes, its sessions, and a whole call.
-ghost use Rattle.std.specs.Prelude.{◌≡◌, ◌⊎◌, ◌+◌, ◌<◌, ◌≤◌, false, Ok, Err, Some, None, IfOk, IfErr, is_some, slice_get};
+ghost use Rattle.std.specs.Prelude.{◌≡◌, ◌⊎◌, ◌+◌, ◌<◌, ◌≤◌, false, Ok, Err, Some, None, IfOk, IfErr, is_some, length, slice_get};
 ghost use Rattle.std.specs.Prelude.{vec_len, vec_capacity};
 ghost use Rattle.jc_types.specs.Limits.{check};
 ghost use Rattle.jc_types.specs.declared.refusal.Refusal.TheVariants.{OutOfMemory};
@@ -12,6 +12,7 @@ ghost use Rattle.jc_cache.specs.CacheInside.{IsPlaced};
 ghost use Rattle.jc_cache.specs.Sessions.{IsOf, MayCall, LeavesSessions};
 ghost use Rattle.jc_cache.specs.Calls.{Called};
 
+mod clearing;
 mod invoking;
 mod phase_calls;
 
@@ -116,9 +117,10 @@ impl Cache {
         }
     }
 
-    /// The shape of the cache. Each of its stripes is of this shape, and its number is its place.
+    /// The shape of the cache. It has as many stripes as that says; each is of this shape, and its number is its place.
     pub fn config(&self) -> &Config
         ensures config { result.now ≡ self.now.config }
+        ensures count { length self.now.stripes ≡ self.now.config.stripes }
         ensures placed { EachStripe (IsPlaced self.now.config) self.now.stripes }
     {
         &self.config
