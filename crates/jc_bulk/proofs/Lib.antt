@@ -5,3 +5,4 @@ mod Records
 mod Starting
 mod Phased
 mod Refusing
+mod KeyEnds

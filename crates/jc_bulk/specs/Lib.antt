@@ -1,5 +1,6 @@
 pub mod Recorded
 pub mod Ends
+pub mod Results
 pub mod Rounds
 pub mod Bulk
 pub mod Underway

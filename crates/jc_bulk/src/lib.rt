@@ -4,6 +4,7 @@
 mod fault;
 pub mod laws;
 mod loads;
+mod results;
 mod round;
 
 pub use fault::BulkFault;
