@@ -6,17 +6,20 @@ ghost use Rattle.jc_cache.specs.Sessions.{MayCall};
 mod increment;
 
 use increment::Increment;
+use indexmap::IndexSet;
 use jc_cache::Cache;
-use jc_invoke::invoke;
+use jc_invoke::{invoke, invoke_all};
 use jc_mutentry::EntryProcessor;
 use jc_outside::{CacheLoader, CacheWriter};
 use jc_session::Session;
 use jc_store::{SharedCounts, SharedStore, Store};
 use jc_types::{Config, Key, Value};
+use std::alloc::Global;
 use std::sync::Wait;
 
 /// Some calls. As each of them does, it has the condition that the session is of this cache and may call it.
 fn visit(
+    alloc: Global,
     rt: &(impl Print + Wait),
     cache: &mut Cache,
     session: &mut Session,
@@ -36,6 +39,12 @@ fn visit(
     let three = invoke(rt, cache, session, &pear, increment, &[])?;
     let one = invoke(rt, cache, session, &apple, increment, &[])?;
     println!(rt; "increment pear: {three:?}, and apple: {one:?}")?;
+    let mut keys = IndexSet::new(alloc);
+    keys.insert(pear)?;
+    keys.insert(apple)?;
+    for (key, sum) in &invoke_all(alloc, rt, cache, session, &keys, increment, &[])? {
+        println!(rt; "increment both: {key:?} is {:?}", (*sum)?)?;
+    }
     println!(rt; "the session has made {} steps", session.own())?;
     Ok(())
 }
@@ -62,7 +71,7 @@ fn main(rt: HostRuntime) -> anyhow::Result<()> {
     let mut cache = Cache::new(alloc, &config)?;
     let mut increment: Box<dyn EntryProcessor + Send + Drop> = Box::new(alloc, Increment)?;
     match cache.session(Some(loader), Some(writer)) {
-        Ok(mut session) => visit(&rt, &mut cache, &mut session, &mut increment)?,
+        Ok(mut session) => visit(alloc, &rt, &mut cache, &mut session, &mut increment)?,
         Err(fault) => return Err(fault.refusal.into()),
     }
 
