@@ -6,6 +6,7 @@ pub mod SpelledProcess
 pub mod SpelledLines
 pub mod Given
 pub mod ReadWords
+pub mod AreKeys
 pub mod ReadProcess
 pub mod ReadLines
 pub mod Callable

@@ -1,9 +1,9 @@
 -- Lines that are read are spelled as what they ask for.
-use Rattle.std.proofs.Common.{◌≡◌, ◌++◌, ◌∙◌, ◌==◌, ℕ, ◌≤◌, Bool, true, false, not, cond, List, [], ◌∷◌, length, Option, None, Some, Result, Ok, Err, refl, sym, ap, IfOk, IfSome}
+use Rattle.std.proofs.Common.{◌≡◌, ◌++◌, ◌∙◌, ◌==◌, ℕ, ◌<◌, ◌≤◌, Bool, true, false, not, cond, List, [], ◌∷◌, length, Option, None, Some, Result, Ok, Err, refl, sym, ap, IfOk, IfSome}
 use Rattle.std.specs.Prelude.{decimal, codes, nat_lt, ◌&&◌}
 use Rattle.std.specs.List.{list_all, join_with_byte}
 use Rattle.std.specs.Str.{bytes_eq}
-use Rattle.std.proofs.lemmas.Bool.{ltb-false, and_parts}
+use Rattle.std.proofs.lemmas.Bool.{ltb-true, ltb-false, and_parts}
 use Rattle.std.proofs.lemmas.Slice.Eq.{bytes_eq-Decides}
 use Rattle.std.proofs.lemmas.List.Splits.{join_with_byte-slice_split}
 use Rattle.jc_model.specs.Cache.{Bytes}
@@ -25,12 +25,13 @@ use Rattle.jc_script.specs.declared.grammar.LineKind.{LineKind}
 use Rattle.jc_script.specs.declared.grammar.LineKind.TheVariants as kind
 use Rattle.jc_script.specs.declared.line.Line.TheVariants.{OfCall}
 use Rattle.jc_script.specs.Printing.{value_text}
-use Rattle.jc_script.specs.Words.{◌>>=◌, words_of, number_of, caller_of, key_of, value_of, value_or_none_of, pairs_of}
-use Rattle.jc_script.specs.Lines.{form_named, line_named, flags_of, takes_words, bare_op, valued_op, value_alone_of, replace_if_of, command_of, open_of, set_of, begin_of, number_alone, lone_act, coded_act, coded_of, process_of, say_of, foreign_of, line_of, are_words, parsed, is_plain, is_comment, some_line, read_line}
-use Rattle.jc_script.specs.Spelled.{IsNumber, IsValue, IsKey, IsOperation, SaysWords, IsSpellable, LinesAreSpelled, spelling, line_words, operation_words, flag_words}
+use Rattle.jc_script.specs.Words.{◌>>=◌, words_of, number_of, caller_of, key_of, value_of, value_or_none_of, pairs_of, keys_of}
+use Rattle.jc_script.specs.Lines.{form_named, line_named, flags_of, takes_words, bare_op, valued_op, bare_of, valued_of, value_alone_of, replace_if_of, begin_with, invoke_all_with, command_of, open_of, set_of, begin_of, number_alone, lone_act, coded_act, coded_of, process_of, say_of, foreign_of, line_of, are_words, parsed, is_plain, is_comment, some_line, read_line}
+use Rattle.jc_script.specs.Spelled.{IsNumber, IsSession, session_text, IsValue, IsKey, IsOperation, SaysWords, IsSpellable, LinesAreSpelled, spelling, line_words, operation_words, flag_words}
 use Rattle.jc_script.specs.ProcessWords.{without_load, has_process_shape, source_of, calls_of, source_words}
 use Rattle.jc_script.proofs.ReadProcess.{SaysSource, source_read, SaysCalls, calls_read}
 use Rattle.jc_script.proofs.Given.{ok_bind, ok_then, ok_if, ok_unless, ok_since, ok_named, ok_weaker}
+use Rattle.jc_script.proofs.AreKeys.{SaysKeys, keys_read}
 use Rattle.jc_script.proofs.ReadWords.{SaysNumber, number_read, SaysSession, session_read, SaysKey, key_read, SaysValue, value_read, SaysValueOrNone, value_or_none_read, ArePairs, pairs_read}
 
 -- 1. The fixed words.
@@ -48,6 +49,7 @@ form_word (form.Valued valued.RemoveIf) = codes "removeif"
 form_word (form.Valued valued.Replace) = codes "replace"
 form_word (form.Valued valued.GetReplace) = codes "getreplace"
 form_word form.ReplaceIf = codes "replaceif"
+form_word form.InvokeAll = codes "invokeall"
 
 kind_word : LineKind → List ℕ
 kind_word kind.Open = codes "open"
@@ -74,7 +76,8 @@ form_read w =
     ok_named w (codes "get") _ _ P (λ e. e) (ok_named w (codes "contains") _ _ P (λ e. e) (ok_named w (codes "put") _ _ P (λ e. e)
     (ok_named w (codes "getput") _ _ P (λ e. e) (ok_named w (codes "putif") _ _ P (λ e. e) (ok_named w (codes "remove") _ _ P (λ e. e)
     (ok_named w (codes "removeif") _ _ P (λ e. e) (ok_named w (codes "getremove") _ _ P (λ e. e) (ok_named w (codes "replace") _ _ P (λ e. e)
-    (ok_named w (codes "replaceif") _ _ P (λ e. e) (ok_named w (codes "getreplace") _ _ P (λ e. e) (ok_named w (codes "invoke") _ (Err BadLine) P (λ e. e) tt)))))))))))
+    (ok_named w (codes "replaceif") _ _ P (λ e. e) (ok_named w (codes "getreplace") _ _ P (λ e. e) (ok_named w (codes "invoke") _ _ P (λ e. e)
+    (ok_named w (codes "invokeall") _ (Err BadLine) P (λ e. e) tt))))))))))))
 
 kind_read : (w : List ℕ) → IfOk (line_named w) (λ kind. w ≡ kind_word kind)
 unfolding kind_word
@@ -127,17 +130,43 @@ replace_if_read (k ∷ v ∷ words) =
     ok_then (value_alone_of words) _ (λ value. IsValue value × (words ≡ value_text value ∷ [])) P (value_alone_read words) (λ value c.
     record { operation = (b.0, c.0); key = a.0; spelled = rw (a.1, b.1, c.1) refl })))
 
-command_read : (form : Form) (words : List (List ℕ)) → IfOk (command_of form words) (SaysCommand form words)
-command_read (form.Bare b) [] = tt
-command_read (form.Bare b) (k ∷ []) = ok_then (key_of k) _ (SaysKey k) (SaysCommand (form.Bare b) (k ∷ [])) (key_read k) (λ key a. rw a.1 (bare_says b key a.0))
-command_read (form.Bare b) (k ∷ x ∷ more) = tt
-command_read (form.Valued o) [] = tt
-command_read (form.Valued o) (k ∷ []) = tt
-command_read (form.Valued o) (k ∷ v ∷ []) =
+bare_read : (b : Bare) (words : List (List ℕ)) → IfOk (bare_of b words) (SaysCommand (form.Bare b) words)
+bare_read b [] = tt
+bare_read b (k ∷ []) = ok_then (key_of k) _ (SaysKey k) (SaysCommand (form.Bare b) (k ∷ [])) (key_read k) (λ key a. rw a.1 (bare_says b key a.0))
+bare_read b (k ∷ x ∷ more) = tt
+
+valued_read : (o : Valued) (words : List (List ℕ)) → IfOk (valued_of o words) (SaysCommand (form.Valued o) words)
+valued_read o [] = tt
+valued_read o (k ∷ []) = tt
+valued_read o (k ∷ v ∷ []) =
     let P : Operation → Type 0 = SaysCommand (form.Valued o) (k ∷ v ∷ []) in
     ok_then (key_of k) _ (SaysKey k) P (key_read k) (λ key a. ok_then (value_of v) _ (SaysValue v) P (value_read v) (λ value b. rw (a.1, b.1) (valued_says o key value a.0 b.0)))
-command_read (form.Valued o) (k ∷ v ∷ x ∷ more) = tt
-command_read form.ReplaceIf words = replace_if_read words
+valued_read o (k ∷ v ∷ x ∷ more) = tt
+
+-- the begin of a call, from its number, its session and what stands behind them
+abbrev SaysBegin : ℕ → ℕ → Form → List (List ℕ) → Line → Type 0
+SaysBegin call session form words line =
+    SaysWords line × (codes "begin" ∷ decimal call ∷ session_text session ∷ form_word form ∷ words ≡ line_words line)
+
+operation_read : (call session : ℕ) (form : Form) (words : List (List ℕ)) (r : Result Operation Fault) → IsNumber call → IsSession session → IfOk r (SaysCommand form words)
+    → IfOk (begin_with call session r) (SaysBegin call session form words)
+operation_read call session form words (Err e) n s h = tt
+operation_read call session form words (Ok command) n s h =
+    ((n, s, h.operation, h.key), ap (λ behind. codes "begin" ∷ decimal call ∷ session_text session ∷ behind) h.spelled)
+
+invoke_all_read : (call session : ℕ) (words : List (List ℕ)) → IsNumber call → IsSession session → 0 < length words
+    → IfOk (invoke_all_with call session (keys_of words)) (SaysBegin call session form.InvokeAll words)
+unfolding form_word
+invoke_all_read call session words n s some =
+    ok_then (keys_of words) _ (SaysKeys words) (SaysBegin call session form.InvokeAll words) (keys_read words) (λ keys h.
+    ((n, s, (rw h.1 at some, h.0, h.2)), ap (λ behind. codes "begin" ∷ decimal call ∷ session_text session ∷ codes "invokeall" ∷ behind) h.1))
+
+command_read : (call session : ℕ) (form : Form) (words : List (List ℕ)) → IsNumber call → IsSession session → takes_words form (length words) ≡ true
+    → IfOk (command_of call session form words) (SaysBegin call session form words)
+command_read call session (form.Bare b) words n s shaped = operation_read call session (form.Bare b) words (bare_of b words) n s (bare_read b words)
+command_read call session (form.Valued o) words n s shaped = operation_read call session (form.Valued o) words (valued_of o words) n s (valued_read o words)
+command_read call session form.ReplaceIf words n s shaped = operation_read call session form.ReplaceIf words (replace_if_of words) n s (replace_if_read words)
+command_read call session form.InvokeAll words n s shaped = invoke_all_read call session words n s (ltb-true 0 (length words) shaped)
 
 -- 3. Lines.
 
@@ -185,11 +214,12 @@ begin_read (n ∷ who ∷ []) = tt
 begin_read (n ∷ who ∷ name ∷ words) =
     let P : Line → Type 0 = SaysLine kind.Begin (n ∷ who ∷ name ∷ words) in
     ok_then (form_named name) _ (λ form. name ≡ form_word form) P (form_read name) (λ form f.
-    ok_bind (cond (takes_words form (length words)) (Ok true) (Err BadLine)) _ P (λ shaped.
+    let shape = takes_words form (length words) in
+    ok_then (cond shape (Ok true) (Err BadLine)) _ (λ b. shape ≡ true) P (ok_if shape (Ok true) BadLine (λ b. shape ≡ true) (λ e. e)) (λ b shaped.
     ok_then (number_of n) _ (SaysNumber n) P (number_read n) (λ call a.
-    ok_then (caller_of who) _ (SaysSession who) P (session_read who) (λ session b.
-    ok_then (command_of form words) _ (SaysCommand form words) P (command_read form words) (λ command c.
-    ((a.0, b.0, c.operation, c.key), rw (a.1, b.1, f, c.spelled) refl))))))
+    ok_then (caller_of who) _ (SaysSession who) P (session_read who) (λ session c.
+    ok_weaker (command_of call session form words) (SaysBegin call session form words) P (λ line h. (h.0, rw (a.1, c.1, f) h.1))
+    (command_read call session form words a.0 c.0 shaped)))))
 
 number_alone_read : (words : List (List ℕ)) → IfOk (number_alone words) (λ n. IsNumber n × (words ≡ decimal n ∷ []))
 number_alone_read [] = tt

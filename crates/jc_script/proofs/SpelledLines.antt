@@ -1,8 +1,8 @@
 -- Lines that are spelled are read as what they say.
-use Rattle.std.proofs.Common.{◌≡◌, ◌∙◌, ◌==◌, ℕ, ◌+◌, ◌≤◌, Bool, true, false, not, List, [], ◌∷◌, ◌++◌, length, map, drop, Option, None, Some, Ok, Err, refl, sym, ap, append_assoc, append-nil, arith}
+use Rattle.std.proofs.Common.{◌≡◌, ◌∙◌, ◌==◌, ℕ, ◌+◌, ◌≤◌, Bool, true, false, not, List, [], ◌∷◌, ◌++◌, length, map, drop, Option, None, Some, Ok, refl, sym, ap, append_assoc, append-nil, arith}
 use Rattle.std.specs.Prelude.{decimal, codes, ◌&&◌, nat_lt, nat_le}
 use Rattle.std.specs.List.{All, list_all, position_or_len}
-use Rattle.std.proofs.lemmas.Bool.{and_from, and_parts, cond-true, not_from_false}
+use Rattle.std.proofs.lemmas.Bool.{and_from, and_parts, cond-true, lt-ltb, not_from_false}
 use Rattle.std.proofs.lemmas.Grind.{common_steps}
 use Rattle.std.proofs.lemmas.List.{take_at}
 use Rattle.std.proofs.Math.Seq.{drop-append-add}
@@ -10,7 +10,6 @@ use Rattle.std.proofs.lemmas.List.Elements.{All-head, All-tail}
 use Rattle.jc_types.specs.declared.limits.TheConstants.{KEY_MAX}
 use Rattle.jc_model.specs.Cache.{Bytes}
 use Rattle.jc_types.specs.declared.config.Config.{Config}
-use Rattle.jc_script.specs.declared.line.Operation.{Operation}
 use Rattle.jc_script.specs.declared.commands.Bare.{Bare}
 use Rattle.jc_script.specs.declared.commands.Bare.TheVariants as bare
 use Rattle.jc_script.specs.declared.commands.Valued.{Valued}
@@ -22,23 +21,20 @@ use Rattle.jc_script.specs.declared.grammar.Coded.{Coded}
 use Rattle.jc_script.specs.declared.grammar.Coded.TheVariants as coded
 use Rattle.jc_model.specs.declared.event.Op.{Op}
 use Rattle.jc_model.specs.declared.event.Op.TheVariants as op
-use Rattle.jc_script.specs.declared.fault.Fault.TheVariants.{BadKey}
 use Rattle.jc_script.specs.declared.line.Line.{Line}
-use Rattle.jc_script.specs.declared.line.Line.TheVariants.{Open, Set, Begin, OfCall, Foreign, Audit}
+use Rattle.jc_script.specs.declared.line.Line.TheVariants.{Open, Set, Begin, InvokeAll, OfCall, Foreign, Audit}
 use Rattle.jc_script.specs.declared.line.Act.{Act}
 use Rattle.jc_script.specs.declared.line.Act.TheVariants.{Read, ReadFail, Say, Apply, ApplyFail, ApplyLie, End, Drop, More, Take, Process}
 use Rattle.jc_script.specs.ProcessWords.{source_words, call_text, fail_words}
-use Rattle.jc_script.specs.Words.{is_letter, is_text, key_of, Pairs, equals_at, pair_onto, pairs_from, pairs_of}
-use Rattle.jc_script.specs.Lines.{form_named, flags_of, takes_words, bare_op, valued_op, bare_of, valued_of, replace_if_of, command_of, open_of, set_of, begin_of, lone_act, lone_of, coded_act, coded_of, say_of, foreign_of, read_line}
+use Rattle.jc_script.specs.Words.{is_letter, Pairs, equals_at, pair_onto, pairs_from, pairs_of}
+use Rattle.jc_script.specs.Lines.{form_named, flags_of, takes_words, bare_op, valued_op, bare_of, valued_of, replace_if_of, begin_with, invoke_all_with, command_of, open_of, set_of, begin_of, lone_act, lone_of, coded_act, coded_of, say_of, foreign_of, read_line}
 use Rattle.jc_script.specs.Printing.{value_text, value_or_none_text}
-use Rattle.jc_script.specs.Spelled.{IsNumber, IsSession, IsKey, IsValue, IsValueOrNone, IsPair, IsOperation, IsAct, LinesReadBack, spelling, session_text, pair_text, flag_words, operation_words}
+use Rattle.jc_script.specs.Spelled.{IsNumber, IsSession, IsKey, IsValue, IsValueOrNone, IsPair, AreKeys, IsOperation, IsAct, LinesReadBack, spelling, session_text, pair_text, flag_words, operation_words}
+use Rattle.jc_script.proofs.AreKeys.{key_back, keys_back, keys_are_words}
 use Rattle.jc_script.proofs.Spelling.{number_back, caller_back, value_back}
 use Rattle.jc_script.proofs.SpelledValues.{value_or_none_back}
 use Rattle.jc_script.proofs.SpelledProcess.{process_words, process_back}
 use Rattle.jc_script.proofs.SpelledWords.{AreWords, line_of_words, number_word, session_word, text_word, value_word, value_or_none_word, pair_word, pair_parts}
-
-pub key_back : (key : Bytes) → IsKey key → key_of key ≡ Ok key
-key_back key known = cond-true (is_text KEY_MAX key) (Ok key) (Err BadKey) known
 
 flags_back : (read write : Bool) → flags_of (flag_words read write) ≡ Ok (read, write)
 flags_back false false = refl
@@ -139,29 +135,34 @@ operation_word (op.LoadAll replace) key o k = absurd o
 operation_word op.Invoke key o k = and_from _ _ (text_word _ key k) refl
 
 -- the begin of a call, from what the words after the session ask for
-begin_asks : (call session : ℕ) (name : List ℕ) (words : List (List ℕ)) (form : Form) (command : Operation) → IsNumber call → IsSession session → form_named name ≡ Ok form
-    → takes_words form (length words) ≡ true → command_of form words ≡ Ok command → begin_of (decimal call ∷ session_text session ∷ name ∷ words) ≡ Ok (Begin call session command)
+begin_asks : (call session : ℕ) (name : List ℕ) (words : List (List ℕ)) (form : Form) (line : Line) → IsNumber call → IsSession session → form_named name ≡ Ok form
+    → takes_words form (length words) ≡ true → command_of call session form words ≡ Ok line → begin_of (decimal call ∷ session_text session ∷ name ∷ words) ≡ Ok line
 unfolding begin_of
-begin_asks call session name words form command n s named shaped asks =
-    rw named (rw shaped (rw (number_back call n, caller_back session s.0 s.1) (rw asks refl)))
+begin_asks call session name words form line n s named shaped asks =
+    rw named (rw shaped (rw (number_back call n, caller_back session s.0 s.1) asks))
 
 begin_back : (call session : ℕ) (o : Op) (key : Bytes) → IsNumber call → IsSession session → IsOperation o → IsKey key
     → begin_of (decimal call ∷ session_text session ∷ operation_words o key) ≡ Ok (Begin call session (record { op = o; key = key }))
-begin_back call session op.Get key n s o k = begin_asks call session (codes "get") (key ∷ []) _ _ n s refl refl (bare_back bare.Get key k)
-begin_back call session op.ContainsKey key n s o k = begin_asks call session (codes "contains") (key ∷ []) _ _ n s refl refl (bare_back bare.Contains key k)
-begin_back call session (op.Put value) key n s o k = begin_asks call session (codes "put") (key ∷ value_text value ∷ []) _ _ n s refl refl (valued_back valued.Put key value k o)
-begin_back call session (op.GetAndPut value) key n s o k = begin_asks call session (codes "getput") (key ∷ value_text value ∷ []) _ _ n s refl refl (valued_back valued.GetPut key value k o)
-begin_back call session (op.PutIfAbsent value) key n s o k = begin_asks call session (codes "putif") (key ∷ value_text value ∷ []) _ _ n s refl refl (valued_back valued.PutIf key value k o)
-begin_back call session op.Remove key n s o k = begin_asks call session (codes "remove") (key ∷ []) _ _ n s refl refl (bare_back bare.Remove key k)
-begin_back call session (op.RemoveIf old) key n s o k = begin_asks call session (codes "removeif") (key ∷ value_text old ∷ []) _ _ n s refl refl (valued_back valued.RemoveIf key old k o)
-begin_back call session op.GetAndRemove key n s o k = begin_asks call session (codes "getremove") (key ∷ []) _ _ n s refl refl (bare_back bare.GetRemove key k)
-begin_back call session (op.Replace value) key n s o k = begin_asks call session (codes "replace") (key ∷ value_text value ∷ []) _ _ n s refl refl (valued_back valued.Replace key value k o)
+begin_back call session op.Get key n s o k = begin_asks call session (codes "get") (key ∷ []) _ _ n s refl refl (ap (begin_with call session) (bare_back bare.Get key k))
+begin_back call session op.ContainsKey key n s o k = begin_asks call session (codes "contains") (key ∷ []) _ _ n s refl refl (ap (begin_with call session) (bare_back bare.Contains key k))
+begin_back call session (op.Put value) key n s o k = begin_asks call session (codes "put") (key ∷ value_text value ∷ []) _ _ n s refl refl (ap (begin_with call session) (valued_back valued.Put key value k o))
+begin_back call session (op.GetAndPut value) key n s o k = begin_asks call session (codes "getput") (key ∷ value_text value ∷ []) _ _ n s refl refl (ap (begin_with call session) (valued_back valued.GetPut key value k o))
+begin_back call session (op.PutIfAbsent value) key n s o k = begin_asks call session (codes "putif") (key ∷ value_text value ∷ []) _ _ n s refl refl (ap (begin_with call session) (valued_back valued.PutIf key value k o))
+begin_back call session op.Remove key n s o k = begin_asks call session (codes "remove") (key ∷ []) _ _ n s refl refl (ap (begin_with call session) (bare_back bare.Remove key k))
+begin_back call session (op.RemoveIf old) key n s o k = begin_asks call session (codes "removeif") (key ∷ value_text old ∷ []) _ _ n s refl refl (ap (begin_with call session) (valued_back valued.RemoveIf key old k o))
+begin_back call session op.GetAndRemove key n s o k = begin_asks call session (codes "getremove") (key ∷ []) _ _ n s refl refl (ap (begin_with call session) (bare_back bare.GetRemove key k))
+begin_back call session (op.Replace value) key n s o k = begin_asks call session (codes "replace") (key ∷ value_text value ∷ []) _ _ n s refl refl (ap (begin_with call session) (valued_back valued.Replace key value k o))
 begin_back call session (op.ReplaceIf old value) key n s o k =
-    begin_asks call session (codes "replaceif") (key ∷ value_text old ∷ value_text value ∷ []) _ _ n s refl refl (replace_if_back key old value k o.0 o.1)
-begin_back call session (op.GetAndReplace value) key n s o k = begin_asks call session (codes "getreplace") (key ∷ value_text value ∷ []) _ _ n s refl refl (valued_back valued.GetReplace key value k o)
+    begin_asks call session (codes "replaceif") (key ∷ value_text old ∷ value_text value ∷ []) _ _ n s refl refl (ap (begin_with call session) (replace_if_back key old value k o.0 o.1))
+begin_back call session (op.GetAndReplace value) key n s o k = begin_asks call session (codes "getreplace") (key ∷ value_text value ∷ []) _ _ n s refl refl (ap (begin_with call session) (valued_back valued.GetReplace key value k o))
 begin_back call session op.Clear key n s o k = absurd o
 begin_back call session (op.LoadAll replace) key n s o k = absurd o
-begin_back call session op.Invoke key n s o k = begin_asks call session (codes "invoke") (key ∷ []) _ _ n s refl refl (bare_back bare.Invoke key k)
+begin_back call session op.Invoke key n s o k = begin_asks call session (codes "invoke") (key ∷ []) _ _ n s refl refl (ap (begin_with call session) (bare_back bare.Invoke key k))
+
+begin_all_back : (call session : ℕ) (keys : List Bytes) → IsNumber call → IsSession session → AreKeys keys
+    → begin_of (decimal call ∷ session_text session ∷ codes "invokeall" ∷ keys) ≡ Ok (InvokeAll call session keys)
+begin_all_back call session keys n s known =
+    begin_asks call session (codes "invokeall") keys _ _ n s refl (lt-ltb 0 (length keys) known.0) (ap (invoke_all_with call session) (keys_back keys known))
 
 -- 4. What happens next to a call.
 
@@ -215,6 +216,10 @@ line_back (Begin call session command) known =
     line_of_words (codes "begin") (decimal call ∷ session_text session ∷ operation_words command.op command.key) _ refl
     (and_from _ _ (number_word call known.0.0) (and_from _ _ (session_word session known.0.1) (operation_word command.op command.key known.0.2 known.0.3))) known.1
     (begin_back call session command.op command.key known.0.0 known.0.1 known.0.2 known.0.3)
+line_back (InvokeAll call session keys) known =
+    line_of_words (codes "begin") (decimal call ∷ session_text session ∷ codes "invokeall" ∷ keys) _ refl
+    (and_from _ _ (number_word call known.0.0) (and_from _ _ (session_word session known.0.1) (keys_are_words keys known.0.2.1))) known.1
+    (begin_all_back call session keys known.0.0 known.0.1 known.0.2)
 line_back (OfCall call act) known = act_back call act known.0.0 known.0.1 known.1
 line_back (Foreign key value) known =
     line_of_words (codes "foreign") (key ∷ value_or_none_text value ∷ []) _ refl (and_from _ _ (text_word _ key known.0.0) (and_from _ _ (value_or_none_word value known.0.1) refl)) known.1

@@ -16,9 +16,9 @@ use Rattle.jc_world.specs.World.{WorldState, open_call, part_of, is_busy}
 use Rattle.jc_world.specs.Events.{is_new}
 use Rattle.jc_script.specs.LineEvents.{events_of, first_fits}
 use Rattle.jc_script.specs.declared.fault.Fault.{Fault}
-use Rattle.jc_script.specs.declared.fault.Fault.TheVariants.{CutLine, LineTooLong, BadByte, BadLine, BadNumber, BadCaller, BadKey, BadValue, NotOpen, OpenTwice, BadConfig, SetTooLate, NotRising, CallerBusy, NoSuchCall, NotNow}
+use Rattle.jc_script.specs.declared.fault.Fault.TheVariants.{CutLine, LineTooLong, BadByte, BadLine, BadNumber, BadCaller, BadKey, BadValue, RepeatedKey, NotOpen, OpenTwice, BadConfig, SetTooLate, NotRising, CallerBusy, NoSuchCall, NotNow}
 use Rattle.jc_script.specs.declared.line.Line.{Line}
-use Rattle.jc_script.specs.declared.line.Line.TheVariants.{Open, Set, Begin, OfCall, Foreign, Audit}
+use Rattle.jc_script.specs.declared.line.Line.TheVariants.{Open, Set, Begin, InvokeAll, OfCall, Foreign, Audit}
 use Rattle.jc_script.specs.declared.line.Act.{Act}
 
 abbrev pub text_of : Fault → List ℕ
@@ -30,6 +30,7 @@ text_of BadNumber = codes "bad number"
 text_of BadCaller = codes "bad caller"
 text_of BadKey = codes "bad key"
 text_of BadValue = codes "bad value"
+text_of RepeatedKey = codes "repeated key"
 text_of NotOpen = codes "not open"
 text_of OpenTwice = codes "open twice"
 text_of (BadConfig Stripes) = codes "bad config stripes"
@@ -70,12 +71,14 @@ abbrev pub state_fault : Option WorldState → Line → Option Fault
 state_fault None (Open config) = config_fault (check config)
 state_fault None (Set key value) = Some NotOpen
 state_fault None (Begin number session command) = Some NotOpen
+state_fault None (InvokeAll number session keys) = Some NotOpen
 state_fault None (OfCall number act) = Some NotOpen
 state_fault None (Foreign key value) = Some NotOpen
 state_fault None Audit = Some NotOpen
 state_fault (Some w) (Open config) = Some OpenTwice
 state_fault (Some w) (Set key value) = if w.fresh then None else Some SetTooLate
 state_fault (Some w) (Begin number session command) = begin_fault w number session
+state_fault (Some w) (InvokeAll number session keys) = begin_fault w number session
 state_fault (Some w) (OfCall number act) = act_fault w number act (open_call w number)
 state_fault (Some w) (Foreign key value) = None
 state_fault (Some w) Audit = None

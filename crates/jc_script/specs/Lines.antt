@@ -7,13 +7,14 @@
 --     act_named                     the kind of line of a call, that a first word names
 --     line_named                    the kind of line that a first word names
 --     flags_of                      what of read-through and write-through is on
---     takes_words                   so many words stand after an operation's name
+--     takes_words                   so many words stand after an operation's name; after `invokeall` any number of them but none
 --     bare_op, valued_op            the operation of a name with no value, and of a name with one
 --     bare_of, valued_of, replace_if_of      an operation with its key and no value, with one value, with an old and a new one
 --     value_alone_of                one value, and no word behind it
---     command_of                    an operation with its key and values
 --     open_of, set_of, begin_of     what the words after `open`, `set` and `begin` ask for
---     begin_with                    the begin of a call with a command
+--     begin_with                    the begin of a call with an operation
+--     invoke_all_with               the begin of a call of `invokeAll` on some keys
+--     command_of                    the begin of a call, by what stands after the session
 --     number_alone                  one number, and no word behind it
 --     lone_act, lone_of             the act of a line with a call's number alone, and what its words ask for
 --     coded_act, coded_of           the act of a line with a call's number and a code, and what its words ask for
@@ -26,7 +27,8 @@
 --     is_comment                    a line that asks for nothing: an empty one, and one that begins with #
 --     some_line                     a line that asks for something, or its fault
 --     read_line                     what the bytes of a line ask for: nothing, for a comment
---     is_callable                   what a line begins is a call of one of the 32 sessions, and its operation is a call by itself
+--     is_callable                   what a line begins is a call of one of the 32 sessions, and its operation is a call by itself, if
+--                                   it has but one
 use Rattle.std.specs.Prelude.{◌≡◌, ◌==◌, ℕ, List, [], ◌∷◌, length, Bool, true, false, ◌&&◌, not, nat_lt, nat_le, Option, Some, None, Result, Ok, Err, if◌then◌else◌, codes}
 use Rattle.std.specs.Str.{bytes_eq}
 use Rattle.std.specs.List.{list_all}
@@ -40,7 +42,7 @@ use Rattle.jc_script.specs.declared.fault.Fault.TheVariants.{LineTooLong, BadByt
 use Rattle.jc_script.specs.declared.fault.ReadError.{ReadError}
 use Rattle.jc_script.specs.declared.fault.ReadError.TheVariants as errors
 use Rattle.jc_script.specs.declared.line.Line.{Line}
-use Rattle.jc_script.specs.declared.line.Line.TheVariants.{Open, Set, Begin, OfCall, Foreign, Audit}
+use Rattle.jc_script.specs.declared.line.Line.TheVariants.{Open, Set, Begin, InvokeAll, OfCall, Foreign, Audit}
 use Rattle.jc_script.specs.declared.line.Act.{Act}
 use Rattle.jc_script.specs.declared.line.Act.TheVariants.{Read, ReadFail, Say, Apply, ApplyFail, ApplyLie, End, Drop, More, Take, Process}
 use Rattle.jc_script.specs.declared.commands.Bare.{Bare}
@@ -55,7 +57,7 @@ use Rattle.jc_script.specs.declared.grammar.Coded.{Coded}
 use Rattle.jc_script.specs.declared.grammar.Coded.TheVariants as coded
 use Rattle.jc_script.specs.declared.grammar.LineKind.{LineKind}
 use Rattle.jc_script.specs.declared.grammar.LineKind.TheVariants as line
-use Rattle.jc_script.specs.Words.{◌>>=◌, words_of, number_of, caller_of, key_of, value_of, value_or_none_of, pairs_of}
+use Rattle.jc_script.specs.Words.{◌>>=◌, words_of, number_of, caller_of, key_of, value_of, value_or_none_of, pairs_of, keys_of}
 use Rattle.jc_script.specs.ProcessWords.{without_load, has_process_shape, source_of, calls_of}
 
 abbrev pub Gives : {X : Type 0} → Result X ReadError → Result X Fault → Type 0
@@ -90,6 +92,7 @@ form_named word =
     if bytes_eq word (codes "replaceif") then Ok form.ReplaceIf else
     if bytes_eq word (codes "getreplace") then Ok (form.Valued valued.GetReplace) else
     if bytes_eq word (codes "invoke") then Ok (form.Bare bare.Invoke) else
+    if bytes_eq word (codes "invokeall") then Ok form.InvokeAll else
     Err BadLine
 
 -- of a call that was begun
@@ -133,6 +136,7 @@ abbrev pub takes_words : Form → ℕ → Bool
 takes_words (form.Bare b) count = count == 1
 takes_words (form.Valued v) count = count == 2
 takes_words form.ReplaceIf count = count == 3
+takes_words form.InvokeAll count = nat_lt 0 count
 
 abbrev pub bare_op : Bare → Op
 bare_op bare.Get = op.Get
@@ -179,11 +183,6 @@ replace_if_of (k ∷ v ∷ words) = do
 replace_if_of [] = Err BadLine
 replace_if_of (k ∷ []) = Err BadLine
 
-abbrev pub command_of : Form → List (List ℕ) → Result Operation Fault
-command_of (form.Bare b) words = bare_of b words
-command_of (form.Valued v) words = valued_of v words
-command_of form.ReplaceIf words = replace_if_of words
-
 -- 3. Lines, from the words after the first.
 
 unfoldable pub open_of : List (List ℕ) → Result Line Fault
@@ -210,13 +209,23 @@ set_of (k ∷ v ∷ x ∷ more) = Err BadLine
 abbrev pub begin_with : ℕ → ℕ → Result Operation Fault → Result Line Fault
 begin_with number session command = command >>= λ command. Ok (Begin number session command)
 
+-- or the fault of its keys
+abbrev pub invoke_all_with : ℕ → ℕ → Result (List Bytes) Fault → Result Line Fault
+invoke_all_with number session keys = keys >>= λ keys. Ok (InvokeAll number session keys)
+
+abbrev pub command_of : ℕ → ℕ → Form → List (List ℕ) → Result Line Fault
+command_of number session (form.Bare b) words = begin_with number session (bare_of b words)
+command_of number session (form.Valued v) words = begin_with number session (valued_of v words)
+command_of number session form.ReplaceIf words = begin_with number session (replace_if_of words)
+command_of number session form.InvokeAll words = invoke_all_with number session (keys_of words)
+
 unfoldable pub begin_of : List (List ℕ) → Result Line Fault
 begin_of (n ∷ who ∷ name ∷ words) = do
   form ← form_named name
   shaped ← (if takes_words form (length words) then Ok true else Err BadLine)
   number ← number_of n
   session ← caller_of who
-  begin_with number session (command_of form words)
+  command_of number session form words
 begin_of [] = Err BadLine
 begin_of (n ∷ []) = Err BadLine
 begin_of (n ∷ who ∷ []) = Err BadLine
@@ -328,4 +337,5 @@ read_line text =
 
 abbrev pub is_callable : Line → Bool
 is_callable (Begin number session command) = is_single command.op && is_session session
+is_callable (InvokeAll number session keys) = is_session session
 is_callable other = true

@@ -16,6 +16,8 @@
 --     process_line                   that the processor is asked, on this entry
 --     joined_line, waits_line, again_line      that a call has joined, that its load isn't over, that it is to begin again
 --     dropped_line, refused_line, put_off_line     that a call has left; that it was refused; that a key is to be tried again
+--     refused_whole_line             that a call was refused whole
+--     over_line                      that a call of many keys is over
 --     fails_line, fails_text         a failure's code; the same, if there is one
 --     answer_line, answer_text       a value or none that a loader read or said; any answer of a loader
 --     done_name, change_name         the word for a change that was made; the same, or that for one that wasn't
@@ -26,6 +28,8 @@
 --     ready_line, due_text           that a processor has ended and no writer is asked; the same, or what the writer is asked for
 --     processed_text, process_text   a processor's run; what is printed of it, from what the world showed
 --     shown_text                     what is printed of what the world showed, for a call and a key
+--     begun_text                     what is printed of the beginning of a call: nothing, unless it is refused whole
+--     about_text                     what is printed of what the world showed, for a call and the key that the line is about
 --     foreign_line                   a write or a delete of somebody else
 --     told                           what is printed of an event, from what the world showed of it
 --     texts                          the same of events one after another
@@ -175,6 +179,12 @@ dropped_line call = decimal call ++ codes " dropped\n"
 unfoldable pub refused_line : ℕ → Bytes → Refusal → List ℕ
 refused_line call key refusal = subject call key ++ codes " refused " ++ refusal_name refusal ++ codes "\n"
 
+unfoldable pub refused_whole_line : ℕ → Refusal → List ℕ
+refused_whole_line call refusal = decimal call ++ codes " refused " ++ refusal_name refusal ++ codes "\n"
+
+unfoldable pub over_line : ℕ → List ℕ
+over_line call = decimal call ++ codes " over ok\n"
+
 unfoldable pub put_off_line : ℕ → Bytes → List ℕ
 put_off_line call key = subject call key ++ codes " put off\n"
 
@@ -274,22 +284,31 @@ process_text call key source seen = shown_text call key seen
 unfoldable pub foreign_line : Bytes → Option Bytes → List ℕ
 foreign_line key value = codes "foreign " ++ key ++ codes " " ++ value_or_none_text value ++ codes "\n"
 
+-- a call that is refused whole
+abbrev pub begun_text : ℕ → Shown → List ℕ
+begun_text call (shown.Refused refusal) = refused_whole_line call refusal
+begun_text call seen = []
+
+abbrev pub about_text : ℕ → Option Bytes → Shown → List ℕ
+about_text call None seen = []
+about_text call (Some key) seen = shown_text call key seen
+
 -- of one event; a report and a call's leaving speak of the key that their line is about
-abbrev pub told : Bytes → WorldEvent → Shown → List ℕ
-told about (event.Call call session command) seen = []
+abbrev pub told : Option Bytes → WorldEvent → Shown → List ℕ
+told about (event.Call call session command) seen = begun_text call seen
 told about (event.Start call key) seen = shown_text call key seen
 told about (event.Read call key) seen = shown_text call key seen
 told about (event.Say call key answer) seen = shown_text call key seen
 told about (event.Change call key) seen = shown_text call key seen
-told about (event.Report call fault) seen = shown_text call about seen
+told about (event.Report call fault) seen = about_text call about seen
 told about (event.Process call key source calls fail) seen = process_text call key source seen
 told about (event.Commit call key) seen = shown_text call key seen
 told about (event.Withdraw call key) seen = shown_text call key seen
-told about (event.Leave call) seen = shown_text call about seen
+told about (event.Leave call) seen = about_text call about seen
 told about (event.PickUp call key) seen = shown_text call key seen
 told about (event.Foreign key value) seen = foreign_line key value
 
-abbrev pub texts : Bytes → List WorldEvent → List Shown → List ℕ
+abbrev pub texts : Option Bytes → List WorldEvent → List Shown → List ℕ
 texts about [] seen = []
 texts about (e ∷ events) [] = []
 texts about (e ∷ events) (s ∷ seen) = told about e s ++ texts about events seen

@@ -13,19 +13,21 @@
 --     spelling                   the line itself: its words, separated by single spaces
 --     IsSource, IsEntryCall, IsCode     how a processor's loader answers; a call of a processor, and its value; a code, or none
 --     IsOperation, IsAct         an operation that has a name, and its values; an act, and its code or its pairs
+--     AreKeys                    the keys of a call of many keys: at least one, and none twice
 --     SaysWords                  what a line asks for consists of what words can say
 --     IsSpellable                that, and the line isn't too long
 --     LinesReadBack              what a script can say is read from its spelling
 --     LinesAreSpelled            what is read from a line is something that a script can say, and the line is its spelling
-use Rattle.std.specs.Prelude.{◌≡◌, ◌⊎◌, ◌≤◌, ℕ, List, [], ◌∷◌, ◌++◌, map, length, codes, Bool, true, false, Option, None, Some, Ok, decimal}
-use Rattle.std.specs.List.{All, join_with_byte}
+use Rattle.std.specs.Prelude.{◌≡◌, ◌==◌, ◌⊎◌, ◌<◌, ◌≤◌, ℕ, List, [], ◌∷◌, ◌++◌, map, length, codes, Bool, true, false, Option, None, Some, Ok, decimal}
+use Rattle.std.specs.List.{All, IsDistinct, join_with_byte}
+use Rattle.std.specs.Cmp.Lexicographic.{pointwise}
 use Rattle.jc_types.specs.declared.limits.TheConstants.{SESSIONS_MAX, KEY_MAX}
 use Rattle.jc_types.specs.declared.limits.TheConstants.{SESSIONS_MAX, VALUE_MAX}
 use Rattle.jc_model.specs.Cache.{Bytes}
 use Rattle.jc_model.specs.declared.event.Op.{Op}
 use Rattle.jc_model.specs.declared.event.Op.TheVariants as op
 use Rattle.jc_script.specs.declared.line.Line.{Line}
-use Rattle.jc_script.specs.declared.line.Line.TheVariants.{Open, Set, Begin, OfCall, Foreign, Audit}
+use Rattle.jc_script.specs.declared.line.Line.TheVariants.{Open, Set, Begin, InvokeAll, OfCall, Foreign, Audit}
 use Rattle.jc_script.specs.declared.line.Act.{Act}
 use Rattle.jc_script.specs.declared.line.Act.TheVariants.{Read, ReadFail, Say, Apply, ApplyFail, ApplyLie, End, Drop, More, Take, Process}
 use Rattle.jc_model.specs.declared.processor.EntryCall.{EntryCall}
@@ -121,6 +123,7 @@ line_words (Open config) =
     codes "open" ∷ decimal config.stripes ∷ decimal config.capacity ∷ decimal config.history ∷ flag_words config.read_through config.write_through
 line_words (Set key value) = codes "set" ∷ key ∷ value_text value ∷ []
 line_words (Begin call session command) = codes "begin" ∷ decimal call ∷ session_text session ∷ operation_words command.op command.key
+line_words (InvokeAll call session keys) = codes "begin" ∷ decimal call ∷ session_text session ∷ codes "invokeall" ∷ keys
 line_words (OfCall call act) = act_words call act
 line_words (Foreign key value) = codes "foreign" ∷ key ∷ value_or_none_text value ∷ []
 line_words Audit = codes "audit" ∷ []
@@ -176,10 +179,15 @@ IsAct More = Unit {0}
 IsAct Take = Unit {0}
 IsAct (Process source calls fail) = IsSource source × All IsEntryCall calls × IsCode fail
 
+-- each of them once
+abbrev pub AreKeys : List Bytes → Type 0
+AreKeys keys = (0 < length keys) × All IsKey keys × IsDistinct (pointwise ◌==◌) keys
+
 abbrev pub SaysWords : Line → Type 0
 SaysWords (Open config) = IsNumber config.stripes × IsNumber config.capacity × IsNumber config.history
 SaysWords (Set key value) = IsKey key × IsValue value
 SaysWords (Begin call session command) = IsNumber call × IsSession session × IsOperation command.op × IsKey command.key
+SaysWords (InvokeAll call session keys) = IsNumber call × IsSession session × AreKeys keys
 SaysWords (OfCall call act) = IsNumber call × IsAct act
 SaysWords (Foreign key value) = IsKey key × IsValueOrNone value
 SaysWords Audit = Unit {0}

@@ -1,7 +1,9 @@
 -- The transcript of a script, as a relation, since the world may choose.
 --     State                    a world, once it was opened
 --     state_of                 the same, from what a `World` is to its callers
+--     over_text, end_text      that a call is over, if it is; the same, if the end of a call is told at all
 --     PlaysEvents              the world may take these events, each of them fits when it comes, and this is printed of them
+--     PlaysBegin, PlaysInvokeAll      the same of the events of a call's begin, by its command, and by the keys of `invokeAll`
 --     PlaysAct                 the same of the events of an act, if its call is under way
 --     Audited                  what is printed of an audit
 --     Plays                    a line with no fault: what it prints and leaves. ⊥ stands where no such line is played
@@ -16,7 +18,8 @@
 use Rattle.std.specs.Prelude.{◌≡◌, ◌==◌, ◌⊎◌, ℕ, ◌+◌, List, [], ◌∷◌, ◌++◌, Bool, true, IsTrue, Option, None, Some, Result, Ok, Err, codes}
 use Rattle.std.specs.List.{slice_split}
 use Rattle.jc_model.specs.Cache.{Bytes}
-use Rattle.jc_world.specs.Calls.{CallState, current_key}
+use Rattle.jc_world.specs.Calls.{CallState, current_key, kind_of, new_call}
+use Rattle.jc_world.specs.declared.command.Command.{Command}
 use Rattle.jc_world.specs.declared.event.Shown.{Shown}
 use Rattle.jc_world.specs.declared.event.WorldEvent.{WorldEvent}
 use Rattle.jc_world.specs.declared.event.WorldEvent.TheVariants as event
@@ -28,14 +31,14 @@ use Rattle.jc_world.specs.Coherent.{all_hold}
 use Rattle.jc_script.specs.declared.fault.Fault.{Fault}
 use Rattle.jc_script.specs.declared.fault.Fault.TheVariants.{CutLine}
 use Rattle.jc_script.specs.declared.line.Line.{Line}
-use Rattle.jc_script.specs.declared.line.Line.TheVariants.{Open, Set, Begin, OfCall, Foreign, Audit}
+use Rattle.jc_script.specs.declared.line.Line.TheVariants.{Open, Set, Begin, InvokeAll, OfCall, Foreign, Audit}
 use Rattle.jc_script.specs.declared.line.Act.{Act}
 use Rattle.jc_script.specs.declared.run.RunEnd.{RunEnd}
 use Rattle.jc_script.specs.declared.run.RunEnd.TheVariants.{Clean, LineFault}
 use Rattle.jc_script.specs.Lines.{read_line}
 use Rattle.jc_script.specs.Faults.{state_fault}
-use Rattle.jc_script.specs.LineEvents.{begin_events, events_of}
-use Rattle.jc_script.specs.Printing.{texts, audit_text, fault_line}
+use Rattle.jc_script.specs.LineEvents.{single, IsInvokeAll, first_key, begin_events, events_of, begin_end, act_end}
+use Rattle.jc_script.specs.Printing.{texts, over_line, audit_text, fault_line}
 
 -- a world, once it was opened
 abbrev pub State : Type 0
@@ -47,24 +50,44 @@ state_of (Some played) = Some played.world
 
 -- 1. What a line prints, and what it leaves.
 
--- of a line that is about the key
-pub record PlaysEvents (w : WorldState) (key : Bytes) (events : List WorldEvent) (text : List ℕ) (new : State) : Type 0 where
+-- a call that isn't under way any more
+abbrev pub over_text : ℕ → Option CallState → List ℕ
+over_text call None = over_line call
+over_text call (Some u) = []
+
+abbrev pub end_text : Option ℕ → WorldState → List ℕ
+end_text None after = []
+end_text (Some call) after = over_text call (open_call after call)
+
+-- of a line that is about the key, if it is about one, and may tell the end of a call
+pub record PlaysEvents (w : WorldState) (key : Option Bytes) (events : List WorldEvent) (end : Option ℕ) (text : List ℕ) (new : State) : Type 0 where
   pub seen : List Shown
   pub after : WorldState
   pub runs : Run w events seen after
   pub fit : all_fit seen ≡ true
-  pub text_is : text ≡ texts key events seen
+  pub text_is : text ≡ texts key events seen ++ end_text end after
   pub new_is : new ≡ Some after
 
--- the call's own key
-abbrev pub PlaysActAt : WorldState → ℕ → Act → Option Bytes → List ℕ → State → Type 0
-PlaysActAt w number act None text new = ⊥
-PlaysActAt w number act (Some key) text new = PlaysEvents w key (events_of number key (part_of w number key) act) text new
+-- the key that it starts is named in its events
+abbrev pub PlaysBegin : WorldState → ℕ → ℕ → Command → List ℕ → State → Type 0
+PlaysBegin w number session command text new =
+    PlaysEvents w None (begin_events number session command)
+    (begin_end number (kind_of command) (first_key (new_call number session command))) text new
+
+abbrev pub PlaysInvokeAll : WorldState → ℕ → ℕ → List Bytes → List ℕ → State → Type 0
+PlaysInvokeAll w number session keys text new =
+    (command : Command) × IsInvokeAll keys command × PlaysBegin w number session command text new
+
+-- the key at which the call works
+abbrev pub PlaysActAt : WorldState → ℕ → Act → CallState → Option Bytes → List ℕ → State → Type 0
+PlaysActAt w number act u None text new = ⊥
+PlaysActAt w number act u (Some key) text new =
+    PlaysEvents w (Some key) (events_of number key (part_of w number key) act) (act_end number u.kind act) text new
 
 abbrev pub PlaysAct : WorldState → ℕ → Act → Option CallState → List ℕ → State → Type 0
 PlaysAct w number act None text new = ⊥
 PlaysAct w number act (Some u) text new =
-    PlaysActAt w number act (current_key u) text new
+    PlaysActAt w number act u (current_key u) text new
 
 -- an audit always says legal, and never names a key while write-through is on and the premises have held
 pub record Audited (w : WorldState) (text : List ℕ) : Type 0 where
@@ -81,12 +104,14 @@ pub record Audited (w : WorldState) (text : List ℕ) : Type 0 where
 abbrev pub Plays : State → Line → List ℕ → State → Type 0
 Plays None (Open config) text new = (text ≡ codes "open\n") × (new ≡ Some (start config))
 Plays (Some w) (Set key value) text new = (text ≡ []) × (new ≡ Some (with_stored w key value))
-Plays (Some w) (Begin number session command) text new = PlaysEvents w command.key (begin_events number session command) text new
+Plays (Some w) (Begin number session operation) text new = PlaysBegin w number session (single operation) text new
+Plays (Some w) (InvokeAll number session keys) text new = PlaysInvokeAll w number session keys text new
 Plays (Some w) (OfCall number act) text new = PlaysAct w number act (open_call w number) text new
-Plays (Some w) (Foreign key value) text new = PlaysEvents w key (event.Foreign key value ∷ []) text new
+Plays (Some w) (Foreign key value) text new = PlaysEvents w None (event.Foreign key value ∷ []) None text new
 Plays (Some w) Audit text new = Audited w text × (new ≡ Some w)
 Plays None (Set key value) text new = ⊥
 Plays None (Begin number session command) text new = ⊥
+Plays None (InvokeAll number session keys) text new = ⊥
 Plays None (OfCall number act) text new = ⊥
 Plays None (Foreign key value) text new = ⊥
 Plays None Audit text new = ⊥

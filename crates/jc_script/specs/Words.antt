@@ -16,6 +16,9 @@
 --     key_part, value_part     what stands before that sign, and the value behind it
 --     pair_onto                the pairs so far, with one more: the key is judged before the value
 --     pairs_from, pairs_of     the pairs so far with those of more words, and the pairs of some words
+--     with_key, key_onto       the keys so far, with one more, and with that of one more word: one that is among them already is a
+--                              fault
+--     keys_from, keys_of       the keys so far with those of more words, and the keys of some words
 --     said_after, said         what pairs say of a key, after an answer so far, and from the beginning: the last pair with it
 --                              counts
 use Rattle.std.specs.Prelude.{◌==◌, ℕ, ◌+◌, ◌-◌, ◌*◌, List, [], ◌∷◌, ◌++◌, length, take, drop, Option, Some, None, Bool, ◌&&◌, ◌||◌, nat_lt, nat_le, Result, Ok, Err, if◌then◌else◌, codes}
@@ -26,10 +29,11 @@ use Rattle.std.specs.Cmp.Lexicographic.{pointwise}
 use Rattle.jc_types.specs.declared.limits.TheConstants.{SESSIONS_MAX, KEY_MAX}
 use Rattle.jc_types.specs.declared.limits.TheConstants.{SESSIONS_MAX, VALUE_MAX}
 use Rattle.jc_model.specs.Cache.{Bytes}
+use Rattle.jc_model.specs.Batches.{is_among}
 use Rattle.jc_model.specs.declared.event.LoadAnswer.{LoadAnswer}
 use Rattle.jc_model.specs.declared.event.LoadAnswer.TheVariants.{Found, Nothing}
 use Rattle.jc_script.specs.declared.fault.Fault.{Fault}
-use Rattle.jc_script.specs.declared.fault.Fault.TheVariants.{BadNumber, BadCaller, BadKey, BadValue}
+use Rattle.jc_script.specs.declared.fault.Fault.TheVariants.{BadNumber, BadCaller, BadKey, BadValue, RepeatedKey}
 
 -- what a step that may fail goes on with
 infixl 10 ◌>>=◌
@@ -111,6 +115,22 @@ pairs_from pairs (word ∷ words) = pair_onto pairs word >>= λ more. pairs_from
 
 abbrev pub pairs_of : List (List ℕ) → Result Pairs Fault
 pairs_of words = pairs_from [] words
+
+-- a key that is there already is not taken again
+abbrev pub with_key : List Bytes → Bytes → Result (List Bytes) Fault
+with_key keys key = if is_among keys key then Err RepeatedKey else Ok (keys ++ key ∷ [])
+
+unfoldable pub key_onto : List Bytes → List ℕ → Result (List Bytes) Fault
+key_onto keys word = do
+  key ← key_of word
+  with_key keys key
+
+abbrev pub keys_from : List Bytes → List (List ℕ) → Result (List Bytes) Fault
+keys_from keys [] = Ok keys
+keys_from keys (word ∷ words) = key_onto keys word >>= λ more. keys_from more words
+
+abbrev pub keys_of : List (List ℕ) → Result (List Bytes) Fault
+keys_of words = keys_from [] words
 
 -- a later pair with the key takes the place of an answer so far
 abbrev pub said_after : LoadAnswer → Pairs → Bytes → LoadAnswer

@@ -1,13 +1,15 @@
 //! Operations as words: their names, and what stands after a name.
 ghost use Rattle.std.specs.Prelude.{◌≡◌, map, length};
-ghost use Rattle.jc_script.specs.Lines.{with_value, form_named, takes_words, bare_op, valued_op, bare_of, valued_of};
-ghost use Rattle.jc_script.specs.Lines.{value_alone_of, replace_if_of, command_of, begin_with};
+ghost use Rattle.jc_script.specs.Lines.{Gives, with_value, form_named, takes_words, bare_op, valued_op, bare_of, valued_of};
+ghost use Rattle.jc_script.specs.Lines.{value_alone_of, replace_if_of, command_of, begin_with, invoke_all_with};
+ghost use Rattle.jc_script.specs.Words.{keys_of};
 
-use crate::fault::Fault;
+use crate::fault::{Fault, ReadError};
 use crate::line::{Line, Operation};
-use crate::words::{is, key, value};
+use crate::words::{is, key, keys, value};
 use jc_model::Op;
 use jc_types::Value;
+use std::alloc::Global;
 
 /// An operation with no value.
 #[derive(Clone, Copy)]
@@ -30,13 +32,15 @@ pub enum Valued {
     GetReplace,
 }
 
-/// What stands after an operation's name: its key, and as many values.
+/// What stands after an operation's name: its key, and as many values; or keys.
 #[derive(Clone, Copy)]
 pub enum Form {
     Bare(Bare),
     Valued(Valued),
     /// The old value and the new one.
     ReplaceIf,
+    /// `invokeAll`: one key or more, and no value.
+    InvokeAll,
 }
 
 /// The operation that a word names.
@@ -79,10 +83,13 @@ pub fn read_form(word: &[u8]) -> Result<Form, Fault>
     if is(word, "invoke") {
         return Ok(Form::Bare(Bare::Invoke));
     }
+    if is(word, "invokeall") {
+        return Ok(Form::InvokeAll);
+    }
     Err(Fault::BadLine)
 }
 
-/// Whether so many words stand after an operation's name: its key, and the values that it takes.
+/// Whether so many words stand after an operation's name: its key, and the values that it takes; or keys.
 pub fn has_shape(form: Form, count: usize) -> bool
     ensures { result ≡ takes_words form count }
 {
@@ -90,6 +97,7 @@ pub fn has_shape(form: Form, count: usize) -> bool
         Form::Bare(_) => count == 1,
         Form::Valued(_) => count == 2,
         Form::ReplaceIf => count == 3,
+        Form::InvokeAll => 0 < count,
     }
 }
 
@@ -187,20 +195,36 @@ fn begin_replace_if(call: u32, session: u32, words: &[&[u8]], line: &mut Line) -
     }
 }
 
-/// The begin of a call, with the operation of a form and with the key and the values that the words after its name say. It is left
-/// in `line`.
+#[inline(never)]
+fn begin_invoke_all(
+    alloc: Global,
+    call: u32,
+    session: u32,
+    words: &[&[u8]],
+    line: &mut Line,
+) -> Result<(), ReadError>
+    ensures { Gives (with_value line.new result) (invoke_all_with call session (keys_of (map (λ w. w.now) words.now))) }
+{
+    let keys = keys(alloc, words)?;
+    *line = Line::InvokeAll(call, session, keys);
+    Ok(())
+}
+
+/// The begin of a call, with what a form and the words after its name say. It is left in `line`.
 pub fn begin_command(
+    alloc: Global,
     call: u32,
     session: u32,
     form: Form,
     words: &[&[u8]],
     line: &mut Line,
-) -> Result<(), Fault>
-    ensures { with_value line.new result ≡ begin_with call session (command_of form (map (λ w. w.now) words.now)) }
+) -> Result<(), ReadError>
+    ensures { Gives (with_value line.new result) (command_of call session form (map (λ w. w.now) words.now)) }
 {
     match form {
-        Form::Bare(bare) => begin_bare(call, session, bare, words, line),
-        Form::Valued(valued) => begin_valued(call, session, valued, words, line),
-        Form::ReplaceIf => begin_replace_if(call, session, words, line),
+        Form::Bare(bare) => Ok(begin_bare(call, session, bare, words, line)?),
+        Form::Valued(valued) => Ok(begin_valued(call, session, valued, words, line)?),
+        Form::ReplaceIf => Ok(begin_replace_if(call, session, words, line)?),
+        Form::InvokeAll => begin_invoke_all(alloc, call, session, words, line),
     }
 }

@@ -21,6 +21,8 @@ pub enum Fault {
     BadCaller,
     BadKey,
     BadValue,
+    /// The line names a key twice where each is to stand once.
+    RepeatedKey,
     /// No world was opened yet.
     NotOpen,
     /// A world was opened already.
@@ -52,6 +54,7 @@ pub fn text(fault: Fault) -> &'static str
         Fault::BadCaller => "bad caller",
         Fault::BadKey => "bad key",
         Fault::BadValue => "bad value",
+        Fault::RepeatedKey => "repeated key",
         Fault::NotOpen => "not open",
         Fault::OpenTwice => "open twice",
         Fault::BadConfig(Field::Stripes) => "bad config stripes",

@@ -170,20 +170,20 @@ fn set(words: &[&[u8]], line: &mut Line) -> Result<(), Fault>
 }
 
 #[tactic(auto, unfolding(crate::specs::Lines::begin_of))]
-fn begin(words: &[&[u8]], line: &mut Line) -> Result<(), Fault>
-    ensures { with_value line.new result ≡ begin_of (map (λ w. w.now) words.now) }
+fn begin(alloc: Global, words: &[&[u8]], line: &mut Line) -> Result<(), ReadError>
+    ensures { Gives (with_value line.new result) (begin_of (map (λ w. w.now) words.now)) }
 {
     match words {
         [n, who, name, rest @ ..] => {
             let form = read_form(name)?;
             if !has_shape(form, rest.len()) {
-                return Err(Fault::BadLine);
+                return Err(ReadError::Fault(Fault::BadLine));
             }
             let call = number(n)?;
             let session = caller(who)?;
-            begin_command(call, session, form, rest, line)
+            begin_command(alloc, call, session, form, rest, line)
         }
-        _ => Err(Fault::BadLine),
+        _ => Err(ReadError::Fault(Fault::BadLine)),
     }
 }
 
@@ -321,7 +321,7 @@ fn line_after(
     match kind {
         LineKind::Open => Ok(open(words, line)?),
         LineKind::Set => Ok(set(words, line)?),
-        LineKind::Begin => Ok(begin(words, line)?),
+        LineKind::Begin => begin(alloc, words, line),
         LineKind::Lone(lone) => Ok(lone_line(lone, words, line)?),
         LineKind::Coded(coded) => Ok(coded_line(coded, words, line)?),
         LineKind::Say => say(alloc, words, line),

@@ -7,6 +7,7 @@ mod commands;
 mod fault;
 mod grammar;
 mod input;
+mod keys;
 pub mod laws;
 mod line;
 pub mod noted;

@@ -1,4 +1,5 @@
 //! What the lines of a script ask for.
+use crate::keys::Keys;
 use crate::pairs::Pairs;
 use jc_model::Op;
 use jc_types::{Config, Key, Value};
@@ -56,6 +57,8 @@ pub enum Line {
     Set(Key, Value),
     /// A call with this number, by this session.
     Begin(u32, u32, Operation),
+    /// A call of `invokeAll` with this number, by this session, on these keys.
+    InvokeAll(u32, u32, Keys),
     /// What happens next to the call with this number.
     OfCall(u32, Act),
     /// Somebody else writes the store, or deletes in it.

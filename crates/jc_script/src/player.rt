@@ -2,24 +2,27 @@
 ghost use Rattle.std.specs.Prelude.{◌≡◌, ◌++◌, ◌∷◌, List, ℕ, [], Some, None, true, OnOk, IfOk, MatchOption};
 ghost use Rattle.jc_types.specs.Limits.{check};
 ghost use Rattle.jc_world.specs.declared.event.WorldEvent.TheVariants as event;
-ghost use Rattle.jc_world.specs.Calls.{CallState, current_key};
+ghost use Rattle.jc_world.specs.Calls.{CallState, current_key, new_call};
 ghost use Rattle.jc_world.specs.World.{start, open_call};
-ghost use Rattle.jc_world.specs.Events.{fits, AllFit};
+ghost use Rattle.jc_world.specs.Events.{fits, is_session, AllFit};
 ghost use Rattle.jc_script.specs.declared.line.Line.TheVariants as lines;
 ghost use Rattle.jc_script.specs.Lines.{is_callable};
 ghost use Rattle.jc_script.specs.Faults.{config_fault, begin_fault};
-ghost use Rattle.jc_script.specs.LineEvents.{single, begin_events, drop_events, events_of, first_fits};
-ghost use Rattle.jc_script.specs.Transcript.{state_of, PlaysEvents, Audited, PlaysLine, Prints, fault_of};
+ghost use Rattle.jc_script.specs.LineEvents.{single, first_key, first_of_each, call_events, drop_events, events_of, first_fits};
+ghost use Rattle.jc_script.specs.LineEvents.{has_end, begin_end, is_drop, act_end};
+ghost use Rattle.jc_script.specs.Transcript.{state_of, end_text, PlaysEvents, PlaysBegin, PlaysInvokeAll, Audited, PlaysLine, Prints, fault_of};
 
 use crate::fault::{Fault, ReadError};
 use crate::grammar::read;
+use crate::keys::Keys;
 use crate::line::{Act, Line, Operation};
 use crate::print_audit::put_audit;
+use crate::print_lines::put_over;
 use crate::print_shown::put_texts;
 use crate::printing::put;
 use jc_model::{EntryCall, LoadAnswer, Op};
-use jc_types::{Config, Key, Refusal, Value};
-use jc_world::command::Command;
+use jc_types::{BULK_KEYS_MAX, Config, Key, Refusal, Value};
+use jc_world::command::{CallKind, Command};
 use jc_world::event::{Part, Shown, WorldEvent};
 use jc_world::process::{EntryCalls, LoadSource};
 use jc_world::world::World;
@@ -132,7 +135,14 @@ fn play_line_on(
             if let Some(fault) = fault_of_begin(world, *number, *session) {
                 return Ok(Some(fault));
             }
-            begin(world, *number, *session, operation, buffers, out)?;
+            begin_one(world, *number, *session, operation, buffers, out)?;
+            Ok(None)
+        }
+        Line::InvokeAll(number, session, keys) => {
+            if let Some(fault) = fault_of_begin(world, *number, *session) {
+                return Ok(Some(fault));
+            }
+            begin_invoke_all(world, *number, *session, keys, buffers, out)?;
             Ok(None)
         }
         Line::OfCall(number, act) => act_on(alloc, world, *number, act, buffers, out),
@@ -202,7 +212,7 @@ fn fault_of_begin(world: &World, number: u32, session: u32) -> Option<Fault>
     None
 }
 
-fn begin(
+fn begin_one(
     world: &mut World,
     number: u32,
     session: u32,
@@ -211,11 +221,66 @@ fn begin(
     out: &mut Vec<u8>,
 ) -> Result<(), AllocError>
     requires { fits world.old.world (event.Call number session (single operation.now)) ≡ true }
-    ensures { OnOk result ((text : List ℕ) × PlaysEvents world.old.world operation.now.key (begin_events number session operation.now) text (Some world.new.world) × (out.new.items ≡ out.old.items ++ text)) }
+    ensures { OnOk result ((text : List ℕ)
+        × PlaysBegin world.old.world number session (single operation.now) text (Some world.new.world)
+        × (out.new.items ≡ out.old.items ++ text)) }
 {
-    put_begun(&mut buffers.events, number as u64, session, operation)?;
+    let Operation { op, key } = *operation;
+    let command = Command::Single { op, key };
+    begin(world, number, session, command, Some(key), buffers, out)
+}
+
+/// The key that a call of `invokeAll` starts as it begins.
+fn first_of_each(keys: &Keys) -> Option<Key>
+    ensures { result ≡ first_of_each keys.now }
+{
+    if keys.len() > BULK_KEYS_MAX {
+        return None;
+    }
+    keys.first()
+}
+
+fn begin_invoke_all(
+    world: &mut World,
+    number: u32,
+    session: u32,
+    keys: &Keys,
+    buffers: &mut LineBuffers,
+    out: &mut Vec<u8>,
+) -> Result<(), AllocError>
+    requires known { is_session session ≡ true }
+    requires fits { begin_fault world.old.world number session ≡ None }
+    ensures { OnOk result ((text : List ℕ)
+        × PlaysInvokeAll world.old.world number session keys.now text (Some world.new.world)
+        × (out.new.items ≡ out.old.items ++ text)) }
+{
+    let command = Command::InvokeAll { keys: keys.copy()? };
+    let first = first_of_each(keys);
+    begin(world, number, session, command, first, buffers, out)
+}
+
+/// A call begins, and starts its first key, if it isn't refused whole.
+fn begin(
+    world: &mut World,
+    number: u32,
+    session: u32,
+    command: Command,
+    first: Option<Key>,
+    buffers: &mut LineBuffers,
+    out: &mut Vec<u8>,
+) -> Result<(), AllocError>
+    requires fits { fits world.old.world (event.Call number session command) ≡ true }
+    requires first { first ≡ first_key (new_call number session command) }
+    ensures { OnOk result ((text : List ℕ)
+        × PlaysBegin world.old.world number session command text (Some world.new.world)
+        × (out.new.items ≡ out.old.items ++ text)) }
+{
+    let call = number as u64;
+    let end = begin_end(call, command.kind(), &first);
+    put_begun(&mut buffers.events, call, session, command, first)?;
     world.lets_calls_start();
-    buffers.play(world, &operation.key, out)?;
+    world.lets_calls_continue();
+    buffers.play(world, &None, end, out)?;
     Ok(())
 }
 
@@ -223,32 +288,97 @@ fn put_begun(
     events: &mut Vec<WorldEvent>,
     call: u64,
     session: u32,
-    operation: &Operation,
+    command: Command,
+    first: Option<Key>,
 ) -> Result<(), AllocError>
-    ensures { OnOk result (events.new.items ≡ begin_events call session operation.now) }
+    ensures { OnOk result (events.new.items ≡ call_events call session command first) }
 {
     let _types: Option<(Op, Value, LoadAnswer)> = None;
-    let Operation { op, key } = *operation;
     events.clear();
     events.try_reserve(2)?;
     events.push_reserved(WorldEvent::Call {
         call,
         session,
-        command: Command::Single { op, key },
+        command,
     });
-    events.push_reserved(WorldEvent::Start { call, key });
+    if let Some(key) = first {
+        events.push_reserved(WorldEvent::Start { call, key });
+    }
     Ok(())
 }
 
+/// Whether `over` is printed of calls that take their keys so: of calls of many keys.
+fn has_end(kind: CallKind) -> bool
+    ensures { result ≡ has_end kind }
+{
+    match kind {
+        CallKind::Single => false,
+        CallKind::KeyByKey | CallKind::Batch => true,
+    }
+}
+
+/// The call that begins, if its end is printed: not if no key of it starts.
+fn begin_end(call: u64, kind: CallKind, first: &Option<Key>) -> Option<u64>
+    ensures { result ≡ begin_end call kind first.now }
+{
+    if has_end(kind) && first.is_some() {
+        Some(call)
+    } else {
+        None
+    }
+}
+
+/// The call of a line, if its end is printed: not if the line gives it up.
+fn act_end(call: u64, kind: CallKind, act: &Act) -> Option<u64>
+    ensures { result ≡ act_end call kind act.now }
+{
+    if has_end(kind) && !is_drop(act) {
+        Some(call)
+    } else {
+        None
+    }
+}
+
+fn is_drop(act: &Act) -> bool
+    ensures { result ≡ is_drop act.now }
+{
+    matches!(act, Act::Drop)
+}
+
+/// What the end of a call prints.
+fn put_end(world: &World, end: Option<u64>, out: &mut Vec<u8>) -> Result<(), AllocError>
+    ensures { OnOk result (out.new.items ≡ out.old.items ++ end_text end world.now.world) }
+{
+    match end {
+        None => Ok(()),
+        Some(call) => {
+            if world.open_call(call).is_some() {
+                return Ok(());
+            }
+            put_over(out, call)
+        }
+    }
+}
+
 impl LineBuffers {
-    /// Plays the events of a line that is about this key, and prints what the world shows of them.
-    fn play(&mut self, world: &mut World, about: &Key, out: &mut Vec<u8>) -> Result<(), AllocError>
+    /// Plays the events of a line, and prints what the world shows of them, and of the end of a call. The line is about a key, if
+    /// it is about a call under way.
+    fn play(
+        &mut self,
+        world: &mut World,
+        about: &Option<Key>,
+        end: Option<u64>,
+        out: &mut Vec<u8>,
+    ) -> Result<(), AllocError>
         requires { AllFit world.old.world self.old.events.items }
-        ensures { OnOk result ((text : List ℕ) × PlaysEvents world.old.world about.now self.old.events.items text (Some world.new.world) × (out.new.items ≡ out.old.items ++ text)) }
+        ensures { OnOk result ((text : List ℕ)
+            × PlaysEvents world.old.world about.now self.old.events.items end text (Some world.new.world)
+            × (out.new.items ≡ out.old.items ++ text)) }
     {
         self.shown.clear();
         world.play(&self.events, &mut self.shown)?;
         put_texts(out, about, &self.events, &self.shown)?;
+        put_end(world, end, out)?;
         Ok(())
     }
 }
@@ -277,10 +407,13 @@ fn act_on(
     let call = number as u64;
     match world.open_call(call) {
         None => Ok(Some(Fault::NoSuchCall)),
-        Some(open_call) => match open_call.current_key().copied() {
-            Some(key) => act_at(alloc, world, call, &key, act, buffers, out),
-            None => Ok(Some(Fault::NotNow)),
-        },
+        Some(open_call) => {
+            let end = act_end(call, open_call.kind(), act);
+            match open_call.current_key().copied() {
+                Some(key) => act_at(alloc, world, call, key, act, end, buffers, out),
+                None => Ok(Some(Fault::NotNow)),
+            }
+        }
     }
 }
 
@@ -289,21 +422,23 @@ fn act_at(
     alloc: Global,
     world: &mut World,
     call: u64,
-    key: &Key,
+    key: Key,
     act: &Act,
+    end: Option<u64>,
     buffers: &mut LineBuffers,
     out: &mut Vec<u8>,
 ) -> Result<Option<Fault>, AllocError>
-    requires { (u : CallState) × (open_call world.old.world call ≡ Some u) × (current_key u ≡ Some key.now) }
+    requires { (u : CallState) × (open_call world.old.world call ≡ Some u) × (current_key u ≡ Some key)
+        × (end ≡ act_end call u.kind act.now) }
     ensures { IfOk result (λ r. PlaysLine (Some world.old.world) (lines.OfCall call act.now) r out.old.items out.new.items (Some world.new.world)) }
 {
-    let part = world.part(call, key);
-    put_events(alloc, &mut buffers.events, call, key, &part, act)?;
+    let part = world.part(call, &key);
+    put_events(alloc, &mut buffers.events, call, &key, &part, act)?;
     if !first_fits(world, &buffers.events) {
         return Ok(Some(Fault::NotNow));
     }
     world.lets_calls_continue();
-    buffers.play(world, key, out)?;
+    buffers.play(world, &Some(key), end, out)?;
     Ok(None)
 }
 
@@ -402,7 +537,9 @@ fn foreign(
     buffers: &mut LineBuffers,
     out: &mut Vec<u8>,
 ) -> Result<(), AllocError>
-    ensures { OnOk result ((text : List ℕ) × PlaysEvents world.old.world key.now (event.Foreign key.now value.now ∷ []) text (Some world.new.world) × (out.new.items ≡ out.old.items ++ text)) }
+    ensures { OnOk result ((text : List ℕ)
+        × PlaysEvents world.old.world None (event.Foreign key.now value.now ∷ []) None text (Some world.new.world)
+        × (out.new.items ≡ out.old.items ++ text)) }
 {
     let _types: Option<(Command, Op, LoadAnswer)> = None;
     buffers.events.clear();
@@ -410,7 +547,7 @@ fn foreign(
         key: *key,
         value: *value,
     })?;
-    buffers.play(world, key, out)?;
+    buffers.play(world, &None, None, out)?;
     Ok(())
 }
 

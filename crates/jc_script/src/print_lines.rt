@@ -1,10 +1,11 @@
 //! Lines that several kinds of events print.
 ghost use Rattle.std.specs.Prelude.{◌≡◌, ◌++◌, OnOk};
 ghost use Rattle.jc_script.specs.Printing.{subject, write_line, delete_line, asks_text, fails_line, answer_line, fails_text};
+ghost use Rattle.jc_script.specs.Printing.{refused_whole_line, over_line};
 
 use crate::printing::{put, put_key, put_number, put_value, put_value_or_none};
 use jc_model::Change;
-use jc_types::{Key, Value};
+use jc_types::{Key, Refusal, Value};
 use std::alloc::AllocError;
 
 /// The number of the call, and the key.
@@ -83,4 +84,24 @@ pub fn put_answer_line(
     put(out, verb)?;
     put_value_or_none(out, value)?;
     put(out, "\n")
+}
+
+/// A call was refused whole.
+#[tactic(auto, unfolding(crate::specs::Printing::refused_whole_line))]
+pub fn put_refused_whole(out: &mut Vec<u8>, call: u64, refusal: &Refusal) -> Result<(), AllocError>
+    ensures { OnOk result (out.new.items ≡ out.old.items ++ refused_whole_line call refusal.now) }
+{
+    put_number(out, call)?;
+    put(out, " refused ")?;
+    put(out, refusal.name())?;
+    put(out, "\n")
+}
+
+/// A call of many keys is over.
+#[tactic(auto, unfolding(crate::specs::Printing::over_line))]
+pub fn put_over(out: &mut Vec<u8>, call: u64) -> Result<(), AllocError>
+    ensures { OnOk result (out.new.items ≡ out.old.items ++ over_line call) }
+{
+    put_number(out, call)?;
+    put(out, " over ok\n")
 }

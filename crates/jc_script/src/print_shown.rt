@@ -3,9 +3,11 @@ ghost use Rattle.std.specs.Prelude.{◌≡◌, ◌++◌, OnOk};
 ghost use Rattle.jc_script.specs.Printing.{process_text, cause_name, evict_line, victim_text, evicted_text, outcome_text};
 ghost use Rattle.jc_script.specs.Printing.{stepped_text, picked_line, loads_line, joined_line, waits_line, again_line};
 ghost use Rattle.jc_script.specs.Printing.{dropped_line, refused_line, put_off_line, answer_text, done_name, change_name, reported_text};
-ghost use Rattle.jc_script.specs.Printing.{shown_text, foreign_line, told, texts};
+ghost use Rattle.jc_script.specs.Printing.{shown_text, begun_text, about_text, foreign_line, told, texts};
 
-use crate::print_lines::{put_answer_line, put_asks, put_fails, put_fault_code, put_subject};
+use crate::print_lines::{
+    put_answer_line, put_asks, put_fails, put_fault_code, put_refused_whole, put_subject,
+};
 use crate::print_process::{put_process, put_processed, verb};
 use crate::printing::{put, put_key, put_number, put_place, put_reply, put_value_or_none};
 use jc_model::{Cause, Change, LoadAnswer, Reply};
@@ -261,21 +263,46 @@ fn put_foreign(out: &mut Vec<u8>, key: &Key, value: &Option<Value>) -> Result<()
     put(out, "\n")
 }
 
+/// What was shown of the beginning of a call.
+fn put_begun(out: &mut Vec<u8>, call: u64, seen: &Shown) -> Result<(), AllocError>
+    ensures { OnOk result (out.new.items ≡ out.old.items ++ begun_text call seen.now) }
+{
+    match seen {
+        Shown::Refused(refusal) => put_refused_whole(out, call, refusal),
+        _ => Ok(()),
+    }
+}
+
+/// What was shown of an event of a call, in a line that is about this key.
+fn put_about(
+    out: &mut Vec<u8>,
+    call: u64,
+    about: &Option<Key>,
+    seen: &Shown,
+) -> Result<(), AllocError>
+    ensures { OnOk result (out.new.items ≡ out.old.items ++ about_text call about.now seen.now) }
+{
+    match about {
+        None => Ok(()),
+        Some(key) => put_shown(out, call, key, seen),
+    }
+}
+
 fn put_told(
     out: &mut Vec<u8>,
-    about: &Key,
+    about: &Option<Key>,
     event: &WorldEvent,
     seen: &Shown,
 ) -> Result<(), AllocError>
     ensures { OnOk result (out.new.items ≡ out.old.items ++ told about.now event.now seen.now) }
 {
     match event {
-        WorldEvent::Call { .. } => Ok(()),
+        WorldEvent::Call { call, .. } => put_begun(out, *call, seen),
         WorldEvent::Start { call, key } => put_shown(out, *call, key, seen),
         WorldEvent::Read { call, key } => put_shown(out, *call, key, seen),
         WorldEvent::Say { call, key, .. } => put_shown(out, *call, key, seen),
         WorldEvent::Change { call, key } => put_shown(out, *call, key, seen),
-        WorldEvent::Report { call, .. } => put_shown(out, *call, about, seen),
+        WorldEvent::Report { call, .. } => put_about(out, *call, about, seen),
         WorldEvent::Process {
             call,
             key,
@@ -284,16 +311,16 @@ fn put_told(
         } => put_process_shown(out, *call, key, load, seen),
         WorldEvent::Commit { call, key } => put_shown(out, *call, key, seen),
         WorldEvent::Withdraw { call, key } => put_shown(out, *call, key, seen),
-        WorldEvent::Leave { call } => put_shown(out, *call, about, seen),
+        WorldEvent::Leave { call } => put_about(out, *call, about, seen),
         WorldEvent::PickUp { call, key } => put_shown(out, *call, key, seen),
         WorldEvent::Foreign { key, value } => put_foreign(out, key, value),
     }
 }
 
-/// What was shown of events, of a line that is about this key.
+/// What was shown of events, of a line that is about this key, if it is about one.
 pub fn put_texts(
     out: &mut Vec<u8>,
-    about: &Key,
+    about: &Option<Key>,
     events: &[WorldEvent],
     seen: &[Shown],
 ) -> Result<(), AllocError>

@@ -4,10 +4,11 @@ ghost use Rattle.std.specs.Str.{bytes_eq};
 ghost use Rattle.std.specs.List.{list_all};
 ghost use Rattle.jc_types.specs.declared.limits.TheConstants.{VALUE_MAX};
 ghost use Rattle.jc_script.specs.Words.{words_of, is_letter, is_text, digits_from, number_of, caller_of, key_of, value_of};
-ghost use Rattle.jc_script.specs.Words.{value_or_none_of, equals_at, key_part, value_part, pair_onto, pairs_of};
+ghost use Rattle.jc_script.specs.Words.{value_or_none_of, equals_at, key_part, value_part, pair_onto, pairs_of, with_key, key_onto, keys_of};
 ghost use Rattle.jc_script.specs.Lines.{Gives, with_value};
 
 use crate::fault::{Fault, ReadError};
+use crate::keys::Keys;
 use crate::pairs::Pairs;
 use jc_types::{KEY_MAX, Key, SESSIONS_MAX, VALUE_MAX, Value};
 use std::alloc::{AllocError, Global};
@@ -196,4 +197,34 @@ pub fn pairs(alloc: Global, words: &[&[u8]]) -> Result<Pairs, ReadError>
         add_pair(&mut pairs, word)?;
     }
     Ok(pairs)
+}
+
+fn add_new(keys: &mut Keys, key: Key) -> Result<(), ReadError>
+    ensures { Gives (with_value keys.new result) (with_key keys.old key) }
+{
+    let is_new = keys.add(key)?;
+    if is_new {
+        Ok(())
+    } else {
+        Err(ReadError::Fault(Fault::RepeatedKey))
+    }
+}
+
+#[tactic(auto, unfolding(crate::specs::Words::key_onto))]
+fn add_key(keys: &mut Keys, word: &[u8]) -> Result<(), ReadError>
+    ensures { Gives (with_value keys.new result) (key_onto keys.old word.now) }
+{
+    let key = key(word)?;
+    add_new(keys, key)
+}
+
+/// The keys that the words say, each once.
+pub fn keys(alloc: Global, words: &[&[u8]]) -> Result<Keys, ReadError>
+    ensures { Gives result (keys_of (map (λ w. w.now) words.now)) }
+{
+    let mut keys = Keys::new(alloc);
+    for word in words {
+        add_key(&mut keys, word)?;
+    }
+    Ok(keys)
 }

@@ -1,4 +1,4 @@
-use Rattle.std.proofs.Common.{◌≡◌, map, length, ℕ, ◌<◌, List, [], ◌∷◌, Err, refl, sym, arith, Bor}
+use Rattle.std.proofs.Common.{◌≡◌, map, length, ℕ, ◌<◌, List, [], ◌∷◌, Err, refl, arith, Bor}
 use Rattle.jc_script.specs.declared.fault.Fault.TheVariants.{BadLine}
 use Rattle.jc_script.specs.Lines.{begin_of}
 use Rattle.jc_script.proofs.grammar.begin.Goals as goal
@@ -11,4 +11,4 @@ too_short (a ∷ b ∷ []) h = refl
 too_short (a ∷ b ∷ c ∷ more) h = absurd (omega arith)
 
 pub returns-in_default : goal.returns-in_default
-returns-in_default c = sym (too_short c.args.words.now c.in_default.len_below)
+returns-in_default c = too_short c.args.words.now c.in_default.len_below

@@ -1,0 +1,64 @@
+//! The keys of a line.
+ghost use Rattle.std.specs.Prelude.{◌≡◌, ◌++◌, ◌∷◌, [], cond, length, not, slice_get, IfOk, OnOk};
+ghost use Rattle.jc_model.specs.Batches.{is_among};
+
+use indexmap::IndexSet;
+use jc_types::Key;
+use std::alloc::{AllocError, Global};
+use std::marker::Model;
+
+/// Keys, each once, in the order of a line.
+#[derive(Drop)]
+pub struct Keys {
+    set: IndexSet<Key>,
+}
+
+impl Model for Keys {
+    ghost use Rattle.std.specs.Prelude.{List};
+    ghost use Rattle.jc_model.specs.Cache.{Bytes};
+
+    ghost Value = { List Bytes };
+
+    ghost view = { λ k. k.set.keys };
+}
+
+impl Keys {
+    /// No key.
+    pub fn new(alloc: Global) -> Keys
+        ensures { result ≡ [] }
+    {
+        Keys {
+            set: IndexSet::new(alloc),
+        }
+    }
+
+    /// How many keys there are.
+    pub fn len(&self) -> usize
+        ensures { result ≡ length self.now }
+    {
+        self.set.len()
+    }
+
+    /// The first key.
+    pub fn first(&self) -> Option<Key>
+        ensures { result ≡ slice_get self.now 0 }
+    {
+        self.set.first().copied()
+    }
+
+    /// One more key, after the others. Says whether it is new: a key that is there already stays as it is.
+    pub fn add(&mut self, key: Key) -> Result<bool, AllocError>
+        ensures new { IfOk result (λ is_new. is_new ≡ not (is_among self.old key)) }
+        ensures keys { OnOk result (
+            self.new ≡ cond (is_among self.old key) self.old (self.old ++ key ∷ [])) }
+    {
+        Ok(self.set.insert(key)?)
+    }
+
+    /// The same keys, for a call of many keys.
+    pub fn copy(&self) -> Result<IndexSet<Key>, AllocError>
+        ensures { IfOk result (λ set. set.keys ≡ self.now) }
+    {
+        self.set.clone()
+    }
+}
