@@ -6,3 +6,4 @@ mod Starting
 mod Phased
 mod Refusing
 mod KeyEnds
+mod ClearingKeys

@@ -8,3 +8,4 @@ pub mod Laws
 pub mod Starting
 pub mod Phased
 pub mod StartingLoads
+pub mod Clearing

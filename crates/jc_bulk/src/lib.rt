@@ -1,6 +1,7 @@
 //! Bulk calls on a cache (JSR 107, `javax.cache.Cache`): `getAll`, `putAll`, `removeAll` and `clear`.
 #![tactic(auto)]
 
+mod clear_all;
 mod fault;
 pub mod laws;
 mod loads;

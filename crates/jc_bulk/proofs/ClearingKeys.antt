@@ -1,0 +1,120 @@
+-- A call that clears keys, between one key and the next.
+--     key_there        the key that a walk has come to is at its place
+--     absent           a key isn't among those before it, if all differ
+--     refusal_last     the refusal of a new key goes last
+--     still_absent     a key that isn't among those that failed, and isn't the one that has just ended, isn't among them afterwards
+--     clears_push      where it ended at some keys, and then at one more, it ended at all of these
+--     ops_push         these are the keys, each with its operation
+--     failed_push      and these are those that failed
+--     all_full         each of them for the history's room
+--     leaves_both      what other sessions need stays, also after one key more
+use Rattle.std.proofs.Common.{◌≡◌, ◌==◌, ◌<◌, ◌||◌, ℕ, zero, suc, false, List, [], ◌∷◌, ◌++◌, take, length, subst, slice_get, get_or, All, Option, None, Some, is_some, IfErr, Result, Ok, Err, refl, sym, ap, ◌∙◌}
+use Rattle.std.specs.List.{list_any, IsDistinct, AllByRecursion}
+use Rattle.std.specs.Map.{keys_of, lookup}
+use Rattle.std.specs.Cmp.Lexicographic.{pointwise}
+use Rattle.std.proofs.lemmas.Cmp.{nat_list_eq_equiv}
+use Rattle.std.proofs.lemmas.List.{map-append}
+use Rattle.std.proofs.lemmas.List.Elements.{filter_map-append, All-append, All-cons, All-nil}
+use Rattle.std.proofs.lemmas.List.Folds.{list_any-append}
+use Rattle.std.proofs.lemmas.Option.{slice_get-get_or}
+use Rattle.std.proofs.lemmas.Map.Keys.{IsDistinct-head, IsDistinct-tail}
+use Rattle.std.proofs.lemmas.Map.Made.{is_some-lookup}
+use Rattle.indexmap.specs.IndexMap.{IndexMap, insert_entry}
+use Rattle.indexmap.proofs.CallerLemmas.{insert_entry-new}
+use Rattle.jc_types.specs.declared.caller.Caller.{Caller}
+use Rattle.jc_types.specs.declared.refusal.Refusal.{Refusal}
+use Rattle.jc_types.specs.declared.refusal.Refusal.TheVariants.{HistoryFull}
+use Rattle.jc_model.specs.declared.event.Op.TheVariants.{Clear}
+use Rattle.jc_model.specs.declared.event.Reply.{Reply}
+use Rattle.jc_model.specs.declared.event.Reply.TheVariants as reply
+use Rattle.jc_model.specs.Cache.{Bytes}
+use Rattle.jc_model.specs.Group.{nothing_said}
+use Rattle.jc_stripe.specs.State.{State}
+use Rattle.jc_session.specs.declared.session.Session.{Session}
+use Rattle.jc_cache.specs.Caches.{CacheState}
+use Rattle.jc_cache.specs.Calls.{ClearsAt}
+use Rattle.jc_cache.specs.Sessions.{LeavesSessions}
+use Rattle.jc_cache.specs.Whole.{Ends}
+use Rattle.jc_bulk.specs.Bulk.{clear_ops}
+use Rattle.jc_bulk.specs.Clearing.{ClearsEach}
+use Rattle.jc_bulk.specs.Ends.{KeyEnd, key_ops, failed_entries}
+
+-- 1. A key that is new.
+
+-- what is so of all is so at each place
+at_place : {X : Type 0} (P : X → Type 0) (xs : List X) (i : ℕ) (x : X) → AllByRecursion P xs → slice_get xs i ≡ Some x → P x
+at_place P [] i x all at = cc
+at_place P (y ∷ ys) zero x all at = let is : y ≡ x = cc in subst P is all.0
+at_place P (y ∷ ys) (suc i) x all at = at_place P ys i x all.1 at
+
+pub absent : (keys : List Bytes) (i : ℕ) (key : Bytes) → IsDistinct (pointwise ◌==◌) keys → slice_get keys i ≡ Some key → list_any (pointwise ◌==◌ key) (take i keys) ≡ false
+absent [] zero key d at = refl
+absent [] (suc i) key d at = refl
+absent (x ∷ keys) zero key d at = refl
+absent (x ∷ keys) (suc i) key d at =
+    let no : pointwise ◌==◌ x key ≡ false = at_place (λ y. pointwise ◌==◌ x y ≡ false) keys i key (IsDistinct-head (pointwise ◌==◌) x keys d) at in
+    ap (λ b. b || list_any (pointwise ◌==◌ key) (take i keys)) (nat_list_eq_equiv.symm key x ∙ no) ∙ absent keys i key (IsDistinct-tail (pointwise ◌==◌) x keys d) at
+
+pub key_there : (keys : List Bytes) (i : ℕ) (key : Bytes) → i < length keys → key ≡ get_or keys i key → slice_get keys i ≡ Some key
+key_there keys i key lt is = slice_get-get_or keys i key lt ∙ ap Some (sym is)
+
+none_from : {X : Type 0} (o : Option X) → is_some o ≡ false → o ≡ None
+none_from None e = refl
+none_from (Some x) e = cc
+
+pub refusal_last : {S : Type 0} (m : IndexMap Bytes Refusal S) (key : Bytes) (why : Refusal) → list_any (pointwise ◌==◌ key) (keys_of m.entries) ≡ false
+    → insert_entry (pointwise ◌==◌) m.entries key why ≡ m.entries ++ (key, why) ∷ []
+refusal_last m key why new = insert_entry-new (pointwise ◌==◌) m key why (none_from (lookup (pointwise ◌==◌ key) m.entries) (is_some-lookup (pointwise ◌==◌ key) m.entries ∙ new))
+
+not_it : (q key : Bytes) (ended : Result Reply Refusal) → pointwise ◌==◌ q key ≡ false → list_any (pointwise ◌==◌ q) (keys_of (failed_entries (record { key = key; op = Clear; ended = ended } ∷ []))) ≡ false
+not_it q key (Err why) apart = ap (λ b. b || false) apart
+not_it q key (Ok (reply.Fault why)) apart = ap (λ b. b || false) apart
+not_it q key (Ok (reply.Value value)) apart = refl
+not_it q key (Ok (reply.Flag flag)) apart = refl
+not_it q key (Ok reply.Unit) apart = refl
+
+pub still_absent : (q key : Bytes) (ended : Result Reply Refusal) (failed : List (Bytes × Refusal)) → pointwise ◌==◌ q key ≡ false → list_any (pointwise ◌==◌ q) (keys_of failed) ≡ false
+    → list_any (pointwise ◌==◌ q) (keys_of (failed ++ failed_entries (record { key = key; op = Clear; ended = ended } ∷ []))) ≡ false
+still_absent q key ended failed apart away =
+    let more : List (Bytes × Refusal) = failed_entries (record { key = key; op = Clear; ended = ended } ∷ []) in
+    ap (list_any (pointwise ◌==◌ q)) (map-append (λ (e : Bytes × Refusal). e.0) failed more)
+    ∙ list_any-append (pointwise ◌==◌ q) (keys_of failed) (keys_of more)
+    ∙ (λ i. away i || not_it q key ended apart i)
+
+-- 2. One key more.
+
+module _ {I J : Type 0} {D : I → Type 0} {E : J → Type 0} where
+  pub clears_push : (c m n : CacheState) (s t u : Session I J D E) (ends : List KeyEnd) (key : Bytes) (ended : Result Reply Refusal)
+      → ClearsEach c s ends m t → ClearsAt m t key ended n u → ClearsEach c s (ends ++ record { key = key; op = Clear; ended = ended } ∷ []) n u
+  clears_push c m n s t u [] key ended each one =
+      (n, u, subst (λ x. ClearsAt x s key ended n u) each.0 (subst (λ x. ClearsAt m x key ended n u) each.1 one), (refl, refl))
+  clears_push c m n s t u (e ∷ ends) key ended each one = (each.0, each.1, each.2, clears_push each.0 m n each.1 t u ends key ended each.3 one)
+
+  pub leaves_both : (old mid new : CacheState) (start now : Session I J D E) → now.caller ≡ start.caller → LeavesSessions start old mid → LeavesSessions now mid new → LeavesSessions start old new
+  leaves_both old mid new start now same first second other differs may =
+      second other (ap (λ w. other.caller.session == w.session) same ∙ differs) (first other differs may)
+
+pub ops_push : (ends : List KeyEnd) (keys : List Bytes) (key : Bytes) (ended : Result Reply Refusal) → key_ops ends ≡ clear_ops keys
+    → key_ops (ends ++ record { key = key; op = Clear; ended = ended } ∷ []) ≡ clear_ops (keys ++ key ∷ [])
+ops_push ends keys key ended same =
+    map-append _ ends (record { key = key; op = Clear; ended = ended } ∷ [])
+    ∙ ap (λ ops. ops ++ (key, Clear) ∷ []) same
+    ∙ sym (map-append _ keys (key ∷ []))
+
+pub failed_push : (ends : List KeyEnd) (e : KeyEnd) (failed now : List (Bytes × Refusal)) → failed ≡ failed_entries ends → now ≡ failed ++ failed_entries (e ∷ []) → now ≡ failed_entries (ends ++ e ∷ [])
+failed_push ends e failed now was is = is ∙ ap (λ es. es ++ failed_entries (e ∷ [])) was ∙ sym (filter_map-append _ ends (e ∷ []))
+
+-- 3. Why a key is refused.
+
+is_unit : (r : Reply) (key : Bytes) → r ≡ reply.Unit → All (λ (e : Bytes × Refusal). e.1 ≡ HistoryFull) (failed_entries (record { key = key; op = Clear; ended = Ok r } ∷ []))
+is_unit r key is = subst (λ x. All (λ (e : Bytes × Refusal). e.1 ≡ HistoryFull) (failed_entries (record { key = key; op = Clear; ended = Ok x } ∷ []))) (sym is) (All-nil (λ (e : Bytes × Refusal). e.1 ≡ HistoryFull))
+
+full_end : (a b : State) (caller : Caller) (key : Bytes) (ended : Result Reply Refusal) → Ends a caller key Clear nothing_said ended b → IfErr ended (λ why. why ≡ HistoryFull)
+    → All (λ (e : Bytes × Refusal). e.1 ≡ HistoryFull) (failed_entries (record { key = key; op = Clear; ended = ended } ∷ []))
+full_end a b caller key (Ok r) ends why = is_unit r key (sym ends.1.reply_is ∙ ends.1.steps.reply)
+full_end a b caller key (Err refusal) ends why = All-cons (λ (e : Bytes × Refusal). e.1 ≡ HistoryFull) (key, refusal) [] why (All-nil (λ (e : Bytes × Refusal). e.1 ≡ HistoryFull))
+
+pub all_full : (a b : State) (caller : Caller) (key : Bytes) (ended : Result Reply Refusal) (failed now : List (Bytes × Refusal)) → Ends a caller key Clear nothing_said ended b → IfErr ended (λ why. why ≡ HistoryFull)
+    → All (λ (e : Bytes × Refusal). e.1 ≡ HistoryFull) failed → now ≡ failed ++ failed_entries (record { key = key; op = Clear; ended = ended } ∷ []) → All (λ (e : Bytes × Refusal). e.1 ≡ HistoryFull) now
+all_full a b caller key ended failed now ends why full is =
+    subst (All (λ (e : Bytes × Refusal). e.1 ≡ HistoryFull)) (sym is) (All-append (λ (e : Bytes × Refusal). e.1 ≡ HistoryFull) failed (failed_entries (record { key = key; op = Clear; ended = ended } ∷ [])) full (full_end a b caller key ended ends why))
