@@ -6,9 +6,11 @@
 --     clears_push      where it ended at some keys, and then at one more, it ended at all of these
 --     ops_push         these are the keys, each with its operation
 --     failed_push      and these are those that failed
+--     clears           so the call clears every key that was looked at
+--     then_ok, then_err    what follows of a result
 --     all_full         each of them for the history's room
 --     leaves_both      what other sessions need stays, also after one key more
-use Rattle.std.proofs.Common.{◌≡◌, ◌==◌, ◌<◌, ◌||◌, ℕ, zero, suc, false, List, [], ◌∷◌, ◌++◌, take, length, subst, slice_get, get_or, All, Option, None, Some, is_some, IfErr, Result, Ok, Err, refl, sym, ap, ◌∙◌}
+use Rattle.std.proofs.Common.{◌≡◌, ◌==◌, ◌<◌, ◌||◌, ℕ, zero, suc, false, List, [], ◌∷◌, ◌++◌, take, length, subst, slice_get, get_or, All, Option, None, Some, is_some, IfOk, IfErr, Result, Ok, Err, refl, sym, ap, ◌∙◌}
 use Rattle.std.specs.List.{list_any, IsDistinct, AllByRecursion}
 use Rattle.std.specs.Map.{keys_of, lookup}
 use Rattle.std.specs.Cmp.Lexicographic.{pointwise}
@@ -32,11 +34,11 @@ use Rattle.jc_model.specs.Group.{nothing_said}
 use Rattle.jc_stripe.specs.State.{State}
 use Rattle.jc_session.specs.declared.session.Session.{Session}
 use Rattle.jc_cache.specs.Caches.{CacheState}
-use Rattle.jc_cache.specs.Calls.{ClearsAt}
+use Rattle.jc_cache.specs.Calls.{next_call, ClearsAt}
 use Rattle.jc_cache.specs.Sessions.{LeavesSessions}
 use Rattle.jc_cache.specs.Whole.{Ends}
-use Rattle.jc_bulk.specs.Bulk.{clear_ops}
-use Rattle.jc_bulk.specs.Clearing.{ClearsEach}
+use Rattle.jc_bulk.specs.Bulk.{AreLooked, clear_ops}
+use Rattle.jc_bulk.specs.Clearing.{ClearsEach, Clears}
 use Rattle.jc_bulk.specs.Ends.{KeyEnd, key_ops, failed_entries}
 
 -- 1. A key that is new.
@@ -103,6 +105,24 @@ ops_push ends keys key ended same =
 
 pub failed_push : (ends : List KeyEnd) (e : KeyEnd) (failed now : List (Bytes × Refusal)) → failed ≡ failed_entries ends → now ≡ failed ++ failed_entries (e ∷ []) → now ≡ failed_entries (ends ++ e ∷ [])
 failed_push ends e failed now was is = is ∙ ap (λ es. es ++ failed_entries (e ∷ [])) was ∙ sym (filter_map-append _ ends (e ∷ []))
+
+module _ {I J : Type 0} {D : I → Type 0} {E : J → Type 0} where
+  pub clears : (cache new : CacheState) (session mid after : Session I J D E) (keys now : List Bytes) (ends : List KeyEnd) → AreLooked cache.stripes keys → now ≡ keys → mid ≡ next_call session
+      → key_ops ends ≡ clear_ops now → ClearsEach cache mid ends new after → Clears cache session ends new after
+  clears cache new session mid after keys now ends looked same next ops each = record {
+    keys = keys;
+    looked = looked;
+    ops = ops ∙ ap clear_ops same;
+    each = subst (λ s. ClearsEach cache s ends new after) next each;
+  }
+
+pub then_ok : {T E P Q : Type 0} (r : Result T E) → (P → Q) → IfOk r (λ done. P) → IfOk r (λ done. Q)
+then_ok (Ok x) f h = f h
+then_ok (Err e) f h = h
+
+pub then_err : {T E : Type 0} {P Q : E → Type 0} (r : Result T E) → ((e : E) → P e → Q e) → IfErr r P → IfErr r Q
+then_err (Ok x) f h = h
+then_err (Err e) f h = f e h
 
 -- 3. Why a key is refused.
 

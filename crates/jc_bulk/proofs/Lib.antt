@@ -7,3 +7,4 @@ mod Phased
 mod Refusing
 mod KeyEnds
 mod ClearingKeys
+mod LookingAtAll

@@ -1,8 +1,7 @@
 -- A call that clears a cache.
 --     ClearsEach        a session's current call, at each of these keys in their order, which ended so: each key is cleared whole, where the
 --                       one before it left the cache and the session
---     Clears            a session's next call, which clears every key: those of one look at each stripe, in the order of the stripes; neither
---                       the loader nor the writer is asked
+--     Clears            a session's next call, which clears every key: those of one look at each stripe, in the order of the stripes
 --     FailsToClear      some keys were refused: these are all of them, with their refusals and in their order, and the cause is the first
 --     IsOutOfMemory     an allocation failed: no key is named, and nothing changed
 use Rattle.std.specs.Prelude.{◌≡◌, List, [], ◌∷◌}
@@ -25,7 +24,6 @@ pub record Clears {I J : Type 0} {D : I → Type 0} {E : J → Type 0} (cache : 
   pub looked : AreLooked cache.stripes keys
   pub ops : key_ops ends ≡ clear_ops keys
   pub each : ClearsEach cache (next_call session) ends cache' session'
-  pub outside : session'.hands ≡ session.hands
 
 abbrev pub FailsToClear : {I J : Type 0} {D : I → Type 0} {E : J → Type 0} → CacheState → Session I J D E → Refusal → List (Bytes × Refusal) → CacheState → Session I J D E → Type 0
 FailsToClear cache session cause failed cache' session' =

@@ -8,6 +8,7 @@ mod loads;
 mod results;
 mod round;
 
+pub use clear_all::clear;
 pub use fault::BulkFault;
 pub use loads::{commit_first_load, start_get};
 pub use round::{Start, commit_first, start_write};

@@ -1,0 +1,158 @@
+-- The keys of all stripes, as one stripe after the other is looked at.
+--     once_here         the keys of a stripe differ
+--     all_here          and belong to it
+--     looked_push       a look at one stripe more
+--     apart_push        the keys still differ
+--     below_push        and belong to the stripes that were looked at
+--     looked_at         a look at a stripe that is reached
+--     none_twice        no key of an empty list stands twice
+--     first_there, nothing_there    a list by its first place
+use Rattle.std.proofs.Common.{◌≡◌, ◌==◌, ◌&&◌, ◌||◌, ◌+◌, ℕ, List, [], ◌∷◌, ◌++◌, take, Bool, true, false, not, cond, Option, None, Some, is_none, nat_lt, slice_get, refl, sym, ap, ◌∙◌, subst, arith}
+use Rattle.std.specs.Ordering.{eq_by_cmp}
+use Rattle.std.specs.List.{list_any, list_all, IsDistinct, AllByRecursion}
+use Rattle.std.specs.Map.{keys_of}
+use Rattle.std.specs.FinMap.{find}
+use Rattle.std.specs.Cmp.Lexicographic.{pointwise, texts_ties, same_text}
+use Rattle.std.proofs.lemmas.Bool.{and_parts, or_parts}
+use Rattle.std.proofs.lemmas.Bool.Decides.{nat_tests}
+use Rattle.std.proofs.lemmas.Cmp.{nat_list_eq_equiv}
+use Rattle.std.proofs.lemmas.List.{append-nil, append_assoc, take_more}
+use Rattle.std.proofs.lemmas.List.Folds.{list_all-append}
+use Rattle.std.proofs.lemmas.List.Sorted.{list_any-IsPermutation}
+use Rattle.std.proofs.lemmas.Map.Keys.{IsDistinct-IsPermutation, IsDistinct-cons, IsDistinct-head, IsDistinct-tail}
+use Rattle.std.proofs.lemmas.Option.{slice_get_within, get_or_from_slice_get}
+use Rattle.jc_types.proofs.CallerLemmas.{all_imply}
+use Rattle.jc_types.specs.declared.config.Config.{Config}
+use Rattle.jc_types.specs.Stripes.{stripe_of}
+use Rattle.jc_model.specs.Cache.{Bytes, key_cmp}
+use Rattle.jc_model.specs.Listed.{has_distinct_keys}
+use Rattle.jc_stripe.specs.Keys.{AreKeys, Looks}
+use Rattle.jc_stripe.specs.OrderOfUse.{by_use}
+use Rattle.jc_stripe.specs.Reached.{IsReached}
+use Rattle.jc_stripe.specs.State.{State, is_of}
+use Rattle.jc_cache.specs.CacheInside.{IsPlaced}
+use Rattle.jc_bulk.specs.Bulk.{AreLooked}
+
+-- 1. The keys of one stripe differ.
+
+none_there : (q : Bytes) (entries : List (Bytes × Bytes)) → is_none (find key_cmp q entries) ≡ true → AllByRecursion (λ k. pointwise ◌==◌ q k ≡ false) (keys_of entries)
+none_there q [] h = tt
+none_there q (e ∷ es) h = by (eq_by_cmp key_cmp q e.0) refl h (none_there q es)
+  where
+    by : (b : Bool) → eq_by_cmp key_cmp q e.0 ≡ b → is_none (cond b (Some e.1) (find key_cmp q es)) ≡ true
+        → (is_none (find key_cmp q es) ≡ true → AllByRecursion (λ k. pointwise ◌==◌ q k ≡ false) (keys_of es)) → AllByRecursion (λ k. pointwise ◌==◌ q k ≡ false) (keys_of (e ∷ es))
+    by true is none rest = cc
+    by false is none rest = (texts_ties q e.0 ∙ is, rest none)
+
+pub none_twice : IsDistinct (pointwise ◌==◌) []
+unfolding IsDistinct
+none_twice = tt
+
+once : (entries : List (Bytes × Bytes)) → has_distinct_keys entries ≡ true → IsDistinct (pointwise ◌==◌) (keys_of entries)
+once [] h = none_twice
+once (e ∷ es) h =
+    let parts = and_parts (is_none (find key_cmp e.0 es)) (has_distinct_keys es) h in
+    IsDistinct-cons (pointwise ◌==◌) e.0 (keys_of es) (none_there e.0 es parts.0) (once es parts.1)
+
+pub once_here : (s : State) (found : List Bytes) → IsReached s → AreKeys s found → IsDistinct (pointwise ◌==◌) found
+once_here s found reached are =
+    IsDistinct-IsPermutation (pointwise ◌==◌) nat_list_eq_equiv.symm (keys_of (by_use s.opening s.history)) found are.each (once (by_use s.opening s.history) reached.used.once)
+
+-- 2. They belong to it.
+
+none_other : (p : Bytes → Bool) (xs : List Bytes) → list_all p xs ≡ true → list_any (λ x. not (p x)) xs ≡ false
+none_other p [] h = refl
+none_other p (x ∷ xs) h = let parts = and_parts (p x) (list_all p xs) h in (λ i. not (parts.0 i) || none_other p xs parts.1 i)
+
+turned : (b : Bool) → not b ≡ false → b ≡ true
+turned true h = refl
+turned false h = cc
+
+all_pass : (p : Bytes → Bool) (xs : List Bytes) → list_any (λ x. not (p x)) xs ≡ false → list_all p xs ≡ true
+all_pass p [] h = refl
+all_pass p (x ∷ xs) h = let parts = or_parts (not (p x)) (list_any (λ y. not (p y)) xs) h in (λ i. turned (p x) parts.0 i && all_pass p xs parts.1 i)
+
+of_keys : (p : Bytes → Bool) (entries : List (Bytes × Bytes)) → list_all p (keys_of entries) ≡ list_all (λ (e : Bytes × Bytes). p e.0) entries
+of_keys p [] = refl
+of_keys p (e ∷ es) = ap (λ b. p e.0 && b) (of_keys p es)
+
+pub all_here : (config : Config) (i : ℕ) (s : State) (found : List Bytes) → IsPlaced config i s → IsReached s → AreKeys s found → list_all (λ k. stripe_of k config.stripes == i) found ≡ true
+all_here config i s found placed reached are =
+    let keys : List Bytes = keys_of (by_use s.opening s.history) in
+    let own : list_all (is_of s) keys ≡ true = of_keys (is_of s) (by_use s.opening s.history) ∙ reached.used.own in
+    let here : list_all (is_of s) found ≡ true =
+    all_pass (is_of s) found (sym (list_any-IsPermutation (λ k. not (is_of s k)) keys found are.each) ∙ none_other (is_of s) keys own) in
+    sym (λ j. list_all (λ k. stripe_of k (placed.config_is j).stripes == placed.stripe_is j) found) ∙ here
+
+-- 3. One stripe more.
+
+looked_more : (stripes : List (Option State)) (keys found : List Bytes) (s : State) → AreLooked stripes keys → AreKeys s found → AreLooked (stripes ++ Some s ∷ []) (keys ++ found)
+looked_more [] keys found s looked are = (s, found, [], refl, are, ap (λ ks. ks ++ found) looked ∙ sym (append-nil found), refl)
+looked_more (x ∷ xs) keys found s looked are =
+    (looked.0, looked.1, looked.2 ++ found, looked.3, looked.4, ap (λ ks. ks ++ found) looked.5 ∙ append_assoc looked.1 looked.2 found, looked_more xs looked.2 found s looked.6 are)
+
+pub looked_push : (stripes : List (Option State)) (i : ℕ) (keys found : List Bytes) (s : State) → slice_get stripes i ≡ Some (Some s) → AreLooked (take i stripes) keys → AreKeys s found
+    → AreLooked (take (i + 1) stripes) (keys ++ found)
+looked_push stripes i keys found s at looked are =
+    let more : take (i + 1) stripes ≡ take i stripes ++ Some s ∷ [] =
+    take_more stripes i (Some s) (slice_get_within stripes i (Some s) at) ∙ ap (λ o. take i stripes ++ o ∷ []) (get_or_from_slice_get stripes i (Some s) (Some s) at) in
+    subst (λ xs. AreLooked xs (keys ++ found)) (sym more) (looked_more (take i stripes) keys found s looked are)
+
+lower : (m i : ℕ) → nat_lt m i ≡ true → (m == i) ≡ false
+lower m i lt = grind (arith, nat_tests)
+
+differ : (n i : ℕ) (x y : Bytes) → nat_lt (stripe_of x n) i ≡ true → (stripe_of y n == i) ≡ true → pointwise ◌==◌ x y ≡ false
+differ n i x y lt is = by (pointwise ◌==◌ x y) refl
+  where
+    by : (b : Bool) → pointwise ◌==◌ x y ≡ b → b ≡ false
+    by true e = sym (sym (lower (stripe_of x n) i lt) ∙ ap (λ (k : Bytes). stripe_of k n == i) (same_text x y (sym e)) ∙ is)
+    by false e = refl
+
+differ_all : (n i : ℕ) (x : Bytes) (ys : List Bytes) → nat_lt (stripe_of x n) i ≡ true → list_all (λ k. stripe_of k n == i) ys ≡ true → AllByRecursion (λ y. pointwise ◌==◌ x y ≡ false) ys
+differ_all n i x [] lt here = tt
+differ_all n i x (y ∷ ys) lt here =
+    let parts = and_parts (stripe_of y n == i) (list_all (λ k. stripe_of k n == i) ys) here in
+    (differ n i x y lt parts.0, differ_all n i x ys lt parts.1)
+
+both : (P : Bytes → Type 0) (xs ys : List Bytes) → AllByRecursion P xs → AllByRecursion P ys → AllByRecursion P (xs ++ ys)
+both P [] ys a b = b
+both P (x ∷ xs) ys a b = (a.0, both P xs ys a.1 b)
+
+pub apart_push : (n i : ℕ) (xs ys : List Bytes) → list_all (λ k. nat_lt (stripe_of k n) i) xs ≡ true → list_all (λ k. stripe_of k n == i) ys ≡ true
+    → IsDistinct (pointwise ◌==◌) xs → IsDistinct (pointwise ◌==◌) ys → IsDistinct (pointwise ◌==◌) (xs ++ ys)
+apart_push n i [] ys below here a b = b
+apart_push n i (x ∷ xs) ys below here a b =
+    let parts = and_parts (nat_lt (stripe_of x n) i) (list_all (λ k. nat_lt (stripe_of k n) i) xs) below in
+    IsDistinct-cons (pointwise ◌==◌) x (xs ++ ys)
+    (both (λ y. pointwise ◌==◌ x y ≡ false) xs ys (IsDistinct-head (pointwise ◌==◌) x xs a) (differ_all n i x ys parts.0 here))
+    (apart_push n i xs ys parts.1 here (IsDistinct-tail (pointwise ◌==◌) x xs a) b)
+
+later : (m i : ℕ) → nat_lt m i ≡ true → nat_lt m (i + 1) ≡ true
+later m i lt = grind (arith, nat_tests)
+
+just : (m i : ℕ) → (m == i) ≡ true → nat_lt m (i + 1) ≡ true
+just m i is = grind (arith, nat_tests)
+
+pub below_push : (n i : ℕ) (xs ys : List Bytes) → list_all (λ k. nat_lt (stripe_of k n) i) xs ≡ true → list_all (λ k. stripe_of k n == i) ys ≡ true → list_all (λ k. nat_lt (stripe_of k n) (i + 1)) (xs ++ ys) ≡ true
+below_push n i xs ys below here =
+    list_all-append (λ k. nat_lt (stripe_of k n) (i + 1)) xs ys
+    ∙ (λ j. all_imply (λ k. nat_lt (stripe_of k n) i) (λ k. nat_lt (stripe_of k n) (i + 1)) xs (λ k. later (stripe_of k n) i) below j
+    && all_imply (λ k. stripe_of k n == i) (λ k. nat_lt (stripe_of k n) (i + 1)) ys (λ k. just (stripe_of k n) i) here j)
+
+same_state : (a b : State) → Some (Some a) ≡ Some (Some b) → a ≡ b
+same_state a b e = cc
+
+pub looked_at : (stripes : List (Option State)) (i : ℕ) (a b : State) (was mid now : List Bytes) → slice_get stripes i ≡ Some (Some a) → IsReached a → slice_get stripes i ≡ Some (Some b) → mid ≡ was → Looks b mid now
+    → (state : State) × (slice_get stripes i ≡ Some (Some state)) × IsReached state × Looks state was now
+looked_at stripes i a b was mid now at reached there same looks =
+    (b, there, subst IsReached (same_state a b (sym at ∙ there)) reached, (looks.0, looks.1 ∙ ap (λ ks. ks ++ looks.0) same, looks.2))
+
+-- 4. The first of a list.
+
+pub first_there : {X : Type 0} (xs : List X) (x : X) → slice_get xs 0 ≡ Some x → (rest : List X) × (xs ≡ x ∷ rest)
+first_there [] x at = cc
+first_there (y ∷ ys) x at = (ys, let same : y ≡ x = cc in ap (λ z. z ∷ ys) same)
+
+pub nothing_there : {X : Type 0} (xs : List X) → slice_get xs 0 ≡ None → xs ≡ []
+nothing_there [] at = refl
+nothing_there (y ∷ ys) at = cc
