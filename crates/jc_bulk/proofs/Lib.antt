@@ -8,3 +8,5 @@ mod Refusing
 mod KeyEnds
 mod ClearingKeys
 mod LookingAtAll
+mod SoFar
+mod InRound

@@ -1,5 +1,6 @@
 -- What one phase of a bulk call leaves of the cache.
 --     begins_after, commits_after    a stripe after a first phase, and after a commit, comes after the one before
+--     stays_after                    a stripe that stays comes after itself
 --     adds_at                        a phase at the stripe of a key adds its steps to the cache
 use Rattle.std.proofs.Common.{◌≡◌, ◌≤◌, ◌<◌, ◌+◌, ◌++◌, ℕ, List, [], length, Option, Some, slice_get, get_or, set, refl, sym, ap, ◌∙◌, subst, arith, length-set, get_or-set_same, get_or-set_other}
 use Rattle.std.proofs.lemmas.Option.{slice_get_within, slice_get-get_or, get_or_from_slice_get}
@@ -46,7 +47,7 @@ begins_after old new caller key op b grows h = record { extends = grows.begins o
 pub commits_after : (old new : State) (r : Reservation) (out : Out) (done : StepDone) → Grows → Commits old r out done new → ComesAfter old new
 commits_after old new r out done grows h = record { extends = grows.commits old new r out done h; next = same_or_more old.next new.next (ap (λ (s : State). s.next) h.1.after) }
 
-stays_after : (s t : State) → t ≡ s → ComesAfter s t
+pub stays_after : (s t : State) → t ≡ s → ComesAfter s t
 stays_after s t e = record {
   extends = record {
     same = record {

@@ -61,10 +61,10 @@ few_needed : (b : Bool) → places_needed b ≤ STEP_PLACES
 few_needed true = omega arith
 few_needed false = omega arith
 
-le_true : (a b : ℕ) → nat_le a b ≡ true → a ≤ b
+pub le_true : (a b : ℕ) → nat_le a b ≡ true → a ≤ b
 le_true a b h = grind (arith, nat_tests)
 
-true_le : (a b : ℕ) → a ≤ b → nat_le a b ≡ true
+pub true_le : (a b : ℕ) → a ≤ b → nat_le a b ≡ true
 true_le a b h = grind (arith, nat_tests)
 
 fits_less : (a p n c m q : ℕ) → p ≤ m → n ≤ q → a + m + q ≤ c → a + p + n ≤ c

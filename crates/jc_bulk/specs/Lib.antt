@@ -9,3 +9,4 @@ pub mod Starting
 pub mod Phased
 pub mod StartingLoads
 pub mod Clearing
+pub mod InRound

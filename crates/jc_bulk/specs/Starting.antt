@@ -5,8 +5,9 @@
 --     IsCallOf          a call that has reserved this key, of this caller and operation
 --     WritesAs          the operation of calls that write is a `Put`, and of calls that delete a `Remove`
 --     change_wanted     what an operation asks the writer for at a key without an entry: a `Put` and a `Remove` ask for that at every key
---     StartsWrite       what a first phase of the key makes of the calls whose writer is to be asked: one more of this key on this cache,
---                       which asks for its operation's change, if it has reserved it, and else the same
+--     AsksFor           a call on this cache that has reserved this key, and asks the writer for its operation's change
+--     StartsWrite       what a first phase of the key makes of the calls whose writer is to be asked: one more of this key if it has
+--                       reserved it, and else the same
 use Rattle.std.specs.Prelude.{◌≡◌, ◌⊎◌, List, [], ◌∷◌, map, Bool, true, false, Option, None, Some, Ok, Err}
 use Rattle.jc_types.specs.Refusals.{is_put_off}
 use Rattle.jc_types.specs.declared.refusal.Refusal.{Refusal}
@@ -56,9 +57,10 @@ WritesAs deletes op = ((deletes ≡ false) × ((value : Bytes) × (op ≡ Put va
 abbrev pub change_wanted : Op → Option Change
 change_wanted op = write_ask op None process.NotAsked
 
+abbrev pub AsksFor : Mark → Caller → Bytes → Op → ReservedState → Type 0
+AsksFor mark caller key op call = IsCallOf caller key op call × (call.cache ≡ mark) × (change_asked call.reservation.first ≡ change_wanted op)
+
 abbrev pub StartsWrite : Mark → Caller → Bytes → Op → Start → WriteCallsState → WriteCallsState → Type 0
 StartsWrite mark caller key op (Ended ended) old new = new ≡ old
-StartsWrite mark caller key op Reserved old new =
-    (call : ReservedState) × IsCallOf caller key op call × (call.cache ≡ mark) × (change_asked call.reservation.first ≡ change_wanted op)
-    × (new ≡ with_write_call old call)
+StartsWrite mark caller key op Reserved old new = (call : ReservedState) × AsksFor mark caller key op call × (new ≡ with_write_call old call)
 StartsWrite mark caller key op PutOff old new = new ≡ old

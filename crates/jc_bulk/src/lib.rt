@@ -7,8 +7,10 @@ pub mod laws;
 mod loads;
 mod results;
 mod round;
+mod writes;
 
 pub use clear_all::clear;
 pub use fault::BulkFault;
 pub use loads::{commit_first_load, start_get};
 pub use round::{Start, commit_first, start_write};
+pub use writes::start_keys;
