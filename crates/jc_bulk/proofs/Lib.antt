@@ -10,3 +10,4 @@ mod ClearingKeys
 mod LookingAtAll
 mod SoFar
 mod InRound
+pub mod Gets

@@ -1,4 +1,5 @@
 -- What one step more makes of a call's steps, and who may begin behind them.
+--     next_number     the number after one that is not the last
 --     early           a call that is not refused has not the last number
 --     steps_after     the steps of a call at a key, behind the group of one step
 --     befores_after   no call of a later number, behind the group of one step
@@ -58,7 +59,7 @@ steps_after old new caller c key q op out done steps =
     ∙ ap (λ xs. steps_of c q old.history ++ xs) (steps_in c q g.victim (Step caller op key out None g.step.reply) key g.evicted)
     ∙ ap (λ r. steps_of c q old.history ++ steps_of c q (Step caller op key out None r ∷ [])) (sym steps.reply)
 
-next_number : (n : ℕ) → n < last_number → one_more n ≡ n + 1
+pub next_number : (n : ℕ) → n < last_number → one_more n ≡ n + 1
 next_number n below = grind (arith, nat_tests)
 
 next_is_after : (session : Bool) (n : ℕ) → n < last_number → ((not session || nat_lt n (one_more n)) && true) ≡ true

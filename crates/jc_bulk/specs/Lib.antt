@@ -10,3 +10,4 @@ pub mod Phased
 pub mod StartingLoads
 pub mod Clearing
 pub mod InRound
+pub mod Gets

@@ -3,6 +3,7 @@
 
 mod clear_all;
 mod fault;
+mod get_all;
 pub mod laws;
 mod loads;
 mod results;

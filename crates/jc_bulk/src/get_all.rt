@@ -1,0 +1,104 @@
+//! A `getAll` (JSR 107, `javax.cache.Cache.getAll`), in rounds.
+ghost use Rattle.std.specs.Prelude.{◌≡◌, ◌==◌, ◌<◌, ◌≤◌, ◌+◌, ◌⊎◌, length, vec_capacity};
+ghost use Rattle.std.specs.List.{IsDistinct};
+ghost use Rattle.std.specs.Cmp.Lexicographic.{pointwise};
+ghost use Rattle.jc_types.specs.declared.limits.TheConstants.{RESERVATIONS_MAX};
+ghost use Rattle.jc_model.specs.Cache.{Bytes};
+ghost use Rattle.jc_model.specs.declared.event.LoadAnswer.{LoadAnswer};
+ghost use Rattle.jc_session.specs.declared.counts.Counts.{Counts};
+ghost use Rattle.jc_cache.specs.Sessions.{IsOf};
+ghost use Rattle.jc_bulk.specs.declared.round.Start.TheVariants.{PutOff};
+ghost use Rattle.jc_bulk.specs.Gets.{IsGetting, AreCounted, ComesAfterAll, end_started};
+ghost use Rattle.jc_bulk.specs.Phased.{LeavesCalls};
+
+use crate::loads::start_get;
+use crate::round::Start;
+use jc_cache::{Cache, LoadCalls, Session};
+use jc_model::Reply;
+use jc_types::{Key, RESERVATIONS_MAX, Refusal, Value};
+
+/// How a first phase has ended its key, or none if it has reserved it.
+fn end_of(start: Start) -> Option<Result<Reply, Refusal>>
+    requires { start ≡ PutOff → ⊥ }
+    ensures { result ≡ end_started start }
+{
+    match start {
+        Start::Ended(ended) => Some(ended),
+        Start::Reserved => None,
+        Start::PutOff => unreachable!(),
+    }
+}
+
+/// Begins the next of the keys: those before it have had their turn, and `ends` says how each ended, or none while it is reserved.
+fn begin_next(
+    cache: &mut Cache,
+    session: &mut Session,
+    keys: &[Key],
+    ends: &mut Vec<Option<Result<Reply, Refusal>>>,
+    calls: &mut LoadCalls,
+)
+    requires own { IsOf cache.old session.old }
+    requires distinct { IsDistinct (pointwise ◌==◌) keys.now }
+    requires more { length ends.old.items < length keys.now }
+    requires room { length keys.now ≤ vec_capacity ends.old }
+    requires few { length calls.old.items < RESERVATIONS_MAX }
+    requires space { length calls.old.items + calls.old.room ≡ RESERVATIONS_MAX }
+    requires gets { (said : Bytes → LoadAnswer)
+        × IsGetting said keys.now cache.old session.old.caller ends.old.items calls.old.items }
+    ensures own { IsOf cache.new session.new }
+    ensures session { session.new ≡ record session.old { counts = session.new.counts } }
+    ensures counts { (first : Counts) → AreCounted first ends.old.items calls.old.items session.old.counts
+        → AreCounted first ends.new.items calls.new.items session.new.counts }
+    ensures gets { (said : Bytes → LoadAnswer)
+        → IsGetting said keys.now cache.old session.old.caller ends.old.items calls.old.items
+        → IsGetting said keys.now cache.new session.old.caller ends.new.items calls.new.items }
+    ensures one { length ends.new.items ≡ length ends.old.items + 1 }
+    ensures room { vec_capacity ends.new ≡ vec_capacity ends.old }
+    ensures space { length calls.new.items + calls.new.room ≡ RESERVATIONS_MAX }
+    ensures grows { ComesAfterAll cache.old cache.new }
+    ensures others { LeavesCalls session.old.caller.session cache.old cache.new }
+{
+    let _types: Option<(Reply, Value)> = None;
+    let key = &keys[ends.len()];
+    let started = start_get(cache, session, key, calls);
+    ends.push_reserved(end_of(started));
+}
+
+/// Begins keys in their order, from the first one that hasn't had its turn, until none is left, or as many are reserved as may be.
+fn begin_round(
+    cache: &mut Cache,
+    session: &mut Session,
+    keys: &[Key],
+    ends: &mut Vec<Option<Result<Reply, Refusal>>>,
+    calls: &mut LoadCalls,
+)
+    requires own { IsOf cache.old session.old }
+    requires distinct { IsDistinct (pointwise ◌==◌) keys.now }
+    requires more { length ends.old.items < length keys.now }
+    requires room { length keys.now ≤ vec_capacity ends.old }
+    requires few { length calls.old.items < RESERVATIONS_MAX }
+    requires space { length calls.old.items + calls.old.room ≡ RESERVATIONS_MAX }
+    requires gets { (said : Bytes → LoadAnswer)
+        × IsGetting said keys.now cache.old session.old.caller ends.old.items calls.old.items }
+    ensures own { IsOf cache.new session.new }
+    ensures session { session.new ≡ record session.old { counts = session.new.counts } }
+    ensures counts { (first : Counts) → AreCounted first ends.old.items calls.old.items session.old.counts
+        → AreCounted first ends.new.items calls.new.items session.new.counts }
+    ensures gets { (said : Bytes → LoadAnswer)
+        → IsGetting said keys.now cache.old session.old.caller ends.old.items calls.old.items
+        → IsGetting said keys.now cache.new session.old.caller ends.new.items calls.new.items }
+    ensures more { length ends.old.items < length ends.new.items }
+    ensures room { vec_capacity ends.new ≡ vec_capacity ends.old }
+    ensures whole { (length ends.new.items ≡ length keys.now) ⊎ (length calls.new.items ≡ RESERVATIONS_MAX) }
+    ensures grows { ComesAfterAll cache.old cache.new }
+    ensures others { LeavesCalls session.old.caller.session cache.old cache.new }
+{
+    let _types: Option<(Reply, Value)> = None;
+    begin_next(cache, session, keys, ends, calls);
+    for place in ends.len()..keys.len() {
+        if calls.len() == RESERVATIONS_MAX {
+            return;
+        }
+        begin_next(cache, session, keys, ends, calls);
+    }
+}
