@@ -78,16 +78,17 @@ pub fn start_get(
 /// the value that was loaded, if one was found, or a fault if the loader failed.
 ///
 /// Conditions: the session and the call are of this cache. The session's current call, a bulk call, is under way; this call's
-/// reservation is the first that is out, and `rest`, which has no other of its key, are the others.
+/// reservation is the first that is out, and the others have no other of its key.
 pub fn commit_first_load(cache: &mut Cache, session: &mut Session, call: LoadedCall) -> Reply
-    ghost rest: { List Reservation }
     requires own { IsOf cache.old session.old }
     requires mark { call.cache ≡ cache.old.mark }
-    requires underway { IsUnderway cache.old session.old.caller (call.reservation ∷ rest) }
-    requires once { is_among (keys_out rest) call.reservation.key ≡ false }
+    requires underway { (rest : List Reservation)
+        × IsUnderway cache.old session.old.caller (call.reservation ∷ rest)
+        × (is_among (keys_out rest) call.reservation.key ≡ false) }
     ensures own { IsOf cache.new session.new }
     ensures session { session.new ≡ record session.old { counts = counts_ended session.old.counts } }
-    ensures underway { IsUnderway cache.new session.old.caller rest }
+    ensures underway { (rest : List Reservation) → IsUnderway cache.old session.old.caller (call.reservation ∷ rest)
+        → is_among (keys_out rest) call.reservation.key ≡ false → IsUnderway cache.new session.old.caller rest }
     ensures adds { AddsSteps session.old.caller (Step session.old.caller call.reservation.op call.reservation.key
         (load_only call.answer) None result ∷ []) cache.old cache.new }
     ensures others { LeavesCalls session.old.caller.session cache.old cache.new }

@@ -13,16 +13,16 @@ pub commit_load-requires-clause-caller : goal.commit_load-requires-clause-caller
 commit_load-requires-clause-caller g c =
     let who = c.args.session.now.caller in
     let r = c.args.call.reservation in
-    ap (λ (w : Caller). w.session) (is_caller who r (and_parts (is_by who r) (list_all (is_by who) g.rest) c.requires.1.1.0.by).0)
+    ap (λ (w : Caller). w.session) (is_caller who r (and_parts (is_by who r) (list_all (is_by who) c.requires.underway.0) c.requires.underway.1.by).0)
 
 pub commit_load-requires-clause-out : goal.commit_load-requires-clause-out
 commit_load-requires-clause-out g c a is =
-    c.stays_underway.ensures.is_out c.args.cache.now c.args.session.now.caller c.args.call.reservation g.rest a c.requires.1.1.0 is
+    c.stays_underway.ensures.is_out c.args.cache.now c.args.session.now.caller c.args.call.reservation c.requires.underway.0 a c.requires.underway.1 is
 
 pub returns-clause-underway : goal.returns-clause-underway
-returns-clause-underway g c =
-    c.stays_underway.ensures.commits c.args.cache.now c.commit_load.new.self c.args.session.now.caller c.args.call.reservation g.rest
-    (load_only c.args.call.answer) c.commit_load.result c.requires.1.1.0 c.requires.1.1.1 c.commit_load.ensures.phase
+returns-clause-underway g c rest under once =
+    c.stays_underway.ensures.commits c.args.cache.now c.commit_load.new.self c.args.session.now.caller c.args.call.reservation rest
+    (load_only c.args.call.answer) c.commit_load.result under once c.commit_load.ensures.phase
 
 pub returns-clause-adds : goal.returns-clause-adds
 returns-clause-adds g c =
@@ -32,4 +32,4 @@ returns-clause-adds g c =
     let made = c.commit_load.ensures.phase in
     adds_at who (Step who r.op r.key out None c.commit_load.result.reply ∷ []) r.key who.session c.args.cache.now c.commit_load.new.self made
     (commits_after made.before made.after r out c.commit_load.result c.grows.ensures made.made)
-    (λ q s t was now. c.records.ensures.commits c.args.cache.now c.commit_load.new.self who r g.rest out c.commit_load.result q s t c.requires.1.1.0 made was now)
+    (λ q s t was now. c.records.ensures.commits c.args.cache.now c.commit_load.new.self who r c.requires.underway.0 out c.commit_load.result q s t c.requires.underway.1 made was now)
