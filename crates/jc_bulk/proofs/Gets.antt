@@ -9,6 +9,7 @@
 --     begun_getting, begun_counted    the account of the call, and what its session counts, after a key has begun
 --     both_after_all, both_leave, both_counted    two phases, one after the other
 --     same_after_all             none
+--     refused_getting, refused_counted    the account of the call, and what its session counts, after a key is refused
 --     absent, key_there          a key isn't among those before it, and is at its place
 use Rattle.std.proofs.Common.{◌≡◌, ◌==◌, ◌≤◌, ◌<◌, ◌+◌, ◌*◌, ◌&&◌, ◌||◌, inl, inr, ℕ, zero, suc, List, [], ◌∷◌, ◌++◌, length, length-append, append_assoc, take, get_or, cond, Bool, true, false, not, Option, None, Some, Result, Ok, Err, nat_le, nat_lt, slice_get, refl, sym, ap, ◌∙◌, subst, arith}
 use Rattle.std.proofs.lemmas.Bool.{or_parts}
@@ -24,6 +25,7 @@ use Rattle.std.specs.Cmp.Lexicographic.{pointwise}
 use Rattle.jc_types.specs.declared.caller.Caller.{Caller}
 use Rattle.jc_types.specs.declared.limits.TheConstants.{STEP_PLACES, RESERVATIONS_MAX}
 use Rattle.jc_types.specs.declared.refusal.Refusal.{Refusal}
+use Rattle.jc_types.specs.declared.refusal.Refusal.TheVariants.{OutOfMemory}
 use Rattle.jc_types.specs.declared.config.Config.{Config}
 use Rattle.jc_model.specs.declared.event.Event.{Event}
 use Rattle.jc_model.specs.declared.event.Event.TheVariants.{Step}
@@ -369,3 +371,30 @@ same_after_all a = record {
 
 pub both_counted : {I J : Type 0} {D : I → Type 0} {E : J → Type 0} (a b c : Session I J D E) → b ≡ record a { counts = b.counts } → c ≡ record b { counts = c.counts } → c ≡ record a { counts = c.counts }
 both_counted {I} {J} {D} {E} a b c first second = second ∙ ap (λ (s : Session I J D E). record s { counts = c.counts }) first
+
+-- 8. A key that is refused since a later round has no memory.
+
+pub refused_getting : (said : Bytes → LoadAnswer) (keys : List Bytes) (cache : CacheState) (caller : Caller) (ends : List (Option (Result Reply Refusal))) (calls : List ReservedState) (key : Bytes)
+    → IsGetting said keys cache caller ends calls → is_among (take (length ends) keys) key ≡ false → take (length ends + 1) keys ≡ take (length ends) keys ++ key ∷ [] → RESERVATIONS_MAX < length keys
+    → IsGetting said keys cache caller (ends ++ Some (Err OutOfMemory) ∷ []) calls
+refused_getting said keys cache caller ends calls key gets fresh more many =
+    let end : Option (Result Reply Refusal) = Some (Err OutOfMemory) in
+    let t : Turn = record { key = key; ended = end } in
+    let turns = gets.turns in
+    let none : is_among (turn_keys turns) key ≡ false = ap (λ ks. is_among ks key) gets.keys_are ∙ fresh in
+    let pushed : turn_keys (turns ++ t ∷ []) ≡ turn_keys turns ++ key ∷ [] = map-append (λ (u : Turn). u.key) turns (t ∷ []) in
+    record {
+      turns = turns ++ t ∷ [];
+      keys_are = pushed ∙ ap (λ ks. ks ++ key ∷ []) gets.keys_are ∙ sym more ∙ ap (λ n. take n keys) (sym (one_longer ends end));
+      ends_are = map-append (λ (u : Turn). u.ended) turns (t ∷ []) ∙ ap (λ es. es ++ end ∷ []) gets.ends_are;
+      underway = gets.underway;
+      each = all_push (λ (u : Turn). (state : State) → IsStripeOf cache u.key state → IsTurn caller (length keys) (said u.key) u state) turns t gets.each
+          (λ state at. record { steps = gets.others key state none at; may = (gets.unasked key none, inr (refl, many)) });
+      others = λ q state no at. gets.others q state (not_pushed (turn_keys turns) key q (ap (λ ks. is_among ks q) (sym pushed) ∙ no)).0 at;
+      unasked = λ q no. gets.unasked q (not_pushed (turn_keys turns) key q (ap (λ ks. is_among ks q) (sym pushed) ∙ no)).0;
+      calls_are = gets.calls_are;
+      keys_open = gets.keys_open ∙ sym (filter_map-append (λ (u : Turn). key_if_open u.key u.ended) turns (t ∷ []) ∙ no_more (open_keys turns));
+    }
+
+pub refused_counted : (first counts : Counts) (ends : List (Option (Result Reply Refusal))) (calls : List ReservedState) (r : Refusal) → AreCounted first ends calls counts → AreCounted first (ends ++ Some (Err r) ∷ []) calls counts
+refused_counted first counts ends calls r counted = counted ∙ (λ i. record first { own = sym (own_push first.own ends (Some (Err r))) i; reservations = length calls })

@@ -1,11 +1,14 @@
 //! A `getAll` (JSR 107, `javax.cache.Cache.getAll`), in rounds.
-ghost use Rattle.std.specs.Prelude.{◌≡◌, ◌==◌, ◌<◌, ◌≤◌, ◌+◌, ◌⊎◌, length, vec_capacity};
+ghost use Rattle.std.specs.Prelude.{◌≡◌, ◌==◌, ◌<◌, ◌≤◌, ◌+◌, ◌⊎◌, List, length, vec_capacity};
 ghost use Rattle.std.specs.List.{IsDistinct};
 ghost use Rattle.std.specs.Cmp.Lexicographic.{pointwise};
+ghost use Rattle.jc_types.specs.declared.caller.Caller.{Caller};
 ghost use Rattle.jc_types.specs.declared.limits.TheConstants.{RESERVATIONS_MAX};
 ghost use Rattle.jc_model.specs.Cache.{Bytes};
 ghost use Rattle.jc_model.specs.declared.event.LoadAnswer.{LoadAnswer};
 ghost use Rattle.jc_session.specs.declared.counts.Counts.{Counts};
+ghost use Rattle.jc_cache.specs.Caches.{CacheState};
+ghost use Rattle.jc_cache.specs.Outstanding.{ReservedState};
 ghost use Rattle.jc_cache.specs.Sessions.{IsOf};
 ghost use Rattle.jc_bulk.specs.declared.round.Start.TheVariants.{PutOff};
 ghost use Rattle.jc_bulk.specs.Gets.{IsGetting, AreCounted, ComesAfterAll, end_started};
@@ -100,5 +103,23 @@ fn begin_round(
             return;
         }
         begin_next(cache, session, keys, ends, calls);
+    }
+}
+
+/// Ends each key that hasn't had its turn: it is refused, since the allocation of a later round failed. Nothing was asked for it.
+fn refuse_rest(keys: &[Key], ends: &mut Vec<Option<Result<Reply, Refusal>>>)
+    requires distinct { IsDistinct (pointwise ◌==◌) keys.now }
+    requires many { RESERVATIONS_MAX < length keys.now }
+    requires begun { length ends.old.items ≤ length keys.now }
+    requires room { length keys.now ≤ vec_capacity ends.old }
+    ensures gets { (said : Bytes → LoadAnswer) (cache : CacheState) (caller : Caller) (calls : List ReservedState)
+        → IsGetting said keys.now cache caller ends.old.items calls
+        → IsGetting said keys.now cache caller ends.new.items calls }
+    ensures counts { (first counts : Counts) (calls : List ReservedState)
+        → AreCounted first ends.old.items calls counts → AreCounted first ends.new.items calls counts }
+    ensures whole { length ends.new.items ≡ length keys.now }
+{
+    for place in ends.len()..keys.len() {
+        ends.push_reserved(Some(Err(Refusal::OutOfMemory)));
     }
 }
