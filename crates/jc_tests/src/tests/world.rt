@@ -12,6 +12,7 @@ use std::alloc::Global;
 use std::process::Abort;
 
 mod courses;
+mod many_keys;
 mod random;
 
 /// A cache with read-through and write-through.

@@ -94,7 +94,7 @@ fn word_of(shown: &Shown) -> &'static str {
 }
 
 /// Plays one event, which is to show this.
-fn shows(
+pub fn shows(
     rt: &impl Abort,
     alloc: Global,
     world: &mut World,
