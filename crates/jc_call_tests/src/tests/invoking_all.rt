@@ -139,19 +139,12 @@ fn goes_on_after_a_full_history(rt: HostRuntime) {
     is(&rt, session.own(), 16);
 }
 
-/// Inserts as many keys of this first byte.
-fn insert_row(rt: &impl Abort, keys: &mut IndexSet<Key>, first: u8, columns: u8) {
-    for second in 0..columns {
-        let key = Key::new(&[first, second]).expect(rt, "a key");
-        keys.insert(key).ok().expect(rt, "memory");
-    }
-}
-
-/// As many keys as `rows` times `columns`.
-fn many_keys(rt: &impl Abort, alloc: Global, rows: u8, columns: u8) -> IndexSet<Key> {
+/// So many keys.
+fn many_keys(rt: &impl Abort, alloc: Global, count: usize) -> IndexSet<Key> {
     let mut keys = IndexSet::new(alloc);
-    for first in 0..rows {
-        insert_row(rt, &mut keys, first, columns);
+    for number in 0..count {
+        let key = Key::new(&number.to_be_bytes()).expect(rt, "a key");
+        keys.insert(key).ok().expect(rt, "memory");
     }
     keys
 }
@@ -166,14 +159,12 @@ fn takes_so_many_keys(rt: HostRuntime) {
     let writer: Writer = Some(Box::new(alloc, desk.writer(rt)).ok().expect(&rt, "memory"));
     let mut session = started(&rt, &mut cache, loader, writer);
     let (cache, session) = (&mut cache, &mut session);
-    let keys = many_keys(&rt, alloc, 41, 25);
-    is(&rt, keys.len(), BULK_KEYS_MAX + 1);
+    let keys = many_keys(&rt, alloc, BULK_KEYS_MAX + 1);
     let refused = invoked(&rt, alloc, cache, session, &keys, "get set=1");
     is(&rt, refused.err(), Some(Refusal::TooManyKeys));
     is(&rt, session.own(), 0);
     desk.counted(&rt, "0 0 0");
-    let keys = many_keys(&rt, alloc, 32, 32);
-    is(&rt, keys.len(), BULK_KEYS_MAX);
+    let keys = many_keys(&rt, alloc, BULK_KEYS_MAX);
     let results = invoked(&rt, alloc, cache, session, &keys, "get set=1");
     is(&rt, results.ok().map(|results| results.len()), Some(0));
     is(&rt, session.own(), 1_024);
