@@ -11,3 +11,4 @@ mod LookingAtAll
 mod SoFar
 mod InRound
 pub mod Gets
+pub mod GetCommits

@@ -12,10 +12,12 @@
 --     IsGetting       the first of the keys have had their turn, and ended so; the call is under way, with those out that are reserved;
 --                     each turn is so in the cache, and no other key has a step of the call, or was asked for
 --     own_after_ends  how many steps the session has made after keys that ended so
+--     IsLoadedIn      the same, where the first call that is out has been answered, and these are the rest
 --     AreCounted      the session counts one step for each key that ended with one, and one reservation for each call that is out
 --     ComesAfterAll   the cache keeps its shape, and each of its stripes comes after an earlier one
-use Rattle.std.specs.Prelude.{◌≡◌, ℕ, List, [], ◌∷◌, length, map, take, false, Option, None, Some, Result, Ok, Err}
-use Rattle.std.specs.List.{filter_map, AllByRecursion}
+use Rattle.std.specs.Prelude.{◌≡◌, ◌==◌, ℕ, List, [], ◌∷◌, length, map, take, false, Option, None, Some, Result, Ok, Err}
+use Rattle.std.specs.List.{filter_map, AllByRecursion, IsDistinct}
+use Rattle.std.specs.Cmp.Lexicographic.{pointwise}
 use Rattle.jc_types.specs.declared.caller.Caller.{Caller}
 use Rattle.jc_types.specs.declared.refusal.Refusal.{Refusal}
 use Rattle.jc_model.specs.declared.event.Event.{Event}
@@ -31,7 +33,7 @@ use Rattle.jc_stripe.specs.State.{State}
 use Rattle.jc_session.specs.declared.counts.Counts.{Counts}
 use Rattle.jc_session.specs.declared.mark.Mark.{Mark}
 use Rattle.jc_cache.specs.Caches.{CacheState, IsStripeOf}
-use Rattle.jc_cache.specs.Outstanding.{ReservedState}
+use Rattle.jc_cache.specs.Outstanding.{ReservedState, AnsweredState}
 use Rattle.jc_cache.specs.OutstandingAll.{reserved_keys}
 use Rattle.jc_cache.specs.Whole.{own_after}
 use Rattle.jc_bulk.specs.declared.round.Start.{Start}
@@ -101,6 +103,11 @@ pub record IsGetting (said : Bytes → LoadAnswer) (keys : List Bytes) (cache : 
   pub unasked : (key : Bytes) → is_among (turn_keys turns) key ≡ false → said key ≡ NotAsked
   pub calls_are : AllByRecursion (IsGetCall cache.mark caller) calls
   pub keys_open : reserved_keys calls ≡ open_keys turns
+
+pub record IsLoadedIn (said : Bytes → LoadAnswer) (keys : List Bytes) (cache : CacheState) (caller : Caller) (ends : List (Option (Result Reply Refusal))) (call : AnsweredState LoadAnswer) (rest : List ReservedState) : Type 0 where
+  pub distinct : IsDistinct (pointwise ◌==◌) keys
+  pub answer : call.answer ≡ said call.reservation.key
+  pub gets : IsGetting said keys cache caller ends (record { cache = call.cache; reservation = call.reservation } ∷ rest)
 
 -- 3. The session, and what the calls of others rest on.
 

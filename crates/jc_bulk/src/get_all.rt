@@ -1,22 +1,24 @@
 //! A `getAll` (JSR 107, `javax.cache.Cache.getAll`), in rounds.
-ghost use Rattle.std.specs.Prelude.{◌≡◌, ◌==◌, ◌<◌, ◌≤◌, ◌+◌, ◌⊎◌, List, length, vec_capacity};
-ghost use Rattle.std.specs.List.{IsDistinct};
+ghost use Rattle.std.specs.Prelude.{◌≡◌, ◌==◌, ◌<◌, ◌≤◌, ◌+◌, ◌⊎◌, List, length, take, slice_get, slice_set, true, None, Some, Ok, is_some, vec_capacity};
+ghost use Rattle.std.specs.List.{IsDistinct, list_all};
 ghost use Rattle.std.specs.Cmp.Lexicographic.{pointwise};
 ghost use Rattle.jc_types.specs.declared.caller.Caller.{Caller};
 ghost use Rattle.jc_types.specs.declared.limits.TheConstants.{RESERVATIONS_MAX};
 ghost use Rattle.jc_model.specs.Cache.{Bytes};
 ghost use Rattle.jc_model.specs.declared.event.LoadAnswer.{LoadAnswer};
+ghost use Rattle.jc_model.specs.declared.event.Reply.{Reply};
+ghost use Rattle.jc_session.specs.Counting.{counts_ended};
 ghost use Rattle.jc_session.specs.declared.counts.Counts.{Counts};
 ghost use Rattle.jc_cache.specs.Caches.{CacheState};
 ghost use Rattle.jc_cache.specs.Outstanding.{ReservedState};
 ghost use Rattle.jc_cache.specs.Sessions.{IsOf};
 ghost use Rattle.jc_bulk.specs.declared.round.Start.TheVariants.{PutOff};
-ghost use Rattle.jc_bulk.specs.Gets.{IsGetting, AreCounted, ComesAfterAll, end_started};
+ghost use Rattle.jc_bulk.specs.Gets.{IsGetting, IsLoadedIn, AreCounted, ComesAfterAll, end_started};
 ghost use Rattle.jc_bulk.specs.Phased.{LeavesCalls};
 
-use crate::loads::start_get;
+use crate::loads::{commit_first_load, start_get};
 use crate::round::Start;
-use jc_cache::{Cache, LoadCalls, Session};
+use jc_cache::{Cache, LoadCalls, LoadedCall, Session};
 use jc_model::Reply;
 use jc_types::{Key, RESERVATIONS_MAX, Refusal, Value};
 
@@ -122,4 +124,31 @@ fn refuse_rest(keys: &[Key], ends: &mut Vec<Option<Result<Reply, Refusal>>>)
     for place in ends.len()..keys.len() {
         ends.push_reserved(Some(Err(Refusal::OutOfMemory)));
     }
+}
+
+/// The last phase at the key of this place, the first one that is still reserved, once the loader has answered.
+fn commit_next(
+    cache: &mut Cache,
+    session: &mut Session,
+    ends: &mut Vec<Option<Result<Reply, Refusal>>>,
+    place: usize,
+    call: LoadedCall,
+)
+    requires own { IsOf cache.old session.old }
+    requires before { list_all is_some (take place ends.old.items) ≡ true }
+    requires there { slice_get ends.old.items place ≡ Some None }
+    requires gets { (said : Bytes → LoadAnswer) × (keys : List Bytes) × (rest : List ReservedState)
+        × IsLoadedIn said keys cache.old session.old.caller ends.old.items call rest }
+    ensures own { IsOf cache.new session.new }
+    ensures session { session.new ≡ record session.old { counts = counts_ended session.old.counts } }
+    ensures ends { (reply : Reply) × (ends.new.items ≡ slice_set ends.old.items place (Some (Ok reply))) }
+    ensures gets { (said : Bytes → LoadAnswer) (keys : List Bytes) (rest : List ReservedState)
+        → IsLoadedIn said keys cache.old session.old.caller ends.old.items call rest
+        → IsGetting said keys cache.new session.old.caller ends.new.items rest }
+    ensures grows { ComesAfterAll cache.old cache.new }
+    ensures others { LeavesCalls session.old.caller.session cache.old cache.new }
+{
+    let _types: Option<(Reply, Value)> = None;
+    let reply = commit_first_load(cache, session, call);
+    ends[place] = Some(Ok(reply));
 }
