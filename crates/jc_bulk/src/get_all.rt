@@ -1,5 +1,6 @@
 //! A `getAll` (JSR 107, `javax.cache.Cache.getAll`), in rounds.
-ghost use Rattle.std.specs.Prelude.{◌≡◌, ◌==◌, ◌<◌, ◌≤◌, ◌+◌, ◌⊎◌, List, length, take, slice_get, slice_set, true, None, Some, Ok, is_some, vec_capacity};
+ghost use Rattle.std.specs.Prelude.{◌≡◌, ◌==◌, ◌<◌, ◌≤◌, ◌+◌, ◌⊎◌, true, None, Some, Ok, is_some};
+ghost use Rattle.std.specs.Prelude.{List, length, take, slice_get, slice_set, vec_capacity};
 ghost use Rattle.std.specs.List.{IsDistinct, list_all};
 ghost use Rattle.std.specs.Cmp.Lexicographic.{pointwise};
 ghost use Rattle.jc_types.specs.declared.caller.Caller.{Caller};
