@@ -2,7 +2,7 @@ use Rattle.std.proofs.Common.{List, sym, subst}
 use Rattle.jc_world.specs.declared.event.WorldEvent.{WorldEvent}
 use Rattle.jc_world.specs.Events.{AllFit}
 use Rattle.jc_script.proofs.Fitting.{call_fits}
-use Rattle.jc_script.proofs.player.begin.Goals as goal
+use Rattle.jc_script.proofs.player.beginning.begin.Goals as goal
 
 pub play-requires : goal.play-requires
 play-requires c =
