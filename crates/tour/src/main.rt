@@ -17,6 +17,23 @@ use jc_types::{Config, Key, Value};
 use std::alloc::Global;
 use std::sync::Wait;
 
+/// One call that increments the value of each of these keys. One that failed would have its fault in the place of its sum.
+fn increment_each(
+    alloc: Global,
+    rt: &(impl Print + Wait),
+    cache: &mut Cache,
+    session: &mut Session,
+    keys: &IndexSet<Key>,
+    increment: &mut Box<dyn EntryProcessor + Send + Drop>,
+) -> anyhow::Result<()>
+    requires { MayCall cache.old session.old }
+{
+    for (key, sum) in &invoke_all(alloc, rt, cache, session, keys, increment, &[])? {
+        println!(rt; "increment both: {key:?} is {sum:?}")?;
+    }
+    Ok(())
+}
+
 /// Some calls. As each of them does, it has the condition that the session is of this cache and may call it.
 fn visit(
     alloc: Global,
@@ -42,9 +59,7 @@ fn visit(
     let mut keys = IndexSet::new(alloc);
     keys.insert(pear)?;
     keys.insert(apple)?;
-    for (key, sum) in &invoke_all(alloc, rt, cache, session, &keys, increment, &[])? {
-        println!(rt; "increment both: {key:?} is {:?}", (*sum)?)?;
-    }
+    increment_each(alloc, rt, cache, session, &keys, increment)?;
     println!(rt; "the session has made {} steps", session.own())?;
     Ok(())
 }
