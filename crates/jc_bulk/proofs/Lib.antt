@@ -12,3 +12,4 @@ mod SoFar
 mod InRound
 pub mod Gets
 pub mod GetCommits
+mod Written

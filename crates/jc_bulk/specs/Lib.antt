@@ -11,3 +11,4 @@ pub mod StartingLoads
 pub mod Clearing
 pub mod InRound
 pub mod Gets
+pub mod Written

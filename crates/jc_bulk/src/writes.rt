@@ -1,5 +1,5 @@
 //! The phases of one round of a bulk call that writes.
-ghost use Rattle.std.specs.Prelude.{◌≡◌, ◌==◌, ◌<◌, ◌≤◌, ◌+◌, ℕ, [], Some, length, set, slice_get};
+ghost use Rattle.std.specs.Prelude.{◌≡◌, ◌==◌, ◌<◌, ◌≤◌, ◌+◌, ℕ, List, [], Some, Ok, length, set, slice_get};
 ghost use Rattle.std.specs.List.{IsDistinct};
 ghost use Rattle.std.specs.Map.{keys_of};
 ghost use Rattle.std.specs.Cmp.Lexicographic.{pointwise};
@@ -7,15 +7,19 @@ ghost use Rattle.jc_types.specs.declared.limits.TheConstants.{RESERVATIONS_MAX};
 ghost use Rattle.jc_model.specs.declared.event.Op.{Op as OpData};
 ghost use Rattle.jc_model.specs.Cache.{Bytes};
 ghost use Rattle.jc_model.specs.declared.event.Out.{Out};
+ghost use Rattle.jc_model.specs.declared.event.Reply.{Reply as ReplyData};
+ghost use Rattle.jc_session.specs.Counting.{counts_ended};
 ghost use Rattle.jc_session.specs.declared.counts.Counts.{Counts};
+ghost use Rattle.jc_cache.specs.Outstanding.{ReservedState};
 ghost use Rattle.jc_cache.specs.Sessions.{IsOf};
 ghost use Rattle.jc_bulk.specs.InRound.{IsInRound, AreOut, IsLater, counts_so_far};
 ghost use Rattle.jc_bulk.specs.Starting.{reservations_in, WritesAs};
+ghost use Rattle.jc_bulk.specs.Written.{IsWrittenIn};
 ghost use Rattle.jc_bulk.specs.declared.round.Start.{Start as StartData};
 ghost use Rattle.jc_bulk.specs.declared.round.Start.TheVariants as start;
 
-use crate::round::{Start, start_write};
-use jc_cache::{Cache, Session, WriteCalls};
+use crate::round::{Start, commit_first, start_write};
+use jc_cache::{Cache, Session, WriteCalls, WrittenCall};
 use jc_model::Op;
 use jc_types::Key;
 
@@ -133,4 +137,34 @@ fn start_key(
 {
     let (key, op) = &targets[i];
     progress[i] = start_write(cache, session, key, op, calls);
+}
+
+/// The last phase of a bulk call that writes, at its key of this place, the first one that is still reserved, once the writer has
+/// reported.
+fn commit_key(
+    cache: &mut Cache,
+    session: &mut Session,
+    i: usize,
+    progress: &mut [Start],
+    call: WrittenCall,
+)
+    requires own { IsOf cache.old session.old }
+    requires index { i < length progress.old }
+    requires at { slice_get progress.old i ≡ Some start.Reserved }
+    requires before { (j : ℕ) → j < i → slice_get progress.old j ≡ Some start.Reserved → ⊥ }
+    requires round { (ops : List (Bytes × OpData)) × (said : Bytes → Out) × (rest : List ReservedState)
+        × IsWrittenIn session.old.caller ops said progress.old call rest cache.old }
+    ensures own { IsOf cache.new session.new }
+    ensures session { session.new ≡ record session.old { counts = counts_ended session.old.counts } }
+    ensures progress { (reply : ReplyData) × (progress.new ≡ set progress.old i (start.Ended (Ok reply))) }
+    ensures out { (ops : List (Bytes × OpData)) (said : Bytes → Out) (rest : List ReservedState)
+        → IsWrittenIn session.old.caller ops said progress.old call rest cache.old
+        → AreOut cache.old.mark session.old.caller ops progress.new rest }
+    ensures round { (ops : List (Bytes × OpData)) (said : Bytes → Out) (rest : List ReservedState)
+        → IsWrittenIn session.old.caller ops said progress.old call rest cache.old
+        → IsInRound session.old.caller ops said progress.new (reservations_in rest) cache.new }
+    ensures later { IsLater session.old.caller.session cache.old cache.new }
+{
+    let reply = commit_first(cache, session, call);
+    progress[i] = Start::Ended(Ok(reply));
 }
