@@ -7,6 +7,7 @@ mod coherence;
 mod evictions;
 mod failures;
 mod full;
+mod invoke_all;
 mod joins;
 mod limits;
 mod loading;
