@@ -11,6 +11,7 @@ mod asking;
 mod asking_all;
 mod bytes;
 mod calls;
+mod clearing;
 mod histories;
 mod invoking;
 mod invoking_all;
