@@ -29,11 +29,11 @@ use Rattle.jc_bulk.proofs.Gets.{turn_kept, turns_kept, others_kept, own_step, no
 
 -- 1. Lists.
 
-apart_all : (key : Bytes) (keys : List Bytes) → AllByRecursion (λ y. pointwise ◌==◌ key y ≡ false) keys → is_among keys key ≡ false
+pub apart_all : (key : Bytes) (keys : List Bytes) → AllByRecursion (λ y. pointwise ◌==◌ key y ≡ false) keys → is_among keys key ≡ false
 apart_all key [] all = refl
 apart_all key (k ∷ keys) all = ap (λ b. b || is_among keys key) all.0 ∙ apart_all key keys all.1
 
-all_apart : (key : Bytes) (keys : List Bytes) → is_among keys key ≡ false → AllByRecursion (λ y. pointwise ◌==◌ key y ≡ false) keys
+pub all_apart : (key : Bytes) (keys : List Bytes) → is_among keys key ≡ false → AllByRecursion (λ y. pointwise ◌==◌ key y ≡ false) keys
 all_apart key [] none = tt
 all_apart key (k ∷ keys) none = let parts = or_parts (pointwise ◌==◌ key k) (is_among keys key) none in (parts.0, all_apart key keys parts.1)
 
@@ -60,7 +60,7 @@ abbrev pub end_first : Result Reply Refusal → List Turn → List Turn
 end_first ended [] = []
 end_first ended (t ∷ turns) = end_one t.key t.ended ended turns (end_first ended turns)
 
-same_keys : (ended : Result Reply Refusal) (turns : List Turn) → turn_keys (end_first ended turns) ≡ turn_keys turns
+pub same_keys : (ended : Result Reply Refusal) (turns : List Turn) → turn_keys (end_first ended turns) ≡ turn_keys turns
 same_keys ended [] = refl
 same_keys ended (t ∷ turns) = by t.ended (same_keys ended turns)
   where
@@ -69,7 +69,7 @@ same_keys ended (t ∷ turns) = by t.ended (same_keys ended turns)
     by (Some x) rest = ap (λ ks. t.key ∷ ks) rest
 
 -- what is so of each key is so of the first open one
-first_so : (P : Bytes → Type 0) (turns : List Turn) (k : Bytes) (ks : List Bytes) → open_keys turns ≡ k ∷ ks → AllByRecursion P (turn_keys turns) → P k
+pub first_so : (P : Bytes → Type 0) (turns : List Turn) (k : Bytes) (ks : List Bytes) → open_keys turns ≡ k ∷ ks → AllByRecursion P (turn_keys turns) → P k
 first_so P [] k ks is all = cc
 first_so P (t ∷ turns) k ks is all = by t.ended is (λ h. first_so P turns k ks h all.1)
   where
@@ -91,7 +91,7 @@ open_once (t ∷ turns) k ks d is = by t.ended is (open_once turns k ks (IsDisti
         ap (λ xs. is_among xs k) (sym rest) ∙ ap (is_among (open_keys turns)) (sym same) ∙ not_open turns t.key away
     by (Some x) h later = later h
 
-open_rest : (ended : Result Reply Refusal) (turns : List Turn) (k : Bytes) (ks : List Bytes) → open_keys turns ≡ k ∷ ks → open_keys (end_first ended turns) ≡ ks
+pub open_rest : (ended : Result Reply Refusal) (turns : List Turn) (k : Bytes) (ks : List Bytes) → open_keys turns ≡ k ∷ ks → open_keys (end_first ended turns) ≡ ks
 open_rest ended [] k ks is = cc
 open_rest ended (t ∷ turns) k ks is = by t.ended is (open_rest ended turns k ks)
   where
@@ -101,7 +101,7 @@ open_rest ended (t ∷ turns) k ks is = by t.ended is (open_rest ended turns k k
     by (Some x) h later = later h
 
 -- at the place of the first open turn
-ends_set : (ended : Result Reply Refusal) (turns : List Turn) (place : ℕ) → list_all is_some (take place (turn_ends turns)) ≡ true → slice_get (turn_ends turns) place ≡ Some None
+pub ends_set : (ended : Result Reply Refusal) (turns : List Turn) (place : ℕ) → list_all is_some (take place (turn_ends turns)) ≡ true → slice_get (turn_ends turns) place ≡ Some None
     → turn_ends (end_first ended turns) ≡ set (turn_ends turns) place (Some ended)
 ends_set ended [] place before at = cc
 ends_set ended (t ∷ turns) zero before at = by t.ended at

@@ -210,7 +210,7 @@ after_all caller events old new adds = record {
 
 -- 4. The account of a key that begins.
 
-one_longer : {A : Type 0} (xs : List A) (x : A) → length (xs ++ x ∷ []) ≡ length xs + 1
+pub one_longer : {A : Type 0} (xs : List A) (x : A) → length (xs ++ x ∷ []) ≡ length xs + 1
 one_longer xs x = omega (arith, length-append xs (x ∷ []))
 
 not_here : (key k : Bytes) (ended : Option (Result Reply Refusal)) (rest : List Bytes) → pointwise ◌==◌ key k ≡ false → is_among rest key ≡ false → is_among (cons_option (key_if_open k ended) rest) key ≡ false
@@ -234,7 +234,7 @@ calls_after mark caller key start.Reserved old new h all =
     subst (λ (b : BatchState ReservedState). AllByRecursion (IsGetCall mark caller) b.items) (sym h.3) (all_push (IsGetCall mark caller) old.items h.0 all one)
 calls_after mark caller key start.PutOff old new h all = subst (λ (b : BatchState ReservedState). AllByRecursion (IsGetCall mark caller) b.items) (sym h) all
 
-open_after : (mark : Mark) (s : State) (caller : Caller) (key : Bytes) (x : Start) (old new : BatchState ReservedState) → length old.items < RESERVATIONS_MAX → StartsFor s caller (reservations_in old.items) key Get x
+pub open_after : (mark : Mark) (s : State) (caller : Caller) (key : Bytes) (x : Start) (old new : BatchState ReservedState) → length old.items < RESERVATIONS_MAX → StartsFor s caller (reservations_in old.items) key Get x
     → StartsLoad mark caller key x old new → reserved_keys new.items ≡ reserved_keys old.items ++ cons_option (key_if_open key (end_started x)) []
 open_after mark s caller key (start.Ended ended) old new few why h = ap (λ (b : BatchState ReservedState). reserved_keys b.items) h ∙ sym (no_more (reserved_keys old.items))
 open_after mark s caller key start.Reserved old new few why h =
@@ -285,7 +285,7 @@ fewer n few = omega (arith, few)
 
 pub begun_counted : (mark : Mark) (s : State) (caller : Caller) (key : Bytes) (first counts : Counts) (ends : List (Option (Result Reply Refusal))) (calls calls' : BatchState ReservedState) (x : Start)
     → length calls.items < RESERVATIONS_MAX → StartsFor s caller (reservations_in calls.items) key Get x → StartsLoad mark caller key x calls calls'
-    → AreCounted first ends calls.items counts → AreCounted first (ends ++ end_started x ∷ []) calls'.items (counts_started counts x)
+    → AreCounted first ends (length calls.items) counts → AreCounted first (ends ++ end_started x ∷ []) (length calls'.items) (counts_started counts x)
 begun_counted mark s caller key first counts ends calls calls' (start.Ended (Ok reply)) few why h counted =
     let own = own_push first.own ends (Some (Ok reply)) in
     ap (λ (c : Counts). record c { own = one_more c.own }) counted
@@ -396,5 +396,5 @@ refused_getting said keys cache caller ends calls key gets fresh more many =
       keys_open = gets.keys_open ∙ sym (filter_map-append (λ (u : Turn). key_if_open u.key u.ended) turns (t ∷ []) ∙ no_more (open_keys turns));
     }
 
-pub refused_counted : (first counts : Counts) (ends : List (Option (Result Reply Refusal))) (calls : List ReservedState) (r : Refusal) → AreCounted first ends calls counts → AreCounted first (ends ++ Some (Err r) ∷ []) calls counts
-refused_counted first counts ends calls r counted = counted ∙ (λ i. record first { own = sym (own_push first.own ends (Some (Err r))) i; reservations = length calls })
+pub refused_counted : (first counts : Counts) (ends : List (Option (Result Reply Refusal))) (out : ℕ) (r : Refusal) → AreCounted first ends out counts → AreCounted first (ends ++ Some (Err r) ∷ []) out counts
+refused_counted first counts ends out r counted = counted ∙ (λ i. record first { own = sym (own_push first.own ends (Some (Err r))) i; reservations = out })

@@ -8,8 +8,18 @@ mod Refusing
 mod KeyEnds
 mod ClearingKeys
 mod LookingAtAll
-mod SoFar
-mod InRound
 pub mod Gets
 pub mod GetCommits
-mod Written
+pub mod GetRounds
+pub mod GetAsks
+pub mod Failures
+pub mod GotAll
+pub mod GetResults
+pub mod RunningRounds
+mod WrittenThrough
+pub mod Writes
+pub mod WriteRounds
+pub mod WriteAsks
+pub mod RunningWrites
+pub mod WrittenAll
+pub mod WriteTargets

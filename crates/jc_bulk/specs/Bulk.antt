@@ -4,7 +4,8 @@
 --     CarriesOut      the session's next call, carried out for these keys: each ended in one way, with at most one step; no other key has a
 --                     step of the call; the session has so many steps more; and what other sessions need stays
 --     IsRefusedWhole  the call changed nothing and was refused whole: it has too many keys, or an allocation failed
---     AsksWriterInRounds    the writer was asked in rounds: each change at most once, as its keys want it; and the loader never
+--     AsksWriterInRounds    the writer was asked in rounds, of which none is empty: each change at most once, as its keys want it; and the
+--                           loader never
 --     AsksLoaderInRounds    the loader was asked in rounds: each key at most once; and the writer never
 --     said_to_writes, said_to_loads    what was answered outside at each key
 --     CauseAmong      the cause is a fault or refusal of a key, or a fault that the writer returned
@@ -27,6 +28,7 @@ use Rattle.jc_model.specs.declared.event.Out.{Out}
 use Rattle.jc_model.specs.Batches.{is_among}
 use Rattle.jc_model.specs.Cache.{Bytes}
 use Rattle.jc_model.specs.Group.{load_only, write_only}
+use Rattle.jc_batch.specs.Changes.{changes_of}
 use Rattle.jc_outside.specs.CallingAll.{WriteAllRelation, DeleteAllRelation, LoadAllRelation}
 use Rattle.jc_stripe.specs.Keys.{AreKeys}
 use Rattle.jc_stripe.specs.Laws.{Extends}
@@ -78,6 +80,7 @@ pub record AsksWriterInRounds
   pub writer : WritesInRounds (boxed writes_all) (boxed deletes_all) (boxed write_state) session.hands.outside.writer rounds session'.hands.outside.writer
   pub each : All (IsAmong wanted) (changes_in rounds)
   pub once : AreOnce (keys_of (changes_in rounds))
+  pub called : All (λ (r : WriteRound). changes_of r.batch ≡ [] → ⊥) rounds
   pub loader : session'.hands.outside.loader ≡ session.hands.outside.loader
 
 pub record AsksLoaderInRounds

@@ -13,7 +13,7 @@
 --                     each turn is so in the cache, and no other key has a step of the call, or was asked for
 --     own_after_ends  how many steps the session has made after keys that ended so
 --     IsLoadedIn      the same, where the first call that is out has been answered, and these are the rest
---     AreCounted      the session counts one step for each key that ended with one, and one reservation for each call that is out
+--     AreCounted      the session counts one step for each key that ended with one, and these reservations
 --     ComesAfterAll   the cache keeps its shape, and each of its stripes comes after an earlier one
 use Rattle.std.specs.Prelude.{◌≡◌, ◌==◌, ℕ, List, [], ◌∷◌, length, map, take, false, Option, None, Some, Result, Ok, Err}
 use Rattle.std.specs.List.{filter_map, AllByRecursion, IsDistinct}
@@ -116,8 +116,8 @@ own_after_ends own [] = own
 own_after_ends own (None ∷ ends) = own_after_ends own ends
 own_after_ends own (Some ended ∷ ends) = own_after_ends (own_after own ended) ends
 
-abbrev pub AreCounted : Counts → List (Option (Result Reply Refusal)) → List ReservedState → Counts → Type 0
-AreCounted first ends calls counts = counts ≡ record first { own = own_after_ends first.own ends; reservations = length calls }
+abbrev pub AreCounted : Counts → List (Option (Result Reply Refusal)) → ℕ → Counts → Type 0
+AreCounted first ends out counts = counts ≡ record first { own = own_after_ends first.own ends; reservations = out }
 
 pub record ComesAfterAll (old new : CacheState) : Type 0 where
   pub mark : new.mark ≡ old.mark

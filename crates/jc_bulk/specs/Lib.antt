@@ -1,6 +1,5 @@
 pub mod Recorded
 pub mod Ends
-pub mod Results
 pub mod Rounds
 pub mod Bulk
 pub mod Underway
@@ -9,6 +8,9 @@ pub mod Starting
 pub mod Phased
 pub mod StartingLoads
 pub mod Clearing
-pub mod InRound
 pub mod Gets
-pub mod Written
+pub mod GetRounds
+pub mod Getting
+pub mod Writing
+pub mod WriteRounds
+pub mod WritingAll

@@ -61,7 +61,7 @@ pub fn clear(alloc: Global, cache: &mut Cache, session: &mut Session) -> Result<
 }
 
 /// The keys of all stripes: of one look at each, in their order.
-fn look_at_all(alloc: Global, cache: &Cache) -> Result<Vec<Key>, AllocError>
+pub(crate) fn look_at_all(alloc: Global, cache: &Cache) -> Result<Vec<Key>, AllocError>
     ensures looked { IfOk result (λ keys. AreLooked cache.now.stripes keys.items) }
     ensures distinct { IfOk result (λ keys. IsDistinct (pointwise ◌==◌) keys.items) }
 {

@@ -1,6 +1,9 @@
 //! Bulk calls that failed, in whole or in part.
+ghost use Rattle.std.specs.Prelude.{◌≡◌, []};
+
 use indexmap::IndexMap;
 use jc_types::{Key, Refusal, Value};
+use std::alloc::Global;
 
 /// What became of a bulk call of which a key failed, or that was refused whole.
 #[derive(Drop)]
@@ -13,4 +16,19 @@ pub struct BulkFault {
     pub failed: IndexMap<Key, Refusal>,
     /// Each key that has a value, with it, of a `getAll`.
     pub found: IndexMap<Key, Value>,
+}
+
+impl BulkFault {
+    /// What a call returns that is refused whole, and so names no key.
+    pub(crate) fn of_whole_call(alloc: Global, cause: Refusal) -> BulkFault
+        ensures cause { result.cause ≡ cause }
+        ensures failed { result.failed.entries ≡ [] }
+        ensures found { result.found.entries ≡ [] }
+    {
+        BulkFault {
+            cause,
+            failed: IndexMap::new(alloc),
+            found: IndexMap::new(alloc),
+        }
+    }
 }

@@ -3,15 +3,18 @@
 
 mod clear_all;
 mod fault;
-mod get_all;
+mod get_rounds;
+mod getting;
 pub mod laws;
 mod loads;
 mod results;
 mod round;
-mod writes;
+mod write_rounds;
+mod writing;
 
 pub use clear_all::clear;
 pub use fault::BulkFault;
+pub use getting::get_all;
 pub use loads::{commit_first_load, start_get};
 pub use round::{Start, commit_first, start_write};
-pub use writes::start_keys;
+pub use writing::{put_all, remove_all, remove_every};

@@ -1,5 +1,5 @@
 //! One key of a bulk call that writes, in one of its rounds.
-ghost use Rattle.std.specs.Prelude.{◌≡◌, ◌<◌, ◌∷◌, List, [], None, false};
+ghost use Rattle.std.specs.Prelude.{◌≡◌, ◌<◌, ◌∷◌, List, [], None, true, false};
 ghost use Rattle.jc_model.specs.declared.event.Event.TheVariants.{Step};
 ghost use Rattle.jc_model.specs.Batches.{is_among};
 ghost use Rattle.jc_model.specs.Group.{write_only};
@@ -9,6 +9,8 @@ ghost use Rattle.jc_session.specs.Counting.{counts_ended};
 ghost use Rattle.jc_cache.specs.Caches.{IsStripeOf};
 ghost use Rattle.jc_cache.specs.OutstandingAll.{reserved_keys};
 ghost use Rattle.jc_cache.specs.Sessions.{IsOf};
+ghost use Rattle.jc_bulk.specs.declared.round.Start.TheVariants.{PutOff, Reserved};
+ghost use Rattle.jc_bulk.specs.Gets.{end_started};
 ghost use Rattle.jc_bulk.specs.Laws.{keys_out};
 ghost use Rattle.jc_bulk.specs.Phased.{counts_started, LeavesCalls, AddsSteps};
 ghost use Rattle.jc_bulk.specs.Recorded.{steps_of};
@@ -31,6 +33,20 @@ pub enum Start {
     Reserved,
     /// The key is put off to the next round.
     PutOff,
+}
+
+impl Start {
+    /// How the first phase has ended its key, or none if it has reserved it.
+    pub(crate) fn end(self) -> Option<Result<Reply, Refusal>>
+        requires { self ≡ PutOff → ⊥ }
+        ensures { result ≡ end_started self }
+    {
+        match self {
+            Start::Ended(ended) => Some(ended),
+            Start::Reserved => None,
+            Start::PutOff => unreachable!(),
+        }
+    }
 }
 
 /// The first phase of a `putAll` or a `removeAll` at one of its keys: a `Put` if `calls` write, and a `Remove` if they delete. A key
@@ -59,6 +75,7 @@ pub fn start_write(
     ensures why { (s : State) × IsStripeOf cache.old key.now s
         × StartsFor s session.old.caller (reservations_in calls.old.items) key.now op.now result }
     ensures calls { StartsWrite cache.old.mark session.old.caller key.now op.now result calls.old calls.new }
+    ensures through { result ≡ Reserved → cache.old.config.write_through ≡ true }
     ensures underway { IsUnderway cache.new session.old.caller (reservations_in calls.new.items) }
     ensures adds { AddsSteps session.old.caller (steps_started session.old.caller key.now op.now result) cache.old cache.new }
     ensures others { LeavesCalls session.old.caller.session cache.old cache.new }

@@ -12,13 +12,16 @@ mod asking_all;
 mod bytes;
 mod calls;
 mod clearing;
+mod getting_all;
 mod histories;
 mod invoking;
 mod invoking_all;
 mod limits;
+mod many;
 mod outside;
 mod scripted;
 mod stores;
+mod writing_all;
 
 use answers::{answer_of, called, first_word, key, value};
 use jc_cache::Cache;

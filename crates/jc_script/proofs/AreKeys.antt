@@ -16,7 +16,7 @@ use Rattle.jc_script.proofs.Given.{ok_then, ok_since, ok_weaker}
 use Rattle.jc_script.proofs.ReadWords.{SaysKey, key_read}
 use Rattle.jc_script.proofs.SpelledWords.{AreWords, text_word}
 
-abbrev same : Bytes → Bytes → Bool
+abbrev pub same : Bytes → Bytes → Bool
 same = pointwise ◌==◌
 
 -- 1. A key that is not among others.
@@ -26,7 +26,7 @@ apart [] rest key b all = all.0
 apart (x ∷ before) rest key b all = apart before rest key b all.1
 
 -- of keys that differ, none is among those before it
-fresh : (before rest : List Bytes) (key : Bytes) → IsDistinct same (before ++ (key ∷ rest)) → is_among before key ≡ false
+pub fresh : (before rest : List Bytes) (key : Bytes) → IsDistinct same (before ++ (key ∷ rest)) → is_among before key ≡ false
 unfolding IsDistinct
 fresh [] rest key d = refl
 fresh (b ∷ before) rest key d =
@@ -41,7 +41,7 @@ at_end P [] key all p = (p, tt)
 at_end P (b ∷ before) key all p = (all.0, at_end P before key all.1 p)
 
 -- and with one that is not among them they differ still
-one_more : (before : List Bytes) (key : Bytes) → IsDistinct same before → is_among before key ≡ false → IsDistinct same (before ++ (key ∷ []))
+pub one_more : (before : List Bytes) (key : Bytes) → IsDistinct same before → is_among before key ≡ false → IsDistinct same (before ++ (key ∷ []))
 unfolding IsDistinct
 one_more [] key d e = (tt, tt)
 one_more (b ∷ before) key d e =
@@ -64,8 +64,8 @@ keys_onto before (key ∷ keys) known d =
     rw (key_taken before key (All-head IsKey key keys known) (fresh before keys key d))
     (keys_onto (before ++ (key ∷ [])) keys (All-tail IsKey key keys known) (rw shifted d) ∙ ap Ok shifted)
 
-pub keys_back : (keys : List Bytes) → AreKeys keys → keys_of keys ≡ Ok keys
-keys_back keys known = keys_onto [] keys known.1 known.2
+pub keys_back : (least : ℕ) (keys : List Bytes) → AreKeys least keys → keys_of keys ≡ Ok keys
+keys_back least keys known = keys_onto [] keys known.1 known.2
 
 pub keys_are_words : (keys : List Bytes) → All IsKey keys → AreWords keys
 keys_are_words [] known = refl

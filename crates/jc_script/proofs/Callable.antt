@@ -5,7 +5,7 @@ use Rattle.jc_model.specs.declared.event.Op.{Op}
 use Rattle.jc_model.specs.declared.event.Op.TheVariants as op
 use Rattle.jc_world.specs.Events.{is_single, is_session}
 use Rattle.jc_script.specs.declared.line.Line.{Line}
-use Rattle.jc_script.specs.declared.line.Line.TheVariants.{Open, Set, Begin, InvokeAll, OfCall, Foreign, Audit}
+use Rattle.jc_script.specs.declared.line.Line.TheVariants.{Open, Set, Begin, BeginBulk, OfCall, Foreign, Audit}
 use Rattle.jc_script.specs.Lines.{read_line, is_callable}
 use Rattle.jc_script.specs.Spelled.{IsSession, IsOperation, SaysWords}
 use Rattle.jc_script.proofs.Given.{ok_weaker}
@@ -36,7 +36,7 @@ line_callable : (line : Line) → SaysWords line → is_callable line ≡ true
 line_callable (Open config) known = refl
 line_callable (Set key value) known = refl
 line_callable (Begin call session command) known = and_from _ _ (operation_single command.op known.2) (session_known session known.1)
-line_callable (InvokeAll call session keys) known = session_known session known.1
+line_callable (BeginBulk call session bulk) known = and_from _ _ known.2 (session_known session known.1)
 line_callable (OfCall call act) known = refl
 line_callable (Foreign key value) known = refl
 line_callable Audit known = refl

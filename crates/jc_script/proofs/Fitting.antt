@@ -1,94 +1,222 @@
--- The events of a line where it has no fault fit: of the begin of a call, and of a call under way.
-use Rattle.std.proofs.Common.{◌≡◌, ◌==◌, ◌∙◌, ℕ, Bool, true, false, List, [], ◌∷◌, Option, None, Some, is_some, length, slice_get, cond, refl, sym, ap}
-use Rattle.std.specs.Prelude.{nat_lt}
+-- The events of a line about a call under way fit, if it is the time for it.
+use Rattle.std.proofs.Common.{◌≡◌, ◌==◌, ◌∙◌, ◌&&◌, ◌||◌, ◌++◌, ◌+◌, ◌<◌, ℕ, Bool, true, false, not, List, [], ◌∷◌, Option, None, Some, is_none, is_some, length, filter, get_or, map, option_to_list, slice_get, take, cond, refl, sym, ap, subst, append-nil, arith, zero, suc}
+use Rattle.std.specs.List.{AllByRecursion, IsDistinct, list_all, list_any}
 use Rattle.std.specs.Cmp.Lexicographic.{pointwise}
-use Rattle.std.proofs.lemmas.Cmp.{nat_list_eq_equiv}
-use Rattle.std.proofs.lemmas.List.{length-map}
-use Rattle.jc_types.specs.declared.limits.TheConstants.{BULK_KEYS_MAX}
-use Rattle.jc_model.specs.declared.event.Op.TheVariants as op
-use Rattle.jc_model.specs.declared.event.LoadAnswer.TheVariants.{Failed}
+use Rattle.std.proofs.lemmas.Bool.{and_from, and_parts}
+use Rattle.std.proofs.lemmas.Cmp.{nat_eq_equiv, nat_list_eq_equiv}
+use Rattle.std.proofs.lemmas.List.{map-append, take_more}
+use Rattle.std.proofs.lemmas.List.Elements.{filter-append}
+use Rattle.std.proofs.lemmas.Map.Keys.{apart_from_distinct, IsDistinct-cons, IsDistinct-head, IsDistinct-tail}
+use Rattle.jc_model.specs.declared.event.LoadAnswer.{LoadAnswer}
+use Rattle.jc_model.specs.declared.event.LoadAnswer.TheVariants.{Found, Nothing}
+use Rattle.jc_model.specs.Batches.{is_among}
 use Rattle.jc_model.specs.Cache.{Bytes}
+use Rattle.jc_model.specs.Table.{is_load_given}
 use Rattle.jc_world.specs.declared.event.Part.{Part}
-use Rattle.jc_world.specs.declared.command.Command.{Command}
-use Rattle.jc_world.specs.declared.command.Command.TheVariants as command
-use Rattle.jc_world.specs.Calls.{CallState, at_each, current_key, has_too_many_keys, is_turn, new_call, op_at, is_at, op_in, open_in, takes_turns}
-use Rattle.std.specs.Map.{lookup}
-use Rattle.std.specs.Option.{option_flatten}
+use Rattle.jc_world.specs.Calls.{CallState, open_keys, takes_turns}
+use Rattle.jc_world.specs.declared.event.WorldEvent.{WorldEvent}
 use Rattle.jc_world.specs.declared.event.WorldEvent.TheVariants as event
-use Rattle.jc_world.specs.World.{WorldState, open_call}
-use Rattle.jc_world.specs.Events.{fits, AllFit, RestFits, StartFits}
+use Rattle.jc_world.specs.World.{WorldState, is_joined, open_call, part_of}
+use Rattle.jc_world.specs.Events.{fits, is_free, may_report, AllFit}
+use Rattle.jc_world.specs.Together.{at_call, key_at, AreAt, FitTogether}
 use Rattle.jc_script.specs.declared.line.Act.{Act}
 use Rattle.jc_script.specs.declared.line.Act.TheVariants.{Read, ReadFail, Say, Apply, ApplyFail, ApplyLie, End, Drop, More, Take, Process}
-use Rattle.jc_script.specs.Words.{said}
-use Rattle.jc_script.specs.LineEvents.{first_key, first_of_each, call_events, drop_events, events_of, first_fits}
+use Rattle.jc_script.specs.Words.{said, said_after}
+use Rattle.jc_script.specs.LineEvents.{event_at, events_of, is_asked, is_meant, is_started, is_time, key_events, keys_at_work, keys_of_act}
 
--- a call that is dropped leaves, and gives back first what it has reserved
-drop_fits : (w : WorldState) → RestFits w → (number : ℕ) (u : CallState) (key : Bytes) (part : Option Part) → open_call w number ≡ Some u → current_key u ≡ Some key → first_fits w (drop_events number key part) ≡ true
-    → AllFit w (drop_events number key part)
-drop_fits w rest number u key None here only first = rest.alone (event.Leave number) first
-drop_fits w rest number u key (Some part) here only first = rest.leave number u key here only first
+-- ---- a call under way
 
--- the events of an act fit if the first one does
-pub act_fits : (w : WorldState) → RestFits w → (number : ℕ) (act : Act) (u : CallState) (key : Bytes) (part : Option Part) → open_call w number ≡ Some u → current_key u ≡ Some key → first_fits w (events_of number key part act) ≡ true
-    → AllFit w (events_of number key part act)
-act_fits w rest number Read u key part here only first = rest.alone (event.Read number key) first
-act_fits w rest number (ReadFail code) u key part here only first = rest.alone (event.Say number key (Failed code)) first
-act_fits w rest number (Say pairs) u key part here only first = rest.alone (event.Say number key (said pairs key)) first
-act_fits w rest number Apply u key part here only first = rest.report number u key None here only first
-act_fits w rest number (ApplyFail code) u key part here only first = rest.alone (event.Report number (Some code)) first
-act_fits w rest number (ApplyLie code) u key part here only first = rest.report number u key (Some code) here only first
-act_fits w rest number End u key part here only first = rest.alone (event.Commit number key) first
-act_fits w rest number Drop u key part here only first = drop_fits w rest number u key part here only first
-act_fits w rest number More u key part here only first = rest.alone (event.Start number key) first
-act_fits w rest number Take u key part here only first = rest.alone (event.PickUp number key) first
-act_fits w rest number (Process source calls fail) u key part here only first = rest.alone (event.Process number key source calls fail) first
+-- a test that what is kept passes, passed by what comes of it
+all_of_kept : {X Y : Type 0} (p : X → Bool) (f : X → Y) (q : Y → Bool) → ((x : X) → p x ≡ true → q (f x) ≡ true) → (xs : List X) → list_all q (map f (filter p xs)) ≡ true
+all_of_kept p f q h [] = refl
+all_of_kept p f q h (x ∷ xs) =
+    elim (p x) as (λ b. p x ≡ b → list_all q (map f (cond b (x ∷ filter p xs) (filter p xs))) ≡ true) [
+      | true ↦ λ e. and_from _ _ (h x e) (all_of_kept p f q h xs)
+      | false ↦ λ e. all_of_kept p f q h xs
+    ] refl
 
--- ---- the begin of a call
-
--- the key at which a call works is one at which it may work
-turn_here : (u : CallState) (key : Bytes) → current_key u ≡ Some key → is_turn u key ≡ true
-turn_here u key at = go (takes_turns u.kind) (current_key u) at
+-- keys that differ differ among those that are kept
+kept_differ : (p : Bytes → Bool) (keys : List Bytes) → IsDistinct (pointwise ◌==◌) keys → IsDistinct (pointwise ◌==◌) (filter p keys)
+kept_differ p [] d = d
+kept_differ p (key ∷ keys) d =
+    let rest = kept_differ p keys (IsDistinct-tail (pointwise ◌==◌) key keys d) in
+    elim (p key) as (λ b. IsDistinct (pointwise ◌==◌) (cond b (key ∷ filter p keys) (filter p keys))) [
+      | true ↦ IsDistinct-cons (pointwise ◌==◌) key (filter p keys) (kept keys (IsDistinct-head (pointwise ◌==◌) key keys d)) rest
+      | false ↦ rest
+    ]
   where
-    go : (b : Bool) (o : Option Bytes) → o ≡ Some key → cond b (is_at o key) true ≡ true
-    go false o e = refl
-    go true o e = ap (λ o. is_at o key) e ∙ nat_list_eq_equiv.refl key
+    kept : (ks : List Bytes) → AllByRecursion (λ y. pointwise ◌==◌ key y ≡ false) ks → AllByRecursion (λ y. pointwise ◌==◌ key y ≡ false) (filter p ks)
+    kept [] all = all
+    kept (k ∷ ks) all =
+        elim (p k) as (λ b. AllByRecursion (λ y. pointwise ◌==◌ key y ≡ false) (cond b (k ∷ filter p ks) (filter p ks))) [
+          | true ↦ (all.0, kept ks all.1)
+          | false ↦ kept ks all.1
+        ]
 
--- the first of some keys is open
-first_open : (keys : List Bytes) (key : Bytes) → slice_get (open_in (at_each op.Invoke keys)) 0 ≡ Some key → is_some (op_in (at_each op.Invoke keys) key) ≡ true
-first_open [] key at = cc
-first_open (k ∷ keys) key at =
-    let is : k ≡ key = cc in
-    ap (λ b. is_some (option_flatten (cond b (Some (Some op.Invoke)) (lookup (pointwise ◌==◌ key) (at_each op.Invoke keys))))) (ap (pointwise ◌==◌ key) is ∙ nat_list_eq_equiv.refl key)
+-- the same test, before and behind
+all_mapped : {X Y : Type 0} (f : X → Y) (q : Y → Bool) (xs : List X) → list_all q (map f xs) ≡ list_all (λ x. q (f x)) xs
+all_mapped f q [] = refl
+all_mapped f q (x ∷ xs) = ap (λ b. q (f x) && b) (all_mapped f q xs)
 
--- what a call that may begin does at the key at which it works
-does_there : (w : WorldState) (number session : ℕ) (command : Command) (key : Bytes) → fits w (event.Call number session command) ≡ true
-    → current_key (new_call number session command) ≡ Some key → is_some (op_at (new_call number session command) key) ≡ true
-does_there w number session (command.Single o own) key fit at =
-    let is : own ≡ key = cc in
-    ap (λ b. is_some (option_flatten (cond b (Some (Some o)) None))) (ap (pointwise ◌==◌ key) is ∙ nat_list_eq_equiv.refl key)
-does_there w number session (command.InvokeAll set) key fit at = first_open set.keys key at
-does_there w number session (command.GetAll set) key fit at = cc
-does_there w number session (command.PutAll entries) key fit at = cc
-does_there w number session (command.RemoveAll set) key fit at = cc
-does_there w number session command.RemoveEvery key fit at = cc
-does_there w number session command.Clear key fit at = cc
-does_there w number session (command.LoadAll replace set) key fit at = cc
+-- an event that an act stands for at a key is at that key of the call
+own : (call : ℕ) (key : Bytes) → at_call call call key ≡ Some key
+own call key = ap (λ b. cond b (Some key) None) (nat_eq_equiv.refl call)
 
--- so its begin fits, and its first key's start behind it
-pub call_fits : (w : WorldState) → StartFits w → RestFits w → (number session : ℕ) (command : Command) (first : Option Bytes) → fits w (event.Call number session command) ≡ true
-    → first ≡ first_key (new_call number session command) → AllFit w (call_events number session command first)
-call_fits w starts rest number session command None fit is = rest.alone (event.Call number session command) fit
-call_fits w starts rest number session command (Some key) fit is =
-    let u = new_call number session command in
-    let few = started (has_too_many_keys u) (current_key u) is in
-    starts number session command key fit (does_there w number session command key fit few.1) (turn_here u key few.1) few.0
+act_key : (call : ℕ) (act : Act) (key : Bytes) → key_at call (event_at call act key) ≡ Some key
+act_key call Read key = own call key
+act_key call (ReadFail code) key = own call key
+act_key call (Say pairs) key = own call key
+act_key call (Apply left) key = own call key
+act_key call (ApplyFail code left) key = own call key
+act_key call (ApplyLie code) key = own call key
+act_key call End key = own call key
+act_key call Drop key = own call key
+act_key call More key = own call key
+act_key call Take key = own call key
+act_key call (Process source calls fail) key = own call key
+
+are_at : (call : ℕ) (act : Act) (keys : List Bytes) → AreAt call keys (map (event_at call act) keys)
+are_at call act [] = tt
+are_at call act (key ∷ keys) = (act_key call act key, are_at call act keys)
+
+-- what a loader says by pairs is an answer
+said_given : (pairs : List (Bytes × Bytes)) (key : Bytes) (answer : LoadAnswer) → is_load_given answer ≡ true → is_load_given (said_after answer pairs key) ≡ true
+said_given [] key answer given = given
+said_given (pair ∷ pairs) key answer given =
+    said_given pairs key (cond (pointwise ◌==◌ pair.0 key) (Found pair.1) answer)
+    (elim (pointwise ◌==◌ pair.0 key) as (λ b. is_load_given (cond b (Found pair.1) answer) ≡ true) [ true ↦ refl | false ↦ given ])
+
+-- the events at the keys of an act
+keys_fit : (w : WorldState) → FitTogether w → (call : ℕ) (act : Act) (keys : List Bytes) → IsDistinct (pointwise ◌==◌) keys → list_all (fits w) (key_events w call act keys) ≡ true
+    → AllFit w (key_events w call act keys)
+keys_fit w together call act keys differ fit =
+    together.events call (filter (is_meant w call act) keys) (key_events w call act keys) (are_at call act (filter (is_meant w call act) keys))
+    (kept_differ (is_meant w call act) keys differ) fit
+
+-- and nothing behind them
+alone_fit : (w : WorldState) → FitTogether w → (call : ℕ) (act : Act) (keys : List Bytes) → IsDistinct (pointwise ◌==◌) keys → list_all (fits w) (key_events w call act keys) ≡ true
+    → AllFit w (key_events w call act keys ++ [])
+alone_fit w together call act keys differ fit = subst (AllFit w) (sym (append-nil (key_events w call act keys))) (keys_fit w together call act keys differ fit)
+
+-- a key at work is open, so the writer may return where it was asked for one
+asked_open : (p : Bytes → Bool) (u : CallState) → list_any p (keys_at_work u) ≡ true → list_any p (open_keys u) ≡ true
+asked_open p u = go (takes_turns u.kind) (open_keys u)
   where
-    started : (b : Bool) (o : Option Bytes) → Some key ≡ cond b None o → (b ≡ false) × (o ≡ Some key)
-    started true o e = cc
-    started false o e = (refl, sym e)
+    or_more : (a b : Bool) → (a || false) ≡ true → (a || b) ≡ true
+    or_more true b h = refl
+    or_more false b h = cc
 
--- the key that a call of `invokeAll` starts, from its keys
-pub first_of_keys : (keys : List Bytes)
-    → first_of_each keys ≡ cond (nat_lt BULK_KEYS_MAX (length (at_each op.Invoke keys))) None (slice_get (open_in (at_each op.Invoke keys)) 0)
-first_of_keys [] = refl
-first_of_keys (k ∷ keys) = ap (λ n. cond (nat_lt BULK_KEYS_MAX n) None (Some k)) (sym (length-map (k ∷ keys) (λ (key : Bytes). (key, Some op.Invoke))))
+    go : (b : Bool) (keys : List Bytes) → list_any p (cond b (option_to_list (cond b (slice_get keys 0) None)) keys) ≡ true → list_any p keys ≡ true
+    go false keys h = h
+    go true [] h = h
+    go true (key ∷ keys) h = or_more (p key) (list_any p keys) h
+
+report_fits : (w : WorldState) (call : ℕ) (u : CallState) (left : List Bytes) (fault : Option ℕ) → open_call w call ≡ Some u → list_any (is_asked w call) (keys_at_work u) ≡ true → fits w (event.Report call left fault) ≡ true
+report_fits w call u left fault here asked = ap (may_report w call) here ∙ asked_open (is_asked w call) u asked
+
+-- the writer's changes, and its return
+writer_fit : (w : WorldState) → FitTogether w → (call : ℕ) (p : Bytes → Bool) (u : CallState) (keys left : List Bytes) (fault : Option ℕ) → ((key : Bytes) → p key ≡ true → fits w (event.Change call key) ≡ true) → open_call w call ≡ Some u
+    → keys ≡ keys_at_work u → IsDistinct (pointwise ◌==◌) keys → list_any (is_asked w call) keys ≡ true → AllFit w (map (event.Change call) (filter p keys) ++ event.Report call left fault ∷ [])
+writer_fit w together call p u keys left fault waits here is differ asked =
+    together.report call (filter p keys) left fault (kept_differ p keys differ)
+    (sym (all_mapped (event.Change call) (fits w) (filter p keys)) ∙ all_of_kept p (event.Change call) (fits w) waits keys)
+    (report_fits w call u left fault here (ap (list_any (is_asked w call)) (sym is) ∙ asked))
+
+-- a weaker test
+all_from_more : (q : Bytes → Bool) (r : Bytes → Bool) (keys : List Bytes) → ((key : Bytes) → q key ≡ true → r key ≡ true) → list_all q keys ≡ true → list_all r keys ≡ true
+all_from_more q r [] h all = refl
+all_from_more q r (key ∷ keys) h all = let parts = and_parts (q key) (list_all q keys) all in and_from _ _ (h key parts.0) (all_from_more q r keys h parts.1)
+
+or_false : (a b : Bool) → (a || b) ≡ false → (a ≡ false) × (b ≡ false)
+or_false true b e = cc
+or_false false b e = (refl, e)
+
+-- of a call without a join each open key is reserved, or free
+reserved_or_free : (w : WorldState) (call : ℕ) (keys : List Bytes) → list_any (is_joined w call) keys ≡ false → list_all (λ key. is_among (filter (is_started w call) keys) key || is_free w call key) keys ≡ true
+reserved_or_free w call [] free = refl
+reserved_or_free w call (key ∷ keys) free =
+    let alone = or_false (is_joined w call key) (list_any (is_joined w call) keys) free in
+    let rest = reserved_or_free w call keys alone.1 in
+    elim (is_started w call key) as (λ b. is_started w call key ≡ b → list_all (λ k. is_among (cond b (key ∷ filter (is_started w call) keys) (filter (is_started w call) keys)) k || is_free w call k) (key ∷ keys) ≡ true) [
+      | true ↦ λ e. and_from _ _ (ap (λ b. (b || is_among (filter (is_started w call) keys) key) || is_free w call key) (nat_list_eq_equiv.refl key))
+          (all_from_more (λ k. is_among (filter (is_started w call) keys) k || is_free w call k) _ keys (λ k h. more k (is_free w call k) h) rest)
+      | false ↦ λ e. and_from _ _ (or_true (is_among (filter (is_started w call) keys) key) (is_free w call key) (and_from _ _ (none (part_of w call key) e) (ap not alone.0))) rest
+    ] refl
+  where
+    or_true : (a b : Bool) → b ≡ true → (a || b) ≡ true
+    or_true true b e = refl
+    or_true false b e = e
+
+    none : (o : Option Part) → is_some o ≡ false → is_none o ≡ true
+    none None e = refl
+    none (Some part) e = cc
+
+    more : (k : Bytes) (b : Bool) → (is_among (filter (is_started w call) keys) k || b) ≡ true → ((pointwise ◌==◌ k key || is_among (filter (is_started w call) keys) k) || b) ≡ true
+    more k b h = go (pointwise ◌==◌ k key)
+      where
+        go : (c : Bool) → ((c || is_among (filter (is_started w call) keys) k) || b) ≡ true
+        go true = refl
+        go false = h
+
+-- the events at one key more
+pub key_events-more : (w : WorldState) (call : ℕ) (act : Act) (keys : List Bytes) (i : ℕ) (key : Bytes) → i < length keys → key ≡ get_or keys i key
+    → key_events w call act (take (i + 1) keys) ≡ key_events w call act (take i keys) ++ key_events w call act (key ∷ [])
+key_events-more w call act keys i key lt is =
+    ap (key_events w call act) (take_more keys i key lt ∙ ap (λ k. take i keys ++ k ∷ []) (sym is))
+    ∙ ap (map (event_at call act)) (filter-append (is_meant w call act) (take i keys) (key ∷ []))
+    ∙ map-append (event_at call act) (filter (is_meant w call act) (take i keys)) (filter (is_meant w call act) (key ∷ []))
+
+-- one key differs from no other
+pub one_differs : (o : Option Bytes) → IsDistinct (pointwise ◌==◌) (option_to_list o)
+unfolding IsDistinct
+one_differs None = tt
+one_differs (Some key) = (tt, tt)
+
+-- a key differs from those before it
+not_before : (keys : List Bytes) (i : ℕ) (key : Bytes) → IsDistinct (pointwise ◌==◌) keys → i < length keys → key ≡ get_or keys i key → is_among (take i keys) key ≡ false
+not_before [] zero key differ lt is = refl
+not_before [] (suc i) key differ lt is = refl
+not_before (k ∷ keys) zero key differ lt is = refl
+not_before (k ∷ keys) (suc i) key differ lt is =
+    let apart : pointwise ◌==◌ k (get_or keys i key) ≡ false = apart_from_distinct (pointwise ◌==◌) (k ∷ keys) 0 (suc i) key differ (omega (arith)) lt in
+    ap (λ b. b || is_among (take i keys) key) (nat_list_eq_equiv.symm key k ∙ ap (pointwise ◌==◌ k) is ∙ apart)
+    ∙ not_before keys i key (IsDistinct-tail (pointwise ◌==◌) k keys differ) (omega (arith, lt)) is
+
+pub asked_before : (p : Bytes → Bool) (keys : List Bytes) (i : ℕ) (key : Bytes) → IsDistinct (pointwise ◌==◌) keys → i < length keys → key ≡ get_or keys i key → is_among (filter p (take i keys)) key ≡ false
+asked_before p keys i key differ lt is = kept (take i keys) (not_before keys i key differ lt is)
+  where
+    kept : (ks : List Bytes) → is_among ks key ≡ false → is_among (filter p ks) key ≡ false
+    kept [] h = h
+    kept (k ∷ ks) h =
+        let parts = or_false (pointwise ◌==◌ key k) (is_among ks key) h in
+        elim (p k) as (λ b. is_among (cond b (k ∷ filter p ks) (filter p ks)) key ≡ false) [
+          | true ↦ ap (λ b. b || is_among (filter p ks) key) parts.0 ∙ kept ks parts.1
+          | false ↦ kept ks parts.1
+        ]
+
+-- the keys that the writer was asked for, with one key more
+pub asked_more : (p : Bytes → Bool) (keys : List Bytes) (i : ℕ) (key : Bytes) → i < length keys → key ≡ get_or keys i key → filter p (take (i + 1) keys) ≡ filter p (take i keys) ++ filter p (key ∷ [])
+asked_more p keys i key lt is = ap (filter p) (take_more keys i key lt ∙ ap (λ k. take i keys ++ k ∷ []) (sym is)) ∙ filter-append p (take i keys) (key ∷ [])
+
+-- the events of an act fit if it is the time for it
+pub act_fits : (w : WorldState) → FitTogether w → (call : ℕ) (act : Act) (u : CallState) (keys : List Bytes) → open_call w call ≡ Some u → keys ≡ keys_of_act act u → IsDistinct (pointwise ◌==◌) keys
+    → is_time w call act keys (key_events w call act keys) ≡ true → AllFit w (events_of w call act keys)
+act_fits w together call Read u keys here is differ time = alone_fit w together call Read keys differ (all_of_kept _ (event_at call Read) (fits w) (λ key h. h) keys)
+act_fits w together call (ReadFail code) u keys here is differ time = alone_fit w together call (ReadFail code) keys differ (all_of_kept _ (event_at call (ReadFail code)) (fits w) (λ key h. h) keys)
+act_fits w together call (Say pairs) u keys here is differ time = alone_fit w together call (Say pairs) keys differ (all_of_kept _ (event_at call (Say pairs)) (fits w) (λ key h. and_from _ _ (said_given pairs key Nothing refl) h) keys)
+act_fits w together call (Apply left) u keys here is differ time = writer_fit w together call (is_meant w call (Apply left)) u keys [] None (λ key h. h) here is differ time
+act_fits w together call (ApplyFail code left) u keys here is differ time = writer_fit w together call (is_meant w call (ApplyFail code left)) u keys (filter (is_asked w call) keys) (Some code) (λ key h. cc) here is differ time
+act_fits w together call (ApplyLie code) u keys here is differ time = writer_fit w together call (is_meant w call (ApplyLie code)) u keys (filter (is_asked w call) keys) (Some code) (λ key h. h) here is differ time
+act_fits w together call End u keys here is differ time = alone_fit w together call End keys differ (and_parts _ _ time).1
+act_fits w together call Drop u keys here is differ time =
+    let parts = and_parts (list_all (fits w) (key_events w call Drop keys)) (not (list_any (is_joined w call) keys)) time in
+    together.leave call u (filter (is_started w call) keys) here (kept_differ (is_started w call) keys differ)
+    (sym (all_mapped (event.Withdraw call) (fits w) (filter (is_started w call) keys)) ∙ parts.0)
+    (ap (list_all (λ key. is_among (filter (is_started w call) keys) key || is_free w call key)) (sym is) ∙ reserved_or_free w call keys (unset (list_any (is_joined w call) keys) parts.1))
+  where
+    unset : (b : Bool) → not b ≡ true → b ≡ false
+    unset true e = cc
+    unset false e = refl
+act_fits w together call More u keys here is differ time = alone_fit w together call More keys differ (and_parts _ _ time).1
+act_fits w together call Take u keys here is differ time = alone_fit w together call Take keys differ (all_of_kept _ (event_at call Take) (fits w) (λ key h. h) keys)
+act_fits w together call (Process source calls fail) u keys here is differ time = alone_fit w together call (Process source calls fail) keys differ (all_of_kept _ (event_at call (Process source calls fail)) (fits w) (λ key h. h) keys)

@@ -3,11 +3,14 @@ pub mod Spelling
 pub mod SpelledWords
 pub mod SpelledValues
 pub mod SpelledProcess
+pub mod SpelledPairs
 pub mod SpelledLines
 pub mod Given
 pub mod ReadWords
 pub mod AreKeys
+pub mod AreDistinctPairs
 pub mod ReadProcess
 pub mod ReadLines
 pub mod Callable
 pub mod Fitting
+pub mod Starting

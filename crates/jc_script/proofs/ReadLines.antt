@@ -1,20 +1,24 @@
 -- Lines that are read are spelled as what they ask for.
-use Rattle.std.proofs.Common.{◌≡◌, ◌++◌, ◌∙◌, ◌==◌, ℕ, ◌<◌, ◌≤◌, Bool, true, false, not, cond, List, [], ◌∷◌, length, Option, None, Some, Result, Ok, Err, refl, sym, ap, IfOk, IfSome}
-use Rattle.std.specs.Prelude.{decimal, codes, nat_lt, ◌&&◌}
+use Rattle.std.proofs.Common.{◌≡◌, ◌++◌, ◌∙◌, ◌==◌, ℕ, ◌≤◌, Bool, true, false, not, cond, List, [], ◌∷◌, length, Option, None, Some, Result, Ok, Err, refl, sym, ap, subst, IfOk, IfSome}
+use Rattle.std.specs.Prelude.{decimal, codes, nat_lt, nat_le, ◌&&◌}
 use Rattle.std.specs.List.{list_all, join_with_byte}
 use Rattle.std.specs.Str.{bytes_eq}
-use Rattle.std.proofs.lemmas.Bool.{ltb-true, ltb-false, and_parts}
+use Rattle.std.proofs.lemmas.Bool.{ltb-true, leb-true, ltb-false, and_parts}
 use Rattle.std.proofs.lemmas.Slice.Eq.{bytes_eq-Decides}
+use Rattle.std.proofs.lemmas.List.{length-map}
 use Rattle.std.proofs.lemmas.List.Splits.{join_with_byte-slice_split}
 use Rattle.jc_model.specs.Cache.{Bytes}
 use Rattle.jc_script.specs.declared.line.Operation.{Operation}
 use Rattle.jc_script.specs.declared.fault.Fault.{Fault}
 use Rattle.jc_script.specs.declared.fault.Fault.TheVariants.{LineTooLong, BadByte, BadLine}
 use Rattle.jc_script.specs.declared.line.Line.{Line}
+use Rattle.jc_script.specs.declared.line.BulkCall.{BulkCall}
 use Rattle.jc_script.specs.declared.commands.Bare.{Bare}
 use Rattle.jc_script.specs.declared.commands.Bare.TheVariants as bare
 use Rattle.jc_script.specs.declared.commands.Valued.{Valued}
 use Rattle.jc_script.specs.declared.commands.Valued.TheVariants as valued
+use Rattle.jc_script.specs.declared.commands.BulkName.{BulkName}
+use Rattle.jc_script.specs.declared.commands.BulkName.TheVariants as name
 use Rattle.jc_script.specs.declared.commands.Form.{Form}
 use Rattle.jc_script.specs.declared.commands.Form.TheVariants as form
 use Rattle.jc_script.specs.declared.grammar.Lone.{Lone}
@@ -25,13 +29,14 @@ use Rattle.jc_script.specs.declared.grammar.LineKind.{LineKind}
 use Rattle.jc_script.specs.declared.grammar.LineKind.TheVariants as kind
 use Rattle.jc_script.specs.declared.line.Line.TheVariants.{OfCall}
 use Rattle.jc_script.specs.Printing.{value_text}
-use Rattle.jc_script.specs.Words.{◌>>=◌, words_of, number_of, caller_of, key_of, value_of, value_or_none_of, pairs_of, keys_of}
-use Rattle.jc_script.specs.Lines.{form_named, line_named, flags_of, takes_words, bare_op, valued_op, bare_of, valued_of, value_alone_of, replace_if_of, begin_with, invoke_all_with, command_of, open_of, set_of, begin_of, number_alone, lone_act, coded_act, coded_of, process_of, say_of, foreign_of, line_of, are_words, parsed, is_plain, is_comment, some_line, read_line}
-use Rattle.jc_script.specs.Spelled.{IsNumber, IsSession, session_text, IsValue, IsKey, IsOperation, SaysWords, IsSpellable, LinesAreSpelled, spelling, line_words, operation_words, flag_words}
+use Rattle.jc_script.specs.Words.{◌>>=◌, words_of, number_of, caller_of, key_of, value_of, value_or_none_of, pairs_of, distinct_pairs_of, keys_of}
+use Rattle.jc_script.specs.Lines.{form_named, line_named, flags_of, takes_words, bare_op, valued_op, bare_of, valued_of, value_alone_of, replace_if_of, begin_with, bulk_named, is_read, bulk_takes, bulk_name, bulk_of, bulk_with, has_but_shape, left_of, apply_of, apply_fail_of, command_of, open_of, set_of, begin_of, number_alone, lone_act, coded_act, coded_of, process_of, say_of, foreign_of, line_of, are_words, parsed, is_plain, is_comment, some_line, read_line}
+use Rattle.jc_script.specs.Spelled.{IsNumber, IsSession, session_text, IsValue, IsKey, AreKeys, AreLeft, HasKeys, IsOperation, SaysWords, IsSpellable, LinesAreSpelled, spelling, line_words, operation_words, bulk_words, left_words, pair_text, flag_words}
 use Rattle.jc_script.specs.ProcessWords.{without_load, has_process_shape, source_of, calls_of, source_words}
 use Rattle.jc_script.proofs.ReadProcess.{SaysSource, source_read, SaysCalls, calls_read}
 use Rattle.jc_script.proofs.Given.{ok_bind, ok_then, ok_if, ok_unless, ok_since, ok_named, ok_weaker}
 use Rattle.jc_script.proofs.AreKeys.{SaysKeys, keys_read}
+use Rattle.jc_script.proofs.AreDistinctPairs.{SaysDistinctPairs, distinct_pairs_read}
 use Rattle.jc_script.proofs.ReadWords.{SaysNumber, number_read, SaysSession, session_read, SaysKey, key_read, SaysValue, value_read, SaysValueOrNone, value_or_none_read, ArePairs, pairs_read}
 
 -- 1. The fixed words.
@@ -49,25 +54,38 @@ form_word (form.Valued valued.RemoveIf) = codes "removeif"
 form_word (form.Valued valued.Replace) = codes "replace"
 form_word (form.Valued valued.GetReplace) = codes "getreplace"
 form_word form.ReplaceIf = codes "replaceif"
-form_word form.InvokeAll = codes "invokeall"
+form_word (form.Bulk name.GetAll) = codes "getall"
+form_word (form.Bulk name.PutAll) = codes "putall"
+form_word (form.Bulk name.RemoveAll) = codes "removeall"
+form_word (form.Bulk name.RemoveEvery) = codes "removeevery"
+form_word (form.Bulk name.Clear) = codes "clear"
+form_word (form.Bulk name.InvokeAll) = codes "invokeall"
 
 kind_word : LineKind → List ℕ
 kind_word kind.Open = codes "open"
 kind_word kind.Set = codes "set"
 kind_word kind.Begin = codes "begin"
 kind_word (kind.Lone lone.Read) = codes "read"
-kind_word (kind.Lone lone.Apply) = codes "apply"
 kind_word (kind.Lone lone.End) = codes "end"
 kind_word (kind.Lone lone.Drop) = codes "drop"
 kind_word (kind.Lone lone.More) = codes "more"
 kind_word (kind.Lone lone.Take) = codes "take"
 kind_word (kind.Coded coded.ReadFail) = codes "readfail"
-kind_word (kind.Coded coded.ApplyFail) = codes "applyfail"
 kind_word (kind.Coded coded.ApplyLie) = codes "applylie"
+kind_word kind.Apply = codes "apply"
+kind_word kind.ApplyFail = codes "applyfail"
 kind_word kind.Say = codes "say"
 kind_word kind.Process = codes "process"
 kind_word kind.Foreign = codes "foreign"
 kind_word kind.Audit = codes "audit"
+
+bulk_form_read : (w : List ℕ) → IfOk (bulk_named w) (λ form. w ≡ form_word form)
+unfolding form_word
+bulk_form_read w =
+    let P : Form → Type 0 = λ form. w ≡ form_word form in
+    ok_named w (codes "getall") _ _ P (λ e. e) (ok_named w (codes "putall") _ _ P (λ e. e) (ok_named w (codes "removeall") _ _ P (λ e. e)
+    (ok_named w (codes "removeevery") _ _ P (λ e. e) (ok_named w (codes "clear") _ _ P (λ e. e)
+    (ok_named w (codes "invokeall") _ (Err BadLine) P (λ e. e) tt)))))
 
 form_read : (w : List ℕ) → IfOk (form_named w) (λ form. w ≡ form_word form)
 unfolding form_word
@@ -77,7 +95,7 @@ form_read w =
     (ok_named w (codes "getput") _ _ P (λ e. e) (ok_named w (codes "putif") _ _ P (λ e. e) (ok_named w (codes "remove") _ _ P (λ e. e)
     (ok_named w (codes "removeif") _ _ P (λ e. e) (ok_named w (codes "getremove") _ _ P (λ e. e) (ok_named w (codes "replace") _ _ P (λ e. e)
     (ok_named w (codes "replaceif") _ _ P (λ e. e) (ok_named w (codes "getreplace") _ _ P (λ e. e) (ok_named w (codes "invoke") _ _ P (λ e. e)
-    (ok_named w (codes "invokeall") _ (Err BadLine) P (λ e. e) tt))))))))))))
+    (bulk_form_read w))))))))))))
 
 kind_read : (w : List ℕ) → IfOk (line_named w) (λ kind. w ≡ kind_word kind)
 unfolding kind_word
@@ -154,19 +172,48 @@ operation_read call session form words (Err e) n s h = tt
 operation_read call session form words (Ok command) n s h =
     ((n, s, h.operation, h.key), ap (λ behind. codes "begin" ∷ decimal call ∷ session_text session ∷ behind) h.spelled)
 
-invoke_all_read : (call session : ℕ) (words : List (List ℕ)) → IsNumber call → IsSession session → 0 < length words
-    → IfOk (invoke_all_with call session (keys_of words)) (SaysBegin call session form.InvokeAll words)
+-- a call of many keys, from its name and what stands behind it
+abbrev SaysBulk : BulkName → List (List ℕ) → BulkCall → Type 0
+SaysBulk n words bulk = (bulk_name bulk ≡ n) × HasKeys bulk × (form_word (form.Bulk n) ∷ words ≡ bulk_words bulk)
+
+some_keys : (words keys : List (List ℕ)) → nat_lt 0 (length words) ≡ true → SaysKeys words keys → AreKeys 1 keys
+some_keys words keys shaped h =
+    let some : 1 ≤ length words = ltb-true 0 (length words) shaped in
+    (rw h.1 at some, h.0, h.2)
+
+bulk_said : (n : BulkName) (words : List (List ℕ)) → bulk_takes n (length words) ≡ true → IfOk (bulk_of n words) (SaysBulk n words)
 unfolding form_word
-invoke_all_read call session words n s some =
-    ok_then (keys_of words) _ (SaysKeys words) (SaysBegin call session form.InvokeAll words) (keys_read words) (λ keys h.
-    ((n, s, (rw h.1 at some, h.0, h.2)), ap (λ behind. codes "begin" ∷ decimal call ∷ session_text session ∷ codes "invokeall" ∷ behind) h.1))
+bulk_said name.GetAll words shaped =
+    ok_then (keys_of words) _ (SaysKeys words) (SaysBulk name.GetAll words) (keys_read words) (λ keys h.
+    (refl, some_keys words keys shaped h, ap (λ behind. codes "getall" ∷ behind) h.1))
+bulk_said name.PutAll words shaped =
+    let some : 1 ≤ length words = ltb-true 0 (length words) shaped in
+    ok_then (distinct_pairs_of words) _ (SaysDistinctPairs words) (SaysBulk name.PutAll words) (distinct_pairs_read words) (λ pairs h.
+    (refl, (subst (λ (count : ℕ). 1 ≤ count) (ap length h.1 ∙ length-map pairs pair_text) some, h.0, h.2), ap (λ behind. codes "putall" ∷ behind) h.1))
+bulk_said name.RemoveAll words shaped =
+    ok_then (keys_of words) _ (SaysKeys words) (SaysBulk name.RemoveAll words) (keys_read words) (λ keys h.
+    (refl, some_keys words keys shaped h, ap (λ behind. codes "removeall" ∷ behind) h.1))
+bulk_said name.RemoveEvery [] shaped = (refl, tt, refl)
+bulk_said name.RemoveEvery (x ∷ more) shaped = tt
+bulk_said name.Clear [] shaped = (refl, tt, refl)
+bulk_said name.Clear (x ∷ more) shaped = tt
+bulk_said name.InvokeAll words shaped =
+    ok_then (keys_of words) _ (SaysKeys words) (SaysBulk name.InvokeAll words) (keys_read words) (λ keys h.
+    (refl, some_keys words keys shaped h, ap (λ behind. codes "invokeall" ∷ behind) h.1))
+
+bulk_read : (call session : ℕ) (n : BulkName) (words : List (List ℕ)) → IsNumber call → IsSession session → takes_words (form.Bulk n) (length words) ≡ true
+    → IfOk (bulk_with call session (bulk_of n words)) (SaysBegin call session (form.Bulk n) words)
+bulk_read call session n words a s shaped =
+    let both = and_parts (is_read n) (bulk_takes n (length words)) shaped in
+    ok_then (bulk_of n words) _ (SaysBulk n words) (SaysBegin call session (form.Bulk n) words) (bulk_said n words both.1) (λ bulk h.
+    ((a, s, ap is_read h.0 ∙ both.0, h.1), ap (λ behind. codes "begin" ∷ decimal call ∷ session_text session ∷ behind) h.2))
 
 command_read : (call session : ℕ) (form : Form) (words : List (List ℕ)) → IsNumber call → IsSession session → takes_words form (length words) ≡ true
     → IfOk (command_of call session form words) (SaysBegin call session form words)
 command_read call session (form.Bare b) words n s shaped = operation_read call session (form.Bare b) words (bare_of b words) n s (bare_read b words)
 command_read call session (form.Valued o) words n s shaped = operation_read call session (form.Valued o) words (valued_of o words) n s (valued_read o words)
 command_read call session form.ReplaceIf words n s shaped = operation_read call session form.ReplaceIf words (replace_if_of words) n s (replace_if_read words)
-command_read call session form.InvokeAll words n s shaped = invoke_all_read call session words n s (ltb-true 0 (length words) shaped)
+command_read call session (form.Bulk b) words n s shaped = bulk_read call session b words n s shaped
 
 -- 3. Lines.
 
@@ -229,7 +276,6 @@ number_alone_read (n ∷ x ∷ more) = tt
 lone_says : (act : Lone) (call : ℕ) → IsNumber call → SaysLine (kind.Lone act) (decimal call ∷ []) (OfCall call (lone_act act))
 unfolding kind_word
 lone_says lone.Read call n = ((n, tt), refl)
-lone_says lone.Apply call n = ((n, tt), refl)
 lone_says lone.End call n = ((n, tt), refl)
 lone_says lone.Drop call n = ((n, tt), refl)
 lone_says lone.More call n = ((n, tt), refl)
@@ -238,7 +284,6 @@ lone_says lone.Take call n = ((n, tt), refl)
 coded_says : (act : Coded) (call code : ℕ) → IsNumber call → IsNumber code → SaysLine (kind.Coded act) (decimal call ∷ decimal code ∷ []) (OfCall call (coded_act act code))
 unfolding kind_word
 coded_says coded.ReadFail call code n c = ((n, c), refl)
-coded_says coded.ApplyFail call code n c = ((n, c), refl)
 coded_says coded.ApplyLie call code n c = ((n, c), refl)
 
 lone_read : (act : Lone) (words : List (List ℕ)) → IfOk (line_of (kind.Lone act) words) (SaysLine (kind.Lone act) words)
@@ -253,6 +298,39 @@ coded_read act (n ∷ words) =
     ok_bind (cond (length words == 1) (Ok true) (Err BadLine)) _ P (λ shaped.
     ok_then (number_of n) _ (SaysNumber n) P (number_read n) (λ call a.
     ok_then (number_alone words) _ (λ n. IsNumber n × (words ≡ decimal n ∷ [])) P (number_alone_read words) (λ code b. rw (a.1, b.1) (coded_says act call code a.0 b.0))))
+
+abbrev SaysLeft : ℕ → List (List ℕ) → Option (List Bytes) → Type 0
+SaysLeft least words left = AreLeft least left × (words ≡ left_words left)
+
+left_read : (least : ℕ) (words : List (List ℕ)) → has_but_shape least words ≡ true → IfOk (left_of words) (SaysLeft least words)
+left_read least [] shaped = (tt, refl)
+left_read least (word ∷ words) shaped =
+    let both = and_parts (bytes_eq word (codes "but")) (nat_le least (length words)) shaped in
+    let many : least ≤ length words = leb-true least (length words) both.1 in
+    ok_then (keys_of words) _ (SaysKeys words) (SaysLeft least (word ∷ words)) (keys_read words) (λ keys h.
+    ((rw h.1 at many, h.0, h.2), rw ((bytes_eq-Decides word (codes "but")).0 both.0, h.1) refl))
+
+apply_read : (words : List (List ℕ)) → IfOk (apply_of words) (SaysLine kind.Apply words)
+unfolding apply_of kind_word
+apply_read [] = tt
+apply_read (n ∷ words) =
+    let P : Line → Type 0 = SaysLine kind.Apply (n ∷ words) in
+    let shape = has_but_shape 1 words in
+    ok_then (cond shape (Ok true) (Err BadLine)) _ (λ b. shape ≡ true) P (ok_if shape (Ok true) BadLine (λ b. shape ≡ true) (λ e. e)) (λ b shaped.
+    ok_then (number_of n) _ (SaysNumber n) P (number_read n) (λ call a.
+    ok_then (left_of words) _ (SaysLeft 1 words) P (left_read 1 words shaped) (λ left c. ((a.0, c.0), rw (a.1, c.1) refl))))
+
+apply_fail_read : (words : List (List ℕ)) → IfOk (apply_fail_of words) (SaysLine kind.ApplyFail words)
+unfolding apply_fail_of kind_word
+apply_fail_read [] = tt
+apply_fail_read (n ∷ []) = tt
+apply_fail_read (n ∷ m ∷ words) =
+    let P : Line → Type 0 = SaysLine kind.ApplyFail (n ∷ m ∷ words) in
+    let shape = has_but_shape 0 words in
+    ok_then (cond shape (Ok true) (Err BadLine)) _ (λ b. shape ≡ true) P (ok_if shape (Ok true) BadLine (λ b. shape ≡ true) (λ e. e)) (λ b shaped.
+    ok_then (number_of n) _ (SaysNumber n) P (number_read n) (λ call a.
+    ok_then (number_of m) _ (SaysNumber m) P (number_read m) (λ code d.
+    ok_then (left_of words) _ (SaysLeft 0 words) P (left_read 0 words shaped) (λ left c. ((a.0, (d.0, c.0)), rw (a.1, d.1, c.1) refl)))))
 
 say_read : (words : List (List ℕ)) → IfOk (say_of words) (SaysLine kind.Say words)
 unfolding say_of kind_word
@@ -289,6 +367,8 @@ line_read kind.Set words = set_read words
 line_read kind.Begin words = begin_read words
 line_read (kind.Lone act) words = lone_read act words
 line_read (kind.Coded act) words = coded_read act words
+line_read kind.Apply words = apply_read words
+line_read kind.ApplyFail words = apply_fail_read words
 line_read kind.Say words = say_read words
 line_read kind.Process words = process_read words
 line_read kind.Foreign words = foreign_read words

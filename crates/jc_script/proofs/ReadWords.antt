@@ -121,7 +121,12 @@ cut_at_sign w at e =
     let back : drop at w ≡ 61 ∷ drop (at + 1) w = drop-cons w at 0 found.0 ∙ rw (sign, next) refl in
     sym (take-append-drop at w) ∙ ap (λ rest. take at w ++ rest) back
 
-abbrev SaysPair : Pairs → List ℕ → Pairs → Type 0
+-- so it is a pair as it is spelled
+pub pair_spelled : (w : List ℕ) (at : ℕ) (key value : Bytes) → equals_at w ≡ Some at → SaysKey (take at w) key → SaysValue (drop (at + 1) w) value → w ≡ pair_text (key, value)
+pair_spelled w at key value e k v =
+    cut_at_sign w at e ∙ ap (λ front. front ++ (61 ∷ drop (at + 1) w)) k.1 ∙ ap (λ back. key ++ (61 ∷ back)) v.1 ∙ sym (pair_parts (key, value))
+
+abbrev pub SaysPair : Pairs → List ℕ → Pairs → Type 0
 SaysPair before w all = (pair : Bytes × Bytes) × IsPair pair × (all ≡ before ++ (pair ∷ [])) × (w ≡ pair_text pair)
 
 pair_read : (before : Pairs) (w : List ℕ) → IfOk (pair_onto before w) (SaysPair before w)
@@ -136,7 +141,7 @@ pair_read before w = by (equals_at w) refl
           (key, value),
           (k.0, v.0),
           refl,
-          cut_at_sign w at e ∙ ap (λ front. front ++ (61 ∷ drop (at + 1) w)) k.1 ∙ ap (λ back. key ++ (61 ∷ back)) v.1 ∙ sym (pair_parts (key, value)),
+          pair_spelled w at key value e k v,
         )))
 
 abbrev SaysPairs : Pairs → List (List ℕ) → Pairs → Type 0

@@ -1,20 +1,18 @@
 -- Lines that are spelled are read as what they say.
-use Rattle.std.proofs.Common.{◌≡◌, ◌∙◌, ◌==◌, ℕ, ◌+◌, ◌≤◌, Bool, true, false, not, List, [], ◌∷◌, ◌++◌, length, map, drop, Option, None, Some, Ok, refl, sym, ap, append_assoc, append-nil, arith}
-use Rattle.std.specs.Prelude.{decimal, codes, ◌&&◌, nat_lt, nat_le}
-use Rattle.std.specs.List.{All, list_all, position_or_len}
-use Rattle.std.proofs.lemmas.Bool.{and_from, and_parts, cond-true, lt-ltb, not_from_false}
-use Rattle.std.proofs.lemmas.Grind.{common_steps}
-use Rattle.std.proofs.lemmas.List.{take_at}
-use Rattle.std.proofs.Math.Seq.{drop-append-add}
-use Rattle.std.proofs.lemmas.List.Elements.{All-head, All-tail}
-use Rattle.jc_types.specs.declared.limits.TheConstants.{KEY_MAX}
+use Rattle.std.proofs.Common.{◌≡◌, ℕ, ◌≤◌, Bool, true, false, List, [], ◌∷◌, ◌++◌, length, map, Option, None, Some, Ok, refl, sym, ap, subst}
+use Rattle.std.specs.Prelude.{decimal, codes}
+use Rattle.std.specs.List.{All}
+use Rattle.std.proofs.lemmas.Bool.{and_from, lt-ltb, le-leb}
+use Rattle.std.proofs.lemmas.List.{length-map}
 use Rattle.jc_model.specs.Cache.{Bytes}
 use Rattle.jc_types.specs.declared.config.Config.{Config}
 use Rattle.jc_script.specs.declared.commands.Bare.{Bare}
 use Rattle.jc_script.specs.declared.commands.Bare.TheVariants as bare
 use Rattle.jc_script.specs.declared.commands.Valued.{Valued}
 use Rattle.jc_script.specs.declared.commands.Valued.TheVariants as valued
+use Rattle.jc_script.specs.declared.commands.BulkName.TheVariants as name
 use Rattle.jc_script.specs.declared.commands.Form.{Form}
+use Rattle.jc_script.specs.declared.commands.Form.TheVariants as form
 use Rattle.jc_script.specs.declared.grammar.Lone.{Lone}
 use Rattle.jc_script.specs.declared.grammar.Lone.TheVariants as lone
 use Rattle.jc_script.specs.declared.grammar.Coded.{Coded}
@@ -22,19 +20,23 @@ use Rattle.jc_script.specs.declared.grammar.Coded.TheVariants as coded
 use Rattle.jc_model.specs.declared.event.Op.{Op}
 use Rattle.jc_model.specs.declared.event.Op.TheVariants as op
 use Rattle.jc_script.specs.declared.line.Line.{Line}
-use Rattle.jc_script.specs.declared.line.Line.TheVariants.{Open, Set, Begin, InvokeAll, OfCall, Foreign, Audit}
+use Rattle.jc_script.specs.declared.line.Line.TheVariants.{Open, Set, Begin, BeginBulk, OfCall, Foreign, Audit}
+use Rattle.jc_script.specs.declared.line.BulkCall.{BulkCall}
+use Rattle.jc_script.specs.declared.line.BulkCall.TheVariants as bulk
 use Rattle.jc_script.specs.declared.line.Act.{Act}
 use Rattle.jc_script.specs.declared.line.Act.TheVariants.{Read, ReadFail, Say, Apply, ApplyFail, ApplyLie, End, Drop, More, Take, Process}
 use Rattle.jc_script.specs.ProcessWords.{source_words, call_text, fail_words}
-use Rattle.jc_script.specs.Words.{is_letter, Pairs, equals_at, pair_onto, pairs_from, pairs_of}
-use Rattle.jc_script.specs.Lines.{form_named, flags_of, takes_words, bare_op, valued_op, bare_of, valued_of, replace_if_of, begin_with, invoke_all_with, command_of, open_of, set_of, begin_of, lone_act, lone_of, coded_act, coded_of, say_of, foreign_of, read_line}
+use Rattle.jc_script.specs.Words.{◌>>=◌, Pairs}
+use Rattle.jc_script.specs.Lines.{form_named, flags_of, takes_words, bare_op, valued_op, bare_of, valued_of, replace_if_of, begin_with, is_read, bulk_name, bulk_with, has_but_shape, left_of, apply_of, apply_fail_of, command_of, open_of, set_of, begin_of, lone_act, lone_of, coded_act, coded_of, say_of, foreign_of, read_line}
 use Rattle.jc_script.specs.Printing.{value_text, value_or_none_text}
-use Rattle.jc_script.specs.Spelled.{IsNumber, IsSession, IsKey, IsValue, IsValueOrNone, IsPair, AreKeys, IsOperation, IsAct, LinesReadBack, spelling, session_text, pair_text, flag_words, operation_words}
+use Rattle.jc_script.specs.Spelled.{IsNumber, IsSession, IsKey, IsValue, IsValueOrNone, IsPair, AreLeft, HasKeys, IsOperation, IsAct, LinesReadBack, spelling, session_text, pair_text, flag_words, operation_words, bulk_words, left_words}
 use Rattle.jc_script.proofs.AreKeys.{key_back, keys_back, keys_are_words}
+use Rattle.jc_script.proofs.AreDistinctPairs.{distinct_pairs_back}
+use Rattle.jc_script.proofs.SpelledPairs.{pairs_back, pairs_are_words}
 use Rattle.jc_script.proofs.Spelling.{number_back, caller_back, value_back}
 use Rattle.jc_script.proofs.SpelledValues.{value_or_none_back}
 use Rattle.jc_script.proofs.SpelledProcess.{process_words, process_back}
-use Rattle.jc_script.proofs.SpelledWords.{AreWords, line_of_words, number_word, session_word, text_word, value_word, value_or_none_word, pair_word, pair_parts}
+use Rattle.jc_script.proofs.SpelledWords.{AreWords, line_of_words, number_word, session_word, text_word, value_word, value_or_none_word}
 
 flags_back : (read write : Bool) → flags_of (flag_words read write) ≡ Ok (read, write)
 flags_back false false = refl
@@ -48,48 +50,7 @@ flags_are_words true false = refl
 flags_are_words false true = refl
 flags_are_words true true = refl
 
--- 1. Pairs.
-
-no_equals : (b : ℕ) → is_letter b ≡ true → (b == 61) ≡ false
-no_equals b e = grind (arith, common_steps)
-
--- the first equals sign is the one behind the key
-sign_after : (key rest : List ℕ) → list_all is_letter key ≡ true → position_or_len (λ b. b == 61) (key ++ (61 ∷ rest)) ≡ length key
-sign_after [] rest e = refl
-sign_after (b ∷ bs) rest e =
-    let both = and_parts (is_letter b) (list_all is_letter bs) e in
-    cond-true (not (b == 61)) _ 0 (not_from_false _ (no_equals b both.0)) ∙ ap (λ n. 1 + n) (sign_after bs rest both.1) ∙ omega arith
-
-sign_at : (key rest : List ℕ) → IsKey key → equals_at (key ++ (61 ∷ rest)) ≡ Some (length key)
-sign_at key rest known =
-    let letters = and_parts (nat_lt 0 (length key) && nat_le (length key) KEY_MAX) (list_all is_letter key) known in
-    rw (sign_after key rest letters.1) (cond-true _ (Some (length key)) None (within key rest))
-  where
-    within : (key rest : List ℕ) → nat_lt (length key) (length (key ++ (61 ∷ rest))) ≡ true
-    within key rest = grind (arith, common_steps)
-
-behind : (key rest : List ℕ) → drop (length key + 1) (key ++ (61 ∷ rest)) ≡ rest
-behind key rest = drop-append-add key (61 ∷ rest) 1
-
-pair_back : (pairs : Pairs) (pair : Bytes × Bytes) → IsPair pair → pair_onto pairs (pair_text pair) ≡ Ok (pairs ++ (pair ∷ []))
-unfolding pair_onto
-pair_back pairs pair known =
-    let value = value_text pair.1 in
-    rw (pair_parts pair) (rw (sign_at pair.0 value known.0) (rw (take_at pair.0 (61 ∷ value) (length pair.0) refl) (rw (key_back pair.0 known.0, behind pair.0 value) (rw (value_back pair.1 known.1) refl))))
-
-pairs_onto : (before pairs : Pairs) → All IsPair pairs → pairs_from before (map pair_text pairs) ≡ Ok (before ++ pairs)
-pairs_onto before [] known = ap Ok (sym (append-nil before))
-pairs_onto before (pair ∷ pairs) known =
-    rw (pair_back before pair (All-head IsPair pair pairs known)) (pairs_onto (before ++ (pair ∷ [])) pairs (All-tail IsPair pair pairs known) ∙ ap Ok (append_assoc before (pair ∷ []) pairs))
-
-pairs_back : (pairs : Pairs) → All IsPair pairs → pairs_of (map pair_text pairs) ≡ Ok pairs
-pairs_back pairs known = pairs_onto [] pairs known
-
-pairs_are_words : (pairs : Pairs) → All IsPair pairs → AreWords (map pair_text pairs)
-pairs_are_words [] known = refl
-pairs_are_words (pair ∷ pairs) known = and_from _ _ (pair_word pair (All-head IsPair pair pairs known)) (pairs_are_words pairs (All-tail IsPair pair pairs known))
-
--- 2. Lines of fixed words.
+-- 1. Lines of fixed words.
 
 open_back : (config : Config) → IsNumber config.stripes → IsNumber config.capacity → IsNumber config.history
     → open_of (decimal config.stripes ∷ decimal config.capacity ∷ decimal config.history ∷ flag_words config.read_through config.write_through) ≡ Ok (Open config)
@@ -105,7 +66,7 @@ foreign_back : (key : Bytes) (value : Option Bytes) → IsKey key → IsValueOrN
 unfolding foreign_of
 foreign_back key value k v = rw (key_back key k, value_or_none_back value v) refl
 
--- 3. Operations.
+-- 2. Operations.
 
 bare_back : (b : Bare) (key : Bytes) → IsKey key → bare_of b (key ∷ []) ≡ Ok (record { op = bare_op b; key = key })
 bare_back b key k = rw (key_back key k) refl
@@ -159,12 +120,32 @@ begin_back call session op.Clear key n s o k = absurd o
 begin_back call session (op.LoadAll replace) key n s o k = absurd o
 begin_back call session op.Invoke key n s o k = begin_asks call session (codes "invoke") (key ∷ []) _ _ n s refl refl (ap (begin_with call session) (bare_back bare.Invoke key k))
 
-begin_all_back : (call session : ℕ) (keys : List Bytes) → IsNumber call → IsSession session → AreKeys keys
-    → begin_of (decimal call ∷ session_text session ∷ codes "invokeall" ∷ keys) ≡ Ok (InvokeAll call session keys)
-begin_all_back call session keys n s known =
-    begin_asks call session (codes "invokeall") keys _ _ n s refl (lt-ltb 0 (length keys) known.0) (ap (invoke_all_with call session) (keys_back keys known))
+bulk_are_words : (b : BulkCall) → HasKeys b → AreWords (bulk_words b)
+bulk_are_words (bulk.GetAll keys) known = keys_are_words keys known.1
+bulk_are_words (bulk.PutAll pairs) known = pairs_are_words pairs known.1
+bulk_are_words (bulk.RemoveAll keys) known = keys_are_words keys known.1
+bulk_are_words bulk.RemoveEvery known = refl
+bulk_are_words bulk.Clear known = refl
+bulk_are_words (bulk.InvokeAll keys) known = keys_are_words keys known.1
 
--- 4. What happens next to a call.
+bulk_back : (call session : ℕ) (b : BulkCall) → IsNumber call → IsSession session → is_read (bulk_name b) ≡ true → HasKeys b
+    → begin_of (decimal call ∷ session_text session ∷ bulk_words b) ≡ Ok (BeginBulk call session b)
+bulk_back call session (bulk.GetAll keys) n s on known =
+    begin_asks call session (codes "getall") keys (form.Bulk name.GetAll) _ n s refl (and_from _ _ on (lt-ltb 0 (length keys) known.0))
+    (ap (bulk_with call session) (ap (λ r. r >>= λ keys. Ok (bulk.GetAll keys)) (keys_back 1 keys known)))
+bulk_back call session (bulk.PutAll pairs) n s on known =
+    begin_asks call session (codes "putall") (map pair_text pairs) (form.Bulk name.PutAll) _ n s refl (and_from _ _ on (lt-ltb 0 (length (map pair_text pairs)) (subst (λ (count : ℕ). 1 ≤ count) (sym (length-map pairs pair_text)) known.0)))
+    (ap (bulk_with call session) (ap (λ r. r >>= λ pairs. Ok (bulk.PutAll pairs)) (distinct_pairs_back pairs known)))
+bulk_back call session (bulk.RemoveAll keys) n s on known =
+    begin_asks call session (codes "removeall") keys (form.Bulk name.RemoveAll) _ n s refl (and_from _ _ on (lt-ltb 0 (length keys) known.0))
+    (ap (bulk_with call session) (ap (λ r. r >>= λ keys. Ok (bulk.RemoveAll keys)) (keys_back 1 keys known)))
+bulk_back call session bulk.RemoveEvery n s on known = begin_asks call session (codes "removeevery") [] (form.Bulk name.RemoveEvery) _ n s refl (and_from _ _ on refl) refl
+bulk_back call session bulk.Clear n s on known = begin_asks call session (codes "clear") [] (form.Bulk name.Clear) _ n s refl (and_from _ _ on refl) refl
+bulk_back call session (bulk.InvokeAll keys) n s on known =
+    begin_asks call session (codes "invokeall") keys (form.Bulk name.InvokeAll) _ n s refl (and_from _ _ on (lt-ltb 0 (length keys) known.0))
+    (ap (bulk_with call session) (ap (λ r. r >>= λ keys. Ok (bulk.InvokeAll keys)) (keys_back 1 keys known)))
+
+-- 3. What happens next to a call.
 
 lone_back : (act : Lone) (call : ℕ) → IsNumber call → lone_of act (decimal call ∷ []) ≡ Ok (OfCall call (lone_act act))
 lone_back act call n = rw (number_back call n) refl
@@ -173,11 +154,33 @@ coded_back : (act : Coded) (call code : ℕ) → IsNumber call → IsNumber code
 unfolding coded_of
 coded_back act call code n c = rw (number_back call n, number_back code c) refl
 
+left_are_words : (least : ℕ) (left : Option (List Bytes)) → AreLeft least left → AreWords (left_words left)
+left_are_words least None known = refl
+left_are_words least (Some left) known = keys_are_words left known.1
+
+left_shape : (least : ℕ) (left : Option (List Bytes)) → AreLeft least left → has_but_shape least (left_words left) ≡ true
+left_shape least None known = refl
+left_shape least (Some left) known = le-leb least (length left) known.0
+
+left_back : (least : ℕ) (left : Option (List Bytes)) → AreLeft least left → left_of (left_words left) ≡ Ok left
+left_back least None known = refl
+left_back least (Some left) known = ap (λ r. r >>= λ keys. Ok (Some keys)) (keys_back least left known)
+
+apply_back : (call : ℕ) (left : Option (List Bytes)) → IsNumber call → AreLeft 1 left → apply_of (decimal call ∷ left_words left) ≡ Ok (OfCall call (Apply left))
+unfolding apply_of
+apply_back call left n known = rw (left_shape 1 left known) (rw (number_back call n, left_back 1 left known) refl)
+
+apply_fail_back : (call code : ℕ) (left : Option (List Bytes)) → IsNumber call → IsNumber code → AreLeft 0 left
+    → apply_fail_of (decimal call ∷ decimal code ∷ left_words left) ≡ Ok (OfCall call (ApplyFail code left))
+unfolding apply_fail_of
+apply_fail_back call code left n c known =
+    rw (left_shape 0 left known) (rw (number_back call n, number_back code c, left_back 0 left known) refl)
+
 say_back : (call : ℕ) (pairs : Pairs) → IsNumber call → All IsPair pairs → say_of (decimal call ∷ map pair_text pairs) ≡ Ok (OfCall call (Say pairs))
 unfolding say_of
 say_back call pairs n known = rw (number_back call n, pairs_back pairs known) refl
 
--- 5. Any line.
+-- 4. Any line.
 
 abbrev IsReadBack : Line → Type 0
 IsReadBack line = length (spelling line) ≤ 65536 → read_line (spelling line) ≡ Ok (Some line)
@@ -189,10 +192,11 @@ act_back call (ReadFail code) n a short =
     (coded_back coded.ReadFail call code n a)
 act_back call (Say pairs) n a short =
     line_of_words (codes "say") (decimal call ∷ map pair_text pairs) _ refl (and_from _ _ (number_word call n) (pairs_are_words pairs a)) short (say_back call pairs n a)
-act_back call Apply n a short = line_of_words (codes "apply") (decimal call ∷ []) _ refl (and_from _ _ (number_word call n) refl) short (lone_back lone.Apply call n)
-act_back call (ApplyFail code) n a short =
-    line_of_words (codes "applyfail") (decimal call ∷ decimal code ∷ []) _ refl (and_from _ _ (number_word call n) (and_from _ _ (number_word code a) refl)) short
-    (coded_back coded.ApplyFail call code n a)
+act_back call (Apply left) n a short =
+    line_of_words (codes "apply") (decimal call ∷ left_words left) _ refl (and_from _ _ (number_word call n) (left_are_words 1 left a)) short (apply_back call left n a)
+act_back call (ApplyFail code left) n a short =
+    line_of_words (codes "applyfail") (decimal call ∷ decimal code ∷ left_words left) _ refl
+    (and_from _ _ (number_word call n) (and_from _ _ (number_word code a.0) (left_are_words 0 left a.1))) short (apply_fail_back call code left n a.0 a.1)
 act_back call (ApplyLie code) n a short =
     line_of_words (codes "applylie") (decimal call ∷ decimal code ∷ []) _ refl (and_from _ _ (number_word call n) (and_from _ _ (number_word code a) refl)) short
     (coded_back coded.ApplyLie call code n a)
@@ -216,10 +220,10 @@ line_back (Begin call session command) known =
     line_of_words (codes "begin") (decimal call ∷ session_text session ∷ operation_words command.op command.key) _ refl
     (and_from _ _ (number_word call known.0.0) (and_from _ _ (session_word session known.0.1) (operation_word command.op command.key known.0.2 known.0.3))) known.1
     (begin_back call session command.op command.key known.0.0 known.0.1 known.0.2 known.0.3)
-line_back (InvokeAll call session keys) known =
-    line_of_words (codes "begin") (decimal call ∷ session_text session ∷ codes "invokeall" ∷ keys) _ refl
-    (and_from _ _ (number_word call known.0.0) (and_from _ _ (session_word session known.0.1) (keys_are_words keys known.0.2.1))) known.1
-    (begin_all_back call session keys known.0.0 known.0.1 known.0.2)
+line_back (BeginBulk call session b) known =
+    line_of_words (codes "begin") (decimal call ∷ session_text session ∷ bulk_words b) _ refl
+    (and_from _ _ (number_word call known.0.0) (and_from _ _ (session_word session known.0.1) (bulk_are_words b known.0.3))) known.1
+    (bulk_back call session b known.0.0 known.0.1 known.0.2 known.0.3)
 line_back (OfCall call act) known = act_back call act known.0.0 known.0.1 known.1
 line_back (Foreign key value) known =
     line_of_words (codes "foreign") (key ∷ value_or_none_text value ∷ []) _ refl (and_from _ _ (text_word _ key known.0.0) (and_from _ _ (value_or_none_word value known.0.1) refl)) known.1

@@ -3,22 +3,21 @@
 --     field_fault      the fault of a refused shape: it names the field
 --     config_fault     the fault of a world's shape: the first number out of its limits
 --     begin_fault      the fault of a `begin`: first the number, then the caller
---     act_fault        the fault of an act: there is no such call, or the first event that the act stands for doesn't fit
+--     act_fault        the fault of an act: there is no such call, it names keys that the writer leaves, or it isn't the time for it
 --     state_fault      the fault that the state of the world gives a line, the first one in order
 use Rattle.std.specs.Prelude.{ℕ, List, codes, Option, None, Some, Result, Ok, Err, if◌then◌else◌}
 use Rattle.jc_types.specs.declared.refusal.Refusal.{Refusal}
 use Rattle.jc_types.specs.declared.refusal.Refusal.TheVariants as refusal
 use Rattle.jc_types.specs.declared.config.Field.TheVariants.{Stripes, Capacity, History}
 use Rattle.jc_types.specs.Limits.{check}
-use Rattle.jc_model.specs.Cache.{Bytes}
-use Rattle.jc_world.specs.Calls.{CallState, current_key}
-use Rattle.jc_world.specs.World.{WorldState, open_call, part_of, is_busy}
+use Rattle.jc_world.specs.Calls.{CallState}
+use Rattle.jc_world.specs.World.{WorldState, open_call, is_busy}
 use Rattle.jc_world.specs.Events.{is_new}
-use Rattle.jc_script.specs.LineEvents.{events_of, first_fits}
+use Rattle.jc_script.specs.LineEvents.{is_time_for, has_but}
 use Rattle.jc_script.specs.declared.fault.Fault.{Fault}
 use Rattle.jc_script.specs.declared.fault.Fault.TheVariants.{CutLine, LineTooLong, BadByte, BadLine, BadNumber, BadCaller, BadKey, BadValue, RepeatedKey, NotOpen, OpenTwice, BadConfig, SetTooLate, NotRising, CallerBusy, NoSuchCall, NotNow}
 use Rattle.jc_script.specs.declared.line.Line.{Line}
-use Rattle.jc_script.specs.declared.line.Line.TheVariants.{Open, Set, Begin, InvokeAll, OfCall, Foreign, Audit}
+use Rattle.jc_script.specs.declared.line.Line.TheVariants.{Open, Set, Begin, BeginBulk, OfCall, Foreign, Audit}
 use Rattle.jc_script.specs.declared.line.Act.{Act}
 
 abbrev pub text_of : Fault → List ℕ
@@ -56,29 +55,23 @@ abbrev pub begin_fault : WorldState → ℕ → ℕ → Option Fault
 begin_fault w number session =
     if is_new w.last number then (if is_busy w session then Some CallerBusy else None) else Some NotRising
 
--- it isn't the time for an act if the first event that it stands for doesn't fit
-abbrev pub act_fault_at : WorldState → ℕ → Act → Option Bytes → Option Fault
-act_fault_at w number act None = Some NotNow
-act_fault_at w number act (Some key) =
-    if first_fits w (events_of number key (part_of w number key) act) then None else Some NotNow
-
 abbrev pub act_fault : WorldState → ℕ → Act → Option CallState → Option Fault
 act_fault w number act None = Some NoSuchCall
 act_fault w number act (Some u) =
-    act_fault_at w number act (current_key u)
+    if has_but act then Some NotNow else if is_time_for w number act u then None else Some NotNow
 
 abbrev pub state_fault : Option WorldState → Line → Option Fault
 state_fault None (Open config) = config_fault (check config)
 state_fault None (Set key value) = Some NotOpen
 state_fault None (Begin number session command) = Some NotOpen
-state_fault None (InvokeAll number session keys) = Some NotOpen
+state_fault None (BeginBulk number session call) = Some NotOpen
 state_fault None (OfCall number act) = Some NotOpen
 state_fault None (Foreign key value) = Some NotOpen
 state_fault None Audit = Some NotOpen
 state_fault (Some w) (Open config) = Some OpenTwice
 state_fault (Some w) (Set key value) = if w.fresh then None else Some SetTooLate
 state_fault (Some w) (Begin number session command) = begin_fault w number session
-state_fault (Some w) (InvokeAll number session keys) = begin_fault w number session
+state_fault (Some w) (BeginBulk number session call) = begin_fault w number session
 state_fault (Some w) (OfCall number act) = act_fault w number act (open_call w number)
 state_fault (Some w) (Foreign key value) = None
 state_fault (Some w) Audit = None

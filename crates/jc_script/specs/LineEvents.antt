@@ -5,14 +5,29 @@
 --     first_of_each   the same of a call of many keys that takes one after the other, from its keys
 --     call_events     the events that the begin of a call stands for, by the key that it starts
 --     begin_events    the same, from its command
---     drop_events     the events of a call that is dropped: what is reserved is given back first
---     events_of       the events that an act stands for, for a call's number and key, and what it asked and heard for the key
---     has_end         the end of calls that take their keys so is told: of calls of many keys
+--     keys_at_work    the keys at which a call works: the current one alone, if it takes its keys in turn, else all open ones
 --     is_drop         an act gives its call up
+--     keys_of_act     the keys of a call that an act may be about: those at work; of an act that gives the call up all open ones
+--     is_asked        the writer was asked for a key by a call, and hasn't returned
+--     is_started      a call has reserved a key
+--     is_meant        an act is about a key: what it says or asks for is waited for there
+--     event_at        the event that an act stands for at a key that it is about
+--     key_events      those events, at each key that an act is about, in the order of the call's keys
+--     end_of_act      the event of the whole call that comes behind them: the writer's return, or the call's leaving
+--     events_of       the events that an act stands for
+--     is_about_one    there is an event at a key
+--     is_time         whether it is the time for an act, by the call's keys and the events at those that it is about. The writer returns
+--                     if some key is asked of it and not reported. Any other act but a call's leaving is about some key. Each key
+--                     that ends is answered, and each that begins again is neither reserved nor joined. Who picks up has reserved
+--                     no key. A call that leaves has joined no load, and nothing was said outside for the keys it has reserved
+--     is_time_for     the same, of an act of a call under way
+--     has_but         an act names keys that the writer leaves
+--     has_end         the end of calls that take their keys so is told: of calls of many keys
+--     load_fault      the code with which an act says that the loader fails
 --     begin_end       the call that begins, if its end is told: not if it starts no key
 --     act_end         the call of an act, if its end is told: not if the act gives it up
---     first_fits      the first of some events fits now; none is needed if there are none
-use Rattle.std.specs.Prelude.{◌≡◌, ◌&&◌, ℕ, List, [], ◌∷◌, length, nat_lt, slice_get, Bool, true, false, not, Option, None, Some, is_some, if◌then◌else◌}
+use Rattle.std.specs.Prelude.{◌≡◌, ◌&&◌, ℕ, List, [], ◌∷◌, ◌++◌, filter, length, map, nat_lt, slice_get, Bool, true, false, not, Option, None, Some, is_some, option_to_list, if◌then◌else◌}
+use Rattle.std.specs.List.{list_all, list_any}
 use Rattle.jc_types.specs.declared.limits.TheConstants.{BULK_KEYS_MAX}
 use Rattle.jc_model.specs.Cache.{Bytes}
 use Rattle.jc_model.specs.declared.event.LoadAnswer.TheVariants.{Failed}
@@ -21,11 +36,10 @@ use Rattle.jc_world.specs.declared.command.Command.{Command}
 use Rattle.jc_world.specs.declared.command.Command.TheVariants as command
 use Rattle.jc_world.specs.declared.command.CallKind.{CallKind}
 use Rattle.jc_world.specs.declared.command.CallKind.TheVariants as kind
-use Rattle.jc_world.specs.Calls.{CallState, current_key, has_too_many_keys, new_call}
-use Rattle.jc_world.specs.declared.event.Part.{Part}
+use Rattle.jc_world.specs.Calls.{CallState, current_key, has_too_many_keys, new_call, open_keys, takes_turns}
 use Rattle.jc_world.specs.declared.event.WorldEvent.{WorldEvent}
 use Rattle.jc_world.specs.declared.event.WorldEvent.TheVariants as event
-use Rattle.jc_world.specs.World.{WorldState}
+use Rattle.jc_world.specs.World.{WorldState, has_progress, is_joined, part_of, waits_for_load, waits_for_process, waits_for_report}
 use Rattle.jc_world.specs.Events.{fits}
 use Rattle.jc_script.specs.declared.line.Act.{Act}
 use Rattle.jc_script.specs.declared.line.Act.TheVariants.{Read, ReadFail, Say, Apply, ApplyFail, ApplyLie, End, Drop, More, Take, Process}
@@ -59,35 +73,15 @@ abbrev pub begin_events : ℕ → ℕ → Command → List WorldEvent
 begin_events number session command =
     call_events number session command (first_key (new_call number session command))
 
-abbrev pub drop_events : ℕ → Bytes → Option Part → List WorldEvent
-drop_events number key None = event.Leave number ∷ []
-drop_events number key (Some part) = event.Withdraw number key ∷ event.Leave number ∷ []
-
-abbrev pub events_of : ℕ → Bytes → Option Part → Act → List WorldEvent
-events_of number key part Read = event.Read number key ∷ []
-events_of number key part (ReadFail code) = event.Say number key (Failed code) ∷ []
-events_of number key part (Say pairs) = event.Say number key (said pairs key) ∷ []
-events_of number key part Apply = event.Change number key ∷ event.Report number None ∷ []
-events_of number key part (ApplyFail code) = event.Report number (Some code) ∷ []
-events_of number key part (ApplyLie code) = event.Change number key ∷ event.Report number (Some code) ∷ []
-events_of number key part End = event.Commit number key ∷ []
-events_of number key part Drop = drop_events number key part
-events_of number key part More = event.Start number key ∷ []
-events_of number key part Take = event.PickUp number key ∷ []
-events_of number key part (Process source calls fail) = event.Process number key source calls fail ∷ []
-
--- of calls of many keys
-abbrev pub has_end : CallKind → Bool
-has_end kind.Single = false
-has_end kind.KeyByKey = true
-has_end kind.Batch = true
+abbrev pub keys_at_work : CallState → List Bytes
+keys_at_work u = if takes_turns u.kind then option_to_list (current_key u) else open_keys u
 
 abbrev pub is_drop : Act → Bool
 is_drop Read = false
 is_drop (ReadFail code) = false
 is_drop (Say pairs) = false
-is_drop Apply = false
-is_drop (ApplyFail code) = false
+is_drop (Apply left) = false
+is_drop (ApplyFail code left) = false
 is_drop (ApplyLie code) = false
 is_drop End = false
 is_drop Drop = true
@@ -95,14 +89,124 @@ is_drop More = false
 is_drop Take = false
 is_drop (Process source calls fail) = false
 
+abbrev pub keys_of_act : Act → CallState → List Bytes
+keys_of_act act u = if is_drop act then open_keys u else keys_at_work u
+
+-- the writer was asked, and hasn't returned
+abbrev pub is_asked : WorldState → ℕ → Bytes → Bool
+is_asked w call key = has_progress waits_for_report (part_of w call key)
+
+abbrev pub is_started : WorldState → ℕ → Bytes → Bool
+is_started w call key = is_some (part_of w call key)
+
+-- a writer that fails and did nothing changes the store at no key
+abbrev pub is_meant : WorldState → ℕ → Act → Bytes → Bool
+is_meant w call Read key = has_progress waits_for_load (part_of w call key)
+is_meant w call (ReadFail code) key = has_progress waits_for_load (part_of w call key)
+is_meant w call (Say pairs) key = has_progress waits_for_load (part_of w call key)
+is_meant w call (Apply left) key = is_asked w call key
+is_meant w call (ApplyFail code left) key = false
+is_meant w call (ApplyLie code) key = is_asked w call key
+is_meant w call End key = is_started w call key
+is_meant w call Drop key = is_started w call key
+is_meant w call More key = true
+is_meant w call Take key = is_joined w call key
+is_meant w call (Process source calls fail) key = has_progress waits_for_process (part_of w call key)
+
+abbrev pub event_at : ℕ → Act → Bytes → WorldEvent
+event_at call Read key = event.Read call key
+event_at call (ReadFail code) key = event.Say call key (Failed code)
+event_at call (Say pairs) key = event.Say call key (said pairs key)
+event_at call (Apply left) key = event.Change call key
+event_at call (ApplyFail code left) key = event.Change call key
+event_at call (ApplyLie code) key = event.Change call key
+event_at call End key = event.Commit call key
+event_at call Drop key = event.Withdraw call key
+event_at call More key = event.Start call key
+event_at call Take key = event.PickUp call key
+event_at call (Process source calls fail) key = event.Process call key source calls fail
+
+-- at each key that it is about, in the order of the call's keys
+abbrev pub key_events : WorldState → ℕ → Act → List Bytes → List WorldEvent
+key_events w call act keys = map (event_at call act) (filter (is_meant w call act) keys)
+
+-- a writer that fails leaves each key that it was asked for
+abbrev pub end_of_act : WorldState → ℕ → Act → List Bytes → List WorldEvent
+end_of_act w call Read keys = []
+end_of_act w call (ReadFail code) keys = []
+end_of_act w call (Say pairs) keys = []
+end_of_act w call (Apply left) keys = event.Report call [] None ∷ []
+end_of_act w call (ApplyFail code left) keys = event.Report call (filter (is_asked w call) keys) (Some code) ∷ []
+end_of_act w call (ApplyLie code) keys = event.Report call (filter (is_asked w call) keys) (Some code) ∷ []
+end_of_act w call End keys = []
+end_of_act w call Drop keys = event.Leave call ∷ []
+end_of_act w call More keys = []
+end_of_act w call Take keys = []
+end_of_act w call (Process source calls fail) keys = []
+
+abbrev pub events_of : WorldState → ℕ → Act → List Bytes → List WorldEvent
+events_of w call act keys = key_events w call act keys ++ end_of_act w call act keys
+
+abbrev pub is_about_one : List WorldEvent → Bool
+is_about_one [] = false
+is_about_one (e ∷ events) = true
+
+-- an outside answer and a processor's run fit at each key that they are about, and so does a pick-up
+abbrev pub is_time : WorldState → ℕ → Act → List Bytes → List WorldEvent → Bool
+is_time w call Read keys events = is_about_one events
+is_time w call (ReadFail code) keys events = is_about_one events
+is_time w call (Say pairs) keys events = is_about_one events
+is_time w call (Apply left) keys events = list_any (is_asked w call) keys
+is_time w call (ApplyFail code left) keys events = list_any (is_asked w call) keys
+is_time w call (ApplyLie code) keys events = list_any (is_asked w call) keys
+is_time w call End keys events = is_about_one events && list_all (fits w) events
+is_time w call Drop keys events = list_all (fits w) events && not (list_any (is_joined w call) keys)
+is_time w call More keys events = is_about_one events && list_all (fits w) events
+is_time w call Take keys events = is_about_one events && not (list_any (is_started w call) keys)
+is_time w call (Process source calls fail) keys events = is_about_one events
+
+abbrev pub is_time_for : WorldState → ℕ → Act → CallState → Bool
+is_time_for w call act u =
+    let keys = keys_of_act act u in is_time w call act keys (key_events w call act keys)
+
+-- the keys that the writer leaves: such an act is of no call that takes its keys one after the other
+abbrev pub has_but : Act → Bool
+has_but Read = false
+has_but (ReadFail code) = false
+has_but (Say pairs) = false
+has_but (Apply left) = is_some left
+has_but (ApplyFail code left) = is_some left
+has_but (ApplyLie code) = false
+has_but End = false
+has_but Drop = false
+has_but More = false
+has_but Take = false
+has_but (Process source calls fail) = false
+
+-- of calls of many keys
+abbrev pub has_end : CallKind → Bool
+has_end kind.Single = false
+has_end kind.KeyByKey = true
+has_end kind.Batch = true
+
+-- at all keys that the loader was asked for
+abbrev pub load_fault : Act → Option ℕ
+load_fault Read = None
+load_fault (ReadFail code) = Some code
+load_fault (Say pairs) = None
+load_fault (Apply left) = None
+load_fault (ApplyFail code left) = None
+load_fault (ApplyLie code) = None
+load_fault End = None
+load_fault Drop = None
+load_fault More = None
+load_fault Take = None
+load_fault (Process source calls fail) = None
+
 -- not where no key starts
 abbrev pub begin_end : ℕ → CallKind → Option Bytes → Option ℕ
 begin_end number kind first = if has_end kind && is_some first then Some number else None
 
--- not where it is given up
+-- not if it is given up
 abbrev pub act_end : ℕ → CallKind → Act → Option ℕ
 act_end number kind act = if has_end kind && not (is_drop act) then Some number else None
-
-abbrev pub first_fits : WorldState → List WorldEvent → Bool
-first_fits w [] = true
-first_fits w (e ∷ events) = fits w e

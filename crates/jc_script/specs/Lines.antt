@@ -3,21 +3,26 @@
 --     Gives                         what a function returned is what the definition says, unless memory ran out
 --     with_value                    the same of a function that leaves its value in a place: the result with that value
 --     with_line                     the same of a line, where a flag says whether the line asks for anything
---     form_named                    the operation that a word names
+--     bulk_named, form_named        the call of many keys that a word names; the operation
+--     is_read                       lines may begin such a call of many keys; a name that isn't read yet is none
 --     act_named                     the kind of line of a call, that a first word names
 --     line_named                    the kind of line that a first word names
 --     flags_of                      what of read-through and write-through is on
---     takes_words                   so many words stand after an operation's name; after `invokeall` any number of them but none
+--     bulk_takes, takes_words       so many words stand after the name of a call of many keys, and after an operation's name
 --     bare_op, valued_op            the operation of a name with no value, and of a name with one
 --     bare_of, valued_of, replace_if_of      an operation with its key and no value, with one value, with an old and a new one
 --     value_alone_of                one value, and no word behind it
 --     open_of, set_of, begin_of     what the words after `open`, `set` and `begin` ask for
 --     begin_with                    the begin of a call with an operation
---     invoke_all_with               the begin of a call of `invokeAll` on some keys
+--     bulk_alone, bulk_of           a call of many keys that names none, and one with its keys or its pairs
+--     bulk_with                     the begin of a call of many keys
 --     command_of                    the begin of a call, by what stands after the session
 --     number_alone                  one number, and no word behind it
 --     lone_act, lone_of             the act of a line with a call's number alone, and what its words ask for
 --     coded_act, coded_of           the act of a line with a call's number and a code, and what its words ask for
+--     has_but_shape                 nothing stands behind what the writer does, or `but` and at least so many words
+--     left_of                       the keys that the writer leaves, if `but` stands
+--     apply_of, apply_fail_of       what the words after `apply` and `applyfail` ask for
 --     process_of                    what the words after `process` ask for
 --     say_of, foreign_of, audit_of      what the words after `say`, `foreign` and `audit` ask for
 --     line_of                       what the words after the first ask for, by the kind of line
@@ -27,6 +32,7 @@
 --     is_comment                    a line that asks for nothing: an empty one, and one that begins with #
 --     some_line                     a line that asks for something, or its fault
 --     read_line                     what the bytes of a line ask for: nothing, for a comment
+--     bulk_name                     the name of a call of many keys
 --     is_callable                   what a line begins is a call of one of the 32 sessions, and its operation is a call by itself, if
 --                                   it has but one
 use Rattle.std.specs.Prelude.{◌≡◌, ◌==◌, ℕ, List, [], ◌∷◌, length, Bool, true, false, ◌&&◌, not, nat_lt, nat_le, Option, Some, None, Result, Ok, Err, if◌then◌else◌, codes}
@@ -42,13 +48,17 @@ use Rattle.jc_script.specs.declared.fault.Fault.TheVariants.{LineTooLong, BadByt
 use Rattle.jc_script.specs.declared.fault.ReadError.{ReadError}
 use Rattle.jc_script.specs.declared.fault.ReadError.TheVariants as errors
 use Rattle.jc_script.specs.declared.line.Line.{Line}
-use Rattle.jc_script.specs.declared.line.Line.TheVariants.{Open, Set, Begin, InvokeAll, OfCall, Foreign, Audit}
+use Rattle.jc_script.specs.declared.line.Line.TheVariants.{Open, Set, Begin, BeginBulk, OfCall, Foreign, Audit}
+use Rattle.jc_script.specs.declared.line.BulkCall.{BulkCall}
+use Rattle.jc_script.specs.declared.line.BulkCall.TheVariants as bulk
 use Rattle.jc_script.specs.declared.line.Act.{Act}
 use Rattle.jc_script.specs.declared.line.Act.TheVariants.{Read, ReadFail, Say, Apply, ApplyFail, ApplyLie, End, Drop, More, Take, Process}
 use Rattle.jc_script.specs.declared.commands.Bare.{Bare}
 use Rattle.jc_script.specs.declared.commands.Bare.TheVariants as bare
 use Rattle.jc_script.specs.declared.commands.Valued.{Valued}
 use Rattle.jc_script.specs.declared.commands.Valued.TheVariants as valued
+use Rattle.jc_script.specs.declared.commands.BulkName.{BulkName}
+use Rattle.jc_script.specs.declared.commands.BulkName.TheVariants as name
 use Rattle.jc_script.specs.declared.commands.Form.{Form}
 use Rattle.jc_script.specs.declared.commands.Form.TheVariants as form
 use Rattle.jc_script.specs.declared.grammar.Lone.{Lone}
@@ -57,7 +67,7 @@ use Rattle.jc_script.specs.declared.grammar.Coded.{Coded}
 use Rattle.jc_script.specs.declared.grammar.Coded.TheVariants as coded
 use Rattle.jc_script.specs.declared.grammar.LineKind.{LineKind}
 use Rattle.jc_script.specs.declared.grammar.LineKind.TheVariants as line
-use Rattle.jc_script.specs.Words.{◌>>=◌, words_of, number_of, caller_of, key_of, value_of, value_or_none_of, pairs_of, keys_of}
+use Rattle.jc_script.specs.Words.{◌>>=◌, words_of, number_of, caller_of, key_of, value_of, value_or_none_of, pairs_of, distinct_pairs_of, keys_of}
 use Rattle.jc_script.specs.ProcessWords.{without_load, has_process_shape, source_of, calls_of}
 
 abbrev pub Gives : {X : Type 0} → Result X ReadError → Result X Fault → Type 0
@@ -78,6 +88,17 @@ with_line l (Err e) = Err e
 
 -- 1. The fixed words.
 
+-- of calls of many keys
+abbrev pub bulk_named : List ℕ → Result Form Fault
+bulk_named word =
+    if bytes_eq word (codes "getall") then Ok (form.Bulk name.GetAll) else
+    if bytes_eq word (codes "putall") then Ok (form.Bulk name.PutAll) else
+    if bytes_eq word (codes "removeall") then Ok (form.Bulk name.RemoveAll) else
+    if bytes_eq word (codes "removeevery") then Ok (form.Bulk name.RemoveEvery) else
+    if bytes_eq word (codes "clear") then Ok (form.Bulk name.Clear) else
+    if bytes_eq word (codes "invokeall") then Ok (form.Bulk name.InvokeAll) else
+    Err BadLine
+
 abbrev pub form_named : List ℕ → Result Form Fault
 form_named word =
     if bytes_eq word (codes "get") then Ok (form.Bare bare.Get) else
@@ -92,21 +113,29 @@ form_named word =
     if bytes_eq word (codes "replaceif") then Ok form.ReplaceIf else
     if bytes_eq word (codes "getreplace") then Ok (form.Valued valued.GetReplace) else
     if bytes_eq word (codes "invoke") then Ok (form.Bare bare.Invoke) else
-    if bytes_eq word (codes "invokeall") then Ok form.InvokeAll else
-    Err BadLine
+    bulk_named word
+
+-- the calls of many keys that lines may begin: a name that isn't read yet is none
+abbrev pub is_read : BulkName → Bool
+is_read name.GetAll = false
+is_read name.PutAll = false
+is_read name.RemoveAll = false
+is_read name.RemoveEvery = false
+is_read name.Clear = false
+is_read name.InvokeAll = true
 
 -- of a call that was begun
 abbrev pub act_named : List ℕ → Result LineKind Fault
 act_named word =
     if bytes_eq word (codes "read") then Ok (line.Lone lone.Read) else
-    if bytes_eq word (codes "apply") then Ok (line.Lone lone.Apply) else
+    if bytes_eq word (codes "apply") then Ok line.Apply else
     if bytes_eq word (codes "end") then Ok (line.Lone lone.End) else
     if bytes_eq word (codes "drop") then Ok (line.Lone lone.Drop) else
     if bytes_eq word (codes "more") then Ok (line.Lone lone.More) else
     if bytes_eq word (codes "take") then Ok (line.Lone lone.Take) else
     if bytes_eq word (codes "say") then Ok line.Say else
     if bytes_eq word (codes "readfail") then Ok (line.Coded coded.ReadFail) else
-    if bytes_eq word (codes "applyfail") then Ok (line.Coded coded.ApplyFail) else
+    if bytes_eq word (codes "applyfail") then Ok line.ApplyFail else
     if bytes_eq word (codes "applylie") then Ok (line.Coded coded.ApplyLie) else
     if bytes_eq word (codes "process") then Ok line.Process else
     Err BadLine
@@ -131,12 +160,21 @@ flags_of (a ∷ b ∷ c ∷ more) = Err BadLine
 
 -- 2. Operations.
 
+-- how many words stand after the name of a call of many keys: a key or more, or none
+abbrev pub bulk_takes : BulkName → ℕ → Bool
+bulk_takes name.GetAll count = nat_lt 0 count
+bulk_takes name.PutAll count = nat_lt 0 count
+bulk_takes name.RemoveAll count = nat_lt 0 count
+bulk_takes name.RemoveEvery count = count == 0
+bulk_takes name.Clear count = count == 0
+bulk_takes name.InvokeAll count = nat_lt 0 count
+
 -- how many words stand after an operation's name
 abbrev pub takes_words : Form → ℕ → Bool
 takes_words (form.Bare b) count = count == 1
 takes_words (form.Valued v) count = count == 2
 takes_words form.ReplaceIf count = count == 3
-takes_words form.InvokeAll count = nat_lt 0 count
+takes_words (form.Bulk n) count = is_read n && bulk_takes n count
 
 abbrev pub bare_op : Bare → Op
 bare_op bare.Get = op.Get
@@ -183,6 +221,19 @@ replace_if_of (k ∷ v ∷ words) = do
 replace_if_of [] = Err BadLine
 replace_if_of (k ∷ []) = Err BadLine
 
+-- no word
+abbrev pub bulk_alone : BulkCall → List (List ℕ) → Result BulkCall Fault
+bulk_alone call [] = Ok call
+bulk_alone call (x ∷ more) = Err BadLine
+
+abbrev pub bulk_of : BulkName → List (List ℕ) → Result BulkCall Fault
+bulk_of name.GetAll words = keys_of words >>= λ keys. Ok (bulk.GetAll keys)
+bulk_of name.PutAll words = distinct_pairs_of words >>= λ pairs. Ok (bulk.PutAll pairs)
+bulk_of name.RemoveAll words = keys_of words >>= λ keys. Ok (bulk.RemoveAll keys)
+bulk_of name.RemoveEvery words = bulk_alone bulk.RemoveEvery words
+bulk_of name.Clear words = bulk_alone bulk.Clear words
+bulk_of name.InvokeAll words = keys_of words >>= λ keys. Ok (bulk.InvokeAll keys)
+
 -- 3. Lines, from the words after the first.
 
 unfoldable pub open_of : List (List ℕ) → Result Line Fault
@@ -210,14 +261,14 @@ abbrev pub begin_with : ℕ → ℕ → Result Operation Fault → Result Line F
 begin_with number session command = command >>= λ command. Ok (Begin number session command)
 
 -- or the fault of its keys
-abbrev pub invoke_all_with : ℕ → ℕ → Result (List Bytes) Fault → Result Line Fault
-invoke_all_with number session keys = keys >>= λ keys. Ok (InvokeAll number session keys)
+abbrev pub bulk_with : ℕ → ℕ → Result BulkCall Fault → Result Line Fault
+bulk_with number session call = call >>= λ call. Ok (BeginBulk number session call)
 
 abbrev pub command_of : ℕ → ℕ → Form → List (List ℕ) → Result Line Fault
 command_of number session (form.Bare b) words = begin_with number session (bare_of b words)
 command_of number session (form.Valued v) words = begin_with number session (valued_of v words)
 command_of number session form.ReplaceIf words = begin_with number session (replace_if_of words)
-command_of number session form.InvokeAll words = invoke_all_with number session (keys_of words)
+command_of number session (form.Bulk n) words = bulk_with number session (bulk_of n words)
 
 unfoldable pub begin_of : List (List ℕ) → Result Line Fault
 begin_of (n ∷ who ∷ name ∷ words) = do
@@ -238,7 +289,6 @@ number_alone (n ∷ x ∷ more) = Err BadLine
 
 abbrev pub lone_act : Lone → Act
 lone_act lone.Read = Read
-lone_act lone.Apply = Apply
 lone_act lone.End = End
 lone_act lone.Drop = Drop
 lone_act lone.More = More
@@ -250,7 +300,6 @@ lone_of act words = number_alone words >>= λ number. Ok (OfCall number (lone_ac
 
 abbrev pub coded_act : Coded → ℕ → Act
 coded_act coded.ReadFail code = ReadFail code
-coded_act coded.ApplyFail code = ApplyFail code
 coded_act coded.ApplyLie code = ApplyLie code
 
 -- a call's number, and a code
@@ -261,6 +310,36 @@ coded_of act (n ∷ words) = do
   code ← number_alone words
   Ok (OfCall number (coded_act act code))
 coded_of act [] = Err BadLine
+
+-- nothing, or `but` and at least so many words
+abbrev pub has_but_shape : ℕ → List (List ℕ) → Bool
+has_but_shape least [] = true
+has_but_shape least (word ∷ words) = bytes_eq word (codes "but") && nat_le least (length words)
+
+-- the words' shape is known
+abbrev pub left_of : List (List ℕ) → Result (Option (List Bytes)) Fault
+left_of [] = Ok None
+left_of (word ∷ words) = keys_of words >>= λ keys. Ok (Some keys)
+
+-- a call's number, and maybe the keys that are left, at least one
+unfoldable pub apply_of : List (List ℕ) → Result Line Fault
+apply_of (n ∷ words) = do
+  shaped ← (if has_but_shape 1 words then Ok true else Err BadLine)
+  number ← number_of n
+  left ← left_of words
+  Ok (OfCall number (Apply left))
+apply_of [] = Err BadLine
+
+-- a call's number, a code, and maybe the keys that are left
+unfoldable pub apply_fail_of : List (List ℕ) → Result Line Fault
+apply_fail_of (n ∷ c ∷ words) = do
+  shaped ← (if has_but_shape 0 words then Ok true else Err BadLine)
+  number ← number_of n
+  code ← number_of c
+  left ← left_of words
+  Ok (OfCall number (ApplyFail code left))
+apply_fail_of [] = Err BadLine
+apply_fail_of (n ∷ []) = Err BadLine
 
 unfoldable pub say_of : List (List ℕ) → Result Line Fault
 say_of (n ∷ words) = do
@@ -297,6 +376,8 @@ line_of line.Set words = set_of words
 line_of line.Begin words = begin_of words
 line_of (line.Lone act) words = lone_of act words
 line_of (line.Coded act) words = coded_of act words
+line_of line.Apply words = apply_of words
+line_of line.ApplyFail words = apply_fail_of words
 line_of line.Say words = say_of words
 line_of line.Process words = process_of words
 line_of line.Foreign words = foreign_of words
@@ -335,7 +416,15 @@ read_line text =
 
 -- 5. What may be begun. Each line that is read is so, and no contract of a public call cites this.
 
+abbrev pub bulk_name : BulkCall → BulkName
+bulk_name (bulk.GetAll keys) = name.GetAll
+bulk_name (bulk.PutAll pairs) = name.PutAll
+bulk_name (bulk.RemoveAll keys) = name.RemoveAll
+bulk_name bulk.RemoveEvery = name.RemoveEvery
+bulk_name bulk.Clear = name.Clear
+bulk_name (bulk.InvokeAll keys) = name.InvokeAll
+
 abbrev pub is_callable : Line → Bool
 is_callable (Begin number session command) = is_single command.op && is_session session
-is_callable (InvokeAll number session keys) = is_session session
+is_callable (BeginBulk number session call) = is_read (bulk_name call) && is_session session
 is_callable other = true

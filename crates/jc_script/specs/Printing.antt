@@ -19,17 +19,18 @@
 --     refused_whole_line             that a call was refused whole
 --     over_line                      that a call of many keys is over
 --     fails_line, fails_text         a failure's code; the same, if there is one
---     answer_line, answer_text       a value or none that a loader read or said; any answer of a loader
+--     answer_line, answer_text       a value or none that a loader read or said; any answer of a loader: one that fails says nothing
+--                                    of its key
 --     done_name, change_name         the word for a change that was made; the same, or that for one that wasn't
---     reported_text                  a writer's return
+--     reported_line, reported_text, returned_text      a key for which a writer returns; all of them, and its fault
 --     got_line, exists_line          what a processor's `getValue` gave, and its `exists`
---     load_verb, run_load_text       the word for a processor's loader; the line of its load, if it gave a value or none
+--     load_verb                      the word for a processor's loader
 --     answers_text                   what a processor's calls were answered, with the line of its load before the first value
 --     ready_line, due_text           that a processor has ended and no writer is asked; the same, or what the writer is asked for
 --     processed_text, process_text   a processor's run; what is printed of it, from what the world showed
 --     shown_text                     what is printed of what the world showed, for a call and a key
 --     begun_text                     what is printed of the beginning of a call: nothing, unless it is refused whole
---     about_text                     what is printed of what the world showed, for a call and the key that the line is about
+--     left_text                      a call that is given up
 --     foreign_line                   a write or a delete of somebody else
 --     told                           what is printed of an event, from what the world showed of it
 --     texts                          the same of events one after another
@@ -61,7 +62,8 @@ use Rattle.jc_world.specs.declared.event.Shown.TheVariants as shown
 use Rattle.jc_stripe.specs.declared.begun.Eviction.{Eviction}
 use Rattle.jc_world.specs.declared.event.Stepped.{Stepped}
 use Rattle.jc_world.specs.declared.event.PickedUp.{PickedUp}
-use Rattle.jc_world.specs.declared.event.Reported.{Reported}
+use Rattle.jc_world.specs.declared.reports.Reported.{Reported}
+use Rattle.jc_world.specs.declared.reports.ReportedKey.{ReportedKey}
 use Rattle.jc_world.specs.declared.process.LoadSource.{LoadSource}
 use Rattle.jc_world.specs.declared.process.LoadSource.TheVariants.{Store, Stated, Failing}
 use Rattle.jc_world.specs.declared.process.Processed.{Processed}
@@ -194,11 +196,12 @@ fails_line call code = decimal call ++ codes " fails " ++ decimal code ++ codes 
 unfoldable pub answer_line : ℕ → Bytes → List ℕ → Option Bytes → List ℕ
 answer_line call key verb value = subject call key ++ verb ++ value_or_none_text value ++ codes "\n"
 
+-- of a load that fails nothing is printed at its key
 abbrev pub answer_text : ℕ → Bytes → List ℕ → LoadAnswer → List ℕ
 answer_text call key verb load.NotAsked = []
 answer_text call key verb (load.Found value) = answer_line call key verb (Some value)
 answer_text call key verb load.Nothing = answer_line call key verb None
-answer_text call key verb (load.Failed code) = fails_line call code
+answer_text call key verb (load.Failed code) = []
 
 abbrev pub done_name : Change → List ℕ
 done_name (Write value) = codes " written\n"
@@ -212,8 +215,16 @@ abbrev pub fails_text : ℕ → Option ℕ → List ℕ
 fails_text call None = []
 fails_text call (Some code) = fails_line call code
 
-unfoldable pub reported_text : ℕ → Bytes → Reported → List ℕ
-reported_text call key seen = subject call key ++ change_name seen.change seen.is_changed ++ fails_text call seen.fault
+unfoldable pub reported_line : ℕ → ReportedKey → List ℕ
+reported_line call one = subject call one.key ++ change_name one.change one.is_changed
+
+-- each key that the writer was asked for, and behind them its fault
+abbrev pub reported_text : ℕ → Reported → List ℕ
+reported_text call seen = flat_map (reported_line call) seen.keys ++ fails_text call seen.fault
+
+abbrev pub returned_text : ℕ → Shown → List ℕ
+returned_text call (shown.Reported seen) = reported_text call seen
+returned_text call seen = []
 
 unfoldable pub got_line : ℕ → Option Bytes → List ℕ
 got_line call value = decimal call ++ codes " got " ++ value_or_none_text value ++ codes "\n"
@@ -226,14 +237,7 @@ load_verb Store = codes " reads "
 load_verb (Stated value) = codes " says "
 load_verb (Failing code) = codes " says "
 
--- a load that fails is printed where its `getValue` is
-abbrev pub run_load_text : ℕ → Bytes → List ℕ → LoadAnswer → List ℕ
-run_load_text call key verb load.NotAsked = []
-run_load_text call key verb (load.Found value) = answer_line call key verb (Some value)
-run_load_text call key verb load.Nothing = answer_line call key verb None
-run_load_text call key verb (load.Failed code) = []
-
--- the first `getValue` asks the loader, so its load stands before the first value
+-- the first `getValue` asks the loader, so its load stands before the first value; one that fails is printed where it is
 abbrev pub answers_text : ℕ → List ℕ → List EntryAnswer → List ℕ
 answers_text call loaded [] = []
 answers_text call loaded (entry.Value value ∷ answers) = loaded ++ got_line call value ++ answers_text call [] answers
@@ -250,10 +254,11 @@ due_text call key (Some change) = asks_text call key change
 
 unfoldable pub processed_text : ℕ → Bytes → List ℕ → Processed → List ℕ
 processed_text call key verb seen =
-    answers_text call (run_load_text call key verb seen.load) seen.answers ++ fails_text call seen.fault ++ due_text call key seen.change
+    answers_text call (answer_text call key verb seen.load) seen.answers ++ fails_text call seen.fault ++ due_text call key seen.change
 
 abbrev pub shown_text : ℕ → Bytes → Shown → List ℕ
 shown_text call key shown.Begun = []
+shown_text call key shown.Looked = []
 shown_text call key (shown.Stepped seen) = stepped_text call key seen
 shown_text call key shown.Loads = loads_line call key
 shown_text call key (shown.Asks change) = asks_text call key change
@@ -265,9 +270,9 @@ shown_text call key (shown.PutOff refusal) = put_off_line call key
 shown_text call key (shown.Reads answer) = answer_text call key (codes " reads ") answer
 shown_text call key (shown.Says answer) = answer_text call key (codes " says ") answer
 shown_text call key shown.Changed = []
-shown_text call key (shown.Reported seen) = reported_text call key seen
+shown_text call key (shown.Reported seen) = []
 shown_text call key shown.Withdrawn = []
-shown_text call key shown.Left = dropped_line call
+shown_text call key shown.Left = []
 shown_text call key (shown.PickedUp seen) = picked_line call key seen
 shown_text call key shown.Waits = waits_line call key
 shown_text call key shown.Again = again_line call key
@@ -289,29 +294,31 @@ abbrev pub begun_text : ℕ → Shown → List ℕ
 begun_text call (shown.Refused refusal) = refused_whole_line call refusal
 begun_text call seen = []
 
-abbrev pub about_text : ℕ → Option Bytes → Shown → List ℕ
-about_text call None seen = []
-about_text call (Some key) seen = shown_text call key seen
+-- a call that is given up
+abbrev pub left_text : ℕ → Shown → List ℕ
+left_text call shown.Left = dropped_line call
+left_text call seen = []
 
--- of one event; a report and a call's leaving speak of the key that their line is about
-abbrev pub told : Option Bytes → WorldEvent → Shown → List ℕ
-told about (event.Call call session command) seen = begun_text call seen
-told about (event.Start call key) seen = shown_text call key seen
-told about (event.Read call key) seen = shown_text call key seen
-told about (event.Say call key answer) seen = shown_text call key seen
-told about (event.Change call key) seen = shown_text call key seen
-told about (event.Report call fault) seen = about_text call about seen
-told about (event.Process call key source calls fail) seen = process_text call key source seen
-told about (event.Commit call key) seen = shown_text call key seen
-told about (event.Withdraw call key) seen = shown_text call key seen
-told about (event.Leave call) seen = about_text call about seen
-told about (event.PickUp call key) seen = shown_text call key seen
-told about (event.Foreign key value) seen = foreign_line key value
+-- of one event
+abbrev pub told : WorldEvent → Shown → List ℕ
+told (event.Call call session command) seen = begun_text call seen
+told (event.Look call stripe) seen = []
+told (event.Start call key) seen = shown_text call key seen
+told (event.Read call key) seen = shown_text call key seen
+told (event.Say call key answer) seen = shown_text call key seen
+told (event.Change call key) seen = shown_text call key seen
+told (event.Report call left fault) seen = returned_text call seen
+told (event.Process call key source calls fail) seen = process_text call key source seen
+told (event.Commit call key) seen = shown_text call key seen
+told (event.Withdraw call key) seen = shown_text call key seen
+told (event.Leave call) seen = left_text call seen
+told (event.PickUp call key) seen = shown_text call key seen
+told (event.Foreign key value) seen = foreign_line key value
 
-abbrev pub texts : Option Bytes → List WorldEvent → List Shown → List ℕ
-texts about [] seen = []
-texts about (e ∷ events) [] = []
-texts about (e ∷ events) (s ∷ seen) = told about e s ++ texts about events seen
+abbrev pub texts : List WorldEvent → List Shown → List ℕ
+texts [] seen = []
+texts (e ∷ events) [] = []
+texts (e ∷ events) (s ∷ seen) = told e s ++ texts events seen
 
 -- 4. An audit, and the last line.
 

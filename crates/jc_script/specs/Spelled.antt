@@ -8,17 +8,22 @@
 --     session_text, pair_text    a session; a key, an equals sign and its value
 --     flag_words                 the words for read-through and write-through, of what is on
 --     operation_words            an operation's name, its key and its values; nothing, if it has no name
+--     bulk_words                 the name of a call of many keys, and its keys or its pairs
+--     left_words                 the keys that the writer leaves, behind `but`; nothing, if that doesn't stand
 --     act_words                  what happens next to a call
 --     line_words                 the words of what a line asks for
 --     spelling                   the line itself: its words, separated by single spaces
 --     IsSource, IsEntryCall, IsCode     how a processor's loader answers; a call of a processor, and its value; a code, or none
 --     IsOperation, IsAct         an operation that has a name, and its values; an act, and its code or its pairs
---     AreKeys                    the keys of a call of many keys: at least one, and none twice
+--     AreKeys                    at least so many keys, and none twice
+--     AreDistinctPairs           the pairs of a call of many keys: at least one, and no key twice
+--     AreLeft                    the keys that the writer leaves, at least so many, if they are named
+--     HasKeys                    the keys or the pairs of a call of many keys
 --     SaysWords                  what a line asks for consists of what words can say
 --     IsSpellable                that, and the line isn't too long
 --     LinesReadBack              what a script can say is read from its spelling
 --     LinesAreSpelled            what is read from a line is something that a script can say, and the line is its spelling
-use Rattle.std.specs.Prelude.{◌≡◌, ◌==◌, ◌⊎◌, ◌<◌, ◌≤◌, ℕ, List, [], ◌∷◌, ◌++◌, map, length, codes, Bool, true, false, Option, None, Some, Ok, decimal}
+use Rattle.std.specs.Prelude.{◌≡◌, ◌==◌, ◌⊎◌, ◌≤◌, ℕ, List, [], ◌∷◌, ◌++◌, map, length, codes, Bool, true, false, Option, None, Some, Ok, decimal}
 use Rattle.std.specs.List.{All, IsDistinct, join_with_byte}
 use Rattle.std.specs.Cmp.Lexicographic.{pointwise}
 use Rattle.jc_types.specs.declared.limits.TheConstants.{SESSIONS_MAX, KEY_MAX}
@@ -27,7 +32,9 @@ use Rattle.jc_model.specs.Cache.{Bytes}
 use Rattle.jc_model.specs.declared.event.Op.{Op}
 use Rattle.jc_model.specs.declared.event.Op.TheVariants as op
 use Rattle.jc_script.specs.declared.line.Line.{Line}
-use Rattle.jc_script.specs.declared.line.Line.TheVariants.{Open, Set, Begin, InvokeAll, OfCall, Foreign, Audit}
+use Rattle.jc_script.specs.declared.line.Line.TheVariants.{Open, Set, Begin, BeginBulk, OfCall, Foreign, Audit}
+use Rattle.jc_script.specs.declared.line.BulkCall.{BulkCall}
+use Rattle.jc_script.specs.declared.line.BulkCall.TheVariants as bulk
 use Rattle.jc_script.specs.declared.line.Act.{Act}
 use Rattle.jc_script.specs.declared.line.Act.TheVariants.{Read, ReadFail, Say, Apply, ApplyFail, ApplyLie, End, Drop, More, Take, Process}
 use Rattle.jc_model.specs.declared.processor.EntryCall.{EntryCall}
@@ -36,7 +43,7 @@ use Rattle.jc_world.specs.declared.process.LoadSource.{LoadSource}
 use Rattle.jc_world.specs.declared.process.LoadSource.TheVariants.{Store, Stated, Failing}
 use Rattle.jc_script.specs.ProcessWords.{source_words, call_text, fail_words}
 use Rattle.jc_script.specs.Words.{number_of, caller_of, key_of, value_of, is_text}
-use Rattle.jc_script.specs.Lines.{read_line}
+use Rattle.jc_script.specs.Lines.{is_read, bulk_name, read_line}
 use Rattle.jc_script.specs.Printing.{value_text, value_or_none_text}
 
 -- 1. Words.
@@ -105,12 +112,24 @@ operation_words op.Clear key = []
 operation_words (op.LoadAll replace) key = []
 operation_words op.Invoke key = codes "invoke" ∷ key ∷ []
 
+abbrev pub bulk_words : BulkCall → List Bytes
+bulk_words (bulk.GetAll keys) = codes "getall" ∷ keys
+bulk_words (bulk.PutAll pairs) = codes "putall" ∷ map pair_text pairs
+bulk_words (bulk.RemoveAll keys) = codes "removeall" ∷ keys
+bulk_words bulk.RemoveEvery = codes "removeevery" ∷ []
+bulk_words bulk.Clear = codes "clear" ∷ []
+bulk_words (bulk.InvokeAll keys) = codes "invokeall" ∷ keys
+
+abbrev pub left_words : Option (List Bytes) → List Bytes
+left_words None = []
+left_words (Some left) = codes "but" ∷ left
+
 abbrev pub act_words : ℕ → Act → List Bytes
 act_words call Read = codes "read" ∷ decimal call ∷ []
 act_words call (ReadFail code) = codes "readfail" ∷ decimal call ∷ decimal code ∷ []
 act_words call (Say pairs) = codes "say" ∷ decimal call ∷ map pair_text pairs
-act_words call Apply = codes "apply" ∷ decimal call ∷ []
-act_words call (ApplyFail code) = codes "applyfail" ∷ decimal call ∷ decimal code ∷ []
+act_words call (Apply left) = codes "apply" ∷ decimal call ∷ left_words left
+act_words call (ApplyFail code left) = codes "applyfail" ∷ decimal call ∷ decimal code ∷ left_words left
 act_words call (ApplyLie code) = codes "applylie" ∷ decimal call ∷ decimal code ∷ []
 act_words call End = codes "end" ∷ decimal call ∷ []
 act_words call Drop = codes "drop" ∷ decimal call ∷ []
@@ -123,7 +142,7 @@ line_words (Open config) =
     codes "open" ∷ decimal config.stripes ∷ decimal config.capacity ∷ decimal config.history ∷ flag_words config.read_through config.write_through
 line_words (Set key value) = codes "set" ∷ key ∷ value_text value ∷ []
 line_words (Begin call session command) = codes "begin" ∷ decimal call ∷ session_text session ∷ operation_words command.op command.key
-line_words (InvokeAll call session keys) = codes "begin" ∷ decimal call ∷ session_text session ∷ codes "invokeall" ∷ keys
+line_words (BeginBulk call session many) = codes "begin" ∷ decimal call ∷ session_text session ∷ bulk_words many
 line_words (OfCall call act) = act_words call act
 line_words (Foreign key value) = codes "foreign" ∷ key ∷ value_or_none_text value ∷ []
 line_words Audit = codes "audit" ∷ []
@@ -166,12 +185,24 @@ abbrev pub IsCode : Option ℕ → Type 0
 IsCode None = Unit {0}
 IsCode (Some code) = IsNumber code
 
+-- at least so many, and each of them once
+abbrev pub AreKeys : ℕ → List Bytes → Type 0
+AreKeys least keys = (least ≤ length keys) × All IsKey keys × IsDistinct (pointwise ◌==◌) keys
+
+-- at least one, and each key once
+abbrev pub AreDistinctPairs : List (Bytes × Bytes) → Type 0
+AreDistinctPairs pairs = (1 ≤ length pairs) × All IsPair pairs × IsDistinct (pointwise ◌==◌) (map (λ pair. pair.0) pairs)
+
+abbrev pub AreLeft : ℕ → Option (List Bytes) → Type 0
+AreLeft least None = Unit {0}
+AreLeft least (Some left) = AreKeys least left
+
 abbrev pub IsAct : Act → Type 0
 IsAct Read = Unit {0}
 IsAct (ReadFail code) = IsNumber code
 IsAct (Say pairs) = All IsPair pairs
-IsAct Apply = Unit {0}
-IsAct (ApplyFail code) = IsNumber code
+IsAct (Apply left) = AreLeft 1 left
+IsAct (ApplyFail code left) = IsNumber code × AreLeft 0 left
 IsAct (ApplyLie code) = IsNumber code
 IsAct End = Unit {0}
 IsAct Drop = Unit {0}
@@ -179,15 +210,19 @@ IsAct More = Unit {0}
 IsAct Take = Unit {0}
 IsAct (Process source calls fail) = IsSource source × All IsEntryCall calls × IsCode fail
 
--- each of them once
-abbrev pub AreKeys : List Bytes → Type 0
-AreKeys keys = (0 < length keys) × All IsKey keys × IsDistinct (pointwise ◌==◌) keys
+abbrev pub HasKeys : BulkCall → Type 0
+HasKeys (bulk.GetAll keys) = AreKeys 1 keys
+HasKeys (bulk.PutAll pairs) = AreDistinctPairs pairs
+HasKeys (bulk.RemoveAll keys) = AreKeys 1 keys
+HasKeys bulk.RemoveEvery = Unit {0}
+HasKeys bulk.Clear = Unit {0}
+HasKeys (bulk.InvokeAll keys) = AreKeys 1 keys
 
 abbrev pub SaysWords : Line → Type 0
 SaysWords (Open config) = IsNumber config.stripes × IsNumber config.capacity × IsNumber config.history
 SaysWords (Set key value) = IsKey key × IsValue value
 SaysWords (Begin call session command) = IsNumber call × IsSession session × IsOperation command.op × IsKey command.key
-SaysWords (InvokeAll call session keys) = IsNumber call × IsSession session × AreKeys keys
+SaysWords (BeginBulk call session many) = IsNumber call × IsSession session × (is_read (bulk_name many) ≡ true) × HasKeys many
 SaysWords (OfCall call act) = IsNumber call × IsAct act
 SaysWords (Foreign key value) = IsKey key × IsValueOrNone value
 SaysWords Audit = Unit {0}

@@ -3,8 +3,11 @@
 --     state_of                 the same, from what a `World` is to its callers
 --     over_text, end_text      that a call is over, if it is; the same, if the end of a call is told at all
 --     PlaysEvents              the world may take these events, each of them fits when it comes, and this is printed of them
+--     PlaysCall                the same of the events of a call, with what its line says behind them: a fault, and the call's end
 --     PlaysBegin, PlaysInvokeAll      the same of the events of a call's begin, by its command, and by the keys of `invokeAll`
+--     PlaysBulk                the same of a call of many keys
 --     PlaysAct                 the same of the events of an act, if its call is under way
+--     PlaysForeign             the same of a foreign write
 --     Audited                  what is printed of an audit
 --     Plays                    a line with no fault: what it prints and leaves. ⊥ stands where no such line is played
 --     PlaysLine                a line that was read is played, or its fault is told: what is printed, then, and what is left
@@ -18,12 +21,12 @@
 use Rattle.std.specs.Prelude.{◌≡◌, ◌==◌, ◌⊎◌, ℕ, ◌+◌, List, [], ◌∷◌, ◌++◌, Bool, true, IsTrue, Option, None, Some, Result, Ok, Err, codes}
 use Rattle.std.specs.List.{slice_split}
 use Rattle.jc_model.specs.Cache.{Bytes}
-use Rattle.jc_world.specs.Calls.{CallState, current_key, kind_of, new_call}
+use Rattle.jc_world.specs.Calls.{CallState, kind_of, new_call}
 use Rattle.jc_world.specs.declared.command.Command.{Command}
 use Rattle.jc_world.specs.declared.event.Shown.{Shown}
 use Rattle.jc_world.specs.declared.event.WorldEvent.{WorldEvent}
 use Rattle.jc_world.specs.declared.event.WorldEvent.TheVariants as event
-use Rattle.jc_world.specs.World.{WorldState, start, open_call, part_of, with_stored}
+use Rattle.jc_world.specs.World.{WorldState, start, open_call, with_stored}
 use Rattle.jc_world.specs.PlayedWorld.{PlayedWorld}
 use Rattle.jc_world.specs.Events.{Run, all_fit}
 use Rattle.jc_world.specs.Audit.{IsAudit}
@@ -31,14 +34,16 @@ use Rattle.jc_world.specs.Coherent.{all_hold}
 use Rattle.jc_script.specs.declared.fault.Fault.{Fault}
 use Rattle.jc_script.specs.declared.fault.Fault.TheVariants.{CutLine}
 use Rattle.jc_script.specs.declared.line.Line.{Line}
-use Rattle.jc_script.specs.declared.line.Line.TheVariants.{Open, Set, Begin, InvokeAll, OfCall, Foreign, Audit}
+use Rattle.jc_script.specs.declared.line.Line.TheVariants.{Open, Set, Begin, BeginBulk, OfCall, Foreign, Audit}
+use Rattle.jc_script.specs.declared.line.BulkCall.{BulkCall}
+use Rattle.jc_script.specs.declared.line.BulkCall.TheVariants as bulk
 use Rattle.jc_script.specs.declared.line.Act.{Act}
 use Rattle.jc_script.specs.declared.run.RunEnd.{RunEnd}
 use Rattle.jc_script.specs.declared.run.RunEnd.TheVariants.{Clean, LineFault}
 use Rattle.jc_script.specs.Lines.{read_line}
 use Rattle.jc_script.specs.Faults.{state_fault}
-use Rattle.jc_script.specs.LineEvents.{single, IsInvokeAll, first_key, begin_events, events_of, begin_end, act_end}
-use Rattle.jc_script.specs.Printing.{texts, over_line, audit_text, fault_line}
+use Rattle.jc_script.specs.LineEvents.{single, IsInvokeAll, first_key, begin_events, events_of, keys_of_act, load_fault, begin_end, act_end}
+use Rattle.jc_script.specs.Printing.{texts, fails_text, over_line, audit_text, fault_line}
 
 -- a world, once it was opened
 abbrev pub State : Type 0
@@ -59,35 +64,47 @@ abbrev pub end_text : Option ℕ → WorldState → List ℕ
 end_text None after = []
 end_text (Some call) after = over_text call (open_call after call)
 
--- of a line that is about the key, if it is about one, and may tell the end of a call
-pub record PlaysEvents (w : WorldState) (key : Option Bytes) (events : List WorldEvent) (end : Option ℕ) (text : List ℕ) (new : State) : Type 0 where
+pub record PlaysEvents (w : WorldState) (events : List WorldEvent) (text : List ℕ) (after : WorldState) : Type 0 where
   pub seen : List Shown
-  pub after : WorldState
   pub runs : Run w events seen after
   pub fit : all_fit seen ≡ true
-  pub text_is : text ≡ texts key events seen ++ end_text end after
+  pub text_is : text ≡ texts events seen
+
+-- behind what its events show a line says its fault, and may tell the end of a call
+pub record PlaysCall (w : WorldState) (events : List WorldEvent) (fault : List ℕ) (end : Option ℕ) (text : List ℕ) (new : State) : Type 0 where
+  pub shown : List ℕ
+  pub after : WorldState
+  pub plays : PlaysEvents w events shown after
+  pub text_is : text ≡ shown ++ fault ++ end_text end after
   pub new_is : new ≡ Some after
 
--- the key that it starts is named in its events
 abbrev pub PlaysBegin : WorldState → ℕ → ℕ → Command → List ℕ → State → Type 0
 PlaysBegin w number session command text new =
-    PlaysEvents w None (begin_events number session command)
+    PlaysCall w (begin_events number session command) []
     (begin_end number (kind_of command) (first_key (new_call number session command))) text new
 
 abbrev pub PlaysInvokeAll : WorldState → ℕ → ℕ → List Bytes → List ℕ → State → Type 0
 PlaysInvokeAll w number session keys text new =
     (command : Command) × IsInvokeAll keys command × PlaysBegin w number session command text new
 
--- the key at which the call works
-abbrev pub PlaysActAt : WorldState → ℕ → Act → CallState → Option Bytes → List ℕ → State → Type 0
-PlaysActAt w number act u None text new = ⊥
-PlaysActAt w number act u (Some key) text new =
-    PlaysEvents w (Some key) (events_of number key (part_of w number key) act) (act_end number u.kind act) text new
+abbrev pub PlaysBulk : WorldState → ℕ → ℕ → BulkCall → List ℕ → State → Type 0
+PlaysBulk w number session (bulk.InvokeAll keys) text new = PlaysInvokeAll w number session keys text new
+PlaysBulk w number session (bulk.GetAll keys) text new = ⊥
+PlaysBulk w number session (bulk.PutAll pairs) text new = ⊥
+PlaysBulk w number session (bulk.RemoveAll keys) text new = ⊥
+PlaysBulk w number session bulk.RemoveEvery text new = ⊥
+PlaysBulk w number session bulk.Clear text new = ⊥
 
+-- a failed load is said once
 abbrev pub PlaysAct : WorldState → ℕ → Act → Option CallState → List ℕ → State → Type 0
 PlaysAct w number act None text new = ⊥
 PlaysAct w number act (Some u) text new =
-    PlaysActAt w number act u (current_key u) text new
+    PlaysCall w (events_of w number act (keys_of_act act u)) (fails_text number (load_fault act))
+    (act_end number u.kind act) text new
+
+abbrev pub PlaysForeign : WorldState → Bytes → Option Bytes → List ℕ → State → Type 0
+PlaysForeign w key value text None = ⊥
+PlaysForeign w key value text (Some after) = PlaysEvents w (event.Foreign key value ∷ []) text after
 
 -- an audit always says legal, and never names a key while write-through is on and the premises have held
 pub record Audited (w : WorldState) (text : List ℕ) : Type 0 where
@@ -105,13 +122,13 @@ abbrev pub Plays : State → Line → List ℕ → State → Type 0
 Plays None (Open config) text new = (text ≡ codes "open\n") × (new ≡ Some (start config))
 Plays (Some w) (Set key value) text new = (text ≡ []) × (new ≡ Some (with_stored w key value))
 Plays (Some w) (Begin number session operation) text new = PlaysBegin w number session (single operation) text new
-Plays (Some w) (InvokeAll number session keys) text new = PlaysInvokeAll w number session keys text new
+Plays (Some w) (BeginBulk number session call) text new = PlaysBulk w number session call text new
 Plays (Some w) (OfCall number act) text new = PlaysAct w number act (open_call w number) text new
-Plays (Some w) (Foreign key value) text new = PlaysEvents w None (event.Foreign key value ∷ []) None text new
+Plays (Some w) (Foreign key value) text new = PlaysForeign w key value text new
 Plays (Some w) Audit text new = Audited w text × (new ≡ Some w)
 Plays None (Set key value) text new = ⊥
 Plays None (Begin number session command) text new = ⊥
-Plays None (InvokeAll number session keys) text new = ⊥
+Plays None (BeginBulk number session call) text new = ⊥
 Plays None (OfCall number act) text new = ⊥
 Plays None (Foreign key value) text new = ⊥
 Plays None Audit text new = ⊥

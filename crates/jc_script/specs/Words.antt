@@ -14,14 +14,18 @@
 --     Pairs                    keys with their values, in the order of a line
 --     equals_at                where the first equals sign of a word stands, if it has one
 --     key_part, value_part     what stands before that sign, and the value behind it
+--     names_key                a pair has the key
 --     pair_onto                the pairs so far, with one more: the key is judged before the value
 --     pairs_from, pairs_of     the pairs so far with those of more words, and the pairs of some words
+--     distinct_pair_onto       the same, of pairs with a key each: one that has a pair already is a fault, before its value
+--     distinct_pairs_from, distinct_pairs_of      the pairs so far with those of more words, and the pairs of some words, each key
+--                              once
 --     with_key, key_onto       the keys so far, with one more, and with that of one more word: one that is among them already is a
 --                              fault
 --     keys_from, keys_of       the keys so far with those of more words, and the keys of some words
 --     said_after, said         what pairs say of a key, after an answer so far, and from the beginning: the last pair with it
 --                              counts
-use Rattle.std.specs.Prelude.{◌==◌, ℕ, ◌+◌, ◌-◌, ◌*◌, List, [], ◌∷◌, ◌++◌, length, take, drop, Option, Some, None, Bool, ◌&&◌, ◌||◌, nat_lt, nat_le, Result, Ok, Err, if◌then◌else◌, codes}
+use Rattle.std.specs.Prelude.{◌==◌, ℕ, ◌+◌, ◌-◌, ◌*◌, List, [], ◌∷◌, ◌++◌, length, map, take, drop, Option, Some, None, Bool, true, ◌&&◌, ◌||◌, nat_lt, nat_le, Result, Ok, Err, if◌then◌else◌, codes}
 use Rattle.std.specs.Str.{bytes_eq}
 use Rattle.std.specs.List.{list_all}
 use Rattle.std.specs.List.{slice_split, position}
@@ -102,6 +106,9 @@ value_part (Some at) word = value_of (drop (at + 1) word)
 abbrev pub equals_at : List ℕ → Option ℕ
 equals_at word = position (λ b. b == 61) word
 
+abbrev pub names_key : Pairs → Bytes → Bool
+names_key pairs key = is_among (map (λ pair. pair.0) pairs) key
+
 -- the pairs so far, with one more: the key is judged before the value
 unfoldable pub pair_onto : Pairs → List ℕ → Result Pairs Fault
 pair_onto pairs word = do
@@ -115,6 +122,21 @@ pairs_from pairs (word ∷ words) = pair_onto pairs word >>= λ more. pairs_from
 
 abbrev pub pairs_of : List (List ℕ) → Result Pairs Fault
 pairs_of words = pairs_from [] words
+
+-- the same, where each key may come but once: a key that has a pair already is judged before its second value
+unfoldable pub distinct_pair_onto : Pairs → List ℕ → Result Pairs Fault
+distinct_pair_onto pairs word = do
+  key ← key_of (key_part (equals_at word) word)
+  new ← (if names_key pairs key then Err RepeatedKey else Ok true)
+  value ← value_part (equals_at word) word
+  Ok (pairs ++ (key, value) ∷ [])
+
+abbrev pub distinct_pairs_from : Pairs → List (List ℕ) → Result Pairs Fault
+distinct_pairs_from pairs [] = Ok pairs
+distinct_pairs_from pairs (word ∷ words) = distinct_pair_onto pairs word >>= λ more. distinct_pairs_from more words
+
+abbrev pub distinct_pairs_of : List (List ℕ) → Result Pairs Fault
+distinct_pairs_of words = distinct_pairs_from [] words
 
 -- a key that is there already is not taken again
 abbrev pub with_key : List Bytes → Bytes → Result (List Bytes) Fault

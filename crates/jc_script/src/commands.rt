@@ -1,12 +1,11 @@
 //! Operations as words: their names, and what stands after a name.
 ghost use Rattle.std.specs.Prelude.{◌≡◌, map, length};
-ghost use Rattle.jc_script.specs.Lines.{Gives, with_value, form_named, takes_words, bare_op, valued_op, bare_of, valued_of};
-ghost use Rattle.jc_script.specs.Lines.{value_alone_of, replace_if_of, command_of, begin_with, invoke_all_with};
-ghost use Rattle.jc_script.specs.Words.{keys_of};
+ghost use Rattle.jc_script.specs.Lines.{Gives, with_value, form_named, bulk_named, takes_words, bare_op, valued_op, bare_of, valued_of};
+ghost use Rattle.jc_script.specs.Lines.{value_alone_of, replace_if_of, command_of, begin_with, is_read, bulk_takes, bulk_alone, bulk_of, bulk_with};
 
 use crate::fault::{Fault, ReadError};
-use crate::line::{Line, Operation};
-use crate::words::{is, key, keys, value};
+use crate::line::{BulkCall, Line, Operation};
+use crate::words::{distinct_pairs, is, key, keys, value};
 use jc_model::Op;
 use jc_types::Value;
 use std::alloc::Global;
@@ -32,6 +31,17 @@ pub enum Valued {
     GetReplace,
 }
 
+/// Which call of many keys a word names.
+#[derive(Clone, Copy)]
+pub enum BulkName {
+    GetAll,
+    PutAll,
+    RemoveAll,
+    RemoveEvery,
+    Clear,
+    InvokeAll,
+}
+
 /// What stands after an operation's name: its key, and as many values; or keys.
 #[derive(Clone, Copy)]
 pub enum Form {
@@ -39,8 +49,8 @@ pub enum Form {
     Valued(Valued),
     /// The old value and the new one.
     ReplaceIf,
-    /// `invokeAll`: one key or more, and no value.
-    InvokeAll,
+    /// What a call of many keys takes: keys or pairs, or nothing.
+    Bulk(BulkName),
 }
 
 /// The operation that a word names.
@@ -83,10 +93,57 @@ pub fn read_form(word: &[u8]) -> Result<Form, Fault>
     if is(word, "invoke") {
         return Ok(Form::Bare(Bare::Invoke));
     }
+    read_bulk_form(word)
+}
+
+/// The call of many keys that a word names.
+fn read_bulk_form(word: &[u8]) -> Result<Form, Fault>
+    ensures { result ≡ bulk_named word.now }
+{
+    if is(word, "getall") {
+        return Ok(Form::Bulk(BulkName::GetAll));
+    }
+    if is(word, "putall") {
+        return Ok(Form::Bulk(BulkName::PutAll));
+    }
+    if is(word, "removeall") {
+        return Ok(Form::Bulk(BulkName::RemoveAll));
+    }
+    if is(word, "removeevery") {
+        return Ok(Form::Bulk(BulkName::RemoveEvery));
+    }
+    if is(word, "clear") {
+        return Ok(Form::Bulk(BulkName::Clear));
+    }
     if is(word, "invokeall") {
-        return Ok(Form::InvokeAll);
+        return Ok(Form::Bulk(BulkName::InvokeAll));
     }
     Err(Fault::BadLine)
+}
+
+/// The calls of many keys that lines may begin. A name that isn't read yet is a bad line.
+fn is_read(name: BulkName) -> bool
+    ensures { result ≡ is_read name }
+{
+    match name {
+        BulkName::GetAll => false,
+        BulkName::PutAll => false,
+        BulkName::RemoveAll => false,
+        BulkName::RemoveEvery => false,
+        BulkName::Clear => false,
+        BulkName::InvokeAll => true,
+    }
+}
+
+fn bulk_takes(name: BulkName, count: usize) -> bool
+    ensures { result ≡ bulk_takes name count }
+{
+    match name {
+        BulkName::GetAll | BulkName::PutAll | BulkName::RemoveAll | BulkName::InvokeAll => {
+            0 < count
+        }
+        BulkName::RemoveEvery | BulkName::Clear => count == 0,
+    }
 }
 
 /// Whether so many words stand after an operation's name: its key, and the values that it takes; or keys.
@@ -97,7 +154,7 @@ pub fn has_shape(form: Form, count: usize) -> bool
         Form::Bare(_) => count == 1,
         Form::Valued(_) => count == 2,
         Form::ReplaceIf => count == 3,
-        Form::InvokeAll => 0 < count,
+        Form::Bulk(name) => is_read(name) && bulk_takes(name, count),
     }
 }
 
@@ -195,18 +252,41 @@ fn begin_replace_if(call: u32, session: u32, words: &[&[u8]], line: &mut Line) -
     }
 }
 
+fn bulk_alone(bulk: BulkCall, words: &[&[u8]]) -> Result<BulkCall, ReadError>
+    ensures { Gives result (bulk_alone bulk (map (λ w. w.now) words.now)) }
+{
+    match words {
+        [] => Ok(bulk),
+        _ => Err(ReadError::Fault(Fault::BadLine)),
+    }
+}
+
+fn read_bulk(alloc: Global, name: BulkName, words: &[&[u8]]) -> Result<BulkCall, ReadError>
+    ensures { Gives result (bulk_of name (map (λ w. w.now) words.now)) }
+{
+    match name {
+        BulkName::GetAll => Ok(BulkCall::GetAll(keys(alloc, words)?)),
+        BulkName::PutAll => Ok(BulkCall::PutAll(distinct_pairs(alloc, words)?)),
+        BulkName::RemoveAll => Ok(BulkCall::RemoveAll(keys(alloc, words)?)),
+        BulkName::RemoveEvery => bulk_alone(BulkCall::RemoveEvery, words),
+        BulkName::Clear => bulk_alone(BulkCall::Clear, words),
+        BulkName::InvokeAll => Ok(BulkCall::InvokeAll(keys(alloc, words)?)),
+    }
+}
+
 #[inline(never)]
-fn begin_invoke_all(
+fn begin_bulk(
     alloc: Global,
     call: u32,
     session: u32,
+    name: BulkName,
     words: &[&[u8]],
     line: &mut Line,
 ) -> Result<(), ReadError>
-    ensures { Gives (with_value line.new result) (invoke_all_with call session (keys_of (map (λ w. w.now) words.now))) }
+    ensures { Gives (with_value line.new result) (bulk_with call session (bulk_of name (map (λ w. w.now) words.now))) }
 {
-    let keys = keys(alloc, words)?;
-    *line = Line::InvokeAll(call, session, keys);
+    let bulk = read_bulk(alloc, name, words)?;
+    *line = Line::BeginBulk(call, session, bulk);
     Ok(())
 }
 
@@ -225,6 +305,6 @@ pub fn begin_command(
         Form::Bare(bare) => Ok(begin_bare(call, session, bare, words, line)?),
         Form::Valued(valued) => Ok(begin_valued(call, session, valued, words, line)?),
         Form::ReplaceIf => Ok(begin_replace_if(call, session, words, line)?),
-        Form::InvokeAll => begin_invoke_all(alloc, call, session, words, line),
+        Form::Bulk(name) => begin_bulk(alloc, call, session, name, words, line),
     }
 }

@@ -3,13 +3,15 @@ ghost use Rattle.std.specs.Prelude.{◌≡◌, map, length, IfOk};
 ghost use Rattle.std.specs.List.{list_all};
 ghost use Rattle.jc_script.specs.Lines.{Gives, with_value, with_line, act_named, line_named, flags_of, open_of, set_of};
 ghost use Rattle.jc_script.specs.Lines.{begin_of, number_alone, lone_act, lone_of, coded_act, coded_of, process_of, say_of};
+ghost use Rattle.jc_script.specs.Lines.{has_but_shape, left_of, apply_of, apply_fail_of};
 ghost use Rattle.jc_script.specs.Lines.{foreign_of, audit_of, line_of, are_words, parsed, is_plain, is_comment, read_line};
 
 use crate::commands::{begin_command, has_shape, read_form};
 use crate::fault::{Fault, ReadError};
+use crate::keys::Keys;
 use crate::line::{Act, Line};
 use crate::process_words::{has_process_shape, read_calls, read_source, without_load};
-use crate::words::{caller, is, key, number, pairs, split, value, value_or_none};
+use crate::words::{caller, is, key, keys, number, pairs, split, value, value_or_none};
 use jc_types::Config;
 use std::alloc::Global;
 
@@ -17,7 +19,6 @@ use std::alloc::Global;
 #[derive(Clone, Copy)]
 pub enum Lone {
     Read,
-    Apply,
     End,
     Drop,
     More,
@@ -28,7 +29,6 @@ pub enum Lone {
 #[derive(Clone, Copy)]
 pub enum Coded {
     ReadFail,
-    ApplyFail,
     ApplyLie,
 }
 
@@ -40,6 +40,8 @@ pub enum LineKind {
     Begin,
     Lone(Lone),
     Coded(Coded),
+    Apply,
+    ApplyFail,
     Say,
     Process,
     Foreign,
@@ -53,7 +55,7 @@ fn read_act(word: &[u8]) -> Result<LineKind, Fault>
         return Ok(LineKind::Lone(Lone::Read));
     }
     if is(word, "apply") {
-        return Ok(LineKind::Lone(Lone::Apply));
+        return Ok(LineKind::Apply);
     }
     if is(word, "end") {
         return Ok(LineKind::Lone(Lone::End));
@@ -74,7 +76,7 @@ fn read_act(word: &[u8]) -> Result<LineKind, Fault>
         return Ok(LineKind::Coded(Coded::ReadFail));
     }
     if is(word, "applyfail") {
-        return Ok(LineKind::Coded(Coded::ApplyFail));
+        return Ok(LineKind::ApplyFail);
     }
     if is(word, "applylie") {
         return Ok(LineKind::Coded(Coded::ApplyLie));
@@ -201,7 +203,6 @@ fn act_lone(lone: Lone) -> Act
 {
     match lone {
         Lone::Read => Act::Read,
-        Lone::Apply => Act::Apply,
         Lone::End => Act::End,
         Lone::Drop => Act::Drop,
         Lone::More => Act::More,
@@ -223,7 +224,6 @@ fn act_coded(coded: Coded, code: u32) -> Act
 {
     match coded {
         Coded::ReadFail => Act::ReadFail(code),
-        Coded::ApplyFail => Act::ApplyFail(code),
         Coded::ApplyLie => Act::ApplyLie(code),
     }
 }
@@ -244,6 +244,65 @@ fn coded_line(coded: Coded, words: &[&[u8]], line: &mut Line) -> Result<(), Faul
             Ok(())
         }
         _ => Err(Fault::BadLine),
+    }
+}
+
+/// Whether nothing stands behind what the writer does, or `but` and at least so many words.
+fn has_but_shape(least: usize, words: &[&[u8]]) -> bool
+    ensures { result ≡ has_but_shape least (map (λ w. w.now) words.now) }
+{
+    match words {
+        [] => true,
+        [word, rest @ ..] => is(word, "but") && least <= rest.len(),
+    }
+}
+
+/// The keys that the writer leaves, if `but` stands.
+fn left(alloc: Global, words: &[&[u8]]) -> Result<Option<Keys>, ReadError>
+    ensures { Gives result (left_of (map (λ w. w.now) words.now)) }
+{
+    match words {
+        [] => Ok(None),
+        [_, rest @ ..] => Ok(Some(keys(alloc, rest)?)),
+    }
+}
+
+#[tactic(auto, unfolding(crate::specs::Lines::apply_of))]
+#[inline(never)]
+fn apply(alloc: Global, words: &[&[u8]], line: &mut Line) -> Result<(), ReadError>
+    ensures { Gives (with_value line.new result) (apply_of (map (λ w. w.now) words.now)) }
+{
+    match words {
+        [n, rest @ ..] => {
+            if !has_but_shape(1, rest) {
+                return Err(ReadError::Fault(Fault::BadLine));
+            }
+            let n = number(n)?;
+            let left = left(alloc, rest)?;
+            *line = Line::OfCall(n, Act::Apply(left));
+            Ok(())
+        }
+        _ => Err(ReadError::Fault(Fault::BadLine)),
+    }
+}
+
+#[tactic(auto, unfolding(crate::specs::Lines::apply_fail_of))]
+#[inline(never)]
+fn apply_fail(alloc: Global, words: &[&[u8]], line: &mut Line) -> Result<(), ReadError>
+    ensures { Gives (with_value line.new result) (apply_fail_of (map (λ w. w.now) words.now)) }
+{
+    match words {
+        [n, c, rest @ ..] => {
+            if !has_but_shape(0, rest) {
+                return Err(ReadError::Fault(Fault::BadLine));
+            }
+            let n = number(n)?;
+            let code = number(c)?;
+            let left = left(alloc, rest)?;
+            *line = Line::OfCall(n, Act::ApplyFail(code, left));
+            Ok(())
+        }
+        _ => Err(ReadError::Fault(Fault::BadLine)),
     }
 }
 
@@ -324,6 +383,8 @@ fn line_after(
         LineKind::Begin => begin(alloc, words, line),
         LineKind::Lone(lone) => Ok(lone_line(lone, words, line)?),
         LineKind::Coded(coded) => Ok(coded_line(coded, words, line)?),
+        LineKind::Apply => apply(alloc, words, line),
+        LineKind::ApplyFail => apply_fail(alloc, words, line),
         LineKind::Say => say(alloc, words, line),
         LineKind::Process => process(alloc, words, line),
         LineKind::Foreign => Ok(foreign(words, line)?),

@@ -4,6 +4,7 @@
 #![tactic(auto)]
 
 mod commands;
+mod distinct_pairs;
 mod fault;
 mod grammar;
 mod input;

@@ -1,4 +1,5 @@
 //! What the lines of a script ask for.
+use crate::distinct_pairs::DistinctPairs;
 use crate::keys::Keys;
 use crate::pairs::Pairs;
 use jc_model::Op;
@@ -23,10 +24,10 @@ pub enum Act {
     ReadFail(u32),
     /// The loader says what the pairs say.
     Say(Pairs),
-    /// The writer does as it was asked.
-    Apply,
-    /// The writer fails with this code, and did nothing.
-    ApplyFail(u32),
+    /// The writer does as it was asked, but at these keys, if keys are named: those it leaves.
+    Apply(Option<Keys>),
+    /// The writer fails with this code. It did nothing or, if keys are named, as it was asked but at these.
+    ApplyFail(u32, Option<Keys>),
     /// The writer fails with this code, and did as it was asked.
     ApplyLie(u32),
     /// The call ends.
@@ -48,6 +49,23 @@ pub enum Act {
     },
 }
 
+/// A call of many keys.
+#[derive(Drop)]
+pub enum BulkCall {
+    /// `getAll` of these keys.
+    GetAll(Keys),
+    /// `putAll` of these entries.
+    PutAll(DistinctPairs),
+    /// `removeAll` of these keys.
+    RemoveAll(Keys),
+    /// `removeAll` of every key that is cached.
+    RemoveEvery,
+    /// `clear`.
+    Clear,
+    /// `invokeAll` on these keys.
+    InvokeAll(Keys),
+}
+
 /// What a line asks for.
 #[derive(Drop)]
 pub enum Line {
@@ -57,8 +75,8 @@ pub enum Line {
     Set(Key, Value),
     /// A call with this number, by this session.
     Begin(u32, u32, Operation),
-    /// A call of `invokeAll` with this number, by this session, on these keys.
-    InvokeAll(u32, u32, Keys),
+    /// A call of many keys with this number, by this session.
+    BeginBulk(u32, u32, BulkCall),
     /// What happens next to the call with this number.
     OfCall(u32, Act),
     /// Somebody else writes the store, or deletes in it.

@@ -1,10 +1,10 @@
 //! Lines that several kinds of events print.
 ghost use Rattle.std.specs.Prelude.{◌≡◌, ◌++◌, OnOk};
-ghost use Rattle.jc_script.specs.Printing.{subject, write_line, delete_line, asks_text, fails_line, answer_line, fails_text};
+ghost use Rattle.jc_script.specs.Printing.{subject, write_line, delete_line, asks_text, fails_line, answer_line, answer_text, fails_text};
 ghost use Rattle.jc_script.specs.Printing.{refused_whole_line, over_line};
 
 use crate::printing::{put, put_key, put_number, put_value, put_value_or_none};
-use jc_model::Change;
+use jc_model::{Change, LoadAnswer};
 use jc_types::{Key, Refusal, Value};
 use std::alloc::AllocError;
 
@@ -71,7 +71,7 @@ pub fn put_fault_code(out: &mut Vec<u8>, call: u64, fault: Option<u32>) -> Resul
 
 /// What the loader answered: a value, or none.
 #[tactic(auto, unfolding(crate::specs::Printing::answer_line))]
-pub fn put_answer_line(
+fn put_answer_line(
     out: &mut Vec<u8>,
     call: u64,
     key: &Key,
@@ -84,6 +84,23 @@ pub fn put_answer_line(
     put(out, verb)?;
     put_value_or_none(out, value)?;
     put(out, "\n")
+}
+
+/// What the loader answered for a key. A load that fails says nothing of its key.
+pub fn put_answer(
+    out: &mut Vec<u8>,
+    call: u64,
+    key: &Key,
+    verb: &str,
+    answer: &LoadAnswer,
+) -> Result<(), AllocError>
+    ensures { OnOk result (out.new.items ≡ out.old.items ++ answer_text call key.now verb.now answer.now) }
+{
+    match answer {
+        LoadAnswer::NotAsked | LoadAnswer::Failed(_) => Ok(()),
+        LoadAnswer::Found(value) => put_answer_line(out, call, key, verb, &Some(*value)),
+        LoadAnswer::Nothing => put_answer_line(out, call, key, verb, &None),
+    }
 }
 
 /// A call was refused whole.

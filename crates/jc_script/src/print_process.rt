@@ -1,9 +1,9 @@
 //! What is printed of an entry processor.
 ghost use Rattle.std.specs.Prelude.{◌≡◌, ◌++◌, OnOk};
-ghost use Rattle.jc_script.specs.Printing.{process_line, got_line, exists_line, load_verb, run_load_text, answers_text};
+ghost use Rattle.jc_script.specs.Printing.{process_line, got_line, exists_line, load_verb, answer_text, answers_text};
 ghost use Rattle.jc_script.specs.Printing.{ready_line, due_text, processed_text};
 
-use crate::print_lines::{put_answer_line, put_asks, put_fails, put_fault_code, put_subject};
+use crate::print_lines::{put_answer, put_asks, put_fails, put_fault_code, put_subject};
 use crate::printing::{put, put_flag, put_number, put_value_or_none};
 use jc_model::{Change, EntryAnswer, LoadAnswer};
 use jc_types::{Key, Value};
@@ -57,23 +57,6 @@ pub fn verb(source: &LoadSource) -> &'static str
     }
 }
 
-/// The load of a processor, where it gave a value or none.
-fn put_run_load(
-    out: &mut Vec<u8>,
-    call: u64,
-    key: &Key,
-    verb: &str,
-    load: &LoadAnswer,
-) -> Result<(), AllocError>
-    ensures { OnOk result (out.new.items ≡ out.old.items ++ run_load_text call key.now verb.now load.now) }
-{
-    match load {
-        LoadAnswer::NotAsked | LoadAnswer::Failed(_) => Ok(()),
-        LoadAnswer::Found(value) => put_answer_line(out, call, key, verb, &Some(*value)),
-        LoadAnswer::Nothing => put_answer_line(out, call, key, verb, &None),
-    }
-}
-
 /// What a processor's calls were answered, with its load before the first value.
 fn put_answers(
     out: &mut Vec<u8>,
@@ -83,13 +66,13 @@ fn put_answers(
     load: &LoadAnswer,
     answers: &[EntryAnswer],
 ) -> Result<(), AllocError>
-    ensures { OnOk result (out.new.items ≡ out.old.items ++ answers_text call (run_load_text call key.now verb.now load.now) answers.now) }
+    ensures { OnOk result (out.new.items ≡ out.old.items ++ answers_text call (answer_text call key.now verb.now load.now) answers.now) }
 {
     let mut loaded = *load;
     for answer in answers {
         match answer {
             EntryAnswer::Value(value) => {
-                put_run_load(out, call, key, verb, &loaded)?;
+                put_answer(out, call, key, verb, &loaded)?;
                 loaded = LoadAnswer::NotAsked;
                 put_got(out, call, value)?;
             }

@@ -1,20 +1,21 @@
 //! What a world shows of events, as lines.
 ghost use Rattle.std.specs.Prelude.{◌≡◌, ◌++◌, OnOk};
+ghost use Rattle.std.specs.List.{flat_map};
 ghost use Rattle.jc_script.specs.Printing.{process_text, cause_name, evict_line, victim_text, evicted_text, outcome_text};
 ghost use Rattle.jc_script.specs.Printing.{stepped_text, picked_line, loads_line, joined_line, waits_line, again_line};
-ghost use Rattle.jc_script.specs.Printing.{dropped_line, refused_line, put_off_line, answer_text, done_name, change_name, reported_text};
-ghost use Rattle.jc_script.specs.Printing.{shown_text, begun_text, about_text, foreign_line, told, texts};
+ghost use Rattle.jc_script.specs.Printing.{dropped_line, refused_line, put_off_line, done_name, change_name, reported_line, reported_text};
+ghost use Rattle.jc_script.specs.Printing.{returned_text};
+ghost use Rattle.jc_script.specs.Printing.{shown_text, begun_text, left_text, foreign_line, told, texts};
 
-use crate::print_lines::{
-    put_answer_line, put_asks, put_fails, put_fault_code, put_refused_whole, put_subject,
-};
+use crate::print_lines::{put_answer, put_asks, put_fault_code, put_refused_whole, put_subject};
 use crate::print_process::{put_process, put_processed, verb};
 use crate::printing::{put, put_key, put_number, put_place, put_reply, put_value_or_none};
-use jc_model::{Cause, Change, LoadAnswer, Reply};
+use jc_model::{Cause, Change, Reply};
 use jc_stripe::Eviction;
 use jc_types::{Key, Refusal, Value};
-use jc_world::event::{PickedUp, Reported, Shown, Stepped, WorldEvent};
+use jc_world::event::{PickedUp, Shown, Stepped, WorldEvent};
 use jc_world::process::{LoadSource, Processed};
+use jc_world::reports::{Reported, ReportedKey};
 use std::alloc::AllocError;
 
 fn name_of(cause: Cause) -> &'static str
@@ -167,23 +168,6 @@ fn put_put_off(out: &mut Vec<u8>, call: u64, key: &Key) -> Result<(), AllocError
     put(out, " put off\n")
 }
 
-fn put_answer(
-    out: &mut Vec<u8>,
-    call: u64,
-    key: &Key,
-    verb: &str,
-    answer: &LoadAnswer,
-) -> Result<(), AllocError>
-    ensures { OnOk result (out.new.items ≡ out.old.items ++ answer_text call key.now verb.now answer.now) }
-{
-    match answer {
-        LoadAnswer::NotAsked => Ok(()),
-        LoadAnswer::Found(value) => put_answer_line(out, call, key, verb, &Some(*value)),
-        LoadAnswer::Nothing => put_answer_line(out, call, key, verb, &None),
-        LoadAnswer::Failed(code) => put_fails(out, call, *code),
-    }
-}
-
 fn done(change: &Change) -> &'static str
     ensures { result.now ≡ done_name change.now }
 {
@@ -199,12 +183,28 @@ fn changed(change: &Change, is_changed: bool) -> &'static str
     if is_changed { done(change) } else { " left\n" }
 }
 
-#[tactic(auto, unfolding(crate::specs::Printing::reported_text))]
-fn put_reported(out: &mut Vec<u8>, call: u64, key: &Key, seen: &Reported) -> Result<(), AllocError>
-    ensures { OnOk result (out.new.items ≡ out.old.items ++ reported_text call key.now seen.now) }
+#[tactic(auto, unfolding(crate::specs::Printing::reported_line))]
+fn put_reported_key(out: &mut Vec<u8>, call: u64, one: &ReportedKey) -> Result<(), AllocError>
+    ensures { OnOk result (out.new.items ≡ out.old.items ++ reported_line call one.now) }
 {
-    put_subject(out, call, key)?;
-    put(out, changed(&seen.change, seen.is_changed))?;
+    put_subject(out, call, &one.key)?;
+    put(out, changed(&one.change, one.is_changed))
+}
+
+/// The keys that the writer was asked for.
+fn put_reported_keys(out: &mut Vec<u8>, call: u64, keys: &[ReportedKey]) -> Result<(), AllocError>
+    ensures { OnOk result (out.new.items ≡ out.old.items ++ flat_map (reported_line call) keys.now) }
+{
+    for one in keys {
+        put_reported_key(out, call, one)?;
+    }
+    Ok(())
+}
+
+fn put_reported(out: &mut Vec<u8>, call: u64, seen: &Reported) -> Result<(), AllocError>
+    ensures { OnOk result (out.new.items ≡ out.old.items ++ reported_text call seen.now) }
+{
+    put_reported_keys(out, call, seen.keys.as_slice())?;
     put_fault_code(out, call, seen.fault)
 }
 
@@ -230,6 +230,7 @@ fn put_shown(out: &mut Vec<u8>, call: u64, key: &Key, seen: &Shown) -> Result<()
 {
     match seen {
         Shown::Begun => Ok(()),
+        Shown::Looked => Ok(()),
         Shown::Stepped(seen) => put_stepped(out, call, key, seen),
         Shown::Loads => put_loads(out, call, key),
         Shown::Asks(change) => put_asks(out, call, key, change),
@@ -241,9 +242,9 @@ fn put_shown(out: &mut Vec<u8>, call: u64, key: &Key, seen: &Shown) -> Result<()
         Shown::Reads(answer) => put_answer(out, call, key, " reads ", answer),
         Shown::Says(answer) => put_answer(out, call, key, " says ", answer),
         Shown::Changed => Ok(()),
-        Shown::Reported(seen) => put_reported(out, call, key, seen),
+        Shown::Reported(_) => Ok(()),
         Shown::Withdrawn => Ok(()),
-        Shown::Left => put_dropped(out, call),
+        Shown::Left => Ok(()),
         Shown::PickedUp(seen) => put_picked(out, call, key, seen),
         Shown::Waits => put_waits(out, call, key),
         Shown::Again => put_again(out, call, key),
@@ -273,36 +274,37 @@ fn put_begun(out: &mut Vec<u8>, call: u64, seen: &Shown) -> Result<(), AllocErro
     }
 }
 
-/// What was shown of an event of a call, in a line that is about this key.
-fn put_about(
-    out: &mut Vec<u8>,
-    call: u64,
-    about: &Option<Key>,
-    seen: &Shown,
-) -> Result<(), AllocError>
-    ensures { OnOk result (out.new.items ≡ out.old.items ++ about_text call about.now seen.now) }
+/// What was shown of a call's leaving.
+fn put_left(out: &mut Vec<u8>, call: u64, seen: &Shown) -> Result<(), AllocError>
+    ensures { OnOk result (out.new.items ≡ out.old.items ++ left_text call seen.now) }
 {
-    match about {
-        None => Ok(()),
-        Some(key) => put_shown(out, call, key, seen),
+    match seen {
+        Shown::Left => put_dropped(out, call),
+        _ => Ok(()),
     }
 }
 
-fn put_told(
-    out: &mut Vec<u8>,
-    about: &Option<Key>,
-    event: &WorldEvent,
-    seen: &Shown,
-) -> Result<(), AllocError>
-    ensures { OnOk result (out.new.items ≡ out.old.items ++ told about.now event.now seen.now) }
+/// What was shown of a writer's return.
+fn put_returned(out: &mut Vec<u8>, call: u64, seen: &Shown) -> Result<(), AllocError>
+    ensures { OnOk result (out.new.items ≡ out.old.items ++ returned_text call seen.now) }
+{
+    match seen {
+        Shown::Reported(seen) => put_reported(out, call, seen),
+        _ => Ok(()),
+    }
+}
+
+fn put_told(out: &mut Vec<u8>, event: &WorldEvent, seen: &Shown) -> Result<(), AllocError>
+    ensures { OnOk result (out.new.items ≡ out.old.items ++ told event.now seen.now) }
 {
     match event {
         WorldEvent::Call { call, .. } => put_begun(out, *call, seen),
+        WorldEvent::Look { call: _, stripe: _ } => Ok(()),
         WorldEvent::Start { call, key } => put_shown(out, *call, key, seen),
         WorldEvent::Read { call, key } => put_shown(out, *call, key, seen),
         WorldEvent::Say { call, key, .. } => put_shown(out, *call, key, seen),
         WorldEvent::Change { call, key } => put_shown(out, *call, key, seen),
-        WorldEvent::Report { call, .. } => put_about(out, *call, about, seen),
+        WorldEvent::Report { call, .. } => put_returned(out, *call, seen),
         WorldEvent::Process {
             call,
             key,
@@ -311,27 +313,22 @@ fn put_told(
         } => put_process_shown(out, *call, key, load, seen),
         WorldEvent::Commit { call, key } => put_shown(out, *call, key, seen),
         WorldEvent::Withdraw { call, key } => put_shown(out, *call, key, seen),
-        WorldEvent::Leave { call } => put_about(out, *call, about, seen),
+        WorldEvent::Leave { call } => put_left(out, *call, seen),
         WorldEvent::PickUp { call, key } => put_shown(out, *call, key, seen),
         WorldEvent::Foreign { key, value } => put_foreign(out, key, value),
     }
 }
 
-/// What was shown of events, of a line that is about this key, if it is about one.
-pub fn put_texts(
-    out: &mut Vec<u8>,
-    about: &Option<Key>,
-    events: &[WorldEvent],
-    seen: &[Shown],
-) -> Result<(), AllocError>
-    ensures { OnOk result (out.new.items ≡ out.old.items ++ texts about.now events.now seen.now) }
+/// What was shown of events.
+pub fn put_texts(out: &mut Vec<u8>, events: &[WorldEvent], seen: &[Shown]) -> Result<(), AllocError>
+    ensures { OnOk result (out.new.items ≡ out.old.items ++ texts events.now seen.now) }
 {
     let mut rest = seen;
     for event in events {
         match rest {
             [] => return Ok(()),
             [first, more @ ..] => {
-                put_told(out, about, event, first)?;
+                put_told(out, event, first)?;
                 rest = more;
             }
         }

@@ -5,8 +5,10 @@ ghost use Rattle.std.specs.List.{list_all};
 ghost use Rattle.jc_types.specs.declared.limits.TheConstants.{VALUE_MAX};
 ghost use Rattle.jc_script.specs.Words.{words_of, is_letter, is_text, digits_from, number_of, caller_of, key_of, value_of};
 ghost use Rattle.jc_script.specs.Words.{value_or_none_of, equals_at, key_part, value_part, pair_onto, pairs_of, with_key, key_onto, keys_of};
+ghost use Rattle.jc_script.specs.Words.{distinct_pair_onto, distinct_pairs_of};
 ghost use Rattle.jc_script.specs.Lines.{Gives, with_value};
 
+use crate::distinct_pairs::DistinctPairs;
 use crate::fault::{Fault, ReadError};
 use crate::keys::Keys;
 use crate::pairs::Pairs;
@@ -186,6 +188,31 @@ fn add_pair(pairs: &mut Pairs, word: &[u8]) -> Result<(), ReadError>
     let value = back(at, word)?;
     pairs.add(key, value)?;
     Ok(())
+}
+
+#[tactic(auto, unfolding(crate::specs::Words::distinct_pair_onto))]
+fn add_distinct_pair(pairs: &mut DistinctPairs, word: &[u8]) -> Result<(), ReadError>
+    ensures { Gives (with_value pairs.new result) (distinct_pair_onto pairs.old word.now) }
+{
+    let at = equals_sign(word);
+    let key = key(front(at, word))?;
+    if pairs.names(&key) {
+        return Err(ReadError::Fault(Fault::RepeatedKey));
+    }
+    let value = back(at, word)?;
+    pairs.add(key, value)?;
+    Ok(())
+}
+
+/// The pairs that the words say, each key once.
+pub fn distinct_pairs(alloc: Global, words: &[&[u8]]) -> Result<DistinctPairs, ReadError>
+    ensures { Gives result (distinct_pairs_of (map (λ w. w.now) words.now)) }
+{
+    let mut pairs = DistinctPairs::new(alloc);
+    for word in words {
+        add_distinct_pair(&mut pairs, word)?;
+    }
+    Ok(pairs)
 }
 
 /// The pairs that the words say.

@@ -2,6 +2,7 @@
 //! to prove. So is an assertion in its own place: most are calls of `is`. And so is each `?` behind a value that has to be dropped:
 //! where memory may be short, `expect` is a call and no branch.
 mod batches;
+mod beside_lists;
 mod callers;
 mod config;
 mod contents;

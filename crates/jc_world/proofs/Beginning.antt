@@ -28,7 +28,7 @@ use Rattle.jc_stripe.specs.OwnSteps.{may_come_all}
 use Rattle.jc_world.specs.declared.command.Command.{Command}
 use Rattle.jc_world.specs.declared.event.Part.{Part}
 use Rattle.jc_world.specs.declared.event.Premises.{Premises}
-use Rattle.jc_world.specs.Calls.{CallState, has_number, op_at, is_turn, new_call, opened}
+use Rattle.jc_world.specs.Calls.{CallState, has_number, op_at, op_for, is_turn, new_call, opened}
 use Rattle.jc_world.specs.declared.event.WorldEvent.TheVariants as event
 use Rattle.jc_world.specs.World.{WorldState, Parts, home, stripe_for, empty_stripe, empty_stripes, start, is_busy, open_call, part_of, is_joined}
 use Rattle.jc_world.specs.Events.{is_playable, is_session, is_new, is_free, may_start, fits}
@@ -37,7 +37,8 @@ use Rattle.jc_world.proofs.Halves.{HasOrder}
 use Rattle.jc_world.proofs.Shares.{found_test, shape_same, fact_found, each_map, each_test}
 use Rattle.jc_world.proofs.Underway.{found_number, fits_found, calls_on, elsewhere_found, up_self, up_more, numbers_more, comes_new, calls_pushed, each_found, find_pushed, same_bytes, of_call-none}
 use Rattle.jc_world.proofs.Joiners.{joiner_of, other_key}
-use Rattle.jc_world.proofs.Settling.{Left, IsTurnOf}
+use Rattle.jc_world.proofs.Looked.{Taken}
+use Rattle.jc_world.proofs.Settling.{Left, IsTurnOf, done_for}
 use Rattle.jc_world.proofs.NewCalls.{opened_cases}
 use Rattle.jc_world.proofs.Facts.{refuted, not_true, same_found}
 use Rattle.jc_world.proofs.Entries.{split}
@@ -49,14 +50,14 @@ pub unless : (a b : Bool) → (a ≡ true → b ≡ true) → b ≡ false → a 
 unless true b f h = let t : true ≡ false = sym (f refl) ∙ h in cc
 unless false b f h = refl
 
--- an open key fits a world of the same order, where it is served if it was
+-- a key of a call fits a world of the same order, where it is served if it was
 fits_key : (w n : WorldState) (caller : Caller) (key : Bytes) (op : Op) → n.order ≡ w.order → (is_served w caller key ≡ true → is_served n caller key ≡ true) → FitsKey w caller key op → FitsKey n caller key op
 fits_key w n caller key op order served h = record {
   comes = λ e. ap (λ o. may_come_all o caller key) order ∙ h.comes (unless (is_served w caller key) (is_served n caller key) served e);
 }
 
 -- what is left of a call fits a world of the same order and the same last number, where it is served if it was
-pub fits_left : (w n : WorldState) (call : ℕ) (key : Bytes) (u v : CallState) → Left call key u v → n.last ≡ w.last → n.order ≡ w.order → ((q : Bytes) (op : Op) → op_at v q ≡ Some op → is_served w u.caller q ≡ true → is_served n u.caller q ≡ true) → FitsCall w u → FitsCall n v
+pub fits_left : (w n : WorldState) (call : ℕ) (key : Bytes) (u v : CallState) → Left call key u v → n.last ≡ w.last → n.order ≡ w.order → ((q : Bytes) (op : Op) → op_for v q ≡ Some op → is_served w u.caller q ≡ true → is_served n u.caller q ≡ true) → FitsCall w u → FitsCall n v
 fits_left w n call key u v left last order served h = record {
   number = (λ i. is_up_to (last i) (left.caller_is i).call) ∙ h.number;
   keys = λ q op is.
@@ -64,8 +65,17 @@ fits_left w n call key u v left last order served h = record {
       subst P (sym left.caller_is) (fits_key w n u.caller q op order (served q op is) (h.keys q op (left.was q op is)));
 }
 
+-- and so does what is left of a call that has taken keys
+pub fits_taken : (w n : WorldState) (u v : CallState) → Taken u v → n.last ≡ w.last → n.order ≡ w.order → ((q : Bytes) (op : Op) → op_for v q ≡ Some op → is_served w u.caller q ≡ true → is_served n u.caller q ≡ true) → FitsCall w u → FitsCall n v
+fits_taken w n u v taken last order served h = record {
+  number = (λ i. is_up_to (last i) (taken.caller_is i).call) ∙ h.number;
+  keys = λ q op is.
+      let P : Caller → Type 0 = λ c. FitsKey n c q op in
+      subst P (sym taken.caller_is) (fits_key w n u.caller q op order (served q op is) (h.keys q op (taken.was q op is)));
+}
+
 -- a call fits a world of the same order and the same last number, where it is served if it was
-pub fits_same : (w n : WorldState) (u : CallState) → n.last ≡ w.last → n.order ≡ w.order → ((key : Bytes) (op : Op) → op_at u key ≡ Some op → is_served w u.caller key ≡ true → is_served n u.caller key ≡ true) → FitsCall w u → FitsCall n u
+pub fits_same : (w n : WorldState) (u : CallState) → n.last ≡ w.last → n.order ≡ w.order → ((key : Bytes) (op : Op) → op_for u key ≡ Some op → is_served w u.caller key ≡ true → is_served n u.caller key ≡ true) → FitsCall w u → FitsCall n u
 fits_same w n u last order served h = record {
   number = ap (λ l. is_up_to l u.caller.call) last ∙ h.number;
   keys = λ q op is. fits_key w n u.caller q op order (served q op is) (h.keys q op is);
@@ -252,7 +262,7 @@ may_start_at w call key u op fit is op_is old =
       here = ap (open_call w) number ∙ is;
       op_is = op_is;
       turn = (and_parts (is_some (op_at u key)) (is_turn u key) tests.0).1;
-      fit = (fits_found w (has_number call) w.calls u is old.calls).keys key op op_is;
+      fit = (fits_found w (has_number call) w.calls u is old.calls).keys key op (done_for u key op op_is);
       none = ap (λ n. is_none (part_of w n key)) number ∙ parts.0;
       alone = ap (λ n. is_joined w n key) number ∙ not_true (is_joined w call key) parts.1;
     }

@@ -47,23 +47,26 @@ use Rattle.jc_world.specs.declared.event.Progress.{Progress}
 use Rattle.jc_world.specs.declared.event.Premises.{Premises}
 use Rattle.jc_world.specs.declared.event.Shown.{Shown}
 use Rattle.jc_world.specs.declared.event.Shown.TheVariants as shown
-use Rattle.jc_world.specs.Calls.{CallState, has_number, open_keys, op_at, is_turn, settle}
+use Rattle.jc_world.specs.declared.command.Sweep.{Sweep}
+use Rattle.jc_world.specs.Calls.{CallState, has_number, open_keys, op_at, op_for, is_turn, settle, going_on, with_found}
 use Rattle.jc_world.specs.declared.event.WorldEvent.{WorldEvent}
 use Rattle.jc_world.specs.declared.event.WorldEvent.TheVariants as event
 use Rattle.jc_world.specs.World.{WorldState, Parts, home, stripe_for, open_call, part_of, is_joined, is_join, join_of, joins_without, out_of, with_stored}
-use Rattle.jc_world.specs.Events.{is_free, may_leave, fits, with_stripe, with_phase, with_settled, without_call, new_load, new_write, new_part, with_part, without_part, with_join, without_join, step_of, Starts, Ends, Picks, Happens, new_process}
+use Rattle.jc_world.specs.Events.{is_free, may_leave, fits, with_stripe, with_phase, with_settled, without_call, with_look, new_load, new_write, new_part, with_part, without_part, with_join, without_join, step_of, Starts, Ends, Picks, Happens, new_process}
 use Rattle.jc_world.specs.Audit.{cache_in, cache_at, IsOrder, HasShares}
 use Rattle.jc_world.specs.Sound.{IsStripe, is_up_to, has_answer, has_parked_answer, is_served_in, is_served, FitsKey, FitsCall, CallsFit, IsCallOf, IsHeld, IsOwned, AllOwned, IsCalled, IsSoundWorld, IsWaitedFor, Each}
-use Rattle.jc_world.proofs.Halves.{HasOrder}
+use Rattle.jc_world.proofs.Halves.{HasOrder, order_half}
+use Rattle.jc_world.proofs.Returns.{IsReport}
 use Rattle.jc_world.proofs.Places.{at_stripe, stripe_put}
 use Rattle.jc_world.proofs.Reservations.{out_reserved, was_free, writer_alone}
 use Rattle.jc_world.proofs.Processors.{processor_free}
 use Rattle.jc_world.proofs.Shares.{is_some_and, set_cases, found_test, added, share_grows, share_stays, shape_same, shape_set, AllBy, by_map, by_group, added_order, numbers_added, comes_behind, comes_added, fact_found, each_kept, each_map, each_pushed}
 use Rattle.jc_world.proofs.Underway.{found_number, find_over, fits_found, calls_filter, calls_on, each_found, elsewhere_found, all_owned, others_left, same_bytes, of_call-at}
-use Rattle.jc_world.proofs.Settling.{open_now, Left, IsTurnOf, still_called, calls_settled}
+use Rattle.jc_world.proofs.Looked.{Taken, taken_of, taken_on, calls_replaced, still_replaced}
+use Rattle.jc_world.proofs.Settling.{open_now, Left, done_for, IsTurnOf, still_called, calls_settled}
 use Rattle.jc_world.proofs.LoadKeys.{key_of_load, each_fits}
 use Rattle.jc_world.proofs.Joiners.{joiner_of, unanswered, told_resolved, told_waiting, told_dissolved, told_pushed, find_kept, each_own, each_caller, each_both, join_is, joined_no_part}
-use Rattle.jc_world.proofs.Beginning.{unless, fits_left, fits_same, calls_same, order_stored, owned_part, order_parted, order_called, MayStart, may_start_at, may_turn, part_turn, not_own, apart_or, unserved, begins_with}
+use Rattle.jc_world.proofs.Beginning.{unless, fits_left, fits_same, fits_taken, calls_same, order_stored, owned_part, order_parted, order_called, MayStart, may_start_at, may_turn, part_turn, not_own, apart_or, unserved, begins_with}
 use Rattle.jc_world.proofs.Facts.{refuted, not_true, same_found}
 use Rattle.jc_world.proofs.Entries.{tied}
 
@@ -158,7 +161,7 @@ served_set w key from to there keeps caller q =
     at_stripe w.stripes (home w key) (home w q) from to (λ o x. is_served_in o caller q ≡ true → is_served_in x caller q ≡ true) there (keeps caller q) (λ h. h)
 
 -- a step may still come at a key that goes on and isn't served then
-put_behind : (w n : WorldState) (call : ℕ) (key : Bytes) (u v : CallState) (q : Bytes) (op : Op) (who : Caller) (k : Bytes) → CallsFit w w.calls → IsFound w u → Left call key u v → op_at v q ≡ Some op → is_served n u.caller q ≡ false → IsPut w n call key who k
+put_behind : (w n : WorldState) (call : ℕ) (key : Bytes) (u v : CallState) (q : Bytes) (op : Op) (who : Caller) (k : Bytes) → CallsFit w w.calls → IsFound w u → Left call key u v → op_for v q ≡ Some op → is_served n u.caller q ≡ false → IsPut w n call key who k
     → comes_behind who k u.caller q ≡ true
 put_behind w n call key u v q op who k fit found left is free p =
     elim (u.caller.call == who.call) as (λ b. (u.caller.call == who.call) ≡ b → comes_behind who k u.caller q ≡ true) [
@@ -167,7 +170,7 @@ put_behind w n call key u v q op who k fit found left is free p =
           let same : p.v ≡ u = same_found (open_call w who.call) p.v u p.here (ap (open_call w) mine ∙ found) in
           let caller_is : who ≡ u.caller = sym (put_caller w n call key who k p) ∙ ap (λ (x : CallState). x.caller) same in
           or_third (not (who.session == u.caller.session)) (nat_lt who.call u.caller.call) _
-          (apart_or false who.call u.caller.call k q mine (λ at. clash mine caller_is at p.over))
+          (apart_or false who.call u.caller.call k q mine (λ at. clash mine caller_is at ((λ i. op_at (sym same i) (sym at i)) ∙ p.op_is) p.over))
       | false ↦ λ e. or_first (not (who.session == u.caller.session)) (nat_lt who.call u.caller.call) _ (ap (λ s. not (s == u.caller.session)) (sym p.session_is) ∙ elsewhere_found w u.caller.call who.call w.calls u p.v fit found p.here e)
     ] refl
   where
@@ -180,9 +183,9 @@ put_behind w n call key u v q op who k fit found left is free p =
     or_first true b c h = refl
     or_first false b c h = cc
 
-    clash : who.call ≡ u.caller.call → who ≡ u.caller → k ≡ q → ((who.call ≡ call) × (k ≡ key)) ⊎ (is_served n who k ≡ true) → ⊥
-    clash mine caller_is at (inl over) = left.other q op is (sym mine ∙ over.0) (sym at ∙ over.1)
-    clash mine caller_is at (inr served) = let t : true ≡ false = sym served ∙ (λ i. is_served n (caller_is i) (at i)) ∙ free in cc
+    clash : who.call ≡ u.caller.call → who ≡ u.caller → k ≡ q → op_at u q ≡ Some p.op → ((who.call ≡ call) × (k ≡ key)) ⊎ (is_served n who k ≡ true) → ⊥
+    clash mine caller_is at does (inl over) = left.other q op p.op is does (sym mine ∙ over.0) (sym at ∙ over.1)
+    clash mine caller_is at does (inr served) = let t : true ≡ false = sym served ∙ (λ i. is_served n (caller_is i) (at i)) ∙ free in cc
 
 -- the world with a stripe that has put a step down
 abbrev stepped_world : WorldState → Bytes → State → State → ℕ → Parts → WorldState
@@ -207,7 +210,7 @@ order_stepped w key from to call parts old there g reached put keeps owned =
           (by_map put_of (λ who k. may_come_all w.order who k ≡ true) g.more
           (λ who k p.
           let F : Caller → Type 0 = λ c. FitsKey w c k p.op in
-          (subst F (put_caller w new call key who k p) ((fit who k p).keys k p.op p.op_is)).comes p.unserved) put);
+          (subst F (put_caller w new call key who k p) ((fit who k p).keys k p.op (done_for p.v k p.op p.op_is))).comes p.unserved) put);
       numbers = numbers_added w.last w.order from to g old.numbers
           (by_map put_of (λ who k. is_up_to w.last who.call ≡ true) g.more (λ who k p. ap (is_up_to w.last) (sym (found_number who.call w.calls p.v p.here)) ∙ (fit who k p).number) put);
       calls = calls_settled w new call key (IsFound w) w.calls
@@ -550,6 +553,12 @@ picking w call key join there old =
 pub picking_turn : (w : WorldState) (call : ℕ) (key : Bytes) (join : JoinClaim) → Picking w call key join → IsTurnOf w.calls call key
 picking_turn w call key join p v here = ap (λ (x : CallState). is_turn x key) (same_found (open_call w call) v p.u here p.here) ∙ p.turn
 
+-- at that key it does a `Get`
+picked_at : (w : WorldState) (call : ℕ) (key : Bytes) (join : JoinClaim) (one : Picking w call key join) (u : CallState) → IsFound w u → (q : Bytes) → u.caller.call ≡ call → q ≡ key → op_at u q ≡ Some Get
+picked_at w call key join one u found q mine same =
+    let is : u ≡ one.u = same_found (open_call w call) u one.u (ap (open_call w) (sym mine) ∙ found) one.here in
+    (λ i. op_at (is i) (same i)) ∙ one.op_is
+
 -- the stripe once a call has picked its answer up
 left_keeps : (w : WorldState) (call : ℕ) (key : Bytes) (from to : State) (join : JoinClaim) (caller : Caller) (q : Bytes) → stripe_for w key ≡ Some from → to ≡ without_joiner from join → join.caller.call ≡ call → join.key ≡ key
     → (caller.call ≡ call → q ≡ key → ⊥) → is_served w caller q ≡ true → is_served_in (slice_get (slice_set w.stripes (home w key) to) (home w q)) caller q ≡ true
@@ -571,7 +580,7 @@ order_picked stays w call key join from to p joined there picks is old =
           (at.share ∙ sym (ap (λ (s : State). s.history) is)) (λ n apart. refl);
       order = old.order;
       numbers = old.numbers;
-      calls = calls_settled w new call key (IsFound w) w.calls (λ u v left found h. fits_left w new call key u v left refl refl (λ q op at. left_keeps w call key from to join u.caller q there is one.call_is one.join_key (left.other q op at)) h) (each_found w w.calls old.calls) old.calls;
+      calls = calls_settled w new call key (IsFound w) w.calls (λ u v left found h. fits_left w new call key u v left refl refl (λ q op at. left_keeps w call key from to join u.caller q there is one.call_is one.join_key (λ mine same. left.other q op Get at (picked_at w call key join one u found q mine same) mine same)) h) (each_found w w.calls old.calls) old.calls;
       owned = λ n s. set_cases w.stripes (home w key) n to s
           (λ same here. subst (AllOwned new) (sym (ap (λ (s : State). s.reservations) is) ∙ ap (λ (s : State). s.reservations) here) (kept from.reservations (old.owned (home w key) from there)))
           (λ apart here. kept s.reservations (old.owned n s here));
@@ -605,7 +614,7 @@ order_again stays w call key join from to joined there picks old =
     ∙ (λ i. has_parked_answer (joiner_of (caller_is i) (sym one.join_key i) from.joiners))
     ∙ again_untold (joiner_of join.caller join.key from.joiners) picks.1
     in
-    let served : (v : CallState) → IsFound w v → (q : Bytes) (op : Op) → op_at v q ≡ Some op → is_served w v.caller q ≡ true → is_served new v.caller q ≡ true = λ v found q op op_is h.
+    let served : (v : CallState) → IsFound w v → (q : Bytes) (op : Op) → op_for v q ≡ Some op → is_served w v.caller q ≡ true → is_served new v.caller q ≡ true = λ v found q op op_is h.
     left_keeps w call key from to join v.caller q there is one.call_is one.join_key
     (λ mine at.
     let same : v ≡ one.u = same_found (open_call w call) v one.u (ap (open_call w) (sym mine) ∙ found) one.here in
@@ -631,10 +640,33 @@ order_left w call fit old = go (open_call w call) refl fit
     go None e h = cc
     go (Some u) e h = order_over w call u h e old
 
+-- a call takes the keys of a stripe
+pub looked_called : (w : WorldState) (call : ℕ) (keys : List Bytes) (s : Sweep) (u : CallState) → open_call w call ≡ Some u → u.sweep ≡ Some s → (number session : ℕ) (q : Bytes) (op : Op) → IsSomeAnd (open_call w number) (IsCallOf session q op)
+    → IsSomeAnd (open_call (with_look w call keys s) number) (IsCallOf session q op)
+looked_called w call keys s u here sweeps number session q op h =
+    still_replaced call (λ x. going_on (with_found w.config.stripes keys s x)) u number session q op w.calls here (λ v goes. taken_of w.config.stripes keys s u v sweeps goes) (λ is over. taken_on w.config.stripes keys s u q op is over) h
+
+order_looked : (w : WorldState) (call : ℕ) (keys : List Bytes) (s : Sweep) (u : CallState) → open_call w call ≡ Some u → u.sweep ≡ Some s → IsSoundWorld w → HasOrder (with_look w call keys s)
+order_looked w call keys s u here sweeps old =
+    let new : WorldState = with_look w call keys s in
+    let left : CallState → Option CallState = λ x. going_on (with_found w.config.stripes keys s x) in
+    let taken : (v : CallState) → left u ≡ Some v → Taken u v = λ v goes. taken_of w.config.stripes keys s u v sweeps goes in
+    record {
+      shape = shape_same w new refl refl refl old.shape;
+      order = old.order;
+      numbers = old.numbers;
+      calls = calls_replaced w new call left u w.calls here (λ v goes. (taken v goes).caller_is)
+          (λ x h. fits_same w new x refl refl (λ q op is k. k) h)
+          (λ v goes h. fits_taken w new u v (taken v goes) refl refl (λ q op is k. k) h) old.calls;
+      owned = λ n s here_s. each_map (IsOwned w) (IsOwned new) s.reservations
+          (λ r h. record { part = h.part; call = looked_called w call keys _ u here sweeps r.caller.call r.caller.session r.key r.op h.call })
+          (old.owned n s here_s);
+    }
+
 -- 8. An event that fits.
 
 -- a call's part goes on
-order_part : (w : WorldState) (call : ℕ) (key : Bytes) (old part : Part) (premises : Premises) (store : Cache) → part_of w call key ≡ Some old → part.reservation.caller.call ≡ old.reservation.caller.call → IsSoundWorld w
+pub order_part : (w : WorldState) (call : ℕ) (key : Bytes) (old part : Part) (premises : Premises) (store : Cache) → part_of w call key ≡ Some old → part.reservation.caller.call ≡ old.reservation.caller.call → IsSoundWorld w
     → HasOrder (record w { parts = insert w.parts key part; premises = premises; store = store })
 order_part w call key old part premises store is same was = order_parted w key old part premises store (of_call-at call (get w.parts key) old is).0 same was
 
@@ -643,19 +675,20 @@ pub part_key : (w : WorldState) (call : ℕ) (key : Bytes) (part : Part) → par
 part_key w call key part is old = (some_of (stripe_for w key) (λ s. IsHeld s key part) (old.held key part (of_call-at call (get w.parts key) part is).0)).2.key_is
 
 -- by the kind of the event
-pub order_happens : StaysReached → (w new : WorldState) (e : WorldEvent) (seen : Shown) → fits w e ≡ true → Happens w e seen new → IsSoundWorld w → HasOrder new
-order_happens stays w new (event.Call call session command) seen fit h old = subst HasOrder (sym h.1) (order_called w call session command fit old)
-order_happens stays w new (event.Start call key) seen fit h old = order_started stays w new call key h.0 h.1 h.4 h.6 seen fit h.2 h.3 h.5 h.7 old
-order_happens stays w new (event.Read call key) seen fit h old = subst HasOrder (sym h.3) (order_part w call key h.0 _ _ w.store h.1 refl old)
-order_happens stays w new (event.Say call key answer) seen fit h old = subst HasOrder (sym h.3) (order_part w call key h.0 _ _ w.store h.1 refl old)
-order_happens stays w new (event.Process call key source calls fail) seen fit h old = subst HasOrder (sym h.3) (order_part w call key h.0 _ _ w.store h.1 refl old)
-order_happens stays w new (event.Change call key) seen fit h old = subst HasOrder (sym h.5) (order_part w call key h.0 _ w.premises _ h.2 refl old)
-order_happens stays w new (event.Report call fault) seen fit h old = subst HasOrder (sym h.9) (order_part w call h.1 h.2 _ _ w.store h.6 refl old)
-order_happens stays w new (event.Commit call key) seen fit h old = order_ended stays w new call key h.0 h.2 h.4 seen h.1 h.3 h.5 old
-order_happens stays w new (event.Withdraw call key) seen fit h old = subst HasOrder (sym h.7) (order_withdrawn stays w key h.0.reservation h.2 h.4 (part_key w call key h.0 h.1 old) h.3 h.5 old)
-order_happens stays w new (event.Leave call) seen fit h old = subst HasOrder (sym h.1) (order_left w call fit old)
-order_happens stays w new (event.PickUp call key) seen fit h old = order_picks stays w new call key h.0 h.2 h.4 seen h.1 h.3 h.5 old
-order_happens stays w new (event.Foreign key value) seen fit h old = subst HasOrder (sym h.1) (order_stored w _ _ false old)
+pub order_happens : StaysReached → (w new : WorldState) (e : WorldEvent) (seen : Shown) → fits w e ≡ true → Happens w e seen new → (IsReport e → IsSoundWorld new) → IsSoundWorld w → HasOrder new
+order_happens stays w new (event.Call call session command) seen fit h back old = subst HasOrder (sym h.1) (order_called w call session command fit old)
+order_happens stays w new (event.Look call stripe) seen fit h back old = subst HasOrder (sym h.9) (order_looked w call h.6 h.1 h.0 h.2 h.3 old)
+order_happens stays w new (event.Start call key) seen fit h back old = order_started stays w new call key h.0 h.1 h.4 h.6 seen fit h.2 h.3 h.5 h.7 old
+order_happens stays w new (event.Read call key) seen fit h back old = subst HasOrder (sym h.3) (order_part w call key h.0 _ _ w.store h.1 refl old)
+order_happens stays w new (event.Say call key answer) seen fit h back old = subst HasOrder (sym h.3) (order_part w call key h.0 _ _ w.store h.1 refl old)
+order_happens stays w new (event.Process call key source calls fail) seen fit h back old = subst HasOrder (sym h.3) (order_part w call key h.0 _ _ w.store h.1 refl old)
+order_happens stays w new (event.Change call key) seen fit h back old = subst HasOrder (sym h.5) (order_part w call key h.0 _ w.premises _ h.2 refl old)
+order_happens stays w new (event.Report call left fault) seen fit h back old = order_half new (back tt)
+order_happens stays w new (event.Commit call key) seen fit h back old = order_ended stays w new call key h.0 h.2 h.4 seen h.1 h.3 h.5 old
+order_happens stays w new (event.Withdraw call key) seen fit h back old = subst HasOrder (sym h.7) (order_withdrawn stays w key h.0.reservation h.2 h.4 (part_key w call key h.0 h.1 old) h.3 h.5 old)
+order_happens stays w new (event.Leave call) seen fit h back old = subst HasOrder (sym h.1) (order_left w call fit old)
+order_happens stays w new (event.PickUp call key) seen fit h back old = order_picks stays w new call key h.0 h.2 h.4 seen h.1 h.3 h.5 old
+order_happens stays w new (event.Foreign key value) seen fit h back old = subst HasOrder (sym h.1) (order_stored w _ _ false old)
 
 -- an entry that the store has from the start
 pub order_opened : (w : WorldState) (key value : Bytes) → IsSoundWorld w → HasOrder (with_stored w key value)

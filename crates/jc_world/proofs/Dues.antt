@@ -1,6 +1,7 @@
 -- After a processor the writer is asked exactly if it has to be: each event keeps that.
 --     dues_insert, dues_remove   a part is put in place, or taken away
 --     due_run                    the progress of a key once its processor has run
+--     dues_reported              the writer has returned for a key
 --     dues_happens               any event that fits
 use Rattle.std.proofs.Common.{◌≡◌, ℕ, true, cond, Option, None, Some, is_none, is_some, refl, sym, ap, ◌∙◌, subst}
 use Rattle.std.specs.FinMap.{get, insert, remove, get-empty, get-insert, get-remove}
@@ -24,11 +25,13 @@ use Rattle.jc_world.specs.declared.event.Shown.TheVariants as shown
 use Rattle.jc_world.specs.declared.event.WorldEvent.{WorldEvent}
 use Rattle.jc_world.specs.declared.event.WorldEvent.TheVariants as event
 use Rattle.jc_world.specs.World.{WorldState, Parts, start, part_of}
-use Rattle.jc_world.specs.Premises.{load_from, report_of}
-use Rattle.jc_world.specs.Events.{with_change, with_report, new_load, new_write, new_process, new_part, run_result, progress_after, Starts, Ends, Picks, Happens}
+use Rattle.jc_world.specs.Calls.{open_keys}
+use Rattle.jc_world.specs.Premises.{load_from, report_for}
+use Rattle.jc_world.specs.Events.{with_change, with_report, new_load, new_write, new_process, new_part, run_result, progress_after, after_report, reported_keys, keys_reported, Starts, Ends, Picks, Happens}
 use Rattle.jc_world.specs.Sound.{is_due_in, is_due, AllDue}
 use Rattle.jc_world.proofs.Entries.{split}
 use Rattle.jc_world.proofs.Holding.{is_part}
+use Rattle.jc_world.proofs.Returns.{each_report}
 
 -- 1. One part more, and one less.
 
@@ -97,8 +100,13 @@ dues_picks w new call key join from to shown.Again h old = subst AllDueAt (sym h
 dues_picks w new call key join from to shown.Waits h old = subst AllDueAt (sym h.1) old
 dues_picks w new call key join from to seen h old = absurd h
 
+-- the writer has returned for a key
+pub dues_reported : (w : WorldState) (call : ℕ) (key : Bytes) (part : Part) (report : WriteAnswer) → part_of w call key ≡ Some part → AllDueAt w → AllDueAt (after_report w key part report)
+dues_reported w call key part report at old = dues_insert w.config w.parts key _ old (due_report w.config part.reservation part.progress report (due_of w call key part at old))
+
 pub dues_happens : (w new : WorldState) (e : WorldEvent) (seen : Shown) → Happens w e seen new → AllDueAt w → AllDueAt new
 dues_happens w new (event.Call call session command) seen h old = subst AllDueAt (sym h.1) old
+dues_happens w new (event.Look call stripe) seen h old = subst AllDueAt (sym h.9) old
 dues_happens w new (event.Start call key) seen h old = dues_started w new h.0.caller key h.1 h.4 h.6 seen h.7 old
 dues_happens w new (event.Read call key) seen h old = subst AllDueAt (sym h.3) (dues_insert w.config w.parts key _ old refl)
 dues_happens w new (event.Say call key answer) seen h old = subst AllDueAt (sym h.3) (dues_insert w.config w.parts key _ old refl)
@@ -107,8 +115,9 @@ dues_happens w new (event.Process call key source calls fail) seen h old =
     subst AllDueAt (sym h.3) (dues_insert w.config w.parts key _ old (due_run w.config r (run_result r (load_from source (entry_at w.store key)) calls fail)))
 dues_happens w new (event.Change call key) seen h old =
     subst AllDueAt (sym h.5) (dues_insert w.config w.parts key _ old (due_change w.config h.0.reservation h.0.progress (due_of w call key h.0 h.2 old)))
-dues_happens w new (event.Report call fault) seen h old =
-    subst AllDueAt (sym h.9) (dues_insert w.config w.parts h.1 _ old (due_report w.config h.2.reservation h.2.progress (report_of fault) (due_of w call h.1 h.2 h.6 old)))
+dues_happens w new (event.Report call left fault) seen h old =
+    let answer = report_for h.0.kind left fault in
+    subst AllDueAt (sym h.3) (each_report AllDueAt call answer (λ v key part at waits o. dues_reported v call key part (answer key) at o) w (keys_reported (reported_keys w.parts call (open_keys h.0))) old)
 dues_happens w new (event.Commit call key) seen h old = dues_ended w new call key h.0 h.2 h.4 seen h.5 old
 dues_happens w new (event.Withdraw call key) seen h old = subst AllDueAt (sym h.7) (dues_remove w.config w.parts key old)
 dues_happens w new (event.Leave call) seen h old = subst AllDueAt (sym h.1) old

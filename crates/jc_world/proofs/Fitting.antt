@@ -1,38 +1,46 @@
 -- Events that fit: none of them is shown as a fault, and some fit directly behind others.
+--     fits_then      an event that fits, and what fits wherever it leads
 --     one_fits       an event that fits, alone
 --     report_fits    the writer's return, behind its change of the store
 --     leave_fits     a call's leaving, behind its withdrawal
 --     start_fits     a call's first phase, behind its beginning
+--     looks_fit_all  the looks of a call
 --     rest_fits      what follows in a line, if its first event fits
-use Rattle.std.proofs.Common.{◌≡◌, ℕ, List, [], ◌∷◌, ◌++◌, Bool, true, false, cond, not, Option, None, Some, IsSomeAnd, find, inl, inr, refl, sym, ap, ◌∙◌, subst, arith, is_none, nat_lt, nat_le}
+use Rattle.std.proofs.Common.{◌≡◌, ◌||◌, ◌+◌, ◌<◌, ◌≤◌, ℕ, zero, suc, List, [], ◌∷◌, ◌++◌, Bool, true, false, cond, not, Option, None, Some, IsSomeAnd, find, inl, inr, refl, sym, ap, ◌∙◌, subst, arith, is_none, is_some, nat_lt, nat_le, slice_get}
 use Rattle.std.specs.Option.{option_or}
 use Rattle.std.specs.FinMap.{get, remove, get-insert, get-remove}
 use Rattle.std.proofs.lemmas.Bool.{eq-eqb, and_parts, and_from}
 use Rattle.std.proofs.lemmas.Bool.Decides.{nat_tests}
 use Rattle.std.proofs.lemmas.Cmp.{nat_list_cmp_total, nat_eq_equiv}
 use Rattle.std.proofs.lemmas.List.Folds.{find-append}
-use Rattle.std.specs.List.{list_all}
+use Rattle.std.specs.List.{list_all, list_any}
 use Rattle.jc_model.specs.declared.event.Op.TheVariants.{Get}
 use Rattle.jc_model.specs.Cache.{Bytes, key_cmp}
 use Rattle.jc_world.specs.declared.event.Part.{Part}
 use Rattle.jc_world.specs.declared.event.Progress.{Progress}
 use Rattle.jc_world.specs.declared.event.Progress.TheVariants.{Loading, Writing, Processing, Processed, WritingEffect}
-use Rattle.jc_world.specs.Calls.{CallState, has_number, current_key, is_turn, open_keys, op_at, opened, new_call}
+use Rattle.jc_world.specs.declared.command.Command.{Command}
+use Rattle.jc_world.specs.declared.command.Command.TheVariants as command
+use Rattle.jc_world.specs.declared.command.Sweep.{Sweep}
+use Rattle.jc_world.specs.Calls.{CallState, takes_turns, has_number, has_too_many_keys, at_each, current_key, is_going, is_open, is_turn, open_keys, op_at, opened, new_call, going_on, sweep_of, with_found}
 use Rattle.jc_world.specs.declared.event.Shown.{Shown}
 use Rattle.jc_world.specs.declared.event.Shown.TheVariants as shown
 use Rattle.jc_world.specs.declared.event.WorldEvent.{WorldEvent}
 use Rattle.jc_world.specs.declared.event.WorldEvent.TheVariants as event
 use Rattle.std.specs.Ordering.{eq_by_cmp}
 use Rattle.jc_world.specs.World.{WorldState, open_call, of_call, part_of, waits_for_report, is_join, is_joined, is_untouched, has_progress}
-use Rattle.jc_world.specs.Events.{fits, is_new, is_free, may_start, may_leave, waits_at, may_report, after_change, with_stripe, without_part, Happens, is_fit, AllFit, StartFits, RestFits, with_change}
+use Rattle.jc_world.specs.Events.{fits, is_new, is_free, is_next, may_look, may_start, may_leave, waits_at, may_report, after_change, with_stripe, without_part, with_look, looks, Happens, Run, with_ends, is_fit, AllFit, LooksFit, StartFits, RestFits, with_change}
 use Rattle.jc_world.specs.Sound.{is_up_to, IsCallOf, IsSoundWorld}
 use Rattle.jc_world.proofs.Holding.{call_on}
 use Rattle.jc_world.proofs.Entries.{split, tied}
+use Rattle.jc_world.proofs.Looked.{found_replaced}
 use Rattle.jc_world.proofs.Underway.{found_number, fits_found, of_call-at}
 use Rattle.jc_world.proofs.Joiners.{join_any, join_is}
 use Rattle.jc_world.proofs.Settling.{turn_is}
 use Rattle.jc_world.proofs.NewCalls.{begun_cases, opened_one}
 use Rattle.jc_world.proofs.Beginning.{part_turn}
+use Rattle.jc_world.specs.Ends.{EndsState}
+use Rattle.jc_world.proofs.Noting.{noted_as}
 use Rattle.jc_world.proofs.Facts.{refuted, missing, same_found}
 use Rattle.jc_world.proofs.Numbered.{some_of}
 
@@ -41,13 +49,14 @@ use Rattle.jc_world.proofs.Numbered.{some_of}
 -- what happens is no fault
 fit_shown : (old new : WorldState) (e : WorldEvent) (seen : Shown) → Happens old e seen new → is_fit seen ≡ true
 fit_shown old new (event.Call call session command) seen h = ap is_fit h.0 ∙ begun_cases (new_call call session command) (λ s. is_fit s ≡ true) refl refl
+fit_shown old new (event.Look call stripe) seen h = ap is_fit h.8
 fit_shown old new (event.Start call key) shown.Unfit h = absurd h.7
 fit_shown old new (event.Start call key) seen h = refl
 fit_shown old new (event.Read call key) seen h = ap is_fit h.2
 fit_shown old new (event.Say call key answer) seen h = ap is_fit h.2
 fit_shown old new (event.Process call key source calls fail) seen h = ap is_fit h.2
 fit_shown old new (event.Change call key) seen h = ap is_fit h.4
-fit_shown old new (event.Report call fault) seen h = ap is_fit h.8
+fit_shown old new (event.Report call left fault) seen h = ap is_fit h.2
 fit_shown old new (event.Commit call key) shown.Unfit h = absurd h.5
 fit_shown old new (event.Commit call key) seen h = refl
 fit_shown old new (event.Withdraw call key) seen h = ap is_fit h.6
@@ -57,24 +66,27 @@ fit_shown old new (event.PickUp call key) seen h = refl
 fit_shown old new (event.Foreign key value) seen h = ap is_fit h.0
 
 -- there is nothing that doesn't fit
-none_fit : (w : WorldState) → AllFit w []
+pub none_fit : (w : WorldState) → AllFit w []
 none_fit w [] new run = refl
 none_fit w (s ∷ ss) new run = absurd run
 
 -- an event that fits, and others that fit wherever it leads
-fits_then : (w : WorldState) (e : WorldEvent) (es : List WorldEvent) → fits w e ≡ true → ((seen : Shown) (mid : WorldState) → Happens w e seen mid → AllFit mid es) → AllFit w (e ∷ es)
+pub fits_then : (w : WorldState) (e : WorldEvent) (es : List WorldEvent) → fits w e ≡ true → ((seen : Shown) (mid : WorldState) (ends : EndsState) → Happens w e seen mid → AllFit (with_ends mid ends) es) → AllFit w (e ∷ es)
 fits_then w e es fit more [] new run = absurd run
-fits_then w e es fit more (s ∷ ss) new (mid, inl (fit_now, happens), run) = and_from _ _ (fit_shown w mid e s happens) (more s mid happens ss new run)
+fits_then w e es fit more (s ∷ ss) new (next, inl (fit_now, (mid, happens, is)), run) =
+    let n = noted_as w mid next e s is in
+    let R : WorldState → Type 0 = λ x. Run x es ss new in
+    and_from _ _ (fit_shown w mid e s happens) (more s mid n.ends happens ss new (subst R n.is run))
 fits_then w e es fit more (s ∷ ss) new (mid, inr (unfit, shows, is), run) = let t : true ≡ false = sym fit ∙ unfit in cc
 
 -- an event that fits, alone
 pub one_fits : (w : WorldState) (e : WorldEvent) → fits w e ≡ true → AllFit w (e ∷ [])
-one_fits w e fit = fits_then w e [] fit (λ seen mid happens. none_fit mid)
+one_fits w e fit = fits_then w e [] fit (λ seen mid ends happens. none_fit (with_ends mid ends))
 
 -- 2. Two events of a call under way.
 
 -- once the writer has changed the store, it is still waited for
-still_waits : (call : ℕ) (o : Option Part) (part : Part) → of_call call o ≡ Some part → has_progress waits_for_report (of_call call o) ≡ true → has_progress waits_for_report (of_call call (Some (record part { progress = with_change part.progress }))) ≡ true
+pub still_waits : (call : ℕ) (o : Option Part) (part : Part) → of_call call o ≡ Some part → has_progress waits_for_report (of_call call o) ≡ true → has_progress waits_for_report (of_call call (Some (record part { progress = with_change part.progress }))) ≡ true
 still_waits call o part is waits =
     ap (λ b. has_progress waits_for_report (cond b (Some (record part { progress = with_change part.progress })) None)) (eq-eqb part.reservation.caller.call call (of_call-at call o part is).1)
     ∙ unchanged part.progress ∙ sym (ap (has_progress waits_for_report) is) ∙ waits
@@ -86,19 +98,28 @@ still_waits call o part is waits =
     unchanged (Processed loaded process) = refl
     unchanged (WritingEffect loaded process is_changed report) = refl
 
+-- what is so of the key at which a call works is so of an open key
+any_current : (p : Bytes → Bool) (u : CallState) (key : Bytes) → current_key u ≡ Some key → p key ≡ true → list_any p (open_keys u) ≡ true
+any_current p u key current h = go (takes_turns u.kind) (open_keys u) current
+  where
+    go : (b : Bool) (keys : List Bytes) → cond b (slice_get keys 0) None ≡ Some key → list_any p keys ≡ true
+    go false keys at = cc
+    go true [] at = cc
+    go true (q ∷ keys) at = let is : q ≡ key = cc in ap (λ b. b || list_any p keys) (ap p is ∙ h)
+
 -- the writer's return, behind its change of the store
-report_fits : (w : WorldState) (call : ℕ) (u : CallState) (key : Bytes) (fault : Option ℕ) → open_call w call ≡ Some u → current_key u ≡ Some key → fits w (event.Change call key) ≡ true
-    → AllFit w (event.Change call key ∷ event.Report call fault ∷ [])
-report_fits w call u key fault here current fit =
-    fits_then w (event.Change call key) (event.Report call fault ∷ []) fit (λ seen mid happens.
+report_fits : (w : WorldState) (call : ℕ) (u : CallState) (key : Bytes) (left : List Bytes) (fault : Option ℕ) → open_call w call ≡ Some u → current_key u ≡ Some key → fits w (event.Change call key) ≡ true
+    → AllFit w (event.Change call key ∷ event.Report call left fault ∷ [])
+report_fits w call u key left fault here current fit =
+    fits_then w (event.Change call key) (event.Report call left fault ∷ []) fit (λ seen mid ends happens.
     let part = happens.0 in
     let new = after_change w key part happens.1 in
-    let P : WorldState → Type 0 = λ m. fits m (event.Report call fault) ≡ true in
+    let P : WorldState → Type 0 = λ m. fits m (event.Report call left fault) ≡ true in
     let there : get new.parts key ≡ Some (record part { progress = with_change part.progress }) = get-insert nat_list_cmp_total w.parts key (record part { progress = with_change part.progress }) key ∙ ap (λ b. cond b (Some (record part { progress = with_change part.progress })) (get w.parts key)) (tied key) in
-    one_fits mid (event.Report call fault)
+    one_fits (with_ends mid ends) (event.Report call left fault)
     (subst P (sym happens.5)
-    (ap (may_report new call) here ∙ ap (waits_at new call) current
-    ∙ ap (λ o. has_progress waits_for_report (of_call call o)) there ∙ still_waits call (get w.parts key) part happens.2 fit)))
+    (ap (may_report new call) here
+    ∙ any_current (waits_at new call) u key current (ap (λ o. has_progress waits_for_report (of_call call o)) there ∙ still_waits call (get w.parts key) part happens.2 fit))))
 
 -- once a call has given its current key back, it has no reservation of any key
 no_part : (w : WorldState) (call : ℕ) (u : CallState) (key : Bytes) → open_call w call ≡ Some u → current_key u ≡ Some key → IsSoundWorld w → (q : Bytes) → of_call call (get (remove w.parts key) q) ≡ None
@@ -129,10 +150,10 @@ all_hold_of p (q ∷ keys) h = and_from _ _ (h q) (all_hold_of p keys h)
 pub leave_fits : (w : WorldState) (call : ℕ) (u : CallState) (key : Bytes) → open_call w call ≡ Some u → current_key u ≡ Some key → is_joined w call key ≡ false → IsSoundWorld w → fits w (event.Withdraw call key) ≡ true
     → AllFit w (event.Withdraw call key ∷ event.Leave call ∷ [])
 leave_fits w call u key here current free old fit =
-    fits_then w (event.Withdraw call key) (event.Leave call ∷ []) fit (λ seen mid happens.
+    fits_then w (event.Withdraw call key) (event.Leave call ∷ []) fit (λ seen mid ends happens.
     let new = without_part (with_stripe w key happens.4) key in
     let P : WorldState → Type 0 = λ m. fits m (event.Leave call) ≡ true in
-    one_fits mid (event.Leave call)
+    one_fits (with_ends mid ends) (event.Leave call)
     (subst P (sym happens.7)
     (ap (may_leave new call) here
     ∙ all_hold_of (is_free new call) (open_keys u) (λ q. and_from _ _ (ap is_none (no_part w call u key here current old q)) (ap not (no_join w call u key here current free old q))))))
@@ -178,15 +199,92 @@ start_fits w old call session command key fit opens turn few =
     ∙ find-append (has_number call) w.calls (u ∷ []) ∙ ap (λ o. option_or o (find (has_number call) (u ∷ []))) (new_under w call new old) ∙ ap (λ b. cond b (Some u) None) (nat_eq_equiv.refl call)
     in
     let next : WorldState = record w { last = Some call; fresh = false; calls = w.calls ++ opened u } in
-    fits_then w (event.Call call session command) (event.Start call key ∷ []) fit (λ seen mid happens.
+    fits_then w (event.Call call session command) (event.Start call key ∷ []) fit (λ seen mid ends happens.
     let P : WorldState → Type 0 = λ m. fits m (event.Start call key) ≡ true in
-    one_fits mid (event.Start call key)
+    one_fits (with_ends mid ends) (event.Start call key)
     (subst P (sym happens.1) (ap (may_start next call key) here ∙ and_from _ _ (and_from _ _ opens turn) (new_free w call key new old))))
 
--- 4. What follows in a line.
+-- 4. A call that takes the keys that are cached.
+
+-- it looks at one stripe more
+goes_looking : (stripes : ℕ) (keys : List Bytes) (s : Sweep) (u : CallState) → s.stripe + 1 < stripes → going_on (with_found stripes keys s u) ≡ Some (record u { tasks = u.tasks ++ at_each s.op keys; sweep = Some (record s { stripe = s.stripe + 1 }) })
+goes_looking stripes keys s u more =
+    let next : CallState → Option Sweep → CallState = λ u o. record u { tasks = u.tasks ++ at_each s.op keys; sweep = o } in
+    ap (λ b. going_on (next u (cond b (Some (record s { stripe = s.stripe + 1 })) None))) (less (s.stripe + 1) stripes more)
+  where
+    less : (m n : ℕ) → m < n → nat_lt m n ≡ true
+    less m n lt = grind (arith, nat_tests)
+
+-- behind a look at a stripe that isn't the last
+looked_next : (w : WorldState) (call : ℕ) (keys : List Bytes) (s : Sweep) (u : CallState) → open_call w call ≡ Some u → s.stripe + 1 < w.config.stripes
+    → (v : CallState) × (open_call (with_look w call keys s) call ≡ Some v) × (v.sweep ≡ Some (record s { stripe = s.stripe + 1 }))
+looked_next w call keys s u here more =
+    let v : CallState = record u { tasks = u.tasks ++ at_each s.op keys; sweep = Some (record s { stripe = s.stripe + 1 }) } in
+    (v, found_replaced call (λ x. going_on (with_found w.config.stripes keys s x)) u v w.calls here (goes_looking w.config.stripes keys s u more) refl, refl)
+
+look_next : (w : WorldState) (call : ℕ) (u : CallState) (s : Sweep) → open_call w call ≡ Some u → u.sweep ≡ Some s → fits w (event.Look call s.stripe) ≡ true
+look_next w call u s here sweeps = ap (may_look s.stripe) here ∙ ap (is_next s.stripe) sweeps ∙ nat_eq_equiv.refl s.stripe
+
+-- what a look leaves
+look_leaves : (w mid : WorldState) (call stripe : ℕ) (u : CallState) (s : Sweep) (seen : Shown) → open_call w call ≡ Some u → u.sweep ≡ Some s → (h : Happens w (event.Look call stripe) seen mid) → mid ≡ with_look w call h.6 s
+look_leaves w mid call stripe u s seen here sweeps h =
+    let same_u : h.0 ≡ u = same_found (open_call w call) h.0 u h.2 here in
+    let same_s : h.1 ≡ s = same_found u.sweep h.1 s (ap (λ (x : CallState). x.sweep) (sym same_u) ∙ h.3) sweeps in
+    h.9 ∙ ap (with_look w call h.6) same_s
+
+looks_fit : (call count : ℕ) (w : WorldState) (u : CallState) (s : Sweep) → open_call w call ≡ Some u → u.sweep ≡ Some s → s.stripe + count ≤ w.config.stripes → AllFit w (looks call s.stripe count)
+looks_fit call zero w u s here sweeps few = none_fit w
+looks_fit call (suc zero) w u s here sweeps few = one_fits w (event.Look call s.stripe) (look_next w call u s here sweeps)
+looks_fit call (suc (suc count)) w u s here sweeps few =
+    let more : s.stripe + 1 < w.config.stripes = omega (arith, few) in
+    let rest : (s.stripe + 1) + suc count ≤ w.config.stripes = omega (arith, few) in
+    fits_then w (event.Look call s.stripe) (looks call (s.stripe + 1) (suc count)) (look_next w call u s here sweeps) (λ seen mid ends h.
+    let v = looked_next w call h.6 s u here more in
+    subst (λ m. AllFit (with_ends m ends) (looks call (s.stripe + 1) (suc count))) (sym (look_leaves w mid call s.stripe u s seen here sweeps h))
+    (looks_fit call (suc count) (with_ends (with_look w call h.6 s) ends) v.0 (record s { stripe = s.stripe + 1 }) v.1 v.2 rest))
+
+-- a call that looks at the stripes names no key, and starts at the first one
+sweeping : (call session : ℕ) (c : Command) (s : Sweep) → sweep_of c ≡ Some s → (has_too_many_keys (new_call call session c) ≡ false) × (s.stripe ≡ 0)
+sweeping call session (command.Single op key) s is = cc
+sweeping call session (command.GetAll keys) s is = cc
+sweeping call session (command.PutAll entries) s is = cc
+sweeping call session (command.RemoveAll keys) s is = cc
+sweeping call session command.RemoveEvery s is = (refl, cc)
+sweeping call session command.Clear s is = (refl, cc)
+sweeping call session (command.LoadAll replace keys) s is = cc
+sweeping call session (command.InvokeAll keys) s is = cc
+
+looks_begun : (w : WorldState) → IsSoundWorld w → (call session : ℕ) (c : Command) (s : Sweep) → fits w (event.Call call session c) ≡ true → sweep_of c ≡ Some s → AllFit w (event.Call call session c ∷ looks call 0 w.config.stripes)
+looks_begun w old call session c s fit sweeps =
+    let u : CallState = new_call call session c in
+    let new : is_new w.last call ≡ true = (and_parts _ _ (and_parts _ _ fit).0).1 in
+    let facts = sweeping call session c s sweeps in
+    let opens : opened u ≡ u ∷ [] =
+    ap (λ b. cond b [] (cond (is_going u) (u ∷ []) [])) facts.0 ∙ ap (λ o. cond (is_some o || list_any is_open u.tasks) (u ∷ []) []) sweeps
+    in
+    let here : find (has_number call) (w.calls ++ opened u) ≡ Some u =
+    ap (λ more. find (has_number call) (w.calls ++ more)) opens
+    ∙ find-append (has_number call) w.calls (u ∷ []) ∙ ap (λ o. option_or o (find (has_number call) (u ∷ []))) (new_under w call new old) ∙ ap (λ b. cond b (Some u) None) (nat_eq_equiv.refl call)
+    in
+    let next : WorldState = record w { last = Some call; fresh = false; calls = w.calls ++ opened u } in
+    fits_then w (event.Call call session c) (looks call 0 w.config.stripes) fit (λ seen mid ends happens.
+    subst (λ m. AllFit (with_ends m ends) (looks call 0 w.config.stripes)) (sym happens.1)
+    (subst (λ n. AllFit (with_ends next ends) (looks call n w.config.stripes)) facts.1
+    (looks_fit call w.config.stripes (with_ends next ends) u s here sweeps (all_left s.stripe w.config.stripes facts.1))))
+  where
+    all_left : (m n : ℕ) → m ≡ 0 → m + n ≤ n
+    all_left m n e = omega (arith, e)
+
+pub looks_fit_all : (w : WorldState) → IsSoundWorld w → LooksFit w
+looks_fit_all w old = record {
+  left = λ call count u s here sweeps few. looks_fit call count w u s here sweeps few;
+  begun = looks_begun w old;
+}
+
+-- 5. What follows in a line.
 
 -- a call that has reserved its key has not joined a load of it
-unjoined_held : (w : WorldState) (call : ℕ) (key : Bytes) → has_progress is_untouched (part_of w call key) ≡ true → IsSoundWorld w → is_joined w call key ≡ false
+pub unjoined_held : (w : WorldState) (call : ℕ) (key : Bytes) → has_progress is_untouched (part_of w call key) ≡ true → IsSoundWorld w → is_joined w call key ≡ false
 unjoined_held w call key held old = refuted (is_joined w call key) (λ joined.
     let j = join_any w (is_join call key) w.joins joined old.joins in
     let same = join_is call key j.0 j.2 in

@@ -8,7 +8,7 @@ use Rattle.jc_stripe.specs.State.{State}
 use Rattle.jc_world.specs.declared.event.Part.{Part}
 use Rattle.jc_world.specs.World.{WorldState, stripe_for, cached_entry}
 use Rattle.jc_world.specs.Coherent.{all_hold}
-use Rattle.jc_world.specs.Sound.{IsShaped, number_up_to, CallsFit, IsHeld, AllDue, AllOwned, AllWaitedFor, is_joined_once, AllCalled, KeyAgrees, IsSoundWorld}
+use Rattle.jc_world.specs.Sound.{IsShaped, number_up_to, CallsFit, IsHeld, AllDue, AllOwned, AllWaitedFor, is_joined_once, AllCalled, KeyAgrees, Each, Sweeps, IsSoundWorld}
 
 pub record HasOrder (w : WorldState) : Type 0 where
   pub shape : IsShaped w
@@ -28,12 +28,13 @@ pub record HasJoins (w : WorldState) : Type 0 where
   pub once : is_joined_once w.joins ≡ true
   pub called : (number : ℕ) (s : State) → slice_get w.stripes number ≡ Some s → AllCalled w number s.joiners
 
-pub sound : (w : WorldState) → HasOrder w → HasParts w → AllDue w.config w.parts → HasJoins w → IsSoundWorld w
-sound w o p d j = record {
+pub sound : (w : WorldState) → HasOrder w → HasParts w → AllDue w.config w.parts → HasJoins w → Each (Sweeps w.config) w.calls → IsSoundWorld w
+sound w o p d j s = record {
   shape = o.shape;
   order = o.order;
   numbers = o.numbers;
   calls = o.calls;
+  sweeps = s;
   held = p.held;
   due = d;
   owned = o.owned;
@@ -44,3 +45,9 @@ sound w o p d j = record {
   fresh = p.fresh;
   idle = p.idle;
 }
+
+pub order_half : (w : WorldState) → IsSoundWorld w → HasOrder w
+order_half w h = record { shape = h.shape; order = h.order; numbers = h.numbers; calls = h.calls; owned = h.owned }
+
+pub joins_half : (w : WorldState) → IsSoundWorld w → HasJoins w
+joins_half w h = record { joins = h.joins; once = h.once; called = h.called }

@@ -26,6 +26,7 @@ use Rattle.jc_stripe.specs.Tickets.{Ticket, ProcessClaim, JoinClaim}
 use Rattle.jc_stripe.specs.State.{State, IsJoined}
 use Rattle.jc_stripe.specs.Phases.{Withdraws, with_joiner, without_joiner}
 use Rattle.jc_world.specs.declared.command.Command.{Command}
+use Rattle.jc_world.specs.declared.command.Sweep.{Sweep}
 use Rattle.jc_world.specs.declared.event.Part.{Part}
 use Rattle.jc_world.specs.declared.event.Premises.{Premises}
 use Rattle.jc_world.specs.declared.event.Shown.{Shown}
@@ -34,9 +35,10 @@ use Rattle.jc_world.specs.Calls.{CallState, has_number, open_keys, op_at, is_tur
 use Rattle.jc_world.specs.declared.event.WorldEvent.{WorldEvent}
 use Rattle.jc_world.specs.declared.event.WorldEvent.TheVariants as event
 use Rattle.jc_world.specs.World.{WorldState, Parts, home, stripe_for, start, open_call, of_call, part_of, is_join, join_of, is_joined, joins_without}
-use Rattle.jc_world.specs.Events.{is_free, may_leave, fits, with_stripe, with_phase, with_settled, without_call, new_load, new_write, new_part, without_part, with_join, Starts, Ends, Picks, Happens, new_process}
+use Rattle.jc_world.specs.Events.{is_free, may_leave, fits, with_stripe, with_phase, with_settled, without_call, with_look, new_load, new_write, new_part, without_part, with_join, Starts, Ends, Picks, Happens, new_process}
 use Rattle.jc_world.specs.Sound.{IsWaitedFor, AllWaitedFor, IsCalled, AllCalled, IsSoundWorld, IsCallOf}
-use Rattle.jc_world.proofs.Halves.{HasJoins}
+use Rattle.jc_world.proofs.Halves.{HasJoins, joins_half}
+use Rattle.jc_world.proofs.Returns.{IsReport}
 use Rattle.jc_world.proofs.Places.{at_stripe, stripe_put}
 use Rattle.jc_world.proofs.Shares.{is_some_and, set_cases, found_test, fact_found, each_kept, each_map, each_pushed}
 use Rattle.jc_world.proofs.Underway.{find_over, find_pushed, of_call-at, same_bytes}
@@ -44,7 +46,7 @@ use Rattle.jc_world.proofs.Settling.{open_now, still_called, IsTurnOf}
 use Rattle.jc_world.proofs.LoadKeys.{joins_get}
 use Rattle.jc_world.proofs.Joiners.{joiner_of, any_kept, any_front, any_last, joined_resolved, joined_dissolved, joined_front, joined_last, find_kept, called_resolved, called_dissolved, once_pushed, once_filter, waited_on, each_joined, join_is, joined_no_part, other_key, none_inserted, none_removed, part_other, each_both}
 use Rattle.jc_world.proofs.Beginning.{MayStart, may_start_at, may_turn, part_turn, start_is}
-use Rattle.jc_world.proofs.Callers.{Picking, picking, picking_turn}
+use Rattle.jc_world.proofs.Callers.{looked_called, Picking, picking, picking_turn}
 use Rattle.jc_world.proofs.Facts.{denied, missing, refuted}
 
 -- 1. What goes on.
@@ -57,7 +59,7 @@ joiner_is caller key j h =
     (eqb-true j.caller.session caller.session pair.0, eqb-true j.caller.call caller.call pair.1, sym (same_bytes key j.key parts.1))
 
 -- each join goes on to another world, with the same joins
-kept_joins : (w n : WorldState) → ((j : JoinClaim) → is_joined w j.caller.call j.key ≡ true → IsWaitedFor w j → IsWaitedFor n j) → IsSoundWorld w → AllWaitedFor n w.joins
+pub kept_joins : (w n : WorldState) → ((j : JoinClaim) → is_joined w j.caller.call j.key ≡ true → IsWaitedFor w j → IsWaitedFor n j) → IsSoundWorld w → AllWaitedFor n w.joins
 kept_joins w n f old = each_both (λ (j : JoinClaim). is_joined w j.caller.call j.key ≡ true) (IsWaitedFor w) (IsWaitedFor n) w.joins f (each_joined w.joins) old.joins
 
 -- what is there stays there where the stripe of a key is another
@@ -89,7 +91,7 @@ joins_stored w store premises fresh old =
     }
 
 -- a key's part goes on
-joins_parted : (w : WorldState) (call : ℕ) (key : Bytes) (was part : Part) (premises : Premises) (store : Cache) → part_of w call key ≡ Some was → part.reservation.caller.call ≡ was.reservation.caller.call → IsSoundWorld w
+pub joins_parted : (w : WorldState) (call : ℕ) (key : Bytes) (was part : Part) (premises : Premises) (store : Cache) → part_of w call key ≡ Some was → part.reservation.caller.call ≡ was.reservation.caller.call → IsSoundWorld w
     → HasJoins (record w { parts = insert w.parts key part; premises = premises; store = store })
 joins_parted w call key was part premises store is same old =
     let new : WorldState = record w { parts = insert w.parts key part; premises = premises; store = store } in
@@ -113,6 +115,17 @@ joins_called w call session command old =
     record {
       joins = kept_joins w new (λ j t h. record { out = h.out; call = find_pushed (has_number j.caller.call) w.calls more (IsCallOf j.caller.session j.key Get) h.call; no_part = h.no_part }) old;
       called = λ m s at. each_map (IsCalled w m) (IsCalled new m) s.joiners (λ j h. record { home_is = h.home_is; join = h.join; call = find_pushed (has_number j.caller.call) w.calls more (IsCallOf j.caller.session j.key Get) h.call }) (old.called m s at);
+      once = old.once;
+    }
+
+-- a call takes the keys of a stripe
+joins_looked : (w : WorldState) (call : ℕ) (keys : List Bytes) (s : Sweep) (u : CallState) → open_call w call ≡ Some u → u.sweep ≡ Some s → IsSoundWorld w → HasJoins (with_look w call keys s)
+joins_looked w call keys s u here sweeps old =
+    let new : WorldState = with_look w call keys s in
+    let still = looked_called w call keys s u here sweeps in
+    record {
+      joins = kept_joins w new (λ j t h. record { out = h.out; call = still j.caller.call j.caller.session j.key Get h.call; no_part = h.no_part }) old;
+      called = λ m s at. each_map (IsCalled w m) (IsCalled new m) s.joiners (λ j h. record { home_is = h.home_is; join = h.join; call = still j.caller.call j.caller.session j.key Get h.call }) (old.called m s at);
       once = old.once;
     }
 
@@ -390,16 +403,17 @@ joins_left w call fit old = go (open_call w call) refl
         }
 
 -- by the kind of the event
-pub joins_happens : (w new : WorldState) (e : WorldEvent) (seen : Shown) → fits w e ≡ true → Happens w e seen new → IsSoundWorld w → HasJoins new
-joins_happens w new (event.Call call session command) seen fit h old = subst HasJoins (sym h.1) (joins_called w call session command old)
-joins_happens w new (event.Start call key) seen fit h old = joins_started w new h.0 key h.1 h.4 h.6 seen h.5 h.7 (may_start_at w call key h.0 h.1 fit h.2 h.3 old) old
-joins_happens w new (event.Read call key) seen fit h old = subst HasJoins (sym h.3) (joins_parted w call key h.0 _ _ w.store h.1 refl old)
-joins_happens w new (event.Say call key answer) seen fit h old = subst HasJoins (sym h.3) (joins_parted w call key h.0 _ _ w.store h.1 refl old)
-joins_happens w new (event.Process call key source calls fail) seen fit h old = subst HasJoins (sym h.3) (joins_parted w call key h.0 _ _ w.store h.1 refl old)
-joins_happens w new (event.Change call key) seen fit h old = subst HasJoins (sym h.5) (joins_parted w call key h.0 _ w.premises _ h.2 refl old)
-joins_happens w new (event.Report call fault) seen fit h old = subst HasJoins (sym h.9) (joins_parted w call h.1 h.2 _ _ w.store h.6 refl old)
-joins_happens w new (event.Commit call key) seen fit h old = joins_ended w new call key h.0 h.2 h.4 seen h.1 h.3 h.5 old
-joins_happens w new (event.Withdraw call key) seen fit h old = subst HasJoins (sym h.7) (joins_withdrawn w key h.0.reservation h.2 h.4 h.3 h.5 old)
-joins_happens w new (event.Leave call) seen fit h old = subst HasJoins (sym h.1) (joins_left w call fit old)
-joins_happens w new (event.PickUp call key) seen fit h old = joins_picks w new call key h.0 h.2 h.4 seen h.1 h.3 h.5 old
-joins_happens w new (event.Foreign key value) seen fit h old = subst HasJoins (sym h.1) (joins_stored w _ _ false old)
+pub joins_happens : (w new : WorldState) (e : WorldEvent) (seen : Shown) → fits w e ≡ true → Happens w e seen new → (IsReport e → IsSoundWorld new) → IsSoundWorld w → HasJoins new
+joins_happens w new (event.Call call session command) seen fit h back old = subst HasJoins (sym h.1) (joins_called w call session command old)
+joins_happens w new (event.Look call stripe) seen fit h back old = subst HasJoins (sym h.9) (joins_looked w call h.6 h.1 h.0 h.2 h.3 old)
+joins_happens w new (event.Start call key) seen fit h back old = joins_started w new h.0 key h.1 h.4 h.6 seen h.5 h.7 (may_start_at w call key h.0 h.1 fit h.2 h.3 old) old
+joins_happens w new (event.Read call key) seen fit h back old = subst HasJoins (sym h.3) (joins_parted w call key h.0 _ _ w.store h.1 refl old)
+joins_happens w new (event.Say call key answer) seen fit h back old = subst HasJoins (sym h.3) (joins_parted w call key h.0 _ _ w.store h.1 refl old)
+joins_happens w new (event.Process call key source calls fail) seen fit h back old = subst HasJoins (sym h.3) (joins_parted w call key h.0 _ _ w.store h.1 refl old)
+joins_happens w new (event.Change call key) seen fit h back old = subst HasJoins (sym h.5) (joins_parted w call key h.0 _ w.premises _ h.2 refl old)
+joins_happens w new (event.Report call left fault) seen fit h back old = joins_half new (back tt)
+joins_happens w new (event.Commit call key) seen fit h back old = joins_ended w new call key h.0 h.2 h.4 seen h.1 h.3 h.5 old
+joins_happens w new (event.Withdraw call key) seen fit h back old = subst HasJoins (sym h.7) (joins_withdrawn w key h.0.reservation h.2 h.4 h.3 h.5 old)
+joins_happens w new (event.Leave call) seen fit h back old = subst HasJoins (sym h.1) (joins_left w call fit old)
+joins_happens w new (event.PickUp call key) seen fit h back old = joins_picks w new call key h.0 h.2 h.4 seen h.1 h.3 h.5 old
+joins_happens w new (event.Foreign key value) seen fit h back old = subst HasJoins (sym h.1) (joins_stored w _ _ false old)

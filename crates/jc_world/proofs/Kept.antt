@@ -426,7 +426,7 @@ held_on : (from next : State) (key : Bytes) (part : Part) → IsOut next part.re
 held_on from next key part out h = record { key_is = h.key_is; out = out; asked = h.asked }
 
 -- the calls are others
-parts_over : (w : WorldState) (call : ℕ) (u : CallState) (calls : List CallState) → open_call w call ≡ Some u → IsSoundWorld w → HasParts (record w { calls = calls })
+pub parts_over : (w : WorldState) (call : ℕ) (u : CallState) (calls : List CallState) → open_call w call ≡ Some u → IsSoundWorld w → HasParts (record w { calls = calls })
 parts_over w call u calls is old = record {
   held = old.held;
   told = old.told;
@@ -772,8 +772,8 @@ parts_left w call fit old = go (open_call w call) refl
     go (Some u) e = parts_over w call u (drop_call call w.calls) e old
 
 -- the half of a sound world
-parts_of_sound : (w : WorldState) → IsSoundWorld w → HasParts w
-parts_of_sound w h = record { held = h.held; told = h.told; fresh = h.fresh; idle = h.idle }
+pub parts_half : (w : WorldState) → IsSoundWorld w → HasParts w
+parts_half w h = record { held = h.held; told = h.told; fresh = h.fresh; idle = h.idle }
 
 -- by what is shown of a pick-up
 pub parts_picks : (w new : WorldState) (call : ℕ) (key : Bytes) (join : JoinClaim) (from to : State) (seen : Shown) → join_of w call key ≡ Some join → stripe_for w key ≡ Some from → Picks w call key join from to seen new → IsSoundWorld w → HasParts new
@@ -787,7 +787,7 @@ parts_picks w new call key join from to shown.Again joined at h old =
     let is = h.0.2 in
     subst HasParts (sym h.1)
     (parts_aside w key from to w.calls (joins_without call key w.joins) at (ap (λ (s : State). s.cache) is) (ap (λ (s : State). s.reservations) is) (begun_before w call p.u p.here old) old)
-parts_picks w new call key join from to shown.Waits joined at h old = subst HasParts (sym h.1) (parts_of_sound w old)
+parts_picks w new call key join from to shown.Waits joined at h old = subst HasParts (sym h.1) (parts_half w old)
 parts_picks w new call key join from to seen joined at h old = absurd h
 
 -- 9. A sound world is coherent, as long as the premises held.

@@ -4,12 +4,18 @@ pub mod Shares
 pub mod Underway
 pub mod Settling
 pub mod NewCalls
+pub mod Looked
+pub mod Sweeps
+pub mod StripeKeys
 pub mod Tasks
+pub mod Reported
+pub mod Found
 pub mod Joiners
 pub mod LoadKeys
 pub mod Beginning
 pub mod Callers
 pub mod Joins
+pub mod Noting
 pub mod Places
 pub mod Entries
 pub mod Reservations
@@ -18,6 +24,8 @@ pub mod Dues
 pub mod Kept
 pub mod Maps
 pub mod Numbered
+pub mod Returns
+pub mod Beside
 pub mod Holding
 pub mod Lengths
 pub mod Phased
@@ -30,6 +38,7 @@ pub mod Runs
 pub mod Loads
 pub mod Homes
 pub mod Fitting
+pub mod Together
 pub mod Closing
 pub mod Merging
 pub mod Standing

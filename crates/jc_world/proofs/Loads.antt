@@ -28,7 +28,7 @@ use Rattle.jc_stripe.specs.declared.begun.StepDone.{StepDone}
 use Rattle.jc_stripe.specs.Refusals.{reserves}
 use Rattle.jc_stripe.specs.State.{State}
 use Rattle.jc_stripe.specs.Phases.{Steps, new_group, after_commit}
-use Rattle.jc_world.specs.Calls.{CallState}
+use Rattle.jc_world.specs.Calls.{CallState, open_keys}
 use Rattle.jc_world.specs.declared.event.Part.{Part}
 use Rattle.jc_world.specs.declared.event.Progress.{Progress}
 use Rattle.jc_world.specs.declared.event.Progress.TheVariants.{Loading, Writing, Processing, Processed, WritingEffect}
@@ -37,12 +37,12 @@ use Rattle.jc_world.specs.declared.event.Shown.TheVariants as shown
 use Rattle.jc_world.specs.declared.event.WorldEvent.{WorldEvent}
 use Rattle.jc_world.specs.declared.event.WorldEvent.TheVariants as event
 use Rattle.jc_world.specs.World.{WorldState, Parts, stripe_for, part_of, waits_for_load, waits_for_process, is_untouched, out_in, out_of, has_progress}
-use Rattle.jc_world.specs.Premises.{read_answer, load_from, report_of}
+use Rattle.jc_world.specs.Premises.{read_answer, load_from, report_for}
 use Rattle.jc_model.specs.declared.event.Change.{Change}
 use Rattle.jc_mutentry.specs.Done.{ProcessResult}
 use Rattle.jc_stripe.specs.declared.ticket.Reservation.{Reservation}
 use Rattle.jc_stripe.specs.Effects.{change_due}
-use Rattle.jc_world.specs.Events.{run_result, progress_after, after_process, fits, new_load, new_write, new_process, new_part, with_change, with_report, step_of, Starts, Ends, Picks, Happens, Step, Run}
+use Rattle.jc_world.specs.Events.{run_result, progress_after, after_process, fits, new_load, new_write, new_process, new_part, with_change, with_report, step_of, reported_keys, keys_reported, Starts, Ends, Picks, Happens, Step, Run}
 use Rattle.jc_world.specs.Sound.{IsSoundWorld}
 use Rattle.jc_world.specs.Headline.{start_with, is_answer, is_load, is_loaded}
 use Rattle.jc_world.proofs.Shares.{added}
@@ -51,6 +51,8 @@ use Rattle.jc_world.proofs.Processors.{processor_free}
 use Rattle.jc_world.proofs.Callers.{part_key}
 use Rattle.jc_world.proofs.Entries.{split}
 use Rattle.jc_world.proofs.Kept.{unheld}
+use Rattle.jc_world.proofs.Noting.{noted_as}
+use Rattle.jc_world.proofs.Returns.{each_report}
 use Rattle.jc_world.proofs.Sounding.{Laws, sound_step}
 use Rattle.jc_world.proofs.Facts.{not_true}
 use Rattle.jc_world.proofs.Holding.{is_part}
@@ -290,6 +292,7 @@ total_picks w new call key join from to seen q h = absurd h
 -- by the kind of the event
 total_happens : (w new : WorldState) (e : WorldEvent) (seen : Shown) (q : Bytes) → fits w e ≡ true → Happens w e seen new → IsSoundWorld w → total new q ≡ one_if (is_answer q e seen) + total w q
 total_happens w new (event.Call call session command) seen q fit h old = unanswered false (total new q) (total w q) refl (ap (λ (x : WorldState). total x q) h.1)
+total_happens w new (event.Look call stripe) seen q fit h old = unanswered false (total new q) (total w q) refl (ap (λ (x : WorldState). total x q) h.9)
 total_happens w new (event.Start call key) seen q fit h old = unanswered false (total new q) (total w q) refl (total_started w new h.0 key h.1 h.4 h.6 seen q h.5 h.7 old)
 total_happens w new (event.Read call key) seen q fit h old =
     ap (λ (x : WorldState). total x q) h.3 ∙ total_answered w call key q h.0 (read_answer (entry_at w.store key)) h.1 fit (read_given (entry_at w.store key))
@@ -307,11 +310,15 @@ total_happens w new (event.Change call key) seen q fit h old =
     let there = is_part (get w.parts key) call h.0 h.2 in
     unanswered false (total new q) (total w q) refl
     (ap (λ (x : WorldState). total x q) h.5 ∙ ap (λ b. count_by (is_load q) w.order + one_if b) (loaded_inserted w.parts key q (record h.0 { progress = with_change h.0.progress }) (λ same. change_loads h.0.progress ∙ sym (loaded_at w key q h.0 there same))))
-total_happens w new (event.Report call fault) seen q fit h old =
-    let key = h.1 in
-    let there = is_part (get w.parts key) call h.2 h.6 in
+total_happens w new (event.Report call left fault) seen q fit h old =
     unanswered false (total new q) (total w q) refl
-    (ap (λ (x : WorldState). total x q) h.9 ∙ ap (λ b. count_by (is_load q) w.order + one_if b) (loaded_inserted w.parts key q (record h.2 { progress = with_report h.2.progress (report_of fault) }) (λ same. report_loads h.2.progress (report_of fault) ∙ sym (loaded_at w key q h.2 there same))))
+    (ap (λ (x : WorldState). total x q) h.3
+    ∙ each_report (λ v. total v q ≡ total w q) call (report_for h.0.kind left fault)
+    (λ v key part at waits o.
+    let there = is_part (get v.parts key) call part at in
+    let report = report_for h.0.kind left fault key in
+    ap (λ b. count_by (is_load q) v.order + one_if b) (loaded_inserted v.parts key q (record part { progress = with_report part.progress report }) (λ same. report_loads part.progress report ∙ sym (loaded_at v key q part there same))) ∙ o)
+    w (keys_reported (reported_keys w.parts call (open_keys h.0))) refl)
 total_happens w new (event.Commit call key) seen q fit h old = unanswered false (total new q) (total w q) refl (total_ended w new call key h.0 h.2 h.4 seen q h.1 (part_key w call key h.0 h.1 old) h.5)
 total_happens w new (event.Withdraw call key) seen q fit h old =
     let there = is_part (get w.parts key) call h.0 h.1 in
@@ -331,7 +338,7 @@ unfit_answer q e = refl
 
 -- any event, also one that doesn't fit
 total_step : (w new : WorldState) (e : WorldEvent) (seen : Shown) (q : Bytes) → Step w e seen new → IsSoundWorld w → total new q ≡ one_if (is_answer q e seen) + total w q
-total_step w new e seen q (inl (fit, happens)) old = total_happens w new e seen q fit happens old
+total_step w new e seen q (inl (fit, (mid, happens, is))) old = ap (λ (x : WorldState). total x q) (noted_as w mid new e seen is).is ∙ total_happens w mid e seen q fit happens old
 total_step w new e seen q (inr (unfit, shows, is)) old = unanswered (is_answer q e seen) (total new q) (total w q) (ap (is_answer q e) shows ∙ unfit_answer q e) (ap (λ (x : WorldState). total x q) is)
 
 -- 4. A run.

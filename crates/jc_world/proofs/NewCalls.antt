@@ -4,31 +4,30 @@
 --     begun_cases        what is so of a begun call's showing, and of a refusal's, is so of what was shown
 --     begun_shown        one that isn't refused whole has begun
 use Rattle.std.proofs.Common.{◌≡◌, ◌∙◌, List, [], ◌∷◌, true, false, cond, Option, None, Some, is_some, refl, ap}
-use Rattle.std.specs.List.{list_any}
 use Rattle.jc_types.specs.declared.refusal.Refusal.TheVariants.{TooManyKeys}
 use Rattle.jc_model.specs.declared.event.Op.{Op}
 use Rattle.jc_model.specs.Cache.{Bytes}
-use Rattle.jc_world.specs.Calls.{CallState, has_too_many_keys, is_open, op_at, opened}
+use Rattle.jc_world.specs.Calls.{CallState, has_too_many_keys, is_going, op_at, opened}
 use Rattle.jc_world.specs.declared.event.Shown.{Shown}
 use Rattle.jc_world.specs.declared.event.Shown.TheVariants as shown
 use Rattle.jc_world.specs.Events.{shown_begun}
-use Rattle.jc_world.proofs.Settling.{some_open}
+use Rattle.jc_world.proofs.Settling.{goes_at}
 
 pub opened_cases : (u : CallState) (P : List CallState → Type 0) → P (u ∷ []) → P [] → P (opened u)
 opened_cases u P one none =
-    elim (has_too_many_keys u) as (λ b. P (cond b [] (cond (list_any is_open u.tasks) (u ∷ []) []))) [
+    elim (has_too_many_keys u) as (λ b. P (cond b [] (cond (is_going u) (u ∷ []) []))) [
       | true ↦ none
-      | false ↦ elim (list_any is_open u.tasks) as (λ b. P (cond b (u ∷ []) [])) [ true ↦ one | false ↦ none ]
+      | false ↦ elim (is_going u) as (λ b. P (cond b (u ∷ []) [])) [ true ↦ one | false ↦ none ]
     ]
 
 pub opened_one : (u : CallState) (key : Bytes) → is_some (op_at u key) ≡ true → has_too_many_keys u ≡ false → opened u ≡ u ∷ []
 opened_one u key opens few =
-    ap (λ b. cond b [] (cond (list_any is_open u.tasks) (u ∷ []) [])) few
+    ap (λ b. cond b [] (cond (is_going u) (u ∷ []) [])) few
     ∙ ap (λ b. cond b (u ∷ []) []) (go (op_at u key) refl opens)
   where
-    go : (o : Option Op) → op_at u key ≡ o → is_some o ≡ true → list_any is_open u.tasks ≡ true
+    go : (o : Option Op) → op_at u key ≡ o → is_some o ≡ true → is_going u ≡ true
     go None e h = cc
-    go (Some op) e h = some_open u.tasks key op e
+    go (Some op) e h = goes_at u key op e
 
 pub begun_cases : (u : CallState) (P : Shown → Type 0) → P shown.Begun → P (shown.Refused TooManyKeys) → P (shown_begun u)
 begun_cases u P begun refused = elim (has_too_many_keys u) as (λ b. P (cond b (shown.Refused TooManyKeys) shown.Begun)) [ true ↦ refused | false ↦ begun ]

@@ -33,7 +33,7 @@ use Rattle.jc_world.specs.declared.event.Shown.TheVariants as shown
 use Rattle.jc_world.specs.declared.event.WorldEvent.{WorldEvent}
 use Rattle.jc_world.specs.declared.event.WorldEvent.TheVariants as event
 use Rattle.jc_world.specs.World.{WorldState, home, stripe_for, open_call, of_call, part_of, is_join, join_of, is_joined, joins_without}
-use Rattle.jc_world.specs.Events.{fits, with_stripe, with_join, Starts, Ends, Picks, Happens, Step, Run}
+use Rattle.jc_world.specs.Events.{fits, with_ends, with_stripe, with_join, Starts, Ends, Picks, Happens, Step, Run}
 use Rattle.jc_world.specs.PickUps.{ends_join, is_last_pick_up, ends_load, Resolves}
 use Rattle.jc_world.specs.Sound.{IsHeld, IsSoundWorld, IsOwned}
 use Rattle.jc_world.proofs.Numbered.{some_of}
@@ -49,6 +49,9 @@ use Rattle.jc_world.proofs.LoadKeys.{load_there}
 use Rattle.jc_world.proofs.Joins.{no_joiner}
 use Rattle.jc_world.proofs.JoinedLoads.{Shows, Tells, TellsOf, TellsIn, none_of_key, tells_on, tells_kept, tells_committed, tells_withdrawn}
 use Rattle.jc_world.proofs.Sounding.{Laws, sound_step, sound_run}
+use Rattle.jc_world.specs.Ends.{EndsState}
+use Rattle.jc_world.proofs.Noting.{noted_as}
+use Rattle.jc_world.proofs.Beside.{beside}
 use Rattle.jc_world.proofs.Facts.{refuted}
 
 -- 1. From world to world.
@@ -199,12 +202,13 @@ follows_picks w new call key other from to seen shows more join r found there h 
 follows_happens : (w new : WorldState) (e : WorldEvent) (seen : Shown) (shows : Shows) (join : JoinClaim) (r : Reservation) → Happens w e seen new → is_last_pick_up join.caller.call join.key (e, seen) ≡ false → IsSoundWorld w → Follows w shows join r
     → Follows new (shows ++ (e, seen) ∷ []) join r
 follows_happens w new (event.Call call session command) seen shows join r h last old f = follows_beside w new _ shows _ join r f h.1 refl refl refl refl
+follows_happens w new (event.Look call stripe) seen shows join r h last old f = follows_beside w new _ shows _ join r f h.9 refl refl refl refl
 follows_happens w new (event.Start call key) seen shows join r h last old f = follows_started w new h.0.caller key h.1 h.4 h.6 seen shows _ join r h.5 h.7 refl f
 follows_happens w new (event.Read call key) seen shows join r h last old f = follows_beside w new _ shows _ join r f h.3 refl refl refl refl
 follows_happens w new (event.Say call key answer) seen shows join r h last old f = follows_beside w new _ shows _ join r f h.3 refl refl refl refl
 follows_happens w new (event.Process call key source calls fail) seen shows join r h last old f = follows_beside w new _ shows _ join r f h.3 refl refl refl refl
 follows_happens w new (event.Change call key) seen shows join r h last old f = follows_beside w new _ shows _ join r f h.5 refl refl refl refl
-follows_happens w new (event.Report call fault) seen shows join r h last old f = follows_beside w new _ shows _ join r f h.9 refl refl refl refl
+follows_happens w new (event.Report call left fault) seen shows join r h last old f = follows_beside w new _ shows _ join r f (beside w new call h.0 left fault h.3).is refl refl refl refl
 follows_happens w new (event.Commit call key) seen shows join r h last old f = follows_ended w new call key h.0 h.2 h.4 seen shows join r h.1 h.3 h.5 old f
 follows_happens w new (event.Withdraw call key) seen shows join r h last old f =
     let p = h.0.reservation in
@@ -226,9 +230,17 @@ unfit_ends r (event.Commit call key) = refl
 unfit_ends r (event.Withdraw call key) = refl
 unfit_ends r e = refl
 
+-- what is noted is beside it
+follows_noted : (w n : WorldState) (ends : EndsState) (shows : Shows) (join : JoinClaim) (r : Reservation) → n ≡ with_ends w ends → Follows w shows join r → Follows n shows join r
+follows_noted w n ends shows join r is f =
+    let P : WorldState → Type 0 = λ x. Follows x shows join r in
+    subst P (sym is) (record { key_is = f.key_is; join_is = f.join_is; joiner = f.joiner })
+
 follows_step : (w new : WorldState) (e : WorldEvent) (seen : Shown) (shows : Shows) (join : JoinClaim) (r : Reservation) → Step w e seen new → is_last_pick_up join.caller.call join.key (e, seen) ≡ false → IsSoundWorld w → Follows w shows join r
     → Follows new (shows ++ (e, seen) ∷ []) join r
-follows_step w new e seen shows join r (inl (fit, happens)) last old f = follows_happens w new e seen shows join r happens last old f
+follows_step w new e seen shows join r (inl (fit, (mid, happens, is))) last old f =
+    let n = noted_as w mid new e seen is in
+    follows_noted mid new n.ends (shows ++ (e, seen) ∷ []) join r n.is (follows_happens w mid e seen shows join r happens last old f)
 follows_step w new e seen shows join r (inr (unfit, shown_is, is)) last old f = follows_beside w new w shows _ join r f is refl refl refl (ap (λ b. b || false) (ap (λ s. ends_load r (e, s)) shown_is ∙ unfit_ends r e))
 
 -- both tests fail, where not one of them holds
@@ -321,15 +333,15 @@ resolves_picks w new call key join from to seen shows r there key_is told old h 
 -- the pick-up fits, and shows that
 resolves : (w new : WorldState) (call : ℕ) (key : Bytes) (join : JoinClaim) (seen : Shown) (shows : Shows) (r : Reservation) → join.caller.call ≡ call → join.key ≡ key → Follows w shows join r → IsSoundWorld w
     → Step w (event.PickUp call key) seen new → Resolves w shows r seen
-resolves w new call key join seen shows r call_is key_is f old (inl (fit, (other, found, from, there, to, picks))) =
+resolves w new call key join seen shows r call_is key_is f old (inl (fit, (mid, (other, found, from, there, to, picks), is))) =
     let e : Some other ≡ Some join = sym found ∙ (λ i. join_of w (sym call_is i) (sym key_is i)) ∙ f.join_is in
     let same : other ≡ join = cc in
     let K : Bytes → Type 0 = λ k. IsSomeAnd (stripe_for w k) (TellsIn (home w k) shows join r) in
     let at = some_of (stripe_for w key) (TellsIn (home w key) shows join r) (subst K key_is f.joiner) in
     let t : Some at.0 ≡ Some from = sym at.1 ∙ there in
     let here : at.0 ≡ from = cc in
-    let P : JoinClaim → Type 0 = λ j. Picks w call key j from to seen new in
-    resolves_picks w new call key join from to seen shows r there (f.key_is ∙ key_is) (subst (TellsIn (home w key) shows join r) here at.2) old (subst P same picks)
+    let P : JoinClaim → Type 0 = λ j. Picks w call key j from to seen mid in
+    resolves_picks w mid call key join from to seen shows r there (f.key_is ∙ key_is) (subst (TellsIn (home w key) shows join r) here at.2) old (subst P same picks)
 resolves w new call key join seen shows r call_is key_is f old (inr (unfit, shown_is, is)) =
     let joined = found_any (is_join call key) w.joins join ((λ i. join_of w (sym call_is i) (sym key_is i)) ∙ f.join_is) in
     absurd (let t : true ≡ false = sym joined ∙ unfit in cc)
@@ -342,10 +354,10 @@ IsAnswered old new key shows seen =
     (load : Part) × (part_of old load.reservation.caller.call key ≡ Some load) × (asks_loader load.reservation.first ≡ true) × (load.reservation.key ≡ key) × Resolves new shows load.reservation seen
 
 -- by what is shown of the first phase
-answers_started : Laws → (old joined new newer : WorldState) (call : ℕ) (key : Bytes) (u : CallState) (op : Op) (from to : State) (es : List WorldEvent) (ss : List Shown) (seen : Shown) → open_call old call ≡ Some u → op_at u key ≡ Some op → fits old (event.Start call key) ≡ true
-    → stripe_for old key ≡ Some from → Starts old u.caller key op from to shown.Joins joined → IsSoundWorld old → IsSoundWorld joined → Run joined es ss new → list_any (is_last_pick_up call key) (zip es ss) ≡ false
+answers_started : Laws → (old mid joined new newer : WorldState) (ends : EndsState) (call : ℕ) (key : Bytes) (u : CallState) (op : Op) (from to : State) (es : List WorldEvent) (ss : List Shown) (seen : Shown) → open_call old call ≡ Some u → op_at u key ≡ Some op → fits old (event.Start call key) ≡ true
+    → stripe_for old key ≡ Some from → Starts old u.caller key op from to shown.Joins mid → joined ≡ with_ends mid ends → IsSoundWorld old → IsSoundWorld joined → Run joined es ss new → list_any (is_last_pick_up call key) (zip es ss) ≡ false
     → Step new (event.PickUp call key) seen newer → IsAnswered old new key (zip es ss) seen
-answers_started laws old joined new newer call key u op from to es ss seen here op_is fit there (join, begins, is) sound_old sound_joined run none step =
+answers_started laws old mid joined new newer ends call key u op from to es ss seen here op_is fit there (join, begins, is) noted_is sound_old sound_joined run none step =
     let may = may_start_at old call key u op fit here op_is sound_old in
     let load = load_there (reservation_of from key) join.load (can_join _ _ join.load begins.1) in
     let r_key : load.0.key ≡ key = sym (same_bytes key load.0.key (found_test (is_key key) from.reservations load.0 load.1)) in
@@ -355,7 +367,7 @@ answers_started laws old joined new newer call key u op from to es ss seen here 
     let call_is : join.caller.call ≡ call = ap (λ (j : JoinClaim). j.caller.call) begins.2 ∙ found_number call old.calls u here in
     let key_is : join.key ≡ key = ap (λ (j : JoinClaim). j.key) begins.2 in
     let F : WorldState → Type 0 = λ w. Follows w [] join load.0 in
-    let f = subst F (sym is) (follows_joined old u key op from to join load.0 there begins.2 begins.3 r_key load.2 out may sound_old) in
+    let f = follows_noted mid joined ends [] join load.0 noted_is (subst F (sym is) (follows_joined old u key op from to join load.0 there begins.2 begins.3 r_key load.2 out may sound_old)) in
     let none_of : list_any (is_last_pick_up join.caller.call join.key) (zip es ss) ≡ false = (λ i. list_any (is_last_pick_up (call_is i) (key_is i)) (zip es ss)) ∙ none in
     let g = follows_run laws joined new es ss [] join load.0 run none_of sound_joined f in
     let resolved = resolves new newer call key join seen (zip es ss) load.0 call_is key_is g (sound_run laws joined new es ss run sound_joined) step in
@@ -365,7 +377,8 @@ answers_started laws old joined new newer call key u op from to es ss seen here 
 
 pub answers_joins : Laws → (old joined new newer : WorldState) (call : ℕ) (key : Bytes) (es : List WorldEvent) (ss : List Shown) (seen : Shown) → Step old (event.Start call key) shown.Joins joined → IsSoundWorld old → Run joined es ss new
     → list_any (is_last_pick_up call key) (zip es ss) ≡ false → Step new (event.PickUp call key) seen newer → IsAnswered old new key (zip es ss) seen
-answers_joins laws old joined new newer call key es ss seen (inl (fit, (u, op, here, op_is, from, there, to, starts, refuses))) sound_old run none step =
-    answers_started laws old joined new newer call key u op from to es ss seen here op_is fit there starts sound_old
-    (sound_step laws old (event.Start call key) shown.Joins joined (inl (fit, (u, op, here, op_is, from, there, to, starts, refuses))) sound_old) run none step
+answers_joins laws old joined new newer call key es ss seen (inl (fit, (mid, (u, op, here, op_is, from, there, to, starts, refuses), is))) sound_old run none step =
+    let n = noted_as old mid joined (event.Start call key) shown.Joins is in
+    answers_started laws old mid joined new newer n.ends call key u op from to es ss seen here op_is fit there starts n.is sound_old
+    (sound_step laws old (event.Start call key) shown.Joins joined (inl (fit, (mid, (u, op, here, op_is, from, there, to, starts, refuses), is))) sound_old) run none step
 answers_joins laws old joined new newer call key es ss seen (inr (unfit, shown_is, is)) sound_old run none step = cc

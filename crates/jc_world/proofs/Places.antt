@@ -42,7 +42,7 @@ positive : (n : ℕ) → nat_le 1 n ≡ true → 0 < n
 positive n h = grind (arith, nat_tests)
 
 -- there is a stripe
-some_stripe : (config : Config) → check config ≡ Ok tt → 0 < config.stripes
+pub some_stripe : (config : Config) → check config ≡ Ok tt → 0 < config.stripes
 some_stripe config h = positive config.stripes ((and_parts (nat_le 1 config.stripes) (nat_le config.stripes STRIPES_MAX) (in_limits (is_between 1 STRIPES_MAX config.stripes) _ _ h)).0)
 
 -- and no more than a cache may have

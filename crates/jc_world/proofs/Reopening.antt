@@ -26,4 +26,4 @@ parts_reopened w none coherent old = record {
 pub sound_reopened : (w : WorldState) → ((key : Bytes) → get w.parts key ≡ None) → Coherent w → IsSoundWorld w → IsSoundWorld (with_all_premises w)
 sound_reopened w none coherent old =
     let premises : Premises = (with_all_premises w).premises in
-    sound (with_all_premises w) (order_stored w w.store premises w.fresh old) (parts_reopened w none coherent old) old.due (joins_stored w w.store premises w.fresh old)
+    sound (with_all_premises w) (order_stored w w.store premises w.fresh old) (parts_reopened w none coherent old) old.due (joins_stored w w.store premises w.fresh old) old.sweeps

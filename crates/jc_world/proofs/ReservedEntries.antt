@@ -25,7 +25,7 @@ use Rattle.jc_world.specs.declared.event.Shown.TheVariants as shown
 use Rattle.jc_world.specs.declared.event.WorldEvent.{WorldEvent}
 use Rattle.jc_world.specs.declared.event.WorldEvent.TheVariants as event
 use Rattle.jc_world.specs.World.{WorldState, home, stripe_for, entry_in, cached_entry, out_of}
-use Rattle.jc_world.specs.Events.{step_of, Starts, Ends, Picks, Happens, Step, Run}
+use Rattle.jc_world.specs.Events.{with_ends, step_of, Starts, Ends, Picks, Happens, Step, Run}
 use Rattle.jc_world.specs.Reserved.{is_appended}
 use Rattle.jc_world.specs.Sound.{IsHeld, IsSoundWorld}
 use Rattle.jc_world.proofs.Numbered.{some_of}
@@ -33,6 +33,8 @@ use Rattle.jc_world.proofs.Places.{at_stripe}
 use Rattle.jc_world.proofs.LoadKeys.{found_holds}
 use Rattle.jc_world.proofs.Reservations.{out_reserved, found_left}
 use Rattle.jc_world.proofs.Entries.{split}
+use Rattle.jc_world.proofs.Noting.{noted_as}
+use Rattle.jc_world.proofs.Beside.{beside}
 use Rattle.jc_world.proofs.Sounding.{Laws, sound_step}
 
 -- 1. Events that append no step.
@@ -70,12 +72,13 @@ unmoved_picks w new call key join from to seen there h = absurd h
 -- by the kind of the event
 unmoved_happens : (w new : WorldState) (e : WorldEvent) (seen : Shown) → Happens w e seen new → is_appended seen ≡ false → IsUnmoved w new
 unmoved_happens w new (event.Call call session command) seen h none = subst (IsUnmoved w) (sym h.1) (refl, λ q. refl)
+unmoved_happens w new (event.Look call stripe) seen h none = subst (IsUnmoved w) (sym h.9) (refl, λ q. refl)
 unmoved_happens w new (event.Start call key) seen h none = unmoved_started w new h.0 key h.1 h.4 h.6 seen h.5 h.7 none
 unmoved_happens w new (event.Read call key) seen h none = subst (IsUnmoved w) (sym h.3) (refl, λ q. refl)
 unmoved_happens w new (event.Say call key answer) seen h none = subst (IsUnmoved w) (sym h.3) (refl, λ q. refl)
 unmoved_happens w new (event.Process call key source calls fail) seen h none = subst (IsUnmoved w) (sym h.3) (refl, λ q. refl)
 unmoved_happens w new (event.Change call key) seen h none = subst (IsUnmoved w) (sym h.5) (refl, λ q. refl)
-unmoved_happens w new (event.Report call fault) seen h none = subst (IsUnmoved w) (sym h.9) (refl, λ q. refl)
+unmoved_happens w new (event.Report call left fault) seen h none = subst (IsUnmoved w) (sym (beside w new call h.0 left fault h.3).is) (refl, λ q. refl)
 unmoved_happens w new (event.Commit call key) seen h none = unmoved_ended w new call key h.0 h.2 h.4 seen h.5 none
 unmoved_happens w new (event.Withdraw call key) seen h none = subst (IsUnmoved w) (sym h.7) (refl, λ q. cached_set w key q h.2 h.4 h.3 (ap (λ (s : State). s.cache) h.5.1))
 unmoved_happens w new (event.Leave call) seen h none = subst (IsUnmoved w) (sym h.1) (refl, λ q. refl)
@@ -83,7 +86,7 @@ unmoved_happens w new (event.PickUp call key) seen h none = unmoved_picks w new 
 unmoved_happens w new (event.Foreign key value) seen h none = subst (IsUnmoved w) (sym h.1) (refl, λ q. refl)
 
 pub unmoved_step : (w new : WorldState) (e : WorldEvent) (seen : Shown) → Step w e seen new → is_appended seen ≡ false → IsUnmoved w new
-unmoved_step w new e seen (inl (fit, happens)) none = unmoved_happens w new e seen happens none
+unmoved_step w new e seen (inl (fit, (mid, happens, is))) none = subst (IsUnmoved w) (sym (noted_as w mid new e seen is).is) (unmoved_happens w mid e seen happens none)
 unmoved_step w new e seen (inr (unfit, shows, is)) none = subst (IsUnmoved w) (sym is) (refl, λ q. refl)
 
 -- 2. A reservation that is still out.
@@ -234,12 +237,13 @@ stay_picks w new call key join from to seen there h = absurd h
 -- by the kind of the event
 stay_happens : KeepsReserved → (w new : WorldState) (e : WorldEvent) (seen : Shown) → Happens w e seen new → IsSoundWorld w → StayOut w new
 stay_happens kept w new (event.Call call session command) seen h old = stay_beside w new _ h.1 refl refl
+stay_happens kept w new (event.Look call stripe) seen h old = stay_beside w new _ h.9 refl refl
 stay_happens kept w new (event.Start call key) seen h old = stay_started kept w new h.0 key h.1 h.4 h.6 seen h.5 (old.shape.each (home w key) h.4 h.5).reached h.7
 stay_happens kept w new (event.Read call key) seen h old = stay_beside w new _ h.3 refl refl
 stay_happens kept w new (event.Say call key answer) seen h old = stay_beside w new _ h.3 refl refl
 stay_happens kept w new (event.Process call key source calls fail) seen h old = stay_beside w new _ h.3 refl refl
 stay_happens kept w new (event.Change call key) seen h old = stay_beside w new _ h.5 refl refl
-stay_happens kept w new (event.Report call fault) seen h old = stay_beside w new _ h.9 refl refl
+stay_happens kept w new (event.Report call left fault) seen h old = stay_beside w new _ (beside w new call h.0 left fault h.3).is refl refl
 stay_happens kept w new (event.Commit call key) seen h old = stay_ended kept w new call key h.0 h.2 h.4 seen h.3 (old.shape.each (home w key) h.2 h.3).reached h.5
 stay_happens kept w new (event.Withdraw call key) seen h old =
     stay_set w new key h.2 h.4 (ap (λ (x : WorldState). x.config) h.7) (ap (λ (x : WorldState). x.stripes) h.7) h.3
@@ -249,7 +253,9 @@ stay_happens kept w new (event.PickUp call key) seen h old = stay_picks w new ca
 stay_happens kept w new (event.Foreign key value) seen h old = stay_beside w new _ h.1 refl refl
 
 stay_step : KeepsReserved → (w new : WorldState) (e : WorldEvent) (seen : Shown) → Step w e seen new → IsSoundWorld w → StayOut w new
-stay_step kept w new e seen (inl (fit, happens)) old = stay_happens kept w new e seen happens old
+stay_step kept w new e seen (inl (fit, (mid, happens, is))) old =
+    let n = noted_as w mid new e seen is in
+    stay_then w mid new (stay_happens kept w mid e seen happens old) (stay_beside mid new (with_ends mid n.ends) n.is refl refl)
 stay_step kept w new e seen (inr (unfit, shows, is)) old = stay_beside w new w is refl refl
 
 pub stay_run : Laws → (w new : WorldState) (es : List WorldEvent) (ss : List Shown) → Run w es ss new → IsSoundWorld w → StayOut w new

@@ -1,7 +1,9 @@
 -- The open keys of a call, and what is left of a call and of the calls under way once a key of one has its reply or last refusal.
 --     only_op                a call of one key does there what its command says
 --     open_now               a test of all open keys holds of each
---     Left                   a call that goes on: what is open in it was open before, and isn't the key that was settled
+--     done_for               what is done at an open key
+--     Left                   a call that goes on: what it does or may still do at a key it did before, and not at the key that was
+--                            settled
 --     turn_is                a call that works at one key at a time may work at its current one alone
 --     IsTurnOf               a call may work at a key, if it is under way
 --     still_called           a call goes on at each other key
@@ -18,7 +20,7 @@ use Rattle.std.proofs.lemmas.Bool.{eq-eqb, eqb-true, and_parts, and_from}
 use Rattle.jc_types.specs.declared.caller.Caller.{Caller}
 use Rattle.jc_model.specs.declared.event.Op.{Op}
 use Rattle.jc_model.specs.Cache.{Bytes}
-use Rattle.jc_world.specs.Calls.{CallState, Task, has_number, op_in, op_at, is_open, open_in, open_keys, current_key, is_at, is_turn, takes_turns, going_on, settled, settle}
+use Rattle.jc_world.specs.Calls.{CallState, Task, has_number, op_in, op_at, op_or_found, op_for, is_open, open_in, open_keys, current_key, is_at, is_turn, takes_turns, is_going, going_on, settled, settle}
 use Rattle.jc_world.specs.World.{WorldState}
 use Rattle.jc_world.specs.Sound.{is_apart, FitsCall, CallsFit, IsCallOf, Each}
 use Rattle.jc_world.proofs.Facts.{refuted}
@@ -102,48 +104,106 @@ not_self key q tasks op h same = let t : None ≡ Some op = sym (at_self key q t
 
 -- 3. A call of which a key was settled.
 
--- the call goes on: all that is open in it was open before, and another key was settled
+-- what is done at an open key
+pub done_for : (u : CallState) (q : Bytes) (op : Op) → op_at u q ≡ Some op → op_for u q ≡ Some op
+done_for u q op h = go (lookup (pointwise ◌==◌ q) u.tasks) h
+  where
+    go : (o : Option (Option Op)) → option_flatten o ≡ Some op → op_or_found u.sweep o ≡ Some op
+    go None h = cc
+    go (Some one) h = h
+
+-- the call goes on: what it does or may still do at a key it did before, and another key was settled
 pub record Left (call : ℕ) (key : Bytes) (u v : CallState) : Type 0 where
   pub caller_is : v.caller ≡ u.caller
-  pub was : (q : Bytes) (op : Op) → op_at v q ≡ Some op → op_at u q ≡ Some op
-  pub other : (q : Bytes) (op : Op) → op_at v q ≡ Some op → u.caller.call ≡ call → q ≡ key → ⊥
+  pub sweep_is : v.sweep ≡ u.sweep
+  pub keys_are : keys_of v.tasks ≡ keys_of u.tasks
+  pub was : (q : Bytes) (op : Op) → op_for v q ≡ Some op → op_for u q ≡ Some op
+  pub other : (q : Bytes) (op one : Op) → op_for v q ≡ Some op → op_at u q ≡ Some one → u.caller.call ≡ call → q ≡ key → ⊥
 
--- what goes on has the tasks that are left
-going_is : (u : CallState) (tasks : List Task) (v : CallState) → going_on u tasks ≡ Some v → v ≡ record u { tasks = tasks }
-going_is u tasks v h = go (list_any is_open tasks) h
+-- what goes on is what there is
+pub going_is : (u v : CallState) → going_on u ≡ Some v → v ≡ u
+going_is u v h = go (is_going u) h
   where
-    go : (b : Bool) → cond b (Some (record u { tasks = tasks })) None ≡ Some v → v ≡ record u { tasks = tasks }
-    go true h = let is : record u { tasks = tasks } ≡ v = cc in sym is
+    go : (b : Bool) → cond b (Some u) None ≡ Some v → v ≡ u
+    go true h = let is : u ≡ v = cc in sym is
     go false h = cc
 
--- and what doesn't has none
-none_left : (u : CallState) (tasks : List Task) (q : Bytes) (op : Op) → going_on u tasks ≡ None → op_in tasks q ≡ Some op → ⊥
-none_left u tasks q op h at =
-    let t : Some (record u { tasks = tasks }) ≡ None = ap (λ b. cond b (Some (record u { tasks = tasks })) None) (sym (some_open tasks q op at)) ∙ h in cc
+-- a call with an open key goes on
+pub goes_at : (u : CallState) (q : Bytes) (op : Op) → op_at u q ≡ Some op → is_going u ≡ true
+goes_at u q op at = or_right (is_some u.sweep) (list_any is_open u.tasks) (some_open u.tasks q op at)
+  where
+    or_right : (b c : Bool) → c ≡ true → (b || c) ≡ true
+    or_right true c h = refl
+    or_right false c h = h
+
+-- so one that doesn't has none
+pub none_left : (u : CallState) (q : Bytes) (op : Op) → going_on u ≡ None → op_at u q ≡ Some op → ⊥
+none_left u q op h at = let t : Some u ≡ None = ap (λ b. cond b (Some u) None) (sym (goes_at u q op at)) ∙ h in cc
 
 -- the tasks that are left
 abbrev tasks_left : ℕ → Bytes → CallState → List Task
 tasks_left call key u = cond (has_number call u) (set_value (pointwise ◌==◌ key) u.tasks None) u.tasks
 
-left_was : (call : ℕ) (key : Bytes) (u : CallState) (q : Bytes) (op : Op) → op_in (tasks_left call key u) q ≡ Some op → op_at u q ≡ Some op
+-- a key that is settled is looked up as such, and another as before
+looked_up : (key q : Bytes) (tasks : List Task) (P : Option (Option Op) → Type 0) → ((one : Option Op) → lookup (pointwise ◌==◌ q) tasks ≡ Some one → P (Some None)) → P (lookup (pointwise ◌==◌ q) tasks)
+    → P (lookup (pointwise ◌==◌ q) (set_value (pointwise ◌==◌ key) tasks None))
+looked_up key q [] P self same = same
+looked_up key q (task ∷ tasks) P self same =
+    elim (pointwise ◌==◌ key task.0) as (λ b. P (lookup (pointwise ◌==◌ q) (cond b ((task.0, None) ∷ tasks) (task ∷ set_value (pointwise ◌==◌ key) tasks None)))) [
+      | true ↦ elim (pointwise ◌==◌ q task.0) as (λ b. ((one : Option Op) → cond b (Some task.1) (lookup (pointwise ◌==◌ q) tasks) ≡ Some one → P (Some None)) → P (cond b (Some task.1) (lookup (pointwise ◌==◌ q) tasks)) → P (cond b (Some None) (lookup (pointwise ◌==◌ q) tasks))) [
+        | true ↦ λ self same. self task.1 refl
+        | false ↦ λ self same. same
+      ] self same
+      | false ↦ elim (pointwise ◌==◌ q task.0) as (λ b. ((one : Option Op) → cond b (Some task.1) (lookup (pointwise ◌==◌ q) tasks) ≡ Some one → P (Some None)) → P (cond b (Some task.1) (lookup (pointwise ◌==◌ q) tasks)) → P (cond b (Some task.1) (lookup (pointwise ◌==◌ q) (set_value (pointwise ◌==◌ key) tasks None)))) [
+        | true ↦ λ self same. same
+        | false ↦ λ self same. looked_up key q tasks P self same
+      ] self same
+    ]
+
+left_was : (call : ℕ) (key : Bytes) (u : CallState) (q : Bytes) (op : Op) → op_or_found u.sweep (lookup (pointwise ◌==◌ q) (tasks_left call key u)) ≡ Some op → op_for u q ≡ Some op
 left_was call key u q op h =
-    elim (has_number call u) as (λ b. op_in (cond b (set_value (pointwise ◌==◌ key) u.tasks None) u.tasks) q ≡ Some op → op_at u q ≡ Some op) [
-      | true ↦ λ h. sym (at_other key q u.tasks (not_self key q u.tasks op h)) ∙ h
+    elim (has_number call u) as (λ b. op_or_found u.sweep (lookup (pointwise ◌==◌ q) (cond b (set_value (pointwise ◌==◌ key) u.tasks None) u.tasks)) ≡ Some op → op_for u q ≡ Some op) [
+      | true ↦ looked_up key q u.tasks (λ o. op_or_found u.sweep o ≡ Some op → op_for u q ≡ Some op) (λ one is h. cc) (λ h. h)
       | false ↦ λ h. h
     ] h
 
-left_other : (call : ℕ) (key : Bytes) (u : CallState) (q : Bytes) (op : Op) → op_in (tasks_left call key u) q ≡ Some op → u.caller.call ≡ call → q ≡ key → ⊥
-left_other call key u q op h mine =
-    not_self key q u.tasks op (ap (λ b. op_in (cond b (set_value (pointwise ◌==◌ key) u.tasks None) u.tasks) q) (sym (eq-eqb u.caller.call call mine)) ∙ h)
+-- where something is done a key is looked up
+done_there : (o : Option (Option Op)) (one : Op) → option_flatten o ≡ Some one → (two : Option Op) × (o ≡ Some two)
+done_there None one h = cc
+done_there (Some two) one h = (two, refl)
+
+left_other : (call : ℕ) (key : Bytes) (u : CallState) (q : Bytes) (op one : Op) → op_or_found u.sweep (lookup (pointwise ◌==◌ q) (tasks_left call key u)) ≡ Some op → op_at u q ≡ Some one → u.caller.call ≡ call → q ≡ key → ⊥
+left_other call key u q op one h at mine same =
+    let there = done_there (lookup (pointwise ◌==◌ q) u.tasks) one at in
+    let now : op_or_found u.sweep (lookup (pointwise ◌==◌ q) (set_value (pointwise ◌==◌ key) u.tasks None)) ≡ Some op =
+    ap (λ b. op_or_found u.sweep (lookup (pointwise ◌==◌ q) (cond b (set_value (pointwise ◌==◌ key) u.tasks None) u.tasks))) (sym (eq-eqb u.caller.call call mine)) ∙ h in
+    let none = at_self key q u.tasks same in
+    gone (lookup (pointwise ◌==◌ q) (set_value (pointwise ◌==◌ key) u.tasks None)) none (still_there key q u.tasks there.0 there.1) now
+  where
+    gone : (o : Option (Option Op)) → option_flatten o ≡ None → is_some o ≡ true → op_or_found u.sweep o ≡ Some op → ⊥
+    gone None none some h = cc
+    gone (Some o) none some h = let t : None ≡ Some op = sym none ∙ h in cc
+
+    still_there : (key q : Bytes) (tasks : List Task) (two : Option Op) → lookup (pointwise ◌==◌ q) tasks ≡ Some two → is_some (lookup (pointwise ◌==◌ q) (set_value (pointwise ◌==◌ key) tasks None)) ≡ true
+    still_there key q tasks two at = looked_up key q tasks (λ o. is_some o ≡ true) (λ x is. refl) (ap is_some at)
+
+keys_left : (call : ℕ) (key : Bytes) (u : CallState) → keys_of (tasks_left call key u) ≡ keys_of u.tasks
+keys_left call key u = elim (has_number call u) as (λ b. keys_of (cond b (set_value (pointwise ◌==◌ key) u.tasks None) u.tasks) ≡ keys_of u.tasks) [ true ↦ same u.tasks | false ↦ refl ]
+  where
+    same : (tasks : List Task) → keys_of (set_value (pointwise ◌==◌ key) tasks None) ≡ keys_of tasks
+    same [] = refl
+    same (task ∷ tasks) = elim (pointwise ◌==◌ key task.0) as (λ b. keys_of (cond b ((task.0, None) ∷ tasks) (task ∷ set_value (pointwise ◌==◌ key) tasks None)) ≡ task.0 ∷ keys_of tasks) [ true ↦ refl | false ↦ ap (λ ks. task.0 ∷ ks) (same tasks) ]
 
 left_of : (call : ℕ) (key : Bytes) (u v : CallState) → settled call key u ≡ Some v → Left call key u v
 left_of call key u v is =
-    let v_is = going_is u (tasks_left call key u) v is in
-    let back = λ (q : Bytes) (op : Op) (h : op_at v q ≡ Some op). ap (λ (x : CallState). op_at x q) (sym v_is) ∙ h in
+    let v_is = going_is (record u { tasks = tasks_left call key u }) v is in
+    let back = λ (q : Bytes) (op : Op) (h : op_for v q ≡ Some op). ap (λ (x : CallState). op_for x q) (sym v_is) ∙ h in
     record {
       caller_is = ap (λ (x : CallState). x.caller) v_is;
+      sweep_is = ap (λ (x : CallState). x.sweep) v_is;
+      keys_are = ap (λ (x : CallState). keys_of x.tasks) v_is ∙ keys_left call key u;
       was = λ q op h. left_was call key u q op (back q op h);
-      other = λ q op h. left_other call key u q op (back q op h);
+      other = λ q op one h. left_other call key u q op one (back q op h);
     }
 
 -- what is done at another key goes on
@@ -194,11 +254,11 @@ abbrev Goes : ℕ → ℕ → Bytes → Op → List CallState → Type 0
 Goes number session q op calls = IsSomeAnd (find (has_number number) calls) (IsCallOf session q op)
 
 -- what is behind a call that is not looked for
-goes_behind : (number session : ℕ) (q : Bytes) (op : Op) (x : CallState) (calls : List CallState) → has_number number x ≡ false → Goes number session q op calls → Goes number session q op (x ∷ calls)
+pub goes_behind : (number session : ℕ) (q : Bytes) (op : Op) (x : CallState) (calls : List CallState) → has_number number x ≡ false → Goes number session q op calls → Goes number session q op (x ∷ calls)
 goes_behind number session q op x calls apart h = let P : Bool → Type 0 = λ b. IsSomeAnd (cond b (Some x) (find (has_number number) calls)) (IsCallOf session q op) in subst P (sym apart) h
 
 -- one that is looked for is found
-goes_here : (number session : ℕ) (q : Bytes) (op : Op) (x : CallState) (calls : List CallState) → has_number number x ≡ true → IsCallOf session q op x → Goes number session q op (x ∷ calls)
+pub goes_here : (number session : ℕ) (q : Bytes) (op : Op) (x : CallState) (calls : List CallState) → has_number number x ≡ true → IsCallOf session q op x → Goes number session q op (x ∷ calls)
 goes_here number session q op x calls mine h = let P : Bool → Type 0 = λ b. IsSomeAnd (cond b (Some x) (find (has_number number) calls)) (IsCallOf session q op) in subst P (sym mine) h
 
 -- the call that is looked for, once a key is settled
@@ -210,9 +270,9 @@ goes_settled call key number session q op x calls o is other turn mine h = go o 
     goes = still_open call key x q op (λ at. other (sym (eqb-true x.caller.call number mine) ∙ at)) h.1
 
     go : (o : Option CallState) → settled call key x ≡ o → Goes number session q op (cons_option o calls)
-    go None e = absurd (none_left x (tasks_left call key x) q op e goes)
+    go None e = absurd (none_left (record x { tasks = tasks_left call key x }) q op e goes)
     go (Some v) e =
-        let v_is = going_is x (tasks_left call key x) v e in
+        let v_is = going_is (record x { tasks = tasks_left call key x }) v e in
         let number_is : x.caller.call ≡ number = eqb-true x.caller.call number mine in
         let turns = turn_left call key x q (λ e. turn (sym number_is ∙ eqb-true x.caller.call call e)) (λ at. other (sym number_is ∙ at)) h.2 in
         goes_here number session q op v calls (ap (λ (c : CallState). has_number number c) v_is ∙ mine)
@@ -240,7 +300,7 @@ pub still_called : (call : ℕ) (key : Bytes) (number session : ℕ) (q : Bytes)
 still_called call key number session q op calls other turn h = goes_on call key number session q op calls other (λ e u is. turn u (ap (λ n. find (has_number n) calls) (sym e) ∙ is)) h
 
 -- calls that are apart stay so
-apart_of : (x y v : CallState) → v.caller ≡ y.caller → is_apart x y ≡ true → is_apart x v ≡ true
+pub apart_of : (x y v : CallState) → v.caller ≡ y.caller → is_apart x y ≡ true → is_apart x v ≡ true
 apart_of x y v same h = ap (λ (c : Caller). not (c.session == x.caller.session) && not (c.call == x.caller.call)) same ∙ h
 
 apart_settled : (call : ℕ) (key : Bytes) (x : CallState) (calls : List CallState) → list_all (is_apart x) calls ≡ true → list_all (is_apart x) (settle call key calls) ≡ true
@@ -254,7 +314,7 @@ apart_settled call key x (y ∷ ys) h =
     go y ys apart (Some v) e rest = and_from _ _ (apart_of x y v (left_of call key y v e).caller_is apart) rest
 
 -- so they are apart from what is left of a call
-apart_from : (x v : CallState) (calls : List CallState) → v.caller ≡ x.caller → list_all (is_apart x) calls ≡ true → list_all (is_apart v) calls ≡ true
+pub apart_from : (x v : CallState) (calls : List CallState) → v.caller ≡ x.caller → list_all (is_apart x) calls ≡ true → list_all (is_apart v) calls ≡ true
 apart_from x v calls same h = ap (λ (c : Caller). list_all (λ (y : CallState). not (y.caller.session == c.session) && not (y.caller.call == c.call)) calls) same ∙ h
 
 -- the calls fit another world

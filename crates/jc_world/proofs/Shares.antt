@@ -85,6 +85,11 @@ pub each_pushed : {A : Type 0} (P : A → Type 0) (xs : List A) (x : A) → Each
 each_pushed P [] x each one = (one, tt)
 each_pushed P (y ∷ ys) x each one = (each.0, each_pushed P ys x each.1 one)
 
+-- and of those that pass a test
+pub each_filter : {A : Type 0} (P : A → Type 0) (p : A → Bool) (xs : List A) → Each P xs → Each P (filter p xs)
+each_filter P p [] h = tt
+each_filter P p (x ∷ xs) h = elim (p x) as (λ b. Each P (cond b (x ∷ filter p xs) (filter p xs))) [ true ↦ (h.0, each_filter P p xs h.1) | false ↦ each_filter P p xs h.1 ]
+
 -- a test that follows from it
 pub each_test : {A : Type 0} (P : A → Type 0) (p : A → Bool) (xs : List A) → ((x : A) → P x → p x ≡ true) → Each P xs → list_all p xs ≡ true
 each_test P p [] f each = refl

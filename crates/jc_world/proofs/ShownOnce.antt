@@ -53,6 +53,8 @@ use Rattle.jc_world.proofs.Places.{stripe_put}
 use Rattle.jc_world.proofs.Merging.{other_set}
 use Rattle.jc_world.proofs.Loads.{one_if}
 use Rattle.jc_world.proofs.Beginning.{begins_at}
+use Rattle.jc_world.proofs.Noting.{noted_as, sound_before}
+use Rattle.jc_world.proofs.Beside.{beside}
 use Rattle.jc_world.proofs.Sounding.{Laws, sound_step}
 use Rattle.jc_world.proofs.Standing.{config_run, config_opened}
 
@@ -269,6 +271,7 @@ owed_picks w new call key join from to seen number place there h old sound = abs
 owed_happens : Grows → (w new : WorldState) (e : WorldEvent) (seen : Shown) (number place : ℕ) → fits w e ≡ true → Happens w e seen new → IsSoundWorld w → IsSoundWorld new → owed new number place ≡ one_if (is_answer_at number place seen) + owed w number place
 owed_happens grows w new (event.Call call session command) seen number place fit h old sound =
     owed_still w new seen number place (ap (is_answer_at number place) h.0 ∙ begun_cases (new_call call session command) (λ s. is_answer_at number place s ≡ false) refl refl) (ap (λ (x : WorldState). owed x number place) h.1)
+owed_happens grows w new (event.Look call stripe) seen number place fit h old sound = owed_still w new seen number place (ap (is_answer_at number place) h.8) (ap (λ (x : WorldState). owed x number place) h.9)
 owed_happens grows w new (event.Start call key) seen number place fit h old sound =
     owed_started grows w new h.0 key h.1 h.4 h.6 seen number place h.5 h.7 (begins_at w call key h.0 h.1 h.4 fit h.2 h.3 h.5 old) old sound
 owed_happens grows w new (event.Read call key) seen number place fit h old sound = owed_still w new seen number place (ap (is_answer_at number place) h.2) (ap (λ (x : WorldState). owed x number place) h.3)
@@ -276,7 +279,8 @@ owed_happens grows w new (event.Say call key answer) seen number place fit h old
 owed_happens grows w new (event.Process call key source calls fail) seen number place fit h old sound =
     owed_still w new seen number place (ap (is_answer_at number place) h.2) (ap (λ (x : WorldState). owed x number place) h.3)
 owed_happens grows w new (event.Change call key) seen number place fit h old sound = owed_still w new seen number place (ap (is_answer_at number place) h.4) (ap (λ (x : WorldState). owed x number place) h.5)
-owed_happens grows w new (event.Report call fault) seen number place fit h old sound = owed_still w new seen number place (ap (is_answer_at number place) h.8) (ap (λ (x : WorldState). owed x number place) h.9)
+owed_happens grows w new (event.Report call left fault) seen number place fit h old sound =
+    owed_still w new seen number place (ap (is_answer_at number place) h.2) (ap (λ (x : WorldState). owed x number place) (beside w new call h.0 left fault h.3).is)
 owed_happens grows w new (event.Commit call key) seen number place fit h old sound = owed_ended grows w new call key h.0 h.2 h.4 seen number place h.3 h.5 old sound
 owed_happens grows w new (event.Withdraw call key) seen number place fit h old sound =
     let r = h.0.reservation in
@@ -289,7 +293,9 @@ owed_happens grows w new (event.Foreign key value) seen number place fit h old s
 
 -- and of any event
 owed_step : Grows → (w new : WorldState) (e : WorldEvent) (seen : Shown) (number place : ℕ) → Step w e seen new → IsSoundWorld w → IsSoundWorld new → owed new number place ≡ one_if (is_answer_at number place seen) + owed w number place
-owed_step grows w new e seen number place (inl (fit, happens)) old sound = owed_happens grows w new e seen number place fit happens old sound
+owed_step grows w new e seen number place (inl (fit, (mid, happens, is))) old sound =
+    let n = noted_as w mid new e seen is in
+    ap (λ (x : WorldState). owed x number place) n.is ∙ owed_happens grows w mid e seen number place fit happens old (sound_before mid new n.ends n.is sound)
 owed_step grows w new e seen number place (inr (unfit, shows, is)) old sound = owed_still w new seen number place (ap (is_answer_at number place) shows) (ap (λ (x : WorldState). owed x number place) is)
 
 -- 4. A run.

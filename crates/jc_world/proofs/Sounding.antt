@@ -5,43 +5,57 @@ use Rattle.jc_types.specs.declared.config.Config.{Config}
 use Rattle.jc_types.specs.Limits.{check}
 use Rattle.jc_model.specs.Cache.{Bytes, entry_at, with_entry}
 use Rattle.jc_model.specs.Table.{is_load_given}
-use Rattle.jc_world.specs.Calls.{CallState, current_key}
+use Rattle.jc_model.specs.declared.event.WriteAnswer.{WriteAnswer}
+use Rattle.jc_world.specs.Calls.{open_keys}
+use Rattle.jc_world.specs.declared.event.Part.{Part}
 use Rattle.jc_world.specs.declared.event.Shown.{Shown}
 use Rattle.jc_world.specs.declared.event.WorldEvent.{WorldEvent}
 use Rattle.jc_world.specs.declared.event.WorldEvent.TheVariants as event
 use Rattle.jc_stripe.specs.Laws.{StaysReached, KeepsReserved}
-use Rattle.jc_world.specs.World.{WorldState, start, open_call, part_of, waits_for_load, waits_for_report, with_stored, has_progress}
-use Rattle.jc_world.specs.Premises.{read_answer, report_of, load_from}
-use Rattle.jc_world.specs.Events.{fits, waits_at, may_report, Happens, Step, Run}
+use Rattle.jc_world.specs.World.{WorldState, start, part_of, waits_for_load, waits_for_report, with_stored, has_progress}
+use Rattle.jc_world.specs.Premises.{read_answer, report_for, load_from}
+use Rattle.jc_world.specs.Events.{fits, after_report, reported_keys, keys_reported, Happens, Step, Run}
 use Rattle.jc_world.specs.Sound.{IsSoundWorld}
 use Rattle.jc_world.specs.Headline.{start_with}
 use Rattle.jc_world.proofs.Halves.{HasParts, sound}
+use Rattle.jc_world.proofs.Noting.{noted_as, sound_ends}
+use Rattle.jc_world.proofs.Returns.{each_report, IsReport}
 use Rattle.jc_world.proofs.Beginning.{order_start}
-use Rattle.jc_world.proofs.Callers.{order_happens, order_opened}
-use Rattle.jc_world.proofs.Joins.{joins_start, joins_happens, joins_stored}
-use Rattle.jc_world.proofs.Dues.{dues_start, dues_happens}
-use Rattle.jc_world.proofs.Kept.{parts_processed, parts_start, parts_called, parts_started, parts_ended, parts_answered, parts_changed, parts_reported, parts_disturbed, parts_stored, parts_withdrawn, parts_left, parts_picks}
+use Rattle.jc_world.proofs.Callers.{order_part, order_happens, order_opened}
+use Rattle.jc_world.proofs.Joins.{joins_parted, joins_start, joins_happens, joins_stored}
+use Rattle.jc_world.proofs.Dues.{dues_reported, dues_start, dues_happens}
+use Rattle.jc_world.proofs.Sweeps.{sweeps_happens}
+use Rattle.jc_world.proofs.Kept.{parts_half, parts_processed, parts_start, parts_called, parts_started, parts_ended, parts_answered, parts_changed, parts_reported, parts_disturbed, parts_stored, parts_withdrawn, parts_left, parts_over, parts_picks}
 
--- the writer that may report is waited for at the key at which the call works
-waits_there : (w : WorldState) (call : ℕ) (u : CallState) (key : Bytes) → open_call w call ≡ Some u → current_key u ≡ Some key → may_report w call (open_call w call) ≡ true → has_progress waits_for_report (part_of w call key) ≡ true
-waits_there w call u key is current h = sym (ap (may_report w call) is ∙ ap (waits_at w call) current) ∙ h
+-- the writer has returned for a key
+sound_reported : (w : WorldState) (call : ℕ) (key : Bytes) (part : Part) (report : WriteAnswer) → part_of w call key ≡ Some part → waits_for_report part.progress ≡ true → IsSoundWorld w → IsSoundWorld (after_report w key part report)
+sound_reported w call key part report at waits h =
+    sound (after_report w key part report) (order_part w call key part _ _ w.store at refl h) (parts_reported w call key part report at (ap (has_progress waits_for_report) at ∙ waits) h) (dues_reported w call key part report at h.due)
+    (joins_parted w call key part _ _ w.store at refl h) h.sweeps
 
-parts_happens : (w new : WorldState) (e : WorldEvent) (seen : Shown) → fits w e ≡ true → Happens w e seen new → IsSoundWorld w → HasParts new
-parts_happens w new (event.Call call session command) seen fit (shows, is) h = subst HasParts (sym is) (parts_called w call session command fit h)
-parts_happens w new (event.Start call key) seen fit (u, op, there, op_is, from, at, to, starts, refuses) h = parts_started w new call key u op from to seen there at starts h
-parts_happens w new (event.Read call key) seen fit (part, there, shows, is) h = subst HasParts (sym is) (parts_answered w call key part (read_answer (entry_at w.store key)) there fit h)
-parts_happens w new (event.Say call key answer) seen fit (part, there, shows, is) h =
+-- and for all keys that it returns for
+sound_returned : (w new : WorldState) (e : WorldEvent) (seen : Shown) → Happens w e seen new → IsSoundWorld w → IsReport e → IsSoundWorld new
+sound_returned w new (event.Report call left fault) seen h old back =
+    let answer = report_for h.0.kind left fault in
+    subst IsSoundWorld (sym h.3) (each_report IsSoundWorld call answer (λ v key part at waits o. sound_reported v call key part (answer key) at waits o) w (keys_reported (reported_keys w.parts call (open_keys h.0))) old)
+sound_returned w new e seen h old back = absurd back
+
+parts_happens : (w new : WorldState) (e : WorldEvent) (seen : Shown) → fits w e ≡ true → Happens w e seen new → (IsReport e → IsSoundWorld new) → IsSoundWorld w → HasParts new
+parts_happens w new (event.Call call session command) seen fit (shows, is) back h = subst HasParts (sym is) (parts_called w call session command fit h)
+parts_happens w new (event.Look call stripe) seen fit (u, sweep, there, sweeps, from, at, keys, are, shows, is) back h = subst HasParts (sym is) (parts_over w call u _ there h)
+parts_happens w new (event.Start call key) seen fit (u, op, there, op_is, from, at, to, starts, refuses) back h = parts_started w new call key u op from to seen there at starts h
+parts_happens w new (event.Read call key) seen fit (part, there, shows, is) back h = subst HasParts (sym is) (parts_answered w call key part (read_answer (entry_at w.store key)) there fit h)
+parts_happens w new (event.Say call key answer) seen fit (part, there, shows, is) back h =
     subst HasParts (sym is) (parts_answered w call key part answer there ((and_parts (is_load_given answer) (has_progress waits_for_load (part_of w call key)) fit).1) h)
-parts_happens w new (event.Process call key source calls fail) seen fit (part, there, shows, is) h =
+parts_happens w new (event.Process call key source calls fail) seen fit (part, there, shows, is) back h =
     subst HasParts (sym is) (parts_processed w key call part (load_from source (entry_at w.store key)) calls fail there fit h)
-parts_happens w new (event.Change call key) seen fit (part, change, there, asked, shows, is) h = subst HasParts (sym is) (parts_changed w call key part change there asked fit h)
-parts_happens w new (event.Report call fault) seen fit (u, key, part, change, there, keys, at, asked, shows, is) h =
-    subst HasParts (sym is) (parts_reported w call key part (report_of fault) at (waits_there w call u key there keys fit) h)
-parts_happens w new (event.Commit call key) seen fit (part, there, from, at, to, ends) h = parts_ended w new call key part from to seen fit there at ends h
-parts_happens w new (event.Withdraw call key) seen fit (part, there, from, at, to, withdraws, shows, is) h = subst HasParts (sym is) (parts_withdrawn w call key part from to fit there at withdraws h)
-parts_happens w new (event.Leave call) seen fit (shows, is) h = subst HasParts (sym is) (parts_left w call fit h)
-parts_happens w new (event.PickUp call key) seen fit (join, there, from, at, to, picks) h = parts_picks w new call key join from to seen there at picks h
-parts_happens w new (event.Foreign key value) seen fit (shows, is) h = subst HasParts (sym is) (parts_disturbed w (with_entry w.store key value) h)
+parts_happens w new (event.Change call key) seen fit (part, change, there, asked, shows, is) back h = subst HasParts (sym is) (parts_changed w call key part change there asked fit h)
+parts_happens w new (event.Report call left fault) seen fit happens back h = parts_half new (back tt)
+parts_happens w new (event.Commit call key) seen fit (part, there, from, at, to, ends) back h = parts_ended w new call key part from to seen fit there at ends h
+parts_happens w new (event.Withdraw call key) seen fit (part, there, from, at, to, withdraws, shows, is) back h = subst HasParts (sym is) (parts_withdrawn w call key part from to fit there at withdraws h)
+parts_happens w new (event.Leave call) seen fit (shows, is) back h = subst HasParts (sym is) (parts_left w call fit h)
+parts_happens w new (event.PickUp call key) seen fit (join, there, from, at, to, picks) back h = parts_picks w new call key join from to seen there at picks h
+parts_happens w new (event.Foreign key value) seen fit (shows, is) back h = subst HasParts (sym is) (parts_disturbed w (with_entry w.store key value) h)
 
 -- what the stripes below keep
 pub record Laws : Type 0 where
@@ -49,7 +63,12 @@ pub record Laws : Type 0 where
   pub kept : KeepsReserved
 
 pub sound_step : Laws → (old : WorldState) (e : WorldEvent) (seen : Shown) (new : WorldState) → Step old e seen new → IsSoundWorld old → IsSoundWorld new
-sound_step laws old e seen new (inl (fit, happens)) h = sound new (order_happens laws.stays old new e seen fit happens h) (parts_happens old new e seen fit happens h) (dues_happens old new e seen happens h.due) (joins_happens old new e seen fit happens h)
+sound_step laws old e seen new (inl (fit, (mid, happens, is))) h =
+    let back = sound_returned old mid e seen happens h in
+    let n = noted_as old mid new e seen is in
+    subst IsSoundWorld (sym n.is)
+    (sound_ends mid n.ends
+    (sound mid (order_happens laws.stays old mid e seen fit happens back h) (parts_happens old mid e seen fit happens back h) (dues_happens old mid e seen happens h.due) (joins_happens old mid e seen fit happens back h) (sweeps_happens old mid e seen fit happens back h)))
 sound_step laws old e seen new (inr (unfit, shows, is)) h = subst IsSoundWorld (sym is) h
 
 pub sound_run : Laws → (old new : WorldState) (es : List WorldEvent) (ss : List Shown) → Run old es ss new → IsSoundWorld old → IsSoundWorld new
@@ -59,10 +78,10 @@ sound_run laws old new (e ∷ es) [] run h = absurd run
 sound_run laws old new (e ∷ es) (s ∷ ss) (mid, step, rest) h = sound_run laws mid new es ss rest (sound_step laws old e s mid step h)
 
 pub sound_start : (config : Config) → check config ≡ Ok tt → IsSoundWorld (start config)
-sound_start config fits = sound (start config) (order_start config fits) (parts_start config fits) (dues_start config) (joins_start config fits)
+sound_start config fits = sound (start config) (order_start config fits) (parts_start config fits) (dues_start config) (joins_start config fits) tt
 
 pub sound_stored : (w : WorldState) (key value : Bytes) → w.fresh ≡ true → IsSoundWorld w → IsSoundWorld (with_stored w key value)
-sound_stored w key value fresh h = sound (with_stored w key value) (order_opened w key value h) (parts_stored w key value fresh h) h.due (joins_stored w (with_stored w key value).store w.premises w.fresh h)
+sound_stored w key value fresh h = sound (with_stored w key value) (order_opened w key value h) (parts_stored w key value fresh h) h.due (joins_stored w (with_stored w key value).store w.premises w.fresh h) h.sweeps
 
 pub sound_set : {A E : Type 0} (r : Result A E) (old new : WorldState) (key value : Bytes) → OnOk r (new ≡ with_stored old key value) → OnErr r (new ≡ old) → old.fresh ≡ true → IsSoundWorld old → IsSoundWorld new
 sound_set (Ok x) old new key value ok err fresh h = subst IsSoundWorld (sym ok) (sound_stored old key value fresh h)

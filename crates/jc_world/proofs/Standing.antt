@@ -5,7 +5,6 @@
 --     AllStand       each answer that was shown is that of its call's step, and the call has begun before it
 --     stands_run     so a run of events keeps that
 use Rattle.std.proofs.Common.{inl, inr, ◌≡◌, ℕ, zero, suc, List, [], ◌∷◌, ◌++◌, length, take, zip, Bool, true, false, cond, not, Option, None, Some, filter, slice_get, refl, sym, ap, ◌∙◌, subst, append-nil, append_assoc, arith}
-use Rattle.std.specs.List.{list_any}
 use Rattle.std.specs.FinMap.{get, insert, remove, get-empty, get-insert, get-remove}
 use Rattle.std.proofs.lemmas.Cmp.{nat_list_cmp_total}
 use Rattle.std.proofs.lemmas.List.Elements.{filter-append}
@@ -33,23 +32,28 @@ use Rattle.jc_world.specs.declared.event.Part.{Part}
 use Rattle.jc_world.specs.declared.event.Shown.{Shown}
 use Rattle.jc_world.specs.declared.event.Shown.TheVariants as shown
 use Rattle.jc_world.specs.declared.command.Command.{Command}
-use Rattle.jc_world.specs.Calls.{CallState, has_number, has_too_many_keys, is_open, op_at, new_call, opened}
+use Rattle.jc_world.specs.Calls.{CallState, has_number, has_too_many_keys, is_going, op_at, op_for, new_call, opened, going_on, with_found, open_keys}
 use Rattle.jc_world.specs.declared.event.WorldEvent.{WorldEvent}
 use Rattle.jc_world.specs.declared.event.WorldEvent.TheVariants as event
 use Rattle.jc_world.specs.World.{WorldState, Parts, home, stripe_for, is_join, join_of, part_of, out_of, open_call}
-use Rattle.jc_world.specs.Events.{fits, new_load, new_write, new_part, step_of, Starts, Ends, Picks, Happens, Step, Run, new_process}
+use Rattle.jc_world.specs.Events.{fits, new_load, new_write, new_part, step_of, reported_keys, keys_reported, Starts, Ends, Picks, Happens, Step, Run, new_process}
 use Rattle.jc_world.specs.Sound.{IsSoundWorld, Each}
 use Rattle.jc_world.specs.Headline.{start_with}
 use Rattle.jc_world.specs.Replies.{IsReplyOfStep, Stands}
-use Rattle.jc_world.proofs.Shares.{found_test, each_map, added, fact_found}
+use Rattle.jc_world.proofs.Shares.{each_filter, each_pushed, found_test, each_map, added, fact_found}
 use Rattle.jc_world.proofs.Underway.{found_number, of_call-at}
-use Rattle.jc_world.proofs.Settling.{Left, each_settled}
+use Rattle.jc_world.proofs.Looked.{Taken, taken_of, each_replaced}
+use Rattle.jc_world.proofs.Settling.{Left, done_for, each_settled}
 use Rattle.jc_world.proofs.NewCalls.{begun_cases, begun_shown}
 use Rattle.jc_world.proofs.LoadKeys.{joins_get}
 use Rattle.jc_world.proofs.Joiners.{join_is}
 use Rattle.jc_world.proofs.Places.{stripe_put}
 use Rattle.jc_world.proofs.Entries.{split}
 use Rattle.jc_world.proofs.Callers.{part_key}
+use Rattle.jc_world.specs.Premises.{report_for}
+use Rattle.jc_world.proofs.Returns.{each_report}
+use Rattle.jc_world.proofs.Noting.{noted_as, sound_before}
+use Rattle.jc_world.proofs.Beside.{beside}
 use Rattle.jc_world.proofs.Sounding.{Laws, sound_step}
 
 -- 1. Places of lists.
@@ -71,15 +75,6 @@ pushed_at (z ∷ zs) y (suc i) x before last h = pushed_at zs y i x before (λ a
 pub seam_at : {A : Type 0} (xs ys : List A) (y : A) → slice_get (xs ++ y ∷ ys) (length xs) ≡ Some y
 seam_at [] ys y = refl
 seam_at (z ∷ zs) ys y = seam_at zs ys y
-
--- a fact of each of a list, of those that are left, of one more, and of one that is found
-each_filter : {A : Type 0} (P : A → Type 0) (p : A → Bool) (xs : List A) → Each P xs → Each P (filter p xs)
-each_filter P p [] h = tt
-each_filter P p (x ∷ xs) h = elim (p x) as (λ b. Each P (cond b (x ∷ filter p xs) (filter p xs))) [ true ↦ (h.0, each_filter P p xs h.1) | false ↦ each_filter P p xs h.1 ]
-
-each_pushed : {A : Type 0} (P : A → Type 0) (xs : List A) (y : A) → Each P xs → P y → Each P (xs ++ y ∷ [])
-each_pushed P [] y h one = (one, tt)
-each_pushed P (x ∷ xs) y h one = (h.0, each_pushed P xs y h.1 one)
 
 -- 2. Later worlds.
 
@@ -118,12 +113,15 @@ later_picks w new call key join from to seen h = absurd h
 -- of any event that fits
 later_happens : (w new : WorldState) (e : WorldEvent) (seen : Shown) → Happens w e seen new → IsLater w new
 later_happens w new (event.Call call session command) seen h = later_same w new (ap (λ (x : WorldState). x.config) h.1) (ap (λ (x : WorldState). x.order) h.1)
+later_happens w new (event.Look call stripe) seen h = later_same w new (ap (λ (x : WorldState). x.config) h.9) (ap (λ (x : WorldState). x.order) h.9)
 later_happens w new (event.Start call key) seen h = later_started w new h.0.caller key h.1 h.4 h.6 seen h.7
 later_happens w new (event.Read call key) seen h = later_same w new (ap (λ (x : WorldState). x.config) h.3) (ap (λ (x : WorldState). x.order) h.3)
 later_happens w new (event.Say call key answer) seen h = later_same w new (ap (λ (x : WorldState). x.config) h.3) (ap (λ (x : WorldState). x.order) h.3)
 later_happens w new (event.Process call key source calls fail) seen h = later_same w new (ap (λ (x : WorldState). x.config) h.3) (ap (λ (x : WorldState). x.order) h.3)
 later_happens w new (event.Change call key) seen h = later_same w new (ap (λ (x : WorldState). x.config) h.5) (ap (λ (x : WorldState). x.order) h.5)
-later_happens w new (event.Report call fault) seen h = later_same w new (ap (λ (x : WorldState). x.config) h.9) (ap (λ (x : WorldState). x.order) h.9)
+later_happens w new (event.Report call left fault) seen h =
+    let is = (beside w new call h.0 left fault h.3).is in
+    later_same w new (ap (λ (x : WorldState). x.config) is) (ap (λ (x : WorldState). x.order) is)
 later_happens w new (event.Commit call key) seen h = later_ended w new call key h.0 h.2 h.4 seen h.5
 later_happens w new (event.Withdraw call key) seen h = later_same w new (ap (λ (x : WorldState). x.config) h.7) (ap (λ (x : WorldState). x.order) h.7)
 later_happens w new (event.Leave call) seen h = later_same w new (ap (λ (x : WorldState). x.config) h.1) (ap (λ (x : WorldState). x.order) h.1)
@@ -132,7 +130,10 @@ later_happens w new (event.Foreign key value) seen h = later_same w new (ap (λ 
 
 -- and of any event
 pub later_step : (w new : WorldState) (e : WorldEvent) (seen : Shown) → Step w e seen new → IsLater w new
-later_step w new e seen (inl (fit, happens)) = later_happens w new e seen happens
+later_step w new e seen (inl (fit, (mid, happens, is))) =
+    let n = noted_as w mid new e seen is in
+    let l = later_happens w mid e seen happens in
+    record { config = ap (λ (x : WorldState). x.config) n.is ∙ l.config; more = l.more; order = ap (λ (x : WorldState). x.order) n.is ∙ l.order }
 later_step w new e seen (inr (unfit, shows, is)) = later_same w new (ap (λ (x : WorldState). x.config) is) (ap (λ (x : WorldState). x.order) is)
 
 -- a run keeps the configuration, and so does what the store holds at the start
@@ -179,10 +180,10 @@ stands_on w n shows e seen later h = tt
 -- a call of this caller that does this at this key is among what has happened
 abbrev pub BegunAs : List (WorldEvent × Shown) → Caller → Bytes → Op → Type 0
 BegunAs shows caller key op =
-    (at : ℕ) × (command : Command) × (slice_get shows at ≡ Some (event.Call caller.call caller.session command, shown.Begun)) × (op_at (new_call caller.call caller.session command) key ≡ Some op)
+    (at : ℕ) × (command : Command) × (slice_get shows at ≡ Some (event.Call caller.call caller.session command, shown.Begun)) × (op_for (new_call caller.call caller.session command) key ≡ Some op)
 
 abbrev IsBegun : List (WorldEvent × Shown) → CallState → Type 0
-IsBegun shows u = (key : Bytes) (op : Op) → op_at u key ≡ Some op → BegunAs shows u.caller key op
+IsBegun shows u = (key : Bytes) (op : Op) → op_for u key ≡ Some op → BegunAs shows u.caller key op
 
 abbrev PartBegun : List (WorldEvent × Shown) → Part → Type 0
 PartBegun shows part = BegunAs shows part.reservation.caller part.reservation.key part.reservation.op
@@ -234,6 +235,10 @@ part_begun shows w call key part is h = h.parts key part (of_call-at call (get w
 begun_left : (shows : List (WorldEvent × Shown)) (call : ℕ) (key : Bytes) (u v : CallState) → Left call key u v → IsBegun shows u → IsBegun shows v
 begun_left shows call key u v left h q op is = let P : Caller → Type 0 = λ c. BegunAs shows c q op in subst P (sym left.caller_is) (h q op (left.was q op is))
 
+-- what is left of a call that has taken keys has begun
+begun_taken : (shows : List (WorldEvent × Shown)) (u v : CallState) → Taken u v → IsBegun shows u → IsBegun shows v
+begun_taken shows u v taken h q op is = let P : Caller → Type 0 = λ c. BegunAs shows c q op in subst P (sym taken.caller_is) (h q op (taken.was q op is))
+
 -- by what is shown of a first phase
 begun_started : (shows : List (WorldEvent × Shown)) (w new : WorldState) (caller : Caller) (key : Bytes) (op : Op) (from to : State) (seen : Shown) → Starts w caller key op from to seen new → BegunAs shows caller key op → AllBegun shows w → AllBegun shows new
 begun_started shows w new caller key op from to (shown.Refused refusal) h one old =
@@ -284,16 +289,24 @@ begun_happens shows w new (event.Call call session command) seen last h old =
     let begun : has_too_many_keys one ≡ false → IsBegun shows one = λ few key op is. (last.0, command, last.1 ∙ ap (λ s. Some (event.Call call session command, s)) (h.0 ∙ begun_shown one few), is) in
     let none : Each (IsBegun shows) (w.calls ++ []) = subst (Each (IsBegun shows)) (sym (append-nil w.calls)) old.calls in
     let calls : Each (IsBegun shows) (w.calls ++ opened one) =
-    elim (has_too_many_keys one) as (λ b. has_too_many_keys one ≡ b → Each (IsBegun shows) (w.calls ++ cond b [] (cond (list_any is_open one.tasks) (one ∷ []) []))) [
+    elim (has_too_many_keys one) as (λ b. has_too_many_keys one ≡ b → Each (IsBegun shows) (w.calls ++ cond b [] (cond (is_going one) (one ∷ []) []))) [
       | true ↦ λ e. none
-      | false ↦ λ e. elim (list_any is_open one.tasks) as (λ b. Each (IsBegun shows) (w.calls ++ cond b (one ∷ []) [])) [
+      | false ↦ λ e. elim (is_going one) as (λ b. Each (IsBegun shows) (w.calls ++ cond b (one ∷ []) [])) [
         | true ↦ each_pushed (IsBegun shows) w.calls one old.calls (begun e)
         | false ↦ none
       ]
     ] refl
     in
     subst (AllBegun shows) (sym h.1) (record { calls = calls; parts = old.parts; joins = old.joins })
-begun_happens shows w new (event.Start call key) seen last h old = begun_started shows w new h.0.caller key h.1 h.4 h.6 seen h.7 (begun_under shows w call h.0 h.2 old key h.1 h.3) old
+begun_happens shows w new (event.Look call stripe) seen last h old =
+    let stripes = w.config.stripes in
+    subst (AllBegun shows) (sym h.9)
+    (record {
+      calls = each_replaced call (λ u. going_on (with_found stripes h.6 h.1 u)) (IsBegun shows) h.0 w.calls h.2 (λ v goes b. begun_taken shows h.0 v (taken_of stripes h.6 h.1 h.0 v h.3 goes) b) old.calls;
+      parts = old.parts;
+      joins = old.joins;
+    })
+begun_happens shows w new (event.Start call key) seen last h old = begun_started shows w new h.0.caller key h.1 h.4 h.6 seen h.7 (begun_under shows w call h.0 h.2 old key h.1 (done_for h.0 key h.1 h.3)) old
 begun_happens shows w new (event.Read call key) seen last h old =
     subst (AllBegun shows) (sym h.3) (record { calls = old.calls; parts = parts_put shows w.parts key _ (part_begun shows w call key h.0 h.1 old) old.parts; joins = old.joins })
 begun_happens shows w new (event.Say call key answer) seen last h old =
@@ -302,8 +315,11 @@ begun_happens shows w new (event.Process call key source calls fail) seen last h
     subst (AllBegun shows) (sym h.3) (record { calls = old.calls; parts = parts_put shows w.parts key _ (part_begun shows w call key h.0 h.1 old) old.parts; joins = old.joins })
 begun_happens shows w new (event.Change call key) seen last h old =
     subst (AllBegun shows) (sym h.5) (record { calls = old.calls; parts = parts_put shows w.parts key _ (part_begun shows w call key h.0 h.2 old) old.parts; joins = old.joins })
-begun_happens shows w new (event.Report call fault) seen last h old =
-    subst (AllBegun shows) (sym h.9) (record { calls = old.calls; parts = parts_put shows w.parts h.1 _ (part_begun shows w call h.1 h.2 h.6 old) old.parts; joins = old.joins })
+begun_happens shows w new (event.Report call left fault) seen last h old =
+    subst (AllBegun shows) (sym h.3)
+    (each_report (AllBegun shows) call (report_for h.0.kind left fault)
+    (λ v key part at waits o. record { calls = o.calls; parts = parts_put shows v.parts key _ (part_begun shows v call key part at o) o.parts; joins = o.joins })
+    w (keys_reported (reported_keys w.parts call (open_keys h.0))) old)
 begun_happens shows w new (event.Commit call key) seen last h old = begun_ended shows w new call key h.0 h.2 h.4 seen h.5 old
 begun_happens shows w new (event.Withdraw call key) seen last h old =
     subst (AllBegun shows) (sym h.7) (record { calls = old.calls; parts = parts_left shows w.parts key old.parts; joins = old.joins })
@@ -314,7 +330,9 @@ begun_happens shows w new (event.Foreign key value) seen last h old = subst (All
 
 -- and of any event
 begun_step : (shows : List (WorldEvent × Shown)) (w new : WorldState) (e : WorldEvent) (seen : Shown) → (at : ℕ) × (slice_get shows at ≡ Some (e, seen)) → Step w e seen new → AllBegun shows w → AllBegun shows new
-begun_step shows w new e seen last (inl (fit, happens)) old = begun_happens shows w new e seen last happens old
+begun_step shows w new e seen last (inl (fit, (mid, happens, is))) old =
+    let b = begun_happens shows w mid e seen last happens old in
+    subst (AllBegun shows) (sym (noted_as w mid new e seen is).is) (record { calls = b.calls; parts = b.parts; joins = b.joins })
 begun_step shows w new e seen last (inr (unfit, shows_it, is)) old = subst (AllBegun shows) (sym is) old
 
 -- nothing is under way at the start
@@ -395,12 +413,13 @@ stands_picks shows w new call key join from to seen is there h begun sound = abs
 stands_happens : (shows : List (WorldEvent × Shown)) (w new : WorldState) (e : WorldEvent) (seen : Shown) → fits w e ≡ true → Happens w e seen new → IsSoundWorld w → IsSoundWorld new → AllBegun shows w → Stands new shows e seen
 stands_happens shows w new (event.Call call session command) seen fit h old sound begun =
     subst (Stands new shows (event.Call call session command)) (sym h.0) (begun_cases (new_call call session command) (Stands new shows (event.Call call session command)) tt tt)
-stands_happens shows w new (event.Start call key) seen fit h old sound begun = stands_started shows w new call key h.0 h.1 h.4 h.6 seen h.2 h.5 h.7 (begun_under shows w call h.0 h.2 begun key h.1 h.3) sound
+stands_happens shows w new (event.Look call stripe) seen fit h old sound begun = subst (Stands new shows (event.Look call stripe)) (sym h.8) tt
+stands_happens shows w new (event.Start call key) seen fit h old sound begun = stands_started shows w new call key h.0 h.1 h.4 h.6 seen h.2 h.5 h.7 (begun_under shows w call h.0 h.2 begun key h.1 (done_for h.0 key h.1 h.3)) sound
 stands_happens shows w new (event.Read call key) seen fit h old sound begun = subst (Stands new shows (event.Read call key)) (sym h.2) tt
 stands_happens shows w new (event.Say call key answer) seen fit h old sound begun = subst (Stands new shows (event.Say call key answer)) (sym h.2) tt
 stands_happens shows w new (event.Process call key source calls fail) seen fit h old sound begun = subst (Stands new shows (event.Process call key source calls fail)) (sym h.2) tt
 stands_happens shows w new (event.Change call key) seen fit h old sound begun = subst (Stands new shows (event.Change call key)) (sym h.4) tt
-stands_happens shows w new (event.Report call fault) seen fit h old sound begun = subst (Stands new shows (event.Report call fault)) (sym h.8) tt
+stands_happens shows w new (event.Report call left fault) seen fit h old sound begun = subst (Stands new shows (event.Report call left fault)) (sym h.2) tt
 stands_happens shows w new (event.Commit call key) seen fit h old sound begun =
     stands_ended shows w new call key h.0 h.2 h.4 seen h.1 (part_key w call key h.0 h.1 old) h.3 h.5 (part_begun shows w call key h.0 h.1 begun) sound
 stands_happens shows w new (event.Withdraw call key) seen fit h old sound begun = subst (Stands new shows (event.Withdraw call key)) (sym h.6) tt
@@ -418,7 +437,10 @@ stands_unfit shows w e = tt
 
 -- and of any event
 stands_step : (shows : List (WorldEvent × Shown)) (w new : WorldState) (e : WorldEvent) (seen : Shown) → Step w e seen new → IsSoundWorld w → IsSoundWorld new → AllBegun shows w → Stands new shows e seen
-stands_step shows w new e seen (inl (fit, happens)) old sound begun = stands_happens shows w new e seen fit happens old sound begun
+stands_step shows w new e seen (inl (fit, (mid, happens, is))) old sound begun =
+    let n = noted_as w mid new e seen is in
+    stands_on mid new shows e seen (later_same mid new (ap (λ (x : WorldState). x.config) n.is) (ap (λ (x : WorldState). x.order) n.is))
+    (stands_happens shows w mid e seen fit happens old (sound_before mid new n.ends n.is sound) begun)
 stands_step shows w new e seen (inr (unfit, shows_it, is)) old sound begun = subst (Stands new shows e) (sym shows_it) (stands_unfit shows new e)
 
 -- 6. A run.

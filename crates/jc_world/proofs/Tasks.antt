@@ -4,6 +4,9 @@
 --                             one key more, and one entry more
 --     new_at, new_put         so it goes last
 --     put_in_place            a key that is there keeps its place
+--     open_keys-more          the open keys of one task more
+--     open_distinct, one_distinct
+--                             keys that differ differ where they are open; one key differs from no other
 --     open_more, open_fails   a test of the open keys, at one task more, and at one that fails
 --     absent_same             a key that isn't there can't be settled
 --     first_each, first_put   all keys are open at first
@@ -20,7 +23,7 @@ use Rattle.std.specs.Option.{option_flatten}
 use Rattle.std.specs.Prelude.{get_or}
 use Rattle.std.specs.Cmp.Lexicographic.{pointwise}
 use Rattle.std.proofs.lemmas.Map.Keys.{IsDistinct-head, IsDistinct-tail}
-use Rattle.std.proofs.lemmas.Map.Made.{is_some-lookup}
+use Rattle.std.proofs.lemmas.Map.Made.{IsDistinct-keys_filter, is_some-lookup}
 use Rattle.std.proofs.lemmas.Bool.{and_parts, and_from}
 use Rattle.std.proofs.lemmas.Bool.Decides.{nat_tests}
 use Rattle.std.proofs.lemmas.List.{take_more}
@@ -54,7 +57,7 @@ absent (x ∷ keys) (suc i) key d at =
     ap (λ b. b || list_any (pointwise ◌==◌ key) (take i keys)) apart ∙ absent keys i key (IsDistinct-tail (pointwise ◌==◌) x keys d) at
 
 -- what stands at a place
-slice_get_here : {X : Type 0} (xs : List X) (i : ℕ) (x : X) → i < length xs → x ≡ get_or xs i x → slice_get xs i ≡ Some x
+pub slice_get_here : {X : Type 0} (xs : List X) (i : ℕ) (x : X) → i < length xs → x ≡ get_or xs i x → slice_get xs i ≡ Some x
 slice_get_here [] i x lt is = absurd (not_less i lt)
   where
     not_less : (i : ℕ) → i < 0 → ⊥
@@ -71,7 +74,7 @@ pub none_from : {X : Type 0} (o : Option X) → is_some o ≡ false → o ≡ No
 none_from None e = refl
 none_from (Some x) e = absurd (true≢false e)
 
-map-push : {X Y : Type 0} (f : X → Y) (xs : List X) (x : X) → map f (xs ++ x ∷ []) ≡ map f xs ++ f x ∷ []
+pub map-push : {X Y : Type 0} (f : X → Y) (xs : List X) (x : X) → map f (xs ++ x ∷ []) ≡ map f xs ++ f x ∷ []
 map-push f [] x = refl
 map-push f (y ∷ ys) x = ap (λ zs. f y ∷ zs) (map-push f ys x)
 
@@ -80,7 +83,7 @@ new_last : {S : Type 0} (m : IndexMap Bytes (Option Op) S) (key : Bytes) (o : Op
     → insert_entry (pointwise ◌==◌) m.entries key o ≡ m.entries ++ (key, o) ∷ []
 new_last m key o free = insert_entry-new (pointwise ◌==◌) m key o (none_from (lookup (pointwise ◌==◌ key) m.entries) (is_some-lookup (pointwise ◌==◌ key) m.entries ∙ free))
 
-keys-at_each : (one : Op) (keys : List Bytes) → keys_of (at_each one keys) ≡ keys
+pub keys-at_each : (one : Op) (keys : List Bytes) → keys_of (at_each one keys) ≡ keys
 keys-at_each one [] = refl
 keys-at_each one (key ∷ keys) = ap (λ ks. key ∷ ks) (keys-at_each one keys)
 
@@ -183,6 +186,35 @@ open_fails p (task ∷ tasks) (suc i) key one at there fails =
     and_false : (b c : Bool) → c ≡ false → (b && c) ≡ false
     and_false true c h = h
     and_false false c h = refl
+
+-- the open keys of one task more
+pub open_keys-more : (tasks : List Task) (i : ℕ) (key : Bytes) (one : Option Op) → slice_get tasks i ≡ Some (key, one) → open_in (take (i + 1) tasks) ≡ open_in (take i tasks) ++ cond (is_some one) (key ∷ []) []
+open_keys-more tasks i key one at = let next : i + 1 ≡ suc i = omega (arith) in ap (λ n. open_in (take n tasks)) next ∙ go tasks i at
+  where
+    alone : (b : Bool) → keys_of (cond b ((key, one) ∷ []) []) ≡ cond b (key ∷ []) []
+    alone true = refl
+    alone false = refl
+
+    go : (tasks : List Task) (i : ℕ) → slice_get tasks i ≡ Some (key, one) → open_in (take (suc i) tasks) ≡ open_in (take i tasks) ++ cond (is_some one) (key ∷ []) []
+    go [] zero at = cc
+    go [] (suc i) at = cc
+    go (task ∷ tasks) zero at =
+        let is : task ≡ (key, one) = cc in
+        ap (λ (t : Task). open_in (t ∷ [])) is ∙ alone (is_some one)
+    go (task ∷ tasks) (suc i) at =
+        elim (is_open task) as (λ b. keys_of (cond b (task ∷ filter is_open (take (suc i) tasks)) (filter is_open (take (suc i) tasks))) ≡ keys_of (cond b (task ∷ filter is_open (take i tasks)) (filter is_open (take i tasks))) ++ cond (is_some one) (key ∷ []) []) [
+          | true ↦ ap (λ ks. task.0 ∷ ks) (go tasks i at)
+          | false ↦ go tasks i at
+        ]
+
+-- keys that differ differ where they are open
+pub open_distinct : (tasks : List Task) → IsDistinct (pointwise ◌==◌) (keys_of tasks) → IsDistinct (pointwise ◌==◌) (open_in tasks)
+open_distinct tasks d = IsDistinct-keys_filter (pointwise ◌==◌) is_open tasks d
+
+-- one key differs from no other
+pub one_distinct : (key : Bytes) (one : Option Op) → IsDistinct (pointwise ◌==◌) (open_in ((key, one) ∷ []))
+unfolding IsDistinct
+one_distinct key one = open_distinct ((key, one) ∷ []) (tt, tt)
 
 -- 4. The first open key.
 

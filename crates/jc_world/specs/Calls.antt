@@ -8,26 +8,37 @@
 --     takes_turns     a call of a kind works at one key at a time
 --     puts_off        a key of a call of a kind that meets a refusal stays open, to be tried again: in a call of one key it doesn't
 --     has_too_many    tasks are more than a call may have keys
---     CallState       a call under way: who calls, how it takes its keys, and what it does
+--     sweep_of        how far a command is that takes the keys that are cached, before its first look; none of another command
+--     CallState       a call under way: who calls, how it takes its keys, what it does, and how far its sweep of the stripes is
 --     new_call        a call that has just begun
 --     has_too_many_keys
 --                     a call names too many keys: it is refused whole
---     opened          a call that has just begun, if it is then under way: it is not refused whole, and a key of it is open
+--     is_going        a call isn't over: it is still to look at a stripe, or a key of it is open
+--     opened          a call that has just begun, if it is then under way: it is not refused whole, and isn't over
 --     has_number      a call has this number
 --     is_of_session   a call is of this session
 --     op_in, op_at    what tasks, and a call, do at a key that is open; none at any other key
+--     op_found, op_or_found
+--                     what a call does at each key that it finds by its sweep, and at a key by its task, if it has one
+--     op_for          what a call does at a key, also at one that its sweep may still find: nothing at a key that is settled
 --     is_open         the key of a task is open
 --     open_in, open_keys
 --                     the open keys of tasks, and of a call, in their order
 --     current_key     the key at which a call works: the first open one of a call that works at one key at a time
 --     is_at           a key is the one that there is
 --     is_turn         a call may work at a key: the current one, if it works at one key at a time
---     going_on        a call with these tasks, if a key is open
+--     going_on        a call, if it isn't over
 --     settled         what is left of a call once a key of the call with this number has its reply or last refusal
 --     settle          the calls that are then under way
 --     drop_call       the calls without one that is over
-use Rattle.std.specs.Prelude.{◌==◌, ℕ, List, [], ◌∷◌, length, nat_lt, slice_get, Bool, true, false, not, Option, None, Some, filter, map, is_some, if◌then◌else◌}
-use Rattle.std.specs.List.{filter_map, list_any}
+--     next_stripe     the stripe at which a call looks next: none if it looks at none, or has looked at all
+--     next_sweep      how far a sweep of as many stripes is behind one look more: none behind the last
+--     with_found      a call that has taken the keys of the stripe at which it looked
+--     replaced        the calls, once of the one with this number is left what there is
+--     look            the calls under way once a call has taken these keys: it is over if it has looked at each stripe, and no key
+--                     of it is open
+use Rattle.std.specs.Prelude.{◌==◌, ◌||◌, ◌+◌, ℕ, List, [], ◌∷◌, ◌++◌, length, nat_lt, slice_get, Bool, true, false, not, Option, None, Some, filter, map, is_some, option_map, if◌then◌else◌}
+use Rattle.std.specs.List.{cons_option, filter_map, list_any}
 use Rattle.std.specs.Map.{keys_of, lookup, set_value}
 use Rattle.std.specs.Option.{option_flatten}
 use Rattle.std.specs.Cmp.Lexicographic.{pointwise}
@@ -41,6 +52,7 @@ use Rattle.jc_model.specs.Cache.{Bytes}
 use Rattle.jc_world.specs.declared.command.CallKind.{CallKind}
 use Rattle.jc_world.specs.declared.command.CallKind.TheVariants as kind
 use Rattle.jc_world.specs.declared.command.Command.{Command}
+use Rattle.jc_world.specs.declared.command.Sweep.{Sweep}
 use Rattle.jc_world.specs.declared.command.Command.TheVariants.{Single, GetAll, PutAll, RemoveAll, RemoveEvery, Clear, LoadAll, InvokeAll}
 
 -- 1. Commands.
@@ -63,6 +75,17 @@ tasks RemoveEvery = []
 tasks Clear = []
 tasks (LoadAll replace keys) = at_each (op.LoadAll replace) keys.keys
 tasks (InvokeAll keys) = at_each op.Invoke keys.keys
+
+-- `removeAll()` and `clear()` look at one stripe after the other, from the first one on
+abbrev pub sweep_of : Command → Option Sweep
+sweep_of (Single op key) = None
+sweep_of (GetAll keys) = None
+sweep_of (PutAll entries) = None
+sweep_of (RemoveAll keys) = None
+sweep_of RemoveEvery = Some (record { op = op.Remove; stripe = 0 })
+sweep_of Clear = Some (record { op = op.Clear; stripe = 0 })
+sweep_of (LoadAll replace keys) = None
+sweep_of (InvokeAll keys) = None
 
 abbrev pub kind_of : Command → CallKind
 kind_of (Single op key) = kind.Single
@@ -93,7 +116,8 @@ has_too_many tasks = nat_lt BULK_KEYS_MAX (length tasks)
 pub record CallState : Type 0 where
   pub caller : Caller
   pub kind : CallKind
-  pub tasks : List Task  -- in the order of its command
+  pub tasks : List Task  -- in the order of its command, or as its looks have found them
+  pub sweep : Option Sweep  -- none if it looks at no stripe, or has looked at each
 
 abbrev pub new_call : ℕ → ℕ → Command → CallState
 new_call call session command =
@@ -101,6 +125,7 @@ new_call call session command =
       caller = record { session = session; call = call };
       kind = kind_of command;
       tasks = tasks command;
+      sweep = sweep_of command;
     }
 
 abbrev pub has_number : ℕ → CallState → Bool
@@ -116,6 +141,17 @@ op_in tasks key = option_flatten (lookup (pointwise ◌==◌ key) tasks)
 
 abbrev pub op_at : CallState → Bytes → Option Op
 op_at u key = op_in u.tasks key
+
+-- at a key that isn't among the tasks
+abbrev pub op_found : Option Sweep → Option Op
+op_found sweep = option_map (λ s. s.op) sweep
+
+abbrev pub op_or_found : Option Sweep → Option (Option Op) → Option Op
+op_or_found sweep None = op_found sweep
+op_or_found sweep (Some op) = op
+
+abbrev pub op_for : CallState → Bytes → Option Op
+op_for u key = op_or_found u.sweep (lookup (pointwise ◌==◌ key) u.tasks)
 
 abbrev pub is_open : Task → Bool
 is_open task = is_some task.1
@@ -137,23 +173,27 @@ is_at (Some own) key = pointwise ◌==◌ key own
 abbrev pub is_turn : CallState → Bytes → Bool
 is_turn u key = if takes_turns u.kind then is_at (current_key u) key else true
 
+-- a call isn't over
+abbrev pub is_going : CallState → Bool
+is_going u = is_some u.sweep || list_any is_open u.tasks
+
 -- a call that has just begun
 abbrev pub has_too_many_keys : CallState → Bool
 has_too_many_keys u = has_too_many u.tasks
 
 abbrev pub opened : CallState → List CallState
-opened u =
-    if has_too_many_keys u then [] else if list_any is_open u.tasks then u ∷ [] else []
+opened u = if has_too_many_keys u then [] else if is_going u then u ∷ [] else []
 
 -- 4. Keys that are settled.
 
-abbrev pub going_on : CallState → List Task → Option CallState
-going_on u tasks = if list_any is_open tasks then Some (record u { tasks = tasks }) else None
+abbrev pub going_on : CallState → Option CallState
+going_on u = if is_going u then Some u else None
 
 -- another call is left as it is
 abbrev pub settled : ℕ → Bytes → CallState → Option CallState
 settled call key u =
-    going_on u (if has_number call u then set_value (pointwise ◌==◌ key) u.tasks None else u.tasks)
+    let tasks = if has_number call u then set_value (pointwise ◌==◌ key) u.tasks None else u.tasks in
+    going_on (record u { tasks = tasks })
 
 abbrev pub settle : ℕ → Bytes → List CallState → List CallState
 settle call key calls = filter_map (settled call key) calls
@@ -161,3 +201,26 @@ settle call key calls = filter_map (settled call key) calls
 -- the calls without one that is over
 abbrev pub drop_call : ℕ → List CallState → List CallState
 drop_call call calls = filter (λ u. not (has_number call u)) calls
+
+-- 5. Calls that look at the stripes.
+
+abbrev pub next_stripe : CallState → Option ℕ
+next_stripe u = option_map (λ s. s.stripe) u.sweep
+
+-- behind the last stripe there is none
+abbrev pub next_sweep : ℕ → Sweep → Option Sweep
+next_sweep stripes sweep =
+    if nat_lt (sweep.stripe + 1) stripes then Some (record sweep { stripe = sweep.stripe + 1 }) else None
+
+abbrev pub with_found : ℕ → List Bytes → Sweep → CallState → CallState
+with_found stripes keys sweep u =
+    record u { tasks = u.tasks ++ at_each sweep.op keys; sweep = next_sweep stripes sweep }
+
+-- the first call with this number
+abbrev pub replaced : ℕ → (CallState → Option CallState) → List CallState → List CallState
+replaced call left [] = []
+replaced call left (u ∷ calls) =
+    if has_number call u then cons_option (left u) calls else u ∷ replaced call left calls
+
+abbrev pub look : ℕ → ℕ → List Bytes → Sweep → List CallState → List CallState
+look call stripes keys sweep calls = replaced call (λ u. going_on (with_found stripes keys sweep u)) calls

@@ -1,12 +1,15 @@
 -- The world as a machine: when an event fits, what it shows, and what it leaves.
 --     is_single                   an operation is a call by itself: each but `Clear` and `LoadAll`
---     is_playable                 a command that a world plays: one operation that is a call by itself, or `invokeAll`
+--     is_playable                 a command that a world plays: one operation that is a call by itself, or one on many keys, but for
+--                                 `loadAll`
 --     is_session                  a number is that of a session: from 1 to the most sessions
 --     is_new                      a call's number is above all before it
 --     is_free                     a call has neither a reservation nor a join of a key
 --     may_start                   the key is open in the call, which may work at it and has neither a reservation nor a join of it
 --     may_leave                   the call has neither a reservation nor a join of any of its open keys
---     waits_at, may_report        the writer was asked for the key at which the call works, and hasn't returned
+--     waits_in, waits_at          the writer was asked for a key by a call, and hasn't returned
+--     may_report                  that is so of an open key of the call
+--     is_next, may_look           a stripe is the one at which a call looks next
 --     fits                        whether an event fits
 --     with_stripe                 the world with a key's stripe at another state
 --     with_phase                  the same, and what the stripe appended to its history stands at the end of the order
@@ -15,6 +18,7 @@
 --     shown_begun                 what the beginning of a call shows: it has begun, or it is refused whole
 --     with_settled                the world in which a key of a call has its reply or last refusal: without the call if it was the last
 --     without_call                the world without a call that leaves
+--     with_look                   the world in which a call has taken these keys
 --     new_load, new_write, new_process     the progress of a key whose loader, writer or processor is to be asked
 --     new_part                    what is kept of a key that was just reserved
 --     with_part, without_part     the world with this part of a key, and with none
@@ -29,26 +33,38 @@
 --     with_change, with_report    the progress once the writer has changed the store, and once it has returned
 --     after_answer                the world once the loader has answered
 --     after_change                the world once the writer has changed the store
---     after_report                the world once the writer has returned
---     shown_report                what the writer's return shows
+--     after_report                the world once the writer has returned for a key
+--     reported_part, reported_in, reported_key
+--                                 what a return of the writer shows of a key, if the writer was asked for it and hasn't returned
+--     reported_keys               the same of the keys of a call, in their order
+--     keys_reported               the keys for which a writer returns
+--     reported_at                 the world once the writer has returned for a key, if it was asked for it and hadn't returned
+--     after_reports               the world once the writer has returned for these keys of a call, for each with its answer
 --     run_answers                 what the calls of a played processor are answered on the entry of a reservation
 --     run_result                  what such a processor does there, and what its loader answers
 --     progress_after              the progress once the processor has run, by what the writer is then asked for
 --     after_process               the world once the processor has run
 --     shown_process               what a processor's run shows
 --     Happens                     what an event that fits may show and leave
---     Step                        one event: one that doesn't fit is shown as a fault and changes nothing
+--     subject_of, subject         the call that an event is about, if it is about one that begins or is under way
+--     with_ends                   the world with this noted of the ends of its calls
+--     ends_after                  what is noted of them once an event has shown this: a call has met it, and is over if it isn't under way
+--                                 any more, unless it is given up
+--     noted                       the world in which that is noted of the call that an event is about, if that has many keys
+--     Step                        one event, with what is noted then: one that doesn't fit is shown as a fault and changes nothing
 --     Run                         events one after another
 --     RunAppending                the same, and what they show is appended to a list
 --     is_fit, all_fit             what is shown is not the fault of an event that doesn't fit, and nothing that is shown is
 --     AllFit                      whatever the world may choose, each of these events fits when it comes
 --     StartFits                   where a call fits that isn't refused whole, its first phase fits directly behind it
+--     looks                       looks of a call at as many stripes, from a number on
+--     LooksFit                    the looks of a call at stripes that are left fit one after the other, also directly behind its beginning
 --     RestFits                    if the first fits, so do all: of an event alone, of a writer's change and its return, of a withdrawal
 --                                 and the call's leaving. The last two are at the key at which a call works that works at one at a
 --                                 time
-use Rattle.std.specs.Prelude.{◌≡◌, ◌⊎◌, ℕ, List, [], ◌∷◌, ◌++◌, length, drop, Bool, true, false, not, ◌&&◌, Option, None, Some, is_some, nat_lt, slice_set, if◌then◌else◌}
-use Rattle.std.specs.List.{list_all}
-use Rattle.std.specs.FinMap.{insert, remove}
+use Rattle.std.specs.Prelude.{◌≡◌, ◌⊎◌, ◌+◌, ◌≤◌, ℕ, zero, suc, List, [], ◌∷◌, ◌++◌, length, drop, Bool, true, false, not, ◌&&◌, ◌||◌, ◌==◌, Option, None, Some, is_some, map, nat_lt, option_map, slice_get, slice_set, if◌then◌else◌}
+use Rattle.std.specs.List.{filter_map, list_all, list_any}
+use Rattle.std.specs.FinMap.{get, insert, remove}
 use Rattle.jc_types.specs.declared.limits.TheConstants.{SESSIONS_MAX}
 use Rattle.jc_types.specs.declared.caller.Caller.{Caller}
 use Rattle.jc_types.specs.declared.refusal.Refusal.TheVariants.{TooManyKeys}
@@ -77,8 +93,10 @@ use Rattle.jc_stripe.specs.declared.ticket.Reservation.{Reservation}
 use Rattle.jc_stripe.specs.declared.begun.Picked.TheVariants as picked
 use Rattle.jc_stripe.specs.Tickets.{Ticket, ProcessClaim, JoinClaim, entry_seen, is_loadable}
 use Rattle.jc_stripe.specs.State.{State}
+use Rattle.jc_stripe.specs.Keys.{AreKeys}
 use Rattle.jc_stripe.specs.Phases.{Begins, Commits, Withdraws, PicksUp}
 use Rattle.jc_world.specs.declared.command.CallKind.{CallKind}
+use Rattle.jc_world.specs.declared.command.Sweep.{Sweep}
 use Rattle.jc_world.specs.declared.command.Command.{Command}
 use Rattle.jc_world.specs.declared.command.Command.TheVariants as command
 use Rattle.jc_world.specs.declared.event.WorldEvent.{WorldEvent}
@@ -86,13 +104,15 @@ use Rattle.jc_world.specs.declared.event.WorldEvent.TheVariants as event
 use Rattle.jc_world.specs.declared.event.Shown.{Shown}
 use Rattle.jc_world.specs.declared.event.Shown.TheVariants as shown
 use Rattle.jc_world.specs.declared.event.Stepped.{Stepped}
-use Rattle.jc_world.specs.declared.event.Reported.{Reported}
-use Rattle.jc_world.specs.Calls.{CallState, open_keys, current_key, is_turn, puts_off, op_at, new_call, has_too_many_keys, opened, settle, drop_call}
+use Rattle.jc_world.specs.declared.reports.ReportedKey.{ReportedKey}
+use Rattle.jc_world.specs.Ends.{EndsState, is_bulk, is_given_up, with_met, with_over}
+use Rattle.jc_world.specs.declared.ends.Subject.{Subject}
+use Rattle.jc_world.specs.Calls.{CallState, open_keys, current_key, is_turn, puts_off, op_at, new_call, has_too_many_keys, opened, settle, drop_call, sweep_of, look}
 use Rattle.jc_world.specs.declared.event.Part.{Part}
 use Rattle.jc_world.specs.declared.event.Progress.{Progress}
 use Rattle.jc_world.specs.declared.event.Progress.TheVariants.{Loading, Writing, Processing, Processed, WritingEffect}
-use Rattle.jc_world.specs.World.{WorldState, home, stripe_for, is_busy, open_call, part_of, is_free_of, waits_for_load, waits_for_report, is_answered, is_untouched, has_changed, join_of, is_joined, joins_without, out_of, has_progress, waits_for_process, writer_change}
-use Rattle.jc_world.specs.Premises.{read_answer, changed_to, report_of, is_true_load, is_true_report, with_loader, with_writer, with_foreign_write, load_from}
+use Rattle.jc_world.specs.World.{WorldState, home, stripe_for, is_busy, open_call, of_call, part_of, Parts, is_free_of, waits_for_load, waits_for_report, is_answered, is_untouched, has_changed, join_of, is_joined, joins_without, out_of, has_progress, waits_for_process, writer_change}
+use Rattle.jc_world.specs.Premises.{read_answer, changed_to, report_for, is_true_load, is_true_report, with_loader, with_writer, with_foreign_write, load_from}
 use Rattle.jc_world.specs.declared.process.Processed.{Processed as ProcessShown}
 
 -- 1. When an event fits.
@@ -114,14 +134,14 @@ is_single Clear = false
 is_single (LoadAll replace) = false
 is_single Invoke = true
 
--- of the calls of many keys `invokeAll` alone is played
+-- the calls of many keys are played, but for `loadAll`
 abbrev pub is_playable : Command → Bool
 is_playable (command.Single op key) = is_single op
-is_playable (command.GetAll keys) = false
-is_playable (command.PutAll entries) = false
-is_playable (command.RemoveAll keys) = false
-is_playable command.RemoveEvery = false
-is_playable command.Clear = false
+is_playable (command.GetAll keys) = true
+is_playable (command.PutAll entries) = true
+is_playable (command.RemoveAll keys) = true
+is_playable command.RemoveEvery = true
+is_playable command.Clear = true
 is_playable (command.LoadAll replace keys) = false
 is_playable (command.InvokeAll keys) = true
 
@@ -148,24 +168,37 @@ abbrev pub may_leave : WorldState → ℕ → Option CallState → Bool
 may_leave w call None = false
 may_leave w call (Some u) = list_all (is_free w call) (open_keys u)
 
--- the key at which the call works is asked of the writer, which hasn't returned
-abbrev pub waits_at : WorldState → ℕ → Option Bytes → Bool
-waits_at w call None = false
-waits_at w call (Some key) = has_progress waits_for_report (part_of w call key)
+-- the key is asked of the writer, which hasn't returned
+abbrev pub waits_in : Parts → ℕ → Bytes → Bool
+waits_in parts call key = has_progress waits_for_report (of_call call (get parts key))
 
+abbrev pub waits_at : WorldState → ℕ → Bytes → Bool
+waits_at w call key = waits_in w.parts call key
+
+-- that is so of an open key
 abbrev pub may_report : WorldState → ℕ → Option CallState → Bool
 may_report w call None = false
-may_report w call (Some u) = waits_at w call (current_key u)
+may_report w call (Some u) = list_any (waits_at w call) (open_keys u)
+
+-- the call looks at this stripe next
+abbrev pub is_next : ℕ → Option Sweep → Bool
+is_next stripe None = false
+is_next stripe (Some sweep) = sweep.stripe == stripe
+
+abbrev pub may_look : ℕ → Option CallState → Bool
+may_look stripe None = false
+may_look stripe (Some u) = is_next stripe u.sweep
 
 abbrev pub fits : WorldState → WorldEvent → Bool
 fits w (event.Call call session command) =
     is_playable command && is_session session && is_new w.last call && not (is_busy w session)
+fits w (event.Look call stripe) = may_look stripe (open_call w call)
 fits w (event.Start call key) = may_start w call key (open_call w call)
 fits w (event.Read call key) = has_progress waits_for_load (part_of w call key)
 fits w (event.Say call key answer) =
     is_load_given answer && has_progress waits_for_load (part_of w call key)
 fits w (event.Change call key) = has_progress waits_for_report (part_of w call key)
-fits w (event.Report call fault) = may_report w call (open_call w call)
+fits w (event.Report call left fault) = may_report w call (open_call w call)
 fits w (event.Process call key source calls fail) = has_progress waits_for_process (part_of w call key)
 fits w (event.Commit call key) = has_progress is_answered (part_of w call key)
 fits w (event.Withdraw call key) = has_progress is_untouched (part_of w call key)
@@ -205,6 +238,10 @@ with_settled w call key = record w { calls = settle call key w.calls }
 -- a call leaves
 abbrev pub without_call : WorldState → ℕ → WorldState
 without_call w call = record w { calls = drop_call call w.calls }
+
+-- a call takes the keys of a stripe
+abbrev pub with_look : WorldState → ℕ → List Bytes → Sweep → WorldState
+with_look w call keys sweep = record w { calls = look call w.config.stripes keys sweep w.calls }
 
 -- what is kept of a key that was reserved
 abbrev pub new_load : Progress
@@ -323,17 +360,45 @@ with_report Processing report = Processing
 with_report (Processed loaded process) report = Processed loaded process
 with_report (WritingEffect loaded process is_changed was) report = WritingEffect loaded process is_changed report
 
--- the writer's report is kept
+-- the writer's report for a key is kept
 abbrev pub after_report : WorldState → Bytes → Part → WriteAnswer → WorldState
 after_report w key part report =
     let progress = with_report part.progress report in
     let honest = is_true_report report (has_changed part.progress) in
     record (with_progress w key part progress) { premises = with_writer w.premises honest }
 
--- what the writer's return shows
-abbrev pub shown_report : Change → Progress → Option ℕ → Reported
-shown_report change progress fault =
-    record { change = change; is_changed = has_changed progress; fault = fault }
+-- what a writer's return shows of a key
+abbrev pub reported_part : Bytes → Part → Option ReportedKey
+reported_part key part =
+    if waits_for_report part.progress
+    then option_map (λ change. record { key = key; change = change; is_changed = has_changed part.progress })
+    (writer_change part)
+    else None
+
+abbrev pub reported_in : Bytes → Option Part → Option ReportedKey
+reported_in key None = None
+reported_in key (Some part) = reported_part key part
+
+abbrev pub reported_key : Parts → ℕ → Bytes → Option ReportedKey
+reported_key parts call key = reported_in key (of_call call (get parts key))
+
+abbrev pub reported_keys : Parts → ℕ → List Bytes → List ReportedKey
+reported_keys parts call keys = filter_map (reported_key parts call) keys
+
+abbrev pub keys_reported : List ReportedKey → List Bytes
+keys_reported reported = map (λ one. one.key) reported
+
+-- the writer returns for a key, if it is waited for there
+abbrev pub reported_at : WorldState → Bytes → WriteAnswer → Option Part → WorldState
+reported_at w key report None = w
+reported_at w key report (Some part) =
+    if waits_for_report part.progress then after_report w key part report else w
+
+-- the writer returns for each of these keys, with this answer for each
+abbrev pub after_reports : WorldState → ℕ → (Bytes → WriteAnswer) → List Bytes → WorldState
+after_reports w call answer [] = w
+after_reports w call answer (key ∷ keys) =
+    after_reports (reported_at w key (answer key) (part_of w call key)) call answer keys
 
 -- the entry of a reservation is the one that the call found: it stays until the commit
 abbrev pub run_answers : Reservation → LoadAnswer → List EntryCall → List EntryAnswer
@@ -378,6 +443,11 @@ abbrev pub Happens : WorldState → WorldEvent → Shown → WorldState → Type
 Happens old (event.Call call session command) seen new =
     (seen ≡ shown_begun (new_call call session command))
     × (new ≡ with_call old (new_call call session command))
+Happens old (event.Look call stripe) seen new =
+    (u : CallState) × (sweep : Sweep) × (open_call old call ≡ Some u) × (u.sweep ≡ Some sweep)
+    × (from : State) × (slice_get old.stripes stripe ≡ Some from)
+    × (keys : List Bytes) × AreKeys from keys
+    × (seen ≡ shown.Looked) × (new ≡ with_look old call keys sweep)
 Happens old (event.Start call key) seen new =
     (u : CallState) × (op : Op) × (open_call old call ≡ Some u) × (op_at u key ≡ Some op)
     × (from : State) × (stripe_for old key ≡ Some from) × (to : State)
@@ -393,12 +463,12 @@ Happens old (event.Change call key) seen new =
     (part : Part) × (change : Change) × (part_of old call key ≡ Some part)
     × (writer_change part ≡ Some change) × (seen ≡ shown.Changed)
     × (new ≡ after_change old key part change)
-Happens old (event.Report call fault) seen new =
-    (u : CallState) × (key : Bytes) × (part : Part) × (change : Change)
-    × (open_call old call ≡ Some u) × (current_key u ≡ Some key)
-    × (part_of old call key ≡ Some part) × (writer_change part ≡ Some change)
-    × (seen ≡ shown.Reported (shown_report change part.progress fault))
-    × (new ≡ after_report old key part (report_of fault))
+Happens old (event.Report call left fault) seen new =
+    (u : CallState) × (open_call old call ≡ Some u)
+    × (seen ≡ shown.Reported
+    (record { keys = reported_keys old.parts call (open_keys u); fault = fault }))
+    × (new ≡ after_reports old call (report_for u.kind left fault)
+    (keys_reported (reported_keys old.parts call (open_keys u))))
 Happens old (event.Process call key source calls fail) seen new =
     let answer = load_from source (entry_at old.store key) in
     (part : Part) × (part_of old call key ≡ Some part)
@@ -425,9 +495,44 @@ Happens old (event.Foreign key value) seen new =
 
 -- 6. Steps and runs.
 
+-- the call that an event is about
+abbrev pub subject_of : CallState → Subject
+subject_of u = record { caller = u.caller; kind = u.kind }
+
+abbrev pub subject : WorldState → WorldEvent → Option Subject
+subject w (event.Call call session command) = Some (subject_of (new_call call session command))
+subject w (event.Look call stripe) = option_map subject_of (open_call w call)
+subject w (event.Start call key) = option_map subject_of (open_call w call)
+subject w (event.Read call key) = option_map subject_of (open_call w call)
+subject w (event.Say call key answer) = option_map subject_of (open_call w call)
+subject w (event.Change call key) = option_map subject_of (open_call w call)
+subject w (event.Report call left fault) = option_map subject_of (open_call w call)
+subject w (event.Process call key source calls fail) = option_map subject_of (open_call w call)
+subject w (event.Commit call key) = option_map subject_of (open_call w call)
+subject w (event.Withdraw call key) = option_map subject_of (open_call w call)
+subject w (event.Leave call) = option_map subject_of (open_call w call)
+subject w (event.PickUp call key) = option_map subject_of (open_call w call)
+subject w (event.Foreign key value) = None
+
+abbrev pub with_ends : WorldState → EndsState → WorldState
+with_ends w ends = record w { ends = ends }
+
+-- the call has met what was shown, and is over if it isn't under way any more
+abbrev pub ends_after : Subject → Shown → WorldState → EndsState
+ends_after s seen w =
+    if is_given_up seen || is_some (open_call w s.caller.call)
+    then with_met s seen w.ends
+    else with_over s.caller (with_met s seen w.ends)
+
+abbrev pub noted : Option Subject → Shown → WorldState → WorldState
+noted None seen w = w
+noted (Some s) seen w = if is_bulk s.kind then with_ends w (ends_after s seen w) else w
+
+-- what happens, and what is noted then
 abbrev pub Step : WorldState → WorldEvent → Shown → WorldState → Type 0
 Step old e seen new =
-    ((fits old e ≡ true) × Happens old e seen new)
+    ((fits old e ≡ true)
+    × ((mid : WorldState) × Happens old e seen mid × (new ≡ noted (subject old e) seen mid)))
     ⊎ ((fits old e ≡ false) × (seen ≡ shown.Unfit) × (new ≡ old))
 
 abbrev pub Run : WorldState → List WorldEvent → List Shown → WorldState → Type 0
@@ -464,12 +569,25 @@ StartFits w =
     → has_too_many_keys (new_call call session command) ≡ false
     → AllFit w (event.Call call session command ∷ event.Start call key ∷ [])
 
+abbrev pub looks : ℕ → ℕ → ℕ → List WorldEvent
+looks call from zero = []
+looks call from (suc count) = event.Look call from ∷ looks call (from + 1) count
+
+-- so do the looks of a call that takes the keys that are cached
+pub record LooksFit (w : WorldState) : Type 0 where
+  pub left : (call count : ℕ) (u : CallState) (sweep : Sweep) → open_call w call ≡ Some u
+      → u.sweep ≡ Some sweep → sweep.stripe + count ≤ w.config.stripes
+      → AllFit w (looks call sweep.stripe count)
+  pub begun : (call session : ℕ) (command : Command) (sweep : Sweep)
+      → fits w (event.Call call session command) ≡ true → sweep_of command ≡ Some sweep
+      → AllFit w (event.Call call session command ∷ looks call 0 w.config.stripes)
+
 -- so do these; of two, where the call works at one key at a time
 pub record RestFits (w : WorldState) : Type 0 where
   pub alone : (e : WorldEvent) → fits w e ≡ true → AllFit w (e ∷ [])
-  pub report : (call : ℕ) (u : CallState) (key : Bytes) (fault : Option ℕ)
+  pub report : (call : ℕ) (u : CallState) (key : Bytes) (left : List Bytes) (fault : Option ℕ)
       → open_call w call ≡ Some u → current_key u ≡ Some key → fits w (event.Change call key) ≡ true
-      → AllFit w (event.Change call key ∷ event.Report call fault ∷ [])
+      → AllFit w (event.Change call key ∷ event.Report call left fault ∷ [])
   pub leave : (call : ℕ) (u : CallState) (key : Bytes) → open_call w call ≡ Some u
       → current_key u ≡ Some key → fits w (event.Withdraw call key) ≡ true
       → AllFit w (event.Withdraw call key ∷ event.Leave call ∷ [])

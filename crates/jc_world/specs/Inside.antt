@@ -17,4 +17,5 @@ world_of m =
       parts = parts_of m.held;
       joins = m.joins.items;
       premises = m.premises;
+      ends = m.ends;
     }

@@ -3,6 +3,7 @@ pub mod OpenCalls
 pub mod World
 pub mod Premises
 pub mod Events
+pub mod Together
 pub mod Coherent
 pub mod Audit
 pub mod PlayedWorld
@@ -11,6 +12,7 @@ pub mod Held
 pub mod Turns
 pub mod Inside
 pub mod Ending
+pub mod Ends
 pub mod Gathered
 pub mod Headline
 pub mod Replies

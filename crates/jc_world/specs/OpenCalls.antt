@@ -2,8 +2,17 @@
 --     tasks_of       what a call does, as data
 --     first_open     how many tasks stand before the first one whose key is open: all, if none is
 --     IsPlaced       of a call of many keys, the place of the first open one is kept
-use Rattle.std.specs.Prelude.{◌≡◌, ℕ, suc, List, [], ◌∷◌, if◌then◌else◌}
-use Rattle.jc_world.specs.Calls.{Task, is_open}
+--     IsMany         what a call does is kept as that of a call of many keys
+--     IsSwept        so it is of a call that is to look at a stripe
+--     are_new        keys of which no task is
+--     TakesKeys      a call looks at one of so many stripes next, and these keys differ, also from those that it has
+use Rattle.std.specs.Prelude.{◌≡◌, ◌==◌, ◌<◌, ℕ, suc, List, [], ◌∷◌, Bool, true, Option, Some, is_none, is_some, if◌then◌else◌}
+use Rattle.std.specs.List.{list_all, IsDistinct}
+use Rattle.std.specs.Map.{lookup}
+use Rattle.std.specs.Cmp.Lexicographic.{pointwise}
+use Rattle.jc_model.specs.Cache.{Bytes}
+use Rattle.jc_world.specs.declared.command.Sweep.{Sweep}
+use Rattle.jc_world.specs.Calls.{CallState, Task, is_open}
 use Rattle.jc_world.specs.declared.open_call.Tasks.{Tasks}
 use Rattle.jc_world.specs.declared.open_call.Tasks.TheVariants.{One, Many}
 
@@ -18,3 +27,20 @@ first_open (task ∷ tasks) = if is_open task then 0 else suc (first_open tasks)
 abbrev pub IsPlaced : Tasks → Type 0
 IsPlaced (One key op) = Unit {0}
 IsPlaced (Many ops first) = first ≡ first_open ops.entries
+
+abbrev pub IsMany : Tasks → Type 0
+IsMany (One key op) = ⊥
+IsMany (Many ops first) = Unit {0}
+
+abbrev pub IsSwept : Option Sweep → Tasks → Type 0
+IsSwept sweep tasks = is_some sweep ≡ true → IsMany tasks
+
+abbrev pub are_new : List Task → List Bytes → Bool
+are_new tasks keys = list_all (λ key. is_none (lookup (pointwise ◌==◌ key) tasks)) keys
+
+pub record TakesKeys (stripes : ℕ) (keys : List Bytes) (u : CallState) : Type 0 where
+  pub sweep : Sweep
+  pub sweep_is : u.sweep ≡ Some sweep
+  pub within : sweep.stripe < stripes
+  pub new : are_new u.tasks keys ≡ true
+  pub distinct : IsDistinct (pointwise ◌==◌) keys

@@ -3,14 +3,17 @@
 --     load_from                    what the loader of a played processor answers, with this in the store
 --     changed_to                   what the store holds at a key once the writer did as it was asked
 --     report_of                    the writer's report, from its fault or none
+--     report_for                   what a writer's return says for a key of a call of a kind: in a call of one key its fault or none, and
+--                                  in a call of many keys whether the key is left, and with which code it then fails
 --     is_true_load                 honest loaders: an answer is a failure, or what the store holds for the key
 --     is_done                      a report says that the writer did as it was asked
---     is_true_report               honest writers: a report says done exactly where the store was changed
+--     is_true_report               honest writers: a report says done exactly where the store was changed. So in a call of many keys the
+--                                  changed keys are exactly those that aren't left
 --     with_loader, with_writer     the premises behind an answer of a loader, and behind a report of a writer, by whether it was
 --                                  honest
 --     with_foreign_write           the premises once somebody else has written the store
 --     premises_hold                all of them have held so far: loaders and writers were honest, and the store was quiet
-use Rattle.std.specs.Prelude.{ℕ, Bool, true, false, ◌&&◌, Option, None, Some, is_none}
+use Rattle.std.specs.Prelude.{ℕ, List, Bool, true, false, ◌&&◌, Option, None, Some, is_none}
 use Rattle.std.specs.Bool.{beq}
 use Rattle.jc_model.specs.declared.event.Change.{Change}
 use Rattle.jc_model.specs.declared.event.Change.TheVariants.{Write, Delete}
@@ -18,8 +21,11 @@ use Rattle.jc_model.specs.declared.event.LoadAnswer.{LoadAnswer}
 use Rattle.jc_model.specs.declared.event.LoadAnswer.TheVariants as load
 use Rattle.jc_model.specs.declared.event.WriteAnswer.{WriteAnswer}
 use Rattle.jc_model.specs.declared.event.WriteAnswer.TheVariants as write
+use Rattle.jc_model.specs.Batches.{answer_in_batch}
 use Rattle.jc_model.specs.Cache.{Bytes}
 use Rattle.jc_model.specs.Table.{holds}
+use Rattle.jc_world.specs.declared.command.CallKind.{CallKind}
+use Rattle.jc_world.specs.declared.command.CallKind.TheVariants as kind
 use Rattle.jc_world.specs.declared.event.Premises.{Premises}
 use Rattle.jc_world.specs.declared.process.LoadSource.{LoadSource}
 use Rattle.jc_world.specs.declared.process.LoadSource.TheVariants.{Store, Stated, Failing}
@@ -40,6 +46,12 @@ changed_to Delete = None
 abbrev pub report_of : Option ℕ → WriteAnswer
 report_of None = write.Done
 report_of (Some code) = write.Failed code
+
+-- of a call of many keys the rule of a batch: exactly the keys outside `left` are written
+abbrev pub report_for : CallKind → List Bytes → Option ℕ → Bytes → WriteAnswer
+report_for kind.Single left fault key = report_of fault
+report_for kind.KeyByKey left fault key = answer_in_batch left fault key
+report_for kind.Batch left fault key = answer_in_batch left fault key
 
 abbrev pub is_true_load : LoadAnswer → Option Bytes → Bool
 is_true_load load.NotAsked stored = true

@@ -25,7 +25,7 @@ use Rattle.jc_world.specs.declared.event.WorldEvent.TheVariants as event
 use Rattle.jc_world.specs.declared.event.Shown.{Shown}
 use Rattle.jc_world.specs.declared.event.Shown.TheVariants as shown
 use Rattle.jc_world.specs.World.{WorldState, home}
-use Rattle.jc_world.specs.Calls.{op_at, new_call}
+use Rattle.jc_world.specs.Calls.{op_for, new_call}
 use Rattle.jc_world.specs.Headline.{Reaches}
 
 -- 1. Each answer is that of a step.
@@ -40,7 +40,7 @@ pub record IsReplyOfStep (w : WorldState) (shows : List (WorldEvent × Shown)) (
   pub op : Op
   pub at : ℕ
   pub begun : slice_get shows at ≡ Some (event.Call call session command, shown.Begun)
-  pub op_is : op_at (new_call call session command) key ≡ Some op
+  pub op_is : op_for (new_call call session command) key ≡ Some op
   pub home_is : stripe ≡ home w key
   pub out : Out
   pub step : slice_get (of_stripe w.config.stripes stripe w.order) place

@@ -5,8 +5,9 @@
 --     has_answer, has_parked_answer  an answer is parked for a joiner in this state, and for a joiner that is there
 --     is_served_in, is_served       the answer of a load that it has joined is parked for a caller at a key, in a stripe and in the world
 --     is_apart                      two calls are of different sessions, and have different numbers
---     FitsKey                       an open key of a call: its step may still come, unless it is served
---     FitsCall                      a call under way: its number is at most the last, and that is so of each open key
+--     FitsKey                       a key of a call: its step may still come, unless it is served
+--     FitsCall                      a call under way: its number is at most the last, and that is so of each open key, and of each key
+--                                   that it may still find
 --     CallsFit                      that is so of all calls under way, and no two are of one session or have one number
 --     Each                          a fact is true of each of a list
 --     is_asked                      the progress of a key is that of one who was asked: a load's of the loader, a write's of the
@@ -26,13 +27,18 @@
 --     ProgressAgrees                and so of a reserved key, by its part
 --     KeyAgrees                     as long as the premises hold: what is known of any key, by its part, the store's value and the
 --                                   cached one
+--     FitsSweep, Sweeps             a call that looks at the stripes: the one at which it looks next is there, and the keys that it has
+--                                   taken are of those before it
 --     IsSoundWorld                  all of it; and while a world is fresh, nothing is cached, reserved, joined or under way
-use Rattle.std.specs.Prelude.{◌≡◌, ◌==◌, ℕ, List, [], ◌∷◌, length, Ok, Bool, true, false, not, ◌&&◌, Option, None, Some, IfSome, IsSomeAnd, is_none, is_some, find, slice_get, nat_le}
+use Rattle.std.specs.Prelude.{◌≡◌, ◌==◌, ◌<◌, ℕ, List, [], ◌∷◌, length, Ok, Bool, true, false, not, ◌&&◌, Option, None, Some, IfSome, IsSomeAnd, is_none, is_some, find, slice_get, nat_le}
 use Rattle.std.specs.List.{list_all, list_any}
+use Rattle.std.specs.Map.{lookup}
+use Rattle.std.specs.Cmp.Lexicographic.{pointwise}
 use Rattle.std.specs.FinMap.{get}
 use Rattle.jc_types.specs.declared.caller.Caller.{Caller}
 use Rattle.jc_types.specs.declared.config.Config.{Config}
 use Rattle.jc_types.specs.Limits.{check}
+use Rattle.jc_types.specs.Stripes.{stripe_of}
 use Rattle.jc_model.specs.declared.event.Event.{Event}
 use Rattle.jc_model.specs.declared.event.Op.{Op}
 use Rattle.jc_model.specs.declared.event.Op.TheVariants.{Get}
@@ -57,7 +63,8 @@ use Rattle.jc_stripe.specs.Tickets.{JoinClaim, asks_loader, asks_writer, asks_pr
 use Rattle.jc_stripe.specs.State.{State, IsOut, IsJoined}
 use Rattle.jc_stripe.specs.Reached.{IsReached}
 use Rattle.jc_stripe.specs.OwnSteps.{may_come_all}
-use Rattle.jc_world.specs.Calls.{CallState, op_at, is_turn}
+use Rattle.jc_world.specs.Calls.{CallState, op_at, op_for, is_turn}
+use Rattle.jc_world.specs.declared.command.Sweep.{Sweep}
 use Rattle.jc_world.specs.declared.event.Part.{Part}
 use Rattle.jc_world.specs.declared.event.Progress.{Progress}
 use Rattle.jc_world.specs.declared.event.Progress.TheVariants.{Loading, Writing, Processing, Processed, WritingEffect}
@@ -119,7 +126,7 @@ pub record FitsKey (w : WorldState) (caller : Caller) (key : Bytes) (op : Op) : 
 
 pub record FitsCall (w : WorldState) (u : CallState) : Type 0 where
   pub number : is_up_to w.last u.caller.call ≡ true
-  pub keys : (key : Bytes) (op : Op) → op_at u key ≡ Some op → FitsKey w u.caller key op
+  pub keys : (key : Bytes) (op : Op) → op_for u key ≡ Some op → FitsKey w u.caller key op
 
 abbrev pub CallsFit : WorldState → List CallState → Type 0
 CallsFit w [] = Unit {0}
@@ -232,12 +239,23 @@ KeyAgrees None stored entry = Agrees entry stored
 KeyAgrees (Some part) stored entry =
     ProgressAgrees part.progress part.reservation.first stored entry
 
--- 6. The world. While it is fresh, nothing is cached, reserved, joined or under way.
+-- 6. The calls that look at the stripes.
+
+pub record FitsSweep (config : Config) (u : CallState) (sweep : Sweep) : Type 0 where
+  pub within : sweep.stripe < config.stripes
+  pub before : (key : Bytes) → is_some (lookup (pointwise ◌==◌ key) u.tasks) ≡ true
+      → stripe_of key config.stripes < sweep.stripe
+
+abbrev pub Sweeps : Config → CallState → Type 0
+Sweeps config u = (sweep : Sweep) → u.sweep ≡ Some sweep → FitsSweep config u sweep
+
+-- 7. The world. While it is fresh, nothing is cached, reserved, joined or under way.
 pub record IsSoundWorld (w : WorldState) : Type 0 where
   pub shape : IsShaped w
   pub order : in_order w.order ≡ true
   pub numbers : list_all (number_up_to w.last) w.order ≡ true
   pub calls : CallsFit w w.calls
+  pub sweeps : Each (Sweeps w.config) w.calls
   pub held : (key : Bytes) (part : Part) → get w.parts key ≡ Some part
       → IsSomeAnd (stripe_for w key) (λ s. IsHeld s key part)
   pub due : AllDue w.config w.parts

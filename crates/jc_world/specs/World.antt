@@ -47,6 +47,7 @@ use Rattle.jc_stripe.specs.declared.ticket.First.{First}
 use Rattle.jc_stripe.specs.Tickets.{JoinClaim, change_asked}
 use Rattle.jc_stripe.specs.State.{State}
 use Rattle.jc_world.specs.Calls.{CallState, has_number, is_of_session}
+use Rattle.jc_world.specs.Ends.{EndsState, no_ends}
 use Rattle.jc_world.specs.declared.event.Part.{Part}
 use Rattle.jc_world.specs.declared.event.Progress.{Progress}
 use Rattle.jc_world.specs.declared.event.Progress.TheVariants.{Loading, Writing, Processing, Processed, WritingEffect}
@@ -67,6 +68,7 @@ pub record WorldState : Type 0 where
   pub parts : Parts
   pub joins : List JoinClaim  -- the calls that have joined a load and haven't its answer, in this order
   pub premises : Premises  -- what has held so far of those outside
+  pub ends : EndsState  -- what calls of many keys have met, and the last one that is over
 
 -- 1. Stripes.
 
@@ -118,6 +120,7 @@ start config =
       parts = empty;
       joins = [];
       premises = record { writers = true; loaders = true; quiet = true };
+      ends = no_ends;
     }
 
 -- 2. Calls.

@@ -1,7 +1,11 @@
 //! The calls under way. A session has one at most, so there are never more than there are sessions.
-ghost use Rattle.std.specs.Prelude.{◌≡◌, ◌++◌, true, find, cond, option_copied, OnOk, OnErr, IfOk};
+ghost use Rattle.std.specs.Prelude.{◌≡◌, ◌++◌, true, Some, find, position, cond, option_copied, OnOk, OnErr, IfOk, IsSomeAnd};
 ghost use Rattle.std.specs.List.{list_any};
-ghost use Rattle.jc_world.specs.Calls.{has_number, has_too_many_keys, is_of_session, drop_call, new_call, opened, puts_off, settle};
+ghost use Rattle.jc_world.specs.Calls.{has_number, has_too_many_keys, is_of_session, drop_call, look, new_call, opened, puts_off};
+ghost use Rattle.jc_world.specs.Calls.{settle};
+ghost use Rattle.jc_world.specs.OpenCalls.{TakesKeys};
+ghost use Rattle.jc_world.specs.Calls.{CallState};
+ghost use Rattle.jc_world.specs.declared.command.Sweep.{Sweep};
 ghost use Rattle.jc_world.specs.Events.{is_single, is_playable, is_session, is_new};
 ghost use Rattle.jc_world.specs.declared.event.Shown.TheVariants as shown;
 
@@ -19,19 +23,19 @@ fn is_single(op: &Op) -> bool
     !matches!(op, Op::Clear | Op::LoadAll { .. })
 }
 
-/// Whether a command is played: one operation that is a call by itself, or `invokeAll`.
+/// Whether a command is played: one operation that is a call by itself, or one on many keys, but for `loadAll`.
 pub(crate) fn is_playable(command: &Command) -> bool
     ensures { result ≡ is_playable command.now }
 {
     match command {
         Command::Single { op, key: _ } => is_single(op),
-        Command::InvokeAll { keys: _ } => true,
         Command::GetAll { keys: _ }
         | Command::PutAll { entries: _ }
         | Command::RemoveAll { keys: _ }
         | Command::RemoveEvery
         | Command::Clear
-        | Command::LoadAll {
+        | Command::InvokeAll { keys: _ } => true,
+        Command::LoadAll {
             replace: _,
             keys: _,
         } => false,
@@ -69,6 +73,13 @@ pub(crate) fn find_call(calls: &[OpenCall], call: u64) -> Option<&OpenCall>
     calls.iter().find(|u| u.caller().call == call)
 }
 
+/// Where the call with this number stands.
+fn place_of(calls: &[OpenCall], call: u64) -> Option<usize>
+    ensures { result ≡ position (has_number call) calls.now }
+{
+    calls.iter().position(|u| u.caller().call == call)
+}
+
 /// A call begins. It is then under way, unless it has too many keys or none. Says whether it has too many.
 pub(crate) fn begin(
     alloc: Global,
@@ -88,7 +99,7 @@ pub(crate) fn begin(
         return Ok(true);
     }
     let call = OpenCall::new(alloc, caller, command)?;
-    if call.is_open() {
+    if call.is_going() {
         calls.push(call)?;
     }
     Ok(false)
@@ -128,6 +139,31 @@ pub(crate) fn settle(calls: &mut Vec<OpenCall>, call: u64, key: &Key)
     ensures { calls.new.items ≡ settle call key.now calls.old.items }
 {
     calls.retain_mut(|u| u.settle(call, key));
+}
+
+/// A call takes these keys, at the stripe at which it looks next. It is taken out if it is over with that. An `Err` says that an
+/// allocation failed, and then nothing has changed.
+pub(crate) fn look(
+    calls: &mut Vec<OpenCall>,
+    call: u64,
+    keys: &[Key],
+    stripes: usize,
+) -> Result<(), AllocError>
+    requires { IsSomeAnd (find (has_number call) calls.old.items) (TakesKeys stripes keys.now) }
+    ensures ok { OnOk result ((u : CallState) × (sweep : Sweep)
+        × (find (has_number call) calls.old.items ≡ Some u) × (u.sweep ≡ Some sweep)
+        × (calls.new.items ≡ look call stripes keys.now sweep calls.old.items)) }
+    ensures err { OnErr result (calls.new.items ≡ calls.old.items) }
+{
+    let Some(place) = place_of(calls, call) else {
+        unreachable!()
+    };
+    let u = &mut calls[place];
+    u.look(keys, stripes)?;
+    if !u.is_going() {
+        let _over = calls.remove(place);
+    }
+    Ok(())
 }
 
 /// Takes a call that leaves out.

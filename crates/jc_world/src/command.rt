@@ -1,6 +1,6 @@
 //! What calls do.
-ghost use Rattle.std.specs.Prelude.{◌≡◌, length};
-ghost use Rattle.jc_world.specs.Calls.{kind_of, takes_turns, puts_off, tasks, has_too_many};
+ghost use Rattle.std.specs.Prelude.{◌≡◌, ◌<◌, length};
+ghost use Rattle.jc_world.specs.Calls.{kind_of, sweep_of, next_sweep, takes_turns, puts_off, tasks, has_too_many};
 
 use indexmap::{IndexMap, IndexSet};
 use jc_model::Op;
@@ -69,6 +69,31 @@ impl Command {
         }
     }
 
+    /// How far its sweep of the stripes is before its first look, if it takes the keys that are cached.
+    pub(crate) fn sweep(&self) -> Option<Sweep>
+        ensures { result ≡ sweep_of self.now }
+    {
+        match self {
+            Command::RemoveEvery => Some(Sweep {
+                op: Op::Remove,
+                stripe: 0,
+            }),
+            Command::Clear => Some(Sweep {
+                op: Op::Clear,
+                stripe: 0,
+            }),
+            Command::Single { op: _, key: _ }
+            | Command::GetAll { keys: _ }
+            | Command::PutAll { entries: _ }
+            | Command::RemoveAll { keys: _ }
+            | Command::LoadAll {
+                replace: _,
+                keys: _,
+            }
+            | Command::InvokeAll { keys: _ } => None,
+        }
+    }
+
     /// How many keys the command names. `removeAll()` and `clear` name none: theirs are those that are cached.
     fn keys_len(&self) -> usize
         ensures { result ≡ length (tasks self.now) }
@@ -85,10 +110,37 @@ impl Command {
     }
 
     /// Whether the command names more than [`BULK_KEYS_MAX`](jc_types::BULK_KEYS_MAX) keys: its call is refused whole.
-    pub(crate) fn has_too_many_keys(&self) -> bool
+    pub fn has_too_many_keys(&self) -> bool
         ensures { result ≡ has_too_many (tasks self.now) }
     {
         self.keys_len() > BULK_KEYS_MAX
+    }
+}
+
+/// How far a call is that takes the keys that are cached: it looks at one stripe after the other, at each once.
+#[derive(Clone, Copy, Debug, PartialEq, Eq)]
+pub struct Sweep {
+    /// What the call does at each key that it finds.
+    pub op: Op,
+    /// The number of the stripe at which it looks next, which is how many stripes it has looked at.
+    pub stripe: usize,
+}
+
+impl Sweep {
+    /// The sweep behind one look more, at as many stripes: none behind the last.
+    pub(crate) fn next(&self, stripes: usize) -> Option<Sweep>
+        requires { self.now.stripe < stripes }
+        ensures { result ≡ next_sweep stripes self.now }
+    {
+        let stripe = self.stripe + 1;
+        if stripe < stripes {
+            Some(Sweep {
+                op: self.op,
+                stripe,
+            })
+        } else {
+            None
+        }
     }
 }
 
@@ -106,7 +158,7 @@ pub enum CallKind {
 
 impl CallKind {
     /// Whether such a call works at one key at a time.
-    pub(crate) fn takes_turns(self) -> bool
+    pub fn takes_turns(self) -> bool
         ensures { result ≡ takes_turns self }
     {
         match self {

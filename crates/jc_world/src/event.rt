@@ -5,6 +5,7 @@ ghost use Rattle.jc_world.specs.World.{is_untouched, has_changed};
 
 use crate::command::Command;
 use crate::process::{EntryCalls, LoadSource, Processed};
+use crate::reports::{LeftKeys, Reported};
 use jc_model::{Change, LoadAnswer, ProcessAnswer, Reply, WriteAnswer};
 use jc_stripe::{Eviction, Reservation};
 use jc_types::{Caller, Key, Refusal, Value};
@@ -17,8 +18,8 @@ pub enum WorldEvent {
     /// A session begins a call. It has no phase yet.
     ///
     /// It fits if the number is above all before it, the session is one and has no call under way, and the command is one operation
-    /// on one key that is a call by itself, or an `invokeAll`. `Clear` and `LoadAll` are no calls by themselves, and other calls of
-    /// many keys aren't played.
+    /// on one key that is a call by itself, or one on many keys. `Op::Clear` and `Op::LoadAll` are no calls by themselves, and
+    /// `loadAll` isn't played.
     ///
     /// A call of more than [`BULK_KEYS_MAX`](jc_types::BULK_KEYS_MAX) keys is refused whole: it is over at once, and its number is
     /// used. So is a call of no keys over at once.
@@ -30,10 +31,23 @@ pub enum WorldEvent {
         /// What the call does.
         command: Command,
     },
+    /// A call that takes the keys that are cached, as `clear` does, takes those of one stripe, in byte order: they are then keys of
+    /// the call, behind those that it has, also those that are gone before their first phase. It looks at each stripe once, in their
+    /// order: it fits at the stripe behind the last one at which the call has looked.
+    ///
+    /// Such a call is over once it has looked at each stripe, and each key has its reply or last refusal: with its last look, if
+    /// there is no key then. It may have any number of keys.
+    Look {
+        /// The call's number.
+        call: u64,
+        /// The number of the stripe, from 0.
+        stripe: usize,
+    },
     /// The first phase of a key of the call. It fits if the key has neither a reply nor a last refusal in this call, and the
     /// call has neither reserved it nor joined its load: before its first phase, and once the key was put off, or the call was told
-    /// to retry or has given its reservation back. An `invokeAll` takes its keys one after the other: of its keys it fits at the
-    /// first one that has neither a reply nor a last refusal.
+    /// to retry or has given its reservation back. A `getAll`, a `putAll` and a `removeAll` take their keys in any order, whatever
+    /// becomes of the others. An `invokeAll` takes its keys one after the other: of its keys it fits at the first one that has
+    /// neither a reply nor a last refusal.
     Start {
         /// The call's number.
         call: u64,
@@ -63,12 +77,18 @@ pub enum WorldEvent {
         /// The key that the call has reserved.
         key: Key,
     },
-    /// The writer returns. It fits if the writer is asked for the call's key and hasn't returned, whether it has changed the
-    /// store or not. In an `invokeAll` that is the one key at which it works.
+    /// The writer returns, for all keys of the call that it was asked for and hasn't returned for, whether it has changed the store
+    /// for them or not. It fits if there is one. In an `invokeAll` there is never more than one, that at which the call works.
+    ///
+    /// A single-key write is committed if the writer reports no fault. In a call of many keys exactly the keys outside `left` are
+    /// committed, also after a fault. A key that is left fails, with the fault's code or, after a normal return, with 0.
     Report {
         /// The number of the call that has the writer asked.
         call: u64,
-        /// The code with which the writer failed, or none where it reports success.
+        /// The keys that the writer's collection still holds. Keys that it wasn't asked for count for nothing, and in a call of one
+        /// key no key counts.
+        left: LeftKeys,
+        /// The code with which the writer failed, or none if it returned normally.
         fault: Option<u32>,
     },
     /// The entry processor runs on the entry that the call found when it reserved the key (JSR 107, "Entry Processors"). It fits if
@@ -150,22 +170,13 @@ pub struct PickedUp {
     pub shared: u32,
 }
 
-/// What the writer's return says of the key that it was asked for.
-#[derive(Clone, Copy, Debug, PartialEq, Eq)]
-pub struct Reported {
-    /// What the writer was asked for.
-    pub change: Change,
-    /// Whether it had changed the store.
-    pub is_changed: bool,
-    /// The code of its fault, if it failed.
-    pub fault: Option<u32>,
-}
-
 /// What is shown of an event.
 #[derive(Drop)]
 pub enum Shown {
     /// The call has begun.
     Begun,
+    /// The call has looked at a stripe, and has taken its keys.
+    Looked,
     /// A step was appended to the history of its stripe, in a first or a last phase.
     Stepped(Stepped),
     /// The key is reserved, and the loader is asked.
@@ -194,11 +205,11 @@ pub enum Shown {
     Withdrawn,
     /// The call is over, without a reply.
     Left,
-    /// The load that the call had joined is committed, and this is its answer. The call is over.
+    /// The load that the call had joined is committed, and this is its answer, with which the key has its reply.
     PickedUp(PickedUp),
     /// The load that the call has joined isn't over.
     Waits,
-    /// The load that the call had joined was withdrawn: the call is to retry.
+    /// The load that the call had joined was withdrawn: the call is to retry at the key.
     Again,
     /// Somebody else has written the store.
     Written,
@@ -360,7 +371,7 @@ impl Progress {
 /// What has held so far of those outside.
 #[derive(Clone, Copy, Debug, PartialEq, Eq)]
 pub struct Premises {
-    /// Honest writers: each report said success exactly where the writer had changed the store.
+    /// Honest writers: for each key each report said that it was written exactly where the writer had changed the store.
     pub writers: bool,
     /// Honest loaders: each answer was a failure, or what the store held for the key when it came.
     pub loaders: bool,

@@ -3,7 +3,7 @@ ghost use Rattle.std.specs.Prelude.{◌≡◌, ◌⊎◌, ◌++◌, ◌+◌, ◌
 ghost use Rattle.jc_model.specs.declared.event.Out.{Out};
 ghost use Rattle.jc_model.specs.declared.event.Change.{Change};
 ghost use Rattle.jc_model.specs.Cache.{with_entry};
-ghost use Rattle.jc_model.specs.Table.{is_load_given};
+ghost use Rattle.jc_model.specs.Table.{is_load_given, is_write_given};
 ghost use Rattle.jc_stripe.specs.declared.begun.StepDone.{StepDone};
 ghost use Rattle.jc_stripe.specs.State.{IsOut};
 ghost use Rattle.jc_stripe.specs.Phases.{Commits, Withdraws};
@@ -12,18 +12,20 @@ ghost use Rattle.jc_stripe.specs.Tickets.{asks_loader, asks_writer, asks_process
 ghost use Rattle.jc_stripe.specs.declared.ticket.First.TheVariants.{Writer};
 ghost use Rattle.jc_outside.specs.declared.done.Origin.TheVariants.{Played};
 ghost use Rattle.jc_world.specs.declared.event.Progress.TheVariants.{Loading};
-ghost use Rattle.jc_world.specs.Premises.{changed_to, report_of};
+ghost use Rattle.jc_world.specs.Premises.{changed_to};
 ghost use Rattle.jc_world.specs.World.{has_changed, out_of, is_answered, is_unasked, waits_for_load, waits_for_process};
 ghost use Rattle.jc_world.specs.World.{waits_for_report, writer_change};
 ghost use Rattle.jc_world.specs.Events.{new_load, new_write, new_process, new_part, with_change, with_report, run_answers};
-ghost use Rattle.jc_world.specs.Events.{run_result, progress_after};
+ghost use Rattle.jc_world.specs.Events.{run_result, progress_after, reported_part};
 ghost use Rattle.jc_world.specs.Sound.{is_due};
 ghost use Rattle.jc_world.specs.Held.{load_in, report_in};
 
-use crate::event::{Part, Progress, Reported};
-use crate::outside::{entry_after, report_with};
+use crate::event::{Part, Progress};
+use crate::outside::entry_after;
+use crate::reports::ReportedKey;
 use crate::run::{
     Run, RunShown, change_effect, commit_run, progress_in, report_effect, run_process,
+    writer_change_in,
 };
 use jc_model::{Change, Contents, EntryAnswer, EntryCall, LoadAnswer, WriteAnswer};
 use jc_stripe::{
@@ -306,14 +308,49 @@ impl Held {
         }
     }
 
-    /// The writer returns.
-    pub(crate) fn report(&mut self, fault: Option<u32>) -> Reported
-        requires { waits_for_report self.old.progress ≡ true }
-        ensures change { writer_change self.old ≡ Some result.change }
-        ensures changed { result.is_changed ≡ has_changed self.old.progress }
-        ensures fault { result.fault ≡ fault }
+    /// What the writer is asked for, if it is.
+    fn writer_change(&self) -> Option<Change>
+        ensures { result ≡ writer_change self.now }
+    {
+        match &self.asked {
+            Asked::Loader {
+                ticket: _,
+                loaded: _,
+            } => None,
+            Asked::Writer {
+                ticket,
+                is_changed: _,
+                written: _,
+            } => Some(change_for(ticket)),
+            Asked::Processor { ticket, run } => writer_change_in(ticket, run),
+        }
+    }
+
+    /// What a return of the writer shows of this key, if the writer was asked for it and hasn't returned.
+    pub(crate) fn reported(&self, key: &Key) -> Option<ReportedKey>
+        ensures { result ≡ reported_part key.now self.now }
+    {
+        let progress = self.progress();
+        if !progress.waits_for_report() {
+            return None;
+        }
+        match self.writer_change() {
+            Some(change) => Some(ReportedKey {
+                key: *key,
+                change,
+                is_changed: progress.has_changed(),
+            }),
+            None => None,
+        }
+    }
+
+    /// The writer returns with this for the key. Says whether it had changed the store.
+    pub(crate) fn report(&mut self, report: WriteAnswer) -> bool
+        requires waits { waits_for_report self.old.progress ≡ true }
+        requires given { is_write_given report ≡ true }
+        ensures changed { result ≡ has_changed self.old.progress }
         ensures report { self.new ≡
-            record self.old { progress = with_report self.old.progress (report_of fault) } }
+            record self.old { progress = with_report self.old.progress report } }
     {
         match &mut self.asked {
             Asked::Loader {
@@ -325,8 +362,6 @@ impl Held {
                 is_changed,
                 written,
             } => {
-                let change = change_for(ticket);
-                let report = report_with(fault);
                 let kept = report;
                 let done = played_write(ticket.ask(), report);
                 let said = Written { done, report: kept };
@@ -334,13 +369,9 @@ impl Held {
                     None => {}
                     Some(_former) => unreachable!(),
                 }
-                Reported {
-                    change,
-                    is_changed: *is_changed,
-                    fault,
-                }
+                *is_changed
             }
-            Asked::Processor { ticket, run } => report_effect(ticket, run, fault),
+            Asked::Processor { ticket, run } => report_effect(ticket, run, report),
         }
     }
 
@@ -416,7 +447,7 @@ impl Held {
             × Commits stripe.old self.reservation out done stripe.new }
     {
         let mut held = self;
-        let _reported = held.report(Some(0));
+        let _is_changed = held.report(WriteAnswer::Failed(0));
         let _step = held.commit(stripe);
     }
 

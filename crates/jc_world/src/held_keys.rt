@@ -5,23 +5,24 @@ ghost use Rattle.std.specs.FinMap as map;
 ghost use Rattle.indexmap.specs.IndexMap.{spare, index_map_len};
 ghost use Rattle.jc_model.specs.declared.event.Change.{Change};
 ghost use Rattle.jc_model.specs.Cache.{Bytes, with_entry};
-ghost use Rattle.jc_model.specs.Table.{is_load_given};
+ghost use Rattle.jc_model.specs.Table.{is_load_given, is_write_given};
 ghost use Rattle.jc_stripe.specs.declared.ticket.First.TheVariants.{Writer};
 ghost use Rattle.jc_stripe.specs.Tickets.{entry_seen};
 ghost use Rattle.jc_stripe.specs.Effects.{change_due};
 ghost use Rattle.jc_world.specs.declared.event.Part.{Part};
 ghost use Rattle.jc_world.specs.declared.event.Progress.TheVariants.{Loading};
-ghost use Rattle.jc_world.specs.Premises.{changed_to, report_of};
-ghost use Rattle.jc_world.specs.World.{has_progress, of_call, waits_for_load, waits_for_process, waits_for_report, writer_change};
-ghost use Rattle.jc_world.specs.Events.{new_load, new_write, new_process, new_part, with_change, with_report, shown_report};
+ghost use Rattle.jc_world.specs.Premises.{changed_to};
+ghost use Rattle.jc_world.specs.World.{has_changed, has_progress, of_call, waits_for_load, waits_for_process, waits_for_report};
+ghost use Rattle.jc_world.specs.World.{writer_change};
+ghost use Rattle.jc_world.specs.Events.{new_load, new_write, new_process, new_part, with_change, with_report, reported_key, waits_in};
 ghost use Rattle.jc_world.specs.Events.{run_answers, run_result, progress_after};
 ghost use Rattle.jc_world.specs.Held.{parts_of};
 
-use crate::event::Reported;
 use crate::held::{Held, change_for};
+use crate::reports::ReportedKey;
 use crate::run::RunShown;
 use indexmap::IndexMap;
-use jc_model::{Change, Contents, EntryAnswer, EntryCall, LoadAnswer};
+use jc_model::{Change, Contents, EntryAnswer, EntryCall, LoadAnswer, WriteAnswer};
 use jc_stripe::{LoadTicket, ProcessTicket, WriteTicket};
 use jc_types::{Config, Key, Value};
 use std::alloc::AllocError;
@@ -146,17 +147,34 @@ pub(crate) fn change(held: &mut HeldKeys, store: &mut Contents, key: &Key) -> Re
     }
 }
 
-/// The writer returns for a key.
-pub(crate) fn report(held: &mut HeldKeys, key: &Key, fault: Option<u32>) -> Reported
-    requires { has_progress waits_for_report (map.get (parts_of held.old) key.now) ≡ true }
-    ensures { (part : Part) × (change : Change) × (map.get (parts_of held.old) key.now ≡ Some part)
-        × (writer_change part ≡ Some change)
-        × (result ≡ shown_report change part.progress fault)
+/// Whether the writer was asked for a key by a call, and hasn't returned.
+pub(crate) fn waits_for_report(held: &HeldKeys, call: u64, key: &Key) -> bool
+    ensures { result ≡ waits_in (parts_of held.now) call key.now }
+{
+    held_by(held, call, key).is_some_and(|one| one.progress().waits_for_report())
+}
+
+/// What a return of the writer shows of a key, if the writer was asked for it by a call and hasn't returned.
+pub(crate) fn reported_key(held: &HeldKeys, call: u64, key: &Key) -> Option<ReportedKey>
+    ensures { result ≡ reported_key (parts_of held.now) call key.now }
+{
+    match held_by(held, call, key) {
+        Some(one) => one.reported(key),
+        None => None,
+    }
+}
+
+/// The writer returns with this for a key. Says whether it had changed the store.
+pub(crate) fn report(held: &mut HeldKeys, key: &Key, report: WriteAnswer) -> bool
+    requires waits { has_progress waits_for_report (map.get (parts_of held.old) key.now) ≡ true }
+    requires given { is_write_given report ≡ true }
+    ensures { (part : Part) × (map.get (parts_of held.old) key.now ≡ Some part)
+        × (result ≡ has_changed part.progress)
         × (parts_of held.new ≡ map.insert (parts_of held.old) key.now
-        (record part { progress = with_report part.progress (report_of fault) })) }
+        (record part { progress = with_report part.progress report })) }
 {
     match held.get_mut(key) {
-        Some(one) => one.report(fault),
+        Some(one) => one.report(report),
         None => unreachable!(),
     }
 }

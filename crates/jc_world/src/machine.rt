@@ -1,21 +1,23 @@
 //! The machine below a world: what each kind of event does.
-ghost use Rattle.std.specs.Prelude.{option_copied, ◌≡◌, true, false, Ok, IfOk, OnErr, OnOk, Option, None, Some};
+ghost use Rattle.std.specs.Prelude.{option_copied, ◌≡◌, true, false, Ok, IfOk, OnErr, OnOk, Option, None, Some, option_map};
 ghost use Rattle.std.specs.FinMap as map;
 ghost use Rattle.jc_types.specs.Limits.{check};
 ghost use Rattle.jc_model.specs.Cache.{entry_at};
 ghost use Rattle.jc_world.specs.declared.event.WorldEvent.TheVariants as event;
 ghost use Rattle.jc_world.specs.World.{start, is_busy, open_call, part_of, is_joined, with_stored};
-ghost use Rattle.jc_world.specs.Events.{fits, is_new, Happens, Step};
+ghost use Rattle.jc_world.specs.Events.{fits, is_new, subject_of, subject, noted, Happens, Step};
 ghost use Rattle.jc_world.specs.Sound.{IsSoundWorld};
 
 mod answering;
 mod auditing;
 mod fitting;
+mod looking;
 mod processing;
 
 use crate::calls::{begin, drop_call, find_call, has_call, is_above, refuse, settle, shown_begun};
 use crate::command::Command;
 use crate::ending::{end_all, pick_all};
+use crate::ends::{Ends, Over, Subject, is_given_up};
 use crate::event::{PickedUp, Premises, Shown, WorldEvent, show};
 use crate::held::Held;
 use crate::held_keys::{
@@ -42,6 +44,7 @@ pub(crate) struct Machine {
     held: HeldKeys,
     joins: Vec<Join>,
     premises: Premises,
+    ends: Ends,
 }
 
 impl Model for Machine {
@@ -64,6 +67,7 @@ impl Machine {
         requires { check config.now ≡ Ok tt }
         ensures { IfOk result (λ m. m ≡ start config.now) }
     {
+        let ends = Ends::new(alloc)?;
         let stripes = Stripes::new(alloc, config)?;
         Ok(Machine {
             alloc,
@@ -80,6 +84,7 @@ impl Machine {
                 loaders: true,
                 quiet: true,
             },
+            ends,
         })
     }
 
@@ -95,6 +100,13 @@ impl Machine {
         ensures { result ≡ is_new self.now.last call }
     {
         is_above(self.last, call)
+    }
+
+    /// How many stripes there are.
+    pub(crate) fn stripes(&self) -> usize
+        ensures { result ≡ self.now.config.stripes }
+    {
+        self.config.stripes
     }
 
     /// Whether a session has a call under way.
@@ -160,11 +172,83 @@ impl Machine {
         ensures step { OnOk result (Step self.old event.now seen.new self.new) }
         ensures err { OnErr result (self.new ≡ self.old) }
     {
-        if self.fits(event) {
-            self.apply(event, seen)
-        } else {
+        if !self.fits(event) {
             *seen = Shown::Unfit;
-            Ok(())
+            return Ok(());
+        }
+        let subject = self.subject(event);
+        self.apply(event, seen)?;
+        match subject {
+            Some(subject) => {
+                self.note(&subject, seen);
+                Ok(())
+            }
+            None => Ok(()),
+        }
+    }
+
+    /// The last call of many keys that is over.
+    pub(crate) fn over(&self) -> Option<Over>
+        ensures { result ≡ self.now.ends.over }
+    {
+        self.ends.over()
+    }
+
+    /// The call that an event is about.
+    fn subject(&self, event: &WorldEvent) -> Option<Subject>
+        ensures { result ≡ subject self.now event.now }
+    {
+        match event {
+            WorldEvent::Call {
+                call,
+                session,
+                command,
+            } => Some(Subject {
+                caller: Caller {
+                    session: *session,
+                    call: *call,
+                },
+                kind: command.kind(),
+            }),
+            WorldEvent::Look { call, .. }
+            | WorldEvent::Start { call, .. }
+            | WorldEvent::Read { call, .. }
+            | WorldEvent::Say { call, .. }
+            | WorldEvent::Change { call, .. }
+            | WorldEvent::Report { call, .. }
+            | WorldEvent::Process { call, .. }
+            | WorldEvent::Commit { call, .. }
+            | WorldEvent::Withdraw { call, .. }
+            | WorldEvent::Leave { call }
+            | WorldEvent::PickUp { call, .. } => self.subject_of(*call),
+            WorldEvent::Foreign { key: _, value: _ } => None,
+        }
+    }
+
+    /// A call under way.
+    fn subject_of(&self, call: u64) -> Option<Subject>
+        ensures { result ≡ option_map subject_of (open_call self.now call) }
+    {
+        match self.open_call(call) {
+            Some(u) => Some(Subject {
+                caller: u.caller(),
+                kind: u.kind(),
+            }),
+            None => None,
+        }
+    }
+
+    /// Notes what a call has met by what an event has shown, and whether the call is over then.
+    fn note(&mut self, subject: &Subject, seen: &Shown)
+        ensures { self.new ≡ noted (Some subject.now) seen.now self.old }
+    {
+        if !subject.kind.is_bulk() {
+            return;
+        }
+        let is_open = is_given_up(seen) || self.open_call(subject.caller.call).is_some();
+        self.ends.meet(subject, seen);
+        if !is_open {
+            self.ends.end(&subject.caller);
         }
     }
 
@@ -182,11 +266,14 @@ impl Machine {
                 session,
                 command,
             } => self.begin_call(*call, *session, command, seen)?,
+            WorldEvent::Look { call, stripe } => self.look(*call, *stripe, seen)?,
             WorldEvent::Start { call, key } => self.start(*call, key, seen)?,
             WorldEvent::Read { call, key } => self.read(*call, key, seen),
             WorldEvent::Say { call, key, answer } => self.say(*call, key, *answer, seen),
             WorldEvent::Change { call, key } => self.change(*call, key, seen)?,
-            WorldEvent::Report { call, fault } => self.writer_returns(*call, *fault, seen),
+            WorldEvent::Report { call, left, fault } => {
+                self.writer_returns(*call, left, *fault, seen)?
+            }
             WorldEvent::Process {
                 call,
                 key,
@@ -355,6 +442,7 @@ impl Machine {
             held,
             joins,
             premises: _,
+            ends: _,
         } = self;
         let mut items = stripes.into_items();
         end_all(&config, &mut items, held, &joins);

@@ -1,9 +1,8 @@
 //! What loaders and writers say, and whether they are honest.
 ghost use Rattle.std.specs.Prelude.{◌≡◌, ◌&&◌};
 ghost use Rattle.std.specs.Bool.{beq};
-ghost use Rattle.jc_world.specs.Premises.{read_answer, changed_to, report_of, is_true_load, is_true_report};
+ghost use Rattle.jc_world.specs.Premises.{read_answer, changed_to, report_of, is_true_load, is_done, is_true_report};
 
-use crate::event::Reported;
 use jc_model::{Change, LoadAnswer, WriteAnswer};
 use jc_types::Value;
 
@@ -47,11 +46,21 @@ fn are_alike(was: bool, said: bool) -> bool
     if was { said } else { !said }
 }
 
-/// Whether a report says success exactly if the store was changed.
-pub(crate) fn is_honest_report(reported: &Reported) -> bool
-    ensures { result ≡ is_true_report (report_of reported.now.fault) reported.now.is_changed }
+/// Whether a report says that the writer did as it was asked.
+fn is_done(report: &WriteAnswer) -> bool
+    ensures { result ≡ is_done report.now }
 {
-    are_alike(reported.is_changed, reported.fault.is_none())
+    match report {
+        WriteAnswer::Done => true,
+        WriteAnswer::NotAsked | WriteAnswer::Failed(_) => false,
+    }
+}
+
+/// Whether a report says that the writer did as it was asked exactly if the store was changed.
+pub(crate) fn is_honest_report(report: &WriteAnswer, is_changed: bool) -> bool
+    ensures { result ≡ is_true_report report.now is_changed }
+{
+    are_alike(is_changed, is_done(report))
 }
 
 /// What the store holds at a key once the writer did as it was asked.

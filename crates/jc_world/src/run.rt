@@ -3,19 +3,19 @@ ghost use Rattle.std.specs.Prelude.{◌≡◌, ◌++◌, ◌+◌, ◌≤◌, len
 ghost use Rattle.std.specs.Prelude.{vec_capacity};
 ghost use Rattle.jc_model.specs.declared.event.Change.{Change};
 ghost use Rattle.jc_model.specs.Cache.{with_entry};
-ghost use Rattle.jc_model.specs.Table.{is_load_given};
+ghost use Rattle.jc_model.specs.Table.{is_load_given, is_write_given};
 ghost use Rattle.jc_stripe.specs.State.{IsOut};
 ghost use Rattle.jc_stripe.specs.Phases.{Commits};
 ghost use Rattle.jc_stripe.specs.Effects.{change_due};
 ghost use Rattle.jc_outside.specs.declared.done.Origin.TheVariants.{Played};
-ghost use Rattle.jc_world.specs.Premises.{changed_to, report_of};
+ghost use Rattle.jc_world.specs.Premises.{changed_to};
 ghost use Rattle.jc_world.specs.World.{has_changed, is_answered, out_in, waits_for_process, waits_for_report, writer_change_in};
 ghost use Rattle.jc_world.specs.Events.{with_change, with_report, run_answers, run_result, progress_after};
 ghost use Rattle.jc_world.specs.Sound.{is_due_in};
 ghost use Rattle.jc_world.specs.Held.{IsProcess, effect_report_in, progress_in};
 
-use crate::event::{Progress, Reported};
-use crate::outside::{entry_after, report_with};
+use crate::event::Progress;
+use crate::outside::entry_after;
 use jc_model::{Change, Contents, EntryAnswer, EntryCall, LoadAnswer, WriteAnswer};
 use jc_mutentry::played_process;
 use jc_stripe::{
@@ -176,18 +176,31 @@ pub(crate) fn change_effect(
     }
 }
 
-/// The writer that is asked after a processor returns.
+/// What the writer is asked for after a processor, if it is.
+pub(crate) fn writer_change_in(ticket: &ProcessTicket, run: &Option<Run>) -> Option<Change>
+    ensures { result ≡ writer_change_in ticket.now.reservation.first (progress_in run.now) }
+{
+    let _ = ticket;
+    match run {
+        None => None,
+        Some(run) => match &run.effect {
+            None => None,
+            Some(_effect) => run.done.change(),
+        },
+    }
+}
+
+/// The writer that is asked after a processor returns with this. Says whether it had changed the store.
 pub(crate) fn report_effect(
     ticket: &mut ProcessTicket,
     run: &mut Option<Run>,
-    fault: Option<u32>,
-) -> Reported
+    report: WriteAnswer,
+) -> bool
     requires holds { IsProcess ticket.old run.old }
     requires waits { waits_for_report (progress_in run.old) ≡ true }
-    ensures change { writer_change_in ticket.old.reservation.first (progress_in run.old) ≡ Some result.change }
-    ensures changed { result.is_changed ≡ has_changed (progress_in run.old) }
-    ensures fault { result.fault ≡ fault }
-    ensures report { progress_in run.new ≡ with_report (progress_in run.old) (report_of fault) }
+    requires given { is_write_given report ≡ true }
+    ensures changed { result ≡ has_changed (progress_in run.old) }
+    ensures report { progress_in run.new ≡ with_report (progress_in run.old) report }
     ensures reservation { ticket.new.reservation ≡ ticket.old.reservation }
     ensures holds { IsProcess ticket.new run.new }
 {
@@ -195,10 +208,6 @@ pub(crate) fn report_effect(
     let Some(effect) = &mut run.effect else {
         unreachable!()
     };
-    let Some(change) = run.done.change() else {
-        unreachable!()
-    };
-    let report = report_with(fault);
     let kept = report;
     let done = played_write(ticket.ask_writer(&run.done), report);
     let said = EffectWritten { done, report: kept };
@@ -206,11 +215,7 @@ pub(crate) fn report_effect(
         None => {}
         Some(_former) => unreachable!(),
     }
-    Reported {
-        change,
-        is_changed: effect.is_changed,
-        fault,
-    }
+    effect.is_changed
 }
 
 /// The last phase of a key whose processor has run.

@@ -1,16 +1,20 @@
 //! A world: stripes beside a store, driven by a list of events, with what there is to see of it.
-ghost use Rattle.std.specs.Prelude.{[], ◌≡◌, ◌≤◌, ◌⊎◌, ◌<◌, true, IsTrue, IfOk, IfErr, IsOk, option_copied, OnErr, OnOk, Ok};
+ghost use Rattle.std.specs.Prelude.{[], ◌≡◌, ◌≤◌, ◌⊎◌, ◌<◌, true, IsTrue, IfOk, IfErr, IsOk, option_copied, OnErr, OnOk, Ok, is_some};
 ghost use Rattle.std.specs.Prelude.{Err, take, length};
 ghost use Rattle.jc_types.specs.Limits.{check};
-ghost use Rattle.jc_world.specs.World.{start, is_busy, open_call, part_of, is_joined, with_stored};
-ghost use Rattle.jc_world.specs.Events.{fits, is_new, RestFits, RunAppending, StartFits};
+ghost use Rattle.jc_world.specs.World.{start, is_busy, open_call, part_of, has_progress, waits_for_load, waits_for_process};
+ghost use Rattle.jc_world.specs.World.{waits_for_report, is_joined, with_stored};
+ghost use Rattle.jc_world.specs.Events.{fits, is_new, LooksFit, RestFits, RunAppending, StartFits};
+ghost use Rattle.jc_world.specs.Together.{FitTogether};
 ghost use Rattle.jc_world.specs.Coherent.{all_hold, Coherent};
 ghost use Rattle.jc_world.specs.Audit.{IsOrder, HasShares, IsAudit};
 
 use crate::audit::Audit;
-use crate::event::{Part, PickedUp, Reported, Shown, Stepped, WorldEvent, take_shown};
+use crate::ends::Over;
+use crate::event::{Part, PickedUp, Shown, Stepped, WorldEvent, take_shown};
 use crate::machine::Machine;
 use crate::open_call::OpenCall;
+use crate::reports::ReportedKey;
 use jc_model::{Change, Event, LoadAnswer, Reply};
 use jc_stripe::Eviction;
 use jc_stripe::phase_laws::{keeps_reserved, stays_reached};
@@ -90,7 +94,7 @@ impl World {
                 Stepped,
                 Eviction,
                 PickedUp,
-                Reported,
+                ReportedKey,
                 LoadAnswer,
                 Change,
                 Value,
@@ -142,6 +146,13 @@ impl World {
         self.machine.is_new(call)
     }
 
+    /// How many stripes the cache has.
+    pub fn stripes(&self) -> usize
+        ensures { result ≡ self.now.world.config.stripes }
+    {
+        self.machine.stripes()
+    }
+
     /// Whether a session has a call under way.
     pub fn is_busy(&self, session: u32) -> bool
         ensures { result ≡ is_busy self.now.world session }
@@ -154,6 +165,14 @@ impl World {
         ensures { option_copied result ≡ open_call self.now.world call }
     {
         self.machine.open_call(call)
+    }
+
+    /// The last call of many keys that is over, with its cause: it has left or was refused whole if it isn't this one. Asked once its
+    /// last event was played, that call is this one.
+    pub fn over(&self) -> Option<Over>
+        ensures { result ≡ self.now.world.ends.over }
+    {
+        self.machine.over()
     }
 
     /// What a call has asked and heard for a key that it has reserved.
@@ -173,6 +192,34 @@ impl World {
         self.machine.is_joined(call, key)
     }
 
+    /// Whether a call has reserved a key.
+    pub fn is_reserved(&self, call: u64, key: &Key) -> bool
+        ensures { result ≡ is_some (part_of self.now.world call key.now) }
+    {
+        self.machine.held_by(call, key).is_some()
+    }
+
+    /// Whether the loader was asked for a key that a call has reserved, and hasn't answered.
+    pub fn waits_for_load(&self, call: u64, key: &Key) -> bool
+        ensures { result ≡ has_progress waits_for_load (part_of self.now.world call key.now) }
+    {
+        self.machine.waits_for_load(call, key)
+    }
+
+    /// Whether the writer was asked for a key that a call has reserved, and hasn't returned.
+    pub fn waits_for_report(&self, call: u64, key: &Key) -> bool
+        ensures { result ≡ has_progress waits_for_report (part_of self.now.world call key.now) }
+    {
+        self.machine.waits_for_report(call, key)
+    }
+
+    /// Whether the entry processor was asked for a key that a call has reserved, and hasn't run.
+    pub fn waits_for_process(&self, call: u64, key: &Key) -> bool
+        ensures { result ≡ has_progress waits_for_process (part_of self.now.world call key.now) }
+    {
+        self.machine.waits_for_process(call, key)
+    }
+
     /// Whether an event fits now. One that doesn't would be shown as `Unfit`, and change nothing.
     pub fn fits(&self, event: &WorldEvent) -> bool
         ensures { result ≡ fits self.now.world event.now }
@@ -188,10 +235,29 @@ impl World {
         let _ = &self.machine;
     }
 
+    /// Events of one call at keys that differ, each of which fits now, fit one after the other: what happens at one key of a call
+    /// takes nothing from its others. So does the writer's return behind its changes of the store, and a call's leaving behind the
+    /// withdrawals of all that it has reserved. This does nothing: what it says is its contract.
+    pub fn lets_keys_go_together(&self)
+        ensures { FitTogether self.now.world }
+    {
+        stays_reached();
+        keeps_reserved();
+        let _ = &self.machine;
+    }
+
     /// Where a call fits that isn't refused whole, its first phase fits directly behind it, at each key at which it may work then. This
     /// does nothing: what it says is its contract.
     pub fn lets_calls_start(&self)
         ensures { StartFits self.now.world }
+    {
+        let _ = &self.machine;
+    }
+
+    /// The looks of a call that takes the keys that are cached, as `clear` does, fit one after the other, at the stripes that are left,
+    /// also directly behind its beginning. This does nothing: what it says is its contract.
+    pub fn lets_calls_look(&self)
+        ensures { LooksFit self.now.world }
     {
         let _ = &self.machine;
     }

@@ -1,12 +1,8 @@
 //! `clear`, before a store whose calls are counted.
 use super::answers::key;
+use super::many::failed;
 use super::*;
-use jc_bulk::{BulkFault, clear};
-
-/// What became of a call that failed.
-fn failed(rt: &impl Abort, cleared: Result<(), BulkFault>) -> BulkFault {
-    cleared.err().expect(rt, "a fault")
-}
+use jc_bulk::clear;
 
 /// Every key of both stripes is cleared, each by a step of its own. Neither the loader nor the writer is asked, and the store stays.
 /// An empty cache has nothing to clear.

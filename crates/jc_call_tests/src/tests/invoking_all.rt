@@ -5,7 +5,8 @@
 //!     b a: get next get; b 3; a 2 | 2 4 0
 ghost use Rattle.jc_cache.specs.Sessions.{MayCall};
 
-use super::answers::{answer_of, entry, first_word, key};
+use super::answers::{answer_of, entry, first_word};
+use super::many::{keys_of, many_keys};
 use super::scripted::Scripted;
 use super::*;
 use indexmap::{IndexMap, IndexSet};
@@ -14,15 +15,6 @@ use jc_mutentry::EntryProcessor;
 use jc_types::BULK_KEYS_MAX;
 
 type Results = IndexMap<Key, Result<Value, Refusal>>;
-
-/// The keys that a text names.
-fn keys_of(rt: &impl Abort, alloc: Global, text: &str) -> IndexSet<Key> {
-    let mut keys = IndexSet::new(alloc);
-    for word in text.split(' ') {
-        keys.insert(key(rt, word)).ok().expect(rt, "memory");
-    }
-    keys
-}
 
 /// Runs a processor with these calls at these keys.
 fn invoked<R: Abort + Wait>(
@@ -137,16 +129,6 @@ fn goes_on_after_a_full_history(rt: HostRuntime) {
     let line = "a b c d: set=2 get; a 2; b 2; c HistoryFull; d 2 | 0 0 0";
     desk.invoke_all(&rt, alloc, cache, session, line);
     is(&rt, session.own(), 16);
-}
-
-/// So many keys.
-fn many_keys(rt: &impl Abort, alloc: Global, count: usize) -> IndexSet<Key> {
-    let mut keys = IndexSet::new(alloc);
-    for number in 0..count {
-        let key = Key::new(&number.to_be_bytes()).expect(rt, "a key");
-        keys.insert(key).ok().expect(rt, "memory");
-    }
-    keys
 }
 
 /// The most keys are carried out. One more, and the call is refused whole: nobody is asked, and nothing changes.

@@ -12,7 +12,7 @@ ghost use Rattle.jc_script.specs.Transcript.{PlaysBegin, PlaysInvokeAll, PlaysLi
 use super::{LineBuffers, has_end};
 use crate::fault::Fault;
 use crate::keys::Keys;
-use crate::line::Operation;
+use crate::line::{BulkCall, Operation};
 use jc_model::{LoadAnswer, Op};
 use jc_types::{BULK_KEYS_MAX, Key, Value};
 use jc_world::command::{CallKind, Command};
@@ -40,23 +40,30 @@ pub(super) fn play_begin(
     Ok(None)
 }
 
-/// A line that begins an `invokeAll`, or its fault.
-pub(super) fn play_invoke_all(
+/// A line that begins a call of many keys, or its fault.
+pub(super) fn play_bulk(
     world: &mut World,
     number: u32,
     session: u32,
-    keys: &Keys,
+    call: &BulkCall,
     buffers: &mut LineBuffers,
     out: &mut Vec<u8>,
 ) -> Result<Option<Fault>, AllocError>
-    requires { is_callable (lines.InvokeAll number session keys.now) ≡ true }
-    ensures { IfOk result (λ r. PlaysLine (Some world.old.world) (lines.InvokeAll number session keys.now) r
+    requires { is_callable (lines.BeginBulk number session call.now) ≡ true }
+    ensures { IfOk result (λ r. PlaysLine (Some world.old.world) (lines.BeginBulk number session call.now) r
         out.old.items out.new.items (Some world.new.world)) }
 {
     if let Some(fault) = fault_of_begin(world, number, session) {
         return Ok(Some(fault));
     }
-    begin_invoke_all(world, number, session, keys, buffers, out)?;
+    match call {
+        BulkCall::InvokeAll(keys) => begin_invoke_all(world, number, session, keys, buffers, out)?,
+        BulkCall::GetAll(_)
+        | BulkCall::PutAll(_)
+        | BulkCall::RemoveAll(_)
+        | BulkCall::RemoveEvery
+        | BulkCall::Clear => unreachable!(),
+    }
     Ok(None)
 }
 
@@ -140,7 +147,7 @@ fn begin(
     put_begun(&mut buffers.events, call, session, command, first)?;
     world.lets_calls_start();
     world.lets_calls_continue();
-    buffers.play(world, &None, end, out)?;
+    buffers.play_call(world, call, None, end, out)?;
     Ok(())
 }
 

@@ -12,6 +12,7 @@ use std::alloc::Global;
 use std::process::Abort;
 
 mod courses;
+mod looks;
 mod many_keys;
 mod random;
 
@@ -122,9 +123,9 @@ fn plays_a_list_in_its_order(rt: HostRuntime) {
     let alloc = rt.alloc();
     let mut world = opened_world(&rt, alloc);
     let a = key_of(&rt, "a");
-    let begin = event_of(&rt, "get", "1", a);
-    let start = event_of(&rt, "start", "1", a);
-    let commit = event_of(&rt, "commit", "1", a);
+    let begin = event_of(&rt, alloc, "get", "1", a);
+    let start = event_of(&rt, alloc, "start", "1", a);
+    let commit = event_of(&rt, alloc, "commit", "1", a);
     let mut seen = Vec::new(alloc);
     world
         .play(&[begin, start, commit], &mut seen)

@@ -1,18 +1,19 @@
 //! What loaders, writers and others do.
 ghost use Rattle.std.specs.Prelude.{◌≡◌, true, false, Ok, OnOk, OnErr, Option, None, Some};
-ghost use Rattle.jc_model.specs.Table.{is_load_given};
-ghost use Rattle.jc_model.specs.declared.event.Change.{Change};
+ghost use Rattle.jc_model.specs.Table.{is_load_given, is_write_given};
 ghost use Rattle.jc_world.specs.declared.event.WorldEvent.TheVariants as event;
 ghost use Rattle.jc_world.specs.declared.event.Part.{Part};
-ghost use Rattle.jc_world.specs.World.{has_progress, open_call, part_of, waits_for_load, waits_for_report, writer_change};
-ghost use Rattle.jc_world.specs.Premises.{report_of};
-ghost use Rattle.jc_world.specs.Events.{fits, after_answer, after_report, shown_report, Happens};
+ghost use Rattle.jc_world.specs.World.{has_progress, open_call, part_of, waits_for_load, waits_for_report};
+ghost use Rattle.jc_world.specs.Premises.{report_for};
+ghost use Rattle.jc_world.specs.Events.{fits, waits_at, after_answer, after_report, reported_at, after_reports, keys_reported, Happens};
 
-use crate::event::{Reported, Shown, show};
+use crate::command::CallKind;
+use crate::event::Shown;
 use crate::held_keys::{change, loader_answers, report};
 use crate::machine::Machine;
 use crate::outside::{and_now, answer_of, is_honest_load, is_honest_report};
-use jc_model::LoadAnswer;
+use crate::reports::{LeftKeys, Reported, ReportedKey, ReportedKeys, report_for};
+use jc_model::{LoadAnswer, WriteAnswer};
 use jc_types::{Key, Value};
 use std::alloc::AllocError;
 
@@ -73,33 +74,70 @@ impl Machine {
         Ok(())
     }
 
-    /// The writer returns.
-    fn report(&mut self, call: u64, key: &Key, fault: Option<u32>) -> Reported
-        requires { has_progress waits_for_report (part_of self.old call key.now) ≡ true }
-        ensures { (part : Part) × (change : Change) × (part_of self.old call key.now ≡ Some part)
-            × (writer_change part ≡ Some change)
-            × (result ≡ shown_report change part.progress fault)
-            × (self.new ≡ after_report self.old key.now part (report_of fault)) }
+    /// The writer returns with this for a key.
+    fn report(&mut self, call: u64, key: &Key, answer: WriteAnswer)
+        requires waits { waits_at self.old call key.now ≡ true }
+        requires given { is_write_given answer ≡ true }
+        ensures { (part : Part) × (part_of self.old call key.now ≡ Some part)
+            × (self.new ≡ after_report self.old key.now part answer) }
     {
-        let reported = report(&mut self.held, key, fault);
-        let honest = is_honest_report(&reported);
+        // Copied first: a value counts as moved by the call that takes it.
+        let kept = answer;
+        let is_changed = report(&mut self.held, key, answer);
+        let honest = is_honest_report(&kept, is_changed);
         self.premises.writers = and_now(self.premises.writers, honest);
-        reported
     }
 
-    /// The writer of a call that works at one key at a time returns.
+    /// The same, if the writer was asked for the key and hasn't returned.
+    fn report_at(&mut self, call: u64, key: &Key, answer: WriteAnswer)
+        requires { is_write_given answer ≡ true }
+        ensures { self.new ≡ reported_at self.old key.now answer (part_of self.old call key.now) }
+    {
+        if self.waits_for_report(call, key) {
+            self.report(call, key, answer);
+        }
+    }
+
+    /// The writer of a call returns for each of these keys.
+    fn report_each(
+        &mut self,
+        call: u64,
+        kind: CallKind,
+        left: &LeftKeys,
+        fault: Option<u32>,
+        reported: &[ReportedKey],
+    )
+        ensures { self.new ≡
+            after_reports self.old call (report_for kind left.now fault) (keys_reported reported.now) }
+    {
+        for one in reported {
+            self.report_at(call, &one.key, report_for(kind, left, fault, &one.key));
+        }
+    }
+
+    /// The writer of a call returns, for all keys that it was asked for and hasn't returned for.
     #[inline(never)]
-    pub(super) fn writer_returns(&mut self, call: u64, fault: Option<u32>, seen: &mut Shown)
-        requires { fits self.old (event.Report call fault) ≡ true }
-        ensures { Happens self.old (event.Report call fault) seen.new self.new }
+    pub(super) fn writer_returns(
+        &mut self,
+        call: u64,
+        left: &LeftKeys,
+        fault: Option<u32>,
+        seen: &mut Shown,
+    ) -> Result<(), AllocError>
+        requires { fits self.old (event.Report call left.now fault) ≡ true }
+        ensures ok { OnOk result (
+            Happens self.old (event.Report call left.now fault) seen.new self.new) }
+        ensures err { OnErr result (self.new ≡ self.old) }
     {
         let Some(u) = self.open_call(call) else {
             unreachable!()
         };
-        let Some(key) = u.current_key().copied() else {
-            unreachable!()
-        };
-        show(seen, Shown::Reported(self.report(call, &key, fault)));
+        let kind = u.kind();
+        let reported = u.reported_keys(self.alloc, call, &self.held)?;
+        self.report_each(call, kind, left, fault, &reported);
+        let keys = ReportedKeys::new(reported);
+        *seen = Shown::Reported(Reported { keys, fault });
+        Ok(())
     }
 
     /// Somebody else changes the store.

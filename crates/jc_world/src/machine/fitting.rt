@@ -1,14 +1,14 @@
 //! Whether an event fits.
 ghost use Rattle.std.specs.Prelude.{◌≡◌, ◌&&◌, not, true, false, None, Some};
 ghost use Rattle.jc_world.specs.declared.event.WorldEvent.TheVariants as event;
-ghost use Rattle.jc_world.specs.World.{has_progress, is_busy, is_joined, open_call, part_of, waits_for_load};
-ghost use Rattle.jc_world.specs.World.{waits_for_report, waits_for_process};
-ghost use Rattle.jc_world.specs.Events.{is_playable, is_session, is_new, may_start, may_leave, is_free, may_report, fits};
-ghost use Rattle.jc_world.specs.Events.{is_single};
+ghost use Rattle.jc_world.specs.World.{has_progress, is_busy, is_joined, open_call, part_of, waits_for_load, waits_for_process};
+ghost use Rattle.jc_world.specs.Events.{is_playable, is_session, is_new, may_start, may_leave, is_free, may_report, waits_at, fits};
+ghost use Rattle.jc_world.specs.Events.{is_single, may_look};
 
 use crate::calls::{is_known, is_playable};
 use crate::command::Command;
 use crate::event::WorldEvent;
+use crate::held_keys::waits_for_report;
 use crate::machine::Machine;
 use jc_types::Key;
 
@@ -23,13 +23,18 @@ impl Machine {
                 session,
                 command,
             } => self.may_call(*call, *session, command),
+            WorldEvent::Look { call, stripe } => self.may_look(*call, *stripe),
             WorldEvent::Start { call, key } => self.may_start(*call, key),
             WorldEvent::Read { call, key } => self.waits_for_load(*call, key),
             WorldEvent::Say { call, key, answer } => {
                 answer.is_given() && self.waits_for_load(*call, key)
             }
             WorldEvent::Change { call, key } => self.waits_for_report(*call, key),
-            WorldEvent::Report { call, fault: _ } => self.may_report(*call),
+            WorldEvent::Report {
+                call,
+                left: _,
+                fault: _,
+            } => self.may_report(*call),
             WorldEvent::Process { call, key, .. } => self.waits_for_process(*call, key),
             WorldEvent::Commit { call, key } => {
                 self.held_by(*call, key)
@@ -46,7 +51,7 @@ impl Machine {
     }
 
     /// Whether the loader was asked for a key of the call, and hasn't answered.
-    fn waits_for_load(&self, call: u64, key: &Key) -> bool
+    pub(crate) fn waits_for_load(&self, call: u64, key: &Key) -> bool
         ensures { result ≡ has_progress waits_for_load (part_of self.now call key.now) }
     {
         self.held_by(call, key)
@@ -54,7 +59,7 @@ impl Machine {
     }
 
     /// Whether the entry processor was asked for a key of the call, and hasn't run.
-    fn waits_for_process(&self, call: u64, key: &Key) -> bool
+    pub(crate) fn waits_for_process(&self, call: u64, key: &Key) -> bool
         ensures { result ≡ has_progress waits_for_process (part_of self.now call key.now) }
     {
         self.held_by(call, key)
@@ -62,11 +67,10 @@ impl Machine {
     }
 
     /// Whether the writer was asked for a key of the call, and hasn't returned.
-    fn waits_for_report(&self, call: u64, key: &Key) -> bool
-        ensures { result ≡ has_progress waits_for_report (part_of self.now call key.now) }
+    pub(crate) fn waits_for_report(&self, call: u64, key: &Key) -> bool
+        ensures { result ≡ waits_at self.now call key.now }
     {
-        self.held_by(call, key)
-            .is_some_and(|held| held.progress().waits_for_report())
+        waits_for_report(&self.held, call, key)
     }
 
     /// Whether a call has neither a reservation nor a join of a key.
@@ -82,6 +86,15 @@ impl Machine {
     {
         let busy = self.is_busy(session);
         is_playable(command) && is_known(session) && self.is_new(call) && !busy
+    }
+
+    fn may_look(&self, call: u64, stripe: usize) -> bool
+        ensures { result ≡ may_look stripe (open_call self.now call) }
+    {
+        match self.open_call(call) {
+            Some(u) => u.looks_next(stripe),
+            None => false,
+        }
     }
 
     fn may_start(&self, call: u64, key: &Key) -> bool
@@ -106,10 +119,7 @@ impl Machine {
         ensures { result ≡ may_report self.now call (open_call self.now call) }
     {
         match self.open_call(call) {
-            Some(u) => {
-                u.current_key()
-                    .is_some_and(|key| self.waits_for_report(call, key))
-            }
+            Some(u) => u.waits_for_report(call, &self.held),
             None => false,
         }
     }

@@ -10,6 +10,9 @@ use Rattle.jc_bulk.proofs.Phased.{begins_after, adds_at}
 use Rattle.jc_bulk.proofs.Refusing.{refused_full, put_off_out}
 use Rattle.jc_bulk.proofs.Starting.{keys_same, one_more}
 use Rattle.jc_bulk.proofs.Under.{no_more}
+use Rattle.jc_bulk.proofs.WrittenThrough.{written_through}
+use Rattle.jc_types.specs.declared.config.Config.{Config}
+use Rattle.jc_model.specs.Cache.{entry_at}
 use Rattle.jc_bulk.proofs.round.start_write.Goals as goal
 
 pub start-requires-clause-may : goal.start-requires-clause-may
@@ -117,3 +120,14 @@ returns-else-is_put_off-clause-adds g c =
     adds_at who (events_begun who c.args.key.now c.args.op.now b) c.args.key.now who.session c.args.cache.now c.start.new.self made
     (begins_after made.before made.after who c.args.key.now c.args.op.now b c.grows.ensures made.made)
     (λ q s t was now. c.records.ensures.begins c.args.cache.now c.start.new.self who c.args.key.now c.args.op.now b q s t made was now)
+
+pub returns-in-Write-clause-through : goal.returns-in-Write-clause-through
+returns-in-Write-clause-through g c is =
+    let calls = c.args.calls.now.items in
+    let key = c.args.key.now in
+    let who = c.args.session.now.caller in
+    let cache = c.args.cache.now in
+    let made = c.in-Write.ensures.phase in
+    let under = at_key (IsUnder cache.config who (reservations_in calls)) cache key made.before c.requires.underway.stripes made.at.was in
+    ap (λ (config : Config). config.write_through) (sym under.config_is)
+    ∙ written_through made.before.config c.args.op.now (entry_at made.before.cache key) c.in-Write.call.reservation.first c.args.calls.now.deletes c.requires.kind made.made.1 made.made.2

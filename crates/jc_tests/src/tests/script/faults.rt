@@ -17,8 +17,12 @@ begin 1 s1 replaceif a 1 2 3
 begin 1 s1 clear
 readfail x
 readfail x 1 2
-apply 1 but a
-applyfail 1 2 but
+apply 1 a
+apply x but
+applyfail x 2 frob
+applyfail 1 but a
+applylie 1 2 but a
+end 1 but a
 say
 foreign !
 audit 1
@@ -62,6 +66,9 @@ process 1 loadfail=
 process 1 loadfail=01 set=!
 process 1 fail=
 process 1 get set=1 fail=x
+apply x but !
+applyfail 1 but
+applyfail 1 x but !
 ==
 bad caller
 begin 1 s0 get !
@@ -76,6 +83,13 @@ set ~ 1
 foreign - -
 say 1 a=1 !=!
 say 1 =1
+apply 1 but !
+applyfail 1 2 but a ! a
+==
+repeated key
+begin 1 s1 invokeall a a !
+apply 1 but a b a !
+applyfail 1 2 but a a
 ==
 bad value
 begin 1 s1 put a !
@@ -101,6 +115,8 @@ fn tells_bad_words_from_the_left(rt: HostRuntime) {
 const BAD_STATES: &str = "\
 not open
 end 9
+apply 1 but a
+applyfail 1 2 but
 audit
 foreign a 1
 set a 1
@@ -192,6 +208,9 @@ open 1 2 100 read write; begin 1 s1 invoke a; process 1 set=1; end 1
 open 1 2 100 read write; begin 1 s1 invoke a; process 1; drop 1
 open 1 2 100 read write; begin 1 s1 get a; process 1
 open 1 2 100 read write; begin 1 s1 put a 1; process 1
+open 1 2 100 read write; begin 1 s1 put a 1; apply 1 but a
+open 1 2 100 read write; begin 1 s1 put a 1; applyfail 1 2 but
+open 1 2 100 write; begin 1 s1 invokeall a; process 1 set=1; apply 1 but a
 ";
 
 #[test]

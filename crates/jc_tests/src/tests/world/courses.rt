@@ -10,6 +10,7 @@ use jc_model::{LoadAnswer, Op};
 use jc_types::Key;
 use jc_world::command::Command;
 use jc_world::event::{Shown, WorldEvent};
+use jc_world::reports::LeftKeys;
 use jc_world::world::World;
 use std::alloc::Global;
 use std::process::Abort;
@@ -18,7 +19,7 @@ use std::process::Abort;
 const EVENTS: &str = "start read say change report commit withdraw leave pickup";
 
 /// An event by its name, with a call by its number.
-pub fn event_of(rt: &impl Abort, name: &str, number: &str, key: Key) -> WorldEvent {
+pub fn event_of(rt: &impl Abort, alloc: Global, name: &str, number: &str, key: Key) -> WorldEvent {
     let call: u64 = number.parse().ok().expect(rt, "a number");
     match name {
         "start" => WorldEvent::Start { call, key },
@@ -34,7 +35,11 @@ pub fn event_of(rt: &impl Abort, name: &str, number: &str, key: Key) -> WorldEve
             answer: LoadAnswer::NotAsked,
         },
         "change" => WorldEvent::Change { call, key },
-        "report" => WorldEvent::Report { call, fault: None },
+        "report" => WorldEvent::Report {
+            call,
+            left: LeftKeys::new(alloc),
+            fault: None,
+        },
         "commit" => WorldEvent::Commit { call, key },
         "withdraw" => WorldEvent::Withdraw { call, key },
         "leave" => WorldEvent::Leave { call },
@@ -65,6 +70,7 @@ fn op_of(rt: &impl Abort, name: &str, number: &str) -> Op {
 fn word_of(shown: &Shown) -> &'static str {
     match shown {
         Shown::Begun => "begun",
+        Shown::Looked => "looked",
         Shown::Stepped(_) => "stepped",
         Shown::Loads => "loads",
         Shown::Asks(_) => "asks",
@@ -75,7 +81,7 @@ fn word_of(shown: &Shown) -> &'static str {
         Shown::Says(_) => "says",
         Shown::Changed => "changed",
         Shown::Reported(reported) => {
-            if reported.is_changed {
+            if reported.keys.as_slice().iter().all(|key| key.is_changed) {
                 "done"
             } else {
                 "undone"
@@ -119,7 +125,7 @@ fn fit(
     line: &str,
 ) {
     for name in EVENTS.split(' ') {
-        let event = event_of(rt, name, number, key);
+        let event = event_of(rt, alloc, name, number, key);
         let fits = fitting.contains(name);
         assert!(rt; world.fits(&event) == fits, "{name} after {line}");
         if !fits {
@@ -140,7 +146,7 @@ pub fn plays(rt: &impl Abort, alloc: Global, world: &mut World, course: &str) {
             rt,
             alloc,
             world,
-            event_of(rt, name, number, key),
+            event_of(rt, alloc, name, number, key),
             word,
             line,
         );

@@ -1,12 +1,14 @@
-//! A processor on many keys, event by event: one key after the other.
+//! Calls of many keys, event by event: a processor at one key after the other, and a batch that fails in part.
 use super::courses::{plays, shows};
 use super::{is_in_order, key_of, opened_world, value_of};
 use indexmap::IndexSet;
 use jc_model::EntryCall;
-use jc_types::{BULK_KEYS_MAX, Key};
+use jc_types::{BULK_KEYS_MAX, Key, Refusal};
 use jc_world::command::Command;
+use jc_world::ends::Over;
 use jc_world::event::WorldEvent;
 use jc_world::process::{EntryCalls, LoadSource};
+use jc_world::reports::LeftKeys;
 use jc_world::world::World;
 use std::alloc::Global;
 use std::process::Abort;
@@ -95,6 +97,47 @@ fn takes_one_key_after_the_other(rt: HostRuntime) {
     plays(&rt, alloc, &mut world, SECOND_OVER);
     assert!(rt; !world.is_busy(1), "the call is over");
     is_in_order(&rt, alloc, &world, "a b ");
+    world.close();
+}
+
+/// Both keys of a batch are asked of the writer, in any order, and it deletes the first.
+const BATCH_CHANGED: &str = "\
+start 1 b: asks; change report withdraw
+start 1 a: asks; change report withdraw
+change 1 a: changed; change report
+";
+
+/// The writer has returned for both.
+const BATCH_COMMITTED: &str = "\
+report 1 a: unfit; commit
+commit 1 b: stepped; none
+commit 1 a: stepped; none
+";
+
+/// The writer returns normally, and its collection still holds a key: that one failed.
+#[test]
+fn commits_what_the_writer_did_not_leave(rt: HostRuntime) {
+    let alloc = rt.alloc();
+    let mut world = opened_world(&rt, alloc);
+    let command = Command::RemoveAll {
+        keys: keys_of(&rt, alloc, "a b"),
+    };
+    let (call, session) = (1, 1);
+    let begin = WorldEvent::Call {
+        call,
+        session,
+        command,
+    };
+    shows(&rt, alloc, &mut world, begin, "begun", "the call");
+    plays(&rt, alloc, &mut world, BATCH_CHANGED);
+    let fault = None;
+    let left = LeftKeys::one(alloc, &key_of(&rt, "b")).expect(&rt, "memory");
+    let report = WorldEvent::Report { call, left, fault };
+    shows(&rt, alloc, &mut world, report, "undone", "the report");
+    plays(&rt, alloc, &mut world, BATCH_COMMITTED);
+    let cause = Some(Refusal::WriterFailed(0));
+    assert!(rt; world.over() == Some(Over { call, cause }), "its cause");
+    is_in_order(&rt, alloc, &world, "b a ");
     world.close();
 }
 

@@ -4,6 +4,7 @@ use jc_model::{Event, LoadAnswer, Op, Reply, legal};
 use jc_types::{Config, Key, Value, stripe_of};
 use jc_world::command::Command;
 use jc_world::event::{Shown, WorldEvent};
+use jc_world::reports::LeftKeys;
 use jc_world::world::World;
 use std::alloc::Global;
 use std::process::Abort;
@@ -64,7 +65,7 @@ impl Lot {
     }
 
     /// Something that may happen to a call, whether it fits or not.
-    fn event(&mut self, rt: &impl Abort, call: u64, key: Key) -> WorldEvent {
+    fn event(&mut self, rt: &impl Abort, alloc: Global, call: u64, key: Key) -> WorldEvent {
         match self.draw(17) {
             0 | 1 => WorldEvent::Read { call, key },
             2 => {
@@ -76,9 +77,14 @@ impl Lot {
                 WorldEvent::Say { call, key, answer }
             }
             4 | 5 => WorldEvent::Change { call, key },
-            6 | 7 => WorldEvent::Report { call, fault: None },
+            6 | 7 => WorldEvent::Report {
+                call,
+                left: LeftKeys::new(alloc),
+                fault: None,
+            },
             8 => WorldEvent::Report {
                 call,
+                left: LeftKeys::new(alloc),
                 fault: Some(9),
             },
             9 | 10 | 11 => WorldEvent::Commit { call, key },
@@ -256,7 +262,7 @@ fn kind(shown: &Shown) -> usize {
         Shown::Again => 14,
         Shown::Written => 15,
         Shown::Unfit => 16,
-        Shown::Processes(_) | Shown::Processed(_) | Shown::PutOff(_) => KINDS,
+        Shown::Looked | Shown::Processes(_) | Shown::Processed(_) | Shown::PutOff(_) => KINDS,
     }
 }
 
@@ -316,7 +322,7 @@ impl Run {
         let slot = self.calls.get_mut(place as usize).expect(rt, "a session");
         if world.is_busy(session) {
             let (call, key) = *slot;
-            let event = self.lot.event(rt, call, key);
+            let event = self.lot.event(rt, alloc, call, key);
             self.plays(rt, alloc, world, event);
             return;
         }

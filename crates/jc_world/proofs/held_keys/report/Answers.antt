@@ -5,23 +5,20 @@ use Rattle.jc_world.specs.Held.{parts_of}
 use Rattle.jc_outside.proofs.CallerLemmas.{get-entries, insert-entries}
 use Rattle.jc_world.proofs.held_keys.report.Goals as goal
 
-pub report-requires : goal.report-requires
-report-requires c = ap (has_progress waits_for_report) (c.in-Some.ensures.value ∙ get-entries c.args.held.now c.args.key.now) ∙ c.requires
+pub report-requires-clause-waits : goal.report-requires-clause-waits
+report-requires-clause-waits c = ap (has_progress waits_for_report) (c.in-Some.ensures.value ∙ get-entries c.args.held.now c.args.key.now) ∙ c.requires.waits
 
 pub unreachable-requires : goal.unreachable-requires
-unreachable-requires c = let e = ap (has_progress waits_for_report) (c.in-None.ensures.value ∙ get-entries c.args.held.now c.args.key.now) ∙ c.requires in cc
+unreachable-requires c = let e = ap (has_progress waits_for_report) (c.in-None.ensures.value ∙ get-entries c.args.held.now c.args.key.now) ∙ c.requires.waits in cc
 
 pub returns : goal.returns
 returns c =
     let m = c.args.held.now in
     let key = c.args.key.now in
     let there = sym (ap is_some c.in-Some.ensures.value) in
-    let left = c.get_mut.follows.lender c.report.new.self in
-    let said = c.report.result in (
+    let left = c.get_mut.follows.lender c.report.new.self in (
       c.in-Some.one.now,
-      said.change,
       sym (c.in-Some.ensures.value ∙ get-entries m key),
-      c.report.ensures.change,
-      (λ i. record { change = said.change; is_changed = c.report.ensures.changed i; fault = c.report.ensures.fault i }),
+      c.report.ensures.changed,
       insert-entries m left key c.report.new.self ((c.get_mut.follows.holds c.report.new.self).3 there) ∙ ap (map.insert (parts_of m) key) c.report.ensures.report,
     )

@@ -23,12 +23,17 @@ returns-in-Read-clause-ok c =
     let P : WorldEvent → Type 0 = λ e. Happens c.args.self.now e c.read.new.seen c.read.new.self in
     subst P (sym c.in-Read.is) c.read.ensures
 
-pub returns-in-Report-clause-ok : goal.returns-in-Report-clause-ok
-returns-in-Report-clause-ok c =
+pub returns-in_ok-writer_returns-in-Report-clause-ok : goal.returns-in_ok-writer_returns-in-Report-clause-ok
+returns-in_ok-writer_returns-in-Report-clause-ok c =
     let P : WorldEvent → Type 0 = λ e. Happens c.args.self.now e c.writer_returns.new.seen c.writer_returns.new.self in
-    subst P (sym c.in-Report.is) c.writer_returns.ensures
+    subst P (sym c.in-Report.is) c.in_ok-writer_returns-in-Report.ensures.ok
 
 pub returns-in_ok-start-in-Start-clause-ok : goal.returns-in_ok-start-in-Start-clause-ok
 returns-in_ok-start-in-Start-clause-ok c =
     let P : WorldEvent → Type 0 = λ e. Happens c.args.self.now e c.start.new.seen c.start.new.self in
     subst P (sym c.in-Start.is) c.in_ok-start-in-Start.ensures.ok
+
+pub returns-in_ok-look-in-Look-clause-ok : goal.returns-in_ok-look-in-Look-clause-ok
+returns-in_ok-look-in-Look-clause-ok c =
+    let P : WorldEvent → Type 0 = λ e. Happens c.args.self.now e c.look.new.seen c.look.new.self in
+    subst P (sym c.in-Look.is) c.in_ok-look-in-Look.ensures.ok

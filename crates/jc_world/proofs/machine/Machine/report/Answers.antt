@@ -1,31 +1,30 @@
 use Rattle.std.proofs.Common.{◌≡◌, ◌&&◌, true, Some, subst, sym, ap, ◌∙◌}
 use Rattle.std.specs.FinMap.{get}
-use Rattle.jc_world.specs.declared.event.Reported.{Reported}
 use Rattle.jc_world.specs.World.{WorldState, has_changed, part_of, waits_for_report, has_progress}
-use Rattle.jc_world.specs.Premises.{report_of, is_true_report}
-use Rattle.jc_world.specs.Events.{after_report}
+use Rattle.jc_world.specs.Premises.{is_true_report}
+use Rattle.jc_world.specs.Events.{waits_at, after_report}
 use Rattle.jc_world.specs.Inside.{world_of}
 use Rattle.jc_world.proofs.Holding.{of_key}
 use Rattle.jc_world.proofs.machine.Machine.report.Goals as goal
 
-pub report-reported-requires : goal.report-reported-requires
-report-reported-requires c =
+pub report-is_changed-requires-clause-waits : goal.report-is_changed-requires-clause-waits
+report-is_changed-requires-clause-waits c =
     let v : WorldState = world_of c.self.inside in
-    let W : WorldState → Type 0 = λ x. has_progress waits_for_report (part_of x c.args.call c.args.key.now) ≡ true in
-    (of_key (has_progress waits_for_report) (get v.parts c.args.key.now) c.args.call (λ h. cc) (subst W (sym c.self.view_is) c.requires)).3
+    let W : WorldState → Type 0 = λ x. waits_at x c.args.call c.args.key.now ≡ true in
+    (of_key (has_progress waits_for_report) (get v.parts c.args.key.now) c.args.call (λ h. cc) (subst W (sym c.self.view_is) c.requires.waits)).3
 
 pub returns : goal.returns
 returns c =
     let v : WorldState = world_of c.self.inside in
     let key = c.args.key.now in
-    let W : WorldState → Type 0 = λ x. has_progress waits_for_report (part_of x c.args.call key) ≡ true in
-    let of = of_key (has_progress waits_for_report) (get v.parts key) c.args.call (λ h. cc) (subst W (sym c.self.view_is) c.requires) in
-    let said = c.report-reported.ensures in
+    let W : WorldState → Type 0 = λ x. waits_at x c.args.call key ≡ true in
+    let of = of_key (has_progress waits_for_report) (get v.parts key) c.args.call (λ h. cc) (subst W (sym c.self.view_is) c.requires.waits) in
+    let said = c.report-is_changed.ensures in
     let part = said.0 in
-    let there : part_of v c.args.call key ≡ Some part = of.1 ∙ sym of.2 ∙ said.2 in
-    let report = report_of c.args.fault in
-    let next = world_of (record c.self.inside { held = c.report-reported.new.held; premises = record c.self.inside.premises { writers = c.and_now-self-inside.result } }) in
-    let writers : c.and_now-self-inside.result ≡ (c.self.inside.premises.writers && is_true_report report (has_changed part.progress)) =
-    c.and_now-self-inside.ensures ∙ ap (λ b. c.self.inside.premises.writers && b) (c.is_honest_report-honest.ensures ∙ ap (λ (r : Reported). is_true_report (report_of r.fault) r.is_changed) said.4) in
-    let is : next ≡ after_report v key part report = λ i. record v { parts = said.5 i; premises = record c.self.inside.premises { writers = writers i } } in
-    (part, said.1, sym (ap (λ (x : WorldState). part_of x c.args.call key) c.self.view_is) ∙ there, said.3, said.4, is ∙ ap (λ (x : WorldState). after_report x key part report) c.self.view_is)
+    let there : part_of v c.args.call key ≡ Some part = of.1 ∙ sym of.2 ∙ said.1 in
+    let answer = c.args.answer in
+    let next = world_of (record c.self.inside { held = c.report-is_changed.new.held; premises = record c.self.inside.premises { writers = c.and_now-self-inside.result } }) in
+    let writers : c.and_now-self-inside.result ≡ (c.self.inside.premises.writers && is_true_report answer (has_changed part.progress)) =
+    c.and_now-self-inside.ensures ∙ ap (λ b. c.self.inside.premises.writers && b) (c.is_honest_report-honest.ensures ∙ ap (is_true_report answer) said.2) in
+    let is : next ≡ after_report v key part answer = λ i. record v { parts = said.3 i; premises = record c.self.inside.premises { writers = writers i } } in
+    (part, sym (ap (λ (x : WorldState). part_of x c.args.call key) c.self.view_is) ∙ there, is ∙ ap (λ (x : WorldState). after_report x key part answer) c.self.view_is)

@@ -1,0 +1,100 @@
+-- What a `getAll` returns, as it is added key by key.
+--     get_ends_push    how the keys ended, with one key more
+--     failed_push, found_push    what failed and what was found, with one key more
+--     failed_absent, found_absent    a key that isn't among the keys is not among these
+--     failures_are     the failures are those of the entries that failed
+--     cause_among      so the cause is one of theirs
+--     no_failure       if there is none, no entry failed
+--     any_err          what is so of every error
+use Rattle.std.proofs.Common.{◌≡◌, ◌==◌, ◌||◌, ◌<◌, ◌+◌, ◌++◌, inl, ℕ, List, [], ◌∷◌, length, map, take, get_or, min, false, Option, None, Some, option_map, Result, Ok, Err, IfErr, append_assoc, refl, sym, ap, ◌∙◌, subst, arith}
+use Rattle.std.proofs.lemmas.Bool.{or_parts}
+use Rattle.std.proofs.lemmas.List.{take_more, length-take}
+use Rattle.std.proofs.lemmas.List.Elements.{filter_map-append}
+use Rattle.std.specs.List.{list_any, cons_option, IsAmong}
+use Rattle.std.specs.Map.{keys_of}
+use Rattle.std.specs.Cmp.Lexicographic.{pointwise}
+use Rattle.jc_types.specs.declared.refusal.Refusal.{Refusal}
+use Rattle.jc_model.specs.declared.event.Reply.{Reply}
+use Rattle.jc_model.specs.Batches.{is_among}
+use Rattle.jc_model.specs.Cache.{Bytes}
+use Rattle.jc_bulk.specs.Bulk.{CauseAmong, HasNoCause}
+use Rattle.jc_bulk.specs.Ends.{KeyEnd, refusal_in, reply_value, failed_entries, found_entries}
+use Rattle.jc_bulk.specs.GetRounds.{IsCauseIn, failures}
+use Rattle.jc_bulk.specs.Getting.{get_end, get_ends}
+use Rattle.jc_bulk.proofs.Under.{no_more}
+
+-- 1. One key more.
+
+ends_push : (keys : List Bytes) (ends : List (Option (Result Reply Refusal))) (key : Bytes) (end : Option (Result Reply Refusal)) → length ends ≡ length keys
+    → get_ends (keys ++ key ∷ []) (ends ++ end ∷ []) ≡ get_ends keys ends ++ get_end key end
+ends_push [] [] key end many = no_more (get_end key end)
+ends_push [] (e ∷ ends) key end many = cc
+ends_push (k ∷ keys) [] key end many = cc
+ends_push (k ∷ keys) (e ∷ ends) key end many =
+    let fewer : length ends ≡ length keys = cc in
+    ap (λ es. get_end k e ++ es) (ends_push keys ends key end fewer) ∙ sym (append_assoc (get_end k e) (get_ends keys ends) (get_end key end))
+
+pub get_ends_push : (keys : List Bytes) (ends : List (Option (Result Reply Refusal))) (i : ℕ) (key : Bytes) (end : Option (Result Reply Refusal)) → length ends ≡ length keys → i < length keys
+    → get_ends (take (i + 1) keys) (take (i + 1) ends) ≡ get_ends (take i keys) (take i ends) ++ get_end (get_or keys i key) (get_or ends i end)
+get_ends_push keys ends i key end many near =
+    let same : length (take i ends) ≡ length (take i keys) = length-take i ends ∙ ap (min i) many ∙ sym (length-take i keys) in
+    (λ j. get_ends (take_more keys i key near j) (take_more ends i end (omega (arith, many, near)) j))
+    ∙ ends_push (take i keys) (take i ends) (get_or keys i key) (get_or ends i end) same
+
+pub failed_push : (failed : List (Bytes × Refusal)) (ends more : List KeyEnd) → failed ≡ failed_entries ends → failed ++ failed_entries more ≡ failed_entries (ends ++ more)
+failed_push failed ends more is = ap (λ es. es ++ failed_entries more) is ∙ sym (filter_map-append (λ (e : KeyEnd). option_map (λ r. (e.key, r)) (refusal_in e.ended)) ends more)
+
+pub found_push : (found : List (Bytes × Bytes)) (ends more : List KeyEnd) → found ≡ found_entries ends → found ++ found_entries more ≡ found_entries (ends ++ more)
+found_push found ends more is = ap (λ es. es ++ found_entries more) is ∙ sym (filter_map-append (λ (e : KeyEnd). option_map (λ v. (e.key, v)) (reply_value e.ended)) ends more)
+
+-- 2. A key that is new.
+
+told_absent : {V : Type 0} (o : Option V) (k q : Bytes) (entries : List (Bytes × V)) → pointwise ◌==◌ q k ≡ false → list_any (pointwise ◌==◌ q) (keys_of entries) ≡ false
+    → list_any (pointwise ◌==◌ q) (keys_of (cons_option (option_map (λ v. (k, v)) o) entries)) ≡ false
+told_absent None k q entries apart none = none
+told_absent (Some v) k q entries apart none = ap (λ b. b || list_any (pointwise ◌==◌ q) (keys_of entries)) apart ∙ none
+
+pub failed_absent : (keys : List Bytes) (ends : List (Option (Result Reply Refusal))) (q : Bytes) → is_among keys q ≡ false → list_any (pointwise ◌==◌ q) (keys_of (failed_entries (get_ends keys ends))) ≡ false
+failed_absent [] ends q away = refl
+failed_absent (k ∷ keys) [] q away = refl
+failed_absent (k ∷ keys) (None ∷ ends) q away = failed_absent keys ends q (or_parts (pointwise ◌==◌ q k) (is_among keys q) away).1
+failed_absent (k ∷ keys) (Some x ∷ ends) q away =
+    let parts = or_parts (pointwise ◌==◌ q k) (is_among keys q) away in
+    told_absent (refusal_in x) k q (failed_entries (get_ends keys ends)) parts.0 (failed_absent keys ends q parts.1)
+
+pub found_absent : (keys : List Bytes) (ends : List (Option (Result Reply Refusal))) (q : Bytes) → is_among keys q ≡ false → list_any (pointwise ◌==◌ q) (keys_of (found_entries (get_ends keys ends))) ≡ false
+found_absent [] ends q away = refl
+found_absent (k ∷ keys) [] q away = refl
+found_absent (k ∷ keys) (None ∷ ends) q away = found_absent keys ends q (or_parts (pointwise ◌==◌ q k) (is_among keys q) away).1
+found_absent (k ∷ keys) (Some x ∷ ends) q away =
+    let parts = or_parts (pointwise ◌==◌ q k) (is_among keys q) away in
+    told_absent (reply_value x) k q (found_entries (get_ends keys ends)) parts.0 (found_absent keys ends q parts.1)
+
+-- 3. The cause.
+
+told_map : (o : Option Refusal) (k : Bytes) (entries : List (Bytes × Refusal)) → map (λ (e : Bytes × Refusal). e.1) (cons_option (option_map (λ r. (k, r)) o) entries) ≡ cons_option o (map (λ (e : Bytes × Refusal). e.1) entries)
+told_map None k entries = refl
+told_map (Some r) k entries = refl
+
+pub failures_are : (keys : List Bytes) (ends : List (Option (Result Reply Refusal))) → length ends ≡ length keys → map (λ (e : Bytes × Refusal). e.1) (failed_entries (get_ends keys ends)) ≡ failures ends
+failures_are [] [] many = refl
+failures_are [] (e ∷ ends) many = cc
+failures_are (k ∷ keys) [] many = cc
+failures_are (k ∷ keys) (None ∷ ends) many = let fewer : length ends ≡ length keys = cc in failures_are keys ends fewer
+failures_are (k ∷ keys) (Some x ∷ ends) many =
+    let fewer : length ends ≡ length keys = cc in
+    told_map (refusal_in x) k (failed_entries (get_ends keys ends)) ∙ ap (cons_option (refusal_in x)) (failures_are keys ends fewer)
+
+pub cause_among : (keys : List Bytes) (ends : List (Option (Result Reply Refusal))) (cause : Refusal) → length ends ≡ length keys → IsCauseIn (Some cause) (failures ends) → CauseAmong (get_ends keys ends) [] cause
+cause_among keys ends cause many is = inl (subst (λ rs. IsAmong rs cause) (sym (failures_are keys ends many)) is)
+
+pub none_mapped : (entries : List (Bytes × Refusal)) → map (λ (e : Bytes × Refusal). e.1) entries ≡ [] → entries ≡ []
+none_mapped [] none = refl
+none_mapped (e ∷ entries) none = cc
+
+pub no_failure : (keys : List Bytes) (ends : List (Option (Result Reply Refusal))) → length ends ≡ length keys → IsCauseIn None (failures ends) → HasNoCause (get_ends keys ends) []
+no_failure keys ends many none = (none_mapped (failed_entries (get_ends keys ends)) (failures_are keys ends many ∙ none), refl)
+
+pub any_err : {T E : Type 0} {P : E → Type 0} (r : Result T E) → ((e : E) → P e) → IfErr r P
+any_err (Ok x) f = tt
+any_err (Err e) f = f e

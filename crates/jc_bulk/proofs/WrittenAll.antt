@@ -1,0 +1,234 @@
+-- A whole `putAll` or `removeAll`, from its rounds.
+--     begun_writes     before the first round
+--     failed_written   what failed, by the keys alone
+--     write_cause_among, no_write_failure    the cause is one of a key or of the writer; and if there is none, nothing failed
+--     written_all      after the last round: the call is carried out
+--     may_call_again   the session may begin its next call
+--     writes_from      rounds from the start of the call
+use Rattle.std.proofs.Common.{◌≡◌, ◌==◌, ◌&&◌, ◌≤◌, ◌++◌, ◌⊎◌, inl, inr, ℕ, zero, suc, List, [], ◌∷◌, All, length, map, take, Bool, true, false, Option, None, Some, is_some, option_map, Result, Ok, Err, slice_get, refl, sym, ap, ◌∙◌, subst, arith}
+use Rattle.std.proofs.lemmas.Bool.{and_parts}
+use Rattle.std.proofs.lemmas.List.{map-append, take_all}
+use Rattle.std.proofs.lemmas.List.Elements.{All-nil, All-cons, All-from_recursion}
+use Rattle.std.specs.List.{list_all, cons_option, IsAmong, AllByRecursion, IsDistinct}
+use Rattle.std.specs.Map.{keys_of}
+use Rattle.std.specs.Cmp.Lexicographic.{pointwise}
+use Rattle.jc_types.specs.declared.caller.Caller.{Caller}
+use Rattle.jc_types.specs.declared.config.Config.{Config}
+use Rattle.jc_types.specs.declared.refusal.Refusal.{Refusal}
+use Rattle.jc_model.specs.declared.event.Change.{Change}
+use Rattle.jc_model.specs.declared.event.Op.{Op}
+use Rattle.jc_model.specs.declared.event.Reply.{Reply}
+use Rattle.jc_model.specs.Batches.{is_among}
+use Rattle.jc_model.specs.Cache.{Bytes}
+use Rattle.jc_batch.specs.Changes.{changes_of}
+use Rattle.jc_outside.specs.CallingAll.{WriteAllRelation, DeleteAllRelation}
+use Rattle.jc_stripe.specs.OwnSteps.{HasNoCallFrom}
+use Rattle.jc_stripe.specs.State.{State}
+use Rattle.jc_session.specs.Counting.{one_more}
+use Rattle.jc_session.specs.declared.counts.Counts.{Counts}
+use Rattle.jc_session.specs.declared.session.Session.{Session}
+use Rattle.jc_cache.specs.CacheInside.{IsPlaced}
+use Rattle.jc_cache.specs.Caches.{CacheState, EachStripe, IsIdleCache, HasNoCallsFrom, IsStripeOf}
+use Rattle.jc_cache.specs.Calls.{next_call}
+use Rattle.jc_cache.specs.Sessions.{IsOf, MayCall, LeavesSessions}
+use Rattle.jc_cache.specs.Whole.{own_after}
+use Rattle.jc_cache.proofs.CallerLemmas.{at_key}
+use Rattle.jc_bulk.specs.Bulk.{CauseAmong, HasNoCause, own_after_all, said_to_writes}
+use Rattle.jc_bulk.specs.Ends.{KeyEnd, key_ops, failed_entries, refusal_in, EndsAt}
+use Rattle.jc_bulk.specs.GetRounds.{IsCauseIn, failures}
+use Rattle.jc_bulk.specs.Gets.{Turn, AreCounted, ComesAfterAll, turn_keys, turn_ends, own_after_ends}
+use Rattle.jc_bulk.specs.Getting.{get_ends}
+use Rattle.jc_bulk.specs.Laws.{StaysUnderway}
+use Rattle.jc_bulk.specs.Phased.{LeavesCalls}
+use Rattle.jc_bulk.specs.Rounds.{WriteRound, AreOnce, round_keys, changes_in, said_in_writes, writer_causes}
+use Rattle.jc_bulk.specs.Underway.{IsUnderway}
+use Rattle.jc_bulk.specs.WriteRounds.{IsWritingInRounds, RunsWriteRounds, IsCauseOf, keys_written, changes_wanted}
+use Rattle.jc_bulk.specs.Writing.{IsTarget, HasEndedAt, AreWriteTurns}
+use Rattle.jc_bulk.specs.WritingAll.{WritesAll, write_end, write_ends}
+use Rattle.jc_bulk.proofs.GetCommits.{distinct_take}
+use Rattle.jc_bulk.proofs.GetResults.{failures_are, none_mapped}
+use Rattle.jc_bulk.proofs.GotAll.{no_steps, none_open, once_only, grows_to}
+use Rattle.jc_bulk.proofs.Writes.{as_many_keys}
+
+-- 1. Before the first round.
+
+pub begun_writes : (targets : List (Bytes × Op)) (cache : CacheState) (caller : Caller) → StaysUnderway → IsDistinct (pointwise ◌==◌) (keys_of targets) → EachStripe (IsPlaced cache.config) cache.stripes → IsIdleCache cache
+    → HasNoCallsFrom cache caller.session caller.call → IsWritingInRounds [] targets cache caller [] []
+begun_writes targets cache caller law distinct placed idle none = record {
+  writes = record {
+    turns = [];
+    keys_are = refl;
+    ends_are = refl;
+    underway = law.opens cache caller placed idle none;
+    each = tt;
+    others = λ key state away is. no_steps caller key state.history (at_key (λ i s. HasNoCallFrom s caller.session caller.call) cache key state none is).steps;
+    unasked = λ key away. refl;
+    calls_are = tt;
+    keys_open = refl;
+  };
+  asked = refl;
+  once = distinct_take 0 (keys_of targets) distinct;
+  fresh = refl;
+  wanted = tt;
+  called = tt;
+  through = inl refl;
+}
+
+-- 2. How the keys ended.
+
+ops_written : (targets : List (Bytes × Op)) (ends : List (Option (Result Reply Refusal))) → length ends ≡ length targets → list_all is_some ends ≡ true → key_ops (write_ends targets ends) ≡ targets
+ops_written [] ends many all = refl
+ops_written (t ∷ targets) [] many all = cc
+ops_written (t ∷ targets) (None ∷ ends) many all = cc
+ops_written (t ∷ targets) (Some x ∷ ends) many all = let fewer : length ends ≡ length targets = cc in ap (λ os. t ∷ os) (ops_written targets ends fewer all)
+
+own_written : (own : ℕ) (targets : List (Bytes × Op)) (ends : List (Option (Result Reply Refusal))) → length ends ≡ length targets → own_after_ends own ends ≡ own_after_all own (write_ends targets ends)
+own_written own [] [] many = refl
+own_written own [] (e ∷ ends) many = cc
+own_written own (t ∷ targets) [] many = cc
+own_written own (t ∷ targets) (None ∷ ends) many = let fewer : length ends ≡ length targets = cc in own_written own targets ends fewer
+own_written own (t ∷ targets) (Some x ∷ ends) many = let fewer : length ends ≡ length targets = cc in own_written (own_after own x) targets ends fewer
+
+end_written : (state : State) (caller : Caller) (n : ℕ) (rounds : List WriteRound) (key : Bytes) (op : Op) (ended : Result Reply Refusal) → HasEndedAt state caller n (said_in_writes rounds key) key op (Some ended)
+    → EndsAt state caller n (said_to_writes rounds) key op ended
+end_written state caller n rounds key op (Ok reply) h = h
+end_written state caller n rounds key op (Err refusal) h = h
+
+-- `targets` are the last ones of `all`
+each_end : (cache : CacheState) (caller : Caller) (all : List (Bytes × Op)) (rounds : List WriteRound) (targets : List (Bytes × Op)) (turns : List Turn) → ((key : Bytes) (op : Op) → IsTarget targets key op → IsTarget all key op)
+    → turn_keys turns ≡ keys_of targets → AreWriteTurns cache caller all (said_in_writes rounds) turns → (state : State)
+    → All (λ (e : KeyEnd). IsStripeOf cache e.key state → EndsAt state caller (length all) (said_to_writes rounds) e.key e.op e.ended) (write_ends targets (turn_ends turns))
+each_end cache caller all rounds [] turns among keys each state = All-nil _
+each_end cache caller all rounds (t ∷ targets) [] among keys each state = All-nil _
+each_end cache caller all rounds (t ∷ targets) (u ∷ turns) among keys each state =
+    by u.ended (λ is. subst (λ k. HasEndedAt state caller (length all) (said_in_writes rounds k) k t.1 u.ended) same
+    (each.0 t.1 state (subst (λ k. IsTarget all k t.1) (sym same) (among t.0 t.1 (zero, refl))) (subst (λ k. IsStripeOf cache k state) (sym same) is)))
+    (each_end cache caller all rounds targets turns (λ key op h. among key op (suc h.0, h.1)) rest each.1 state)
+  where
+    same : u.key ≡ t.0
+    same = cc
+
+    rest : turn_keys turns ≡ keys_of targets
+    rest = cc
+
+    by : (e : Option (Result Reply Refusal)) → (IsStripeOf cache t.0 state → HasEndedAt state caller (length all) (said_in_writes rounds t.0) t.0 t.1 e)
+        → All (λ (k : KeyEnd). IsStripeOf cache k.key state → EndsAt state caller (length all) (said_to_writes rounds) k.key k.op k.ended) (write_ends targets (turn_ends turns))
+        → All (λ (k : KeyEnd). IsStripeOf cache k.key state → EndsAt state caller (length all) (said_to_writes rounds) k.key k.op k.ended) (write_end t e ++ write_ends targets (turn_ends turns))
+    by None turn later = later
+    by (Some x) turn later =
+        All-cons (λ (k : KeyEnd). IsStripeOf cache k.key state → EndsAt state caller (length all) (said_to_writes rounds) k.key k.op k.ended) (record { key = t.0; op = t.1; ended = x }) (write_ends targets (turn_ends turns))
+        (λ is. end_written state caller (length all) rounds t.0 t.1 x (turn is)) later
+
+-- 3. What failed.
+
+pub failed_written : (targets : List (Bytes × Op)) (ends : List (Option (Result Reply Refusal))) → failed_entries (write_ends targets ends) ≡ failed_entries (get_ends (keys_of targets) ends)
+failed_written [] ends = refl
+failed_written (t ∷ targets) [] = refl
+failed_written (t ∷ targets) (None ∷ ends) = failed_written targets ends
+failed_written (t ∷ targets) (Some x ∷ ends) = ap (cons_option (option_map (λ r. (t.0, r)) (refusal_in x))) (failed_written targets ends)
+
+causes_are : (targets : List (Bytes × Op)) (ends : List (Option (Result Reply Refusal))) → length ends ≡ length targets → map (λ (e : Bytes × Refusal). e.1) (failed_entries (write_ends targets ends)) ≡ failures ends
+causes_are targets ends many = ap (map (λ (e : Bytes × Refusal). e.1)) (failed_written targets ends) ∙ failures_are (keys_of targets) ends (many ∙ sym (as_many_keys targets))
+
+is_cause : (fault : Option Refusal) (cause : Refusal) (rs : List Refusal) → fault ≡ Some cause → IsCauseIn fault rs → IsAmong rs cause
+is_cause fault cause rs is h = subst (λ o. IsCauseIn o rs) is h
+
+pub write_cause_among : (targets : List (Bytes × Op)) (ends : List (Option (Result Reply Refusal))) (rounds : List WriteRound) (fault : Option Refusal) (cause : Refusal) → length ends ≡ length targets
+    → IsCauseIn fault (writer_causes rounds) → IsCauseOf (Some cause) (failures ends) fault → CauseAmong (write_ends targets ends) rounds cause
+write_cause_among targets ends rounds fault cause many returned (inl among) = inl (subst (λ rs. IsAmong rs cause) (sym (causes_are targets ends many)) among)
+write_cause_among targets ends rounds fault cause many returned (inr is) = inr (is_cause fault cause (writer_causes rounds) is returned)
+
+pub no_write_failure : (targets : List (Bytes × Op)) (ends : List (Option (Result Reply Refusal))) (rounds : List WriteRound) (fault : Option Refusal) → length ends ≡ length targets
+    → IsCauseIn fault (writer_causes rounds) → IsCauseOf None (failures ends) fault → HasNoCause (write_ends targets ends) rounds
+no_write_failure targets ends rounds fault many returned none = (
+  none_mapped (failed_entries (write_ends targets ends)) (causes_are targets ends many ∙ none.0),
+  subst (λ o. IsCauseIn o (writer_causes rounds)) none.1 returned,
+)
+
+-- 4. The writer.
+
+keys_in_changes : (rounds : List WriteRound) → keys_of (changes_in rounds) ≡ keys_written rounds
+keys_in_changes [] = refl
+keys_in_changes (r ∷ rounds) = map-append (λ (c : Bytes × Option Change). c.0) (changes_of r.batch) (changes_in rounds) ∙ ap (λ ks. round_keys r ++ ks) (keys_in_changes rounds)
+
+-- 5. The whole call.
+
+module _ {I J : Type 0} {D : I → Type 0} {E : J → Type 0} where
+  leaves_under : (law : StaysUnderway) (cache new : CacheState) (session : Session I J D E) (caller : Caller) → caller.session ≡ session.caller.session → IsUnderway new caller [] → ComesAfterAll cache new
+      → LeavesCalls caller.session cache new → LeavesSessions session cache new
+  leaves_under law cache new session caller who under grows others other differs may = record {
+    own = record {
+      mark = may.own.mark ∙ sym grows.mark;
+      given = subst (λ n. other.caller.session ≤ n) (sym grows.given) may.own.given;
+      held = may.own.held;
+      loads = λ reads. may.own.loads (sym (ap (λ (c : Config). c.read_through) grows.config) ∙ reads);
+      writes = λ writes. may.own.writes (sym (ap (λ (c : Config). c.write_through) grows.config) ∙ writes);
+    };
+    reservations = may.reservations;
+    joins = may.joins;
+    numbers = others other.caller.session (one_more other.caller.call) (ap (λ n. other.caller.session == n) who ∙ differs) may.numbers;
+    idle = (law.closes new caller under).0;
+  }
+
+module _ {I J : Type 0} {D : I → Type 0} {E : J → Type 0} (writes_all : WriteAllRelation ((j : J) × E j)) (deletes_all : DeleteAllRelation ((j : J) × E j)) (write_state : (j : J) × E j → List ℕ) where
+  pub writes_from : (cache new : CacheState) (session mid after : Session I J D E) (targets : List (Bytes × Op)) (was ends : List (Option (Result Reply Refusal))) (none fault : Option Refusal) → mid ≡ next_call session → was ≡ [] → none ≡ None
+      → RunsWriteRounds writes_all deletes_all write_state targets cache mid was none new after ends fault → RunsWriteRounds writes_all deletes_all write_state targets cache (next_call session) [] None new after ends fault
+  writes_from cache new session mid after targets was ends none fault next empty start runs =
+      subst (λ o. RunsWriteRounds writes_all deletes_all write_state targets cache (next_call session) [] o new after ends fault) start
+      (subst (λ es. RunsWriteRounds writes_all deletes_all write_state targets cache (next_call session) es none new after ends fault) empty
+      (subst (λ s. RunsWriteRounds writes_all deletes_all write_state targets cache s was none new after ends fault) next runs))
+
+  pub may_call_again : (law : StaysUnderway) (cache new : CacheState) (session after : Session I J D E) (targets : List (Bytes × Op)) (ends : List (Option (Result Reply Refusal))) (fault : Option Refusal) → MayCall cache session → IsOf new after
+      → RunsWriteRounds writes_all deletes_all write_state targets cache (next_call session) [] None new after ends fault → IsWritingInRounds [] targets cache (next_call session).caller [] [] → MayCall new after
+  may_call_again law cache new session after targets ends fault may own runs first =
+      let all = runs.writes [] first in
+      let who : after.caller ≡ (next_call session).caller = ap (λ (s : Session I J D E). s.caller) runs.left in
+      let closed = law.closes new (next_call session).caller all.2.writes.underway in
+      let counted = runs.counts session.counts (λ i. record session.counts { reservations = may.reservations i }) in
+      record {
+        own = own;
+        reservations = ap (λ (n : Counts). n.reservations) counted;
+        joins = ap (λ (n : Counts). n.joins) counted ∙ may.joins;
+        numbers = subst (λ (w : Caller). HasNoCallsFrom new w.session (one_more w.call)) (sym who) closed.1;
+        idle = closed.0;
+      }
+
+  pub written_all : (law : StaysUnderway) (cache new : CacheState) (session after : Session I J D E) (targets : List (Bytes × Op)) (ends : List (Option (Result Reply Refusal))) (fault : Option Refusal) → MayCall cache session → length ends ≡ length targets
+      → RunsWriteRounds writes_all deletes_all write_state targets cache (next_call session) [] None new after ends fault → IsWritingInRounds [] targets cache (next_call session).caller [] []
+      → (rounds : List WriteRound) × WritesAll writes_all deletes_all write_state cache session targets (changes_wanted targets) (write_ends targets ends) rounds new after × IsCauseIn fault (writer_causes rounds)
+  written_all law cache new session after targets ends fault may whole runs first =
+      let caller = (next_call session).caller in
+      let all = runs.writes [] first in
+      let rounds = all.0 in
+      let writes = all.2.writes in
+      let turns = writes.turns in
+      let taken : take (length ends) (keys_of targets) ≡ keys_of targets = take_all (length ends) (keys_of targets) (omega (arith, whole, as_many_keys targets)) in
+      let keys_are : turn_keys turns ≡ keys_of targets = writes.keys_are ∙ taken in
+      let over : list_all is_some ends ≡ true = ap (list_all is_some) (sym writes.ends_are) ∙ none_open turns (sym writes.keys_open) in
+      let counted = runs.counts session.counts (λ i. record session.counts { reservations = may.reservations i }) in
+      let counts : after.counts ≡ record session.counts { own = own_after_all session.counts.own (write_ends targets ends) } =
+      counted ∙ (λ i. record session.counts { own = own_written session.counts.own targets ends whole i; reservations = sym may.reservations i }) in (
+        rounds,
+        record {
+          carried = record {
+            caller = caller;
+            caller_is = refl;
+            ops_are = ops_written targets ends whole over;
+            each = λ state.
+                subst (λ es. All (λ (e : KeyEnd). IsStripeOf new e.key state → EndsAt state caller (length targets) (said_to_writes rounds) e.key e.op e.ended) (write_ends targets es)) writes.ends_are
+                (each_end new caller targets rounds targets turns (λ key op h. h) keys_are writes.each state);
+            others = λ key state away is. writes.others key state (ap (λ ks. is_among ks key) keys_are ∙ away) is;
+            grows = grows_to cache new runs.grows;
+            left = runs.left ∙ ap (λ (n : Counts). record session { caller = caller; counts = n; hands = after.hands }) counts;
+            sessions = leaves_under law cache new session caller refl writes.underway runs.grows runs.others;
+          };
+          asked = record {
+            writer = all.1;
+            each = All-from_recursion (IsAmong (changes_wanted targets)) (changes_in rounds) all.2.wanted;
+            once = subst AreOnce (sym (keys_in_changes rounds)) (once_only (keys_written rounds) all.2.once);
+            called = All-from_recursion (λ (r : WriteRound). changes_of r.batch ≡ [] → ⊥) rounds all.2.called;
+            loader = runs.loader;
+          };
+        },
+        all.3 refl,
+      )

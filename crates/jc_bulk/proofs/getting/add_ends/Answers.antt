@@ -1,0 +1,42 @@
+use Rattle.std.proofs.Common.{◌≡◌, ◌==◌, ◌+◌, ◌++◌, take, sym, ap, ◌∙◌, arith}
+use Rattle.std.specs.List.{list_any}
+use Rattle.std.specs.Map.{keys_of}
+use Rattle.std.specs.Cmp.Lexicographic.{pointwise}
+use Rattle.jc_bulk.specs.Ends.{failed_entries, found_entries}
+use Rattle.jc_bulk.specs.Getting.{get_end, get_ends}
+use Rattle.jc_bulk.proofs.Gets.{absent, key_there}
+use Rattle.jc_bulk.proofs.GetResults.{get_ends_push, failed_push, found_push, failed_absent, found_absent}
+use Rattle.jc_bulk.proofs.getting.add_ends.Goals as goal
+
+pub add_end-requires-clause-new_failed : goal.add_end-requires-clause-new_failed
+add_end-requires-clause-new_failed c =
+    let keys = c.args.keys.now in
+    let i = c.loop-place.place in
+    let key = c.index-keys-place.result in
+    ap (λ es. list_any (pointwise ◌==◌ key) (keys_of es)) c.loop-place.invariant.failed
+    ∙ failed_absent (take i keys) (take i c.args.ends.now) key (absent keys i key c.requires.distinct (key_there keys i key c.loop-place-test.true c.index-keys-place.is))
+
+pub add_end-requires-clause-new_found : goal.add_end-requires-clause-new_found
+add_end-requires-clause-new_found c =
+    let keys = c.args.keys.now in
+    let i = c.loop-place.place in
+    let key = c.index-keys-place.result in
+    ap (λ es. list_any (pointwise ◌==◌ key) (keys_of es)) c.loop-place.invariant.found
+    ∙ found_absent (take i keys) (take i c.args.ends.now) key (absent keys i key c.requires.distinct (key_there keys i key c.loop-place-test.true c.index-keys-place.is))
+
+pub loop-place-preserved : goal.loop-place-preserved
+loop-place-preserved c =
+    let keys = c.args.keys.now in
+    let ends = c.args.ends.now in
+    let i = c.loop-place.place in
+    let key = c.index-keys-place.result in
+    let end = c.index-ends-place.result in
+    let old = c.loop-place.invariant in
+    let so_far = get_ends (take i keys) (take i ends) in
+    let more : get_ends (take (i + 1) keys) (take (i + 1) ends) ≡ so_far ++ get_end key end =
+    get_ends_push keys ends i key end c.requires.many c.loop-place-test.true ∙ (λ j. so_far ++ get_end (sym c.index-keys-place.is j) (sym c.index-ends-place.is j)) in
+    record {
+      failed = c.add_end.ensures.failed ∙ failed_push c.loop-place.failed.entries so_far (get_end key end) old.failed ∙ ap failed_entries (sym more);
+      found = c.add_end.ensures.found ∙ found_push c.loop-place.found.entries so_far (get_end key end) old.found ∙ ap found_entries (sym more);
+      room = (omega (arith, old.room.0, c.add_end.ensures.room.0), omega (arith, old.room.1, c.add_end.ensures.room.1));
+    }

@@ -1,0 +1,47 @@
+use Rattle.std.proofs.Common.{◌≡◌, ◌==◌, [], ◌∷◌, None, false, sym, ap, ◌∙◌, subst}
+use Rattle.std.specs.List.{IsDistinct}
+use Rattle.std.specs.Map.{keys_of}
+use Rattle.std.specs.Cmp.Lexicographic.{pointwise}
+use Rattle.jc_model.specs.declared.event.Event.TheVariants.{Step}
+use Rattle.jc_model.specs.Batches.{is_among}
+use Rattle.jc_model.specs.Group.{write_only}
+use Rattle.jc_cache.specs.OutstandingAll.{reserved_keys}
+use Rattle.jc_bulk.specs.Phased.{AddsSteps}
+use Rattle.jc_bulk.specs.Starting.{reservations_in}
+use Rattle.jc_bulk.proofs.GetCommits.{distinct_take, open_once}
+use Rattle.jc_bulk.proofs.Gets.{after_all}
+use Rattle.jc_bulk.proofs.Starting.{keys_same}
+use Rattle.jc_bulk.proofs.Writes.{committed_writing}
+use Rattle.jc_bulk.proofs.write_rounds.commit_next.Goals as goal
+
+pub commit_first-reply-requires-clause-mark : goal.commit_first-reply-requires-clause-mark
+commit_first-reply-requires-clause-mark g c = c.requires.writes.3.writes.calls_are.0.cache_is
+
+pub commit_first-reply-requires-clause-underway : goal.commit_first-reply-requires-clause-underway
+commit_first-reply-requires-clause-underway g c =
+    let rest = c.requires.writes.2 in
+    let all = c.requires.writes.3 in
+    let key = c.args.call.reservation.key in (
+      reservations_in rest,
+      all.writes.underway,
+      ap (λ ks. is_among ks key) (keys_same rest) ∙ open_once all.writes.turns key (reserved_keys rest)
+          (subst (IsDistinct (pointwise ◌==◌)) (sym all.writes.keys_are) (distinct_take _ (keys_of c.requires.writes.1) all.distinct)) (sym all.writes.keys_open),
+    )
+
+pub returns-clause-writes : goal.returns-clause-writes
+returns-clause-writes g c said targets rest all =
+    let call = c.args.call in
+    let key = call.reservation.key in
+    let op = call.reservation.op in
+    let who = c.args.session.now.caller in
+    let done = c.commit_first-reply in
+    let once : is_among (reserved_keys rest) key ≡ false = open_once all.writes.turns key (reserved_keys rest)
+    (subst (IsDistinct (pointwise ◌==◌)) (sym all.writes.keys_are) (distinct_take _ (keys_of targets) all.distinct)) (sym all.writes.keys_open) in
+    let adds : AddsSteps who (Step who op key (write_only (said key)) None done.result ∷ []) c.args.cache.now done.new.cache =
+    subst (λ a. AddsSteps who (Step who op key (write_only a) None done.result ∷ []) c.args.cache.now done.new.cache) all.answer done.ensures.adds in
+    committed_writing said targets c.args.cache.now done.new.cache who c.args.ends.now (record { cache = call.cache; reservation = call.reservation }) rest c.args.place done.result
+    all.distinct all.writes c.requires.before c.requires.there adds
+    (done.ensures.underway (reservations_in rest) all.writes.underway (ap (λ ks. is_among ks key) (keys_same rest) ∙ once))
+
+pub returns-clause-grows : goal.returns-clause-grows
+returns-clause-grows g c = after_all c.args.session.now.caller _ c.args.cache.now c.commit_first-reply.new.cache c.commit_first-reply.ensures.adds

@@ -1,0 +1,13 @@
+use Rattle.std.proofs.Common.{◌≡◌, ◌≤◌, ◌+◌, length, take}
+use Rattle.std.specs.Map.{keys_of}
+use Rattle.indexmap.specs.IndexMap.{spare}
+use Rattle.jc_bulk.specs.Ends.{failed_entries}
+use Rattle.jc_bulk.specs.Getting.{get_ends}
+use Rattle.jc_bulk.proofs.writing.add_failed.Given as goal
+
+-- the keys before this place were added
+abbrev pub invariant-loop-place : goal.invariant-loop-place
+invariant-loop-place l = record {
+  failed : l.failed.entries ≡ failed_entries (get_ends (take l.place (keys_of l.targets)) (take l.place l.ends));
+  room : length l.targets ≤ spare l.failed + l.place;
+}

@@ -1,0 +1,20 @@
+use Rattle.std.proofs.Common.{◌≡◌, ◌∙◌, ◌==◌, ◌++◌, ◌∷◌, [], false, Option, None, Some, is_some, refl, ap}
+use Rattle.std.specs.Cmp.Lexicographic.{pointwise}
+use Rattle.std.specs.Map.{lookup}
+use Rattle.std.proofs.lemmas.Map.Made.{is_some-lookup}
+use Rattle.indexmap.proofs.CallerLemmas.{insert_entry-new}
+use Rattle.jc_script.specs.Words.{Pairs, names_key}
+use Rattle.jc_script.proofs.distinct_pairs.DistinctPairs.add.Goals as goal
+
+none_from : {X : Type 0} (o : Option X) → is_some o ≡ false → o ≡ None
+none_from None e = refl
+none_from (Some x) e = absurd cc
+
+pub returns : goal.returns
+returns c =
+    let m = c.self.inside.map in
+    let key = c.args.key in
+    let value = c.args.value in
+    let known = ap (λ (pairs : Pairs). names_key pairs key) c.self.view_is ∙ c.requires in
+    let absent : lookup (pointwise ◌==◌ key) m.entries ≡ None = none_from _ (is_some-lookup (pointwise ◌==◌ key) m.entries ∙ known) in
+    c.in_ok-insert.ensures.entries ∙ insert_entry-new (pointwise ◌==◌) m key value absent ∙ ap (λ (pairs : Pairs). pairs ++ (key, value) ∷ []) c.self.view_is

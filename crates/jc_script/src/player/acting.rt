@@ -1,0 +1,399 @@
+//! The lines about a call under way.
+ghost use Rattle.std.specs.Prelude.{◌≡◌, ◌==◌, ◌++◌, ◌∷◌, List, ℕ, [], Some, None, true, false, filter, OnOk, IfOk, option_to_list};
+ghost use Rattle.std.specs.List.{IsDistinct, list_all, list_any};
+ghost use Rattle.std.specs.Cmp.Lexicographic.{pointwise};
+ghost use Rattle.jc_model.specs.Batches.{is_among};
+ghost use Rattle.jc_world.specs.declared.event.WorldEvent.TheVariants as event;
+ghost use Rattle.jc_world.specs.Calls.{CallState, current_key};
+ghost use Rattle.jc_world.specs.World.{open_call};
+ghost use Rattle.jc_world.specs.World.{is_joined};
+ghost use Rattle.jc_world.specs.Events.{fits};
+ghost use Rattle.jc_script.specs.declared.line.Line.TheVariants as lines;
+ghost use Rattle.jc_script.specs.LineEvents.{keys_at_work, is_drop, has_but, keys_of_act, is_asked, is_started, is_meant, event_at, key_events};
+ghost use Rattle.jc_script.specs.LineEvents.{end_of_act, is_about_one, is_time, load_fault, act_end};
+ghost use Rattle.jc_script.specs.Transcript.{PlaysLine};
+
+use super::{LineBuffers, has_end};
+use crate::fault::Fault;
+use crate::line::Act;
+use indexmap::IndexSet;
+use jc_model::{EntryCall, LoadAnswer, Op};
+use jc_types::{Key, Value};
+use jc_world::command::{CallKind, Command};
+use jc_world::event::WorldEvent;
+use jc_world::open_call::OpenCall;
+use jc_world::process::{EntryCalls, LoadSource};
+use jc_world::reports::LeftKeys;
+use jc_world::world::World;
+use std::alloc::{AllocError, Global};
+
+/// What happens next to a call, or the fault of the line.
+#[inline(never)]
+pub(super) fn act_on(
+    alloc: Global,
+    world: &mut World,
+    number: u32,
+    act: &Act,
+    buffers: &mut LineBuffers,
+    out: &mut Vec<u8>,
+) -> Result<Option<Fault>, AllocError>
+    ensures { IfOk result (λ r. PlaysLine (Some world.old.world) (lines.OfCall number act.now) r out.old.items out.new.items (Some world.new.world)) }
+{
+    let call = number as u64;
+    match world.open_call(call) {
+        None => Ok(Some(Fault::NoSuchCall)),
+        Some(open_call) => {
+            if has_but(act) {
+                return Ok(Some(Fault::NotNow));
+            }
+            let end = act_end(call, open_call.kind(), act);
+            put_keys(open_call, act, &mut buffers.keys)?;
+            act_at(alloc, world, call, act, end, buffers, out)
+        }
+    }
+}
+
+/// The same, with the keys that the act may be about.
+fn act_at(
+    alloc: Global,
+    world: &mut World,
+    call: u64,
+    act: &Act,
+    end: Option<u64>,
+    buffers: &mut LineBuffers,
+    out: &mut Vec<u8>,
+) -> Result<Option<Fault>, AllocError>
+    requires but { has_but act.now ≡ false }
+    requires call { (u : CallState) × (open_call world.old.world call ≡ Some u)
+        × (end ≡ act_end call u.kind act.now)
+        × (buffers.old.keys.items ≡ keys_of_act act.now u) }
+    requires distinct { IsDistinct (pointwise ◌==◌) buffers.old.keys.items }
+    ensures { IfOk result (λ r. PlaysLine (Some world.old.world) (lines.OfCall call act.now) r out.old.items out.new.items (Some world.new.world)) }
+{
+    put_key_events(alloc, world, call, act, &buffers.keys, &mut buffers.events)?;
+    if !is_time(world, call, act, &buffers.keys, &buffers.events) {
+        return Ok(Some(Fault::NotNow));
+    }
+    put_end_of_act(alloc, world, call, act, &buffers.keys, &mut buffers.events)?;
+    world.lets_keys_go_together();
+    let fault = load_fault(act);
+    buffers.play_call(world, call, fault, end, out)?;
+    Ok(None)
+}
+
+/// The call of a line, if its end is printed: not if the line gives it up.
+fn act_end(call: u64, kind: CallKind, act: &Act) -> Option<u64>
+    ensures { result ≡ act_end call kind act.now }
+{
+    if has_end(kind) && !is_drop(act) {
+        Some(call)
+    } else {
+        None
+    }
+}
+
+fn is_drop(act: &Act) -> bool
+    ensures { result ≡ is_drop act.now }
+{
+    matches!(act, Act::Drop)
+}
+
+/// Whether an act names keys that the writer leaves. No call under way takes such an act: each works at one key at a time.
+fn has_but(act: &Act) -> bool
+    ensures { result ≡ has_but act.now }
+{
+    matches!(act, Act::Apply(Some(_)) | Act::ApplyFail(_, Some(_)))
+}
+
+/// The code with which the loader fails, if the act says so.
+fn load_fault(act: &Act) -> Option<u32>
+    ensures { result ≡ load_fault act.now }
+{
+    match act {
+        Act::ReadFail(code) => Some(*code),
+        Act::Read
+        | Act::Say(_)
+        | Act::Apply(_)
+        | Act::ApplyFail(..)
+        | Act::ApplyLie(_)
+        | Act::End
+        | Act::Drop
+        | Act::More
+        | Act::Take
+        | Act::Process { .. } => None,
+    }
+}
+
+/// The keys of a call that an act may be about.
+fn put_keys(open_call: &OpenCall, act: &Act, keys: &mut Vec<Key>) -> Result<(), AllocError>
+    ensures keys { OnOk result (keys.new.items ≡ keys_of_act act.now open_call.now) }
+    ensures distinct { IsDistinct (pointwise ◌==◌) (keys_of_act act.now open_call.now) }
+{
+    keys.clear();
+    if is_drop(act) {
+        open_call.put_open_keys(keys)
+    } else {
+        put_keys_at_work(open_call, keys)
+    }
+}
+
+/// The keys at which a call works: the current one alone, if it takes its keys in turn, else all that are open.
+fn put_keys_at_work(open_call: &OpenCall, keys: &mut Vec<Key>) -> Result<(), AllocError>
+    ensures keys { OnOk result (keys.new.items ≡ keys.old.items ++ keys_at_work open_call.now) }
+    ensures distinct { IsDistinct (pointwise ◌==◌) (keys_at_work open_call.now) }
+{
+    if open_call.kind().takes_turns() {
+        put_current_key(open_call, keys)
+    } else {
+        open_call.put_open_keys(keys)
+    }
+}
+
+/// The key at which a call works that takes its keys in turn.
+#[tactic(auto, using(crate::proofs::Fitting::one_differs))]
+fn put_current_key(open_call: &OpenCall, keys: &mut Vec<Key>) -> Result<(), AllocError>
+    ensures keys { OnOk result (
+        keys.new.items ≡ keys.old.items ++ option_to_list (current_key open_call.now)) }
+    ensures distinct { IsDistinct (pointwise ◌==◌) (option_to_list (current_key open_call.now)) }
+{
+    if let Some(key) = open_call.current_key() {
+        keys.push(*key)?;
+    }
+    Ok(())
+}
+
+/// What an act does at each of these keys that it is about.
+fn put_key_events(
+    alloc: Global,
+    world: &World,
+    call: u64,
+    act: &Act,
+    keys: &[Key],
+    events: &mut Vec<WorldEvent>,
+) -> Result<(), AllocError>
+    ensures { OnOk result (events.new.items ≡ key_events world.now.world call act.now keys.now) }
+{
+    events.clear();
+    for key in keys {
+        put_if_meant(alloc, world, call, act, key, events)?;
+    }
+    Ok(())
+}
+
+/// What an act does at a key, if it is about it.
+fn put_if_meant(
+    alloc: Global,
+    world: &World,
+    call: u64,
+    act: &Act,
+    key: &Key,
+    events: &mut Vec<WorldEvent>,
+) -> Result<(), AllocError>
+    ensures { OnOk result (
+        events.new.items ≡ events.old.items ++ key_events world.now.world call act.now (key.now ∷ [])) }
+{
+    if is_meant(world, call, act, key) {
+        put_event_at(alloc, events, call, act, key)?;
+    }
+    Ok(())
+}
+
+/// Whether an act is about a key.
+fn is_meant(world: &World, call: u64, act: &Act, key: &Key) -> bool
+    ensures { result ≡ is_meant world.now.world call act.now key.now }
+{
+    match act {
+        Act::Read | Act::ReadFail(_) | Act::Say(_) => world.waits_for_load(call, key),
+        Act::Apply(_) | Act::ApplyLie(_) => world.waits_for_report(call, key),
+        Act::ApplyFail(..) => false,
+        Act::End | Act::Drop => world.is_reserved(call, key),
+        Act::More => true,
+        Act::Take => world.is_joined(call, key),
+        Act::Process { .. } => world.waits_for_process(call, key),
+    }
+}
+
+/// What an act does at a key.
+fn put_event_at(
+    alloc: Global,
+    events: &mut Vec<WorldEvent>,
+    call: u64,
+    act: &Act,
+    key: &Key,
+) -> Result<(), AllocError>
+    ensures { OnOk result (events.new.items ≡ events.old.items ++ event_at call act.now key.now ∷ []) }
+{
+    let _types: Option<(Command, Op, Value, LoadAnswer)> = None;
+    events.try_reserve(1)?;
+    let key = *key;
+    match act {
+        Act::Read => events.push_reserved(WorldEvent::Read { call, key }),
+        Act::ReadFail(code) => {
+            let answer = LoadAnswer::Failed(*code);
+            events.push_reserved(WorldEvent::Say { call, key, answer })
+        }
+        Act::Say(pairs) => {
+            let answer = pairs.said(&key);
+            events.push_reserved(WorldEvent::Say { call, key, answer })
+        }
+        Act::Apply(_) | Act::ApplyFail(..) | Act::ApplyLie(_) => {
+            events.push_reserved(WorldEvent::Change { call, key })
+        }
+        Act::End => events.push_reserved(WorldEvent::Commit { call, key }),
+        Act::Drop => events.push_reserved(WorldEvent::Withdraw { call, key }),
+        Act::More => events.push_reserved(WorldEvent::Start { call, key }),
+        Act::Take => events.push_reserved(WorldEvent::PickUp { call, key }),
+        Act::Process { load, calls, fail } => put_process(
+            alloc, events, call, key, load, calls, *fail,
+        )?,
+    }
+    Ok(())
+}
+
+fn put_process(
+    alloc: Global,
+    events: &mut Vec<WorldEvent>,
+    call: u64,
+    key: Key,
+    load: &LoadSource,
+    calls: &EntryCalls,
+    fail: Option<u32>,
+) -> Result<(), AllocError>
+    ensures { OnOk result (events.new.items ≡ events.old.items ++ event.Process call key load.now calls.now fail ∷ []) }
+{
+    let _types: Option<(Command, EntryCall, Op, Value, LoadAnswer)> = None;
+    let calls = calls.copy(alloc)?;
+    events.push(WorldEvent::Process {
+        call,
+        key,
+        load: *load,
+        calls,
+        fail,
+    })?;
+    Ok(())
+}
+
+/// What an act does to the call as a whole, behind what it does at its keys.
+fn put_end_of_act(
+    alloc: Global,
+    world: &World,
+    call: u64,
+    act: &Act,
+    keys: &[Key],
+    events: &mut Vec<WorldEvent>,
+) -> Result<(), AllocError>
+    requires { IsDistinct (pointwise ◌==◌) keys.now }
+    ensures { OnOk result (
+        events.new.items ≡ events.old.items ++ end_of_act world.now.world call act.now keys.now) }
+{
+    match act {
+        Act::Apply(_) => put_report(events, call, LeftKeys::new(alloc), None),
+        Act::ApplyFail(code, _) | Act::ApplyLie(code) => {
+            let left = asked_keys(alloc, world, call, keys)?;
+            put_report(events, call, left, Some(*code))
+        }
+        Act::Drop => put_leave(events, call),
+        Act::Read
+        | Act::ReadFail(_)
+        | Act::Say(_)
+        | Act::End
+        | Act::More
+        | Act::Take
+        | Act::Process { .. } => Ok(()),
+    }
+}
+
+fn put_report(
+    events: &mut Vec<WorldEvent>,
+    call: u64,
+    left: LeftKeys,
+    fault: Option<u32>,
+) -> Result<(), AllocError>
+    ensures { OnOk result (events.new.items ≡ events.old.items ++ event.Report call left fault ∷ []) }
+{
+    let _types: Option<(Command, Op, Value, LoadAnswer)> = None;
+    events.push(WorldEvent::Report { call, left, fault })?;
+    Ok(())
+}
+
+fn put_leave(events: &mut Vec<WorldEvent>, call: u64) -> Result<(), AllocError>
+    ensures { OnOk result (events.new.items ≡ events.old.items ++ event.Leave call ∷ []) }
+{
+    let _types: Option<(Command, Op, Value, LoadAnswer)> = None;
+    events.push(WorldEvent::Leave { call })?;
+    Ok(())
+}
+
+/// The keys that the writer was asked for and hasn't returned for.
+fn asked_keys(alloc: Global, world: &World, call: u64, keys: &[Key]) -> Result<LeftKeys, AllocError>
+    requires { IsDistinct (pointwise ◌==◌) keys.now }
+    ensures { IfOk result (λ left. left ≡ filter (is_asked world.now.world call) keys.now) }
+{
+    let mut asked = IndexSet::new(alloc);
+    for key in keys {
+        add_if_asked(world, call, key, &mut asked)?;
+    }
+    Ok(LeftKeys::of(asked))
+}
+
+fn add_if_asked(
+    world: &World,
+    call: u64,
+    key: &Key,
+    asked: &mut IndexSet<Key>,
+) -> Result<(), AllocError>
+    requires { is_among asked.old.keys key.now ≡ false }
+    ensures { OnOk result (
+        asked.new.keys ≡ asked.old.keys ++ filter (is_asked world.now.world call) (key.now ∷ [])) }
+{
+    if world.waits_for_report(call, key) {
+        asked.insert(*key)?;
+    }
+    Ok(())
+}
+
+/// Whether it is the time for an act, by the call's keys and the events at those that it is about.
+fn is_time(world: &World, call: u64, act: &Act, keys: &[Key], events: &[WorldEvent]) -> bool
+    ensures { result ≡ is_time world.now.world call act.now keys.now events.now }
+{
+    match act {
+        Act::Read | Act::ReadFail(_) | Act::Say(_) | Act::Process { .. } => is_about_one(events),
+        Act::Apply(_) | Act::ApplyFail(..) | Act::ApplyLie(_) => is_one_asked(world, call, keys),
+        Act::End | Act::More => is_about_one(events) && all_fit(world, events),
+        Act::Drop => all_fit(world, events) && !is_one_joined(world, call, keys),
+        Act::Take => is_about_one(events) && !is_one_started(world, call, keys),
+    }
+}
+
+fn is_about_one(events: &[WorldEvent]) -> bool
+    ensures { result ≡ is_about_one events.now }
+{
+    match events {
+        [] => false,
+        [_, ..] => true,
+    }
+}
+
+fn all_fit(world: &World, events: &[WorldEvent]) -> bool
+    ensures { result ≡ list_all (fits world.now.world) events.now }
+{
+    events.iter().all(|event| world.fits(event))
+}
+
+fn is_one_asked(world: &World, call: u64, keys: &[Key]) -> bool
+    ensures { result ≡ list_any (is_asked world.now.world call) keys.now }
+{
+    keys.iter().any(|key| world.waits_for_report(call, key))
+}
+
+fn is_one_joined(world: &World, call: u64, keys: &[Key]) -> bool
+    ensures { result ≡ list_any (is_joined world.now.world call) keys.now }
+{
+    keys.iter().any(|key| world.is_joined(call, key))
+}
+
+fn is_one_started(world: &World, call: u64, keys: &[Key]) -> bool
+    ensures { result ≡ list_any (is_started world.now.world call) keys.now }
+{
+    keys.iter().any(|key| world.is_reserved(call, key))
+}

@@ -1,0 +1,149 @@
+//! A call that takes the keys that are cached, event by event: one look after the other, at each stripe once.
+use super::courses::{plays, shows};
+use super::{config, is_in_order, opened_world};
+use jc_types::Config;
+use jc_world::command::Command;
+use jc_world::ends::Over;
+use jc_world::event::WorldEvent;
+use jc_world::world::World;
+use std::alloc::Global;
+use std::process::Abort;
+
+/// Call 9, of session 9, clears the cache.
+fn clears(rt: &impl Abort, alloc: Global, world: &mut World) {
+    let begin = WorldEvent::Call {
+        call: 9,
+        session: 9,
+        command: Command::Clear,
+    };
+    shows(rt, alloc, world, begin, "begun", "the call");
+}
+
+/// Call 9 looks at a stripe, which is to show this.
+fn looks(rt: &impl Abort, alloc: Global, world: &mut World, stripe: usize, word: &str) {
+    shows(
+        rt,
+        alloc,
+        world,
+        WorldEvent::Look { call: 9, stripe },
+        word,
+        "the look",
+    );
+}
+
+/// The stripe at which call 9 looks next.
+fn next_stripe(rt: &impl Abort, world: &World) -> Option<usize> {
+    world
+        .open_call(9)
+        .expect(rt, "the call is under way")
+        .next_stripe()
+}
+
+/// Call 9 is over by its keys, and has met nothing.
+fn is_over(rt: &impl Abort, world: &World) {
+    assert!(rt; !world.is_busy(9), "the call is over");
+    let over = Over {
+        call: 9,
+        cause: None,
+    };
+    assert!(rt; world.over() == Some(over), "it has no cause");
+}
+
+/// A world of two stripes without loader and writer: b and d are of the first, a and c of the second.
+fn two_stripes(rt: &impl Abort, alloc: Global) -> World {
+    let config = Config {
+        read_through: false,
+        write_through: false,
+        ..config(2, 4, 100)
+    };
+    World::new(alloc, &config).expect(rt, "a world")
+}
+
+/// Three entries.
+const ENTRIES: &str = "\
+put 1 d: begun; start leave
+start 1 d: stepped; none
+put 2 c: begun; start leave
+start 2 c: stepped; none
+put 3 b: begun; start leave
+start 3 b: stepped; none
+";
+
+/// Between the looks the keys of the first stripe alone are the call's.
+const FIRST_LOOK: &str = "\
+start 9 c: unfit; leave
+start 9 d: stepped; leave
+start 9 d: unfit; leave
+start 9 b: stepped; leave
+";
+
+/// Behind the last look the other key is, and the call is over with it.
+const SECOND_LOOK: &str = "\
+start 9 a: unfit; leave
+start 9 c: stepped; none
+";
+
+#[test]
+fn looks_at_each_stripe_once(rt: HostRuntime) {
+    let alloc = rt.alloc();
+    let mut world = two_stripes(&rt, alloc);
+    plays(&rt, alloc, &mut world, ENTRIES);
+    looks(&rt, alloc, &mut world, 0, "unfit");
+    clears(&rt, alloc, &mut world);
+    looks(&rt, alloc, &mut world, 1, "unfit");
+    looks(&rt, alloc, &mut world, 0, "looked");
+    looks(&rt, alloc, &mut world, 0, "unfit");
+    assert!(rt; next_stripe(&rt, &world) == Some(1), "the second stripe");
+    plays(&rt, alloc, &mut world, FIRST_LOOK);
+    looks(&rt, alloc, &mut world, 1, "looked");
+    assert!(rt; next_stripe(&rt, &world).is_none(), "no stripe is left");
+    looks(&rt, alloc, &mut world, 1, "unfit");
+    plays(&rt, alloc, &mut world, SECOND_LOOK);
+    is_over(&rt, &world);
+    is_in_order(&rt, alloc, &world, "d c b d b c ");
+    world.close();
+}
+
+/// On an empty cache the call is over with its last look.
+#[test]
+fn is_over_with_the_last_look_at_nothing(rt: HostRuntime) {
+    let alloc = rt.alloc();
+    let mut world = two_stripes(&rt, alloc);
+    clears(&rt, alloc, &mut world);
+    looks(&rt, alloc, &mut world, 0, "looked");
+    assert!(rt; world.is_busy(9), "a stripe is left");
+    looks(&rt, alloc, &mut world, 1, "looked");
+    is_over(&rt, &world);
+    world.close();
+}
+
+/// A key that another call has reserved is put off, and one that is gone since the look is cleared still.
+const PUT_OFF: &str = "\
+put 10 a: begun; start leave
+start 10 a: asks; change report withdraw
+start 9 a: putoff; start leave
+withdraw 10 a: withdrawn; start leave
+leave 10 a: left; none
+start 9 a: stepped; none
+";
+
+#[test]
+fn puts_off_a_reserved_key(rt: HostRuntime) {
+    let alloc = rt.alloc();
+    let mut world = opened_world(&rt, alloc);
+    plays(&rt, alloc, &mut world, LOADED);
+    clears(&rt, alloc, &mut world);
+    looks(&rt, alloc, &mut world, 0, "looked");
+    plays(&rt, alloc, &mut world, PUT_OFF);
+    is_over(&rt, &world);
+    is_in_order(&rt, alloc, &world, "a a ");
+    world.close();
+}
+
+/// The entry of a.
+const LOADED: &str = "\
+get 7 a: begun; start leave
+start 7 a: loads; read say withdraw
+read 7 a: reads; commit
+commit 7 a: stepped; none
+";

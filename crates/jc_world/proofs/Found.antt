@@ -1,0 +1,85 @@
+-- The tasks of a call that has taken more keys.
+--     lookup-found           a key is looked up among the tasks, and then among those of the keys that were found
+--     op_of_found            at a key that was found the call's operation is done
+--     still_done             what is done goes on
+--     found_more, found_new  one key more, which is new
+--     first_found            the first open key keeps its place
+--     first_kept             and stays the first
+use Rattle.std.proofs.Common.{◌≡◌, ◌==◌, ◌<◌, ◌+◌, ℕ, zero, suc, Bool, true, false, cond, List, [], ◌∷◌, ◌++◌, filter, take, length, slice_get, Option, None, Some, is_none, refl, sym, ap, ◌∙◌}
+use Rattle.std.specs.Prelude.{get_or}
+use Rattle.std.specs.List.{list_all, list_any, IsDistinct}
+use Rattle.std.specs.Map.{keys_of, lookup}
+use Rattle.std.specs.Option.{option_flatten, option_or}
+use Rattle.std.specs.Cmp.Lexicographic.{pointwise}
+use Rattle.std.proofs.lemmas.Bool.{and_parts}
+use Rattle.std.proofs.lemmas.List.{take_more, append_assoc}
+use Rattle.std.proofs.lemmas.Map.Made.{is_some-lookup}
+use Rattle.jc_model.specs.declared.event.Op.{Op}
+use Rattle.jc_model.specs.Cache.{Bytes}
+use Rattle.jc_world.specs.Calls.{Task, at_each, op_in, is_open, open_in}
+use Rattle.jc_world.specs.OpenCalls.{first_open, are_new}
+use Rattle.jc_world.proofs.Tasks.{absent, none_from, slice_get_here, keys-at_each, map-push, first_each}
+
+-- 1. Looking a key up.
+
+pub lookup-found : (test : Bytes → Bool) (tasks more : List Task) → lookup test (tasks ++ more) ≡ option_or (lookup test tasks) (lookup test more)
+lookup-found test [] more = refl
+lookup-found test (task ∷ tasks) more =
+    elim (test task.0) as (λ b. cond b (Some task.1) (lookup test (tasks ++ more)) ≡ option_or (cond b (Some task.1) (lookup test tasks)) (lookup test more)) [ true ↦ refl | false ↦ lookup-found test tasks more ]
+
+pub op_of_found : (test : Bytes → Bool) (one : Op) (keys : List Bytes) (o : Option Op) → lookup test (at_each one keys) ≡ Some o → o ≡ Some one
+op_of_found test one [] o h = cc
+op_of_found test one (key ∷ keys) o h =
+    elim (test key) as (λ b. cond b (Some (Some one)) (lookup test (at_each one keys)) ≡ Some o → o ≡ Some one) [
+      | true ↦ λ h. let is : Some one ≡ o = cc in sym is
+      | false ↦ λ h. op_of_found test one keys o h
+    ] h
+
+pub still_done : (tasks more : List Task) (key : Bytes) (op : Op) → op_in tasks key ≡ Some op → op_in (tasks ++ more) key ≡ Some op
+still_done tasks more key op h = ap option_flatten (lookup-found (pointwise ◌==◌ key) tasks more) ∙ go (lookup (pointwise ◌==◌ key) tasks) h
+  where
+    go : (o : Option (Option Op)) → option_flatten o ≡ Some op → option_flatten (option_or o (lookup (pointwise ◌==◌ key) more)) ≡ Some op
+    go None h = cc
+    go (Some one) h = h
+
+-- 2. One key more.
+
+all_at : (p : Bytes → Bool) (keys : List Bytes) (i : ℕ) (key : Bytes) → list_all p keys ≡ true → slice_get keys i ≡ Some key → p key ≡ true
+all_at p [] i key h at = cc
+all_at p (k ∷ keys) zero key h at = let is : k ≡ key = cc in ap p (sym is) ∙ (and_parts (p k) (list_all p keys) h).0
+all_at p (k ∷ keys) (suc i) key h at = all_at p keys i key (and_parts (p k) (list_all p keys) h).1 at
+
+is_none_of : {A : Type 0} (o : Option A) → is_none o ≡ true → o ≡ None
+is_none_of None h = refl
+is_none_of (Some x) h = cc
+
+pub found_new : (tasks : List Task) (one : Op) (keys : List Bytes) (i : ℕ) (key : Bytes) → are_new tasks keys ≡ true → IsDistinct (pointwise ◌==◌) keys → i < length keys → key ≡ get_or keys i key
+    → lookup (pointwise ◌==◌ key) (tasks ++ at_each one (take i keys)) ≡ None
+found_new tasks one keys i key new distinct lt is =
+    let test = pointwise ◌==◌ key in
+    let at : slice_get keys i ≡ Some key = slice_get_here keys i key lt is in
+    let before : lookup test tasks ≡ None = is_none_of _ (all_at (λ k. is_none (lookup (pointwise ◌==◌ k) tasks)) keys i key new at) in
+    let found : lookup test (at_each one (take i keys)) ≡ None =
+    none_from _ (is_some-lookup test (at_each one (take i keys)) ∙ ap (list_any test) (keys-at_each one (take i keys)) ∙ absent keys i key distinct at) in
+    lookup-found test tasks (at_each one (take i keys)) ∙ ap (λ o. option_or o (lookup test (at_each one (take i keys)))) before ∙ found
+
+pub found_more : (tasks : List Task) (one : Op) (keys : List Bytes) (i : ℕ) (key : Bytes) → i < length keys → key ≡ get_or keys i key
+    → (tasks ++ at_each one (take i keys)) ++ (key, Some one) ∷ [] ≡ tasks ++ at_each one (take (i + 1) keys)
+found_more tasks one keys i key lt is =
+    append_assoc tasks (at_each one (take i keys)) ((key, Some one) ∷ [])
+    ∙ ap (λ ts. tasks ++ ts) (sym (ap (at_each one) (take_more keys i key lt ∙ ap (λ x. take i keys ++ x ∷ []) (sym is)) ∙ map-push (λ k. (k, Some one)) (take i keys) key))
+
+-- 3. The first open key.
+
+pub first_found : (tasks : List Task) (one : Op) (keys : List Bytes) → first_open (tasks ++ at_each one keys) ≡ first_open tasks
+first_found [] one keys = first_each one keys
+first_found (task ∷ tasks) one keys =
+    elim (is_open task) as (λ b. cond b 0 (suc (first_open (tasks ++ at_each one keys))) ≡ cond b 0 (suc (first_open tasks))) [ true ↦ refl | false ↦ ap suc (first_found tasks one keys) ]
+
+pub first_kept : (tasks more : List Task) (key : Bytes) → slice_get (open_in tasks) 0 ≡ Some key → slice_get (open_in (tasks ++ more)) 0 ≡ Some key
+first_kept [] more key h = cc
+first_kept (task ∷ tasks) more key h =
+    elim (is_open task) as (λ b. slice_get (keys_of (cond b (task ∷ filter is_open tasks) (filter is_open tasks))) 0 ≡ Some key → slice_get (keys_of (cond b (task ∷ filter is_open (tasks ++ more)) (filter is_open (tasks ++ more)))) 0 ≡ Some key) [
+      | true ↦ λ h. h
+      | false ↦ λ h. first_kept tasks more key h
+    ] h

@@ -1,0 +1,251 @@
+-- The calls under way, once a call has taken the keys of a stripe.
+--     Taken            what is left of the call: what it does or may still do at a key it did before, and what it did it does
+--     taken_of         so it is
+--     calls_replaced   the calls fit another world
+--     still_replaced   a call goes on at each of its keys
+--     each_replaced    a fact of each call
+--     found_replaced   and the call is found by its number
+--     place_at         where the call stands
+--     remove_set       what is put at a place and taken out is taken out
+--     look_put, look_out
+--                      what is left of the call is put in its place, or taken out
+use Rattle.std.proofs.Common.{◌≡◌, ◌==◌, ◌+◌, ℕ, zero, suc, List, [], ◌∷◌, ◌++◌, Bool, true, false, cond, Option, None, Some, IsSomeAnd, find, nat_lt, position, slice_get, slice_set, refl, sym, ap, ◌∙◌, subst, arith}
+use Rattle.std.specs.List.{list_all, cons_option, position_from, remove}
+use Rattle.std.proofs.lemmas.Iterator.Adapters.{position_from-zero}
+use Rattle.std.specs.Map.{lookup}
+use Rattle.std.specs.Option.{option_or}
+use Rattle.std.specs.Cmp.Lexicographic.{pointwise}
+use Rattle.std.proofs.lemmas.Bool.{and_parts, and_from}
+use Rattle.jc_types.specs.declared.caller.Caller.{Caller}
+use Rattle.jc_model.specs.declared.event.Op.{Op}
+use Rattle.jc_model.specs.Cache.{Bytes}
+use Rattle.jc_world.specs.declared.command.Sweep.{Sweep}
+use Rattle.jc_world.specs.Calls.{CallState, has_number, at_each, op_at, op_found, op_or_found, op_for, open_keys, open_in, is_at, is_turn, takes_turns, is_going, going_on, next_sweep, with_found, replaced, look}
+use Rattle.jc_world.specs.World.{WorldState}
+use Rattle.jc_world.specs.Sound.{is_apart, FitsCall, CallsFit, IsCallOf, Each}
+use Rattle.jc_world.proofs.Facts.{same_found}
+use Rattle.jc_world.proofs.Found.{lookup-found, op_of_found, still_done, first_kept}
+use Rattle.jc_world.proofs.Settling.{going_is, none_left, apart_of, apart_from, goes_behind, goes_here}
+use Rattle.jc_world.proofs.Underway.{calls_on}
+
+-- 1. A call that has taken keys.
+
+pub record Taken (u v : CallState) : Type 0 where
+  pub caller_is : v.caller ≡ u.caller
+  pub was : (q : Bytes) (op : Op) → op_for v q ≡ Some op → op_for u q ≡ Some op
+  pub goes : (q : Bytes) (op : Op) → op_at u q ≡ Some op → op_at v q ≡ Some op
+  pub turns : (q : Bytes) → is_turn u q ≡ true → is_turn v q ≡ true
+
+-- the sweep behind a look does the same at what it finds
+op_of_next : (stripes : ℕ) (s : Sweep) (op : Op) → op_found (next_sweep stripes s) ≡ Some op → s.op ≡ op
+op_of_next stripes s op h =
+    elim (nat_lt (s.stripe + 1) stripes) as (λ b. op_found (cond b (Some (record s { stripe = s.stripe + 1 })) None) ≡ Some op → s.op ≡ op) [
+      | true ↦ λ h. let is : s.op ≡ op = cc in is
+      | false ↦ λ h. cc
+    ] h
+
+found_was : (stripes : ℕ) (keys : List Bytes) (s : Sweep) (u : CallState) (q : Bytes) (op : Op) → u.sweep ≡ Some s → op_for (with_found stripes keys s u) q ≡ Some op → op_for u q ≡ Some op
+found_was stripes keys s u q op sweeps h =
+    go (lookup test u.tasks) (lookup test (at_each s.op keys)) (λ o. op_of_found test s.op keys o)
+    (ap (op_or_found (next_sweep stripes s)) (sym (lookup-found test u.tasks (at_each s.op keys))) ∙ h)
+  where
+    test : Bytes → Bool
+    test = pointwise ◌==◌ q
+
+    go : (o p : Option (Option Op)) → ((x : Option Op) → p ≡ Some x → x ≡ Some s.op) → op_or_found (next_sweep stripes s) (option_or o p) ≡ Some op → op_or_found u.sweep o ≡ Some op
+    go (Some x) p is h = h
+    go None (Some x) is h = ap op_found sweeps ∙ sym (is x refl) ∙ h
+    go None None is h = ap op_found sweeps ∙ ap Some (op_of_next stripes s op h)
+
+-- the first open key stays the first
+found_turns : (stripes : ℕ) (keys : List Bytes) (s : Sweep) (u : CallState) (q : Bytes) → is_turn u q ≡ true → is_turn (with_found stripes keys s u) q ≡ true
+found_turns stripes keys s u q h = by (takes_turns u.kind) h
+  where
+    at : (o : Option Bytes) → slice_get (open_keys u) 0 ≡ o → is_at o q ≡ true → is_at (slice_get (open_in (u.tasks ++ at_each s.op keys)) 0) q ≡ true
+    at None e h = cc
+    at (Some key) e h = ap (λ o. is_at o q) (first_kept u.tasks (at_each s.op keys) key e) ∙ h
+
+    by : (b : Bool) → cond b (is_at (cond b (slice_get (open_keys u) 0) None) q) true ≡ true → cond b (is_at (cond b (slice_get (open_in (u.tasks ++ at_each s.op keys)) 0) None) q) true ≡ true
+    by true h = at (slice_get (open_keys u) 0) refl h
+    by false h = refl
+
+pub taken_of : (stripes : ℕ) (keys : List Bytes) (s : Sweep) (u v : CallState) → u.sweep ≡ Some s → going_on (with_found stripes keys s u) ≡ Some v → Taken u v
+taken_of stripes keys s u v sweeps h =
+    subst (Taken u) (sym (going_is (with_found stripes keys s u) v h))
+    (record {
+      caller_is = refl;
+      was = λ q op is. found_was stripes keys s u q op sweeps is;
+      goes = λ q op is. still_done u.tasks (at_each s.op keys) q op is;
+      turns = λ q is. found_turns stripes keys s u q is;
+    })
+
+-- a call with an open key isn't over by a look
+pub taken_on : (stripes : ℕ) (keys : List Bytes) (s : Sweep) (u : CallState) (q : Bytes) (op : Op) → op_at u q ≡ Some op → going_on (with_found stripes keys s u) ≡ None → ⊥
+taken_on stripes keys s u q op is over = none_left (with_found stripes keys s u) q op over (still_done u.tasks (at_each s.op keys) q op is)
+
+-- 2. The calls under way.
+
+apart_replaced : (call : ℕ) (left : CallState → Option CallState) (u x : CallState) (calls : List CallState) → find (has_number call) calls ≡ Some u → ((v : CallState) → left u ≡ Some v → v.caller ≡ u.caller) → list_all (is_apart x) calls ≡ true
+    → list_all (is_apart x) (replaced call left calls) ≡ true
+apart_replaced call left u x [] here same h = cc
+apart_replaced call left u x (y ∷ ys) here same h =
+    let parts = and_parts (is_apart x y) (list_all (is_apart x) ys) h in
+    elim (has_number call y) as (λ b. has_number call y ≡ b → cond b (Some y) (find (has_number call) ys) ≡ Some u → list_all (is_apart x) (cond b (cons_option (left y) ys) (y ∷ replaced call left ys)) ≡ true) [
+      | true ↦ λ e here. go (left y) refl (let is : y ≡ u = cc in is) parts.0 parts.1
+      | false ↦ λ e here. and_from _ _ parts.0 (apart_replaced call left u x ys here same parts.1)
+    ] refl here
+  where
+    go : (o : Option CallState) → left y ≡ o → y ≡ u → is_apart x y ≡ true → list_all (is_apart x) ys ≡ true → list_all (is_apart x) (cons_option o ys) ≡ true
+    go None e is one rest = rest
+    go (Some v) e is one rest = and_from _ _ (apart_of x y v (same v (ap left (sym is) ∙ e) ∙ ap (λ (c : CallState). c.caller) (sym is)) one) rest
+
+pub calls_replaced : (w n : WorldState) (call : ℕ) (left : CallState → Option CallState) (u : CallState) (calls : List CallState) → find (has_number call) calls ≡ Some u → ((v : CallState) → left u ≡ Some v → v.caller ≡ u.caller)
+    → ((x : CallState) → FitsCall w x → FitsCall n x) → ((v : CallState) → left u ≡ Some v → FitsCall w u → FitsCall n v) → CallsFit w calls → CallsFit n (replaced call left calls)
+calls_replaced w n call left u [] here same on now fit = cc
+calls_replaced w n call left u (x ∷ xs) here same on now fit =
+    elim (has_number call x) as (λ b. cond b (Some x) (find (has_number call) xs) ≡ Some u → CallsFit n (cond b (cons_option (left x) xs) (x ∷ replaced call left xs))) [
+      | true ↦ λ here. go (left x) refl (let is : x ≡ u = cc in is)
+      | false ↦ λ here. (on x fit.0, apart_replaced call left u x xs here same fit.1, calls_replaced w n call left u xs here same on now fit.2)
+    ] here
+  where
+    others : CallsFit n xs
+    others = calls_on w n (λ c. Unit {0}) xs (λ c t h. on c h) (each_one xs) fit.2
+      where
+        each_one : (ys : List CallState) → Each (λ (c : CallState). Unit {0}) ys
+        each_one [] = tt
+        each_one (y ∷ ys) = (tt, each_one ys)
+
+    go : (o : Option CallState) → left x ≡ o → x ≡ u → CallsFit n (cons_option o xs)
+    go None e is = others
+    go (Some v) e is =
+        let at = ap left (sym is) ∙ e in
+        (now v at (subst (FitsCall w) is fit.0), apart_from x v xs (same v at ∙ ap (λ (c : CallState). c.caller) (sym is)) fit.1, others)
+
+pub still_replaced : (call : ℕ) (left : CallState → Option CallState) (u : CallState) (number session : ℕ) (q : Bytes) (op : Op) (calls : List CallState) → find (has_number call) calls ≡ Some u → ((v : CallState) → left u ≡ Some v → Taken u v)
+    → (op_at u q ≡ Some op → left u ≡ None → ⊥) → IsSomeAnd (find (has_number number) calls) (IsCallOf session q op)
+    → IsSomeAnd (find (has_number number) (replaced call left calls)) (IsCallOf session q op)
+still_replaced call left u number session q op [] here taken on h = cc
+still_replaced call left u number session q op (x ∷ xs) here taken on h =
+    elim (has_number call x) as (λ b. cond b (Some x) (find (has_number call) xs) ≡ Some u → IsSomeAnd (find (has_number number) (cond b (cons_option (left x) xs) (x ∷ replaced call left xs))) (IsCallOf session q op)) [
+      | true ↦ λ here. go (left x) refl (let is : x ≡ u = cc in is)
+      | false ↦ λ here. elim (has_number number x) as (λ b. IsSomeAnd (cond b (Some x) (find (has_number number) xs)) (IsCallOf session q op) → IsSomeAnd (cond b (Some x) (find (has_number number) (replaced call left xs))) (IsCallOf session q op)) [
+        | true ↦ λ h. h
+        | false ↦ λ h. still_replaced call left u number session q op xs here taken on h
+      ] h
+    ] here
+  where
+    at_head : (o : Option CallState) → left u ≡ o → x ≡ u → has_number number x ≡ true → IsCallOf session q op x → IsSomeAnd (find (has_number number) (cons_option o xs)) (IsCallOf session q op)
+    at_head None e is mine of = absurd (on (ap (λ (c : CallState). op_at c q) (sym is) ∙ of.1) e)
+    at_head (Some v) e is mine of =
+        let t = taken v e in
+        let same : v.caller ≡ x.caller = t.caller_is ∙ ap (λ (c : CallState). c.caller) (sym is) in
+        goes_here number session q op v xs (ap (λ (c : Caller). c.call == number) same ∙ mine)
+        (ap (λ (c : Caller). c.session) same ∙ of.0, t.goes q op (ap (λ (c : CallState). op_at c q) (sym is) ∙ of.1), t.turns q (ap (λ (c : CallState). is_turn c q) (sym is) ∙ of.2))
+
+    passed : (o : Option CallState) → left u ≡ o → x ≡ u → has_number number x ≡ false → IsSomeAnd (find (has_number number) xs) (IsCallOf session q op) → IsSomeAnd (find (has_number number) (cons_option o xs)) (IsCallOf session q op)
+    passed None e is other h = h
+    passed (Some v) e is other h =
+        let same : v.caller ≡ x.caller = (taken v e).caller_is ∙ ap (λ (c : CallState). c.caller) (sym is) in
+        goes_behind number session q op v xs (ap (λ (c : Caller). c.call == number) same ∙ other) h
+
+    go : (o : Option CallState) → left x ≡ o → x ≡ u → IsSomeAnd (find (has_number number) (cons_option o xs)) (IsCallOf session q op)
+    go o e is =
+        elim (has_number number x) as (λ b. has_number number x ≡ b → IsSomeAnd (cond b (Some x) (find (has_number number) xs)) (IsCallOf session q op) → IsSomeAnd (find (has_number number) (cons_option o xs)) (IsCallOf session q op)) [
+          | true ↦ λ mine h. at_head o (ap left (sym is) ∙ e) is mine h
+          | false ↦ λ other h. passed o (ap left (sym is) ∙ e) is other h
+        ] refl h
+
+pub each_replaced : (call : ℕ) (left : CallState → Option CallState) (P : CallState → Type 0) (u : CallState) (calls : List CallState) → find (has_number call) calls ≡ Some u → ((v : CallState) → left u ≡ Some v → P u → P v) → Each P calls → Each P (replaced call left calls)
+each_replaced call left P u [] here f each = cc
+each_replaced call left P u (x ∷ xs) here f each =
+    elim (has_number call x) as (λ b. cond b (Some x) (find (has_number call) xs) ≡ Some u → Each P (cond b (cons_option (left x) xs) (x ∷ replaced call left xs))) [
+      | true ↦ λ here. go (left x) refl (let is : x ≡ u = cc in is)
+      | false ↦ λ here. (each.0, each_replaced call left P u xs here f each.1)
+    ] here
+  where
+    go : (o : Option CallState) → left x ≡ o → x ≡ u → Each P (cons_option o xs)
+    go None e is = each.1
+    go (Some v) e is = (f v (ap left (sym is) ∙ e) (subst P is each.0), each.1)
+
+-- and the call is found by its number
+pub found_replaced : (call : ℕ) (left : CallState → Option CallState) (u v : CallState) (calls : List CallState) → find (has_number call) calls ≡ Some u → left u ≡ Some v → v.caller ≡ u.caller → find (has_number call) (replaced call left calls) ≡ Some v
+found_replaced call left u v [] here goes same = cc
+found_replaced call left u v (x ∷ xs) here goes same =
+    elim (has_number call x) as (λ b. has_number call x ≡ b → cond b (Some x) (find (has_number call) xs) ≡ Some u → find (has_number call) (cond b (cons_option (left x) xs) (x ∷ replaced call left xs)) ≡ Some v) [
+      | true ↦ λ e here.
+          let is : x ≡ u = cc in
+          let mine : has_number call v ≡ true = ap (λ (c : Caller). c.call == call) (same ∙ ap (λ (c : CallState). c.caller) (sym is)) ∙ e in
+          ap (λ o. find (has_number call) (cons_option o xs)) (ap left is ∙ goes) ∙ ap (λ b. cond b (Some v) (find (has_number call) xs)) mine
+      | false ↦ λ e here. ap (λ b. cond b (Some x) (find (has_number call) (replaced call left xs))) e ∙ found_replaced call left u v xs here goes same
+    ] refl here
+
+-- 3. Where the call stands.
+
+pub record IsPlaceOf (call : ℕ) (left : CallState → Option CallState) (calls : List CallState) (place : ℕ) : Type 0 where
+  pub u : CallState
+  pub here : slice_get calls place ≡ Some u
+  pub first : find (has_number call) calls ≡ Some u
+  pub put : (v : CallState) → left u ≡ Some v → replaced call left calls ≡ slice_set calls place v
+  pub taken_out : left u ≡ None → replaced call left calls ≡ remove calls place
+
+place_from : (call : ℕ) (left : CallState → Option CallState) (calls : List CallState) (k i : ℕ) → position_from (has_number call) k calls ≡ Some i → (j : ℕ) × (i ≡ k + j) × IsPlaceOf call left calls j
+place_from call left [] k i h = cc
+place_from call left (x ∷ xs) k i h =
+    elim (has_number call x) as (λ b. has_number call x ≡ b → cond b (Some k) (position_from (has_number call) (k + 1) xs) ≡ Some i → (j : ℕ) × (i ≡ k + j) × IsPlaceOf call left (x ∷ xs) j) [
+      | true ↦ λ e h.
+          let is : k ≡ i = cc in (
+            0,
+            omega arith,
+            record {
+              u = x;
+              here = refl;
+              first = ap (λ b. cond b (Some x) (find (has_number call) xs)) e;
+              put = λ v goes. ap (λ b. cond b (cons_option (left x) xs) (x ∷ replaced call left xs)) e ∙ ap (λ o. cons_option o xs) goes;
+              taken_out = λ over. ap (λ b. cond b (cons_option (left x) xs) (x ∷ replaced call left xs)) e ∙ ap (λ o. cons_option o xs) over;
+            },
+          )
+      | false ↦ λ e h.
+          let rest = place_from call left xs (k + 1) i h in
+          let at : i ≡ (k + 1) + rest.0 = rest.1 in (
+            suc rest.0,
+            omega (arith, at),
+            record {
+              u = rest.2.u;
+              here = rest.2.here;
+              first = ap (λ b. cond b (Some x) (find (has_number call) xs)) e ∙ rest.2.first;
+              put = λ v goes. ap (λ b. cond b (cons_option (left x) xs) (x ∷ replaced call left xs)) e ∙ ap (λ cs. x ∷ cs) (rest.2.put v goes);
+              taken_out = λ over. ap (λ b. cond b (cons_option (left x) xs) (x ∷ replaced call left xs)) e ∙ ap (λ cs. x ∷ cs) (rest.2.taken_out over);
+            },
+          )
+    ] refl h
+
+pub place_at : (call : ℕ) (left : CallState → Option CallState) (calls : List CallState) (i : ℕ) → position (has_number call) calls ≡ Some i → IsPlaceOf call left calls i
+place_at call left calls i h =
+    let found = place_from call left calls 0 i (sym (position_from-zero (has_number call) calls) ∙ h) in
+    let at : i ≡ 0 + found.0 = found.1 in
+    let is : found.0 ≡ i = omega (arith, at) in
+    subst (IsPlaceOf call left calls) is found.2
+
+pub remove_set : (calls : List CallState) (i : ℕ) (v : CallState) → remove (slice_set calls i v) i ≡ remove calls i
+remove_set [] i v = refl
+remove_set (x ∷ xs) zero v = refl
+remove_set (x ∷ xs) (suc i) v = ap (λ cs. x ∷ cs) (remove_set xs i v)
+
+-- what is left of the call is put in its place, or taken out
+left_is : (call stripes : ℕ) (keys : List Bytes) (s : Sweep) (calls : List CallState) (u x v : CallState) → find (has_number call) calls ≡ Some u → find (has_number call) calls ≡ Some x → v ≡ with_found stripes keys s x → (b : Bool) → is_going v ≡ b
+    → going_on (with_found stripes keys s u) ≡ cond b (Some v) None
+left_is call stripes keys s calls u x v one two is b goes =
+    let same : u ≡ x = same_found (find (has_number call) calls) u x one two in
+    ap (λ (y : CallState). going_on (with_found stripes keys s y)) same ∙ ap going_on (sym is) ∙ ap (λ c. cond c (Some v) None) goes
+
+pub look_put : (call stripes place : ℕ) (keys : List Bytes) (s : Sweep) (x v : CallState) (calls : List CallState) → position (has_number call) calls ≡ Some place → find (has_number call) calls ≡ Some x → v ≡ with_found stripes keys s x → is_going v ≡ true
+    → slice_set calls place v ≡ look call stripes keys s calls
+look_put call stripes place keys s x v calls at found is goes =
+    let p = place_at call (λ u. going_on (with_found stripes keys s u)) calls place at in
+    sym (p.put v (left_is call stripes keys s calls p.u x v p.first found is true goes))
+
+pub look_out : (call stripes place : ℕ) (keys : List Bytes) (s : Sweep) (x v : CallState) (calls : List CallState) → position (has_number call) calls ≡ Some place → find (has_number call) calls ≡ Some x → v ≡ with_found stripes keys s x → is_going v ≡ false
+    → remove (slice_set calls place v) place ≡ look call stripes keys s calls
+look_out call stripes place keys s x v calls at found is over =
+    let p = place_at call (λ u. going_on (with_found stripes keys s u)) calls place at in
+    remove_set calls place v ∙ sym (p.taken_out (left_is call stripes keys s calls p.u x v p.first found is false over))

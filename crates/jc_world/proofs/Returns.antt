@@ -1,0 +1,57 @@
+-- A writer's return: what each key's report keeps is kept for all keys that the writer returns for.
+--     each_report     what a report for one key keeps, a return keeps
+--     IsBeside        a world is another one but for its parts and its premises
+--     returned        a return leads to such a world
+--     IsReport        an event is a writer's return
+use Rattle.std.proofs.Common.{◌≡◌, ℕ, List, [], ◌∷◌, true, false, cond, Option, None, Some, refl, ap, ◌∙◌}
+use Rattle.jc_model.specs.Cache.{Bytes}
+use Rattle.jc_model.specs.declared.event.WriteAnswer.{WriteAnswer}
+use Rattle.jc_world.specs.declared.event.Part.{Part}
+use Rattle.jc_world.specs.declared.event.Premises.{Premises}
+use Rattle.jc_world.specs.declared.event.WorldEvent.{WorldEvent}
+use Rattle.jc_world.specs.declared.event.WorldEvent.TheVariants as event
+use Rattle.jc_world.specs.World.{WorldState, Parts, part_of, waits_for_report}
+use Rattle.jc_world.specs.Events.{after_report, reported_at, after_reports}
+
+-- the report for one key keeps this
+abbrev pub KeepsReport : (WorldState → Type 0) → ℕ → (Bytes → WriteAnswer) → Type 0
+KeepsReport P call answer =
+    (w : WorldState) (key : Bytes) (part : Part) → part_of w call key ≡ Some part → waits_for_report part.progress ≡ true → P w → P (after_report w key part (answer key))
+
+at_one : (P : WorldState → Type 0) (call : ℕ) (answer : Bytes → WriteAnswer) → KeepsReport P call answer → (w : WorldState) (key : Bytes) (o : Option Part) → part_of w call key ≡ o → P w → P (reported_at w key (answer key) o)
+at_one P call answer one w key None at h = h
+at_one P call answer one w key (Some part) at h =
+    elim (waits_for_report part.progress) as (λ b. waits_for_report part.progress ≡ b → P (cond b (after_report w key part (answer key)) w)) [
+      | true ↦ λ waits. one w key part at waits h
+      | false ↦ λ waits. h
+    ] refl
+
+-- so a return keeps it
+pub each_report : (P : WorldState → Type 0) (call : ℕ) (answer : Bytes → WriteAnswer) → KeepsReport P call answer → (w : WorldState) (keys : List Bytes) → P w → P (after_reports w call answer keys)
+each_report P call answer one w [] h = h
+each_report P call answer one w (key ∷ keys) h =
+    each_report P call answer one (reported_at w key (answer key) (part_of w call key)) keys (at_one P call answer one w key (part_of w call key) refl h)
+
+-- another world but for its parts and its premises
+pub record IsBeside (w new : WorldState) : Type 0 where
+  pub parts : Parts
+  pub premises : Premises
+  pub is : new ≡ record w { parts = parts; premises = premises }
+
+pub returned : (w new : WorldState) (call : ℕ) (answer : Bytes → WriteAnswer) (keys : List Bytes) → new ≡ after_reports w call answer keys → IsBeside w new
+returned w new call answer keys is =
+    let all = each_report (IsBeside w) call answer
+    (λ v key part at waits h.
+    let next = after_report v key part (answer key) in
+    record {
+      parts = next.parts;
+      premises = next.premises;
+      is = ap (λ (x : WorldState). record x { parts = next.parts; premises = next.premises }) h.is;
+    })
+    w keys (record { parts = w.parts; premises = w.premises; is = refl })
+    in
+    record { parts = all.parts; premises = all.premises; is = is ∙ all.is }
+
+abbrev pub IsReport : WorldEvent → Type 0
+IsReport (event.Report call left fault) = Unit {0}
+IsReport e = ⊥

@@ -1,0 +1,449 @@
+-- Events of one call at keys that differ: what fits at one of them fits as well behind what happens at another.
+--     Keeps           at a key, a call is as far in one world as in another
+--     kept_fit        what fits at such a key fits in either
+--     keeps_other     what happens at a key keeps every other key of the call
+--     fit_together    what fits at keys that differ fits one after the other
+use Rattle.std.proofs.Common.{inl, inr, ◌≡◌, ◌==◌, ◌||◌, ◌&&◌, ◌∙◌, ℕ, List, [], ◌∷◌, ◌++◌, map, Bool, true, false, cond, not, Option, None, Some, IsSomeAnd, find, is_none, is_some, refl, sym, ap, subst, append-nil}
+use Rattle.std.specs.FinMap.{get, insert, remove, get-insert, get-remove}
+use Rattle.std.specs.List.{IsDistinct, AllByRecursion, list_all, list_any}
+use Rattle.std.specs.Cmp.Lexicographic.{pointwise}
+use Rattle.std.specs.Ordering.{eq_by_cmp}
+use Rattle.std.proofs.lemmas.Bool.{eqb-true, and_parts, and_from}
+use Rattle.std.proofs.lemmas.Cmp.{nat_list_cmp_total, nat_list_eq_equiv, nat_eq_equiv}
+use Rattle.std.proofs.lemmas.List.Folds.{list_any-append}
+use Rattle.std.proofs.lemmas.Map.Keys.{IsDistinct-head, IsDistinct-tail}
+use Rattle.jc_model.specs.Batches.{is_among}
+use Rattle.jc_model.specs.Cache.{Bytes, key_cmp}
+use Rattle.jc_model.specs.Table.{is_load_given}
+use Rattle.jc_model.specs.declared.event.Change.{Change}
+use Rattle.jc_model.specs.declared.event.Op.{Op}
+use Rattle.jc_model.proofs.CallerLemmas.{same_key}
+use Rattle.jc_stripe.specs.Tickets.{JoinClaim}
+use Rattle.jc_world.specs.declared.event.Part.{Part}
+use Rattle.jc_world.specs.declared.event.Shown.{Shown}
+use Rattle.jc_world.specs.declared.event.Shown.TheVariants as shown
+use Rattle.jc_world.specs.declared.event.WorldEvent.{WorldEvent}
+use Rattle.jc_world.specs.declared.event.WorldEvent.TheVariants as event
+use Rattle.jc_world.specs.Calls.{CallState, has_number, has_too_many_keys, is_turn, new_call, op_at, open_keys, settle}
+use Rattle.jc_world.specs.declared.command.Command.{Command}
+use Rattle.jc_world.specs.World.{WorldState, Parts, open_call, of_call, part_of, is_join, is_joined, joins_without, has_progress, waits_for_load, waits_for_report}
+use Rattle.jc_world.specs.Events.{fits, is_free, may_start, may_leave, waits_at, may_report, with_change, after_change, Happens, Starts, is_fit, AllFit, with_ends, noted, subject}
+use Rattle.jc_world.specs.Ends.{EndsState}
+use Rattle.jc_world.specs.Sound.{IsCallOf, IsSoundWorld, Each}
+use Rattle.jc_world.specs.Together.{at_call, key_at, may_work, AreAt, FitTogether}
+use Rattle.jc_world.proofs.Beginning.{may_start_at, may_turn, part_turn}
+use Rattle.jc_world.proofs.Callers.{picking, picking_turn}
+use Rattle.jc_world.proofs.Entries.{split, tied}
+use Rattle.jc_world.proofs.Facts.{refuted}
+use Rattle.jc_world.proofs.Fitting.{none_fit, fits_then, one_fits, start_fits, still_waits, unjoined_held}
+use Rattle.jc_world.proofs.Joiners.{join_is}
+use Rattle.jc_world.proofs.Noting.{noted_beside, sound_ends, sound_before}
+use Rattle.jc_world.proofs.Numbered.{some_of}
+use Rattle.jc_world.proofs.Settling.{IsTurnOf, still_called}
+use Rattle.jc_world.proofs.Shares.{is_some_and}
+use Rattle.jc_world.proofs.Sounding.{Laws, sound_step}
+use Rattle.jc_world.proofs.Underway.{found_number, of_call-at, same_bytes}
+
+-- 1. What fits at a key of a call.
+
+pub record Keeps (w mid : WorldState) (call : ℕ) (key : Bytes) : Type 0 where
+  pub called : (session : ℕ) (op : Op) → IsSomeAnd (open_call w call) (IsCallOf session key op) → IsSomeAnd (open_call mid call) (IsCallOf session key op)
+  pub part : part_of mid call key ≡ part_of w call key
+  pub joined : is_joined mid call key ≡ is_joined w call key
+
+-- an event at a key of a call names both
+named : (call other : ℕ) (key q : Bytes) → at_call call other key ≡ Some q → (other ≡ call) × (key ≡ q)
+named call other key q h =
+    elim (other == call) as (λ b. (other == call) ≡ b → cond b (Some key) None ≡ Some q → (other ≡ call) × (key ≡ q)) [
+      | true ↦ λ e h. (eqb-true other call e, cc)
+      | false ↦ λ e h. cc
+    ] refl h
+
+-- of a first phase
+kept_start : (w mid : WorldState) (call : ℕ) (key : Bytes) → Keeps w mid call key → may_start w call key (open_call w call) ≡ true → may_start mid call key (open_call mid call) ≡ true
+kept_start w mid call key keeps fit = go (open_call w call) refl
+  where
+    free : is_free mid call key ≡ is_free w call key
+    free = λ i. is_none (keeps.part i) && not (keeps.joined i)
+
+    at : (u : CallState) → open_call w call ≡ Some u → (o : Option Op) → op_at u key ≡ o → may_start mid call key (open_call mid call) ≡ true
+    at u here None is =
+        let tests = and_parts (is_some (op_at u key) && is_turn u key) (is_free w call key) (sym (ap (may_start w call key) here) ∙ fit) in
+        let t : false ≡ true = sym (ap is_some is) ∙ (and_parts (is_some (op_at u key)) (is_turn u key) tests.0).0 in cc
+    at u here (Some op) is =
+        let tests = and_parts (is_some (op_at u key) && is_turn u key) (is_free w call key) (sym (ap (may_start w call key) here) ∙ fit) in
+        let turn = (and_parts (is_some (op_at u key)) (is_turn u key) tests.0).1 in
+        let v = some_of (open_call mid call) (IsCallOf u.caller.session key op) (keeps.called u.caller.session op (is_some_and (open_call w call) (IsCallOf u.caller.session key op) u here (refl, is, turn))) in
+        ap (may_start mid call key) v.1 ∙ and_from _ _ (and_from _ _ (ap is_some v.2.1) v.2.2) (free ∙ tests.1)
+
+    go : (o : Option CallState) → open_call w call ≡ o → may_start mid call key (open_call mid call) ≡ true
+    go None e = let t : false ≡ true = sym (ap (may_start w call key) e) ∙ fit in cc
+    go (Some u) e = at u e (op_at u key) refl
+
+-- a fact of a key of a call, where an event names them
+at_named : (call other : ℕ) (key q : Bytes) (P : ℕ → Bytes → Type 0) → (other ≡ call) × (key ≡ q) → P call q → P other key
+at_named call other key q P is h = subst (λ n. P n key) (sym is.0) (subst (P call) (sym is.1) h)
+
+kept_part : (w mid : WorldState) (call other : ℕ) (key q : Bytes) → at_call call other key ≡ Some q → Keeps w mid call q → part_of mid other key ≡ part_of w other key
+kept_part w mid call other key q at keeps = at_named call other key q (λ n k. part_of mid n k ≡ part_of w n k) (named call other key q at) keeps.part
+
+pub kept_fit : (w mid : WorldState) (call : ℕ) (e : WorldEvent) (q : Bytes) → key_at call e ≡ Some q → Keeps w mid call q → fits w e ≡ true → fits mid e ≡ true
+kept_fit w mid call (event.Call other session command) q at keeps fit = cc
+kept_fit w mid call (event.Look other stripe) q at keeps fit = cc
+kept_fit w mid call (event.Start other key) q at keeps fit =
+    at_named call other key q (λ n k. fits w (event.Start n k) ≡ true → fits mid (event.Start n k) ≡ true) (named call other key q at) (kept_start w mid call q keeps) fit
+kept_fit w mid call (event.Read other key) q at keeps fit = ap (has_progress _) (kept_part w mid call other key q at keeps) ∙ fit
+kept_fit w mid call (event.Say other key answer) q at keeps fit = ap (λ o. is_load_given answer && has_progress waits_for_load o) (kept_part w mid call other key q at keeps) ∙ fit
+kept_fit w mid call (event.Change other key) q at keeps fit = ap (has_progress _) (kept_part w mid call other key q at keeps) ∙ fit
+kept_fit w mid call (event.Report other left fault) q at keeps fit = cc
+kept_fit w mid call (event.Process other key source calls fail) q at keeps fit = ap (has_progress _) (kept_part w mid call other key q at keeps) ∙ fit
+kept_fit w mid call (event.Commit other key) q at keeps fit = ap (has_progress _) (kept_part w mid call other key q at keeps) ∙ fit
+kept_fit w mid call (event.Withdraw other key) q at keeps fit = ap (has_progress _) (kept_part w mid call other key q at keeps) ∙ fit
+kept_fit w mid call (event.Leave other) q at keeps fit = cc
+kept_fit w mid call (event.PickUp other key) q at keeps fit =
+    at_named call other key q (λ n k. is_joined mid n k ≡ is_joined w n k) (named call other key q at) keeps.joined ∙ fit
+kept_fit w mid call (event.Foreign key value) q at keeps fit = cc
+
+-- 2. What happens at another key.
+
+-- keys that differ don't tie
+untied : (q key : Bytes) → (q ≡ key → ⊥) → eq_by_cmp key_cmp q key ≡ false
+untied q key apart = refuted (eq_by_cmp key_cmp q key) (λ e. apart (same_key q key e))
+
+part_beside : (parts : Parts) (q key : Bytes) (part : Part) (call : ℕ) → (q ≡ key → ⊥) → of_call call (get (insert parts key part) q) ≡ of_call call (get parts q)
+part_beside parts q key part call apart = ap (of_call call) (get-insert nat_list_cmp_total parts key part q ∙ ap (λ b. cond b (Some part) (get parts q)) (untied q key apart))
+
+part_without : (parts : Parts) (q key : Bytes) (call : ℕ) → (q ≡ key → ⊥) → of_call call (get (remove parts key) q) ≡ of_call call (get parts q)
+part_without parts q key call apart = ap (of_call call) (get-remove nat_list_cmp_total parts key q ∙ ap (λ b. cond b None (get parts q)) (untied q key apart))
+
+-- a join of another key
+join_apart : (call : ℕ) (q : Bytes) (join : JoinClaim) → (q ≡ join.key → ⊥) → is_join call q join ≡ false
+join_apart call q join apart = refuted (is_join call q join) (λ e. apart (sym (join_is call q join e).1))
+
+join_more : (joins : List JoinClaim) (call : ℕ) (q : Bytes) (join : JoinClaim) → (q ≡ join.key → ⊥) → list_any (is_join call q) (joins ++ join ∷ []) ≡ list_any (is_join call q) joins
+join_more joins call q join apart =
+    list_any-append (is_join call q) joins (join ∷ []) ∙ ap (λ b. list_any (is_join call q) joins || (b || false)) (join_apart call q join apart) ∙ or_none (list_any (is_join call q) joins)
+  where
+    or_none : (b : Bool) → (b || (false || false)) ≡ b
+    or_none true = refl
+    or_none false = refl
+
+join_less : (joins : List JoinClaim) (call other : ℕ) (q key : Bytes) → (q ≡ key → ⊥) → list_any (is_join call q) (joins_without other key joins) ≡ list_any (is_join call q) joins
+join_less [] call other q key apart = refl
+join_less (j ∷ js) call other q key apart =
+    elim (is_join other key j) as (λ b. is_join other key j ≡ b → list_any (is_join call q) (cond (not b) (j ∷ joins_without other key js) (joins_without other key js)) ≡ (is_join call q j || list_any (is_join call q) js)) [
+      | true ↦ λ e.
+          let away : is_join call q j ≡ false = refuted (is_join call q j) (λ t. apart (sym (join_is call q j t).1 ∙ (join_is other key j e).1)) in
+          join_less js call other q key apart ∙ sym (ap (λ b. b || list_any (is_join call q) js) away)
+      | false ↦ λ e. ap (λ b. is_join call q j || b) (join_less js call other q key apart)
+    ] refl
+
+-- a key of a call that was settled leaves its others
+called_settled : (w : WorldState) (call other : ℕ) (q key : Bytes) → (q ≡ key → ⊥) → IsTurnOf w.calls other key → (session : ℕ) (op : Op) → IsSomeAnd (open_call w call) (IsCallOf session q op)
+    → IsSomeAnd (find (has_number call) (settle other key w.calls)) (IsCallOf session q op)
+called_settled w call other q key apart turn session op h = still_called other key call session q op w.calls (λ mine same. apart same) turn h
+
+keeps_started : (w mid : WorldState) (call : ℕ) (u : CallState) (key q : Bytes) (op : Op) (seen : Shown) → IsTurnOf w.calls u.caller.call key → (q ≡ key → ⊥) → (from to : _) → Starts w u.caller key op from to seen mid → Keeps w mid call q
+keeps_started w mid call u key q op (shown.Refused refusal) turn apart from to h =
+    subst (λ m. Keeps w m call q) (sym h.1) (record { called = called_settled w call u.caller.call q key apart turn; part = refl; joined = refl })
+keeps_started w mid call u key q op (shown.PutOff refusal) turn apart from to h =
+    subst (λ m. Keeps w m call q) (sym h.1) (record { called = λ session op h. h; part = refl; joined = refl })
+keeps_started w mid call u key q op (shown.Stepped seen) turn apart from to h =
+    subst (λ m. Keeps w m call q) (sym h.2) (record { called = called_settled w call u.caller.call q key apart turn; part = refl; joined = refl })
+keeps_started w mid call u key q op shown.Loads turn apart from to h =
+    subst (λ m. Keeps w m call q) (sym h.2) (record { called = λ session op h. h; part = part_beside w.parts q key _ call apart; joined = refl })
+keeps_started w mid call u key q op (shown.Asks change) turn apart from to h =
+    subst (λ m. Keeps w m call q) (sym h.3) (record { called = λ session op h. h; part = part_beside w.parts q key _ call apart; joined = refl })
+keeps_started w mid call u key q op (shown.Processes entry) turn apart from to h =
+    subst (λ m. Keeps w m call q) (sym h.3) (record { called = λ session op h. h; part = part_beside w.parts q key _ call apart; joined = refl })
+keeps_started w mid call u key q op shown.Joins turn apart from to h =
+    let of_key : h.0.key ≡ key = ap (λ (j : JoinClaim). j.key) h.1.2 in
+    subst (λ m. Keeps w m call q) (sym h.2) (record { called = λ session op h. h; part = refl; joined = join_more w.joins call q h.0 (λ same. apart (same ∙ of_key)) })
+keeps_started w mid call u key q op (shown.PickedUp seen) turn apart from to h = absurd h
+keeps_started w mid call u key q op (shown.Reported seen) turn apart from to h = absurd h
+keeps_started w mid call u key q op (shown.Processed seen) turn apart from to h = absurd h
+keeps_started w mid call u key q op (shown.Reads answer) turn apart from to h = absurd h
+keeps_started w mid call u key q op (shown.Says answer) turn apart from to h = absurd h
+keeps_started w mid call u key q op shown.Begun turn apart from to h = absurd h
+keeps_started w mid call u key q op shown.Looked turn apart from to h = absurd h
+keeps_started w mid call u key q op shown.Changed turn apart from to h = absurd h
+keeps_started w mid call u key q op shown.Withdrawn turn apart from to h = absurd h
+keeps_started w mid call u key q op shown.Left turn apart from to h = absurd h
+keeps_started w mid call u key q op shown.Waits turn apart from to h = absurd h
+keeps_started w mid call u key q op shown.Again turn apart from to h = absurd h
+keeps_started w mid call u key q op shown.Written turn apart from to h = absurd h
+keeps_started w mid call u key q op shown.Unfit turn apart from to h = absurd h
+
+-- the call of an event that is at a key
+pub keeps_other : (w mid : WorldState) (call : ℕ) (e : WorldEvent) (seen : Shown) (key q : Bytes) → key_at call e ≡ Some key → (q ≡ key → ⊥) → fits w e ≡ true → Happens w e seen mid → IsSoundWorld w → Keeps w mid call q
+keeps_other w mid call (event.Call other session command) seen key q at apart fit h old = cc
+keeps_other w mid call (event.Look other stripe) seen key q at apart fit h old = cc
+keeps_other w mid call (event.Start other at_key) seen key q at apart fit h old =
+    let is = named call other at_key key at in
+    let number = found_number other w.calls h.0 h.2 in
+    let may = may_start_at w other at_key h.0 h.1 fit h.2 h.3 old in
+    keeps_started w mid call h.0 at_key q h.1 seen (may_turn w h.0 at_key h.1 may) (λ same. apart (same ∙ is.1)) h.4 h.6 h.7
+keeps_other w mid call (event.Read other at_key) seen key q at apart fit h old =
+    let is = named call other at_key key at in
+    subst (λ m. Keeps w m call q) (sym h.3) (record { called = λ session op h. h; part = part_beside w.parts q at_key _ call (λ same. apart (same ∙ is.1)); joined = refl })
+keeps_other w mid call (event.Say other at_key answer) seen key q at apart fit h old =
+    let is = named call other at_key key at in
+    subst (λ m. Keeps w m call q) (sym h.3) (record { called = λ session op h. h; part = part_beside w.parts q at_key _ call (λ same. apart (same ∙ is.1)); joined = refl })
+keeps_other w mid call (event.Change other at_key) seen key q at apart fit h old =
+    let is = named call other at_key key at in
+    subst (λ m. Keeps w m call q) (sym h.5) (record { called = λ session op h. h; part = part_beside w.parts q at_key _ call (λ same. apart (same ∙ is.1)); joined = refl })
+keeps_other w mid call (event.Report other left fault) seen key q at apart fit h old = cc
+keeps_other w mid call (event.Process other at_key source calls fail) seen key q at apart fit h old =
+    let is = named call other at_key key at in
+    subst (λ m. Keeps w m call q) (sym h.3) (record { called = λ session op h. h; part = part_beside w.parts q at_key _ call (λ same. apart (same ∙ is.1)); joined = refl })
+keeps_other w mid call (event.Commit other at_key) shown.Unfit key q at apart fit h old = absurd h.5
+keeps_other w mid call (event.Commit other at_key) (shown.Stepped seen) key q at apart fit h old =
+    let is = named call other at_key key at in
+    let away : q ≡ at_key → ⊥ = λ same. apart (same ∙ is.1) in
+    let part = of_call-at other (get w.parts at_key) h.0 h.1 in
+    subst (λ m. Keeps w m call q) (sym h.5.2)
+    (record { called = called_settled w call other q at_key away (part_turn w other at_key h.0 part.0 part.1 old); part = part_without w.parts q at_key call away; joined = refl })
+keeps_other w mid call (event.Commit other at_key) seen key q at apart fit h old = absurd h.5
+keeps_other w mid call (event.Withdraw other at_key) seen key q at apart fit h old =
+    let is = named call other at_key key at in
+    subst (λ m. Keeps w m call q) (sym h.7) (record { called = λ session op h. h; part = part_without w.parts q at_key call (λ same. apart (same ∙ is.1)); joined = refl })
+keeps_other w mid call (event.Leave other) seen key q at apart fit h old = cc
+keeps_other w mid call (event.PickUp other at_key) (shown.PickedUp seen) key q at apart fit h old =
+    let is = named call other at_key key at in
+    let away : q ≡ at_key → ⊥ = λ same. apart (same ∙ is.1) in
+    subst (λ m. Keeps w m call q) (sym h.5.2)
+    (record { called = called_settled w call other q at_key away (picking_turn w other at_key h.0 (picking w other at_key h.0 h.1 old)); part = refl; joined = join_less w.joins call other q at_key away })
+keeps_other w mid call (event.PickUp other at_key) shown.Again key q at apart fit h old =
+    let is = named call other at_key key at in
+    subst (λ m. Keeps w m call q) (sym h.5.1) (record { called = λ session op h. h; part = refl; joined = join_less w.joins call other q at_key (λ same. apart (same ∙ is.1)) })
+keeps_other w mid call (event.PickUp other at_key) shown.Waits key q at apart fit h old =
+    subst (λ m. Keeps w m call q) (sym h.5.1) (record { called = λ session op h. h; part = refl; joined = refl })
+keeps_other w mid call (event.PickUp other at_key) seen key q at apart fit h old = absurd h.5
+keeps_other w mid call (event.Foreign at_key value) seen key q at apart fit h old = cc
+
+-- 3. Events at keys that differ.
+
+-- keys that differ from a first one
+abbrev Apart : Bytes → List Bytes → Type 0
+Apart key keys = AllByRecursion (λ later. pointwise ◌==◌ key later ≡ false) keys
+
+not_same : (key q : Bytes) → pointwise ◌==◌ key q ≡ false → q ≡ key → ⊥
+not_same key q apart same = let t : true ≡ false = sym (nat_list_eq_equiv.refl key) ∙ ap (pointwise ◌==◌ key) (sym same) ∙ apart in cc
+
+-- what fits at the other keys goes on fitting
+rest_kept : (w mid : WorldState) (call : ℕ) (e : WorldEvent) (seen : Shown) (key : Bytes) (keys : List Bytes) (events : List WorldEvent) → key_at call e ≡ Some key → fits w e ≡ true → Happens w e seen mid → IsSoundWorld w
+    → AreAt call keys events → Apart key keys → list_all (fits w) events ≡ true → list_all (fits mid) events ≡ true
+rest_kept w mid call e seen key [] [] at fit h old are apart fits_all = refl
+rest_kept w mid call e seen key [] (f ∷ events) at fit h old are apart fits_all = absurd are
+rest_kept w mid call e seen key (q ∷ keys) [] at fit h old are apart fits_all = absurd are
+rest_kept w mid call e seen key (q ∷ keys) (f ∷ events) at fit h old are apart fits_all =
+    let parts = and_parts (fits w f) (list_all (fits w) events) fits_all in
+    and_from _ _
+    (kept_fit w mid call f q are.0 (keeps_other w mid call e seen key q at (not_same key q apart.0) fit h old) parts.0)
+    (rest_kept w mid call e seen key keys events at fit h old are.1 apart.1 parts.1)
+
+-- what is noted of the ends of calls says nothing of what fits
+fits_noted : (w : WorldState) (ends : EndsState) (e : WorldEvent) → fits (with_ends w ends) e ≡ fits w e
+fits_noted w ends (event.Call call session command) = refl
+fits_noted w ends (event.Look call stripe) = refl
+fits_noted w ends (event.Start call key) = refl
+fits_noted w ends (event.Read call key) = refl
+fits_noted w ends (event.Say call key answer) = refl
+fits_noted w ends (event.Change call key) = refl
+fits_noted w ends (event.Report call left fault) = refl
+fits_noted w ends (event.Process call key source calls fail) = refl
+fits_noted w ends (event.Commit call key) = refl
+fits_noted w ends (event.Withdraw call key) = refl
+fits_noted w ends (event.Leave call) = refl
+fits_noted w ends (event.PickUp call key) = refl
+fits_noted w ends (event.Foreign key value) = refl
+
+all_noted : (w : WorldState) (ends : EndsState) (events : List WorldEvent) → list_all (fits w) events ≡ true → list_all (fits (with_ends w ends)) events ≡ true
+all_noted w ends [] h = refl
+all_noted w ends (e ∷ events) h = let parts = and_parts (fits w e) (list_all (fits w) events) h in and_from _ _ (fits_noted w ends e ∙ parts.0) (all_noted w ends events parts.1)
+
+-- the world in which an event has happened is sound, whatever is noted there
+sound_then : Laws → (w mid : WorldState) (e : WorldEvent) (seen : Shown) (ends : EndsState) → fits w e ≡ true → Happens w e seen mid → IsSoundWorld w → IsSoundWorld (with_ends mid ends)
+sound_then laws w mid e seen ends fit happens old =
+    let n = noted_beside (subject w e) seen mid in
+    sound_ends mid ends (sound_before mid (noted (subject w e) seen mid) n.ends n.is (sound_step laws w e seen (noted (subject w e) seen mid) (inl (fit, (mid, happens, refl))) old))
+
+-- what is so behind each event, of the keys that are left, and what then fits
+pub record Goes (call : ℕ) (P : WorldEvent → Type 0) (Q : List Bytes → WorldState → Type 0) (tail : List WorldEvent) : Type 0 where
+  pub step : (w mid : WorldState) (ends : EndsState) (e : WorldEvent) (seen : Shown) (key : Bytes) (keys : List Bytes) → IsSoundWorld w → P e → key_at call e ≡ Some key → fits w e ≡ true → Happens w e seen mid → Q (key ∷ keys) w → Q keys (with_ends mid ends)
+  pub end : (w : WorldState) → Q [] w → AllFit w tail
+
+all_together : Laws → (call : ℕ) (P : WorldEvent → Type 0) (Q : List Bytes → WorldState → Type 0) (tail : List WorldEvent) → Goes call P Q tail → (w : WorldState) (keys : List Bytes) (events : List WorldEvent) → IsSoundWorld w → AreAt call keys events
+    → IsDistinct (pointwise ◌==◌) keys → Each P events → list_all (fits w) events ≡ true → Q keys w → AllFit w (events ++ tail)
+all_together laws call P Q tail goes w [] [] old are differ each fit q = goes.end w q
+all_together laws call P Q tail goes w [] (e ∷ events) old are differ each fit q = absurd are
+all_together laws call P Q tail goes w (key ∷ keys) [] old are differ each fit q = absurd are
+all_together laws call P Q tail goes w (key ∷ keys) (e ∷ events) old are differ each fit q =
+    let parts = and_parts (fits w e) (list_all (fits w) events) fit in
+    fits_then w e (events ++ tail) parts.0 (λ seen mid ends happens.
+    all_together laws call P Q tail goes (with_ends mid ends) keys events (sound_then laws w mid e seen ends parts.0 happens old) are.1
+    (IsDistinct-tail (pointwise ◌==◌) key keys differ) each.1
+    (all_noted mid ends events (rest_kept w mid call e seen key keys events are.0 parts.0 happens old are.1 (IsDistinct-head (pointwise ◌==◌) key keys differ) parts.1))
+    (goes.step w mid ends e seen key keys old each.0 are.0 parts.0 happens q))
+
+-- events of one kind
+are_mapped : (call : ℕ) (keys : List Bytes) (event_of : Bytes → WorldEvent) → ((key : Bytes) → key_at call (event_of key) ≡ Some key) → AreAt call keys (map event_of keys)
+are_mapped call [] event_of h = tt
+are_mapped call (key ∷ keys) event_of h = (h key, are_mapped call keys event_of h)
+
+each_mapped : (P : WorldEvent → Type 0) (event_of : Bytes → WorldEvent) → ((key : Bytes) → P (event_of key)) → (keys : List Bytes) → Each P (map event_of keys)
+each_mapped P event_of h [] = tt
+each_mapped P event_of h (key ∷ keys) = (h key, each_mapped P event_of h keys)
+
+each_any : (events : List WorldEvent) → Each (λ (e : WorldEvent). Unit {0}) events
+each_any [] = tt
+each_any (e ∷ events) = (tt, each_any events)
+
+all_mapped : (p : WorldEvent → Bool) (event_of : Bytes → WorldEvent) (keys : List Bytes) → list_all (λ key. p (event_of key)) keys ≡ true → list_all p (map event_of keys) ≡ true
+all_mapped p event_of [] h = refl
+all_mapped p event_of (key ∷ keys) h = let parts = and_parts (p (event_of key)) (list_all (λ k. p (event_of k)) keys) h in and_from _ _ parts.0 (all_mapped p event_of keys parts.1)
+
+-- a call's own number
+own_call : (call : ℕ) (key : Bytes) → at_call call call key ≡ Some key
+own_call call key = ap (λ b. cond b (Some key) None) (nat_eq_equiv.refl call)
+
+events_fit : Laws → (w : WorldState) → IsSoundWorld w → (call : ℕ) (keys : List Bytes) (events : List WorldEvent) → AreAt call keys events → IsDistinct (pointwise ◌==◌) keys → list_all (fits w) events ≡ true → AllFit w events
+events_fit laws w old call keys events are differ fit =
+    subst (AllFit w) (append-nil events)
+    (all_together laws call (λ e. Unit {0}) (λ keys w. Unit {0}) [] (record { step = λ w mid ends e seen key keys old is at fit h q. tt; end = λ w q. none_fit w }) w keys events old are differ (each_any events) fit tt)
+
+-- 4. A call's leaving, behind the withdrawals of all that it has reserved.
+
+-- the call is under way, and each of its open keys is still to be given back, or free
+pub record IsLeaving (call : ℕ) (keys : List Bytes) (w : WorldState) : Type 0 where
+  pub u : CallState
+  pub here : open_call w call ≡ Some u
+  pub rest : list_all (λ key. is_among keys key || is_free w call key) (open_keys u) ≡ true
+
+all_more : (p q : Bytes → Bool) (keys : List Bytes) → ((key : Bytes) → p key ≡ true → q key ≡ true) → list_all p keys ≡ true → list_all q keys ≡ true
+all_more p q [] f h = refl
+all_more p q (key ∷ keys) f h = let parts = and_parts (p key) (list_all p keys) h in and_from _ _ (f key parts.0) (all_more p q keys f parts.1)
+
+or_true : (a b : Bool) → b ≡ true → (a || b) ≡ true
+or_true true b h = refl
+or_true false b h = h
+
+-- what was still to be given back is free behind its withdrawal
+free_then : (w : WorldState) (call : ℕ) (key : Bytes) (keys : List Bytes) (q : Bytes) → is_joined w call key ≡ false → (is_among (key ∷ keys) q || is_free w call q) ≡ true
+    → (is_among keys q || (is_none (of_call call (get (remove w.parts key) q)) && not (is_joined w call q))) ≡ true
+free_then w call key keys q alone h =
+    elim (pointwise ◌==◌ q key) as (λ b. pointwise ◌==◌ q key ≡ b → ((b || is_among keys q) || is_free w call q) ≡ true → (is_among keys q || (is_none (of_call call (get (remove w.parts key) q)) && not (is_joined w call q))) ≡ true) [
+      | true ↦ λ e h.
+          let same = same_bytes q key e in
+          or_true (is_among keys q) _ (and_from _ _
+          (ap (λ o. is_none (of_call call o)) (get-remove nat_list_cmp_total w.parts key q ∙ ap (λ b. cond b None (get w.parts q)) (ap (λ k. eq_by_cmp key_cmp k key) same ∙ tied key)))
+          (ap not (ap (is_joined w call) same ∙ alone)))
+      | false ↦ λ e h.
+          let apart : q ≡ key → ⊥ = λ same. (let t : true ≡ false = sym (nat_list_eq_equiv.refl key) ∙ ap (λ k. pointwise ◌==◌ k key) (sym same) ∙ e in cc) in
+          ap (λ o. is_among keys q || (is_none o && not (is_joined w call q))) (part_without w.parts q key call apart) ∙ h
+    ] refl h
+
+goes_leaving : (call : ℕ) → Goes call (λ e. (k : Bytes) × (e ≡ event.Withdraw call k)) (IsLeaving call) (event.Leave call ∷ [])
+goes_leaving call = record {
+  step = λ w mid ends e seen key keys old is at fit h q.
+      let F : WorldEvent → Type 0 = λ e. key_at call e ≡ Some key → fits w e ≡ true → Happens w e seen mid → IsLeaving call keys (with_ends mid ends) in
+      subst F (sym is.1) (λ at fit h.
+      let mine = named call call is.0 key at in
+      let alone = unjoined_held w call is.0 fit old in
+      let P : WorldState → Type 0 = λ m. IsLeaving call keys (with_ends m ends) in
+      subst P (sym h.7) (record {
+        u = q.u;
+        here = q.here;
+        rest = all_more (λ k. is_among (key ∷ keys) k || is_free w call k) _ (open_keys q.u) (λ k t.
+            subst (λ x. (is_among keys k || (is_none (of_call call (get (remove w.parts x) k)) && not (is_joined w call k))) ≡ true) (sym mine.1)
+            (free_then w call key keys k (subst (λ x. is_joined w call x ≡ false) mine.1 alone) t)) q.rest;
+      })) at fit h;
+  end = λ w q. one_fits w (event.Leave call) (ap (may_leave w call) q.here ∙ all_more _ _ (open_keys q.u) (λ key t. t) q.rest);
+}
+
+leaving_fits : Laws → (w : WorldState) → IsSoundWorld w → (call : ℕ) (u : CallState) (keys : List Bytes) → open_call w call ≡ Some u → IsDistinct (pointwise ◌==◌) keys → list_all (λ key. fits w (event.Withdraw call key)) keys ≡ true
+    → list_all (λ key. is_among keys key || is_free w call key) (open_keys u) ≡ true → AllFit w (map (event.Withdraw call) keys ++ event.Leave call ∷ [])
+leaving_fits laws w old call u keys here differ fit rest =
+    all_together laws call (λ e. (k : Bytes) × (e ≡ event.Withdraw call k)) (IsLeaving call) (event.Leave call ∷ []) (goes_leaving call) w keys (map (event.Withdraw call) keys) old
+    (are_mapped call keys (event.Withdraw call) (own_call call)) differ (each_mapped _ (event.Withdraw call) (λ key. (key, refl)) keys) (all_mapped (fits w) (event.Withdraw call) keys fit) (record { u = u; here = here; rest = rest })
+
+-- 5. The writer's return, behind its changes of the store.
+
+-- once it has changed the store at a key, it is waited for at each key as before
+waits_kept : (w : WorldState) (call : ℕ) (key q : Bytes) (part : Part) (change : Change) → part_of w call key ≡ Some part → has_progress waits_for_report (part_of w call q) ≡ true
+    → has_progress waits_for_report (part_of (after_change w key part change) call q) ≡ true
+waits_kept w call key q part change is h =
+    let next : Part = record part { progress = with_change part.progress } in
+    ap (λ o. has_progress waits_for_report (of_call call o)) (get-insert nat_list_cmp_total w.parts key next q)
+    ∙ split q key (λ b. has_progress waits_for_report (of_call call (cond b (Some next) (get w.parts q))) ≡ true)
+    (λ same. still_waits call (get w.parts key) part is (ap (λ k. has_progress waits_for_report (part_of w call k)) (sym same) ∙ h))
+    (λ apart. h)
+
+report_kept : (w : WorldState) (call : ℕ) (key : Bytes) (part : Part) (change : Change) → part_of w call key ≡ Some part → may_report w call (open_call w call) ≡ true
+    → may_report (after_change w key part change) call (open_call w call) ≡ true
+report_kept w call key part change is h = go (open_call w call) h
+  where
+    any : (keys : List Bytes) → list_any (waits_at w call) keys ≡ true → list_any (waits_at (after_change w key part change) call) keys ≡ true
+    any [] h = cc
+    any (q ∷ keys) h =
+        elim (waits_at w call q) as (λ b. waits_at w call q ≡ b → (b || list_any (waits_at w call) keys) ≡ true → (waits_at (after_change w key part change) call q || list_any (waits_at (after_change w key part change) call) keys) ≡ true) [
+          | true ↦ λ e h. ap (λ b. b || list_any (waits_at (after_change w key part change) call) keys) (waits_kept w call key q part change is e)
+          | false ↦ λ e h. or_true (waits_at (after_change w key part change) call q) _ (any keys h)
+        ] refl h
+
+    go : (o : Option CallState) → may_report w call o ≡ true → may_report (after_change w key part change) call o ≡ true
+    go None h = h
+    go (Some u) h = any (open_keys u) h
+
+goes_reporting : (call : ℕ) (left : List Bytes) (fault : Option ℕ) → Goes call (λ e. (k : Bytes) × (e ≡ event.Change call k)) (λ keys w. fits w (event.Report call left fault) ≡ true) (event.Report call left fault ∷ [])
+goes_reporting call left fault = record {
+  step = λ w mid ends e seen key keys old is at fit h q.
+      let F : WorldEvent → Type 0 = λ e. Happens w e seen mid → fits (with_ends mid ends) (event.Report call left fault) ≡ true in
+      subst F (sym is.1) (λ h.
+      let P : WorldState → Type 0 = λ m. fits (with_ends m ends) (event.Report call left fault) ≡ true in
+      subst P (sym h.5) (report_kept w call is.0 h.0 h.1 h.2 q)) h;
+  end = λ w q. one_fits w (event.Report call left fault) q;
+}
+
+reporting_fits : Laws → (w : WorldState) → IsSoundWorld w → (call : ℕ) (keys left : List Bytes) (fault : Option ℕ) → IsDistinct (pointwise ◌==◌) keys → list_all (λ key. fits w (event.Change call key)) keys ≡ true
+    → fits w (event.Report call left fault) ≡ true → AllFit w (map (event.Change call) keys ++ event.Report call left fault ∷ [])
+reporting_fits laws w old call keys left fault differ fit reports =
+    all_together laws call (λ e. (k : Bytes) × (e ≡ event.Change call k)) (λ keys w. fits w (event.Report call left fault) ≡ true) (event.Report call left fault ∷ []) (goes_reporting call left fault) w keys (map (event.Change call) keys) old
+    (are_mapped call keys (event.Change call) (own_call call)) differ (each_mapped _ (event.Change call) (λ key. (key, refl)) keys) (all_mapped (fits w) (event.Change call) keys fit) reports
+
+-- 6. The first phases of a call, behind its beginning.
+
+-- what fits behind an event in any run fits where that event leads
+behind : (w mid : WorldState) (first next : WorldEvent) (seen : Shown) → fits w first ≡ true → Happens w first seen mid → AllFit w (first ∷ next ∷ []) → fits mid next ≡ true
+behind w mid first next seen fit happens all =
+    let n = noted_beside (subject w first) seen mid in
+    sym (ap (λ m. fits m next) n.is ∙ fits_noted mid n.ends next) ∙ go (fits there next) refl
+  where
+    there : WorldState
+    there = noted (subject w first) seen mid
+
+    go : (b : Bool) → fits there next ≡ b → fits there next ≡ true
+    go true e = e
+    go false e =
+        let shown = all (seen ∷ shown.Unfit ∷ []) there (there, inl (fit, (mid, happens, refl)), (there, inr (e, refl, refl), refl)) in
+        let t : false ≡ true = (and_parts (is_fit seen) false shown).1 in cc
+
+begins_fit : Laws → (w : WorldState) → IsSoundWorld w → (call session : ℕ) (command : Command) (keys : List Bytes) → fits w (event.Call call session command) ≡ true → has_too_many_keys (new_call call session command) ≡ false
+    → IsDistinct (pointwise ◌==◌) keys → list_all (may_work (new_call call session command)) keys ≡ true → AllFit w (event.Call call session command ∷ map (event.Start call) keys)
+begins_fit laws w old call session command keys fit few differ work =
+    fits_then w (event.Call call session command) (map (event.Start call) keys) fit (λ seen mid ends happens.
+    events_fit laws (with_ends mid ends) (sound_then laws w mid (event.Call call session command) seen ends fit happens old) call keys (map (event.Start call) keys)
+    (are_mapped call keys (event.Start call) (own_call call)) differ
+    (all_noted mid ends (map (event.Start call) keys)
+    (all_mapped (fits mid) (event.Start call) keys
+    (all_more (may_work (new_call call session command)) (λ key. fits mid (event.Start call key)) keys (λ key t.
+    let parts = and_parts (is_some (op_at (new_call call session command) key)) (is_turn (new_call call session command) key) t in
+    behind w mid (event.Call call session command) (event.Start call key) seen fit happens (start_fits w old call session command key fit parts.0 parts.1 few)) work))))
+
+pub fit_together : Laws → (w : WorldState) → IsSoundWorld w → FitTogether w
+fit_together laws w old = record {
+  events = events_fit laws w old;
+  report = reporting_fits laws w old;
+  leave = leaving_fits laws w old;
+  begin = begins_fit laws w old;
+}

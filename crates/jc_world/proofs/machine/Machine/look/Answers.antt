@@ -1,0 +1,33 @@
+use Rattle.std.proofs.Common.{◌≡◌, ◌∙◌, Some, IsSomeAnd, List, refl, slice_get, ap, sym, subst}
+use Rattle.jc_model.specs.Cache.{Bytes}
+use Rattle.jc_stripe.specs.Keys.{AreKeys}
+use Rattle.jc_world.specs.declared.event.Shown.TheVariants as shown
+use Rattle.jc_world.specs.declared.event.WorldEvent.TheVariants as event
+use Rattle.jc_world.specs.Calls.{look}
+use Rattle.jc_world.specs.World.{WorldState, open_call}
+use Rattle.jc_world.specs.Events.{Happens}
+use Rattle.jc_world.specs.OpenCalls.{TakesKeys}
+use Rattle.jc_world.specs.Inside.{world_of}
+use Rattle.jc_world.proofs.StripeKeys.{look_within, look_takes}
+use Rattle.jc_world.proofs.machine.Machine.look.Goals as goal
+
+pub keys_at-requires-clause-there : goal.keys_at-requires-clause-there
+keys_at-requires-clause-there c = look_within c.args.self.now c.args.call c.args.stripe c.requires.fits c.requires.sound
+
+pub look-requires : goal.look-requires
+look-requires c =
+    let h = c.in_ok-keys.ensures in
+    let P : WorldState → Type 0 = λ w. IsSomeAnd (open_call w c.args.call) (TakesKeys w.config.stripes c.deref.result.now) in
+    subst P (sym c.self.view_is)
+    (look_takes c.args.self.now c.args.call c.args.stripe h.0 c.deref.result.now c.requires.fits c.requires.sound h.1 (subst (AreKeys h.0) (sym c.deref.ensures.value) h.2))
+
+pub returns-clause-ok : goal.returns-clause-ok
+returns-clause-ok c =
+    let v : WorldState = world_of c.self.inside in
+    let h = c.in_ok-keys.ensures in
+    let k = c.in_ok-look.ensures.ok in
+    let next = world_of (record c.self.inside { calls = c.look.new.calls }) in
+    let R : WorldState → Type 0 = λ x. Happens x (event.Look c.args.call c.args.stripe) shown.Looked next in
+    let S : WorldState → Type 0 = λ x. slice_get x.stripes c.args.stripe ≡ Some h.0 in
+    subst R c.self.view_is
+    (k.0, k.1, k.2, k.3, h.0, subst S (sym c.self.view_is) h.1, c.deref.result.now, subst (AreKeys h.0) (sym c.deref.ensures.value) h.2, refl, λ i. record v { calls = k.4 i })
