@@ -1,4 +1,8 @@
 //! Who calls.
+ghost use Rattle.std.specs.Prelude.{◌≡◌};
+ghost use Rattle.jc_types.specs.Limits.{is_session};
+
+use crate::limits::SESSIONS_MAX;
 
 /// Who calls: a session, and the number of its call.
 #[derive(Clone, Copy, Debug, PartialEq, Eq)]
@@ -7,4 +11,11 @@ pub struct Caller {
     pub session: u32,
     /// The number of the call. A session's numbers rise from call to call; the keys of a bulk call share one.
     pub call: u64,
+}
+
+/// Whether a number is that of a session: from 1 to [`SESSIONS_MAX`].
+pub fn is_session(session: u32) -> bool
+    ensures { result ≡ is_session session }
+{
+    1 <= session && session <= SESSIONS_MAX
 }

@@ -13,12 +13,13 @@ pub mod limits;
 pub mod refusal;
 pub mod value;
 
-pub use caller::Caller;
+pub use caller::{Caller, is_session};
 pub use config::{Config, Field};
 pub use key::{Key, KeyFault, stripe_of};
 pub use limits::{
     BULK_KEYS_MAX, CAPACITY_MAX, HISTORY_MAX, HISTORY_MIN, HIT_PLACES, JOINERS_MAX, KEY_MAX,
-    RESERVATIONS_MAX, SESSIONS_MAX, STEP_PLACES, STRIPES_MAX, VALUE_MAX,
+    LAST_NUMBER, LINE_MAX, NUMBER_MAX, RESERVATIONS_MAX, SCRIPT_MAX, SESSIONS_MAX, STEP_PLACES,
+    STRIPES_MAX, VALUE_MAX,
 };
 pub use refusal::Refusal;
 pub use value::{Value, ValueFault};

@@ -37,3 +37,16 @@ pub const STEP_PLACES: usize = 3;
 /// The free places that a call needs if it evicts nothing for sure: one that answers from the cached entry, or joins
 /// a load.
 pub const HIT_PLACES: usize = 1;
+
+/// The end of the numbers that only rise: those of a session's calls, and of a stripe's reservations. A call is refused if its
+/// own number, or the next reservation's, is this one.
+pub const LAST_NUMBER: u64 = u64::MAX;
+
+/// The most bytes of a line of a script, without the end of the line.
+pub const LINE_MAX: usize = 65536;
+
+/// The most bytes of a script.
+pub const SCRIPT_MAX: usize = 4_194_304;
+
+/// The largest number that a script names: a call's number, a join's, or a code.
+pub const NUMBER_MAX: u64 = 999_999_999;

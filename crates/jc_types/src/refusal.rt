@@ -86,7 +86,7 @@ impl Refusal {
     }
 
     /// Whether the loader, the writer or the entry processor failed. Such a refusal is the reply of a step and
-    /// stands in the history; the others leave nothing there.
+    /// is in the history; the others leave nothing there.
     pub fn is_fault(&self) -> bool
         ensures { result ≡ is_fault self.now }
     {
