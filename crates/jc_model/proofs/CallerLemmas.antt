@@ -20,7 +20,7 @@ use Rattle.jc_model.specs.Cache.{Bytes, Cache, key_cmp, entry_at, with_entry}
 use Rattle.jc_model.specs.Listed.{others, with_entry_first, has_distinct_keys}
 use Rattle.jc_model.specs.Legal.{IsOpening, may_follow, in_order}
 
--- a search from place i on looks at the entry there, and then goes on
+-- a search from place i on looks at the entry there, and then continues
 pub find_at : (key : Bytes) (entries : List (Bytes × Bytes)) (i : ℕ) (item : Bytes × Bytes) (b : Bool) → i < length entries → item ≡ get_or entries i item → pointwise ◌==◌ key item.0 ≡ b
     → find key_cmp key (drop i entries) ≡ cond b (Some item.1) (find key_cmp key (drop (i + 1) entries))
 find_at key entries i item b h is e =

@@ -56,7 +56,7 @@ all_through (x ∷ xs) last event g h =
     let parts = and_parts (may_follow x last) (follows_all xs last) g in
     and_from _ _ (follow_through x last event parts.0 h) (all_through xs last event parts.1 h)
 
--- of events in order, the last: a lower number of the same session ends the search, and else it goes on before it
+-- of events in order, the last: a lower number of the same session ends the search, and else it continues before it
 last_lower : (before : List Event) (last event : Event) → in_order (before ++ last ∷ []) ≡ true → comes_before last event ≡ true → follows_all (before ++ last ∷ []) event ≡ true
 last_lower before last event h lower =
     let parts = and_parts (in_order before) (follows_all before last) (sym (order-last before last) ∙ h) in
@@ -67,8 +67,8 @@ pub ends_lower : (rest before : List Event) (last event : Event) → rest ≡ be
 ends_lower rest before last event is h lower =
     ap (λ x. follows_all x event) is ∙ last_lower before last event (ap in_order (sym is) ∙ h) lower
 
-pub goes_on : (rest before : List Event) (last event : Event) → rest ≡ before ++ last ∷ [] → may_follow last event ≡ true → follows_all before event ≡ follows_all rest event
-goes_on rest before last event is h =
+pub search_continues : (rest before : List Event) (last event : Event) → rest ≡ before ++ last ∷ [] → may_follow last event ≡ true → follows_all before event ≡ follows_all rest event
+search_continues rest before last event is h =
     sym (ap (λ x. follows_all x event) is ∙ list_all-append (λ earlier. may_follow earlier event) before (last ∷ [])
     ∙ ap (λ b. follows_all before event && (b && true)) h ∙ and_true (follows_all before event))
 

@@ -1,8 +1,8 @@
 -- Events in groups. A group is one step with all that belongs to it.
 --     Group                     at most one eviction from a full stripe, a step, the callers that share its load, at most one
 --                               eviction of its key
---     nothing_said              what is said outside where nobody is asked
---     load_only, write_only     what is said outside where the loader alone answers, and where the writer alone does
+--     nothing_said              the outside answers if nobody is asked
+--     load_only, write_only     the outside answers if the loader alone answers, and if the writer alone does
 --     victim_events             the eviction before a step, if there is one
 --     evicted_events            the eviction of a step's own key after it, if there is one
 --     step_event                the event of a group's step
@@ -41,7 +41,7 @@ pub record Group : Type 0 where
   pub joined : List Caller  -- those that share the step's load, in the order of joining
   pub evicted : Option Cause  -- why the step's key is evicted directly after, if it is
 
--- 1. What was said outside.
+-- 1. Outside answers.
 
 -- nobody was asked
 abbrev pub nothing_said : Out

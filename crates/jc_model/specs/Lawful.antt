@@ -1,7 +1,7 @@
 -- When a group is lawful in a cache.
 --     inserts          the step's key is missing before it and there after it
 --     victim_fits      lawful eviction before the step: from a full stripe, another key that is there, for a step that inserts
---     evicted_fits     lawful eviction after the step: what it inserted goes, for want of memory or from a full stripe that gave no
+--     evicted_fits     lawful eviction after the step: what it inserted goes, out of memory or from a full stripe that gave no
 --                      other key
 --     loads_whole      the operations that load a key whole, so that a `Get` may join them: `Get` and `LoadAll`
 --     is_joinable      shared step: others may share the load of a `Get` or `LoadAll` that found its key missing, with read-through

@@ -1,6 +1,6 @@
 -- Legal histories.
---     may_come           a step of this session, number and key may stand behind an event
---     may_follow         an event may stand behind another one
+--     may_come           a step of this session, number and key may come after an event
+--     may_follow         an event may come after another one
 --     in_order           callers' order: the numbers of a session's steps never fall, and no two steps have session, number and key
 --                        in common
 --     event_key          the key of an event

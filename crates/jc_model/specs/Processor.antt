@@ -10,7 +10,7 @@
 --     first_get                     the place of the first call that asks for the value, if any
 --     load_place                    the place of the call at which the loader is asked, if it is
 --     answer_if                     an answer if the loader was asked, and else none
---     recorded_load                 what the loader answered: nothing was asked of it where the calls don't use it
+--     recorded_load                 what the loader answered: nothing was asked of it if the calls don't use it
 --     found_in, failed_in           the value that a loader found, if it found one, and the code with which it failed, if it did
 --     failed_load                   the code of the load that failed in these calls, if one did
 --     value_or_fault                what a call for the value answers: the fault of a load that failed, or the value

@@ -1,17 +1,17 @@
 -- How the checker `legal` goes over a history, event by event: what it keeps, and what it tests of the next event. Nobody above
--- needs to believe it, since `legal` is proved to answer `Legal`. Where the reader stands is a `Stage`: outside a group, behind a
+-- needs to believe it, since `legal` is proved to answer `Legal`. Where the reader is, is a `Stage`: outside a group, behind a
 -- group's victim, or behind a group's step.
 --     first_stripe                 the stripe of the first key, of the opening or else of the events, and 0 if there is no key
 --     are_of_stripe                the keys of the opening and of the events are all of this stripe
 --     are_of_one_stripe            they are all of one stripe
 --     new_group                    a group of which the step was read
---     opened                       what is kept of a group whose step stands at a place
+--     opened                       what is kept of a group whose step is at a place
 --     cause_fits                   the step's own key may go for this cause
 --     own_goes                     this key, for this cause, is the step's own and may go
 --     is_full                      a cause is `Full`
 --     picked_victim                    the victim of the group that comes next, if it was read
 --     group_at                     the group of a step that is read at a stage
---     is_within                    where a group ends here, no more entries are left than fit
+--     is_within                    if a group ends here, no more entries are left than fit
 --     FitsShared                   a shared step may come next
 --     fits_evict                   an eviction may come next
 --     Fits                         an event may come next
@@ -61,7 +61,7 @@ abbrev pub new_group : Option Bytes → Caller → Op → Bytes → Out → Repl
 new_group victim caller op key out reply =
     record { victim = victim; caller = caller; step = record { op = op; key = key; out = out; reply = reply }; joined = []; evicted = None }
 
--- what is kept of a group whose step stands at a place
+-- what is kept of a group whose step is at a place
 abbrev pub opened : Config → Cache → ℕ → Group → Opened
 opened config cache place group =
     record {
@@ -102,7 +102,9 @@ is_within config cache (Inside kept) = nat_le (len cache) config.capacity
 abbrev pub FitsShared : Stage → Event → Type 0
 FitsShared (Inside kept) (Step caller op key out shared_with reply) =
     IsTrue kept.is_joinable × (Step caller op key out shared_with reply ≡ shared_event kept.place kept.key kept.load caller)
-FitsShared stage event = ⊥
+FitsShared (Inside kept) (Evict key cause) = ⊥
+FitsShared Outside event = ⊥
+FitsShared (Picked key) event = ⊥
 
 -- a victim is named between two groups, or the step's own key
 abbrev pub fits_evict : Config → Cache → Stage → Bytes → Cause → Bool

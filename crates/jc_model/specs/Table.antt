@@ -7,7 +7,7 @@
 --     loader_ask                                       the loader table: whether an operation asks the loader, never, always or if the processor wants it
 --     load_fits                                        whether the loader answered as the table has it asked
 --     value_after_load                                 the entry with a loaded value, if one was found
---     ask_if                                           a change, where it is asked for
+--     ask_if                                           a change, if it is asked for
 --     effect_ask, process_ask                          what the writer is asked for after a processor, by its net effect and by its answer
 --     write_ask                                        the writer table: what the writer is asked for, or nothing
 --     is_write_given, is_process_given                 whether the writer answered, and whether the processor did
@@ -20,11 +20,11 @@
 --     after_effect                                     the entry with a processor's net effect
 --     outcome_of                                       what a processor answers the caller
 --     replaced                                         a value in the place of an entry, if there is one
---     entry_without_fault, reply_without_fault         the last two columns, where there is no fault
+--     entry_without_fault, reply_without_fault         the last two columns, if there is no fault
 --     entry_by_fault, reply_by_fault                   the entry and the reply, by whether there is a fault: a fault leaves the entry and is the
 --                                                      reply
---     entry_after, reply_after                         the last two columns, where a fault leaves the entry and is the reply
---     NewStep                                          one operation on one key with what was said outside and its reply
+--     entry_after, reply_after                         the last two columns: a fault leaves the entry and is the reply
+--     NewStep                                          one operation on one key with the outside answers and its reply
 --     seq_entry, seq_cache                             the entry that it leaves at its key, and the whole cache
 --     Seq                                              the sequential step: one operation made on a whole cache
 use Rattle.std.specs.Prelude.{◌≡◌, ◌==◌, Bool, true, false, not, ◌&&◌, ◌||◌, IsTrue, Option, None, Some, is_some, is_none, if◌then◌else◌, unwrap_or}
@@ -202,7 +202,7 @@ answers_fit config op entry out =
     && beq (is_process_given out.process) (is_invoke op)
     && beq (is_write_given out.write) (config.write_through && is_none (early_fault out) && is_some (write_ask op entry out.process))
 
--- 5. The entry afterwards, and the reply, where there is no fault.
+-- 5. The entry afterwards, and the reply, if there is no fault.
 
 abbrev pub after_effect : ProcessAnswer → Option Bytes → Option Bytes
 after_effect (process.Ended (effect.Set value) outcome) entry = Some value
@@ -270,7 +270,7 @@ reply_after op entry out = reply_by_fault (first_fault out) (reply_without_fault
 
 -- 7. The sequential step.
 
--- one operation on one key, with what was said outside and what it answered
+-- one operation on one key, with the outside answers and what it answered
 pub record NewStep : Type 0 where
   pub op : Op
   pub key : Bytes

@@ -51,7 +51,7 @@ fn comes_before(event: &Event, later: &Event) -> bool
     }
 }
 
-/// Whether an event may stand after each of these, which are in order. It looks back to the session's call before.
+/// Whether an event may come after each of these, which are in order. It looks back to the session's call before.
 fn does_follow_all(events: &[Event], event: &Event) -> bool
     requires { IsTrue (in_order events.now) }
     ensures { result ≡ list_all (λ earlier. may_follow earlier event.now) events.now }

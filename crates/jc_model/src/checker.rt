@@ -13,7 +13,7 @@ use crate::stripes::are_of_one_stripe;
 use jc_types::{Config, Key, Value};
 use std::alloc::{AllocError, Global};
 
-/// Whether no key stands twice.
+/// Whether no key is there twice.
 fn is_apart(entries: &[(Key, Value)]) -> bool
     ensures { result ≡ has_distinct_keys entries.now }
 {
@@ -25,7 +25,7 @@ fn is_apart(entries: &[(Key, Value)]) -> bool
     true
 }
 
-/// Whether the events are lawful groups, where all else was seen to fit.
+/// Whether the events are lawful groups, if all else fits.
 fn is_spelled(
     alloc: Global,
     config: &Config,
@@ -51,7 +51,7 @@ fn is_spelled(
 /// fall (JSR 107, "Consistency": each call is one step at its key, and a caller sees its calls in order).
 ///
 /// A `config` that `check` refuses, an opening with a repeated key or with more than `capacity` entries, and keys
-/// of two stripes give false. The only error is that memory is refused. The time is about that of going over the
+/// of two stripes give false. The only error is that an allocation failed. The time is about that of going over the
 /// events once, and for the callers' order of looking back from each to the one before it in its session.
 pub fn legal(
     alloc: Global,

@@ -40,7 +40,7 @@ impl Contents {
         }
     }
 
-    /// The map of these entries: of two with one key the first counts. The only error is that memory is refused.
+    /// The map of these entries: of two with one key the first counts. The only error is that an allocation failed.
     pub fn of(alloc: Global, entries: &[(Key, Value)]) -> Result<Self, AllocError>
         ensures { IfOk result (λ contents. contents ≡ map.from_entries entries.now) }
     {
@@ -105,7 +105,7 @@ impl Contents {
         }
     }
 
-    /// Appends the entries to a list, in the byte order of the keys. Where memory is refused the list is as it was.
+    /// Appends the entries to a list, in the byte order of the keys. If an allocation fails, the list is as it was.
     pub fn append_to(&self, out: &mut Vec<(Key, Value)>) -> Result<(), AllocError>
         ensures ok { OnOk result (out.new.items ≡ out.old.items ++ map.entries self.now) }
         ensures err { OnErr result (out.new.items ≡ out.old.items) }
@@ -120,7 +120,7 @@ impl Contents {
         Ok(())
     }
 
-    /// The entries, in the byte order of the keys. The only error is that memory is refused.
+    /// The entries, in the byte order of the keys. The only error is that an allocation failed.
     pub fn entries(&self, alloc: Global) -> Result<Vec<(Key, Value)>, AllocError>
         ensures { IfOk result (λ entries. entries.items ≡ map.entries self.now) }
     {

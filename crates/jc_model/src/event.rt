@@ -1,4 +1,4 @@
-//! The words that every crate speaks: operations, what was said outside, replies, and the events of a history.
+//! The words that every crate speaks: operations, outside answers, replies, and the events of a history.
 use jc_types::{Caller, Key, Refusal, Value};
 
 /// What a call asks of the cache, at one key: the operations of `javax.cache.Cache`.
@@ -7,7 +7,7 @@ use jc_types::{Caller, Key, Refusal, Value};
 /// "Consistency"). What each asks for outside, leaves and replies is in [`table`](crate::table).
 #[derive(Clone, Copy, Debug, PartialEq, Eq)]
 pub enum Op {
-    /// `get`, and each key of `getAll`: the value, loaded where it is missing and read-through is on.
+    /// `get`, and each key of `getAll`: the value, loaded if it is missing and read-through is on.
     Get,
     /// `containsKey`: whether the key has an entry. It never loads (JSR 107, "Integration").
     ContainsKey,
@@ -15,15 +15,15 @@ pub enum Op {
     Put(Value),
     /// `getAndPut`: the old value, which is never loaded.
     GetAndPut(Value),
-    /// `putIfAbsent`: mutates where the key has no entry.
+    /// `putIfAbsent`: mutates if the key has no entry.
     PutIfAbsent(Value),
     /// `remove(key)`, and each key of `removeAll`.
     Remove,
-    /// `remove(key, oldValue)`: mutates where the entry has this value.
+    /// `remove(key, oldValue)`: mutates if the entry has this value.
     RemoveIf(Value),
     /// `getAndRemove`.
     GetAndRemove,
-    /// `replace(key, value)`: mutates where the key has an entry.
+    /// `replace(key, value)`: mutates if the key has an entry.
     Replace(Value),
     /// `replace(key, oldValue, newValue)`: mutates if the entry has the old value.
     ReplaceIf {
@@ -32,7 +32,7 @@ pub enum Op {
         /// The value that takes its place.
         new: Value,
     },
-    /// `getAndReplace`: mutates where the key has an entry.
+    /// `getAndReplace`: mutates if the key has an entry.
     GetAndReplace(Value),
     /// Each key of `clear`: takes the entry out, and asks no writer (JSR 107, "Integration").
     Clear,
@@ -47,7 +47,7 @@ pub enum Op {
     Invoke,
 }
 
-/// What the loader said, for one key (`javax.cache.integration.CacheLoader`; JSR 107, "Integration").
+/// What the loader answered, for one key (`javax.cache.integration.CacheLoader`; JSR 107, "Integration").
 #[derive(Clone, Copy, Debug, PartialEq, Eq)]
 pub enum LoadAnswer {
     /// It wasn't asked.
@@ -75,7 +75,7 @@ impl LoadAnswer {
     }
 }
 
-/// What the writer said, for one key (`javax.cache.integration.CacheWriter`; JSR 107, "Integration").
+/// What the writer answered, for one key (`javax.cache.integration.CacheWriter`; JSR 107, "Integration").
 #[derive(Clone, Copy, Debug, PartialEq, Eq)]
 pub enum WriteAnswer {
     /// It wasn't asked.
@@ -134,7 +134,7 @@ pub enum ProcessAnswer {
         /// What it answers the caller.
         outcome: Option<Value>,
     },
-    /// It failed with this code. The step leaves the entry as it was, also where a value was loaded.
+    /// It failed with this code. The step leaves the entry as it was, also if a value was loaded.
     Failed(u32),
 }
 
@@ -153,14 +153,14 @@ impl ProcessAnswer {
     }
 }
 
-/// The outside answers of one step: all that was said outside the cache for it.
+/// The outside answers of one step: those of the loader, the writer and the entry processor.
 #[derive(Clone, Copy, Debug, PartialEq, Eq)]
 pub struct Out {
-    /// What the loader said.
+    /// What the loader answered.
     pub load: LoadAnswer,
-    /// What the writer said.
+    /// What the writer answered.
     pub write: WriteAnswer,
-    /// What the entry processor said.
+    /// What the entry processor answered.
     pub process: ProcessAnswer,
 }
 
@@ -209,7 +209,7 @@ pub enum Reply {
     Unit,
     /// Yes or no: whether the key was there, or whether the operation mutated.
     Flag(bool),
-    /// A value, or none where Java has `null`.
+    /// A value, or none, which is `null` in Java.
     Value(Option<Value>),
     /// The loader, the processor or the writer failed, the first of them that did: one of
     /// `LoaderFailed`, `ProcessorFailed` and `WriterFailed`. The entry is as it was.
@@ -221,7 +221,7 @@ pub enum Reply {
 pub enum Cause {
     /// The stripe held as many entries as it may.
     Full,
-    /// There was no memory for the entry.
+    /// An allocation for the entry failed.
     Memory,
 }
 

@@ -5,7 +5,7 @@ use jc_types::Value;
 /// A call of an entry processor on its entry.
 #[derive(Clone, Copy, Debug, PartialEq, Eq)]
 pub enum EntryCall {
-    /// `getValue`: the value, loaded where the entry is missing and read-through is on.
+    /// `getValue`: the value, loaded if the entry is missing and read-through is on.
     GetValue,
     /// `exists`: whether the entry has a value. It never loads.
     Exists,
@@ -18,7 +18,7 @@ pub enum EntryCall {
 /// What a call of an entry processor on its entry is answered.
 #[derive(Clone, Copy, Debug, PartialEq, Eq)]
 pub enum EntryAnswer {
-    /// `getValue`: the value, or none where Java has `null`.
+    /// `getValue`: the value, or none, which is `null` in Java.
     Value(Option<Value>),
     /// `exists`: whether the entry has a value.
     Present(bool),

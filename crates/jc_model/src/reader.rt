@@ -1,4 +1,4 @@
-//! How the checker reads a history, event by event: where it stands, and what it keeps of a group.
+//! How the checker reads a history, event by event: where it is, and what it keeps of a group.
 ghost use Rattle.std.specs.Prelude.{◌≡◌, ◌↔◌, IsTrue, IfOk};
 ghost use Rattle.std.specs.FinMap.{from_entries};
 ghost use Rattle.jc_model.specs.Listed.{has_distinct_keys};
@@ -30,10 +30,10 @@ pub(crate) struct Opened {
     was_full: bool,
 }
 
-/// Where the reader stands.
+/// Where the reader is.
 #[derive(Clone, Copy)]
 pub(crate) enum Stage {
-    /// Between two groups, where the last event ended its group for certain.
+    /// Between two groups, after an event that ended its group for certain.
     Outside,
     /// Behind the eviction of this key, which begins a group.
     Picked(Key),
@@ -61,7 +61,7 @@ impl Stage {
     {
         match self {
             Stage::Picked(key) => Some(*key),
-            _ => None,
+            Stage::Outside | Stage::Inside(_) => None,
         }
     }
 
@@ -71,7 +71,7 @@ impl Stage {
     {
         match self {
             Stage::Inside(_) => contents.len() <= config.capacity,
-            _ => true,
+            Stage::Outside | Stage::Picked(_) => true,
         }
     }
 
@@ -79,7 +79,10 @@ impl Stage {
     fn does_evict_fit(&self, config: &Config, contents: &Contents, key: &Key, cause: Cause) -> bool
         ensures { result ≡ fits_evict config.now contents.now self.now key.now cause }
     {
-        let is_full = matches!(cause, Cause::Full);
+        let is_full = match cause {
+            Cause::Full => true,
+            Cause::Memory => false,
+        };
         match self {
             Stage::Outside => is_full,
             Stage::Picked(_) => false,

@@ -18,11 +18,11 @@ pub(crate) fn is_same_load(first: &LoadAnswer, second: &LoadAnswer) -> bool
     *first == *second
 }
 
-/// Whether a loader's answer was all that was said outside.
+/// Whether a loader's answer is the only outside answer.
 pub(crate) fn is_load_only(out: &Out, load: &LoadAnswer) -> bool
     ensures { IsTrue result ↔ (out.now ≡ load_only load.now) }
 {
     is_same_load(&out.load, load)
-        && matches!(out.write, WriteAnswer::NotAsked)
-        && matches!(out.process, ProcessAnswer::NotAsked)
+        && out.write == WriteAnswer::NotAsked
+        && out.process == ProcessAnswer::NotAsked
 }

@@ -215,7 +215,15 @@ fn process_ask(answer: &ProcessAnswer) -> Option<Change>
 fn has_early_fault(out: &Out) -> bool
     ensures { result ≡ is_some (early_fault out.now) }
 {
-    matches!(out.load, LoadAnswer::Failed(_)) || matches!(out.process, ProcessAnswer::Failed(_))
+    let load_failed = match out.load {
+        LoadAnswer::Failed(_) => true,
+        LoadAnswer::NotAsked | LoadAnswer::Found(_) | LoadAnswer::Nothing => false,
+    };
+    let process_failed = match out.process {
+        ProcessAnswer::Failed(_) => true,
+        ProcessAnswer::NotAsked | ProcessAnswer::Ended { .. } => false,
+    };
+    load_failed || process_failed
 }
 
 impl Op {
@@ -245,14 +253,43 @@ impl Op {
     pub fn is_invoke(&self) -> bool
         ensures { result ≡ is_invoke self.now }
     {
-        matches!(self, Op::Invoke)
+        match self {
+            Op::Invoke => true,
+            Op::Put(_)
+            | Op::Get
+            | Op::ContainsKey
+            | Op::GetAndPut(_)
+            | Op::PutIfAbsent(_)
+            | Op::Remove
+            | Op::RemoveIf(_)
+            | Op::GetAndRemove
+            | Op::Replace(_)
+            | Op::ReplaceIf { .. }
+            | Op::GetAndReplace(_)
+            | Op::Clear
+            | Op::LoadAll { .. } => false,
+        }
     }
 
     /// Whether the operation loads its key whole, so that a `Get` may join its load.
     pub fn loads_whole(&self) -> bool
         ensures { result ≡ loads_whole self.now }
     {
-        matches!(self, Op::Get | Op::LoadAll { .. })
+        match self {
+            Op::Get | Op::LoadAll { .. } => true,
+            Op::Put(_)
+            | Op::ContainsKey
+            | Op::GetAndPut(_)
+            | Op::PutIfAbsent(_)
+            | Op::Remove
+            | Op::RemoveIf(_)
+            | Op::GetAndRemove
+            | Op::Replace(_)
+            | Op::ReplaceIf { .. }
+            | Op::GetAndReplace(_)
+            | Op::Clear
+            | Op::Invoke => false,
+        }
     }
 
     /// The writer table: what the writer is asked for by a step that finds this entry, or nothing (JSR 107,

@@ -100,12 +100,12 @@ fn does_shared_fit(
         Stage::Inside(kept) => {
             kept.is_joinable
                 && shared_with as usize == kept.place
-                && matches!(op, Op::Get)
+                && *op == Op::Get
                 && *key == kept.key
                 && is_load_only(out, &kept.load)
                 && is_same_reply(reply, &Op::Get.reply_after(None, out))
         }
-        _ => false,
+        Stage::Outside | Stage::Picked(_) => false,
     }
 }
 

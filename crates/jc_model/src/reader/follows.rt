@@ -1,4 +1,4 @@
-//! What an event leads to: where the reader stands behind it, and what the cache then has.
+//! What an event leads to: where the reader is after it, and what the cache then has.
 ghost use Rattle.std.specs.Prelude.{◌≡◌, IfOk, OnOk};
 ghost use Rattle.jc_model.specs.Group.{cache_after_step};
 ghost use Rattle.jc_model.specs.Reader.{new_group, opened, then_stage, then_cache};

@@ -1,5 +1,5 @@
 use Rattle.std.proofs.Common.{sym, ◌∙◌}
-use Rattle.jc_model.proofs.Order.{ends_lower, goes_on, before_order}
+use Rattle.jc_model.proofs.Order.{ends_lower, search_continues, before_order}
 use Rattle.jc_model.proofs.callers.does_follow_all.Goals as goal
 
 pub returns-then-comes_before : goal.returns-then-comes_before
@@ -13,5 +13,5 @@ loop-last-preserved c =
     let is = c.in-Some.ensures.cases.0 in
     record {
       order = before_order _ _ c.in-Some.last.now is i.order;
-      same = goes_on _ _ c.in-Some.last.now c.args.event.now is (sym c.does_follow.ensures ∙ c.if-not-does_follow.false) ∙ i.same;
+      same = search_continues _ _ c.in-Some.last.now c.args.event.now is (sym c.does_follow.ensures ∙ c.if-not-does_follow.false) ∙ i.same;
     }
