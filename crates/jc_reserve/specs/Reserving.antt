@@ -5,12 +5,12 @@
 --     CanReserve              the key can be reserved: there is room, it is free, and a number is left
 --     with_reservation        the table with the key reserved, by the next number
 --     without_reservation     the table with the reservations of the other keys
-use Rattle.std.specs.Prelude.{◌==◌, ◌<◌, ℕ, ◌+◌, ◌-◌, ◌^◌, find, filter, [], ◌∷◌, ◌++◌, length, Bool, not, Option, ◌≡◌, false, option_map}
+use Rattle.std.specs.Prelude.{◌==◌, ◌<◌, ℕ, ◌+◌, find, filter, [], ◌∷◌, ◌++◌, length, Bool, not, Option, ◌≡◌, false, option_map}
 use Rattle.std.specs.List.{list_any}
 use Rattle.std.specs.Cmp.Lexicographic.{pointwise}
 use Rattle.jc_model.specs.Cache.{Bytes}
 use Rattle.jc_reserve.specs.declared.held.Held.{Held}
-use Rattle.jc_types.specs.declared.limits.TheConstants.{RESERVATIONS_MAX}
+use Rattle.jc_types.specs.declared.limits.TheConstants.{RESERVATIONS_MAX, LAST_NUMBER}
 use Rattle.jc_reserve.specs.Table.{Table}
 
 abbrev pub has_key : {T : Type 0} → Bytes → Held T → Bool
@@ -25,7 +25,7 @@ reservation_at table key = option_map (λ h. (h.reservation, h.note)) (find (has
 pub record CanReserve {T : Type 0} (table : Table T) (key : Bytes) : Type 0 where
   pub room : length table.held < RESERVATIONS_MAX
   pub free : is_held table key ≡ false
-  pub number : table.next < 2 ^ 64 - 1
+  pub number : table.next < LAST_NUMBER
 
 abbrev pub with_reservation : {T : Type 0} → Table T → Bytes → T → Table T
 with_reservation table key note =

@@ -1,14 +1,14 @@
 //! The reservations of a stripe.
-ghost use Rattle.std.specs.Prelude.{◌≡◌, ◌≤◌, ◌↔◌, ◌==◌, ◌-◌, ◌^◌, [], IsTrue, IsSome, IfSome, OnSome, IfNone, length, position};
+ghost use Rattle.std.specs.Prelude.{◌≡◌, ◌≤◌, ◌↔◌, ◌==◌, [], IsTrue, IsSome, IfSome, OnSome, IfNone, length, position};
 ghost use Rattle.std.specs.Cmp.Lexicographic.{pointwise};
-ghost use Rattle.jc_types.specs.declared.limits.TheConstants.{RESERVATIONS_MAX};
+ghost use Rattle.jc_types.specs.declared.limits.TheConstants.{RESERVATIONS_MAX, LAST_NUMBER};
 ghost use Rattle.jc_reserve.specs.Table.{keys_of};
 ghost use Rattle.jc_reserve.specs.Reserving.{has_key, is_held, reservation_at, CanReserve, with_reservation, without_reservation};
 ghost use Rattle.jc_reserve.specs.IsReservationTable.{IsReservationTable};
 
 use crate::Held;
 use arrayvec::ArrayVec;
-use jc_types::{Key, RESERVATIONS_MAX};
+use jc_types::{Key, LAST_NUMBER, RESERVATIONS_MAX};
 use std::marker::Model;
 
 /// The keys that calls have reserved, at most [`RESERVATIONS_MAX`] of them and none twice, each with the number of its
@@ -147,11 +147,11 @@ impl<T: Copy + Default> Reservations<T> {
         self.held.is_full()
     }
 
-    /// Whether the numbers are used up: the next one is 2^64 - 1, which no reservation gets.
+    /// Whether the numbers are used up: the next one is [`LAST_NUMBER`], which no reservation gets.
     pub fn is_used_up(&self) -> bool
-        ensures { IsTrue result ↔ (2 ^ 64 - 1 ≤ self.now.next) }
+        ensures { IsTrue result ↔ (LAST_NUMBER ≤ self.now.next) }
     {
-        self.next == u64::MAX
+        self.next == LAST_NUMBER
     }
 }
 
@@ -160,7 +160,7 @@ impl<T: Copy + Default> Reservations<T> {
     fn can_reserve(&self, key: &Key) -> bool
         ensures { IsTrue result ↔ CanReserve self.now key.now }
     {
-        self.len() < RESERVATIONS_MAX && self.next < u64::MAX && !self.is_reserved(key)
+        self.len() < RESERVATIONS_MAX && self.next < LAST_NUMBER && !self.is_reserved(key)
     }
 
     /// The place of a key's reservation, in the order of reserving.
