@@ -25,7 +25,10 @@ impl JoinState {
     pub fn is_waiting(&self) -> bool
         ensures { result ≡ is_waiting self.now }
     {
-        matches!(self, JoinState::Waiting)
+        match self {
+            JoinState::Waiting => true,
+            JoinState::Answered { .. } | JoinState::Again => false,
+        }
     }
 }
 
