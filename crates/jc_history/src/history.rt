@@ -49,8 +49,8 @@ impl Model for History {
 impl History {
     /// A history with no event and with room for `limit` events, at most [`HISTORY_MAX`].
     ///
-    /// The room is all taken here, as much as the largest events need: for each place 47 bytes, a key
-    /// and six values of the greatest length, which makes 463 bytes, and 30 MB for [`HISTORY_MAX`]
+    /// The room is all taken here, as much as the largest events need: 463 bytes for each place, which
+    /// are 47 bytes, a key and six values of the greatest length. That makes 30 MB for [`HISTORY_MAX`]
     /// places. Pages of it that no event has reached cost nothing if the system gives out a page when
     /// it is first written. An `Err` says that an allocation failed.
     pub fn new(alloc: Global, limit: usize) -> Result<Self, AllocError>
