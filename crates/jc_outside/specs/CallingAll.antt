@@ -11,7 +11,7 @@
 --     WritesEntries      a writer that is there was called once, with exactly these entries; it returned this, and left these
 --     DeletesKeys        the same of keys to be deleted
 --     WritesAllOnce      a writer was called once, for exactly this batch: what it left and its fault say what became of each key
---     loads_done         the done values of asks, by what was said of each key
+--     loads_done         the done values of asks, by what was answered for each key
 --     writes_done        the same of asks of a writer
 --     asked_changes      each ask's key, with the change that it asks for
 use Rattle.std.specs.Prelude.{◌≡◌, ℕ, List, Option, None, Some, Result, Ok, Err, map}

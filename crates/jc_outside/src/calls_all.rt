@@ -159,7 +159,7 @@ fn load_all_answer(returned: &Result<(), u32>, answers: &Answers, key: &Key) -> 
     }
 }
 
-/// Ends the asks by what the loader said of each key.
+/// Ends the asks by what the loader answered for each key.
 fn end_loads<A: Ask>(
     asks: Vec<A>,
     returned: &Result<(), u32>,
