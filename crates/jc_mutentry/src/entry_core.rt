@@ -123,7 +123,10 @@ fn is_present(initial: &Option<Value>, load: &LoadAnswer, effect: &Effect) -> bo
     match effect {
         Effect::Set(_) => true,
         Effect::Remove => false,
-        Effect::Keep => initial.is_some() || matches!(load, LoadAnswer::Found(_)),
+        Effect::Keep => match load {
+            LoadAnswer::Found(_) => true,
+            LoadAnswer::NotAsked | LoadAnswer::Nothing | LoadAnswer::Failed(_) => initial.is_some(),
+        },
     }
 }
 
@@ -176,7 +179,8 @@ fn get_result(load: &LoadAnswer) -> Result<Option<Value>, u32>
 fn mutate(load: &LoadAnswer, effect: &mut Effect, next: Effect)
     ensures { effect.new ≡ effect_after load.now effect.old next }
 {
-    if !matches!(load, LoadAnswer::Failed(_)) {
-        *effect = next;
+    match load {
+        LoadAnswer::Failed(_) => {}
+        LoadAnswer::NotAsked | LoadAnswer::Found(_) | LoadAnswer::Nothing => *effect = next,
     }
 }

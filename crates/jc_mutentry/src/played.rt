@@ -114,7 +114,10 @@ fn note(last: &mut Option<Value>, answer: &EntryAnswer)
 fn has_failed(load: &LoadAnswer) -> bool
     ensures { result ≡ is_load_failed load.now }
 {
-    matches!(load, LoadAnswer::Failed(_))
+    match load {
+        LoadAnswer::Failed(_) => true,
+        LoadAnswer::NotAsked | LoadAnswer::Found(_) | LoadAnswer::Nothing => false,
+    }
 }
 
 /// Makes a call, and gives its answer. If the loader is asked, it answers this.

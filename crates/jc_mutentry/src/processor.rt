@@ -3,7 +3,7 @@ use crate::entry::MutableEntry;
 use jc_outside::{Answers, CacheLoader};
 use jc_types::{Key, Value};
 
-/// Stands in where a session has no loader: it finds nothing.
+/// The loader of a session that has none: it finds nothing.
 #[derive(Drop)]
 struct NoLoader;
 
