@@ -1,4 +1,4 @@
--- A step that was put down keeps a stripe's fields sound.
+-- A step that was appended keeps a stripe's fields sound.
 use Rattle.std.proofs.Common.{◌≡◌, ◌≤◌, ◌+◌, ◌-◌, ℕ, List, [], ◌∷◌, ◌++◌, map, length, count_by, Bool, true, false, IsTrue, None, refl, sym, ap, ◌∙◌, subst, arith}
 use Rattle.std.specs.FinMap.{from_entries}
 use Rattle.jc_model.specs.declared.event.Op.{Op}

@@ -1,4 +1,4 @@
--- What stays of the joiners, where the stripe goes on.
+-- What stays of the joiners, when the stripe continues.
 --     found_kept             what is found stays, where it is not taken out
 --     fits_on, join_on       joiners that fit still do, where history grows and those that wait still find their load
 --     finds_on               a joiner finds its load in a stripe with the same settings, entry and reservation
@@ -54,7 +54,7 @@ pub loaded_at : (o : Option Reservation) (load : ℕ) → load_at o ≡ Some loa
 loaded_at None load h = cc
 loaded_at (Some r) load h = let parts = load_first r.first r.number load h in (r, refl, parts.0, parts.1)
 
--- what stands in a history stays where it stands
+-- what is in a history stays at its place
 pub stands_on : {A : Type 0} (xs ys : List A) (k : ℕ) (x : A) → slice_get xs k ≡ Some x → slice_get (xs ++ ys) k ≡ Some x
 stands_on xs ys k x h =
     let within : k < length xs = slice_get_within xs k x h in

@@ -35,7 +35,7 @@ missing_without : (victim : Option Bytes) (key : Bytes) (entries : List (Bytes �
 missing_without None key entries h = h
 missing_without (Some v) key entries h = find-others v entries key ∙ ap (cond (eq_by_cmp key_cmp key v) None) h ∙ none_both (eq_by_cmp key_cmp key v)
 
--- the step's entry stands in front of the others, of which none has its key
+-- the step's entry is in front of the others, of which none has its key
 used_new : (entries : List (Bytes × Bytes)) (key value : Bytes) (op : Op) (out : Out) → is_use op out ≡ true → finite.find key_cmp key entries ≡ None → entry_after op None out ≡ Some value → used_at entries key op out ≡ (key, value) ∷ entries
 used_new entries key value op out is_used missing entry =
     ap (λ b. cond b (with_entry_first key (entry_after op (finite.find key_cmp key entries) out) entries) entries) is_used

@@ -1,4 +1,4 @@
--- A run of lawful groups goes on by one more, and the group of a step is lawful.
+-- A run of lawful groups continues by one more, and the group of a step is lawful.
 use Rattle.std.proofs.Common.{◌≡◌, ◌≤◌, ◌+◌, ◌==◌, ◌&&◌, ◌-◌, ℕ, List, [], ◌∷◌, ◌++◌, length, Bool, true, false, cond, not, IsTrue, Option, None, Some, is_none, is_some, refl, sym, ap, ◌∙◌, arith, append_assoc, append-nil, add-zero}
 use Rattle.std.specs.Cmp.Lexicographic.{pointwise, texts_ties}
 use Rattle.std.specs.Ordering.{eq_by_cmp}

@@ -2,7 +2,7 @@
 --     Shares, shares_with          what a caller that shares the load tells
 --     keyed_callers                those that wait for the load wait at its key
 --     callers_behind, apart_callers, callers_apart, callers_beside, callers_left     the callers and all else
---     may_commit                   the step may be put down
+--     may_commit                   the step may be appended
 --     SharedAt                     each caller's step stands at its place
 --     joins_settled, joins_same    the joiners behind a commit, and behind a step that is done at once
 use Rattle.std.proofs.Common.{◌≡◌, ◌==◌, ◌≤◌, ◌+◌, ◌&&◌, ◌||◌, ℕ, List, [], ◌∷◌, ◌++◌, length, map, Bool, true, false, cond, not, Option, None, Some, find, filter, refl, sym, ap, ◌∙◌, subst, arith, slice_get}
@@ -302,7 +302,7 @@ apart_left load place js h = apart-alike (after_resolve load place js) js (calls
 pub between_resolved : (key : Bytes) (load place : ℕ) (rs : List Reservation) (js : List Joiner) → all_apart rs js ≡ true → all_apart (without_key key rs) (after_resolve load place js) ≡ true
 between_resolved key load place rs js h = between-alike (without_key key rs) js (after_resolve load place js) (sym (calls-answered_from load place (place + 1) js)) (between_left key rs js h)
 
--- 5. What a commit puts down may be put down, once its reservation is without_reservation and its joiners are with_answer.
+-- 5. What a commit appends may be appended, once its reservation is without_reservation and its joiners are with_answer.
 
 pub may_commit : (old : State) (r : Reservation) (place : ℕ) → IsReached old → IsOut old r → MayBegin (after_commit old r place) r.caller r.key
 may_commit old r place reached found =
@@ -342,7 +342,7 @@ remains_settled old r place reached = record {
 
 -- 6. The joiners behind a commit.
 
--- from a place on, the steps of the callers stand in a history
+-- from a place on, the steps of the callers are in a history
 abbrev pub SharedAt : List Event → ℕ → Bytes → ℕ → List Caller → Type 0
 SharedAt history shared key place [] = Unit {0}
 SharedAt history shared key place (c ∷ cs) = ((out : Out) × (reply : Reply) × (slice_get history place ≡ Some (Step c Get key out (Some shared) reply))) × SharedAt history shared key (place + 1) cs

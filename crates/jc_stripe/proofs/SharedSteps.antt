@@ -12,7 +12,7 @@ use Rattle.jc_model.specs.Group.{Group, events_of, evicted_events, load_only, sh
 use Rattle.jc_stripe.proofs.Settled.{SharedAt}
 use Rattle.jc_types.specs.declared.caller.Caller.{Caller}
 
--- an event stands where those before it end
+-- the place of an event is the number of those before it
 stands_at : (before : List Event) (event : Event) (after : List Event) → slice_get (before ++ event ∷ after) (length before) ≡ Some event
 stands_at before event after =
     slice_get-get_or (before ++ event ∷ after) (length before) event (omega (arith, length-append before (event ∷ after))) ∙ ap Some (get_or-append_seam before event after event)

@@ -1,4 +1,4 @@
--- A step that was made in the entries and put down is a step of the phase machine.
+-- A step that was made in the entries and appended is a step of the phase machine.
 use Rattle.std.proofs.Common.{◌≡◌, ◌≤◌, ◌+◌, ◌==◌, ◌&&◌, ◌++◌, ℕ, List, Option, length, cond, IsTrue, None, is_some, is_none, sym, ap, ◌∙◌}
 use Rattle.std.specs.FinMap.{len, from_entries}
 use Rattle.jc_model.specs.declared.event.Op.{Op}
@@ -44,7 +44,7 @@ overflows_is m entries keys key op out are = λ i. inserts_is m entries keys key
 victim_is : (m : State) (entries : ByUse) (keys : List Bytes) (key : Bytes) (op : Op) (out : Out) → AreEntries m entries keys → victim_in entries keys key op out ≡ phases.victim m key op out
 victim_is m entries keys key op out are = λ i. cond (overflows_is m entries keys key op out are i) (lru_victim (are.list i) (are.pinned i)) None
 
--- 2. What was put down.
+-- 2. What was appended.
 
 -- the group of what was appended
 abbrev group_put : NewGroup → List Caller → Group

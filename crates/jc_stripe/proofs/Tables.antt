@@ -124,7 +124,7 @@ reached_tabled state rs js next old new = record {
   between = new.between;
 }
 
--- a history goes on by nothing
+-- a history grows by nothing
 same_history : (history : List Event) → history ≡ history ++ []
 same_history history = sym (append-nil history)
 

@@ -1,9 +1,9 @@
 -- How a step is made in the entries and appended. No contract of a public call cites this.
---     NewGroup            a step, and who goes before and after it: a group without those that share its load
+--     NewGroup            a step, and what is evicted before and after it: a group without those that share its load
 --     group_in            what the fields of a `NewGroup` mean: what the step is made of is lent
 --     inserts_into        the step inserts: its key is missing in the entries, and it leaves an entry there
 --     overflows_in        it inserts into entries that are as many as may be
---     victim_in           who goes before it, if one has to and can
+--     victim_in           the victim before it, if there has to be one and can be
 --     callers_in          the callers that share a load, if there is one
 --     group_events        the events of a step with all that belongs to it
 --     append_all          the past with more events, in reserved room
@@ -56,7 +56,7 @@ pub record NewGroup : Type 0 where
   pub op : Op
   pub out : Out
   pub reply : Reply
-  pub victim : Option Bytes  -- who goes before it
+  pub victim : Option Bytes  -- the key that is evicted before it
   pub evicted : Option Cause  -- why its own key goes after it, if it does
 
 abbrev pub group_in : Inside → NewGroup

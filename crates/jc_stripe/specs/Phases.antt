@@ -5,10 +5,10 @@
 --     inserts_here     the step inserts: its key is missing before it and there after it
 --     overflows        it inserts into a full stripe
 --     victim           the entry that goes before the step, if one has to and can
---     own_cause        why the step's own key goes again after it, if it does
+--     own_cause        why the step's own key is evicted after it, if it is
 --     new_group        the group that a step makes here, from the order of use and the reservations
 --     after_group      the stripe behind a group: its cache, and its history with the group's events
---     own_eviction     the eviction of the step's own key, at the last place of its group, if it goes again
+--     own_eviction     the eviction of the step's own key, at the last place of its group, if it is evicted
 --     Steps            the stripe appends the group of one step
 --     with_joiner      the stripe with one joiner more, who waits for a load
 --     Begins           the first phase
@@ -90,7 +90,7 @@ overflows state key op out = inserts_here state key op out && (len state.cache =
 abbrev pub victim : State → Bytes → Op → Out → Option Bytes
 victim state key op out = if overflows state key op out then least_used state else None
 
--- why what was inserted goes again, if it does: no other entry could go for it, or the insertion was out of memory
+-- why what was inserted is evicted, if it is: no other entry could be evicted for it, or the insertion was out of memory
 abbrev pub own_cause : Bool → Bool → Bool → Bool → Option Cause
 own_cause inserts full has_victim short =
     if inserts then (if full && not has_victim then Some Full else (if short then Some Memory else None)) else None

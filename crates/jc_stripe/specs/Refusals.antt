@@ -2,6 +2,7 @@
 --     writer_for         the writer, for a change that is asked for
 --     first_by           whom a call asks first that runs no processor: the loader, if the loader table says so, and else the writer
 --     is_wanted          the loader table leaves it to the processor whether its key is loaded
+--     change_for         what the writer is asked for before any other answer, if write-through is on
 --     first_asked        whom a call asks first: an `Invoke` its processor, about the entry that it finds, and every other call by the
 --                        loader table and the writer table
 --     reserves           a call that asks this one first has to reserve its key: somebody is asked
@@ -10,15 +11,15 @@
 --     load_at            the same of a reservation that may not be there
 --     load_joined        the load that a call joins: a `Get` whose key is missing and is being loaded, with read-through on
 --     needs_free_key     a call can be started only if its key is free: it neither answers from the entry nor joins a load
---     places_needed      the free places of the history that a call needs: one if it answers from the entry or joins, and else three
---     last_number        the number at which a session's call numbers and a stripe's reservation numbers end: 2^64 - 1
+--     places_needed      the free places of the history that a call needs: `HIT_PLACES` if it answers from the entry or joins, and else `STEP_PLACES`
+--     last_number        the number at which a session's call numbers and a stripe's reservation numbers end
 --     has_room           the history has these places free, beside the reserved ones, and neither number is at its end
 --     needs_reservation  the call reserves its key: it asks somebody, and does not join
 --     first_refusal      the first refusal whose condition holds: history full, busy, too many in flight, too many joiners
-use Rattle.std.specs.Prelude.{◌^◌, ◌-◌, ℕ, ◌+◌, length, Bool, true, false, not, ◌&&◌, ◌||◌, Option, None, Some, is_some, is_none, nat_lt, nat_le, if◌then◌else◌}
+use Rattle.std.specs.Prelude.{ℕ, ◌+◌, length, Bool, true, false, not, ◌&&◌, ◌||◌, Option, None, Some, is_some, is_none, nat_lt, nat_le, if◌then◌else◌}
 use Rattle.jc_types.specs.declared.caller.Caller.{Caller}
 use Rattle.jc_types.specs.declared.config.Config.{Config}
-use Rattle.jc_types.specs.declared.limits.TheConstants.{STEP_PLACES, HIT_PLACES, RESERVATIONS_MAX, JOINERS_MAX}
+use Rattle.jc_types.specs.declared.limits.TheConstants.{STEP_PLACES, HIT_PLACES, RESERVATIONS_MAX, JOINERS_MAX, LAST_NUMBER}
 use Rattle.jc_types.specs.declared.refusal.Refusal.{Refusal}
 use Rattle.jc_types.specs.declared.refusal.Refusal.TheVariants as refusal
 use Rattle.jc_model.specs.declared.event.Op.{Op}
@@ -52,10 +53,14 @@ is_wanted Never = false
 is_wanted Always = false
 is_wanted IfWanted = true
 
+-- what the writer is asked for before any other answer: nothing with write-through off
+abbrev pub change_for : Config → Op → Option Bytes → Option Change
+change_for config op entry = if config.write_through then write_ask op entry process.NotAsked else None
+
 abbrev pub first_asked : Config → Op → Option Bytes → First
 first_asked config op entry =
     if is_invoke op then Processor entry (is_wanted (loader_ask config.read_through op entry))
-    else first_by (loader_ask config.read_through op entry) (if config.write_through then write_ask op entry process.NotAsked else None)
+    else first_by (loader_ask config.read_through op entry) (change_for config op entry)
 
 abbrev pub reserves : First → Bool
 reserves Nobody = false
@@ -122,7 +127,7 @@ places_needed false = HIT_PLACES
 
 -- the last of a session's call numbers, and of a stripe's reservation numbers
 abbrev pub last_number : ℕ
-last_number = 2 ^ 64 - 1
+last_number = LAST_NUMBER
 
 -- the history has these places free, beside the reserved ones, and the numbers are not at their end
 abbrev pub has_room : State → ℕ → ℕ → Bool

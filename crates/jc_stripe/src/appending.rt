@@ -18,7 +18,7 @@ use jc_model::{Cause, Event, LoadAnswer, Op, Out, Reply};
 use jc_types::{Caller, Key, Value};
 use std::marker::Model;
 
-/// A step, and who goes before and after it: a group without those that share its load. What the step is made of is lent.
+/// A step, and what is evicted before and after it: a group without those that share its load. What the step is made of is lent.
 #[derive(Drop)]
 pub(crate) struct NewGroup<'a> {
     caller: Caller,
@@ -46,7 +46,10 @@ fn uses(op: &Op, load: &LoadAnswer) -> bool
 {
     match op {
         Op::ContainsKey => false,
-        Op::LoadAll { .. } => matches!(load, LoadAnswer::Found(_)),
+        Op::LoadAll { .. } => match load {
+            LoadAnswer::Found(_) => true,
+            LoadAnswer::NotAsked | LoadAnswer::Nothing | LoadAnswer::Failed(_) => false,
+        },
         Op::Get
         | Op::Put(_)
         | Op::GetAndPut(_)
@@ -187,7 +190,7 @@ fn append_eviction(history: &mut History, key: &Key, cause: Cause)
     history.push(&Event::Evict { key: *key, cause });
 }
 
-/// Appends who goes before a step, and the step. It answers the place of the step.
+/// Appends the eviction before a step, if there is one, and the step. It answers the place of the step.
 fn append_step(history: &mut History, group: &NewGroup) -> u32
     requires few { length history.old.events + 1 < 2 ^ 32 }
     requires places { length (victim_events group.now.victim) + 1 ≤ history.old.promised }

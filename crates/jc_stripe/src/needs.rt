@@ -1,8 +1,6 @@
 //! What a call needs of a stripe.
-ghost use Rattle.std.specs.Prelude.{◌≡◌, ◌&&◌, Option, if◌then◌else◌};
-ghost use Rattle.jc_model.specs.declared.event.ProcessAnswer.TheVariants.{NotAsked};
-ghost use Rattle.jc_model.specs.Table.{write_ask};
-ghost use Rattle.jc_stripe.specs.Refusals.{answers_at_once, may_join, places_needed, first_asked, is_wanted, writer_for, load_of};
+ghost use Rattle.std.specs.Prelude.{◌≡◌};
+ghost use Rattle.jc_stripe.specs.Refusals.{answers_at_once, may_join, places_needed, first_asked, is_wanted, writer_for, load_of, reserves, change_for};
 ghost use Rattle.jc_stripe.specs.Finding.{is_to_reserve};
 
 use crate::ticket::First;
@@ -49,7 +47,22 @@ pub(crate) fn answers_at_once(config: &Config, op: &Op, entry: &Option<Value>) -
 pub(crate) fn may_join(op: &Op) -> bool
     ensures { result ≡ may_join op.now }
 {
-    matches!(op, Op::Get)
+    match op {
+        Op::Get => true,
+        Op::ContainsKey
+        | Op::Put(_)
+        | Op::GetAndPut(_)
+        | Op::PutIfAbsent(_)
+        | Op::Remove
+        | Op::RemoveIf(_)
+        | Op::GetAndRemove
+        | Op::Replace(_)
+        | Op::ReplaceIf { .. }
+        | Op::GetAndReplace(_)
+        | Op::Clear
+        | Op::LoadAll { .. }
+        | Op::Invoke => false,
+    }
 }
 
 /// The free places that a call needs in the history.
@@ -85,7 +98,7 @@ fn writer_for(change: Option<Change>) -> First
 
 /// The change that the writer is asked for, if write-through is on.
 fn change_for(config: &Config, op: &Op, entry: &Option<Value>) -> Option<Change>
-    ensures { result ≡ (if config.now.write_through then write_ask op.now entry.now NotAsked else None) }
+    ensures { result ≡ change_for config.now op.now entry.now }
 {
     if config.write_through {
         op.write_ask(entry, &ProcessAnswer::NotAsked)
@@ -125,9 +138,19 @@ pub(crate) fn first_asked(config: &Config, op: &Op, entry: &Option<Value>) -> Fi
     }
 }
 
+/// Whether there is anybody to ask, for which a call has to reserve its key.
+pub(crate) fn reserves(first: &First) -> bool
+    ensures { result ≡ reserves first.now }
+{
+    match first {
+        First::Nobody => false,
+        First::Loader | First::Writer(_) | First::Processor { .. } => true,
+    }
+}
+
 /// Whether a call reserves its key.
 pub(crate) fn is_to_reserve(found: &Found) -> bool
     ensures { result ≡ is_to_reserve found.now }
 {
-    found.load.is_none() && !matches!(found.first, First::Nobody)
+    found.load.is_none() && reserves(&found.first)
 }

@@ -25,7 +25,7 @@ pub fn was_free()
     ensures { WasFree }
 {}
 
-/// A call that answers from the cached entry, also where another call has the key reserved, leaves that entry as it is.
+/// A call that answers from the cached entry, also while another call has the key reserved, leaves that entry as it is.
 pub fn keeps()
     ensures { Keeps }
 {}

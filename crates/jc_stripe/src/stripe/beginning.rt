@@ -25,7 +25,7 @@ impl Stripe {
         requires begins { MayBegin self.old caller key.now }
         ensures { Begins self.old caller key.now op.now result self.new }
     {
-        if matches!(op, Op::Get) && self.has_room(caller.call, HIT_PLACES) {
+        if *op == Op::Get && self.has_room(caller.call, HIT_PLACES) {
             return match self.hit(caller, key) {
                 Some(done) => Begun::Done(done),
                 None => self.begin_on(caller, key, op, None),

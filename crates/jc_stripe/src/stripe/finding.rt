@@ -12,7 +12,7 @@ use crate::needs::{
     Found, answers_at_once, first_asked, is_to_reserve, load_of, may_join, places_needed,
 };
 use jc_model::{Change, Op};
-use jc_types::{Caller, JOINERS_MAX, Key, RESERVATIONS_MAX, Refusal, Value};
+use jc_types::{Caller, JOINERS_MAX, Key, LAST_NUMBER, RESERVATIONS_MAX, Refusal, Value};
 
 impl Stripe {
     /// What a call finds at its key, which has this entry.
@@ -71,7 +71,7 @@ impl Stripe {
         if !self.history.has_room(needed) {
             return false;
         }
-        call < u64::MAX && !self.reservations.is_used_up()
+        call < LAST_NUMBER && !self.reservations.is_used_up()
     }
 
     /// Whether no further reservation can be made.

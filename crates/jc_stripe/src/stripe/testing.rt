@@ -10,7 +10,7 @@ ghost use Rattle.jc_stripe.specs.OwnSteps.{may_come_all};
 ghost use Rattle.jc_stripe.specs.Tests.{is_clear, may_begin, asks_outside};
 
 use super::Stripe;
-use crate::needs::first_asked;
+use crate::needs::{first_asked, reserves};
 use crate::ticket::{First, Join, Note, Reservation};
 use jc_history::History;
 use jc_inflight::Joiner;
@@ -157,10 +157,7 @@ impl Stripe {
     pub fn asks_outside(&self, key: &Key, op: &Op) -> bool
         ensures { result ≡ asks_outside self.now key.now op.now }
     {
-        !matches!(
-            first_asked(&self.config, op, &self.entry(key)),
-            First::Nobody
-        )
+        reserves(&first_asked(&self.config, op, &self.entry(key)))
     }
 
     /// Whether a ticket is out here: the stripe's reservation of the key is the ticket's, by its caller, operation,
