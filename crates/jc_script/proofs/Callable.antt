@@ -3,7 +3,7 @@ use Rattle.std.proofs.Common.{◌≡◌, ℕ, List, true, Option, None, Some, re
 use Rattle.std.proofs.lemmas.Bool.{and_from, le-leb}
 use Rattle.jc_model.specs.declared.event.Op.{Op}
 use Rattle.jc_model.specs.declared.event.Op.TheVariants as op
-use Rattle.jc_world.specs.Events.{is_single, is_session}
+use Rattle.jc_world.specs.Fits.{is_single, is_session}
 use Rattle.jc_script.specs.declared.line.Line.{Line}
 use Rattle.jc_script.specs.declared.line.Line.TheVariants.{Open, Set, Begin, BeginBulk, OfCall, Foreign, Audit}
 use Rattle.jc_script.specs.Lines.{read_line, is_callable}

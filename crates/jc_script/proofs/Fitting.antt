@@ -17,7 +17,8 @@ use Rattle.jc_world.specs.Calls.{CallState, open_keys, takes_turns}
 use Rattle.jc_world.specs.declared.event.WorldEvent.{WorldEvent}
 use Rattle.jc_world.specs.declared.event.WorldEvent.TheVariants as event
 use Rattle.jc_world.specs.World.{WorldState, is_joined, open_call, part_of}
-use Rattle.jc_world.specs.Events.{fits, is_free, may_report, AllFit}
+use Rattle.jc_world.specs.Fits.{fits, is_free, may_report}
+use Rattle.jc_world.specs.Events.{AllFit}
 use Rattle.jc_world.specs.Together.{at_call, key_at, AreAt, FitTogether}
 use Rattle.jc_script.specs.declared.line.Act.{Act}
 use Rattle.jc_script.specs.declared.line.Act.TheVariants.{Read, ReadFail, Say, Apply, ApplyFail, ApplyLie, End, Drop, More, Take, Process}

@@ -14,7 +14,8 @@ use Rattle.std.specs.Map.{lookup}
 use Rattle.std.specs.Option.{option_flatten}
 use Rattle.jc_world.specs.declared.event.WorldEvent.TheVariants as event
 use Rattle.jc_world.specs.World.{WorldState}
-use Rattle.jc_world.specs.Events.{fits, AllFit, RestFits, StartFits}
+use Rattle.jc_world.specs.Fits.{fits}
+use Rattle.jc_world.specs.Events.{AllFit, RestFits, StartFits}
 use Rattle.jc_script.specs.LineEvents.{first_key, first_of_each, call_events}
 
 -- the key at which a call works is one at which it may work

@@ -12,7 +12,7 @@ use Rattle.jc_types.specs.declared.config.Field.TheVariants.{Stripes, Capacity, 
 use Rattle.jc_types.specs.Limits.{check}
 use Rattle.jc_world.specs.Calls.{CallState}
 use Rattle.jc_world.specs.World.{WorldState, open_call, is_busy}
-use Rattle.jc_world.specs.Events.{is_new}
+use Rattle.jc_world.specs.Fits.{is_new}
 use Rattle.jc_script.specs.LineEvents.{is_time_for, has_but}
 use Rattle.jc_script.specs.declared.fault.Fault.{Fault}
 use Rattle.jc_script.specs.declared.fault.Fault.TheVariants.{CutLine, LineTooLong, BadByte, BadLine, BadNumber, BadCaller, BadKey, BadValue, RepeatedKey, NotOpen, OpenTwice, BadConfig, SetTooLate, NotRising, CallerBusy, NoSuchCall, NotNow}

@@ -40,7 +40,7 @@ use Rattle.jc_world.specs.Calls.{CallState, current_key, has_too_many_keys, new_
 use Rattle.jc_world.specs.declared.event.WorldEvent.{WorldEvent}
 use Rattle.jc_world.specs.declared.event.WorldEvent.TheVariants as event
 use Rattle.jc_world.specs.World.{WorldState, has_progress, is_joined, part_of, waits_for_load, waits_for_process, waits_for_report}
-use Rattle.jc_world.specs.Events.{fits}
+use Rattle.jc_world.specs.Fits.{fits}
 use Rattle.jc_script.specs.declared.line.Act.{Act}
 use Rattle.jc_script.specs.declared.line.Act.TheVariants.{Read, ReadFail, Say, Apply, ApplyFail, ApplyLie, End, Drop, More, Take, Process}
 use Rattle.jc_script.specs.Words.{said}

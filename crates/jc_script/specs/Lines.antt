@@ -42,7 +42,7 @@ use Rattle.jc_model.specs.Cache.{Bytes}
 use Rattle.jc_model.specs.declared.event.Op.{Op}
 use Rattle.jc_model.specs.declared.event.Op.TheVariants as op
 use Rattle.jc_script.specs.declared.line.Operation.{Operation}
-use Rattle.jc_world.specs.Events.{is_single, is_session}
+use Rattle.jc_world.specs.Fits.{is_single, is_session}
 use Rattle.jc_script.specs.declared.fault.Fault.{Fault}
 use Rattle.jc_script.specs.declared.fault.Fault.TheVariants.{LineTooLong, BadByte, BadLine}
 use Rattle.jc_script.specs.declared.fault.ReadError.{ReadError}

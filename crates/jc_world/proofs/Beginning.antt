@@ -31,7 +31,7 @@ use Rattle.jc_world.specs.declared.event.Premises.{Premises}
 use Rattle.jc_world.specs.Calls.{CallState, has_number, op_at, op_for, is_turn, new_call, opened}
 use Rattle.jc_world.specs.declared.event.WorldEvent.TheVariants as event
 use Rattle.jc_world.specs.World.{WorldState, Parts, home, stripe_for, empty_stripe, empty_stripes, start, is_busy, open_call, part_of, is_joined}
-use Rattle.jc_world.specs.Events.{is_playable, is_session, is_new, is_free, may_start, fits}
+use Rattle.jc_world.specs.Fits.{is_playable, is_session, is_new, is_free, may_start, fits}
 use Rattle.jc_world.specs.Sound.{IsStripe, is_up_to, has_parked_answer, is_served_in, is_served, FitsKey, FitsCall, CallsFit, IsCallOf, IsHeld, IsOwned, AllOwned, IsCalled, AllCalled, IsSoundWorld, Each}
 use Rattle.jc_world.proofs.Halves.{HasOrder}
 use Rattle.jc_world.proofs.Shares.{found_test, shape_same, fact_found, each_map, each_test}

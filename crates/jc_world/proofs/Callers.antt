@@ -52,7 +52,8 @@ use Rattle.jc_world.specs.Calls.{CallState, has_number, open_keys, op_at, op_for
 use Rattle.jc_world.specs.declared.event.WorldEvent.{WorldEvent}
 use Rattle.jc_world.specs.declared.event.WorldEvent.TheVariants as event
 use Rattle.jc_world.specs.World.{WorldState, Parts, home, stripe_for, open_call, part_of, is_joined, is_join, join_of, joins_without, out_of, with_stored}
-use Rattle.jc_world.specs.Events.{is_free, may_leave, fits, with_stripe, with_phase, with_settled, without_call, with_look, new_load, new_write, new_part, with_part, without_part, with_join, without_join, step_of, Starts, Ends, Picks, Happens, new_process}
+use Rattle.jc_world.specs.Fits.{is_free, may_leave, fits}
+use Rattle.jc_world.specs.Events.{with_stripe, with_phase, with_settled, without_call, with_look, new_load, new_write, new_part, with_part, without_part, with_join, without_join, step_of, Starts, Ends, Picks, Happens, new_process}
 use Rattle.jc_world.specs.Audit.{cache_in, cache_at, IsOrder, HasShares}
 use Rattle.jc_world.specs.Sound.{IsStripe, is_up_to, has_answer, has_parked_answer, is_served_in, is_served, FitsKey, FitsCall, CallsFit, IsCallOf, IsHeld, IsOwned, AllOwned, IsCalled, IsSoundWorld, IsWaitedFor, Each}
 use Rattle.jc_world.proofs.Halves.{HasOrder, order_half}

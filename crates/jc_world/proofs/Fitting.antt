@@ -29,7 +29,8 @@ use Rattle.jc_world.specs.declared.event.WorldEvent.{WorldEvent}
 use Rattle.jc_world.specs.declared.event.WorldEvent.TheVariants as event
 use Rattle.std.specs.Ordering.{eq_by_cmp}
 use Rattle.jc_world.specs.World.{WorldState, open_call, of_call, part_of, waits_for_report, is_join, is_joined, is_untouched, has_progress}
-use Rattle.jc_world.specs.Events.{fits, is_new, is_free, is_next, may_look, may_start, may_leave, waits_at, may_report, after_change, with_stripe, without_part, with_look, looks, Happens, Run, with_ends, is_fit, AllFit, LooksFit, StartFits, RestFits, with_change}
+use Rattle.jc_world.specs.Fits.{fits, is_new, is_free, is_next, may_look, may_start, may_leave, waits_at, may_report}
+use Rattle.jc_world.specs.Events.{after_change, with_stripe, without_part, with_look, looks, Happens, Run, with_ends, is_fit, AllFit, LooksFit, StartFits, RestFits, with_change}
 use Rattle.jc_world.specs.Sound.{is_up_to, IsCallOf, IsSoundWorld}
 use Rattle.jc_world.proofs.Holding.{call_on}
 use Rattle.jc_world.proofs.Entries.{split, tied}

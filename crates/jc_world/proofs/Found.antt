@@ -18,7 +18,7 @@ use Rattle.jc_model.specs.declared.event.Op.{Op}
 use Rattle.jc_model.specs.Cache.{Bytes}
 use Rattle.jc_world.specs.Calls.{Task, at_each, op_in, is_open, open_in}
 use Rattle.jc_world.specs.OpenCalls.{first_open, are_new}
-use Rattle.jc_world.proofs.Tasks.{absent, none_from, slice_get_here, keys-at_each, map-push, first_each}
+use Rattle.jc_world.proofs.TaskLists.{absent, none_from, slice_get_here, keys-at_each, map-push, first_each}
 
 -- 1. Looking a key up.
 

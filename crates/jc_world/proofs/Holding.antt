@@ -10,7 +10,7 @@ use Rattle.jc_world.specs.declared.event.Progress.{Progress}
 use Rattle.jc_world.specs.declared.event.Progress.TheVariants.{Loading, Writing, Processing, Processed, WritingEffect}
 use Rattle.jc_world.specs.declared.event.WorldEvent.TheVariants as event
 use Rattle.jc_world.specs.World.{WorldState, home, stripe_for, open_call, of_call, part_of, is_answered, is_untouched, has_progress, is_unasked}
-use Rattle.jc_world.specs.Events.{fits}
+use Rattle.jc_world.specs.Fits.{fits}
 use Rattle.jc_world.specs.Sound.{IsHeld, IsSoundWorld, IsOwned, IsCallOf}
 use Rattle.jc_world.proofs.Numbered.{some_of}
 use Rattle.jc_world.proofs.Shares.{fact_found}

@@ -35,7 +35,8 @@ use Rattle.jc_world.specs.Calls.{CallState, has_number, open_keys, op_at, is_tur
 use Rattle.jc_world.specs.declared.event.WorldEvent.{WorldEvent}
 use Rattle.jc_world.specs.declared.event.WorldEvent.TheVariants as event
 use Rattle.jc_world.specs.World.{WorldState, Parts, home, stripe_for, start, open_call, of_call, part_of, is_join, join_of, is_joined, joins_without}
-use Rattle.jc_world.specs.Events.{is_free, may_leave, fits, with_stripe, with_phase, with_settled, without_call, with_look, new_load, new_write, new_part, without_part, with_join, Starts, Ends, Picks, Happens, new_process}
+use Rattle.jc_world.specs.Fits.{is_free, may_leave, fits}
+use Rattle.jc_world.specs.Events.{with_stripe, with_phase, with_settled, without_call, with_look, new_load, new_write, new_part, without_part, with_join, Starts, Ends, Picks, Happens, new_process}
 use Rattle.jc_world.specs.Sound.{IsWaitedFor, AllWaitedFor, IsCalled, AllCalled, IsSoundWorld, IsCallOf}
 use Rattle.jc_world.proofs.Halves.{HasJoins, joins_half}
 use Rattle.jc_world.proofs.Returns.{IsReport}

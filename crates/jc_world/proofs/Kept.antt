@@ -49,7 +49,8 @@ use Rattle.jc_world.specs.declared.event.Shown.TheVariants as shown
 use Rattle.jc_world.specs.declared.event.WorldEvent.TheVariants as event
 use Rattle.jc_world.specs.World.{WorldState, Parts, home, stripe_for, cached_entry, entry_in, empty_stripes, start, open_call, part_of, waits_for_load, waits_for_report, is_answered, is_untouched, has_changed, out_in, join_of, joins_without, out_of, with_stored, has_progress, waits_for_process, writer_change_in, writer_change}
 use Rattle.jc_world.specs.Premises.{changed_to, is_true_load, is_done, is_true_report, with_foreign_write, premises_hold}
-use Rattle.jc_world.specs.Events.{run_result, progress_after, after_process, fits, may_leave, after_answer, after_change, after_report, new_load, new_write, new_process, new_part, with_change, with_report, with_stripe, with_phase, without_call, with_part, without_part, step_of, Starts, Ends, Picks}
+use Rattle.jc_world.specs.Fits.{fits, may_leave}
+use Rattle.jc_world.specs.Events.{run_result, progress_after, after_process, after_answer, after_change, after_report, new_load, new_write, new_process, new_part, with_change, with_report, with_stripe, with_phase, without_call, with_part, without_part, step_of, Starts, Ends, Picks}
 use Rattle.jc_world.specs.Coherent.{Coherent, all_hold}
 use Rattle.jc_world.specs.Sound.{is_due_in, is_asked, IsHeld, Agrees, LoadAgrees, ProgressAgrees, KeyAgrees, IsWrittenFor, IsSoundWorld}
 use Rattle.jc_world.proofs.Holding.{call_on, is_part}

@@ -7,7 +7,7 @@ pub mod NewCalls
 pub mod Looked
 pub mod Sweeps
 pub mod StripeKeys
-pub mod Tasks
+pub mod TaskLists
 pub mod Reported
 pub mod Found
 pub mod Joiners

@@ -42,7 +42,8 @@ use Rattle.jc_model.specs.declared.event.Change.{Change}
 use Rattle.jc_mutentry.specs.Done.{ProcessResult}
 use Rattle.jc_stripe.specs.declared.ticket.Reservation.{Reservation}
 use Rattle.jc_stripe.specs.Effects.{change_due}
-use Rattle.jc_world.specs.Events.{run_result, progress_after, after_process, fits, new_load, new_write, new_process, new_part, with_change, with_report, step_of, reported_keys, keys_reported, Starts, Ends, Picks, Happens, Step, Run}
+use Rattle.jc_world.specs.Fits.{fits}
+use Rattle.jc_world.specs.Events.{run_result, progress_after, after_process, new_load, new_write, new_process, new_part, with_change, with_report, step_of, reported_keys, keys_reported, Starts, Ends, Picks, Happens, Step, Run}
 use Rattle.jc_world.specs.Sound.{IsSoundWorld}
 use Rattle.jc_world.specs.Headline.{start_with, is_answer, is_load, is_loaded}
 use Rattle.jc_world.proofs.Shares.{added}

@@ -27,7 +27,8 @@ use Rattle.jc_world.specs.declared.event.WorldEvent.TheVariants as event
 use Rattle.jc_world.specs.declared.event.Shown.{Shown}
 use Rattle.jc_world.specs.declared.event.Shown.TheVariants as shown
 use Rattle.jc_world.specs.World.{WorldState, Parts, home, stripe_for, open_call, part_of, join_of, joins_without, out_of}
-use Rattle.jc_world.specs.Events.{fits, is_free, may_start, Happens, step_of, new_load, new_write, new_part, BeginsAs, new_process}
+use Rattle.jc_world.specs.Fits.{fits, is_free, may_start}
+use Rattle.jc_world.specs.Events.{Happens, step_of, new_load, new_write, new_part, BeginsAs, new_process}
 use Rattle.jc_world.specs.Sound.{IsHeld, IsSoundWorld, IsWaitedFor, is_due}
 use Rattle.jc_world.specs.World.{is_join}
 use Rattle.jc_world.specs.Turns.{OrderedStripes, IsPhase, IsQuietPhase}

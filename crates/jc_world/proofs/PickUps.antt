@@ -33,7 +33,8 @@ use Rattle.jc_world.specs.declared.event.Shown.TheVariants as shown
 use Rattle.jc_world.specs.declared.event.WorldEvent.{WorldEvent}
 use Rattle.jc_world.specs.declared.event.WorldEvent.TheVariants as event
 use Rattle.jc_world.specs.World.{WorldState, home, stripe_for, open_call, of_call, part_of, is_join, join_of, is_joined, joins_without}
-use Rattle.jc_world.specs.Events.{fits, with_ends, with_stripe, with_join, Starts, Ends, Picks, Happens, Step, Run}
+use Rattle.jc_world.specs.Fits.{fits}
+use Rattle.jc_world.specs.Events.{with_ends, with_stripe, with_join, Starts, Ends, Picks, Happens, Step, Run}
 use Rattle.jc_world.specs.PickUps.{ends_join, is_last_pick_up, ends_load, Resolves}
 use Rattle.jc_world.specs.Sound.{IsHeld, IsSoundWorld, IsOwned}
 use Rattle.jc_world.proofs.Numbered.{some_of}

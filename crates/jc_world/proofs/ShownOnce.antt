@@ -44,7 +44,8 @@ use Rattle.jc_world.proofs.NewCalls.{begun_cases}
 use Rattle.jc_world.specs.declared.event.WorldEvent.{WorldEvent}
 use Rattle.jc_world.specs.declared.event.WorldEvent.TheVariants as event
 use Rattle.jc_world.specs.World.{WorldState, home, stripe_for, out_of}
-use Rattle.jc_world.specs.Events.{fits, step_of, Starts, Ends, Picks, Happens, Step, Run}
+use Rattle.jc_world.specs.Fits.{fits}
+use Rattle.jc_world.specs.Events.{step_of, Starts, Ends, Picks, Happens, Step, Run}
 use Rattle.jc_world.specs.Sound.{IsSoundWorld}
 use Rattle.jc_world.specs.Headline.{start_with}
 use Rattle.jc_world.specs.Replies.{is_answer_at, joiners_in, joiners_at, times_shown}

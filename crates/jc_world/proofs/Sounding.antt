@@ -14,7 +14,8 @@ use Rattle.jc_world.specs.declared.event.WorldEvent.TheVariants as event
 use Rattle.jc_stripe.specs.Laws.{StaysReached, KeepsReserved}
 use Rattle.jc_world.specs.World.{WorldState, start, part_of, waits_for_load, waits_for_report, with_stored, has_progress}
 use Rattle.jc_world.specs.Premises.{read_answer, report_for, load_from}
-use Rattle.jc_world.specs.Events.{fits, after_report, reported_keys, keys_reported, Happens, Step, Run}
+use Rattle.jc_world.specs.Fits.{fits}
+use Rattle.jc_world.specs.Events.{after_report, reported_keys, keys_reported, Happens, Step, Run}
 use Rattle.jc_world.specs.Sound.{IsSoundWorld}
 use Rattle.jc_world.specs.Headline.{start_with}
 use Rattle.jc_world.proofs.Halves.{HasParts, sound}

@@ -36,7 +36,8 @@ use Rattle.jc_world.specs.Calls.{CallState, has_number, has_too_many_keys, is_go
 use Rattle.jc_world.specs.declared.event.WorldEvent.{WorldEvent}
 use Rattle.jc_world.specs.declared.event.WorldEvent.TheVariants as event
 use Rattle.jc_world.specs.World.{WorldState, Parts, home, stripe_for, is_join, join_of, part_of, out_of, open_call}
-use Rattle.jc_world.specs.Events.{fits, new_load, new_write, new_part, step_of, reported_keys, keys_reported, Starts, Ends, Picks, Happens, Step, Run, new_process}
+use Rattle.jc_world.specs.Fits.{fits}
+use Rattle.jc_world.specs.Events.{new_load, new_write, new_part, step_of, reported_keys, keys_reported, Starts, Ends, Picks, Happens, Step, Run, new_process}
 use Rattle.jc_world.specs.Sound.{IsSoundWorld, Each}
 use Rattle.jc_world.specs.Headline.{start_with}
 use Rattle.jc_world.specs.Replies.{IsReplyOfStep, Stands}

@@ -26,7 +26,7 @@ use Rattle.jc_stripe.specs.State.{State, is_of}
 use Rattle.jc_world.specs.declared.command.Sweep.{Sweep}
 use Rattle.jc_world.specs.Calls.{CallState, Task, has_number}
 use Rattle.jc_world.specs.declared.event.WorldEvent.TheVariants as event
-use Rattle.jc_world.specs.Events.{fits, is_next, may_look}
+use Rattle.jc_world.specs.Fits.{fits, is_next, may_look}
 use Rattle.jc_world.specs.OpenCalls.{are_new, TakesKeys}
 use Rattle.jc_world.specs.World.{WorldState, open_call}
 use Rattle.jc_world.specs.Sound.{IsStripe, FitsSweep, Sweeps, IsSoundWorld}

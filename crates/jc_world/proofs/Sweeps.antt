@@ -28,7 +28,8 @@ use Rattle.jc_world.specs.declared.event.WorldEvent.{WorldEvent}
 use Rattle.jc_world.specs.declared.event.WorldEvent.TheVariants as event
 use Rattle.jc_world.specs.Calls.{CallState, has_number, at_each, new_call, sweep_of, opened, settle, going_on, next_sweep, with_found, look}
 use Rattle.jc_world.specs.World.{WorldState, open_call}
-use Rattle.jc_world.specs.Events.{fits, is_next, may_look, Starts, Ends, Picks, Happens}
+use Rattle.jc_world.specs.Fits.{fits, is_next, may_look}
+use Rattle.jc_world.specs.Events.{Starts, Ends, Picks, Happens}
 use Rattle.jc_world.specs.Sound.{IsStripe, IsShaped, FitsSweep, Sweeps, Each, IsSoundWorld}
 use Rattle.jc_world.proofs.Found.{lookup-found}
 use Rattle.jc_world.proofs.Looked.{each_replaced}
@@ -38,7 +39,7 @@ use Rattle.jc_world.proofs.Returns.{IsReport}
 use Rattle.jc_world.proofs.Settling.{Left, going_is, each_settled}
 use Rattle.jc_world.proofs.Shares.{each_filter, each_pushed}
 use Rattle.jc_world.proofs.StripeKeys.{all_here}
-use Rattle.jc_world.proofs.Tasks.{keys-at_each}
+use Rattle.jc_world.proofs.TaskLists.{keys-at_each}
 use Rattle.jc_world.proofs.Underway.{same_bytes}
 
 -- 1. One call.

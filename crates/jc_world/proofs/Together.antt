@@ -27,7 +27,8 @@ use Rattle.jc_world.specs.declared.event.WorldEvent.TheVariants as event
 use Rattle.jc_world.specs.Calls.{CallState, has_number, has_too_many_keys, is_turn, new_call, op_at, open_keys, settle}
 use Rattle.jc_world.specs.declared.command.Command.{Command}
 use Rattle.jc_world.specs.World.{WorldState, Parts, open_call, of_call, part_of, is_join, is_joined, joins_without, has_progress, waits_for_load, waits_for_report}
-use Rattle.jc_world.specs.Events.{fits, is_free, may_start, may_leave, waits_at, may_report, with_change, after_change, Happens, Starts, is_fit, AllFit, with_ends, noted, subject}
+use Rattle.jc_world.specs.Fits.{fits, is_free, may_start, may_leave, waits_at, may_report}
+use Rattle.jc_world.specs.Events.{with_change, after_change, Happens, Starts, is_fit, AllFit, with_ends, noted, subject}
 use Rattle.jc_world.specs.Ends.{EndsState}
 use Rattle.jc_world.specs.Sound.{IsCallOf, IsSoundWorld, Each}
 use Rattle.jc_world.specs.Together.{at_call, key_at, may_work, AreAt, FitTogether}

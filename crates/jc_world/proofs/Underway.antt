@@ -23,7 +23,7 @@ use Rattle.jc_stripe.specs.State.{is_key, without_key}
 use Rattle.jc_world.specs.Calls.{CallState, has_number, is_of_session, drop_call}
 use Rattle.jc_world.specs.declared.event.Part.{Part}
 use Rattle.jc_world.specs.World.{WorldState, of_call}
-use Rattle.jc_world.specs.Events.{is_new}
+use Rattle.jc_world.specs.Fits.{is_new}
 use Rattle.jc_stripe.specs.OwnSteps.{may_come_all}
 use Rattle.jc_world.specs.Sound.{is_up_to, number_up_to, is_apart, FitsCall, CallsFit, IsOwned, AllOwned, Each}
 use Rattle.jc_world.proofs.Shares.{turned_eq, found_test}

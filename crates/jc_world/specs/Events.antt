@@ -1,16 +1,4 @@
--- The world as a machine: when an event fits, what it shows, and what it leaves.
---     is_single                   an operation is a call by itself: each but `Clear` and `LoadAll`
---     is_playable                 a command that a world plays: one operation that is a call by itself, or one on many keys, but for
---                                 `loadAll`
---     is_session                  a number is that of a session: from 1 to the most sessions
---     is_new                      a call's number is above all before it
---     is_free                     a call has neither a reservation nor a join of a key
---     may_start                   the key is open in the call, which may work at it and has neither a reservation nor a join of it
---     may_leave                   the call has neither a reservation nor a join of any of its open keys
---     waits_in, waits_at          the writer was asked for a key by a call, and hasn't returned
---     may_report                  that is so of an open key of the call
---     is_next, may_look           a stripe is the one at which a call looks next
---     fits                        whether an event fits
+-- The world as a machine: what an event that fits shows, and what it leaves.
 --     with_stripe                 the world with a key's stripe at another state
 --     with_phase                  the same, and what the stripe appended to its history stands at the end of the order
 --     step_of                     what is shown of a step, but for its stripe
@@ -62,15 +50,12 @@
 --     RestFits                    if the first fits, so do all: of an event alone, of a writer's change and its return, of a withdrawal
 --                                 and the call's leaving. The last two are at the key at which a call works that works at one at a
 --                                 time
-use Rattle.std.specs.Prelude.{◌≡◌, ◌⊎◌, ◌+◌, ◌≤◌, ℕ, zero, suc, List, [], ◌∷◌, ◌++◌, length, drop, Bool, true, false, not, ◌&&◌, ◌||◌, ◌==◌, Option, None, Some, is_some, map, nat_lt, option_map, slice_get, slice_set, if◌then◌else◌}
-use Rattle.std.specs.List.{filter_map, list_all, list_any}
+use Rattle.std.specs.Prelude.{◌≡◌, ◌⊎◌, ◌+◌, ◌≤◌, ℕ, zero, suc, List, [], ◌∷◌, ◌++◌, length, drop, Bool, true, false, ◌||◌, Option, None, Some, is_some, map, option_map, slice_get, slice_set, if◌then◌else◌}
+use Rattle.std.specs.List.{filter_map, list_all}
 use Rattle.std.specs.FinMap.{get, insert, remove}
-use Rattle.jc_types.specs.declared.limits.TheConstants.{SESSIONS_MAX}
 use Rattle.jc_types.specs.declared.caller.Caller.{Caller}
 use Rattle.jc_types.specs.declared.refusal.Refusal.TheVariants.{TooManyKeys}
-use Rattle.jc_types.specs.Limits.{is_between}
 use Rattle.jc_model.specs.declared.event.Op.{Op}
-use Rattle.jc_model.specs.declared.event.Op.TheVariants.{Get, ContainsKey, Put, GetAndPut, PutIfAbsent, Remove, RemoveIf, GetAndRemove, Replace, ReplaceIf, GetAndReplace, Clear, LoadAll, Invoke}
 use Rattle.jc_model.specs.declared.event.Change.{Change}
 use Rattle.jc_model.specs.declared.processor.EntryCall.{EntryCall}
 use Rattle.jc_model.specs.declared.processor.EntryAnswer.{EntryAnswer}
@@ -79,7 +64,6 @@ use Rattle.jc_model.specs.declared.event.LoadAnswer.TheVariants as load
 use Rattle.jc_model.specs.declared.event.WriteAnswer.{WriteAnswer}
 use Rattle.jc_model.specs.declared.event.WriteAnswer.TheVariants as write
 use Rattle.jc_model.specs.Cache.{Bytes, entry_at, with_entry}
-use Rattle.jc_model.specs.Table.{is_load_given}
 use Rattle.jc_types.specs.declared.config.Config.{Config}
 use Rattle.jc_outside.specs.declared.done.Origin.TheVariants.{Played}
 use Rattle.jc_mutentry.specs.Done.{ProcessResult}
@@ -98,7 +82,6 @@ use Rattle.jc_stripe.specs.Phases.{Begins, Commits, Withdraws, PicksUp}
 use Rattle.jc_world.specs.declared.command.CallKind.{CallKind}
 use Rattle.jc_world.specs.declared.command.Sweep.{Sweep}
 use Rattle.jc_world.specs.declared.command.Command.{Command}
-use Rattle.jc_world.specs.declared.command.Command.TheVariants as command
 use Rattle.jc_world.specs.declared.event.WorldEvent.{WorldEvent}
 use Rattle.jc_world.specs.declared.event.WorldEvent.TheVariants as event
 use Rattle.jc_world.specs.declared.event.Shown.{Shown}
@@ -111,102 +94,12 @@ use Rattle.jc_world.specs.Calls.{CallState, open_keys, current_key, is_turn, put
 use Rattle.jc_world.specs.declared.event.Part.{Part}
 use Rattle.jc_world.specs.declared.event.Progress.{Progress}
 use Rattle.jc_world.specs.declared.event.Progress.TheVariants.{Loading, Writing, Processing, Processed, WritingEffect}
-use Rattle.jc_world.specs.World.{WorldState, home, stripe_for, is_busy, open_call, of_call, part_of, Parts, is_free_of, waits_for_load, waits_for_report, is_answered, is_untouched, has_changed, join_of, is_joined, joins_without, out_of, has_progress, waits_for_process, writer_change}
+use Rattle.jc_world.specs.World.{WorldState, home, stripe_for, open_call, of_call, part_of, Parts, waits_for_report, has_changed, join_of, joins_without, out_of, writer_change}
 use Rattle.jc_world.specs.Premises.{read_answer, changed_to, report_for, is_true_load, is_true_report, with_loader, with_writer, with_foreign_write, load_from}
 use Rattle.jc_world.specs.declared.process.Processed.{Processed as ProcessShown}
+use Rattle.jc_world.specs.Fits.{fits}
 
--- 1. When an event fits.
-
--- the operations that are calls by themselves: the others are keys of a bulk call
-abbrev pub is_single : Op → Bool
-is_single Get = true
-is_single ContainsKey = true
-is_single (Put value) = true
-is_single (GetAndPut value) = true
-is_single (PutIfAbsent value) = true
-is_single Remove = true
-is_single (RemoveIf old) = true
-is_single GetAndRemove = true
-is_single (Replace value) = true
-is_single (ReplaceIf old value) = true
-is_single (GetAndReplace value) = true
-is_single Clear = false
-is_single (LoadAll replace) = false
-is_single Invoke = true
-
--- the calls of many keys are played, but for `loadAll`
-abbrev pub is_playable : Command → Bool
-is_playable (command.Single op key) = is_single op
-is_playable (command.GetAll keys) = true
-is_playable (command.PutAll entries) = true
-is_playable (command.RemoveAll keys) = true
-is_playable command.RemoveEvery = true
-is_playable command.Clear = true
-is_playable (command.LoadAll replace keys) = false
-is_playable (command.InvokeAll keys) = true
-
--- the sessions are numbered from 1
-abbrev pub is_session : ℕ → Bool
-is_session session = is_between 1 SESSIONS_MAX session
-
--- the number is above all before it
-abbrev pub is_new : Option ℕ → ℕ → Bool
-is_new None call = true
-is_new (Some last) call = nat_lt last call
-
--- the call has neither a reservation nor a join of this key
-abbrev pub is_free : WorldState → ℕ → Bytes → Bool
-is_free w call key = is_free_of w.parts w.joins call key
-
--- the key is open in the call, which may work at it, and it has neither a reservation nor a join
-abbrev pub may_start : WorldState → ℕ → Bytes → Option CallState → Bool
-may_start w call key None = false
-may_start w call key (Some u) = is_some (op_at u key) && is_turn u key && is_free w call key
-
--- the call has neither a reservation nor a join
-abbrev pub may_leave : WorldState → ℕ → Option CallState → Bool
-may_leave w call None = false
-may_leave w call (Some u) = list_all (is_free w call) (open_keys u)
-
--- the key is asked of the writer, which hasn't returned
-abbrev pub waits_in : Parts → ℕ → Bytes → Bool
-waits_in parts call key = has_progress waits_for_report (of_call call (get parts key))
-
-abbrev pub waits_at : WorldState → ℕ → Bytes → Bool
-waits_at w call key = waits_in w.parts call key
-
--- that is so of an open key
-abbrev pub may_report : WorldState → ℕ → Option CallState → Bool
-may_report w call None = false
-may_report w call (Some u) = list_any (waits_at w call) (open_keys u)
-
--- the call looks at this stripe next
-abbrev pub is_next : ℕ → Option Sweep → Bool
-is_next stripe None = false
-is_next stripe (Some sweep) = sweep.stripe == stripe
-
-abbrev pub may_look : ℕ → Option CallState → Bool
-may_look stripe None = false
-may_look stripe (Some u) = is_next stripe u.sweep
-
-abbrev pub fits : WorldState → WorldEvent → Bool
-fits w (event.Call call session command) =
-    is_playable command && is_session session && is_new w.last call && not (is_busy w session)
-fits w (event.Look call stripe) = may_look stripe (open_call w call)
-fits w (event.Start call key) = may_start w call key (open_call w call)
-fits w (event.Read call key) = has_progress waits_for_load (part_of w call key)
-fits w (event.Say call key answer) =
-    is_load_given answer && has_progress waits_for_load (part_of w call key)
-fits w (event.Change call key) = has_progress waits_for_report (part_of w call key)
-fits w (event.Report call left fault) = may_report w call (open_call w call)
-fits w (event.Process call key source calls fail) = has_progress waits_for_process (part_of w call key)
-fits w (event.Commit call key) = has_progress is_answered (part_of w call key)
-fits w (event.Withdraw call key) = has_progress is_untouched (part_of w call key)
-fits w (event.Leave call) = may_leave w call (open_call w call)
-fits w (event.PickUp call key) = is_joined w call key
-fits w (event.Foreign key value) = true
-
--- 2. What a phase leaves.
+-- 1. What a phase leaves.
 
 -- a stripe is at another state
 abbrev pub with_stripe : WorldState → Bytes → State → WorldState
@@ -273,7 +166,7 @@ with_join w join = record w { joins = w.joins ++ join ∷ [] }
 abbrev pub without_join : WorldState → ℕ → Bytes → WorldState
 without_join w call key = record w { joins = joins_without call key w.joins }
 
--- 3. The first phase, and the last.
+-- 2. The first phase, and the last.
 
 -- the first phase of an operation at a key, by what it returns
 abbrev pub BeginsAs : Caller → Bytes → Op → Begun → State → State → Type 0
@@ -328,7 +221,7 @@ Picks old call key join from to shown.Waits new =
     PicksUp from join (picked.NotYet join) to × (new ≡ old)
 Picks old call key join from to seen new = ⊥
 
--- 4. What was said outside.
+-- 3. What was said outside.
 
 -- the world with this progress of a reserved key
 abbrev pub with_progress : WorldState → Bytes → Part → Progress → WorldState
@@ -437,7 +330,7 @@ shown_process config r answer calls fail =
       change = change_due config done;
     }
 
--- 5. What an event that fits shows and leaves.
+-- 4. What an event that fits shows and leaves.
 
 abbrev pub Happens : WorldState → WorldEvent → Shown → WorldState → Type 0
 Happens old (event.Call call session command) seen new =
@@ -493,7 +386,7 @@ Happens old (event.Foreign key value) seen new =
     (seen ≡ shown.Written)
     × (new ≡ record old { store = store; fresh = false; premises = with_foreign_write old.premises })
 
--- 6. Steps and runs.
+-- 5. Steps and runs.
 
 -- the call that an event is about
 abbrev pub subject_of : CallState → Subject
@@ -546,7 +439,7 @@ abbrev pub RunAppending : WorldState → List WorldEvent → List Shown → List
 RunAppending old events before after new =
     (seen : List Shown) × Run old events seen new × (after ≡ before ++ seen)
 
--- 7. Events that fit.
+-- 6. Events that fit.
 
 abbrev pub is_fit : Shown → Bool
 is_fit shown.Unfit = false

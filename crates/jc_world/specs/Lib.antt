@@ -2,6 +2,7 @@ pub mod Calls
 pub mod OpenCalls
 pub mod World
 pub mod Premises
+pub mod Fits
 pub mod Events
 pub mod Together
 pub mod Coherent

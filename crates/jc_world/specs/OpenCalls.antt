@@ -13,8 +13,8 @@ use Rattle.std.specs.Cmp.Lexicographic.{pointwise}
 use Rattle.jc_model.specs.Cache.{Bytes}
 use Rattle.jc_world.specs.declared.command.Sweep.{Sweep}
 use Rattle.jc_world.specs.Calls.{CallState, Task, is_open}
-use Rattle.jc_world.specs.declared.open_call.Tasks.{Tasks}
-use Rattle.jc_world.specs.declared.open_call.Tasks.TheVariants.{One, Many}
+use Rattle.jc_world.specs.declared.tasks.Tasks.{Tasks}
+use Rattle.jc_world.specs.declared.tasks.Tasks.TheVariants.{One, Many}
 
 abbrev pub tasks_of : Tasks → List Task
 tasks_of (One key op) = (key, op) ∷ []

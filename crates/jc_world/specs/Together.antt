@@ -15,7 +15,8 @@ use Rattle.jc_world.specs.declared.event.WorldEvent.TheVariants as event
 use Rattle.jc_world.specs.Calls.{CallState, has_too_many_keys, is_turn, new_call, op_at, open_keys}
 use Rattle.jc_world.specs.declared.command.Command.{Command}
 use Rattle.jc_world.specs.World.{WorldState, open_call}
-use Rattle.jc_world.specs.Events.{fits, is_free, AllFit}
+use Rattle.jc_world.specs.Fits.{fits, is_free}
+use Rattle.jc_world.specs.Events.{AllFit}
 
 -- an event of a call with another number is at no key of this call
 abbrev pub at_call : ℕ → ℕ → Bytes → Option Bytes

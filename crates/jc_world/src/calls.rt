@@ -6,7 +6,7 @@ ghost use Rattle.jc_world.specs.Calls.{settle};
 ghost use Rattle.jc_world.specs.OpenCalls.{TakesKeys};
 ghost use Rattle.jc_world.specs.Calls.{CallState};
 ghost use Rattle.jc_world.specs.declared.command.Sweep.{Sweep};
-ghost use Rattle.jc_world.specs.Events.{is_single, is_playable, is_session, is_new};
+ghost use Rattle.jc_world.specs.Fits.{is_single, is_playable, is_session, is_new};
 ghost use Rattle.jc_world.specs.declared.event.Shown.TheVariants as shown;
 
 use crate::command::{CallKind, Command};

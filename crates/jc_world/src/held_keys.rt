@@ -14,7 +14,8 @@ ghost use Rattle.jc_world.specs.declared.event.Progress.TheVariants.{Loading};
 ghost use Rattle.jc_world.specs.Premises.{changed_to};
 ghost use Rattle.jc_world.specs.World.{has_changed, has_progress, of_call, waits_for_load, waits_for_process, waits_for_report};
 ghost use Rattle.jc_world.specs.World.{writer_change};
-ghost use Rattle.jc_world.specs.Events.{new_load, new_write, new_process, new_part, with_change, with_report, reported_key, waits_in};
+ghost use Rattle.jc_world.specs.Fits.{waits_in};
+ghost use Rattle.jc_world.specs.Events.{new_load, new_write, new_process, new_part, with_change, with_report, reported_key};
 ghost use Rattle.jc_world.specs.Events.{run_answers, run_result, progress_after};
 ghost use Rattle.jc_world.specs.Held.{parts_of};
 

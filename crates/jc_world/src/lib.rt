@@ -21,4 +21,5 @@ pub mod reports;
 pub mod reserved;
 mod run;
 mod stripes;
+mod tasks;
 pub mod world;

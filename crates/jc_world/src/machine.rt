@@ -5,7 +5,8 @@ ghost use Rattle.jc_types.specs.Limits.{check};
 ghost use Rattle.jc_model.specs.Cache.{entry_at};
 ghost use Rattle.jc_world.specs.declared.event.WorldEvent.TheVariants as event;
 ghost use Rattle.jc_world.specs.World.{start, is_busy, open_call, part_of, is_joined, with_stored};
-ghost use Rattle.jc_world.specs.Events.{fits, is_new, subject_of, subject, noted, Happens, Step};
+ghost use Rattle.jc_world.specs.Fits.{fits, is_new};
+ghost use Rattle.jc_world.specs.Events.{subject_of, subject, noted, Happens, Step};
 ghost use Rattle.jc_world.specs.Sound.{IsSoundWorld};
 
 mod answering;

@@ -7,7 +7,7 @@ ghost use Rattle.jc_world.specs.declared.event.WorldEvent.TheVariants as event;
 ghost use Rattle.jc_world.specs.Calls.{CallState, current_key};
 ghost use Rattle.jc_world.specs.World.{open_call};
 ghost use Rattle.jc_world.specs.World.{is_joined};
-ghost use Rattle.jc_world.specs.Events.{fits};
+ghost use Rattle.jc_world.specs.Fits.{fits};
 ghost use Rattle.jc_script.specs.declared.line.Line.TheVariants as lines;
 ghost use Rattle.jc_script.specs.LineEvents.{keys_at_work, is_drop, has_but, keys_of_act, is_asked, is_started, is_meant, event_at, key_events};
 ghost use Rattle.jc_script.specs.LineEvents.{end_of_act, is_about_one, is_time, load_fault, act_end};

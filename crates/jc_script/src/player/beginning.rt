@@ -2,7 +2,7 @@
 ghost use Rattle.std.specs.Prelude.{◌≡◌, ◌++◌, List, ℕ, Some, None, true, OnOk, IfOk};
 ghost use Rattle.jc_world.specs.declared.event.WorldEvent.TheVariants as event;
 ghost use Rattle.jc_world.specs.Calls.{new_call};
-ghost use Rattle.jc_world.specs.Events.{fits, is_session};
+ghost use Rattle.jc_world.specs.Fits.{fits, is_session};
 ghost use Rattle.jc_script.specs.declared.line.Line.TheVariants as lines;
 ghost use Rattle.jc_script.specs.Lines.{is_callable};
 ghost use Rattle.jc_script.specs.Faults.{begin_fault};

@@ -5,7 +5,8 @@ ghost use Rattle.jc_world.specs.declared.event.WorldEvent.TheVariants as event;
 ghost use Rattle.jc_world.specs.declared.event.Part.{Part};
 ghost use Rattle.jc_world.specs.World.{has_progress, open_call, part_of, waits_for_load, waits_for_report};
 ghost use Rattle.jc_world.specs.Premises.{report_for};
-ghost use Rattle.jc_world.specs.Events.{fits, waits_at, after_answer, after_report, reported_at, after_reports, keys_reported, Happens};
+ghost use Rattle.jc_world.specs.Fits.{fits, waits_at};
+ghost use Rattle.jc_world.specs.Events.{after_answer, after_report, reported_at, after_reports, keys_reported, Happens};
 
 use crate::command::CallKind;
 use crate::event::Shown;

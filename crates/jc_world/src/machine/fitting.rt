@@ -2,8 +2,8 @@
 ghost use Rattle.std.specs.Prelude.{◌≡◌, ◌&&◌, not, true, false, None, Some};
 ghost use Rattle.jc_world.specs.declared.event.WorldEvent.TheVariants as event;
 ghost use Rattle.jc_world.specs.World.{has_progress, is_busy, is_joined, open_call, part_of, waits_for_load, waits_for_process};
-ghost use Rattle.jc_world.specs.Events.{is_playable, is_session, is_new, may_start, may_leave, is_free, may_report, waits_at, fits};
-ghost use Rattle.jc_world.specs.Events.{is_single, may_look};
+ghost use Rattle.jc_world.specs.Fits.{is_playable, is_session, is_new, may_start, may_leave, is_free, may_report, waits_at, fits};
+ghost use Rattle.jc_world.specs.Fits.{is_single, may_look};
 
 use crate::calls::{is_known, is_playable};
 use crate::command::Command;

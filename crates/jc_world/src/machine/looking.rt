@@ -5,7 +5,8 @@ ghost use Rattle.std.specs.Cmp.Lexicographic.{pointwise};
 ghost use Rattle.jc_stripe.specs.Keys.{AreKeys};
 ghost use Rattle.jc_stripe.specs.State.{State};
 ghost use Rattle.jc_world.specs.declared.event.WorldEvent.TheVariants as event;
-ghost use Rattle.jc_world.specs.Events.{fits, Happens};
+ghost use Rattle.jc_world.specs.Fits.{fits};
+ghost use Rattle.jc_world.specs.Events.{Happens};
 ghost use Rattle.jc_world.specs.Sound.{IsSoundWorld};
 
 use crate::calls::look;

@@ -5,7 +5,8 @@ ghost use Rattle.jc_model.specs.Cache.{entry_at};
 ghost use Rattle.jc_world.specs.declared.event.WorldEvent.TheVariants as event;
 ghost use Rattle.jc_world.specs.declared.event.Part.{Part};
 ghost use Rattle.jc_world.specs.World.{has_progress, part_of, waits_for_process};
-ghost use Rattle.jc_world.specs.Events.{fits, after_process, run_result, shown_process, Happens};
+ghost use Rattle.jc_world.specs.Fits.{fits};
+ghost use Rattle.jc_world.specs.Events.{after_process, run_result, shown_process, Happens};
 
 use crate::event::Shown;
 use crate::held_keys::process;

@@ -1,7 +1,0 @@
-use Rattle.std.proofs.Common.{ap, sym, ◌∙◌}
-use Rattle.jc_world.specs.OpenCalls.{first_open}
-use Rattle.jc_world.proofs.Tasks.{first_each}
-use Rattle.jc_world.proofs.open_call.at_each.Goals as goal
-
-pub returns-clause-placed : goal.returns-clause-placed
-returns-clause-placed c = sym (ap first_open c.in_ok-put_each.ensures.ops ∙ first_each c.args.op.now c.as_slice.result.now)

@@ -1,6 +1,0 @@
-use Rattle.std.proofs.Common.{◌≡◌, take}
-use Rattle.jc_world.specs.Calls.{at_each}
-use Rattle.jc_world.proofs.open_call.put_each.Given as goal
-
-abbrev pub invariant-loop-key : goal.invariant-loop-key
-invariant-loop-key l = l.ops.entries ≡ at_each l.op (take l.key-index l.keys)

@@ -1,7 +1,0 @@
-use Rattle.std.proofs.Common.{ap, sym, ◌∙◌}
-use Rattle.jc_world.specs.OpenCalls.{first_open}
-use Rattle.jc_world.proofs.Tasks.{first_put}
-use Rattle.jc_world.proofs.open_call.puts.Goals as goal
-
-pub returns-clause-placed : goal.returns-clause-placed
-returns-clause-placed c = sym (ap first_open c.in_ok-put_values.ensures ∙ first_put c.args.entries.now.entries)

@@ -1,0 +1,11 @@
+use Rattle.std.proofs.Common.{◌≡◌, ◌==◌, ap, not, subst, sym, ◌∙◌}
+use Rattle.std.specs.List.{list_any}
+use Rattle.jc_world.specs.Calls.{is_open}
+use Rattle.jc_world.specs.OpenCalls.{first_open, tasks_of, IsPlaced}
+use Rattle.jc_world.proofs.TaskLists.{open_within}
+use Rattle.jc_world.proofs.tasks.are_open.Goals as goal
+
+pub returns-in-Many : goal.returns-in-Many
+returns-in-Many c =
+    let at : c.in-Many.first ≡ first_open c.in-Many.ops.entries = subst IsPlaced c.in-Many.is c.requires in
+    (λ i. not (at i == c.len.ensures.len i)) ∙ sym (open_within c.in-Many.ops.entries) ∙ ap (λ t. list_any is_open (tasks_of t)) (sym c.in-Many.is)

@@ -1,0 +1,16 @@
+use Rattle.std.proofs.Common.{◌∙◌, ◌++◌, ◌∷◌, [], take, sym, ap, append_assoc}
+use Rattle.jc_world.specs.Events.{reported_keys}
+use Rattle.jc_world.specs.Calls.{Task, open_in}
+use Rattle.jc_world.specs.Held.{parts_of}
+use Rattle.jc_world.proofs.Reported.{reported_more}
+use Rattle.jc_world.proofs.tasks.push_each.Goals as goal
+
+pub loop-place-preserved : goal.loop-place-preserved
+loop-place-preserved c =
+    let parts = parts_of c.args.held.now in
+    let entries = c.args.ops.now.entries in
+    let task : Task = (c.in-Some.key.now, c.in-Some.op.now) in
+    c.in_ok-push_reported-in-Some.ensures
+    ∙ ap (λ xs. xs ++ reported_keys parts c.args.call (open_in (task ∷ []))) c.loop-place.invariant
+    ∙ append_assoc c.args.reported.now.items (reported_keys parts c.args.call (open_in (take c.loop-place.place entries))) (reported_keys parts c.args.call (open_in (task ∷ [])))
+    ∙ ap (λ xs. c.args.reported.now.items ++ xs) (sym (reported_more parts c.args.call entries c.loop-place.place task (sym c.in-Some.ensures.entry)))

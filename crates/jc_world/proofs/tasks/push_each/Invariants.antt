@@ -1,0 +1,8 @@
+use Rattle.std.proofs.Common.{◌≡◌, ◌++◌, take}
+use Rattle.jc_world.specs.Events.{reported_keys}
+use Rattle.jc_world.specs.Calls.{open_in}
+use Rattle.jc_world.specs.Held.{parts_of}
+use Rattle.jc_world.proofs.tasks.push_each.Given as goal
+
+abbrev pub invariant-loop-place : goal.invariant-loop-place
+invariant-loop-place l = l.reported.items ≡ l.fn.reported.items ++ reported_keys (parts_of l.held) l.call (open_in (take l.place l.ops.entries))

@@ -1,0 +1,6 @@
+use Rattle.std.proofs.Common.{◌≡◌, ◌++◌, take}
+use Rattle.jc_world.specs.Calls.{open_in}
+use Rattle.jc_world.proofs.tasks.put_open_among.Given as goal
+
+abbrev pub invariant-loop-place : goal.invariant-loop-place
+invariant-loop-place l = l.keys.items ≡ l.fn.keys.items ++ open_in (take l.place l.ops.entries)

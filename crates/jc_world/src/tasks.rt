@@ -1,0 +1,370 @@
+//! What a call does at its keys, and which of them are open.
+ghost use Rattle.std.specs.Prelude.{◌≡◌, ◌==◌, ◌+◌, ◌≤◌, ◌<◌, ◌++◌, ◌∷◌, [], not, true, Some, None, is_some, drop, length, option_copied};
+ghost use Rattle.std.specs.Prelude.{slice_get, OnErr, OnOk, IfOk};
+ghost use Rattle.std.specs.List.{list_all, list_any, IsDistinct};
+ghost use Rattle.std.specs.Map.{lookup, set_value};
+ghost use Rattle.std.specs.Cmp.Lexicographic.{pointwise};
+ghost use Rattle.jc_world.specs.Calls.{at_each, put_each_of, tasks, op_in, is_open, open_in, sweep_of};
+ghost use Rattle.jc_world.specs.OpenCalls.{tasks_of, first_open, are_new, IsPlaced, IsMany, IsSwept};
+ghost use Rattle.indexmap.specs.IndexMap.{spare};
+ghost use Rattle.jc_world.specs.World.{is_free_of};
+ghost use Rattle.jc_world.specs.Fits.{waits_in};
+ghost use Rattle.jc_world.specs.Events.{reported_keys};
+ghost use Rattle.jc_world.specs.Held.{parts_of};
+
+use crate::command::Command;
+use crate::held_keys::{HeldKeys, held_by, reported_key, waits_for_report};
+use crate::joining::has_joined;
+use crate::reports::ReportedKey;
+use indexmap::{IndexMap, IndexSet};
+use jc_model::{Change, Op};
+use jc_stripe::Join;
+use jc_types::{Key, Value};
+use std::alloc::{AllocError, Global};
+
+/// What a call does at its keys, in the order of its command. At a key that is settled it does nothing more.
+#[derive(Drop)]
+pub(crate) enum Tasks {
+    /// At one key. This takes no memory.
+    One {
+        key: Key,
+        op: Option<Op>,
+    },
+    /// At each of many keys, with the place of the first one that is open: their number, if none is.
+    Many {
+        ops: IndexMap<Key, Option<Op>>,
+        first: usize,
+    },
+}
+
+/// What a command does, at keys that are all open.
+pub(crate) fn tasks_for(alloc: Global, command: &Command) -> Result<Tasks, AllocError>
+    ensures tasks { IfOk result (λ t. tasks_of t ≡ tasks command.now) }
+    ensures placed { IfOk result (λ t. IsPlaced t) }
+    ensures swept { IfOk result (λ t. IsSwept (sweep_of command.now) t) }
+{
+    match command {
+        Command::Single { op, key } => Ok(Tasks::One {
+            key: *key,
+            op: Some(*op),
+        }),
+        Command::GetAll { keys } => at_each(alloc, keys, &Op::Get),
+        Command::PutAll { entries } => puts(alloc, entries),
+        Command::RemoveAll { keys } => at_each(alloc, keys, &Op::Remove),
+        Command::RemoveEvery | Command::Clear => Ok(Tasks::Many {
+            ops: IndexMap::new(alloc),
+            first: 0,
+        }),
+        Command::LoadAll { replace, keys } => {
+            at_each(alloc, keys, &Op::LoadAll { replace: *replace })
+        }
+        Command::InvokeAll { keys } => at_each(alloc, keys, &Op::Invoke),
+    }
+}
+
+/// One operation at each of some keys.
+fn at_each(alloc: Global, keys: &IndexSet<Key>, op: &Op) -> Result<Tasks, AllocError>
+    ensures tasks { IfOk result (λ t. tasks_of t ≡ at_each op.now keys.now.keys) }
+    ensures placed { IfOk result (λ t. IsPlaced t) }
+{
+    let mut ops = IndexMap::with_capacity(alloc, keys.len())?;
+    put_each(&mut ops, keys.as_slice(), op)?;
+    Ok(Tasks::Many { ops, first: 0 })
+}
+
+fn put_each(ops: &mut IndexMap<Key, Option<Op>>, keys: &[Key], op: &Op) -> Result<(), AllocError>
+    requires empty { ops.old.entries ≡ [] }
+    requires distinct { IsDistinct (pointwise ◌==◌) keys.now }
+    ensures ops { OnOk result (ops.new.entries ≡ at_each op.now keys.now) }
+{
+    for key in keys {
+        ops.insert(*key, Some(*op))?;
+    }
+    Ok(())
+}
+
+/// A `Put` of each of some entries.
+fn puts(alloc: Global, entries: &IndexMap<Key, Value>) -> Result<Tasks, AllocError>
+    ensures tasks { IfOk result (λ t. tasks_of t ≡ put_each_of entries.now.entries) }
+    ensures placed { IfOk result (λ t. IsPlaced t) }
+{
+    let mut ops = IndexMap::with_capacity(alloc, entries.len())?;
+    put_values(&mut ops, entries)?;
+    Ok(Tasks::Many { ops, first: 0 })
+}
+
+fn put_values(
+    ops: &mut IndexMap<Key, Option<Op>>,
+    entries: &IndexMap<Key, Value>,
+) -> Result<(), AllocError>
+    requires { ops.old.entries ≡ [] }
+    ensures { OnOk result (ops.new.entries ≡ put_each_of entries.now.entries) }
+{
+    for place in 0..entries.len() {
+        match entries.get_index(place) {
+            Some((key, value)) => {
+                ops.insert(*key, Some(Op::Put(*value)))?;
+            }
+            None => unreachable!(),
+        }
+    }
+    Ok(())
+}
+
+/// The first key that is open.
+pub(crate) fn first_key(tasks: &Tasks) -> Option<&Key>
+    requires { IsPlaced tasks.now }
+    ensures { option_copied result ≡ slice_get (open_in (tasks_of tasks.now)) 0 }
+{
+    match tasks {
+        Tasks::One { key, op } => if op.is_some() { Some(key) } else { None },
+        Tasks::Many { ops, first } => match ops.get_index(*first) {
+            Some((key, _op)) => Some(key),
+            None => None,
+        },
+    }
+}
+
+/// The one key, if it is open.
+#[tactic(auto, using(crate::proofs::TaskLists::one_distinct))]
+pub(crate) fn put_if_open(key: &Key, op: &Option<Op>, keys: &mut Vec<Key>) -> Result<(), AllocError>
+    ensures keys { OnOk result (
+        keys.new.items ≡ keys.old.items ++ open_in ((key.now, op.now) ∷ [])) }
+    ensures distinct { IsDistinct (pointwise ◌==◌) (open_in ((key.now, op.now) ∷ [])) }
+{
+    if op.is_some() {
+        keys.push(*key)?;
+    }
+    Ok(())
+}
+
+/// The keys that are open.
+pub(crate) fn put_open_among(
+    ops: &IndexMap<Key, Option<Op>>,
+    keys: &mut Vec<Key>,
+) -> Result<(), AllocError>
+    ensures keys { OnOk result (keys.new.items ≡ keys.old.items ++ open_in ops.now.entries) }
+    ensures distinct { IsDistinct (pointwise ◌==◌) (open_in ops.now.entries) }
+{
+    for place in 0..ops.len() {
+        match ops.get_index(place) {
+            Some((key, op)) => {
+                if op.is_some() {
+                    keys.push(*key)?;
+                }
+            }
+            None => unreachable!(),
+        }
+    }
+    Ok(())
+}
+
+/// What is done at a key, if it is open.
+pub(crate) fn op_among<'a>(ops: &'a IndexMap<Key, Option<Op>>, key: &Key) -> Option<&'a Op>
+    ensures { option_copied result ≡ op_in ops.now.entries key.now }
+{
+    match ops.get(key) {
+        Some(op) => op.as_ref(),
+        None => None,
+    }
+}
+
+/// Whether a key is open.
+fn is_open_among(ops: &IndexMap<Key, Option<Op>>, key: &Key) -> bool
+    ensures { result ≡ is_some (op_in ops.now.entries key.now) }
+{
+    op_among(ops, key).is_some()
+}
+
+/// Whether a call has neither a reservation nor a join of a key.
+pub(crate) fn is_free_at(call: u64, key: &Key, held: &HeldKeys, joins: &[Join]) -> bool
+    ensures { result ≡ is_free_of (parts_of held.now) joins.now call key.now }
+{
+    held_by(held, call, key).is_none() && !has_joined(joins, call, key)
+}
+
+/// The same of each key that is open.
+pub(crate) fn are_free(
+    call: u64,
+    ops: &IndexMap<Key, Option<Op>>,
+    held: &HeldKeys,
+    joins: &[Join],
+) -> bool
+    ensures { result ≡ list_all (is_free_of (parts_of held.now) joins.now call) (open_in ops.now.entries) }
+{
+    for place in 0..ops.len() {
+        match ops.get_index(place) {
+            Some((key, op)) => {
+                if op.is_some() && !is_free_at(call, key, held, joins) {
+                    return false;
+                }
+            }
+            None => unreachable!(),
+        }
+    }
+    true
+}
+
+/// Whether no open key is asked of the writer, which hasn't returned for it.
+pub(crate) fn none_waits(call: u64, ops: &IndexMap<Key, Option<Op>>, held: &HeldKeys) -> bool
+    ensures { result ≡
+        list_all (λ key. not (waits_in (parts_of held.now) call key)) (open_in ops.now.entries) }
+{
+    for place in 0..ops.len() {
+        match ops.get_index(place) {
+            Some((key, op)) => {
+                if op.is_some() && waits_for_report(held, call, key) {
+                    return false;
+                }
+            }
+            None => unreachable!(),
+        }
+    }
+    true
+}
+
+/// Appends what a return of the writer shows of a key, if the key is open and the writer returns for it.
+pub(crate) fn push_reported(
+    reported: &mut Vec<ReportedKey>,
+    call: u64,
+    key: &Key,
+    op: &Option<Op>,
+    held: &HeldKeys,
+) -> Result<(), AllocError>
+    ensures { OnOk result (reported.new.items ≡ reported.old.items
+        ++ reported_keys (parts_of held.now) call (open_in ((key.now, op.now) ∷ []))) }
+{
+    let _types: Option<(Change, Value)> = None;
+    if op.is_some() {
+        if let Some(one) = reported_key(held, call, key) {
+            reported.push(one)?;
+        }
+    }
+    Ok(())
+}
+
+/// The same of each key.
+pub(crate) fn push_each(
+    reported: &mut Vec<ReportedKey>,
+    call: u64,
+    ops: &IndexMap<Key, Option<Op>>,
+    held: &HeldKeys,
+) -> Result<(), AllocError>
+    ensures { OnOk result (reported.new.items ≡ reported.old.items
+        ++ reported_keys (parts_of held.now) call (open_in ops.now.entries)) }
+{
+    for place in 0..ops.len() {
+        match ops.get_index(place) {
+            Some((key, op)) => push_reported(reported, call, key, op, held)?,
+            None => unreachable!(),
+        }
+    }
+    Ok(())
+}
+
+/// Adds an operation at each of some new keys.
+#[tactic(auto, using(crate::proofs::Found::first_found))]
+pub(crate) fn take_keys(tasks: &mut Tasks, keys: &[Key], op: &Op) -> Result<(), AllocError>
+    requires placed { IsPlaced tasks.old }
+    requires many { IsMany tasks.old }
+    requires new { are_new (tasks_of tasks.old) keys.now ≡ true }
+    requires distinct { IsDistinct (pointwise ◌==◌) keys.now }
+    ensures ok { OnOk result (tasks_of tasks.new ≡ tasks_of tasks.old ++ at_each op.now keys.now) }
+    ensures err { OnErr result (tasks_of tasks.new ≡ tasks_of tasks.old) }
+    ensures placed { IsPlaced tasks.new }
+    ensures many { IsMany tasks.new }
+{
+    match tasks {
+        Tasks::One { key: _, op: _ } => unreachable!(),
+        Tasks::Many { ops, first: _ } => {
+            ops.reserve(keys.len())?;
+            add_each(ops, keys, op);
+            Ok(())
+        }
+    }
+}
+
+/// Adds an operation at each of some new keys, for which there is room.
+fn add_each(ops: &mut IndexMap<Key, Option<Op>>, keys: &[Key], op: &Op)
+    requires room { length keys.now ≤ spare ops.old }
+    requires new { are_new ops.old.entries keys.now ≡ true }
+    requires distinct { IsDistinct (pointwise ◌==◌) keys.now }
+    ensures { ops.new.entries ≡ ops.old.entries ++ at_each op.now keys.now }
+{
+    for key in keys {
+        add_one(ops, key, op);
+    }
+}
+
+/// Adds an operation at a new key, for which there is room.
+fn add_one(ops: &mut IndexMap<Key, Option<Op>>, key: &Key, op: &Op)
+    requires room { 0 < spare ops.old }
+    requires new { lookup (pointwise ◌==◌ key.now) ops.old.entries ≡ None }
+    ensures ops { ops.new.entries ≡ ops.old.entries ++ (key.now, Some op.now) ∷ [] }
+    ensures room { spare ops.old ≤ spare ops.new + 1 }
+{
+    match ops.insert(*key, Some(*op)) {
+        Ok(_former) => {}
+        Err(_failed) => unreachable!(),
+    }
+}
+
+/// A key is settled.
+pub(crate) fn settle_at(tasks: &mut Tasks, key: &Key)
+    requires placed { IsPlaced tasks.old }
+    ensures tasks { tasks_of tasks.new ≡ set_value (pointwise ◌==◌ key.now) (tasks_of tasks.old) None }
+    ensures placed { IsPlaced tasks.new }
+    ensures many { IsMany tasks.old → IsMany tasks.new }
+{
+    match tasks {
+        Tasks::One { key: own, op } => {
+            if *key == *own {
+                *op = None;
+            }
+        }
+        Tasks::Many { ops, first } => settle_among(ops, first, key),
+    }
+}
+
+fn settle_among(ops: &mut IndexMap<Key, Option<Op>>, first: &mut usize, key: &Key)
+    requires placed { first.old ≡ first_open ops.old.entries }
+    ensures ops { ops.new.entries ≡ set_value (pointwise ◌==◌ key.now) ops.old.entries None }
+    ensures placed { first.new ≡ first_open ops.new.entries }
+{
+    if !is_open_among(ops, key) {
+        return;
+    }
+    match ops.insert(*key, None) {
+        Ok(_op) => *first = first_from(ops, *first),
+        Err(_failed) => unreachable!(),
+    }
+}
+
+/// The place of the first key that is open, from a place on: the number of keys, if none is.
+fn first_from(ops: &IndexMap<Key, Option<Op>>, from: usize) -> usize
+    requires { from ≤ length ops.now.entries }
+    ensures { result ≡ from + first_open (drop from ops.now.entries) }
+{
+    for place in from..ops.len() {
+        match ops.get_index(place) {
+            Some((_key, op)) => {
+                if op.is_some() {
+                    return place;
+                }
+            }
+            None => unreachable!(),
+        }
+    }
+    ops.len()
+}
+
+/// Whether a key is open.
+pub(crate) fn are_open(tasks: &Tasks) -> bool
+    requires { IsPlaced tasks.now }
+    ensures { result ≡ list_any is_open (tasks_of tasks.now) }
+{
+    match tasks {
+        Tasks::One { key: _, op } => op.is_some(),
+        Tasks::Many { ops, first } => *first != ops.len(),
+    }
+}
