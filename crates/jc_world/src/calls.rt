@@ -20,7 +20,21 @@ use std::alloc::{AllocError, Global};
 fn is_single(op: &Op) -> bool
     ensures { result ≡ is_single op.now }
 {
-    !matches!(op, Op::Clear | Op::LoadAll { .. })
+    match op {
+        Op::Get
+        | Op::ContainsKey
+        | Op::Put(_)
+        | Op::GetAndPut(_)
+        | Op::PutIfAbsent(_)
+        | Op::Remove
+        | Op::RemoveIf(_)
+        | Op::GetAndRemove
+        | Op::Replace(_)
+        | Op::ReplaceIf { .. }
+        | Op::GetAndReplace(_)
+        | Op::Invoke => true,
+        Op::Clear | Op::LoadAll { .. } => false,
+    }
 }
 
 /// Whether a command is played: one operation that is a call by itself, or one on many keys, but for `loadAll`.
