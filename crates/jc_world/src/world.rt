@@ -63,7 +63,7 @@ impl World {
         }
     }
 
-    /// Gives the store a value, before anything has happened. Where memory is refused nothing changes.
+    /// Gives the store a value, before anything has happened. If an allocation fails, nothing changes.
     ///
     /// Conditions: the world is fresh, as [`is_fresh`](World::is_fresh) says.
     pub fn set(&mut self, key: &Key, value: &Value) -> Result<(), AllocError>
@@ -168,8 +168,11 @@ impl World {
         self.machine.open_call(call)
     }
 
-    /// The last call of many keys that is over, with its cause: it has left or was refused whole if it isn't this one. Asked once its
-    /// last event was played, that call is this one.
+    /// The last call of many keys that has ended with a reply or a last refusal for each of its keys, and its cause: the first fault,
+    /// or refusal that isn't put off, that it has met.
+    ///
+    /// `None` if there is no such call. A call that leaves, or is refused whole, isn't one. So to learn how a call ended, ask directly
+    /// after its last event: if the answer isn't about this call, it has left or was refused whole.
     pub fn over(&self) -> Option<Over>
         ensures { result ≡ self.now.world.ends.over }
     {
