@@ -12,7 +12,9 @@ use Rattle.jc_stripe.specs.Refusals.{reserves}
 use Rattle.jc_stripe.specs.Phases.{MayBegin, Begins, Commits, Withdraws, PicksUp}
 use Rattle.jc_stripe.specs.declared.begun.Picked.{Picked}
 use Rattle.jc_stripe.specs.declared.begun.Picked.TheVariants as picked
+use Rattle.jc_stripe.specs.declared.begun.Begun.{Begun}
 use Rattle.jc_stripe.specs.declared.begun.Begun.TheVariants as begun
+use Rattle.jc_stripe.specs.declared.ticket.Reservation.{Reservation}
 use Rattle.jc_stripe.specs.declared.begun.StepDone.{StepDone}
 use Rattle.jc_stripe.specs.declared.ticket.First.{First}
 use Rattle.jc_stripe.specs.declared.ticket.First.TheVariants.{Nobody, Loader, Writer, Processor}
@@ -21,6 +23,7 @@ use Rattle.jc_types.specs.declared.config.Config.{Config}
 use Rattle.jc_types.specs.declared.refusal.Refusal.{Refusal}
 use Rattle.jc_world.specs.Calls.{CallState, op_at, is_turn, puts_off, settle}
 use Rattle.jc_world.specs.declared.event.Part.{Part}
+use Rattle.jc_world.specs.declared.event.Progress.{Progress}
 use Rattle.jc_world.specs.declared.event.Stepped.{Stepped}
 use Rattle.jc_world.specs.declared.event.PickedUp.{PickedUp}
 use Rattle.jc_world.specs.declared.event.WorldEvent.TheVariants as event
@@ -28,7 +31,7 @@ use Rattle.jc_world.specs.declared.event.Shown.{Shown}
 use Rattle.jc_world.specs.declared.event.Shown.TheVariants as shown
 use Rattle.jc_world.specs.World.{WorldState, Parts, home, stripe_for, open_call, part_of, join_of, joins_without, out_of}
 use Rattle.jc_world.specs.Fits.{fits, is_free, may_start}
-use Rattle.jc_world.specs.Events.{Happens, step_of, new_load, new_write, new_part, BeginsAs, new_process}
+use Rattle.jc_world.specs.Events.{Happens, Starts, RefusesAs, step_of, with_new_part, new_load, new_write, new_part, BeginsAs, new_process}
 use Rattle.jc_world.specs.Sound.{IsHeld, IsSoundWorld, IsWaitedFor, is_due}
 use Rattle.jc_world.specs.World.{is_join}
 use Rattle.jc_world.specs.Turns.{OrderedStripes, IsPhase, IsQuietPhase}
@@ -77,26 +80,26 @@ phased_from v old new number phase stripes order p = record {
 
 -- 3. A first phase.
 
+-- a phase at the stripe of a key
+here : (v : WorldState) (key : Bytes) (number : ℕ) (phase : State → State → Type 0) (stripes : List State) (order : List Event) → number ≡ home v key → Phased v number phase stripes order → Phased v (home v key) phase stripes order
+here v key number phase stripes order home_is p = let P : ℕ → Type 0 = λ n. Phased v n phase stripes order in subst P home_is p
+
+-- what is left is as the first phase's definition says
+started : (v next : WorldState) (call : ℕ) (key : Bytes) (u : CallState) (op : Op) (number : ℕ) (b : Begun) (seen : Shown) (stripes : List State) (order : List Event) → open_call v call ≡ Some u → op_at u key ≡ Some op → number ≡ home v key
+    → Phased v number (BeginsAs u.caller key op b) stripes order
+    → ((q : Phased v (home v key) (BeginsAs u.caller key op b) stripes order) → Starts v u.caller key op q.from q.to seen next × RefusesAs u.kind seen) → Happens v (event.Start call key) seen next
+started v next call key u op number b seen stripes order is op_is home_is p by =
+    let q = here v key number (BeginsAs u.caller key op b) stripes order home_is p in
+    let h = by q in (u, op, is, op_is, q.from, q.at, q.to, h.0, h.1)
+
 pub started_done : (v next : WorldState) (call : ℕ) (key : Bytes) (u : CallState) (op : Op) (number : ℕ) (done : StepDone) (seen : Stepped) (stripes : List State) (order : List Event) → open_call v call ≡ Some u → op_at u key ≡ Some op → number ≡ home v key
     → Phased v number (BeginsAs u.caller key op (begun.Done done)) stripes order → step_of seen ≡ done → seen.stripe ≡ number
     → next ≡ record v { stripes = stripes; order = order; calls = settle u.caller.call key v.calls } → Happens v (event.Start call key) (shown.Stepped seen) next
 started_done v next call key u op number done seen stripes order is op_is home_is p shows stripe_is next_is =
-    let At : ℕ → Type 0 = λ n. slice_get v.stripes n ≡ Some p.from in
-    let B : StepDone → Type 0 = λ d. Begins p.from u.caller key op (begun.Done d) p.to in (
-      u,
-      op,
-      is,
-      op_is,
-      p.from,
-      subst At home_is p.at,
-      p.to,
-      (
-        subst B (sym shows) p.made,
-        stripe_is ∙ home_is,
-        next_is ∙ (λ i. record v { stripes = (p.stripes_are ∙ ap (λ n. slice_set v.stripes n p.to) home_is) i; order = p.order_is i; calls = settle u.caller.call key v.calls }),
-      ),
-      tt,
-    )
+    started v next call key u op number (begun.Done done) (shown.Stepped seen) stripes order is op_is home_is p (λ q.
+    let B : StepDone → Type 0 = λ d. Begins q.from u.caller key op (begun.Done d) q.to in
+    let left = next_is ∙ (λ i. record v { stripes = q.stripes_are i; order = q.order_is i; calls = settle u.caller.call key v.calls }) in
+    ((subst B (sym shows) q.made, stripe_is ∙ home_is, left), tt))
 
 -- a refused call leaves its stripe
 same_set : (xs : List State) (i : ℕ) (x y : State) → slice_get xs i ≡ Some x → y ≡ x → slice_set xs i y ≡ xs
@@ -119,115 +122,53 @@ pub started_refused : (v next : WorldState) (call : ℕ) (key : Bytes) (u : Call
     → calls ≡ cond (puts_off u.kind refusal) v.calls (settle u.caller.call key v.calls)
     → next ≡ record v { stripes = stripes; order = order; calls = calls } → Happens v (event.Start call key) seen next
 started_refused v next call key u op number refusal seen stripes order calls is op_is home_is p shows calls_are next_is =
-    let At : ℕ → Type 0 = λ n. slice_get v.stripes n ≡ Some p.from in
+    started v next call key u op number (begun.Refused refusal) seen stripes order is op_is home_is p (λ q.
     let left : (cs : List CallState) → calls ≡ cs → next ≡ record v { calls = cs } = λ cs e. next_is ∙ (λ i. record v {
-      stripes = (p.stripes_are ∙ same_set v.stripes number p.from p.to p.at p.made.1) i;
-      order = (p.order_is ∙ none_new v.order p.to.history p.from.history (ap (λ (s : State). s.history) p.made.1)) i;
+      stripes = (q.stripes_are ∙ same_set v.stripes (home v key) q.from q.to q.at q.made.1) i;
+      order = (q.order_is ∙ none_new v.order q.to.history q.from.history (ap (λ (s : State). s.history) q.made.1)) i;
       calls = e i;
     }) in
-    elim (puts_off u.kind refusal) as (λ b. puts_off u.kind refusal ≡ b → seen ≡ cond b (shown.PutOff refusal) (shown.Refused refusal) → calls ≡ cond b v.calls (settle u.caller.call key v.calls) → Happens v (event.Start call key) seen next) [
-      | true ↦ λ e s c. subst (λ x. Happens v (event.Start call key) x next) (sym s) (u, op, is, op_is, p.from, subst At home_is p.at, p.to, (p.made, left v.calls c), e)
-      | false ↦ λ e s c. subst (λ x. Happens v (event.Start call key) x next) (sym s) (u, op, is, op_is, p.from, subst At home_is p.at, p.to, (p.made, left (settle u.caller.call key v.calls) c), e)
-    ] refl shows calls_are
+    let Goal : Shown → Type 0 = λ x. Starts v u.caller key op q.from q.to x next × RefusesAs u.kind x in
+    elim (puts_off u.kind refusal) as (λ b. puts_off u.kind refusal ≡ b → seen ≡ cond b (shown.PutOff refusal) (shown.Refused refusal) → calls ≡ cond b v.calls (settle u.caller.call key v.calls) → Goal seen) [
+      | true ↦ λ e s c. subst Goal (sym s) ((q.made, left v.calls c), e)
+      | false ↦ λ e s c. subst Goal (sym s) ((q.made, left (settle u.caller.call key v.calls) c), e)
+    ] refl shows calls_are)
+
+-- a key is reserved, and its stripe appends nothing
+reserved : (v next : WorldState) (key : Bytes) (phase : State → State → Type 0) (stripes : List State) (order : List Event) (parts : Parts) (progress : Progress) (r : Reservation) (q : Phased v (home v key) phase stripes order) → q.to.history ≡ q.from.history
+    → parts ≡ insert v.parts key (new_part progress r) → next ≡ record v { stripes = stripes; order = order; parts = parts } → next ≡ with_new_part v key q.to progress r
+reserved v next key phase stripes order parts progress r q same parts_are next_is =
+    next_is ∙ (λ i. record v { stripes = q.stripes_are i; order = (q.order_is ∙ none_new v.order q.to.history q.from.history same) i; parts = parts_are i })
 
 pub started_loads : (v next : WorldState) (call : ℕ) (key : Bytes) (u : CallState) (op : Op) (number : ℕ) (ticket : Ticket) (stripes : List State) (order : List Event) (parts : Parts) → open_call v call ≡ Some u → op_at u key ≡ Some op → number ≡ home v key
     → Phased v number (BeginsAs u.caller key op (begun.Load ticket)) stripes order → parts ≡ insert v.parts key (new_part new_load ticket.reservation)
     → next ≡ record v { stripes = stripes; order = order; parts = parts } → Happens v (event.Start call key) shown.Loads next
 started_loads v next call key u op number ticket stripes order parts is op_is home_is p parts_are next_is =
-    let At : ℕ → Type 0 = λ n. slice_get v.stripes n ≡ Some p.from in (
-      u,
-      op,
-      is,
-      op_is,
-      p.from,
-      subst At home_is p.at,
-      p.to,
-      (
-        ticket,
-        p.made,
-        next_is ∙ (λ i. record v {
-          stripes = (p.stripes_are ∙ ap (λ n. slice_set v.stripes n p.to) home_is) i;
-          order = (p.order_is ∙ none_new v.order p.to.history p.from.history (ap (λ (s : State). s.history) p.made.4)) i;
-          parts = parts_are i;
-        }),
-      ),
-      tt,
-    )
+    started v next call key u op number (begun.Load ticket) shown.Loads stripes order is op_is home_is p (λ q.
+    ((ticket, q.made, reserved v next key _ stripes order parts new_load ticket.reservation q (ap (λ (s : State). s.history) q.made.4) parts_are next_is), tt))
 
 -- a call has joined a load
 pub started_joins : (v next : WorldState) (call : ℕ) (key : Bytes) (u : CallState) (op : Op) (number : ℕ) (join : JoinClaim) (stripes : List State) (order : List Event) (joins : List JoinClaim) → open_call v call ≡ Some u → op_at u key ≡ Some op → number ≡ home v key
     → Phased v number (BeginsAs u.caller key op (begun.Joined join)) stripes order → joins ≡ v.joins ++ join ∷ []
     → next ≡ record v { stripes = stripes; order = order; joins = joins } → Happens v (event.Start call key) shown.Joins next
 started_joins v next call key u op number join stripes order joins is op_is home_is p joins_are next_is =
-    let At : ℕ → Type 0 = λ n. slice_get v.stripes n ≡ Some p.from in (
-      u,
-      op,
-      is,
-      op_is,
-      p.from,
-      subst At home_is p.at,
-      p.to,
-      (
-        join,
-        p.made,
-        next_is ∙ (λ i. record v {
-          stripes = (p.stripes_are ∙ ap (λ n. slice_set v.stripes n p.to) home_is) i;
-          order = (p.order_is ∙ none_new v.order p.to.history p.from.history (ap (λ (s : State). s.history) p.made.3)) i;
-          joins = joins_are i;
-        }),
-      ),
-      tt,
-    )
+    started v next call key u op number (begun.Joined join) shown.Joins stripes order is op_is home_is p (λ q.
+    let quiet = q.order_is ∙ none_new v.order q.to.history q.from.history (ap (λ (s : State). s.history) q.made.3) in
+    ((join, q.made, next_is ∙ (λ i. record v { stripes = q.stripes_are i; order = quiet i; joins = joins_are i })), tt))
 
 pub started_asks : (v next : WorldState) (call : ℕ) (key : Bytes) (u : CallState) (op : Op) (number : ℕ) (ticket : Ticket) (change : Change) (stripes : List State) (order : List Event) (parts : Parts) → open_call v call ≡ Some u → op_at u key ≡ Some op → number ≡ home v key
     → Phased v number (BeginsAs u.caller key op (begun.Write ticket)) stripes order → ticket.reservation.first ≡ Writer change → parts ≡ insert v.parts key (new_part new_write ticket.reservation)
     → next ≡ record v { stripes = stripes; order = order; parts = parts } → Happens v (event.Start call key) (shown.Asks change) next
 started_asks v next call key u op number ticket change stripes order parts is op_is home_is p first parts_are next_is =
-    let At : ℕ → Type 0 = λ n. slice_get v.stripes n ≡ Some p.from in (
-      u,
-      op,
-      is,
-      op_is,
-      p.from,
-      subst At home_is p.at,
-      p.to,
-      (
-        ticket,
-        p.made,
-        first,
-        next_is ∙ (λ i. record v {
-          stripes = (p.stripes_are ∙ ap (λ n. slice_set v.stripes n p.to) home_is) i;
-          order = (p.order_is ∙ none_new v.order p.to.history p.from.history (ap (λ (s : State). s.history) p.made.4)) i;
-          parts = parts_are i;
-        }),
-      ),
-      tt,
-    )
+    started v next call key u op number (begun.Write ticket) (shown.Asks change) stripes order is op_is home_is p (λ q.
+    ((ticket, q.made, first, reserved v next key _ stripes order parts new_write ticket.reservation q (ap (λ (s : State). s.history) q.made.4) parts_are next_is), tt))
 
 pub started_processes : (v next : WorldState) (call : ℕ) (key : Bytes) (u : CallState) (op : Op) (number : ℕ) (ticket : ProcessClaim) (entry : Option Bytes) (stripes : List State) (order : List Event) (parts : Parts) → open_call v call ≡ Some u → op_at u key ≡ Some op → number ≡ home v key
     → Phased v number (BeginsAs u.caller key op (begun.Process ticket)) stripes order → entry ≡ entry_seen ticket.reservation.first → parts ≡ insert v.parts key (new_part new_process ticket.reservation)
     → next ≡ record v { stripes = stripes; order = order; parts = parts } → Happens v (event.Start call key) (shown.Processes entry) next
 started_processes v next call key u op number ticket entry stripes order parts is op_is home_is p entry_is parts_are next_is =
-    let At : ℕ → Type 0 = λ n. slice_get v.stripes n ≡ Some p.from in (
-      u,
-      op,
-      is,
-      op_is,
-      p.from,
-      subst At home_is p.at,
-      p.to,
-      (
-        ticket,
-        p.made,
-        entry_is,
-        next_is ∙ (λ i. record v {
-          stripes = (p.stripes_are ∙ ap (λ n. slice_set v.stripes n p.to) home_is) i;
-          order = (p.order_is ∙ none_new v.order p.to.history p.from.history (ap (λ (s : State). s.history) p.made.4)) i;
-          parts = parts_are i;
-        }),
-      ),
-      tt,
-    )
+    started v next call key u op number (begun.Process ticket) (shown.Processes entry) stripes order is op_is home_is p (λ q.
+    ((ticket, q.made, entry_is, reserved v next key _ stripes order parts new_process ticket.reservation q (ap (λ (s : State). s.history) q.made.4) parts_are next_is), tt))
 
 -- a key for which a ticket is given has no part yet
 pub free_load : (v : WorldState) (u : CallState) (key : Bytes) (op : Op) (number : ℕ) (ticket : Ticket) (stripes : List State) (order : List Event) → number ≡ home v key → Phased v number (BeginsAs u.caller key op (begun.Load ticket)) stripes order → IsSoundWorld v
@@ -275,19 +216,10 @@ pub ended : (v next : WorldState) (call : ℕ) (key : Bytes) (part : Part) (numb
     → Phased v number (CommitsAs part done) stripes order → step_of seen ≡ done → seen.stripe ≡ number → parts ≡ remove v.parts key
     → next ≡ record v { stripes = stripes; order = order; calls = settle call key v.calls; parts = parts } → Happens v (event.Commit call key) (shown.Stepped seen) next
 ended v next call key part number done seen stripes order parts is home_is p shows stripe_is parts_are next_is =
-    let At : ℕ → Type 0 = λ n. slice_get v.stripes n ≡ Some p.from in
-    let B : StepDone → Type 0 = λ d. Commits p.from part.reservation (out_of part) d p.to in (
-      part,
-      is,
-      p.from,
-      subst At home_is p.at,
-      p.to,
-      (
-        subst B (sym shows) p.made,
-        stripe_is ∙ home_is,
-        next_is ∙ (λ i. record v { stripes = (p.stripes_are ∙ ap (λ n. slice_set v.stripes n p.to) home_is) i; order = p.order_is i; calls = settle call key v.calls; parts = parts_are i }),
-      ),
-    )
+    let q = here v key number (CommitsAs part done) stripes order home_is p in
+    let B : StepDone → Type 0 = λ d. Commits q.from part.reservation (out_of part) d q.to in
+    let left = next_is ∙ (λ i. record v { stripes = q.stripes_are i; order = q.order_is i; calls = settle call key v.calls; parts = parts_are i }) in
+    (part, is, q.from, q.at, q.to, (subst B (sym shows) q.made, stripe_is ∙ home_is, left))
 
 -- what a commit needs of the stripe
 pub may_end_at : (v : WorldState) (call : ℕ) (key : Bytes) (part : Part) (number : ℕ) → part_of v call key ≡ Some part → number ≡ home v key → IsSoundWorld v
@@ -323,6 +255,10 @@ changed_from v old new number phase stripes p = record {
   stripes_are = p.stripes_are ∙ ap (λ ss. slice_set ss number p.to) stripes;
 }
 
+-- the same at the stripe of a key
+changed_here : (v : WorldState) (key : Bytes) (number : ℕ) (phase : State → State → Type 0) (stripes : List State) → number ≡ home v key → Changed v number phase stripes → Changed v (home v key) phase stripes
+changed_here v key number phase stripes home_is p = let P : ℕ → Type 0 = λ n. Changed v n phase stripes in subst P home_is p
+
 -- what it needs of the stripe
 pub may_withdraw_at : (v : WorldState) (call : ℕ) (key : Bytes) (part : Part) (number : ℕ) → part_of v call key ≡ Some part → number ≡ home v key → IsSoundWorld v → IsSomeAnd (slice_get v.stripes number) (λ s. IsOut s part.reservation)
 may_withdraw_at v call key part number is home_is sound =
@@ -337,16 +273,8 @@ pub withdrawn_at : (v next : WorldState) (call : ℕ) (key : Bytes) (part : Part
     → Changed v number (λ from to. Withdraws from part.reservation to) stripes → parts ≡ remove v.parts key
     → next ≡ record v { stripes = stripes; parts = parts } → Happens v (event.Withdraw call key) shown.Withdrawn next
 withdrawn_at v next call key part number stripes parts is home_is p parts_are next_is =
-    let At : ℕ → Type 0 = λ n. slice_get v.stripes n ≡ Some p.from in (
-      part,
-      is,
-      p.from,
-      subst At home_is p.at,
-      p.to,
-      p.made,
-      refl,
-      next_is ∙ (λ i. record v { stripes = (p.stripes_are ∙ ap (λ n. slice_set v.stripes n p.to) home_is) i; parts = parts_are i }),
-    )
+    let q = changed_here v key number (λ from to. Withdraws from part.reservation to) stripes home_is p in
+    (part, is, q.from, q.at, q.to, q.made, refl, next_is ∙ (λ i. record v { stripes = q.stripes_are i; parts = parts_are i }))
 
 -- 6. An answer that is picked up.
 
@@ -367,44 +295,24 @@ pub picked_answer : (v next : WorldState) (call : ℕ) (key : Bytes) (join : Joi
     → Changed v number (PicksAs join (picked.Answer seen.reply seen.place seen.shared)) stripes
     → next ≡ record v { stripes = stripes; joins = joins_without call key v.joins; calls = settle call key v.calls } → Happens v (event.PickUp call key) (shown.PickedUp seen) next
 picked_answer v next call key join number seen stripes is home_is stripe_is p next_is =
-    let At : ℕ → Type 0 = λ n. slice_get v.stripes n ≡ Some p.from in (
-      join,
-      is,
-      p.from,
-      subst At home_is p.at,
-      p.to,
-      (
-        p.made,
-        stripe_is ∙ home_is,
-        next_is ∙ (λ i. record v { stripes = (p.stripes_are ∙ ap (λ n. slice_set v.stripes n p.to) home_is) i; joins = joins_without call key v.joins; calls = settle call key v.calls }),
-      ),
-    )
+    let q = changed_here v key number (PicksAs join (picked.Answer seen.reply seen.place seen.shared)) stripes home_is p in
+    let left = next_is ∙ (λ i. record v { stripes = q.stripes_are i; joins = joins_without call key v.joins; calls = settle call key v.calls }) in
+    (join, is, q.from, q.at, q.to, (q.made, stripe_is ∙ home_is, left))
 
 -- the load was withdrawn
 pub picked_again : (v next : WorldState) (call : ℕ) (key : Bytes) (join : JoinClaim) (number : ℕ) (stripes : List State) → join_of v call key ≡ Some join → number ≡ home v key
     → Changed v number (PicksAs join picked.Again) stripes
     → next ≡ record v { stripes = stripes; joins = joins_without call key v.joins } → Happens v (event.PickUp call key) shown.Again next
 picked_again v next call key join number stripes is home_is p next_is =
-    let At : ℕ → Type 0 = λ n. slice_get v.stripes n ≡ Some p.from in (
-      join,
-      is,
-      p.from,
-      subst At home_is p.at,
-      p.to,
-      (p.made, next_is ∙ (λ i. record v { stripes = (p.stripes_are ∙ ap (λ n. slice_set v.stripes n p.to) home_is) i; joins = joins_without call key v.joins })),
-    )
+    let q = changed_here v key number (PicksAs join picked.Again) stripes home_is p in
+    (join, is, q.from, q.at, q.to, (q.made, next_is ∙ (λ i. record v { stripes = q.stripes_are i; joins = joins_without call key v.joins })))
 
 -- the load isn't over
 pub picked_nothing : (v next : WorldState) (call : ℕ) (key : Bytes) (join back : JoinClaim) (number : ℕ) (stripes : List State) → join_of v call key ≡ Some join → number ≡ home v key
     → Changed v number (PicksAs join (picked.NotYet back)) stripes
     → next ≡ record v { stripes = stripes } → Happens v (event.PickUp call key) shown.Waits next
 picked_nothing v next call key join back number stripes is home_is p next_is =
-    let At : ℕ → Type 0 = λ n. slice_get v.stripes n ≡ Some p.from in
-    let made : PicksUp p.from join (picked.NotYet join) p.to = (p.made.0, p.made.1, refl, p.made.3) in (
-      join,
-      is,
-      p.from,
-      subst At home_is p.at,
-      p.to,
-      (made, next_is ∙ (λ i. record v { stripes = (p.stripes_are ∙ same_set v.stripes number p.from p.to p.at p.made.3) i })),
-    )
+    let q = changed_here v key number (PicksAs join (picked.NotYet back)) stripes home_is p in
+    let made : PicksUp q.from join (picked.NotYet join) q.to = (q.made.0, q.made.1, refl, q.made.3) in
+    let same = q.stripes_are ∙ same_set v.stripes (home v key) q.from q.to q.at q.made.3 in
+    (join, is, q.from, q.at, q.to, (made, next_is ∙ (λ i. record v { stripes = same i })))
