@@ -644,6 +644,15 @@ held_ended key from next q p left apart h =
     let R : List Reservation → Type 0 = λ rs. find (is_key p.reservation.key) rs ≡ Some p.reservation in
     held_on from next q p (subst R (sym left) (others_out from key q p apart h)) h
 
+-- so are their parts held
+held_removed : (w : WorldState) (key : Bytes) (from next : State) (q : Bytes) (p : Part) → stripe_for w key ≡ Some from → next.reservations ≡ without_key key from.reservations → IsSoundWorld w → get (remove w.parts key) q ≡ Some p
+    → HeldIn (slice_get (slice_set w.stripes (home w key) next) (home w q)) q p
+held_removed w key from next q p at left old e =
+    split q key (λ b. cond b None (get w.parts q) ≡ Some p → HeldIn (slice_get (slice_set w.stripes (home w key) next) (home w q)) q p)
+    (λ same e. cc)
+    (λ apart e. at_stripe w.stripes (home w key) (home w q) from next (λ o x. HeldIn o q p → HeldIn x q p) at (held_ended key from next q p left apart) (λ h. h) (old.held q p e))
+    (sym (get-remove nat_list_cmp_total w.parts key q) ∙ e)
+
 -- the step of a commit
 abbrev EndsBy : Bytes → Part → State → State → StepDone → Type 0
 EndsBy key part from next done = Steps (after_commit from part.reservation done.place) part.reservation.caller key part.reservation.op (out_of part) (callers_of part.reservation.number from.joiners) done next
@@ -676,15 +685,7 @@ parts_committed w call key part from next order done is answered at commits old 
     let left : next.reservations ≡ without_key key from.reservations = ap (λ (s : State). s.reservations) steps.after ∙ ap (λ k. without_key k from.reservations) one.key_is in
     let reached = (old.shape.each (home w key) from at).reached in
     record {
-      held = λ q p e.
-          split q key (λ b. cond b None (get w.parts q) ≡ Some p → HeldIn (stripe_for n q) q p)
-          (λ same e. cc)
-          (λ apart e.
-          at_stripe w.stripes (home w key) (home w q) from next (λ o x. HeldIn o q p → HeldIn x q p) at
-          (held_ended key from next q p left apart)
-          (λ h. h)
-          (old.held q p e))
-          (sym (get-remove nat_list_cmp_total w.parts key q) ∙ e);
+      held = λ q p e. held_removed w key from next q p at left old e;
       told = λ hold q.
           let all = old.told hold in
           let P : Option Part → Type 0 = λ o. KeyAgrees o (entry_at w.store q) (cached_entry n q) in
@@ -741,15 +742,7 @@ parts_withdrawn w call key part from next fit is at withdraws old =
     at_stripe w.stripes (home w key) (home w q) from next (λ o x. entry_in x q ≡ entry_in o q) at (ap (λ c. entry_at c q) cache) refl
     in
     record {
-      held = λ q p e.
-          split q key (λ b. cond b None (get w.parts q) ≡ Some p → HeldIn (stripe_for n q) q p)
-          (λ same e. cc)
-          (λ apart e.
-          at_stripe w.stripes (home w key) (home w q) from next (λ o x. HeldIn o q p → HeldIn x q p) at
-          (held_ended key from next q p left apart)
-          (λ h. h)
-          (old.held q p e))
-          (sym (get-remove nat_list_cmp_total w.parts key q) ∙ e);
+      held = λ q p e. held_removed w key from next q p at left old e;
       told = λ hold q.
           let P : Option Part → Type 0 = λ o. KeyAgrees o (entry_at w.store q) (cached_entry n q) in
           let C : Option Bytes → Type 0 = λ c. KeyAgrees (cond (eq_by_cmp key_cmp q key) None (get w.parts q)) (entry_at w.store q) c in

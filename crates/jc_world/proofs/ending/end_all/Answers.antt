@@ -1,9 +1,9 @@
-use Rattle.std.proofs.Common.{◌≡◌, ◌<◌, Some, List, get_or, slice_set, ℕ, sym, ap, ◌∙◌, subst, arith, vec_len}
+use Rattle.std.proofs.Common.{◌≡◌, ◌<◌, Some, List, get_or, slice_get, slice_set, ℕ, sym, ap, ◌∙◌, subst, arith, vec_len}
 use Rattle.std.specs.FinMap.{get}
 use Rattle.jc_types.specs.declared.config.Config.{Config}
 use Rattle.jc_types.specs.Stripes.{stripe_of}
 use Rattle.jc_model.specs.Cache.{Bytes}
-use Rattle.jc_stripe.specs.State.{State}
+use Rattle.jc_stripe.specs.State.{State, IsOut}
 use Rattle.jc_world.specs.declared.event.Part.{Part}
 use Rattle.jc_world.specs.Ending.{AreLeft, HasHeld, HasJoins}
 use Rattle.jc_world.specs.Sound.{is_due}
@@ -16,6 +16,14 @@ use Rattle.jc_world.proofs.ending.end_all.Goals as goal
 number_is : (config : Config) (ss : List State) (parts : Parts) (key own : Bytes) (part : Part) (number : ℕ) → number ≡ stripe_of own config.stripes → own ≡ part.reservation.key → get parts key ≡ Some part → HasHeld config ss parts
     → number ≡ stripe_of key config.stripes
 number_is config ss parts key own part number is own_is there held = is ∙ ap (λ k. stripe_of k config.stripes) (own_is ∙ key_of config ss parts key part there held)
+
+-- the stripe that is read is the one of that key, and has its reservation
+read_home : (config : Config) (ss : List State) (parts : Parts) (key own : Bytes) (part : Part) (number : ℕ) (s : State) → number ≡ stripe_of own config.stripes → own ≡ part.reservation.key → get parts key ≡ Some part → s ≡ get_or ss number s → AreLeft config ss → HasHeld config ss parts
+    → (slice_get ss (stripe_of key config.stripes) ≡ Some s) × (part.reservation.key ≡ key) × IsOut s part.reservation
+read_home config ss parts key own part number s is own_is there read left held =
+    let home = home_of_key config ss parts key part s there left held in
+    let at = read ∙ ap (λ n. get_or ss n s) (number_is config ss parts key own part number is own_is there held) in
+    let made = home.made at in (home.at at, made.0, made.1)
 
 pub stripe_of-number-requires : goal.stripe_of-number-requires
 stripe_of-number-requires c =
@@ -37,28 +45,21 @@ pub close-requires-clause-out : goal.close-requires-clause-out
 close-requires-clause-out c =
     let i = c.ending.invariant in
     let some = c.in-Some.ensures.some in
-    let home = home_of_key c.args.config.now c.ending.stripes.items (parts_of c.ending.held) some.0 c.in-Some.one c.index_mut-stripe.result.now some.1 i.left i.held in
-    let number = number_is c.args.config.now c.ending.stripes.items (parts_of c.ending.held) some.0 c.key.result c.in-Some.one c.stripe_of-number.result c.stripe_of-number.ensures c.key.ensures some.1 i.held in
-    let read = c.index_mut-stripe.ensures.value ∙ ap (λ n. get_or c.ending.stripes.items n c.index_mut-stripe.result.now) number in
-    (home.made read).1
+    (read_home c.args.config.now c.ending.stripes.items (parts_of c.ending.held) some.0 c.key.result c.in-Some.one c.stripe_of-number.result c.index_mut-stripe.result.now c.stripe_of-number.ensures c.key.ensures some.1 c.index_mut-stripe.ensures.value i.left i.held).2
 
 pub close-requires-clause-origin : goal.close-requires-clause-origin
 close-requires-clause-origin c =
     let i = c.ending.invariant in
     let some = c.in-Some.ensures.some in
-    let home = home_of_key c.args.config.now c.ending.stripes.items (parts_of c.ending.held) some.0 c.in-Some.one c.index_mut-stripe.result.now some.1 i.left i.held in
-    let number = number_is c.args.config.now c.ending.stripes.items (parts_of c.ending.held) some.0 c.key.result c.in-Some.one c.stripe_of-number.result c.stripe_of-number.ensures c.key.ensures some.1 i.held in
-    let read = c.index_mut-stripe.ensures.value ∙ ap (λ n. get_or c.ending.stripes.items n c.index_mut-stripe.result.now) number in
-    (i.left.each (stripe_of some.0 c.args.config.now.stripes) c.index_mut-stripe.result.now (home.at read)).origin_is
+    let home = read_home c.args.config.now c.ending.stripes.items (parts_of c.ending.held) some.0 c.key.result c.in-Some.one c.stripe_of-number.result c.index_mut-stripe.result.now c.stripe_of-number.ensures c.key.ensures some.1 c.index_mut-stripe.ensures.value i.left i.held in
+    (i.left.each (stripe_of some.0 c.args.config.now.stripes) c.index_mut-stripe.result.now home.0).origin_is
 
 pub close-requires-clause-due : goal.close-requires-clause-due
 close-requires-clause-due c =
     let i = c.ending.invariant in
     let some = c.in-Some.ensures.some in
-    let home = home_of_key c.args.config.now c.ending.stripes.items (parts_of c.ending.held) some.0 c.in-Some.one c.index_mut-stripe.result.now some.1 i.left i.held in
-    let number = number_is c.args.config.now c.ending.stripes.items (parts_of c.ending.held) some.0 c.key.result c.in-Some.one c.stripe_of-number.result c.stripe_of-number.ensures c.key.ensures some.1 i.held in
-    let read = c.index_mut-stripe.ensures.value ∙ ap (λ n. get_or c.ending.stripes.items n c.index_mut-stripe.result.now) number in
-    ap (λ (x : Config). is_due x c.in-Some.one) (i.left.each (stripe_of some.0 c.args.config.now.stripes) c.index_mut-stripe.result.now (home.at read)).config_is ∙ i.held.due some.0 c.in-Some.one some.1
+    let home = read_home c.args.config.now c.ending.stripes.items (parts_of c.ending.held) some.0 c.key.result c.in-Some.one c.stripe_of-number.result c.index_mut-stripe.result.now c.stripe_of-number.ensures c.key.ensures some.1 c.index_mut-stripe.ensures.value i.left i.held in
+    ap (λ (x : Config). is_due x c.in-Some.one) (i.left.each (stripe_of some.0 c.args.config.now.stripes) c.index_mut-stripe.result.now home.0).config_is ∙ i.held.due some.0 c.in-Some.one some.1
 
 pub ending-preserved : goal.ending-preserved
 ending-preserved c =
@@ -71,11 +72,10 @@ ending-preserved c =
     let from = c.index_mut-stripe.result.now in
     let to = c.close.new.stripe in
     let n = stripe_of some.0 config.stripes in
-    let home = home_of_key config ss parts some.0 one from some.1 i.left i.held in
-    let number = number_is c.args.config.now c.ending.stripes.items (parts_of c.ending.held) some.0 c.key.result c.in-Some.one c.stripe_of-number.result c.stripe_of-number.ensures c.key.ensures some.1 i.held in
-    let read = c.index_mut-stripe.ensures.value ∙ ap (λ n. get_or c.ending.stripes.items n c.index_mut-stripe.result.now) number in
-    let at = home.at read in
-    let is : IsOver some.0 from to = subst (λ (k : Bytes). IsOver k from to) (home.made read).0 (over c.stays_reached.ensures from to one.reservation (i.left.each n from at).reached c.close.ensures) in
+    let number = number_is config ss parts some.0 c.key.result one c.stripe_of-number.result c.stripe_of-number.ensures c.key.ensures some.1 i.held in
+    let home = read_home c.args.config.now c.ending.stripes.items (parts_of c.ending.held) some.0 c.key.result c.in-Some.one c.stripe_of-number.result c.index_mut-stripe.result.now c.stripe_of-number.ensures c.key.ensures some.1 c.index_mut-stripe.ensures.value i.left i.held in
+    let at = home.0 in
+    let is : IsOver some.0 from to = subst (λ (k : Bytes). IsOver k from to) home.1 (over c.stays_reached.ensures from to one.reservation (i.left.each n from at).reached c.close.ensures) in
     record {
       left = subst (λ (m : ℕ). AreLeft config (slice_set ss m to)) (sym number) (left_set config ss n from to i.left at is.config_is is.number_is is.origin_is is.reached);
       held = subst (λ (m : ℕ). HasHeld config (slice_set ss m to) (parts_of c.take_any.new.held)) (sym number) (ended config ss from to parts (parts_of c.take_any.new.held) some.0 i.left at is some.2 i.held);
