@@ -1,4 +1,4 @@
-use Rattle.std.proofs.Common.{◌≡◌, ◌∙◌, Option, None, Some, IsSomeAnd, find, position, ap, sym, subst}
+use Rattle.std.proofs.Common.{◌≡◌, ◌∙◌, Option, None, IsSomeAnd, position, ap, sym, subst}
 use Rattle.jc_types.proofs.CallerLemmas.{find_at_place, find_nowhere}
 use Rattle.jc_world.specs.Calls.{CallState, has_number, is_going}
 use Rattle.jc_world.specs.OpenCalls.{TakesKeys}

@@ -1,4 +1,4 @@
-use Rattle.std.proofs.Common.{◌≡◌, ◌==◌, ◌∙◌, List, None, ap}
+use Rattle.std.proofs.Common.{◌==◌, ◌∙◌, List, ap}
 use Rattle.std.specs.Map.{lookup}
 use Rattle.std.specs.Cmp.Lexicographic.{pointwise}
 use Rattle.jc_world.specs.Calls.{Task}
