@@ -2,7 +2,7 @@
 --     lookup-found           a key is looked up among the tasks, and then among those of the keys that were found
 --     op_of_found            at a key that was found the call's operation is done
 --     still_done             what is done goes on
---     found_more, found_new  one key more, which is new
+--     found_new              one key more, which is new
 --     first_found            the first open key keeps its place
 --     first_kept             and stays the first
 use Rattle.std.proofs.Common.{◌≡◌, ◌==◌, ◌<◌, ◌+◌, ℕ, zero, suc, Bool, true, false, cond, List, [], ◌∷◌, ◌++◌, filter, take, length, slice_get, Option, None, Some, is_none, refl, sym, ap, ◌∙◌}
@@ -12,13 +12,12 @@ use Rattle.std.specs.Map.{keys_of, lookup}
 use Rattle.std.specs.Option.{option_flatten, option_or}
 use Rattle.std.specs.Cmp.Lexicographic.{pointwise}
 use Rattle.std.proofs.lemmas.Bool.{and_parts}
-use Rattle.std.proofs.lemmas.List.{take_more, append_assoc}
 use Rattle.std.proofs.lemmas.Map.Made.{is_some-lookup}
 use Rattle.jc_model.specs.declared.event.Op.{Op}
 use Rattle.jc_model.specs.Cache.{Bytes}
 use Rattle.jc_world.specs.Calls.{Task, at_each, op_in, is_open, open_in}
 use Rattle.jc_world.specs.OpenCalls.{first_open, are_new}
-use Rattle.jc_world.proofs.TaskLists.{absent, none_from, slice_get_here, keys-at_each, map-push, first_each}
+use Rattle.jc_world.proofs.TaskLists.{absent, none_from, slice_get_here, keys-at_each, first_each}
 
 -- 1. Looking a key up.
 
@@ -62,12 +61,6 @@ found_new tasks one keys i key new distinct lt is =
     let found : lookup test (at_each one (take i keys)) ≡ None =
     none_from _ (is_some-lookup test (at_each one (take i keys)) ∙ ap (list_any test) (keys-at_each one (take i keys)) ∙ absent keys i key distinct at) in
     lookup-found test tasks (at_each one (take i keys)) ∙ ap (λ o. option_or o (lookup test (at_each one (take i keys)))) before ∙ found
-
-pub found_more : (tasks : List Task) (one : Op) (keys : List Bytes) (i : ℕ) (key : Bytes) → i < length keys → key ≡ get_or keys i key
-    → (tasks ++ at_each one (take i keys)) ++ (key, Some one) ∷ [] ≡ tasks ++ at_each one (take (i + 1) keys)
-found_more tasks one keys i key lt is =
-    append_assoc tasks (at_each one (take i keys)) ((key, Some one) ∷ [])
-    ∙ ap (λ ts. tasks ++ ts) (sym (ap (at_each one) (take_more keys i key lt ∙ ap (λ x. take i keys ++ x ∷ []) (sym is)) ∙ map-push (λ k. (k, Some one)) (take i keys) key))
 
 -- 3. The first open key.
 

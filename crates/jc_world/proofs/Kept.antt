@@ -182,10 +182,6 @@ is_out_reserved s key part h = ap (is_reserved s) (sym h.key_is) ∙ out_reserve
 pub unheld : (w : WorldState) (key : Bytes) (s : State) → stripe_for w key ≡ Some s → is_reserved s key ≡ false → IsSoundWorld w → get w.parts key ≡ None
 unheld w key s at free old = missing (get w.parts key) (λ p e. let t = is_out_reserved s key p (held_at w key p s e at old) in cc)
 
--- a part's ticket is out
-pub out_at : (w : WorldState) (call : ℕ) (key : Bytes) (part : Part) (from : State) → part_of w call key ≡ Some part → stripe_for w key ≡ Some from → IsSoundWorld w → IsOut from part.reservation
-out_at w call key part from is at old = (held_at w key part from (is_part (get w.parts key) call part is) at old).out
-
 -- where no call is under way, none is found
 none_under : (call : ℕ) (calls : List CallState) (u : CallState) → calls ≡ [] → find (has_number call) calls ≡ Some u → ⊥
 none_under call calls u none h = let e : None ≡ Some u = ap (find (has_number call)) (sym none) ∙ h in cc

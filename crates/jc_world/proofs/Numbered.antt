@@ -21,9 +21,6 @@ at_index xs i x P h is = slice_get_read xs _ i x refl (within xs i P h) is
 next_empty : (config : Config) (number end : ℕ) → number < end → empty_stripes config number (end - number) ≡ empty_stripe config number ∷ empty_stripes config (number + 1) (end - (number + 1))
 next_empty config number end h = let e : end - number ≡ suc (end - (number + 1)) = omega arith in ap (empty_stripes config number) e
 
-none_left : (config : Config) (number n : ℕ) → n ≡ 0 → empty_stripes config number n ≡ []
-none_left config number n e = ap (empty_stripes config number) e
-
 pub made_more : (config : Config) (made : List State) (s : State) (number end : ℕ) → number < end → s ≡ empty_stripe config number
     → (made ++ s ∷ []) ++ empty_stripes config (number + 1) (end - (number + 1)) ≡ made ++ empty_stripes config number (end - number)
 made_more config made s number end h is =

@@ -1,5 +1,4 @@
 -- The open keys of a call, and what is left of a call and of the calls under way once a key of one has its reply or last refusal.
---     only_op                a call of one key does there what its command says
 --     open_now               a test of all open keys holds of each
 --     done_for               what is done at an open key
 --     Left                   a call that goes on: what it does or may still do at a key it did before, and not at the key that was
@@ -27,14 +26,6 @@ use Rattle.jc_world.proofs.Facts.{refuted}
 use Rattle.jc_world.proofs.Underway.{same_bytes}
 
 -- 1. Open keys.
-
--- of one key there is one operation
-pub only_op : (key : Bytes) (one : Op) (q : Bytes) (op : Op) → op_in ((key, Some one) ∷ []) q ≡ Some op → one ≡ op
-only_op key one q op h =
-    elim (pointwise ◌==◌ q key) as (λ b. option_flatten (cond b (Some (Some one)) None) ≡ Some op → one ≡ op) [
-      | true ↦ λ h. let is : one ≡ op = cc in is
-      | false ↦ λ h. cc
-    ] h
 
 -- what is behind another key
 behind : (q : Bytes) (task : Task) (tasks : List Task) → pointwise ◌==◌ q task.0 ≡ false → op_in (task ∷ tasks) q ≡ op_in tasks q
@@ -97,10 +88,6 @@ at_other key q (task ∷ tasks) other =
           behind q (task.0, None) tasks apart ∙ sym (behind q task tasks apart)
       | false ↦ λ e. elim (pointwise ◌==◌ q task.0) as (λ b. option_flatten (cond b (Some task.1) (lookup (pointwise ◌==◌ q) (set_value (pointwise ◌==◌ key) tasks None))) ≡ option_flatten (cond b (Some task.1) (lookup (pointwise ◌==◌ q) tasks))) [ true ↦ refl | false ↦ at_other key q tasks other ]
     ] refl
-
--- so what is done is done at another key
-not_self : (key q : Bytes) (tasks : List Task) (op : Op) → op_in (set_value (pointwise ◌==◌ key) tasks None) q ≡ Some op → q ≡ key → ⊥
-not_self key q tasks op h same = let t : None ≡ Some op = sym (at_self key q tasks same) ∙ h in cc
 
 -- 3. A call of which a key was settled.
 

@@ -12,7 +12,7 @@
 --     first_each, first_put   all keys are open at first
 --     open_within             a key is open exactly if the first one stands before the end
 --     first_key_at            the first of the open keys stands there
---     first_here, first_next, first_end
+--     first_here, first_next
 --                             the first open key from a place on
 --     first_settled, first_fits
 --                             once a key is settled, the first open one is found from where it was
@@ -269,11 +269,6 @@ first_next tasks i key one at gone =
     let now : first_open (drop i tasks) ≡ suc (first_open (drop (suc i) tasks)) = next_open tasks i key one at gone in
     let here : i + first_open (drop i tasks) ≡ suc i + first_open (drop (suc i) tasks) = omega (arith, now) in
     here ∙ ap (λ n. n + first_open (drop n tasks)) (sym next)
-
--- behind the end there is none
-pub first_end : (tasks : List Task) → first_open (drop (length tasks) tasks) ≡ 0
-first_end [] = refl
-first_end (task ∷ tasks) = first_end tasks
 
 -- from the first one on it is still the first
 first_self : (tasks : List Task) → first_open tasks + first_open (drop (first_open tasks) tasks) ≡ first_open tasks
