@@ -8,7 +8,7 @@ pub mod Looked
 pub mod Sweeps
 pub mod StripeKeys
 pub mod TaskLists
-pub mod Reported
+pub mod Reporting
 pub mod Found
 pub mod Joiners
 pub mod LoadKeys

@@ -23,3 +23,12 @@ mod run;
 mod stripes;
 mod tasks;
 pub mod world;
+
+pub use audit::Audit;
+pub use command::{CallKind, Command, Sweep};
+pub use ends::Over;
+pub use event::{Part, PickedUp, Premises, Progress, Shown, Stepped, WorldEvent};
+pub use open_call::OpenCall;
+pub use process::{EntryCalls, LoadSource, Processed};
+pub use reports::{LeftKeys, Reported, ReportedKey};
+pub use world::World;

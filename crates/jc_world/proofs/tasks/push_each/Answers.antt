@@ -2,7 +2,7 @@ use Rattle.std.proofs.Common.{◌∙◌, ◌++◌, ◌∷◌, [], take, sym, ap,
 use Rattle.jc_world.specs.Events.{reported_keys}
 use Rattle.jc_world.specs.Calls.{Task, open_in}
 use Rattle.jc_world.specs.Held.{parts_of}
-use Rattle.jc_world.proofs.Reported.{reported_more}
+use Rattle.jc_world.proofs.Reporting.{reported_more}
 use Rattle.jc_world.proofs.tasks.push_each.Goals as goal
 
 pub loop-place-preserved : goal.loop-place-preserved

@@ -5,7 +5,7 @@ use Rattle.jc_world.specs.OpenCalls.{tasks_of}
 use Rattle.jc_world.specs.declared.tasks.Tasks.{Tasks}
 use Rattle.jc_world.specs.Fits.{waits_in}
 use Rattle.jc_world.specs.Held.{parts_of}
-use Rattle.jc_world.proofs.Reported.{none_any}
+use Rattle.jc_world.proofs.Reporting.{none_any}
 use Rattle.jc_world.proofs.open_call.OpenCall.waits_for_report.Goals as goal
 
 pub returns-in-Many : goal.returns-in-Many
