@@ -3,6 +3,7 @@ ghost use Rattle.std.specs.Prelude.{◌≡◌, ◌++◌, ◌∷◌, [], IfOk, On
 ghost use Rattle.jc_world.specs.Premises.{load_from};
 
 use crate::outside::answer_of;
+use crate::read_only::ReadOnlyList;
 use jc_model::{Change, EntryAnswer, EntryCall, LoadAnswer};
 use jc_types::Value;
 use std::alloc::{AllocError, Global};
@@ -85,42 +86,11 @@ impl EntryCalls {
     }
 }
 
-/// What the calls of an entry processor were answered, in their order.
-#[derive(Drop)]
-pub struct EntryAnswers {
-    list: Vec<EntryAnswer>,
-}
-
-impl Model for EntryAnswers {
-    ghost use Rattle.std.specs.Prelude.{List};
-    ghost use Rattle.jc_model.specs.declared.processor.EntryAnswer.{EntryAnswer};
-
-    ghost Value = { List EntryAnswer };
-
-    ghost view = { λ a. a.list.items };
-}
-
-impl EntryAnswers {
-    /// These answers.
-    pub(crate) fn new(list: Vec<EntryAnswer>) -> EntryAnswers
-        ensures { result ≡ list.items }
-    {
-        EntryAnswers { list }
-    }
-
-    /// The answers, to be read.
-    pub fn as_slice(&self) -> &[EntryAnswer]
-        ensures { result.now ≡ self.now }
-    {
-        &self.list
-    }
-}
-
 /// What is shown of an entry processor that has run.
 #[derive(Drop)]
 pub struct Processed {
-    /// What each of its calls was answered. A failed load is the last answer: no call follows it.
-    pub answers: EntryAnswers,
+    /// What each of its calls was answered, in their order. A failed load is the last answer: no call follows it.
+    pub answers: ReadOnlyList<EntryAnswer>,
     /// What the loader answered: `NotAsked` if no call asked it. It was asked by the first `getValue`.
     pub load: LoadAnswer,
     /// The code with which the processor failed, if it did.

@@ -5,6 +5,7 @@ ghost use Rattle.jc_world.specs.Premises.{report_for};
 
 use crate::command::CallKind;
 use crate::outside::report_with;
+use crate::read_only::ReadOnlyList;
 use indexmap::IndexSet;
 use jc_model::{Change, WriteAnswer, batch_answer};
 use jc_types::{Key, Value};
@@ -88,42 +89,11 @@ pub struct ReportedKey {
     pub is_changed: bool,
 }
 
-/// The keys for which a writer returns, in the order of their call.
-#[derive(Drop)]
-pub struct ReportedKeys {
-    list: Vec<ReportedKey>,
-}
-
-impl Model for ReportedKeys {
-    ghost use Rattle.std.specs.Prelude.{List};
-    ghost use Rattle.jc_world.specs.declared.reports.ReportedKey.{ReportedKey};
-
-    ghost Value = { List ReportedKey };
-
-    ghost view = { λ reported. reported.list.items };
-}
-
-impl ReportedKeys {
-    /// These keys.
-    pub(crate) fn new(list: Vec<ReportedKey>) -> ReportedKeys
-        ensures { result ≡ list.items }
-    {
-        ReportedKeys { list }
-    }
-
-    /// The keys, to be read.
-    pub fn as_slice(&self) -> &[ReportedKey]
-        ensures { result.now ≡ self.now }
-    {
-        &self.list
-    }
-}
-
 /// What a writer's return shows.
 #[derive(Drop)]
 pub struct Reported {
-    /// The keys of the call that the writer was asked for and hadn't returned for before.
-    pub keys: ReportedKeys,
+    /// The keys of the call that the writer was asked for and hadn't returned for before, in the order of the call.
+    pub keys: ReadOnlyList<ReportedKey>,
     /// The code of the writer's fault, if it failed.
     pub fault: Option<u32>,
 }

@@ -13,7 +13,8 @@ use crate::event::Shown;
 use crate::held_keys::{change, loader_answers, report};
 use crate::machine::Machine;
 use crate::outside::{and_now, answer_of, is_honest_load, is_honest_report};
-use crate::reports::{LeftKeys, Reported, ReportedKey, ReportedKeys, report_for};
+use crate::read_only::ReadOnlyList;
+use crate::reports::{LeftKeys, Reported, ReportedKey, report_for};
 use jc_model::{LoadAnswer, WriteAnswer};
 use jc_types::{Key, Value};
 use std::alloc::AllocError;
@@ -136,7 +137,7 @@ impl Machine {
         let kind = u.kind();
         let reported = u.reported_keys(self.alloc, call, &self.held)?;
         self.report_each(call, kind, left, fault, &reported);
-        let keys = ReportedKeys::new(reported);
+        let keys = ReadOnlyList::new(reported);
         *seen = Shown::Reported(Reported { keys, fault });
         Ok(())
     }

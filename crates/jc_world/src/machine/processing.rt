@@ -12,7 +12,8 @@ use crate::event::Shown;
 use crate::held_keys::process;
 use crate::machine::Machine;
 use crate::outside::{and_now, is_honest_load};
-use crate::process::{EntryAnswers, EntryCalls, LoadSource, Processed};
+use crate::process::{EntryCalls, LoadSource, Processed};
+use crate::read_only::ReadOnlyList;
 use jc_model::{Change, EntryAnswer, LoadAnswer};
 use jc_types::{Key, Value};
 use std::alloc::AllocError;
@@ -71,7 +72,7 @@ impl Machine {
         let honest = is_honest_load(ran.load, self.stored(key));
         self.premises.loaders = and_now(self.premises.loaders, honest);
         Ok(Processed {
-            answers: EntryAnswers::new(answers),
+            answers: ReadOnlyList::new(answers),
             load: ran.load,
             fault: fail,
             change: ran.change,
