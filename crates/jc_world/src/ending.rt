@@ -31,7 +31,7 @@ pub(crate) fn end_all(
     held.destroy_empty();
 }
 
-/// Picks up the answer of every join, where no load is under way any more.
+/// Picks up the answer of every join, once no load is under way any more.
 pub(crate) fn pick_all(config: &Config, stripes: &mut Vec<Stripe>, mut joins: Vec<Join>)
     requires left { AreLeft config.now stripes.old.items }
     requires none { NoneReserved stripes.old.items }

@@ -103,7 +103,7 @@ pub enum WorldEvent {
         load: LoadSource,
         /// The calls that the processor makes on its entry, in their order. After a failed load it makes no further one.
         calls: EntryCalls,
-        /// The code with which the processor then fails, or none where it returns the last value that it was given.
+        /// The code with which the processor then fails, or none if it returns the last value that it was given.
         fail: Option<u32>,
     },
     /// The last phase of the call's key. It fits if all that was asked, of loader, processor and writer, is answered.
@@ -126,7 +126,7 @@ pub enum WorldEvent {
         call: u64,
     },
     /// A call that has joined a load asks for its answer. It fits until the call was given that answer or told to retry, so
-    /// also where the load isn't over.
+    /// also while the load isn't over.
     PickUp {
         /// The number of the call that has joined.
         call: u64,
@@ -137,7 +137,7 @@ pub enum WorldEvent {
     Foreign {
         /// The key, of any stripe.
         key: Key,
-        /// What the store then holds for it: a value, or none where it is deleted.
+        /// What the store then holds for it: a value, or none if it is deleted.
         value: Option<Value>,
     },
 }
@@ -371,7 +371,7 @@ impl Progress {
 /// What has held so far of those outside.
 #[derive(Clone, Copy, Debug, PartialEq, Eq)]
 pub struct Premises {
-    /// Honest writers: for each key each report said that it was written exactly where the writer had changed the store.
+    /// Honest writers: for each key each report said that it was written exactly if the writer had changed the store.
     pub writers: bool,
     /// Honest loaders: each answer was a failure, or what the store held for the key when it came.
     pub loaders: bool,

@@ -39,7 +39,7 @@ pub(crate) fn make_room(held: &mut HeldKeys) -> Result<(), AllocError>
     held.reserve(1)
 }
 
-/// Puts a key in that isn't there, where room was made before.
+/// Puts a key in that isn't there, for which room was made before.
 fn put_reserved(held: &mut HeldKeys, key: &Key, one: Held)
     requires room { 0 < spare held.old }
     requires free { map.get (parts_of held.old) key.now ≡ None }
