@@ -33,6 +33,7 @@ use Rattle.jc_bulk.specs.Gets.{Turn, IsTurn, AreTurns, IsGetting, turn_keys, ope
 use Rattle.jc_bulk.specs.Rounds.{LoadRound, LoadsInRounds, keys_in, said_in_loads}
 use Rattle.jc_bulk.proofs.Gets.{not_open}
 use Rattle.jc_bulk.proofs.GetCommits.{all_apart, apart_all, distinct_take}
+use Rattle.jc_bulk.proofs.GetRounds.{no_keys}
 use Rattle.jc_bulk.proofs.Under.{no_more}
 
 -- 1. What the loader has said.
@@ -193,9 +194,9 @@ open_distinct (t ∷ turns) d = by t.ended (open_distinct turns (IsDistinct-tail
     by (Some x) rest = rest
 
 pub asked_in_rounds : (rounds : List LoadRound) (r : LoadRound) (keys : List Bytes) (old new : CacheState) (caller : Caller) (ends later : List (Option (Result Reply Refusal))) (calls : List ReservedState) → IsDistinct (pointwise ◌==◌) keys
-    → r.keys ≡ reserved_keys calls → length later ≡ length ends → IsGettingInRounds rounds keys old caller ends calls → IsGetting (said_in_loads (rounds ++ r ∷ [])) keys new caller later []
+    → r.keys ≡ reserved_keys calls → (length calls ≡ 0 → ⊥) → length later ≡ length ends → IsGettingInRounds rounds keys old caller ends calls → IsGetting (said_in_loads (rounds ++ r ∷ [])) keys new caller later []
     → IsGettingInRounds (rounds ++ r ∷ []) keys new caller later []
-asked_in_rounds rounds r keys old new caller ends later calls d asks many was gets =
+asked_in_rounds rounds r keys old new caller ends later calls d asks some many was gets =
     let turns = was.gets.turns in
     let early = take (length ends) keys in
     let asked : reserved_keys calls ≡ open_keys turns = was.gets.keys_open in
@@ -213,6 +214,7 @@ asked_in_rounds rounds r keys old new caller ends later calls d asks many was ge
           (distinct_both (keys_in rounds) (open_keys turns) was.once
           (open_distinct turns (subst (IsDistinct (pointwise ◌==◌)) (sym was.gets.keys_are) (distinct_take (length ends) keys d)))
           (ap (list_all (λ k. not (is_among (keys_in rounds) k))) (sym asked) ∙ was.fresh));
+      called = all_both (λ (x : LoadRound). x.keys ≡ [] → ⊥) rounds (r ∷ []) was.called (λ none. some (ap length (no_keys calls (sym asks ∙ none))), tt);
       fresh = refl;
     }
 

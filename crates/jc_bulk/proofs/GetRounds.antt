@@ -90,6 +90,7 @@ begun_in_rounds rounds keys old new caller ends calls calls' key x s was fresh m
       gets = begun_getting (said_in_loads rounds) keys old new caller ends calls calls' key x s was.gets fresh more few is why starts under adds;
       asked = asked_one (length ends) (length (ends ++ end_started x ∷ [])) keys (keys_in rounds) key (one_longer ends (end_started x)) more was.asked;
       once = was.once;
+      called = was.called;
       fresh = ap (list_all (λ k. not (is_among (keys_in rounds) k))) (open_after old.mark s caller key x calls calls' few why starts)
           ∙ fresh_push (keys_in rounds) (reserved_keys calls.items) key (end_started x) was.fresh away;
     }
@@ -103,6 +104,7 @@ refused_in_rounds rounds keys cache caller ends calls key was fresh more many =
       gets = refused_getting (said_in_loads rounds) keys cache caller ends calls key was.gets fresh more many;
       asked = asked_one (length ends) (length (ends ++ end ∷ [])) keys (keys_in rounds) key (one_longer ends end) more was.asked;
       once = was.once;
+      called = was.called;
       fresh = was.fresh;
     }
 

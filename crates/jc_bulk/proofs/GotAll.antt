@@ -8,7 +8,7 @@ use Rattle.std.proofs.Common.{◌≡◌, ◌==◌, ◌&&◌, ◌||◌, ◌≤◌
 use Rattle.std.proofs.lemmas.Bool.{and_parts, eqb-true}
 use Rattle.std.proofs.lemmas.Bool.Decides.{nat_tests}
 use Rattle.std.proofs.lemmas.List.{length-map, take_all}
-use Rattle.std.proofs.lemmas.List.Elements.{All-nil, All-cons}
+use Rattle.std.proofs.lemmas.List.Elements.{All-nil, All-cons, All-from_recursion}
 use Rattle.std.proofs.lemmas.Map.Keys.{apart_from_distinct}
 use Rattle.std.specs.List.{list_all, cons_option, IsAmong, IsDistinct}
 use Rattle.std.specs.Map.{keys_of}
@@ -83,6 +83,7 @@ begun_rounds keys cache caller law distinct placed idle none = record {
   };
   asked = refl;
   once = distinct_take 0 keys distinct;
+  called = tt;
   fresh = refl;
 }
 
@@ -258,6 +259,7 @@ module _ {I J : Type 0} {D : I → Type 0} {E : J → Type 0} (loads_all : LoadA
             loader = all.1;
             each = all_keys keys (keys_in rounds) (ap (λ ks. list_all (is_among ks) (keys_in rounds)) (sym taken) ∙ all.2.asked);
             once = once_only (keys_in rounds) all.2.once;
+            called = All-from_recursion (λ (r : LoadRound). r.keys ≡ [] → ⊥) rounds all.2.called;
             writer = runs.writer;
           };
         },

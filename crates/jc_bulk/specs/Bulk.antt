@@ -6,7 +6,7 @@
 --     IsRefusedWhole  the call changed nothing and was refused whole: it has too many keys, or an allocation failed
 --     AsksWriterInRounds    the writer was asked in rounds, of which none is empty: each change at most once, as its keys want it; and the
 --                           loader never
---     AsksLoaderInRounds    the loader was asked in rounds: each key at most once; and the writer never
+--     AsksLoaderInRounds    the loader was asked in rounds, of which none is empty: each key at most once; and the writer never
 --     said_to_writes, said_to_loads    what was answered outside at each key
 --     CauseAmong      the cause is a fault or refusal of a key, or a fault that the writer returned
 --     HasNoCause      there is none
@@ -90,6 +90,7 @@ pub record AsksLoaderInRounds
   pub loader : LoadsInRounds (boxed loads_all) (boxed load_state) session.hands.outside.loader rounds session'.hands.outside.loader
   pub each : All (IsAmong wanted) (keys_in rounds)
   pub once : AreOnce (keys_in rounds)
+  pub called : All (λ (r : LoadRound). r.keys ≡ [] → ⊥) rounds
   pub writer : session'.hands.outside.writer ≡ session.hands.outside.writer
 
 abbrev pub said_to_writes : List WriteRound → Bytes → Out

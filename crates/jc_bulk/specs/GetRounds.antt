@@ -1,6 +1,6 @@
 -- A `getAll` in its rounds.
 --     IsGettingInRounds    the call is so far, by what the loader has said in these rounds: it was asked only for keys that have had their
---                          turn, for none of them twice, and for none of those that are reserved
+--                          turn, for none of them twice, and for none of those that are reserved; no round is empty
 --     RunsRounds           rounds have been run: the account says what more the loader was asked for and has said, and of the session only
 --                          its counts and its loader have changed; and the cache, and the calls of others, are as they may be later
 --     AreLoadedIn          the call is so far, where each call that is out has been answered: with what the loader said of its key
@@ -9,7 +9,7 @@
 --     StayEnded            keys that have ended stay so, also later, when more of them may have had their turn
 --     IsCauseIn            there is a cause exactly if there are failures, and it is one of them
 use Rattle.std.specs.Prelude.{◌≡◌, ◌==◌, ◌++◌, ℕ, List, [], ◌∷◌, length, take, true, not, Option, None, Some, Result}
-use Rattle.std.specs.List.{filter_map, list_all, IsAmong, IsDistinct}
+use Rattle.std.specs.List.{filter_map, list_all, AllByRecursion, IsAmong, IsDistinct}
 use Rattle.std.specs.Cmp.Lexicographic.{pointwise}
 use Rattle.jc_types.specs.declared.caller.Caller.{Caller}
 use Rattle.jc_types.specs.declared.refusal.Refusal.{Refusal}
@@ -36,6 +36,7 @@ pub record IsGettingInRounds (rounds : List LoadRound) (keys : List Bytes) (cach
   pub gets : IsGetting (said_in_loads rounds) keys cache caller ends calls
   pub asked : list_all (is_among (take (length ends) keys)) (keys_in rounds) ≡ true
   pub once : IsDistinct (pointwise ◌==◌) (keys_in rounds)
+  pub called : AllByRecursion (λ (r : LoadRound). r.keys ≡ [] → ⊥) rounds
   pub fresh : list_all (λ key. not (is_among (keys_in rounds) key)) (reserved_keys calls) ≡ true
 
 pub record AreLoadedIn (said : Bytes → LoadAnswer) (keys : List Bytes) (cache : CacheState) (caller : Caller) (ends : List (Option (Result Reply Refusal))) (calls : List (AnsweredState LoadAnswer)) (out : List ReservedState) : Type 0 where

@@ -53,6 +53,6 @@ returns-else-len-eq0-clause-gets g c rounds keys d was =
     let done = c.commit_round.ensures.gets said keys calls (subst (λ w. AreLoadedIn said keys old w c.args.ends.now c.ask-loaded.result calls) (sym who) all) in (
       r ∷ [],
       (c.ask-loaded.new.session.hands.outside.loader, c.ask-loaded.ensures.loader.1, ap (λ t. t.hands.outside.loader) c.commit_round.ensures.session),
-      asked_in_rounds rounds r keys old new c.args.session.now.caller c.args.ends.now c.commit_round.new.ends calls d refl c.commit_round.ensures.many was
+      asked_in_rounds rounds r keys old new c.args.session.now.caller c.args.ends.now c.commit_round.new.ends calls d refl (λ none. c.if-len-eq0.false (c.len.ensures ∙ none)) c.commit_round.ensures.many was
           (subst (λ w. IsGetting said keys new w c.commit_round.new.ends []) who done),
     )
