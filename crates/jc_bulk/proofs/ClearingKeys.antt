@@ -1,7 +1,4 @@
 -- A call that clears keys, between one key and the next.
---     key_there        the key that a walk has come to is at its place
---     absent           a key isn't among those before it, if all differ
---     refusal_last     the refusal of a new key goes last
 --     still_absent     a key that isn't among those that failed, and isn't the one that has just ended, isn't among them afterwards
 --     clears_push      where it ended at some keys, and then at one more, it ended at all of these
 --     ops_push         these are the keys, each with its operation
@@ -10,19 +7,13 @@
 --     then_ok, then_err    what follows of a result
 --     all_full         each of them for the history's room
 --     leaves_both      what other sessions need stays, also after one key more
-use Rattle.std.proofs.Common.{◌≡◌, ◌==◌, ◌<◌, ◌||◌, ℕ, zero, suc, false, List, [], ◌∷◌, ◌++◌, take, length, subst, slice_get, get_or, All, Option, None, Some, is_some, IfOk, IfErr, Result, Ok, Err, refl, sym, ap, ◌∙◌}
-use Rattle.std.specs.List.{list_any, IsDistinct, AllByRecursion}
-use Rattle.std.specs.Map.{keys_of, lookup}
+use Rattle.std.proofs.Common.{◌≡◌, ◌==◌, ◌||◌, false, List, [], ◌∷◌, ◌++◌, subst, All, IfOk, IfErr, Result, Ok, Err, refl, sym, ap, ◌∙◌}
+use Rattle.std.specs.List.{list_any}
+use Rattle.std.specs.Map.{keys_of}
 use Rattle.std.specs.Cmp.Lexicographic.{pointwise}
-use Rattle.std.proofs.lemmas.Cmp.{nat_list_eq_equiv}
 use Rattle.std.proofs.lemmas.List.{map-append}
 use Rattle.std.proofs.lemmas.List.Elements.{filter_map-append, All-append, All-cons, All-nil}
 use Rattle.std.proofs.lemmas.List.Folds.{list_any-append}
-use Rattle.std.proofs.lemmas.Option.{slice_get-get_or}
-use Rattle.std.proofs.lemmas.Map.Keys.{IsDistinct-head, IsDistinct-tail}
-use Rattle.std.proofs.lemmas.Map.Made.{is_some-lookup}
-use Rattle.indexmap.specs.IndexMap.{IndexMap, insert_entry}
-use Rattle.indexmap.proofs.CallerLemmas.{insert_entry-new}
 use Rattle.jc_types.specs.declared.caller.Caller.{Caller}
 use Rattle.jc_types.specs.declared.refusal.Refusal.{Refusal}
 use Rattle.jc_types.specs.declared.refusal.Refusal.TheVariants.{HistoryFull}
@@ -42,31 +33,6 @@ use Rattle.jc_bulk.specs.Clearing.{ClearsEach, Clears}
 use Rattle.jc_bulk.specs.Ends.{KeyEnd, key_ops, failed_entries}
 
 -- 1. A key that is new.
-
--- what is so of all is so at each place
-at_place : {X : Type 0} (P : X → Type 0) (xs : List X) (i : ℕ) (x : X) → AllByRecursion P xs → slice_get xs i ≡ Some x → P x
-at_place P [] i x all at = cc
-at_place P (y ∷ ys) zero x all at = let is : y ≡ x = cc in subst P is all.0
-at_place P (y ∷ ys) (suc i) x all at = at_place P ys i x all.1 at
-
-pub absent : (keys : List Bytes) (i : ℕ) (key : Bytes) → IsDistinct (pointwise ◌==◌) keys → slice_get keys i ≡ Some key → list_any (pointwise ◌==◌ key) (take i keys) ≡ false
-absent [] zero key d at = refl
-absent [] (suc i) key d at = refl
-absent (x ∷ keys) zero key d at = refl
-absent (x ∷ keys) (suc i) key d at =
-    let no : pointwise ◌==◌ x key ≡ false = at_place (λ y. pointwise ◌==◌ x y ≡ false) keys i key (IsDistinct-head (pointwise ◌==◌) x keys d) at in
-    ap (λ b. b || list_any (pointwise ◌==◌ key) (take i keys)) (nat_list_eq_equiv.symm key x ∙ no) ∙ absent keys i key (IsDistinct-tail (pointwise ◌==◌) x keys d) at
-
-pub key_there : (keys : List Bytes) (i : ℕ) (key : Bytes) → i < length keys → key ≡ get_or keys i key → slice_get keys i ≡ Some key
-key_there keys i key lt is = slice_get-get_or keys i key lt ∙ ap Some (sym is)
-
-none_from : {X : Type 0} (o : Option X) → is_some o ≡ false → o ≡ None
-none_from None e = refl
-none_from (Some x) e = cc
-
-pub refusal_last : {S : Type 0} (m : IndexMap Bytes Refusal S) (key : Bytes) (why : Refusal) → list_any (pointwise ◌==◌ key) (keys_of m.entries) ≡ false
-    → insert_entry (pointwise ◌==◌) m.entries key why ≡ m.entries ++ (key, why) ∷ []
-refusal_last m key why new = insert_entry-new (pointwise ◌==◌) m key why (none_from (lookup (pointwise ◌==◌ key) m.entries) (is_some-lookup (pointwise ◌==◌ key) m.entries ∙ new))
 
 not_it : (q key : Bytes) (ended : Result Reply Refusal) → pointwise ◌==◌ q key ≡ false → list_any (pointwise ◌==◌ q) (keys_of (failed_entries (record { key = key; op = Clear; ended = ended } ∷ []))) ≡ false
 not_it q key (Err why) apart = ap (λ b. b || false) apart

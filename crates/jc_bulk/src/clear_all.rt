@@ -1,12 +1,10 @@
 //! `clear`: every key of a cache.
-ghost use Rattle.std.specs.Prelude.{◌≡◌, ◌==◌, ◌≤◌, ◌<◌, ◌+◌, ◌⊎◌, ◌++◌, ◌∷◌, List, [], length, false, Some, All, IfOk, IfErr, IfSome, IfNone, OnOk, slice_get};
-ghost use Rattle.std.specs.List.{IsDistinct, list_any};
-ghost use Rattle.std.specs.Map.{keys_of};
+ghost use Rattle.std.specs.Prelude.{◌≡◌, ◌==◌, ◌≤◌, ◌<◌, ◌⊎◌, ◌∷◌, List, [], length, Some, All, IfOk, IfErr, IfSome, IfNone, OnOk, slice_get};
+ghost use Rattle.std.specs.List.{IsDistinct};
 ghost use Rattle.std.specs.Cmp.Lexicographic.{pointwise};
 ghost use Rattle.indexmap.specs.IndexMap.{spare};
 ghost use Rattle.jc_types.specs.declared.refusal.Refusal.{Refusal};
-ghost use Rattle.jc_types.specs.declared.refusal.Refusal.TheVariants.{HistoryFull, OutOfMemory};
-ghost use Rattle.jc_model.specs.declared.event.Op.TheVariants.{Clear};
+ghost use Rattle.jc_types.specs.declared.refusal.Refusal.TheVariants.{HistoryFull};
 ghost use Rattle.jc_model.specs.Cache.{Bytes};
 ghost use Rattle.jc_stripe.specs.Keys.{Looks};
 ghost use Rattle.jc_stripe.specs.Reached.{IsReached};
@@ -17,9 +15,9 @@ ghost use Rattle.jc_bulk.specs.Clearing.{ClearsEach, Clears, FailsToClear, IsOut
 ghost use Rattle.jc_bulk.specs.Ends.{KeyEnd, key_ops, failed_entries};
 
 use crate::fault::BulkFault;
+use crate::results::insert_if_failed;
 use indexmap::IndexMap;
 use jc_cache::{Cache, Session};
-use jc_model::Reply;
 use jc_types::{Key, Refusal};
 use std::alloc::{AllocError, Global};
 
@@ -47,9 +45,9 @@ pub fn clear(alloc: Global, cache: &mut Cache, session: &mut Session) -> Result<
     ensures sessions { LeavesSessions session.old cache.old cache.new }
 {
     match look_at_all(alloc, cache) {
-        Err(_failed) => Err(out_of_memory(alloc)),
+        Err(_failed) => Err(BulkFault::of_whole_call(alloc, Refusal::OutOfMemory)),
         Ok(keys) => match IndexMap::with_capacity(alloc, keys.len()) {
-            Err(_failed) => Err(out_of_memory(alloc)),
+            Err(_failed) => Err(BulkFault::of_whole_call(alloc, Refusal::OutOfMemory)),
             Ok(failed) => {
                 let mut failed = failed;
                 cache.begin_call(session);
@@ -107,33 +105,7 @@ fn clear_each(
 {
     for key in keys {
         let ended = cache.clear_at(session, key);
-        note_end(failed, key, ended);
-    }
-}
-
-/// Notes a key that failed.
-fn note_end(failed: &mut IndexMap<Key, Refusal>, key: &Key, ended: Result<Reply, Refusal>)
-    requires new { list_any (pointwise ◌==◌ key.now) (keys_of failed.old.entries) ≡ false }
-    requires room { 0 < spare failed.old }
-    ensures entries { failed.new.entries ≡ failed.old.entries
-        ++ failed_entries (record { key = key.now; op = Clear; ended = ended } ∷ []) }
-    ensures room { spare failed.old ≤ spare failed.new + 1 }
-{
-    match ended {
-        Ok(Reply::Fault(refusal)) | Err(refusal) => note_refusal(failed, key, refusal),
-        Ok(Reply::Value(_) | Reply::Flag(_) | Reply::Unit) => {}
-    }
-}
-
-fn note_refusal(failed: &mut IndexMap<Key, Refusal>, key: &Key, refusal: Refusal)
-    requires new { list_any (pointwise ◌==◌ key.now) (keys_of failed.old.entries) ≡ false }
-    requires room { 0 < spare failed.old }
-    ensures entries { failed.new.entries ≡ failed.old.entries ++ (key.now, refusal) ∷ [] }
-    ensures room { spare failed.old ≤ spare failed.new + 1 }
-{
-    match failed.insert(*key, refusal) {
-        Ok(_old) => {}
-        Err(_failed) => unreachable!(),
+        insert_if_failed(failed, key, &ended);
     }
 }
 
@@ -162,18 +134,5 @@ fn first_of(failed: &IndexMap<Key, Refusal>) -> Option<Refusal>
     match failed.get_index(0) {
         Some(entry) => Some(*entry.1),
         None => None,
-    }
-}
-
-/// What the call returns if an allocation failed.
-fn out_of_memory(alloc: Global) -> BulkFault
-    ensures cause { result.cause ≡ OutOfMemory }
-    ensures failed { result.failed.entries ≡ [] }
-    ensures found { result.found.entries ≡ [] }
-{
-    BulkFault {
-        cause: Refusal::OutOfMemory,
-        failed: IndexMap::new(alloc),
-        found: IndexMap::new(alloc),
     }
 }

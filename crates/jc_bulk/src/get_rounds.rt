@@ -15,33 +15,19 @@ ghost use Rattle.jc_session.specs.declared.counts.Counts.{Counts};
 ghost use Rattle.jc_cache.specs.Caches.{CacheState};
 ghost use Rattle.jc_cache.specs.Outstanding.{ReservedState};
 ghost use Rattle.jc_cache.specs.Sessions.{IsOf};
-ghost use Rattle.jc_bulk.specs.declared.round.Start.TheVariants.{PutOff};
 ghost use Rattle.jc_bulk.specs.GetRounds.{IsGettingInRounds, AreLoadedIn, RunsRounds, StayEnded};
 ghost use Rattle.jc_bulk.specs.GetRounds.{IsCauseIn, failures, failure_at};
-ghost use Rattle.jc_bulk.specs.Gets.{IsGetting, IsLoadedIn, AreCounted, ComesAfterAll, end_started};
+ghost use Rattle.jc_bulk.specs.Gets.{IsGetting, IsLoadedIn, AreCounted, ComesAfterAll};
 ghost use Rattle.jc_bulk.specs.Phased.{LeavesCalls};
 ghost use Rattle.jc_bulk.specs.Rounds.{LoadRound, LoadsInRounds};
 
 use crate::loads::{commit_first_load, start_get};
 use crate::results::refusal_of;
-use crate::round::Start;
 use jc_cache::{Cache, LoadCalls, LoadedCall, LoadedCalls, Session};
 use jc_model::Reply;
 use jc_types::{Key, RESERVATIONS_MAX, Refusal, Value};
 use std::alloc::Global;
 use std::sync::Wait;
-
-/// How a first phase has ended its key, or none if it has reserved it.
-fn end_of(start: Start) -> Option<Result<Reply, Refusal>>
-    requires { start ≡ PutOff → ⊥ }
-    ensures { result ≡ end_started start }
-{
-    match start {
-        Start::Ended(ended) => Some(ended),
-        Start::Reserved => None,
-        Start::PutOff => unreachable!(),
-    }
-}
 
 /// Begins the next of the keys: those before it have had their turn, and `ends` says how each ended, or none while it is reserved.
 fn begin_next(
@@ -76,7 +62,7 @@ fn begin_next(
     let _types: Option<(Reply, Value)> = None;
     let key = &keys[ends.len()];
     let started = start_get(cache, session, key, calls);
-    ends.push_reserved(end_of(started));
+    ends.push_reserved(started.end());
 }
 
 /// Begins keys in their order, from the first one that hasn't had its turn, until none is left, or as many are reserved as may be.

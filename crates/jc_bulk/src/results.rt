@@ -1,6 +1,6 @@
 //! What a bulk call returns of its keys.
-ghost use Rattle.std.specs.Prelude.{◌≡◌, ◌==◌, ◌≤◌, ◌<◌, ◌+◌, ◌++◌, ◌∷◌, [], false};
-ghost use Rattle.std.specs.List.{list_any};
+ghost use Rattle.std.specs.Prelude.{◌≡◌, ◌==◌, ◌≤◌, ◌<◌, ◌+◌, ◌++◌, ◌∷◌, [], false, option_map};
+ghost use Rattle.std.specs.List.{list_any, cons_option};
 ghost use Rattle.std.specs.Map.{keys_of};
 ghost use Rattle.std.specs.Cmp.Lexicographic.{pointwise};
 ghost use Rattle.indexmap.specs.IndexMap.{spare};
@@ -33,6 +33,24 @@ pub(crate) fn insert_failed(failed: &mut IndexMap<Key, Refusal>, key: &Key, refu
     match failed.insert(*key, refusal) {
         Ok(_old) => {}
         Err(_failed) => unreachable!(),
+    }
+}
+
+/// Adds a key if it failed. It takes no memory.
+pub(crate) fn insert_if_failed(
+    failed: &mut IndexMap<Key, Refusal>,
+    key: &Key,
+    ended: &Result<Reply, Refusal>,
+)
+    requires new { list_any (pointwise ◌==◌ key.now) (keys_of failed.old.entries) ≡ false }
+    requires room { 0 < spare failed.old }
+    ensures entries { failed.new.entries ≡ failed.old.entries
+        ++ cons_option (option_map (λ refusal. (key.now, refusal)) (refusal_in ended.now)) [] }
+    ensures room { spare failed.old ≤ spare failed.new + 1 }
+{
+    match ended {
+        Ok(Reply::Fault(refusal)) | Err(refusal) => insert_failed(failed, key, *refusal),
+        Ok(Reply::Value(_) | Reply::Flag(_) | Reply::Unit) => {}
     }
 }
 

@@ -1,11 +1,10 @@
 //! `putAll` and `removeAll`, of some keys or of every key: many keys are written or deleted.
-ghost use Rattle.std.specs.Prelude.{◌≡◌, ◌==◌, ◌≤◌, ◌<◌, ◌+◌, ◌⊎◌, ◌++◌, Bool, List, [], length, false, Option, None, Some, IfOk, IfErr, slice_get, vec_capacity};
+ghost use Rattle.std.specs.Prelude.{◌≡◌, ◌==◌, ◌≤◌, ◌<◌, ◌+◌, ◌⊎◌, ◌++◌, List, [], length, false, Option, None, Some, IfOk, IfErr, slice_get, vec_capacity};
 ghost use Rattle.std.specs.List.{IsDistinct, list_any};
 ghost use Rattle.std.specs.Map.{keys_of};
 ghost use Rattle.std.specs.Cmp.Lexicographic.{pointwise};
 ghost use Rattle.indexmap.specs.IndexMap.{spare};
 ghost use Rattle.jc_types.specs.declared.limits.TheConstants.{BULK_KEYS_MAX, RESERVATIONS_MAX};
-ghost use Rattle.jc_types.specs.declared.refusal.Refusal.{Refusal as RefusalData};
 ghost use Rattle.jc_types.specs.declared.refusal.Refusal.TheVariants.{TooManyKeys};
 ghost use Rattle.jc_model.specs.declared.event.Op.TheVariants.{Put};
 ghost use Rattle.jc_model.specs.Cache.{Bytes};
@@ -22,7 +21,7 @@ ghost use Rattle.jc_bulk.specs.WritingAll.{WritesAll, WritesWithoutFault, FailsT
 use crate::clear_all::look_at_all;
 use crate::fault::BulkFault;
 use crate::laws::stays_underway;
-use crate::results::insert_failed;
+use crate::results::insert_if_failed;
 use crate::write_rounds::{no_calls, run_rounds};
 use indexmap::{IndexMap, IndexSet};
 use jc_cache::{Cache, Session, WriteCalls};
@@ -356,10 +355,7 @@ fn add_failure(
     ensures entries { failed.new.entries ≡ failed.old.entries ++ failed_entries (write_end target.now end.now) }
     ensures room { spare failed.old ≤ spare failed.new + 1 }
 {
-    match end {
-        Some(Ok(Reply::Fault(refusal)) | Err(refusal)) => insert_failed(
-            failed, &target.0, *refusal,
-        ),
-        Some(Ok(Reply::Value(_) | Reply::Flag(_) | Reply::Unit)) | None => {}
+    if let Some(ended) = end {
+        insert_if_failed(failed, &target.0, ended);
     }
 }

@@ -13,7 +13,8 @@ use Rattle.jc_model.specs.declared.event.Op.TheVariants.{Clear}
 use Rattle.jc_model.specs.Cache.{Bytes}
 use Rattle.jc_cache.specs.Sessions.{MayCallAt}
 use Rattle.jc_bulk.specs.Bulk.{clear_ops}
-use Rattle.jc_bulk.proofs.ClearingKeys.{absent, key_there, still_absent, clears_push, ops_push, failed_push, all_full, leaves_both}
+use Rattle.jc_bulk.proofs.Gets.{absent, key_there}
+use Rattle.jc_bulk.proofs.ClearingKeys.{still_absent, clears_push, ops_push, failed_push, all_full, leaves_both}
 use Rattle.jc_bulk.proofs.clear_all.clear_each.Goals as goal
 
 pub loop-key-init : goal.loop-key-init
@@ -39,15 +40,15 @@ clear_at-ended-requires-clause-key g c =
     let there : slice_get keys i ≡ Some c.key-item.result = key_there keys i c.key-item.result c.loop-key-test.true c.key-item.is in
     c.loop-key.invariant.rest c.key-item.result (absent keys i c.key-item.result c.requires.distinct there)
 
-pub note_end-requires-clause-new : goal.note_end-requires-clause-new
-note_end-requires-clause-new g c =
+pub insert_if_failed-requires-clause-new : goal.insert_if_failed-requires-clause-new
+insert_if_failed-requires-clause-new g c =
     let keys = c.args.keys.now in
     let i = c.loop-key.key-index in
     let there : slice_get keys i ≡ Some c.key-item.result = key_there keys i c.key-item.result c.loop-key-test.true c.key-item.is in
     c.loop-key.invariant.new c.key-item.result (absent keys i c.key-item.result c.requires.distinct there)
 
-pub note_end-requires-clause-room : goal.note_end-requires-clause-room
-note_end-requires-clause-room g c = omega (arith, c.loop-key.invariant.room, c.loop-key-test.true)
+pub insert_if_failed-requires-clause-room : goal.insert_if_failed-requires-clause-room
+insert_if_failed-requires-clause-room g c = omega (arith, c.loop-key.invariant.room, c.loop-key-test.true)
 
 pub loop-key-preserved : goal.loop-key-preserved
 loop-key-preserved g c =
@@ -58,7 +59,7 @@ loop-key-preserved g c =
     let old = c.loop-key.invariant in
     let each = old.each in
     let one = c.clear_at-ended.ensures.call in
-    let noted = c.note_end.ensures.entries in
+    let noted = c.insert_if_failed.ensures.entries in
     let left : c.clear_at-ended.new.session.caller ≡ c.loop-key.session.caller = ap (λ s. s.caller) one.left in
     let more : take (i + 1) keys ≡ take i keys ++ key ∷ [] = take_more keys i key c.loop-key-test.true ∙ ap (λ k. take i keys ++ k ∷ []) (sym c.key-item.is) in
     record {
@@ -82,7 +83,7 @@ loop-key-preserved g c =
       );
       why = all_full one.before one.after c.loop-key.session.caller key ended _ _ one.ends c.clear_at-ended.ensures.why old.why noted;
       outside = ap (λ s. s.hands) one.left ∙ old.outside;
-      room = omega (arith, old.room, c.note_end.ensures.room);
+      room = omega (arith, old.room, c.insert_if_failed.ensures.room);
       sessions = leaves_both _ _ _ c.args.session.now c.loop-key.session old.caller old.sessions one.sessions;
     }
 

@@ -35,7 +35,7 @@ returns-clause-counts g c first counted =
     let why = started.ensures.why in
     let counts = begun_counted c.args.cache.now.mark why.0 c.args.session.now.caller c.index-keys-len.result first c.args.session.now.counts c.args.ends.now.items calls started.new.calls x
     c.requires.few why.2 started.ensures.calls counted in
-    subst (λ es. AreCounted first es (length started.new.calls.items) started.new.session.counts) (sym (c.push_reserved.ensures.items ∙ ap (λ e. c.args.ends.now.items ++ e ∷ []) c.end_of.ensures))
+    subst (λ es. AreCounted first es (length started.new.calls.items) started.new.session.counts) (sym (c.push_reserved.ensures.items ∙ ap (λ e. c.args.ends.now.items ++ e ∷ []) c.end.ensures))
     (ap (λ s. s.counts) started.ensures.session ∙ counts)
 
 pub returns-clause-gets : goal.returns-clause-gets
@@ -49,7 +49,7 @@ returns-clause-gets g c rounds was =
     let why = started.ensures.why in
     let more : take (i + 1) keys ≡ take i keys ++ key ∷ [] = take_more keys i key c.requires.more ∙ ap (λ k. take i keys ++ k ∷ []) (sym is) in
     subst (λ es. IsGettingInRounds rounds keys started.new.cache c.args.session.now.caller es started.new.calls.items)
-    (sym (c.push_reserved.ensures.items ∙ ap (λ e. c.args.ends.now.items ++ e ∷ []) c.end_of.ensures))
+    (sym (c.push_reserved.ensures.items ∙ ap (λ e. c.args.ends.now.items ++ e ∷ []) c.end.ensures))
     (begun_in_rounds rounds keys c.args.cache.now started.new.cache c.args.session.now.caller c.args.ends.now.items c.args.calls.now started.new.calls key started.result why.0
     was fresh more c.requires.few why.1 why.2 started.ensures.calls started.ensures.underway started.ensures.adds)
 
@@ -58,4 +58,4 @@ returns-clause-grows g c =
     after_all c.args.session.now.caller _ c.args.cache.now c.start_get-started.new.cache c.start_get-started.ensures.adds
 
 pub returns-clause-ends : goal.returns-clause-ends
-returns-clause-ends g c = subst (StayEnded c.args.ends.now.items) (sym c.push_reserved.ensures.items) (stay_push c.args.ends.now.items c.end_of.result)
+returns-clause-ends g c = subst (StayEnded c.args.ends.now.items) (sym c.push_reserved.ensures.items) (stay_push c.args.ends.now.items c.end.result)
