@@ -5,6 +5,7 @@ mod Records
 mod Starting
 mod Phased
 mod Refusing
+mod OnePhase
 mod KeyEnds
 mod ClearingKeys
 mod LookingAtAll

@@ -1,16 +1,10 @@
-use Rattle.std.proofs.Common.{false, sym, ap, ◌∙◌, subst}
+use Rattle.std.proofs.Common.{false, ap, ◌∙◌, refl}
 use Rattle.jc_model.specs.declared.event.Op.TheVariants as op
 use Rattle.jc_model.specs.Batches.{is_among}
 use Rattle.jc_stripe.specs.declared.begun.Begun.TheVariants as begun
-use Rattle.jc_bulk.specs.Laws.{events_begun}
 use Rattle.jc_bulk.specs.Starting.{reservations_in}
-use Rattle.jc_bulk.specs.Underway.{IsUnder, IsUnderway}
-use Rattle.jc_types.specs.Stripes.{stripe_of}
-use Rattle.jc_cache.proofs.CallerLemmas.{at_key}
-use Rattle.jc_bulk.proofs.Phased.{begins_after, adds_at}
-use Rattle.jc_bulk.proofs.Refusing.{refused_full, put_off_out}
-use Rattle.jc_bulk.proofs.Starting.{keys_same, one_more}
-use Rattle.jc_bulk.proofs.Under.{no_more}
+use Rattle.jc_bulk.proofs.OnePhase.{still_underway, reserved_underway, begun_adds, put_off_for, refused_for}
+use Rattle.jc_bulk.proofs.Starting.{keys_same}
 use Rattle.jc_bulk.proofs.loads.start_get.Goals as goal
 
 pub start-requires-clause-may : goal.start-requires-clause-may
@@ -27,94 +21,46 @@ unreachable-requires-in-Joined g c =
 
 pub returns-in-Done-clause-underway : goal.returns-in-Done-clause-underway
 returns-in-Done-clause-underway g c =
-    let calls = c.args.calls.now.items in
-    subst (IsUnderway c.start.new.self c.args.session.now.caller) (no_more (reservations_in calls))
-    (c.stays_underway.ensures.begins c.args.cache.now c.start.new.self c.args.session.now.caller (reservations_in calls) c.args.key.now op.Get
-    (begun.Done c.in-Done.step) c.requires.underway (ap (λ ks. is_among ks c.args.key.now) (keys_same calls) ∙ c.requires.away) c.in-Done.ensures.phase)
+    still_underway c.stays_underway.ensures c.args.cache.now c.start.new.self c.args.session.now.caller c.args.calls.now.items c.args.key.now op.Get
+    (begun.Done c.in-Done.step) c.requires.underway c.requires.away c.in-Done.ensures.phase refl
 
 pub returns-in-Done-clause-adds : goal.returns-in-Done-clause-adds
 returns-in-Done-clause-adds g c =
-    let who = c.args.session.now.caller in
-    let b = begun.Done c.in-Done.step in
-    let made = c.in-Done.ensures.phase in
-    adds_at who (events_begun who c.args.key.now op.Get b) c.args.key.now who.session c.args.cache.now c.start.new.self made
-    (begins_after made.before made.after who c.args.key.now op.Get b c.grows.ensures made.made)
-    (λ q s t was now. c.records.ensures.begins c.args.cache.now c.start.new.self who c.args.key.now op.Get b q s t made was now)
+    begun_adds c.grows.ensures c.records.ensures c.args.cache.now c.start.new.self c.args.session.now.caller c.args.key.now op.Get (begun.Done c.in-Done.step) c.in-Done.ensures.phase
 
 pub returns-in-Load-clause-underway : goal.returns-in-Load-clause-underway
 returns-in-Load-clause-underway g c =
-    let calls = c.args.calls.now.items in
-    subst (IsUnderway c.start.new.self c.args.session.now.caller) (sym (ap (λ s. reservations_in s.items) c.push.ensures ∙ one_more calls c.in-Load.call))
-    (c.stays_underway.ensures.begins c.args.cache.now c.start.new.self c.args.session.now.caller (reservations_in calls) c.args.key.now op.Get
-    (begun.Load (record { reservation = c.in-Load.call.reservation; asked = false })) c.requires.underway
-    (ap (λ ks. is_among ks c.args.key.now) (keys_same calls) ∙ c.requires.away) c.in-Load.ensures.phase)
+    reserved_underway c.stays_underway.ensures c.args.cache.now c.start.new.self c.args.session.now.caller c.args.calls.now.items c.push.new.self.items c.in-Load.call c.args.key.now op.Get
+    (begun.Load (record { reservation = c.in-Load.call.reservation; asked = false })) c.requires.underway c.requires.away c.in-Load.ensures.phase refl (ap (λ s. s.items) c.push.ensures)
 
 pub returns-in-Load-clause-adds : goal.returns-in-Load-clause-adds
 returns-in-Load-clause-adds g c =
-    let who = c.args.session.now.caller in
-    let b = begun.Load (record { reservation = c.in-Load.call.reservation; asked = false }) in
-    let made = c.in-Load.ensures.phase in
-    adds_at who (events_begun who c.args.key.now op.Get b) c.args.key.now who.session c.args.cache.now c.start.new.self made
-    (begins_after made.before made.after who c.args.key.now op.Get b c.grows.ensures made.made)
-    (λ q s t was now. c.records.ensures.begins c.args.cache.now c.start.new.self who c.args.key.now op.Get b q s t made was now)
+    begun_adds c.grows.ensures c.records.ensures c.args.cache.now c.start.new.self c.args.session.now.caller c.args.key.now op.Get (begun.Load (record { reservation = c.in-Load.call.reservation; asked = false })) c.in-Load.ensures.phase
 
 pub returns-then-is_put_off-clause-why : goal.returns-then-is_put_off-clause-why
 returns-then-is_put_off-clause-why g c =
-    let calls = c.args.calls.now.items in
-    let key = c.args.key.now in
-    let who = c.args.session.now.caller in
-    let cache = c.args.cache.now in
-    let made = c.in-Refused.ensures.phase in
-    let put_off = c.if-is_put_off.ensures in (
-      made.before,
-      made.at.was,
-      (
-        (c.in-Refused.refusal, made.made.0, (cc)),
-        put_off_out cache.config who (reservations_in calls) (stripe_of key cache.config.stripes) made.before key op.Get c.in-Refused.refusal
-            (at_key (IsUnder cache.config who (reservations_in calls)) cache key made.before c.requires.underway.stripes made.at.was)
-            (ap (λ ks. is_among ks key) (keys_same calls) ∙ c.requires.away) made.made.0 (cc),
-      ),
-    )
+    let put_off = c.if-is_put_off.ensures in
+    put_off_for c.args.cache.now c.start.new.self c.args.session.now.caller c.args.calls.now.items c.args.key.now op.Get c.in-Refused.refusal c.requires.underway c.requires.away c.in-Refused.ensures.phase (cc)
 
 pub returns-then-is_put_off-clause-underway : goal.returns-then-is_put_off-clause-underway
 returns-then-is_put_off-clause-underway g c =
-    let calls = c.args.calls.now.items in
-    subst (IsUnderway c.start.new.self c.args.session.now.caller) (no_more (reservations_in calls))
-    (c.stays_underway.ensures.begins c.args.cache.now c.start.new.self c.args.session.now.caller (reservations_in calls) c.args.key.now op.Get
-    (begun.Refused c.in-Refused.refusal) c.requires.underway (ap (λ ks. is_among ks c.args.key.now) (keys_same calls) ∙ c.requires.away) c.in-Refused.ensures.phase)
+    still_underway c.stays_underway.ensures c.args.cache.now c.start.new.self c.args.session.now.caller c.args.calls.now.items c.args.key.now op.Get
+    (begun.Refused c.in-Refused.refusal) c.requires.underway c.requires.away c.in-Refused.ensures.phase refl
 
 pub returns-then-is_put_off-clause-adds : goal.returns-then-is_put_off-clause-adds
 returns-then-is_put_off-clause-adds g c =
-    let who = c.args.session.now.caller in
-    let b = begun.Refused c.in-Refused.refusal in
-    let made = c.in-Refused.ensures.phase in
-    adds_at who (events_begun who c.args.key.now op.Get b) c.args.key.now who.session c.args.cache.now c.start.new.self made
-    (begins_after made.before made.after who c.args.key.now op.Get b c.grows.ensures made.made)
-    (λ q s t was now. c.records.ensures.begins c.args.cache.now c.start.new.self who c.args.key.now op.Get b q s t made was now)
+    begun_adds c.grows.ensures c.records.ensures c.args.cache.now c.start.new.self c.args.session.now.caller c.args.key.now op.Get (begun.Refused c.in-Refused.refusal) c.in-Refused.ensures.phase
 
 pub returns-else-is_put_off-clause-why : goal.returns-else-is_put_off-clause-why
 returns-else-is_put_off-clause-why g c =
-    let calls = c.args.calls.now.items in
-    let key = c.args.key.now in
-    let who = c.args.session.now.caller in
-    let cache = c.args.cache.now in
-    let made = c.in-Refused.ensures.phase in
-    let full = refused_full cache.config who (reservations_in calls) (stripe_of key cache.config.stripes) made.before key op.Get c.in-Refused.refusal
-    (at_key (IsUnder cache.config who (reservations_in calls)) cache key made.before c.requires.underway.stripes made.at.was) made.reached made.made.0 (cc) in
-    (made.before, made.at.was, ((made.made.0, (cc)), full.0, full.1))
+    let put_off = c.if-is_put_off.ensures in
+    refused_for c.args.cache.now c.start.new.self c.args.session.now.caller c.args.calls.now.items c.args.key.now op.Get c.in-Refused.refusal c.requires.underway c.in-Refused.ensures.phase (cc)
 
 pub returns-else-is_put_off-clause-underway : goal.returns-else-is_put_off-clause-underway
 returns-else-is_put_off-clause-underway g c =
-    let calls = c.args.calls.now.items in
-    subst (IsUnderway c.start.new.self c.args.session.now.caller) (no_more (reservations_in calls))
-    (c.stays_underway.ensures.begins c.args.cache.now c.start.new.self c.args.session.now.caller (reservations_in calls) c.args.key.now op.Get
-    (begun.Refused c.in-Refused.refusal) c.requires.underway (ap (λ ks. is_among ks c.args.key.now) (keys_same calls) ∙ c.requires.away) c.in-Refused.ensures.phase)
+    still_underway c.stays_underway.ensures c.args.cache.now c.start.new.self c.args.session.now.caller c.args.calls.now.items c.args.key.now op.Get
+    (begun.Refused c.in-Refused.refusal) c.requires.underway c.requires.away c.in-Refused.ensures.phase refl
 
 pub returns-else-is_put_off-clause-adds : goal.returns-else-is_put_off-clause-adds
 returns-else-is_put_off-clause-adds g c =
-    let who = c.args.session.now.caller in
-    let b = begun.Refused c.in-Refused.refusal in
-    let made = c.in-Refused.ensures.phase in
-    adds_at who (events_begun who c.args.key.now op.Get b) c.args.key.now who.session c.args.cache.now c.start.new.self made
-    (begins_after made.before made.after who c.args.key.now op.Get b c.grows.ensures made.made)
-    (λ q s t was now. c.records.ensures.begins c.args.cache.now c.start.new.self who c.args.key.now op.Get b q s t made was now)
+    begun_adds c.grows.ensures c.records.ensures c.args.cache.now c.start.new.self c.args.session.now.caller c.args.key.now op.Get (begun.Refused c.in-Refused.refusal) c.in-Refused.ensures.phase
