@@ -197,7 +197,7 @@ pub no_keys : (calls : List ReservedState) → reserved_keys calls ≡ [] → ca
 no_keys [] none = refl
 no_keys (c ∷ calls) none = cc
 
-no_answers : (said : Bytes → LoadAnswer) (calls : List ReservedState) → with_answers said calls ≡ [] → calls ≡ []
+pub no_answers : {A : Type 0} (said : Bytes → A) (calls : List ReservedState) → with_answers said calls ≡ [] → calls ≡ []
 no_answers said [] none = refl
 no_answers said (c ∷ calls) none = cc
 

@@ -224,7 +224,7 @@ not_open (t ∷ turns) key none =
     let parts = or_parts (pointwise ◌==◌ key t.key) (is_among (turn_keys turns) key) none in
     not_here key t.key t.ended (open_keys turns) parts.0 (not_open turns key parts.1)
 
-too_many : (calls : List ReservedState) → length calls < RESERVATIONS_MAX → RESERVATIONS_MAX ≤ length (reservations_in calls) → ⊥
+pub too_many : (calls : List ReservedState) → length calls < RESERVATIONS_MAX → RESERVATIONS_MAX ≤ length (reservations_in calls) → ⊥
 too_many calls few many = omega (arith, few, many, length-map calls (λ (c : ReservedState). c.reservation))
 
 calls_after : (mark : Mark) (caller : Caller) (key : Bytes) (x : Start) (old new : BatchState ReservedState) → StartsLoad mark caller key x old new → AllByRecursion (IsGetCall mark caller) old.items → AllByRecursion (IsGetCall mark caller) new.items
@@ -283,26 +283,36 @@ own_push own (Some ended ∷ ends) e = own_push (own_after own ended) ends e
 fewer : (n : ℕ) → n < RESERVATIONS_MAX → n < last_number
 fewer n few = omega (arith, few)
 
-pub begun_counted : (mark : Mark) (s : State) (caller : Caller) (key : Bytes) (first counts : Counts) (ends : List (Option (Result Reply Refusal))) (calls calls' : BatchState ReservedState) (x : Start)
-    → length calls.items < RESERVATIONS_MAX → StartsFor s caller (reservations_in calls.items) key Get x → StartsLoad mark caller key x calls calls'
-    → AreCounted first ends (length calls.items) counts → AreCounted first (ends ++ end_started x ∷ []) (length calls'.items) (counts_started counts x)
-begun_counted mark s caller key first counts ends calls calls' (start.Ended (Ok reply)) few why h counted =
+as_many : (calls calls' : List ReservedState) (ks : List Bytes) → reserved_keys calls' ≡ reserved_keys calls ++ ks → length calls' ≡ length calls + length ks
+as_many calls calls' ks is =
+    omega (arith, ap length is, length-append (reserved_keys calls) ks, length-map calls (λ (c : ReservedState). c.reservation.key), length-map calls' (λ (c : ReservedState). c.reservation.key))
+
+same_many : (calls calls' : List ReservedState) → reserved_keys calls' ≡ reserved_keys calls ++ [] → length calls ≡ length calls'
+same_many calls calls' is = omega (arith, as_many calls calls' [] is)
+
+one_many : (calls calls' : List ReservedState) (key : Bytes) → length calls < RESERVATIONS_MAX → reserved_keys calls' ≡ reserved_keys calls ++ key ∷ [] → one_more (length calls) ≡ length calls'
+one_many calls calls' key few is = next_number (length calls) (fewer (length calls) few) ∙ sym (as_many calls calls' (key ∷ []) is)
+
+pub begun_counted : (s : State) (caller : Caller) (key : Bytes) (op : Op) (first counts : Counts) (ends : List (Option (Result Reply Refusal))) (calls calls' : List ReservedState) (x : Start)
+    → length calls < RESERVATIONS_MAX → StartsFor s caller (reservations_in calls) key op x → reserved_keys calls' ≡ reserved_keys calls ++ cons_option (key_if_open key (end_started x)) []
+    → AreCounted first ends (length calls) counts → AreCounted first (ends ++ end_started x ∷ []) (length calls') (counts_started counts x)
+begun_counted s caller key op first counts ends calls calls' (start.Ended (Ok reply)) few why is counted =
     let own = own_push first.own ends (Some (Ok reply)) in
-    ap (λ (c : Counts). record c { own = one_more c.own }) counted
-    ∙ (λ i. record first { own = sym own i; reservations = ap (λ (b : BatchState ReservedState). length b.items) (sym h) i })
-begun_counted mark s caller key first counts ends calls calls' (start.Ended (Err refusal)) few why h counted =
+    let many = same_many calls calls' is in
+    ap (λ (c : Counts). record c { own = one_more c.own }) counted ∙ (λ i. record first { own = sym own i; reservations = many i })
+begun_counted s caller key op first counts ends calls calls' (start.Ended (Err refusal)) few why is counted =
     let own = own_push first.own ends (Some (Err refusal)) in
-    counted ∙ (λ i. record first { own = sym own i; reservations = ap (λ (b : BatchState ReservedState). length b.items) (sym h) i })
-begun_counted mark s caller key first counts ends calls calls' start.Reserved few why h counted =
+    let many = same_many calls calls' is in
+    counted ∙ (λ i. record first { own = sym own i; reservations = many i })
+begun_counted s caller key op first counts ends calls calls' start.Reserved few why is counted =
     let own = own_push first.own ends None in
-    let more : one_more (length calls.items) ≡ length calls'.items =
-    next_number (length calls.items) (fewer (length calls.items) few) ∙ sym (one_longer calls.items h.0) ∙ ap (λ (b : BatchState ReservedState). length b.items) (sym h.3) in
-    ap (λ (c : Counts). record c { reservations = one_more c.reservations }) counted ∙ (λ i. record first { own = sym own i; reservations = more i })
-begun_counted mark s caller key first counts ends calls calls' start.PutOff few why h counted = absurd (too_many calls.items few why.1)
+    let many = one_many calls calls' key few is in
+    ap (λ (c : Counts). record c { reservations = one_more c.reservations }) counted ∙ (λ i. record first { own = sym own i; reservations = many i })
+begun_counted s caller key op first counts ends calls calls' start.PutOff few why is counted = absurd (too_many calls few why.1)
 
 -- 6. The keys in order.
 
-at_place : {X : Type 0} (P : X → Type 0) (xs : List X) (i : ℕ) (x : X) → AllByRecursion P xs → slice_get xs i ≡ Some x → P x
+pub at_place : {X : Type 0} (P : X → Type 0) (xs : List X) (i : ℕ) (x : X) → AllByRecursion P xs → slice_get xs i ≡ Some x → P x
 at_place P [] i x all at = cc
 at_place P (y ∷ ys) zero x all at = let is : y ≡ x = cc in subst P is all.0
 at_place P (y ∷ ys) (suc i) x all at = at_place P ys i x all.1 at

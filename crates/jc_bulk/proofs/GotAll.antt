@@ -2,8 +2,8 @@
 --     begun_rounds    before the first round
 --     runs_from       the rounds of the session's next call
 --     got_all         after the last one: the call is carried out
---     may_call        the session may begin its next call
---     leaves_all      and so may each other session that might
+--     leaves_under    each other session that might begin its next call still may
+--     may_call_next, may_call    and so may the session
 use Rattle.std.proofs.Common.{◌≡◌, ◌==◌, ◌&&◌, ◌||◌, ◌≤◌, ◌++◌, ℕ, zero, suc, List, [], ◌∷◌, All, length, take, cond, Bool, true, false, not, Option, None, Some, is_some, Result, Ok, Err, nat_lt, refl, sym, ap, ◌∙◌, subst, arith}
 use Rattle.std.proofs.lemmas.Bool.{and_parts, eqb-true}
 use Rattle.std.proofs.lemmas.Bool.Decides.{nat_tests}
@@ -45,6 +45,7 @@ use Rattle.jc_bulk.specs.Laws.{StaysUnderway}
 use Rattle.jc_bulk.specs.Phased.{LeavesCalls}
 use Rattle.jc_bulk.specs.Recorded.{steps_of}
 use Rattle.jc_bulk.specs.Rounds.{LoadRound, AreOnce, keys_in, said_in_loads}
+use Rattle.jc_bulk.specs.Underway.{IsUnderway}
 use Rattle.jc_bulk.proofs.GetCommits.{distinct_take}
 use Rattle.jc_bulk.proofs.Gets.{one_state}
 
@@ -178,15 +179,10 @@ once_only keys distinct = λ i j d less near. apart_from_distinct (pointwise ◌
 
 -- 4. The whole call.
 
-module _ {I J : Type 0} {D : I → Type 0} {E : J → Type 0} (loads_all : LoadAllRelation ((i : I) × D i)) (load_state : (i : I) × D i → List ℕ) where
-  pub runs_from : (cache new : CacheState) (session mid after : Session I J D E) (keys : List Bytes) (was ends : List (Option (Result Reply Refusal))) → mid ≡ next_call session → was ≡ []
-      → RunsRounds loads_all load_state keys cache mid was new after ends → RunsRounds loads_all load_state keys cache (next_call session) [] new after ends
-  runs_from cache new session mid after keys was ends next none runs =
-      subst (λ es. RunsRounds loads_all load_state keys cache (next_call session) es new after ends) none (subst (λ s. RunsRounds loads_all load_state keys cache s was new after ends) next runs)
-
-  pub leaves_all : (law : StaysUnderway) (cache new : CacheState) (session after : Session I J D E) (rounds : List LoadRound) (keys : List Bytes) (caller : Caller) (ends : List (Option (Result Reply Refusal)))
-      → caller.session ≡ session.caller.session → IsGettingInRounds rounds keys new caller ends [] → ComesAfterAll cache new → LeavesCalls caller.session cache new → LeavesSessions session cache new
-  leaves_all law cache new session after rounds keys caller ends who gets grows others other differs may = record {
+module _ {I J : Type 0} {D : I → Type 0} {E : J → Type 0} where
+  pub leaves_under : (law : StaysUnderway) (cache new : CacheState) (session : Session I J D E) (caller : Caller) → caller.session ≡ session.caller.session → IsUnderway new caller [] → ComesAfterAll cache new
+      → LeavesCalls caller.session cache new → LeavesSessions session cache new
+  leaves_under law cache new session caller who under grows others other differs may = record {
     own = record {
       mark = may.own.mark ∙ sym grows.mark;
       given = subst (λ n. other.caller.session ≤ n) (sym grows.given) may.own.given;
@@ -197,8 +193,29 @@ module _ {I J : Type 0} {D : I → Type 0} {E : J → Type 0} (loads_all : LoadA
     reservations = may.reservations;
     joins = may.joins;
     numbers = others other.caller.session (one_more other.caller.call) (ap (λ n. other.caller.session == n) who ∙ differs) may.numbers;
-    idle = (law.closes new caller gets.gets.underway).0;
+    idle = (law.closes new caller under).0;
   }
+
+  pub may_call_next : (law : StaysUnderway) (cache new : CacheState) (session after : Session I J D E) (ends : List (Option (Result Reply Refusal))) → MayCall cache session → IsOf new after
+      → after ≡ record (next_call session) { counts = after.counts; hands = after.hands } → IsUnderway new (next_call session).caller []
+      → (AreCounted session.counts [] 0 session.counts → AreCounted session.counts ends 0 after.counts) → MayCall new after
+  may_call_next law cache new session after ends may own left under counts =
+      let who : after.caller ≡ (next_call session).caller = ap (λ (s : Session I J D E). s.caller) left in
+      let closed = law.closes new (next_call session).caller under in
+      let counted = counts (λ i. record session.counts { reservations = may.reservations i }) in
+      record {
+        own = own;
+        reservations = ap (λ (n : Counts). n.reservations) counted;
+        joins = ap (λ (n : Counts). n.joins) counted ∙ may.joins;
+        numbers = subst (λ (w : Caller). HasNoCallsFrom new w.session (one_more w.call)) (sym who) closed.1;
+        idle = closed.0;
+      }
+
+module _ {I J : Type 0} {D : I → Type 0} {E : J → Type 0} (loads_all : LoadAllRelation ((i : I) × D i)) (load_state : (i : I) × D i → List ℕ) where
+  pub runs_from : (cache new : CacheState) (session mid after : Session I J D E) (keys : List Bytes) (was ends : List (Option (Result Reply Refusal))) → mid ≡ next_call session → was ≡ []
+      → RunsRounds loads_all load_state keys cache mid was new after ends → RunsRounds loads_all load_state keys cache (next_call session) [] new after ends
+  runs_from cache new session mid after keys was ends next none runs =
+      subst (λ es. RunsRounds loads_all load_state keys cache (next_call session) es new after ends) none (subst (λ s. RunsRounds loads_all load_state keys cache s was new after ends) next runs)
 
   -- the session's counts after the call
   counts_got : (session after : Session I J D E) (turns : List Turn) (ends : List (Option (Result Reply Refusal))) → session.counts.reservations ≡ 0 → turn_ends turns ≡ ends → AreCounted session.counts ends 0 after.counts
@@ -210,18 +227,7 @@ module _ {I J : Type 0} {D : I → Type 0} {E : J → Type 0} (loads_all : LoadA
 
   pub may_call : (law : StaysUnderway) (cache new : CacheState) (session after : Session I J D E) (keys : List Bytes) (ends : List (Option (Result Reply Refusal))) → MayCall cache session → IsOf new after
       → RunsRounds loads_all load_state keys cache (next_call session) [] new after ends → IsGettingInRounds [] keys cache (next_call session).caller [] [] → MayCall new after
-  may_call law cache new session after keys ends may own runs first =
-      let all = runs.gets [] first in
-      let who : after.caller ≡ (next_call session).caller = ap (λ (s : Session I J D E). s.caller) runs.left in
-      let closed = law.closes new (next_call session).caller all.2.gets.underway in
-      let counted = runs.counts session.counts (λ i. record session.counts { reservations = may.reservations i }) in
-      record {
-        own = own;
-        reservations = ap (λ (n : Counts). n.reservations) counted;
-        joins = ap (λ (n : Counts). n.joins) counted ∙ may.joins;
-        numbers = subst (λ (w : Caller). HasNoCallsFrom new w.session (one_more w.call)) (sym who) closed.1;
-        idle = closed.0;
-      }
+  may_call law cache new session after keys ends may own runs first = may_call_next law cache new session after ends may own runs.left (runs.gets [] first).2.gets.underway (runs.counts session.counts)
 
   pub got_all : (law : StaysUnderway) (cache new : CacheState) (session after : Session I J D E) (keys : List Bytes) (ends : List (Option (Result Reply Refusal))) → MayCall cache session → length ends ≡ length keys
       → RunsRounds loads_all load_state keys cache (next_call session) [] new after ends → IsGettingInRounds [] keys cache (next_call session).caller [] []
@@ -253,7 +259,7 @@ module _ {I J : Type 0} {D : I → Type 0} {E : J → Type 0} (loads_all : LoadA
             others = λ key state away is. gets.others key state (ap (λ ks. is_among ks key) (keys_are ∙ sym (got_keys keys)) ∙ away) is;
             grows = grows_to cache new runs.grows;
             left = runs.left ∙ ap (λ (n : Counts). record session { caller = caller; counts = n; hands = after.hands }) counts;
-            sessions = leaves_all law cache new session after rounds keys caller ends refl all.2 runs.grows runs.others;
+            sessions = leaves_under law cache new session caller refl gets.underway runs.grows runs.others;
           };
           asked = record {
             loader = all.1;

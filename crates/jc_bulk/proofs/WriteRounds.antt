@@ -35,7 +35,7 @@ use Rattle.jc_bulk.specs.StartingLoads.{StartsFor}
 use Rattle.jc_bulk.specs.Underway.{IsUnderway}
 use Rattle.jc_bulk.specs.WriteRounds.{IsWritingInRounds, keys_written}
 use Rattle.jc_bulk.specs.Writing.{AreWrittenIn, IsWrittenIn}
-use Rattle.jc_bulk.proofs.GetRounds.{none_of, asked_one, fresh_push, open_some, all_over, no_keys}
+use Rattle.jc_bulk.proofs.GetRounds.{none_of, asked_one, fresh_push, open_some, all_over, no_keys, no_answers}
 use Rattle.jc_bulk.proofs.Gets.{absent, one_longer}
 use Rattle.jc_bulk.proofs.Writes.{target_there, key_of_target, as_many_keys, begun_writing, refused_writing, write_open_after}
 
@@ -110,14 +110,10 @@ one_written said targets cache caller ends calls later call (c ∷ out) all is =
     let rest : later ≡ with_answers said out = cc in
     (out, subst (λ a. IsWrittenIn said targets cache caller ends a out) head (record { distinct = all.distinct; answer = refl; writes = all.writes }), rest)
 
-nobody : (said : Bytes → WriteAnswer) (calls : List ReservedState) → with_answers said calls ≡ [] → calls ≡ []
-nobody said [] none = refl
-nobody said (c ∷ calls) none = cc
-
 pub some_unwritten : (said : Bytes → WriteAnswer) (targets : List (Bytes × Op)) (cache : CacheState) (caller : Caller) (ends : List (Option (Result Reply Refusal))) (place : ℕ) (calls : List (AnsweredState WriteAnswer)) (out : List ReservedState)
     → AreWrittenIn said targets cache caller ends calls out → slice_get ends place ≡ Some None → calls ≡ [] → ⊥
 some_unwritten said targets cache caller ends place calls out all at none =
-    let empty : out ≡ [] = nobody said out (sym all.answers ∙ none) in
+    let empty : out ≡ [] = no_answers said out (sym all.answers ∙ none) in
     open_some all.writes.turns place (ap (λ es. slice_get es place) all.writes.ends_are ∙ at) (sym all.writes.keys_open ∙ ap reserved_keys empty)
 
 pub none_unwritten : (said : Bytes → WriteAnswer) (targets : List (Bytes × Op)) (cache : CacheState) (caller : Caller) (ends : List (Option (Result Reply Refusal))) (calls : List (AnsweredState WriteAnswer)) (out : List ReservedState)

@@ -3,14 +3,14 @@
 --     one_op               a key of the call has one operation
 --     write_turns_kept     turns at other keys stay
 --     op_away              a first phase adds no step at another key
---     begun_writing, begun_write_counted    the account of the call, and what its session counts, after a key has begun
+--     begun_writing        the account of the call after a key has begun
 --     write_open_after     the keys that are reserved after a key has begun
 --     refused_writing      the account of the call after a key is refused
 --     committed_writing    the account after the last phase at the first of its keys that is reserved
-use Rattle.std.proofs.Common.{◌≡◌, ◌==◌, ◌≤◌, ◌<◌, ◌+◌, ◌&&◌, ◌||◌, ◌++◌, inl, inr, ℕ, zero, suc, List, [], ◌∷◌, length, length-append, get_or, take, set, length-set, Bool, true, false, true≢false, Option, None, Some, is_some, Result, Ok, Err, slice_get, refl, sym, ap, ◌∙◌, subst, arith}
+use Rattle.std.proofs.Common.{◌≡◌, ◌==◌, ◌<◌, ◌+◌, ◌++◌, inl, inr, ℕ, zero, suc, List, [], ◌∷◌, length, get_or, take, set, length-set, true, false, true≢false, Option, None, Some, is_some, Result, Ok, Err, slice_get, refl, sym, ap, ◌∙◌, subst}
 use Rattle.std.proofs.lemmas.Bool.{or_parts}
 use Rattle.std.proofs.lemmas.Cmp.{nat_list_eq_equiv}
-use Rattle.std.proofs.lemmas.List.{map-append, length-map}
+use Rattle.std.proofs.lemmas.List.{map-append}
 use Rattle.std.proofs.lemmas.List.Elements.{filter_map-append}
 use Rattle.std.proofs.lemmas.Map.Keys.{IsDistinct-head, IsDistinct-tail}
 use Rattle.std.proofs.lemmas.Option.{slice_get-get_or}
@@ -31,28 +31,23 @@ use Rattle.jc_model.specs.declared.event.WriteAnswer.TheVariants.{NotAsked}
 use Rattle.jc_model.specs.Batches.{is_among}
 use Rattle.jc_model.specs.Cache.{Bytes}
 use Rattle.jc_model.specs.Group.{write_only, nothing_said}
-use Rattle.jc_stripe.specs.Refusals.{last_number}
 use Rattle.jc_stripe.specs.State.{State}
 use Rattle.jc_stripe.specs.declared.ticket.Reservation.{Reservation}
-use Rattle.jc_session.specs.Counting.{one_more}
-use Rattle.jc_session.specs.declared.counts.Counts.{Counts}
 use Rattle.jc_session.specs.declared.mark.Mark.{Mark}
 use Rattle.jc_cache.specs.Caches.{CacheState, IsStripeOf}
 use Rattle.jc_cache.specs.Outstanding.{ReservedState}
 use Rattle.jc_cache.specs.OutstandingAll.{WriteCallsState, reserved_keys}
-use Rattle.jc_cache.specs.Whole.{own_after}
 use Rattle.jc_bulk.specs.declared.round.Start.{Start}
 use Rattle.jc_bulk.specs.declared.round.Start.TheVariants as start
-use Rattle.jc_bulk.specs.Gets.{Turn, AreCounted, turn_keys, turn_ends, open_keys, key_if_open, end_started, own_after_ends}
-use Rattle.jc_bulk.specs.Phased.{ComesAfter, AddsSteps, counts_started}
+use Rattle.jc_bulk.specs.Gets.{Turn, turn_keys, open_keys, key_if_open, end_started}
+use Rattle.jc_bulk.specs.Phased.{ComesAfter, AddsSteps}
 use Rattle.jc_bulk.specs.Recorded.{steps_of}
 use Rattle.jc_bulk.specs.Starting.{StartsWrite, steps_started, reservations_in, change_wanted}
 use Rattle.jc_bulk.specs.StartingLoads.{StartsFor}
 use Rattle.jc_bulk.specs.Underway.{IsUnderway}
 use Rattle.jc_bulk.specs.Writing.{IsTarget, HasEndedAt, IsWriteCall, AreWriteTurns, IsWriting}
 use Rattle.jc_bulk.proofs.GetCommits.{end_one, end_first, apart_all, all_apart, distinct_take, same_keys, first_so, open_rest, ends_set}
-use Rattle.jc_bulk.proofs.Gets.{IsAway, near_later, ended_later, one_state, own_step, no_step, all_push, not_pushed, others_kept, one_longer}
-use Rattle.jc_bulk.proofs.Steps.{next_number}
+use Rattle.jc_bulk.proofs.Gets.{IsAway, at_place, too_many, near_later, ended_later, one_state, own_step, no_step, all_push, not_pushed, others_kept, one_longer}
 use Rattle.jc_bulk.proofs.Under.{no_more}
 
 -- 1. The keys of the call, with their operations.
@@ -65,15 +60,10 @@ key_at [] i key op at = cc
 key_at (t ∷ targets) zero key op at = ap Some (ap (λ (u : Bytes × Op). u.0) (same_target t (key, op) at))
 key_at (t ∷ targets) (suc i) key op at = key_at targets i key op at
 
-so_at : (P : Bytes → Type 0) (keys : List Bytes) (i : ℕ) (key : Bytes) → AllByRecursion P keys → slice_get keys i ≡ Some key → P key
-so_at P [] i key all at = cc
-so_at P (k ∷ keys) zero key all at = let is : k ≡ key = cc in subst P is all.0
-so_at P (k ∷ keys) (suc i) key all at = so_at P keys i key all.1 at
-
 once : (t : Bytes × Op) (targets : List (Bytes × Op)) (i : ℕ) (key : Bytes) (a b : Op) → IsDistinct (pointwise ◌==◌) (keys_of (t ∷ targets)) → Some t ≡ Some (key, a) → slice_get targets i ≡ Some (key, b) → ⊥
 once t targets i key a b d first later =
     let apart : pointwise ◌==◌ t.0 key ≡ false =
-    so_at (λ k. pointwise ◌==◌ t.0 k ≡ false) (keys_of targets) i key (IsDistinct-head (pointwise ◌==◌) t.0 (keys_of targets) d) (key_at targets i key b later) in
+    at_place (λ k. pointwise ◌==◌ t.0 k ≡ false) (keys_of targets) i key (IsDistinct-head (pointwise ◌==◌) t.0 (keys_of targets) d) (key_at targets i key b later) in
     let same : t.0 ≡ key = ap (λ (u : Bytes × Op). u.0) (same_target t (key, a) first) in
     true≢false (sym (nat_list_eq_equiv.refl key) ∙ ap (λ k. pointwise ◌==◌ k key) (sym same) ∙ apart)
 
@@ -146,9 +136,6 @@ begun_turn caller targets said old new key op out x s d target none unasked is w
     (started_ended s state caller out key op (length targets) said x unasked (subst (λ y. ComesAfter y state) (one_state old key b.0 s b.1 is) b.2) why
     (b.3 ∙ ap (λ xs. xs ++ steps_of caller key (steps_started caller key op x)) (none b.0 b.1)))
 
-too_many : (calls : List ReservedState) → length calls < RESERVATIONS_MAX → RESERVATIONS_MAX ≤ length (reservations_in calls) → ⊥
-too_many calls few many = omega (arith, few, many, length-map calls (λ (c : ReservedState). c.reservation))
-
 write_calls_after : (mark : Mark) (caller : Caller) (targets : List (Bytes × Op)) (key : Bytes) (op : Op) (x : Start) (old new : WriteCallsState) → IsTarget targets key op → StartsWrite mark caller key op x old new
     → AllByRecursion (IsWriteCall mark caller targets) old.items → AllByRecursion (IsWriteCall mark caller targets) new.items
 write_calls_after mark caller targets key op (start.Ended ended) old new target h all = subst (λ (b : WriteCallsState). AllByRecursion (IsWriteCall mark caller targets) b.items) (sym h) all
@@ -205,34 +192,7 @@ begun_writing said targets old new caller ends calls calls' key op x s was d tar
           ∙ sym (filter_map-append (λ (u : Turn). key_if_open u.key u.ended) turns (t ∷ []));
     }
 
--- 4. What the session counts.
-
-own_pushed : (own : ℕ) (ends : List (Option (Result Reply Refusal))) (e : Option (Result Reply Refusal)) → own_after_ends own (ends ++ e ∷ []) ≡ own_after_ends (own_after_ends own ends) (e ∷ [])
-own_pushed own [] e = refl
-own_pushed own (None ∷ ends) e = own_pushed own ends e
-own_pushed own (Some ended ∷ ends) e = own_pushed (own_after own ended) ends e
-
-fewer : (n : ℕ) → n < RESERVATIONS_MAX → n < last_number
-fewer n few = omega (arith, few)
-
-pub begun_write_counted : (mark : Mark) (s : State) (caller : Caller) (key : Bytes) (op : Op) (first counts : Counts) (ends : List (Option (Result Reply Refusal))) (calls calls' : WriteCallsState) (x : Start)
-    → length calls.items < RESERVATIONS_MAX → StartsFor s caller (reservations_in calls.items) key op x → StartsWrite mark caller key op x calls calls'
-    → AreCounted first ends (length calls.items) counts → AreCounted first (ends ++ end_started x ∷ []) (length calls'.items) (counts_started counts x)
-begun_write_counted mark s caller key op first counts ends calls calls' (start.Ended (Ok reply)) few why h counted =
-    let own = own_pushed first.own ends (Some (Ok reply)) in
-    ap (λ (c : Counts). record c { own = one_more c.own }) counted
-    ∙ (λ i. record first { own = sym own i; reservations = ap (λ (b : WriteCallsState). length b.items) (sym h) i })
-begun_write_counted mark s caller key op first counts ends calls calls' (start.Ended (Err refusal)) few why h counted =
-    let own = own_pushed first.own ends (Some (Err refusal)) in
-    counted ∙ (λ i. record first { own = sym own i; reservations = ap (λ (b : WriteCallsState). length b.items) (sym h) i })
-begun_write_counted mark s caller key op first counts ends calls calls' start.Reserved few why h counted =
-    let own = own_pushed first.own ends None in
-    let more : one_more (length calls.items) ≡ length calls'.items =
-    next_number (length calls.items) (fewer (length calls.items) few) ∙ sym (one_longer calls.items h.0) ∙ ap (λ (b : WriteCallsState). length b.items) (sym h.2) in
-    ap (λ (c : Counts). record c { reservations = one_more c.reservations }) counted ∙ (λ i. record first { own = sym own i; reservations = more i })
-begun_write_counted mark s caller key op first counts ends calls calls' start.PutOff few why h counted = absurd (too_many calls.items few why.1)
-
--- 5. A key that is refused since a later round has no memory.
+-- 4. A key that is refused since a later round has no memory.
 
 pub refused_writing : (said : Bytes → WriteAnswer) (targets : List (Bytes × Op)) (cache : CacheState) (caller : Caller) (ends : List (Option (Result Reply Refusal))) (calls : List ReservedState) (key : Bytes)
     → IsWriting said targets cache caller ends calls → is_among (take (length ends) (keys_of targets)) key ≡ false → take (length ends + 1) (keys_of targets) ≡ take (length ends) (keys_of targets) ++ key ∷ []
@@ -257,7 +217,7 @@ refused_writing said targets cache caller ends calls key was fresh more many =
       keys_open = was.keys_open ∙ sym (filter_map-append (λ (u : Turn). key_if_open u.key u.ended) turns (t ∷ []) ∙ no_more (open_keys turns));
     }
 
--- 6. A key that is committed.
+-- 5. A key that is committed.
 
 turn_written : (caller : Caller) (targets : List (Bytes × Op)) (said : WriteAnswer) (old new : CacheState) (key : Bytes) (op : Op) (reply : Reply) → IsDistinct (pointwise ◌==◌) (keys_of targets) → IsTarget targets key op
     → AddsSteps caller (Step caller op key (write_only said) None reply ∷ []) old new

@@ -5,15 +5,13 @@
 --     written_all      after the last round: the call is carried out
 --     may_call_again   the session may begin its next call
 --     writes_from      rounds from the start of the call
-use Rattle.std.proofs.Common.{◌≡◌, ◌==◌, ◌&&◌, ◌≤◌, ◌++◌, ◌⊎◌, inl, inr, ℕ, zero, suc, List, [], ◌∷◌, All, length, map, take, Bool, true, false, Option, None, Some, is_some, option_map, Result, Ok, Err, slice_get, refl, sym, ap, ◌∙◌, subst, arith}
-use Rattle.std.proofs.lemmas.Bool.{and_parts}
+use Rattle.std.proofs.Common.{◌≡◌, ◌==◌, ◌++◌, inl, inr, ℕ, zero, suc, List, [], ◌∷◌, All, length, map, take, true, Option, None, Some, is_some, option_map, Result, Ok, Err, refl, sym, ap, ◌∙◌, subst, arith}
 use Rattle.std.proofs.lemmas.List.{map-append, take_all}
 use Rattle.std.proofs.lemmas.List.Elements.{All-nil, All-cons, All-from_recursion}
-use Rattle.std.specs.List.{list_all, cons_option, IsAmong, AllByRecursion, IsDistinct}
+use Rattle.std.specs.List.{list_all, cons_option, IsAmong, IsDistinct}
 use Rattle.std.specs.Map.{keys_of}
 use Rattle.std.specs.Cmp.Lexicographic.{pointwise}
 use Rattle.jc_types.specs.declared.caller.Caller.{Caller}
-use Rattle.jc_types.specs.declared.config.Config.{Config}
 use Rattle.jc_types.specs.declared.refusal.Refusal.{Refusal}
 use Rattle.jc_model.specs.declared.event.Change.{Change}
 use Rattle.jc_model.specs.declared.event.Op.{Op}
@@ -24,30 +22,27 @@ use Rattle.jc_batch.specs.Changes.{changes_of}
 use Rattle.jc_outside.specs.CallingAll.{WriteAllRelation, DeleteAllRelation}
 use Rattle.jc_stripe.specs.OwnSteps.{HasNoCallFrom}
 use Rattle.jc_stripe.specs.State.{State}
-use Rattle.jc_session.specs.Counting.{one_more}
 use Rattle.jc_session.specs.declared.counts.Counts.{Counts}
 use Rattle.jc_session.specs.declared.session.Session.{Session}
 use Rattle.jc_cache.specs.CacheInside.{IsPlaced}
 use Rattle.jc_cache.specs.Caches.{CacheState, EachStripe, IsIdleCache, HasNoCallsFrom, IsStripeOf}
 use Rattle.jc_cache.specs.Calls.{next_call}
-use Rattle.jc_cache.specs.Sessions.{IsOf, MayCall, LeavesSessions}
+use Rattle.jc_cache.specs.Sessions.{IsOf, MayCall}
 use Rattle.jc_cache.specs.Whole.{own_after}
 use Rattle.jc_cache.proofs.CallerLemmas.{at_key}
 use Rattle.jc_bulk.specs.Bulk.{CauseAmong, HasNoCause, own_after_all, said_to_writes}
 use Rattle.jc_bulk.specs.Ends.{KeyEnd, key_ops, failed_entries, refusal_in, EndsAt}
 use Rattle.jc_bulk.specs.GetRounds.{IsCauseIn, failures}
-use Rattle.jc_bulk.specs.Gets.{Turn, AreCounted, ComesAfterAll, turn_keys, turn_ends, own_after_ends}
+use Rattle.jc_bulk.specs.Gets.{Turn, turn_keys, turn_ends, own_after_ends}
 use Rattle.jc_bulk.specs.Getting.{get_ends}
 use Rattle.jc_bulk.specs.Laws.{StaysUnderway}
-use Rattle.jc_bulk.specs.Phased.{LeavesCalls}
 use Rattle.jc_bulk.specs.Rounds.{WriteRound, AreOnce, round_keys, changes_in, said_in_writes, writer_causes}
-use Rattle.jc_bulk.specs.Underway.{IsUnderway}
 use Rattle.jc_bulk.specs.WriteRounds.{IsWritingInRounds, RunsWriteRounds, IsCauseOf, keys_written, changes_wanted}
 use Rattle.jc_bulk.specs.Writing.{IsTarget, HasEndedAt, AreWriteTurns}
 use Rattle.jc_bulk.specs.WritingAll.{WritesAll, write_end, write_ends}
 use Rattle.jc_bulk.proofs.GetCommits.{distinct_take}
 use Rattle.jc_bulk.proofs.GetResults.{failures_are, none_mapped}
-use Rattle.jc_bulk.proofs.GotAll.{no_steps, none_open, once_only, grows_to}
+use Rattle.jc_bulk.proofs.GotAll.{no_steps, none_open, once_only, grows_to, leaves_under, may_call_next}
 use Rattle.jc_bulk.proofs.Writes.{as_many_keys}
 
 -- 1. Before the first round.
@@ -153,23 +148,6 @@ keys_in_changes (r ∷ rounds) = map-append (λ (c : Bytes × Option Change). c.
 
 -- 5. The whole call.
 
-module _ {I J : Type 0} {D : I → Type 0} {E : J → Type 0} where
-  leaves_under : (law : StaysUnderway) (cache new : CacheState) (session : Session I J D E) (caller : Caller) → caller.session ≡ session.caller.session → IsUnderway new caller [] → ComesAfterAll cache new
-      → LeavesCalls caller.session cache new → LeavesSessions session cache new
-  leaves_under law cache new session caller who under grows others other differs may = record {
-    own = record {
-      mark = may.own.mark ∙ sym grows.mark;
-      given = subst (λ n. other.caller.session ≤ n) (sym grows.given) may.own.given;
-      held = may.own.held;
-      loads = λ reads. may.own.loads (sym (ap (λ (c : Config). c.read_through) grows.config) ∙ reads);
-      writes = λ writes. may.own.writes (sym (ap (λ (c : Config). c.write_through) grows.config) ∙ writes);
-    };
-    reservations = may.reservations;
-    joins = may.joins;
-    numbers = others other.caller.session (one_more other.caller.call) (ap (λ n. other.caller.session == n) who ∙ differs) may.numbers;
-    idle = (law.closes new caller under).0;
-  }
-
 module _ {I J : Type 0} {D : I → Type 0} {E : J → Type 0} (writes_all : WriteAllRelation ((j : J) × E j)) (deletes_all : DeleteAllRelation ((j : J) × E j)) (write_state : (j : J) × E j → List ℕ) where
   pub writes_from : (cache new : CacheState) (session mid after : Session I J D E) (targets : List (Bytes × Op)) (was ends : List (Option (Result Reply Refusal))) (none fault : Option Refusal) → mid ≡ next_call session → was ≡ [] → none ≡ None
       → RunsWriteRounds writes_all deletes_all write_state targets cache mid was none new after ends fault → RunsWriteRounds writes_all deletes_all write_state targets cache (next_call session) [] None new after ends fault
@@ -181,17 +159,7 @@ module _ {I J : Type 0} {D : I → Type 0} {E : J → Type 0} (writes_all : Writ
   pub may_call_again : (law : StaysUnderway) (cache new : CacheState) (session after : Session I J D E) (targets : List (Bytes × Op)) (ends : List (Option (Result Reply Refusal))) (fault : Option Refusal) → MayCall cache session → IsOf new after
       → RunsWriteRounds writes_all deletes_all write_state targets cache (next_call session) [] None new after ends fault → IsWritingInRounds [] targets cache (next_call session).caller [] [] → MayCall new after
   may_call_again law cache new session after targets ends fault may own runs first =
-      let all = runs.writes [] first in
-      let who : after.caller ≡ (next_call session).caller = ap (λ (s : Session I J D E). s.caller) runs.left in
-      let closed = law.closes new (next_call session).caller all.2.writes.underway in
-      let counted = runs.counts session.counts (λ i. record session.counts { reservations = may.reservations i }) in
-      record {
-        own = own;
-        reservations = ap (λ (n : Counts). n.reservations) counted;
-        joins = ap (λ (n : Counts). n.joins) counted ∙ may.joins;
-        numbers = subst (λ (w : Caller). HasNoCallsFrom new w.session (one_more w.call)) (sym who) closed.1;
-        idle = closed.0;
-      }
+      may_call_next law cache new session after ends may own runs.left (runs.writes [] first).2.writes.underway (runs.counts session.counts)
 
   pub written_all : (law : StaysUnderway) (cache new : CacheState) (session after : Session I J D E) (targets : List (Bytes × Op)) (ends : List (Option (Result Reply Refusal))) (fault : Option Refusal) → MayCall cache session → length ends ≡ length targets
       → RunsWriteRounds writes_all deletes_all write_state targets cache (next_call session) [] None new after ends fault → IsWritingInRounds [] targets cache (next_call session).caller [] []

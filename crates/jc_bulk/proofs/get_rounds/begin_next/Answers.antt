@@ -1,9 +1,10 @@
 use Rattle.std.proofs.Common.{◌≡◌, ◌+◌, ◌++◌, [], ◌∷◌, take, length, slice_index_or, sym, ap, ◌∙◌, subst}
 use Rattle.std.proofs.lemmas.List.{take_more}
 use Rattle.jc_model.specs.Batches.{is_among}
+use Rattle.jc_model.specs.declared.event.Op.TheVariants.{Get}
 use Rattle.jc_bulk.specs.GetRounds.{IsGettingInRounds, StayEnded}
 use Rattle.jc_bulk.specs.Gets.{AreCounted}
-use Rattle.jc_bulk.proofs.Gets.{absent, key_there, not_open, begun_counted, after_all}
+use Rattle.jc_bulk.proofs.Gets.{absent, key_there, not_open, open_after, begun_counted, after_all}
 use Rattle.jc_bulk.proofs.GetRounds.{begun_in_rounds, stay_push}
 use Rattle.jc_bulk.proofs.get_rounds.begin_next.Goals as goal
 
@@ -33,8 +34,10 @@ returns-clause-counts g c first counted =
     let started = c.start_get-started in
     let x = started.result in
     let why = started.ensures.why in
-    let counts = begun_counted c.args.cache.now.mark why.0 c.args.session.now.caller c.index-keys-len.result first c.args.session.now.counts c.args.ends.now.items calls started.new.calls x
-    c.requires.few why.2 started.ensures.calls counted in
+    let key = c.index-keys-len.result in
+    let who = c.args.session.now.caller in
+    let counts = begun_counted why.0 who key Get first c.args.session.now.counts c.args.ends.now.items calls.items started.new.calls.items x
+    c.requires.few why.2 (open_after c.args.cache.now.mark why.0 who key x calls started.new.calls c.requires.few why.2 started.ensures.calls) counted in
     subst (λ es. AreCounted first es (length started.new.calls.items) started.new.session.counts) (sym (c.push_reserved.ensures.items ∙ ap (λ e. c.args.ends.now.items ++ e ∷ []) c.end.ensures))
     (ap (λ s. s.counts) started.ensures.session ∙ counts)
 

@@ -1,13 +1,12 @@
-use Rattle.std.proofs.Common.{◌≡◌, ◌==◌, ◌<◌, ◌+◌, ◌++◌, false, List, [], ◌∷◌, take, length, slice_index_or, sym, ap, ◌∙◌, subst}
-use Rattle.std.specs.Map.{keys_of}
+use Rattle.std.proofs.Common.{◌+◌, ◌++◌, [], ◌∷◌, length, slice_index_or, sym, ap, ◌∙◌, subst}
 use Rattle.jc_model.specs.Batches.{is_among}
 use Rattle.jc_bulk.specs.GetRounds.{StayEnded}
 use Rattle.jc_bulk.specs.Gets.{AreCounted}
 use Rattle.jc_bulk.specs.WriteRounds.{IsWritingInRounds}
-use Rattle.jc_bulk.proofs.Gets.{not_open, after_all}
+use Rattle.jc_bulk.proofs.Gets.{not_open, begun_counted, after_all}
 use Rattle.jc_bulk.proofs.GetRounds.{stay_push}
-use Rattle.jc_bulk.proofs.Writes.{target_there, begun_write_counted}
-use Rattle.jc_bulk.proofs.WriteRounds.{new_key, one_key_more, begun_writing_in_rounds}
+use Rattle.jc_bulk.proofs.Writes.{target_there, write_open_after}
+use Rattle.jc_bulk.proofs.WriteRounds.{new_key, begun_writing_in_rounds}
 use Rattle.jc_bulk.proofs.write_rounds.begin_next.Goals as goal
 
 pub start_write-started-requires-clause-kind : goal.start_write-started-requires-clause-kind
@@ -45,8 +44,9 @@ returns-clause-counts g c first counted =
     let x = started.result in
     let o = c.index-targets-len.result in
     let why = started.ensures.why in
-    let counts = begun_write_counted c.args.cache.now.mark why.0 c.args.session.now.caller o.0 o.1 first c.args.session.now.counts c.args.ends.now.items calls started.new.calls x
-    c.requires.few why.2 started.ensures.calls counted in
+    let who = c.args.session.now.caller in
+    let counts = begun_counted why.0 who o.0 o.1 first c.args.session.now.counts c.args.ends.now.items calls.items started.new.calls.items x
+    c.requires.few why.2 (write_open_after c.args.cache.now.mark why.0 who o.0 o.1 x calls started.new.calls c.requires.few why.2 started.ensures.calls) counted in
     subst (λ es. AreCounted first es (length started.new.calls.items) started.new.session.counts) (sym (c.push_reserved.ensures.items ∙ ap (λ e. c.args.ends.now.items ++ e ∷ []) c.end.ensures))
     (ap (λ s. s.counts) started.ensures.session ∙ counts)
 
