@@ -12,6 +12,7 @@ mod LookingAtAll
 pub mod Gets
 pub mod GetCommits
 pub mod GetRounds
+pub mod Refused
 pub mod GetAsks
 pub mod Failures
 pub mod GotAll

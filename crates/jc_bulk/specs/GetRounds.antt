@@ -7,12 +7,14 @@
 --     failure_at           the fault or the refusal that a key has ended in, if it has
 --     failures             these, of all keys that have had their turn
 --     StayEnded            keys that have ended stay so, also later, when more of them may have had their turn
+--     RefusesRest          keys that hadn't had their turn are refused, since the allocation of a later round failed
 --     IsCauseIn            there is a cause exactly if there are failures, and it is one of them
-use Rattle.std.specs.Prelude.{◌≡◌, ◌==◌, ◌++◌, ℕ, List, [], ◌∷◌, length, take, true, not, Option, None, Some, Result}
+use Rattle.std.specs.Prelude.{◌≡◌, ◌==◌, ◌++◌, ℕ, List, [], ◌∷◌, length, take, true, not, Option, None, Some, Result, Err}
 use Rattle.std.specs.List.{filter_map, list_all, AllByRecursion, IsAmong, IsDistinct}
 use Rattle.std.specs.Cmp.Lexicographic.{pointwise}
 use Rattle.jc_types.specs.declared.caller.Caller.{Caller}
 use Rattle.jc_types.specs.declared.refusal.Refusal.{Refusal}
+use Rattle.jc_types.specs.declared.refusal.Refusal.TheVariants.{OutOfMemory}
 use Rattle.jc_model.specs.declared.event.LoadAnswer.{LoadAnswer}
 use Rattle.jc_model.specs.declared.event.Reply.{Reply}
 use Rattle.jc_model.specs.Batches.{is_among}
@@ -51,6 +53,9 @@ StayEnded [] later = Unit {0}
 StayEnded (end ∷ ends) [] = ⊥
 StayEnded (None ∷ ends) (end ∷ later) = StayEnded ends later
 StayEnded (Some ended ∷ ends) (end ∷ later) = (end ≡ Some ended) × StayEnded ends later
+
+abbrev pub RefusesRest : List (Option (Result Reply Refusal)) → List (Option (Result Reply Refusal)) → Type 0
+RefusesRest ends ends' = (rest : List (Option (Result Reply Refusal))) × (ends' ≡ ends ++ rest) × AllByRecursion (λ (end : Option (Result Reply Refusal)). end ≡ Some (Err OutOfMemory)) rest
 
 -- no call is out before the rounds, and after them
 pub record RunsRounds

@@ -1,9 +1,8 @@
 //! The rounds of a `getAll` (JSR 107, `javax.cache.Cache.getAll`).
 ghost use Rattle.std.specs.Prelude.{◌≡◌, ◌==◌, ◌<◌, ◌≤◌, ◌+◌, ◌⊎◌, ◌++◌, [], true, None, Some, Ok, IfSome, is_some};
-ghost use Rattle.std.specs.Prelude.{ℕ, List, length, take, slice_get, slice_set, vec_capacity};
+ghost use Rattle.std.specs.Prelude.{List, length, take, slice_get, slice_set, vec_capacity};
 ghost use Rattle.std.specs.List.{IsAmong, IsDistinct, list_all};
 ghost use Rattle.std.specs.Cmp.Lexicographic.{pointwise};
-ghost use Rattle.jc_types.specs.declared.caller.Caller.{Caller};
 ghost use Rattle.jc_types.specs.declared.limits.TheConstants.{RESERVATIONS_MAX};
 ghost use Rattle.jc_batch.specs.Batch.{empty_batch};
 ghost use Rattle.jc_model.specs.Cache.{Bytes};
@@ -12,7 +11,6 @@ ghost use Rattle.jc_model.specs.declared.event.Reply.{Reply};
 ghost use Rattle.jc_session.specs.Boxed.{boxed};
 ghost use Rattle.jc_session.specs.Counting.{counts_ended};
 ghost use Rattle.jc_session.specs.declared.counts.Counts.{Counts};
-ghost use Rattle.jc_cache.specs.Caches.{CacheState};
 ghost use Rattle.jc_cache.specs.Outstanding.{ReservedState};
 ghost use Rattle.jc_cache.specs.Sessions.{IsOf};
 ghost use Rattle.jc_bulk.specs.GetRounds.{IsGettingInRounds, AreLoadedIn, RunsRounds, StayEnded};
@@ -22,7 +20,7 @@ ghost use Rattle.jc_bulk.specs.Phased.{LeavesCalls};
 ghost use Rattle.jc_bulk.specs.Rounds.{LoadRound, LoadsInRounds};
 
 use crate::loads::{commit_first_load, start_get};
-use crate::results::refusal_of;
+use crate::results::{refusal_of, refuse_rest};
 use jc_cache::{Cache, LoadCalls, LoadedCall, LoadedCalls, Session};
 use jc_model::Reply;
 use jc_types::{Key, RESERVATIONS_MAX, Refusal, Value};
@@ -102,25 +100,6 @@ fn begin_round(
             return;
         }
         begin_next(cache, session, keys, ends, calls);
-    }
-}
-
-/// Ends each key that hasn't had its turn: it is refused, since the allocation of a later round failed. Nothing was asked for it.
-fn refuse_rest(keys: &[Key], ends: &mut Vec<Option<Result<Reply, Refusal>>>)
-    requires distinct { IsDistinct (pointwise ◌==◌) keys.now }
-    requires many { RESERVATIONS_MAX < length keys.now }
-    requires begun { length ends.old.items ≤ length keys.now }
-    requires room { length keys.now ≤ vec_capacity ends.old }
-    ensures gets { (rounds : List LoadRound) (cache : CacheState) (caller : Caller) (calls : List ReservedState)
-        → IsGettingInRounds rounds keys.now cache caller ends.old.items calls
-        → IsGettingInRounds rounds keys.now cache caller ends.new.items calls }
-    ensures counts { (first counts : Counts) (out : ℕ)
-        → AreCounted first ends.old.items out counts → AreCounted first ends.new.items out counts }
-    ensures ends { StayEnded ends.old.items ends.new.items }
-    ensures whole { length ends.new.items ≡ length keys.now }
-{
-    for place in ends.len()..keys.len() {
-        ends.push_reserved(Some(Err(Refusal::OutOfMemory)));
     }
 }
 
@@ -315,7 +294,7 @@ fn run_later_round<R: Wait>(
     match LoadCalls::with_capacity(alloc, RESERVATIONS_MAX) {
         Ok(calls) => run_round(rt, cache, session, keys, ends, calls, cause),
         Err(_failed) => {
-            refuse_rest(keys, ends);
+            refuse_rest(keys.len(), ends);
             note_first(cause, ends.as_slice());
         }
     }

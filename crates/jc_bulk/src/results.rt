@@ -1,10 +1,11 @@
-//! What a bulk call returns of its keys.
-ghost use Rattle.std.specs.Prelude.{◌≡◌, ◌==◌, ◌≤◌, ◌<◌, ◌+◌, ◌++◌, ◌∷◌, [], false, option_map};
+//! How the keys of a bulk call end, and what it returns of them.
+ghost use Rattle.std.specs.Prelude.{◌≡◌, ◌==◌, ◌≤◌, ◌<◌, ◌+◌, ◌++◌, ◌∷◌, [], length, false, option_map, vec_capacity};
 ghost use Rattle.std.specs.List.{list_any, cons_option};
 ghost use Rattle.std.specs.Map.{keys_of};
 ghost use Rattle.std.specs.Cmp.Lexicographic.{pointwise};
 ghost use Rattle.indexmap.specs.IndexMap.{spare};
 ghost use Rattle.jc_bulk.specs.Ends.{refusal_in};
+ghost use Rattle.jc_bulk.specs.GetRounds.{RefusesRest};
 
 use indexmap::IndexMap;
 use jc_model::Reply;
@@ -20,6 +21,19 @@ pub(crate) fn refusal_of(ended: &Result<Reply, Refusal>) -> Option<Refusal>
         Ok(Reply::Value(_)) => None,
         Ok(Reply::Flag(_)) => None,
         Ok(Reply::Unit) => None,
+    }
+}
+
+/// Ends each of so many keys that hasn't had its turn: it is refused, since the allocation of a later round failed. Nothing was asked
+/// for it.
+pub(crate) fn refuse_rest(keys: usize, ends: &mut Vec<Option<Result<Reply, Refusal>>>)
+    requires begun { length ends.old.items ≤ keys }
+    requires room { keys ≤ vec_capacity ends.old }
+    ensures rest { RefusesRest ends.old.items ends.new.items }
+    ensures whole { length ends.new.items ≡ keys }
+{
+    for place in ends.len()..keys {
+        ends.push_reserved(Some(Err(Refusal::OutOfMemory)));
     }
 }
 

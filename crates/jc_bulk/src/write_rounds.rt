@@ -1,13 +1,11 @@
 //! The rounds of a `putAll` or a `removeAll` (JSR 107, `javax.cache.Cache`).
-ghost use Rattle.std.specs.Prelude.{◌≡◌, ◌==◌, ◌<◌, ◌≤◌, ◌+◌, ◌⊎◌, ◌++◌, [], true, Bool, Option, None, Some, Ok, is_some, IfOk, IfSome};
-ghost use Rattle.std.specs.Prelude.{ℕ, List, length, take, slice_get, slice_set, vec_capacity};
+ghost use Rattle.std.specs.Prelude.{◌≡◌, ◌==◌, ◌<◌, ◌≤◌, ◌+◌, ◌⊎◌, ◌++◌, [], true, Option, None, Some, Ok, is_some, IfOk, IfSome};
+ghost use Rattle.std.specs.Prelude.{List, length, take, slice_get, slice_set, vec_capacity};
 ghost use Rattle.std.specs.List.{IsAmong, IsDistinct, list_all, cons_option};
 ghost use Rattle.std.specs.Map.{keys_of};
 ghost use Rattle.std.specs.Option.{option_or};
 ghost use Rattle.std.specs.Cmp.Lexicographic.{pointwise};
-ghost use Rattle.jc_types.specs.declared.caller.Caller.{Caller};
 ghost use Rattle.jc_types.specs.declared.limits.TheConstants.{RESERVATIONS_MAX};
-ghost use Rattle.jc_types.specs.declared.refusal.Refusal.{Refusal as RefusalData};
 ghost use Rattle.jc_model.specs.Cache.{Bytes};
 ghost use Rattle.jc_model.specs.declared.event.Op.{Op as OpData};
 ghost use Rattle.jc_model.specs.declared.event.Reply.{Reply};
@@ -15,7 +13,6 @@ ghost use Rattle.jc_model.specs.declared.event.WriteAnswer.{WriteAnswer};
 ghost use Rattle.jc_session.specs.Boxed.{boxed};
 ghost use Rattle.jc_session.specs.Counting.{counts_ended};
 ghost use Rattle.jc_session.specs.declared.counts.Counts.{Counts};
-ghost use Rattle.jc_cache.specs.Caches.{CacheState};
 ghost use Rattle.jc_cache.specs.Outstanding.{ReservedState};
 ghost use Rattle.jc_cache.specs.Sessions.{IsOf};
 ghost use Rattle.jc_bulk.specs.GetRounds.{StayEnded, failures};
@@ -26,6 +23,7 @@ ghost use Rattle.jc_bulk.specs.WriteRounds.{IsWritingInRounds, RunsWriteRounds, 
 ghost use Rattle.jc_bulk.specs.Writing.{AllWriteAs, IsWriting, IsWrittenIn, AreWrittenIn};
 
 use crate::get_rounds::first_failure;
+use crate::results::refuse_rest;
 use crate::round::{commit_first, start_write};
 use jc_cache::{Cache, Session, WriteCalls, WrittenCall, WrittenCalls};
 use jc_model::{Op, Reply};
@@ -109,25 +107,6 @@ fn begin_round(
             return;
         }
         begin_next(cache, session, targets, ends, calls);
-    }
-}
-
-/// Ends each key that hasn't had its turn: it is refused, since the allocation of a later round failed. Nothing was asked for it.
-fn refuse_rest(targets: &[(Key, Op)], ends: &mut Vec<Option<Result<Reply, Refusal>>>)
-    requires distinct { IsDistinct (pointwise ◌==◌) (keys_of targets.now) }
-    requires many { RESERVATIONS_MAX < length targets.now }
-    requires begun { length ends.old.items ≤ length targets.now }
-    requires room { length targets.now ≤ vec_capacity ends.old }
-    ensures writes { (rounds : List WriteRound) (cache : CacheState) (caller : Caller) (calls : List ReservedState)
-        → IsWritingInRounds rounds targets.now cache caller ends.old.items calls
-        → IsWritingInRounds rounds targets.now cache caller ends.new.items calls }
-    ensures counts { (first counts : Counts) (out : ℕ)
-        → AreCounted first ends.old.items out counts → AreCounted first ends.new.items out counts }
-    ensures ends { StayEnded ends.old.items ends.new.items }
-    ensures whole { length ends.new.items ≡ length targets.now }
-{
-    for place in ends.len()..targets.len() {
-        ends.push_reserved(Some(Err(Refusal::OutOfMemory)));
     }
 }
 
@@ -343,7 +322,7 @@ fn run_later_round<R: Wait>(
     match no_calls(alloc, deletes) {
         Ok(calls) => run_round(rt, cache, session, targets, ends, calls, fault, cause),
         Err(_failed) => {
-            refuse_rest(targets, ends);
+            refuse_rest(targets.len(), ends);
             note_cause(cause, fault, ends.as_slice());
         }
     }
