@@ -7,7 +7,7 @@
 --     writes_refused     in place of a round, the keys that are left are refused
 --     few_write_turns    no more keys have had their turn than there are
 --     later_write_round  a later round comes only if there are more keys than may be reserved
-use Rattle.std.proofs.Common.{◌≡◌, ◌==◌, ◌≤◌, ◌<◌, ◌+◌, ◌++◌, ◌⊎◌, inl, inr, ℕ, zero, suc, List, [], ◌∷◌, length, take, min, Option, None, Some, is_some, true, IfSome, Result, append_assoc, refl, sym, ap, ◌∙◌, subst, arith}
+use Rattle.std.proofs.Common.{◌≡◌, ◌==◌, ◌≤◌, ◌<◌, ◌++◌, ◌⊎◌, inl, inr, ℕ, zero, suc, List, [], ◌∷◌, length, take, min, Option, None, Some, IfSome, Result, append_assoc, refl, sym, ap, ◌∙◌, subst, arith}
 use Rattle.std.proofs.lemmas.Bool.{cases_eq}
 use Rattle.std.proofs.lemmas.List.{length-map, length-take}
 use Rattle.std.proofs.lemmas.List.Elements.{filter_map-append}
@@ -28,7 +28,6 @@ use Rattle.jc_session.specs.declared.counts.Counts.{Counts}
 use Rattle.jc_session.specs.declared.session.Session.{Session}
 use Rattle.jc_cache.specs.Caches.{CacheState}
 use Rattle.jc_cache.specs.Outstanding.{ReservedState}
-use Rattle.jc_cache.specs.OutstandingAll.{reserved_keys}
 use Rattle.jc_bulk.specs.GetRounds.{StayEnded, IsCauseIn, failures}
 use Rattle.jc_bulk.specs.Gets.{Turn, AreCounted, ComesAfterAll, turn_keys, turn_ends, open_keys}
 use Rattle.jc_bulk.specs.Phased.{LeavesCalls}

@@ -7,7 +7,7 @@
 --     nothing_written          the account after a round that asked for nothing
 --     writes_both              rounds, and then more of them
 --     is_through               if a call is out, write-through is on
-use Rattle.std.proofs.Common.{◌≡◌, ◌==◌, ◌&&◌, ◌||◌, ◌<◌, ◌++◌, ◌⊎◌, inl, inr, ℕ, zero, suc, List, [], ◌∷◌, length, map, take, cond, Bool, true, false, not, Option, None, Some, IsSome, Result, slice_get, refl, sym, ap, ◌∙◌, subst, arith}
+use Rattle.std.proofs.Common.{◌≡◌, ◌==◌, ◌&&◌, ◌++◌, ◌⊎◌, inl, inr, ℕ, zero, suc, List, [], ◌∷◌, length, map, take, cond, true, false, not, Option, None, Some, Result, slice_get, refl, sym, ap, ◌∙◌, subst, arith}
 use Rattle.std.proofs.lemmas.Bool.{and_parts, or_parts}
 use Rattle.std.proofs.lemmas.Grind.{flat_map-append}
 use Rattle.std.proofs.lemmas.List.Folds.{list_any-append, list_all-append}
@@ -25,18 +25,17 @@ use Rattle.jc_model.specs.Batches.{is_among}
 use Rattle.jc_model.specs.Cache.{Bytes}
 use Rattle.jc_batch.specs.Changes.{changes_of}
 use Rattle.jc_batch.specs.declared.batch.Batch.{Batch}
-use Rattle.jc_batch.specs.declared.batch.Batch.TheVariants.{Writes, Deletes}
-use Rattle.jc_outside.specs.CallingAll.{WriteAllRelation, DeleteAllRelation, WritesAllOnce}
+use Rattle.jc_outside.specs.CallingAll.{WriteAllRelation, DeleteAllRelation}
 use Rattle.jc_stripe.specs.State.{State}
 use Rattle.jc_session.specs.declared.mark.Mark.{Mark}
-use Rattle.jc_cache.specs.Caches.{CacheState, IsStripeOf}
+use Rattle.jc_cache.specs.Caches.{CacheState}
 use Rattle.jc_cache.specs.Outstanding.{ReservedState, AnsweredState}
 use Rattle.jc_cache.specs.OutstandingAll.{reserved_keys, with_answers, wanted_changes}
-use Rattle.jc_bulk.specs.Gets.{Turn, turn_keys, open_keys}
+use Rattle.jc_bulk.specs.Gets.{Turn, open_keys}
 use Rattle.jc_bulk.specs.Rounds.{WriteRound, WritesInRounds, round_keys, changes_in, said_in_writes}
 use Rattle.jc_bulk.specs.Starting.{change_wanted}
 use Rattle.jc_bulk.specs.WriteRounds.{IsWritingInRounds, keys_written, changes_wanted}
-use Rattle.jc_bulk.specs.Writing.{IsTarget, HasEndedAt, IsWriteCall, AreWriteTurns, IsWriting, AreWrittenIn}
+use Rattle.jc_bulk.specs.Writing.{HasEndedAt, IsWriteCall, AreWriteTurns, IsWriting, AreWrittenIn}
 use Rattle.jc_bulk.proofs.GetAsks.{IsAwayIfEnded, away_all, among_self, is_new, all_both, distinct_both, open_among, open_distinct, answers_same}
 use Rattle.jc_bulk.proofs.GetCommits.{distinct_take}
 use Rattle.jc_bulk.proofs.Gets.{not_open}

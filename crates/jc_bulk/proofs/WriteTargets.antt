@@ -5,7 +5,7 @@
 --     put_push, remove_push        the targets of the first keys, and one more
 --     failed_more, failed_new, failed_whole    the entries that failed: of one key more, none of the next key, and of all
 --     wrote_of, failed_of, every_failed    what is said of a call, by the targets that were made of its keys
-use Rattle.std.proofs.Common.{◌≡◌, ◌==◌, ◌≤◌, ◌<◌, ◌+◌, ◌++◌, ◌⊎◌, inl, inr, ℕ, zero, suc, List, [], ◌∷◌, length, take, get_or, true, false, Option, None, Some, IfOk, Result, Ok, Err, slice_get, refl, sym, ap, ◌∙◌, subst, arith}
+use Rattle.std.proofs.Common.{◌≡◌, ◌==◌, ◌≤◌, ◌<◌, ◌+◌, ◌++◌, ◌⊎◌, inl, inr, ℕ, zero, suc, List, [], ◌∷◌, length, take, get_or, true, false, Option, None, Some, IfOk, Result, slice_get, refl, sym, ap, ◌∙◌, subst, arith}
 use Rattle.std.proofs.lemmas.List.{map-append, take_all, take_more}
 use Rattle.std.proofs.lemmas.Option.{slice_get_within, get_or_from_slice_get}
 use Rattle.std.specs.List.{list_any, IsDistinct}
@@ -17,7 +17,6 @@ use Rattle.jc_model.specs.declared.event.Change.TheVariants as change
 use Rattle.jc_model.specs.declared.event.Op.{Op}
 use Rattle.jc_model.specs.declared.event.Op.TheVariants as op
 use Rattle.jc_model.specs.declared.event.Reply.{Reply}
-use Rattle.jc_model.specs.declared.event.Reply.TheVariants as reply
 use Rattle.jc_model.specs.Cache.{Bytes}
 use Rattle.jc_outside.specs.CallingAll.{WriteAllRelation, DeleteAllRelation}
 use Rattle.jc_session.specs.declared.session.Session.{Session}

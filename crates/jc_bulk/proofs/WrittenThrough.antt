@@ -1,6 +1,6 @@
 -- The writer is asked only with write-through on.
 --     written_through    so a `Put` or a `Remove` asks it only then
-use Rattle.std.proofs.Common.{◌≡◌, inl, inr, List, Bool, true, false, cond, Option, None, refl, sym, ap, ◌∙◌, subst}
+use Rattle.std.proofs.Common.{◌≡◌, inl, inr, Bool, true, false, cond, Option, None, refl, sym, ap, ◌∙◌}
 use Rattle.jc_types.specs.declared.config.Config.{Config}
 use Rattle.jc_model.specs.declared.event.Op.{Op}
 use Rattle.jc_model.specs.declared.event.Op.TheVariants.{Put, Remove}

@@ -1,4 +1,4 @@
-use Rattle.std.proofs.Common.{◌+◌, ◌++◌, [], ◌∷◌, length, slice_index_or, sym, ap, ◌∙◌, subst}
+use Rattle.std.proofs.Common.{◌++◌, [], ◌∷◌, length, slice_index_or, sym, ap, ◌∙◌, subst}
 use Rattle.jc_model.specs.Batches.{is_among}
 use Rattle.jc_bulk.specs.GetRounds.{StayEnded}
 use Rattle.jc_bulk.specs.Gets.{AreCounted}

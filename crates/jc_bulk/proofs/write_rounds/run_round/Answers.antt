@@ -1,4 +1,4 @@
-use Rattle.std.proofs.Common.{◌≡◌, ◌<◌, ◌⊎◌, ◌++◌, [], length, take, drop, sym, ap, ◌∙◌, subst}
+use Rattle.std.proofs.Common.{◌≡◌, ◌<◌, ◌⊎◌, ◌++◌, length, take, drop, sym, ap, ◌∙◌, subst}
 use Rattle.std.proofs.lemmas.List.{take_at}
 use Rattle.jc_types.specs.declared.limits.TheConstants.{RESERVATIONS_MAX}
 use Rattle.jc_bulk.specs.GetRounds.{StayEnded}

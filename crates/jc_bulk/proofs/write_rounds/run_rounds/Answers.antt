@@ -1,4 +1,4 @@
-use Rattle.std.proofs.Common.{◌≡◌, ◌<◌, ◌⊎◌, ◌++◌, inr, [], length, sym, ap, ◌∙◌, subst, arith}
+use Rattle.std.proofs.Common.{◌++◌, inr, [], length, sym, ap, subst, arith}
 use Rattle.jc_types.specs.declared.limits.TheConstants.{RESERVATIONS_MAX}
 use Rattle.jc_bulk.specs.WriteRounds.{IsWritingInRounds}
 use Rattle.jc_bulk.specs.Writing.{AllWriteAs}

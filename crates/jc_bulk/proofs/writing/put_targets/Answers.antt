@@ -1,4 +1,4 @@
-use Rattle.std.proofs.Common.{◌++◌, ◌∷◌, [], length, sym, ap, ◌∙◌, arith}
+use Rattle.std.proofs.Common.{◌++◌, ◌∷◌, [], length, ap, ◌∙◌, arith}
 use Rattle.jc_bulk.proofs.WriteTargets.{put_push}
 use Rattle.jc_bulk.proofs.writing.put_targets.Goals as goal
 

@@ -1,4 +1,4 @@
-use Rattle.std.proofs.Common.{◌≡◌, [], sym, ap, subst}
+use Rattle.std.proofs.Common.{[], sym, ap, subst}
 use Rattle.jc_cache.specs.Calls.{next_call}
 use Rattle.jc_bulk.specs.WriteRounds.{IsWritingInRounds}
 use Rattle.jc_bulk.proofs.WrittenAll.{begun_writes, writes_from, may_call_again, written_all}
