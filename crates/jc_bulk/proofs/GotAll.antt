@@ -1,6 +1,7 @@
 -- A whole `getAll`, from its rounds.
 --     begun_rounds    before the first round
 --     runs_from       the rounds of the session's next call
+--     ops_ended, own_ended    all keys have ended, and how many steps the session has made
 --     got_all         after the last one: the call is carried out
 --     leaves_under    each other session that might begin its next call still may
 --     may_call_next, may_call    and so may the session
@@ -18,6 +19,7 @@ use Rattle.jc_types.specs.declared.config.Config.{Config}
 use Rattle.jc_types.specs.declared.refusal.Refusal.{Refusal}
 use Rattle.jc_model.specs.declared.event.Event.{Event}
 use Rattle.jc_model.specs.declared.event.Event.TheVariants.{Step, Evict}
+use Rattle.jc_model.specs.declared.event.Op.{Op}
 use Rattle.jc_model.specs.declared.event.Op.TheVariants.{Get}
 use Rattle.jc_model.specs.declared.event.Reply.{Reply}
 use Rattle.jc_model.specs.Batches.{is_among}
@@ -37,7 +39,7 @@ use Rattle.jc_cache.specs.Sessions.{IsOf, MayCall, LeavesSessions}
 use Rattle.jc_cache.specs.Whole.{own_after}
 use Rattle.jc_cache.proofs.CallerLemmas.{at_key}
 use Rattle.jc_bulk.specs.Bulk.{GrowsTo, own_after_all, said_to_loads, get_ops}
-use Rattle.jc_bulk.specs.Ends.{KeyEnd, key_ops, EndsAt}
+use Rattle.jc_bulk.specs.Ends.{KeyEnd, key_ops, key_ends, EndsAt}
 use Rattle.jc_bulk.specs.GetRounds.{IsGettingInRounds, RunsRounds}
 use Rattle.jc_bulk.specs.Gets.{Turn, IsTurn, AreTurns, AreCounted, ComesAfterAll, turn_keys, turn_ends, open_keys, key_if_open, own_after_ends}
 use Rattle.jc_bulk.specs.Getting.{GetsAll, get_end, get_ends}
@@ -99,24 +101,18 @@ none_open (t ∷ turns) none = by t.ended none (none_open turns)
     by None empty rest = cc
     by (Some x) empty rest = rest empty
 
-ops_got : (turns : List Turn) → list_all is_some (turn_ends turns) ≡ true → key_ops (get_ends (turn_keys turns) (turn_ends turns)) ≡ get_ops (turn_keys turns)
-ops_got [] all = refl
-ops_got (t ∷ turns) all = by t.ended all (ops_got turns)
-  where
-    by : (e : Option (Result Reply Refusal)) → (is_some e && list_all is_some (turn_ends turns)) ≡ true
-        → (list_all is_some (turn_ends turns) ≡ true → key_ops (get_ends (turn_keys turns) (turn_ends turns)) ≡ get_ops (turn_keys turns))
-        → key_ops (get_end t.key e ++ get_ends (turn_keys turns) (turn_ends turns)) ≡ (t.key, Get) ∷ get_ops (turn_keys turns)
-    by None h rest = cc
-    by (Some x) h rest = ap (λ os. (t.key, Get) ∷ os) (rest h)
+pub ops_ended : (targets : List (Bytes × Op)) (ends : List (Option (Result Reply Refusal))) → length ends ≡ length targets → list_all is_some ends ≡ true → key_ops (key_ends targets ends) ≡ targets
+ops_ended [] ends many all = refl
+ops_ended (t ∷ targets) [] many all = cc
+ops_ended (t ∷ targets) (None ∷ ends) many all = cc
+ops_ended (t ∷ targets) (Some x ∷ ends) many all = let fewer : length ends ≡ length targets = cc in ap (λ os. t ∷ os) (ops_ended targets ends fewer all)
 
-own_got : (own : ℕ) (turns : List Turn) → own_after_all own (get_ends (turn_keys turns) (turn_ends turns)) ≡ own_after_ends own (turn_ends turns)
-own_got own [] = refl
-own_got own (t ∷ turns) = by t.ended (λ n. own_got n turns)
-  where
-    by : (e : Option (Result Reply Refusal)) → ((n : ℕ) → own_after_all n (get_ends (turn_keys turns) (turn_ends turns)) ≡ own_after_ends n (turn_ends turns))
-        → own_after_all own (get_end t.key e ++ get_ends (turn_keys turns) (turn_ends turns)) ≡ own_after_ends own (e ∷ turn_ends turns)
-    by None rest = rest own
-    by (Some x) rest = rest (own_after own x)
+pub own_ended : (own : ℕ) (targets : List (Bytes × Op)) (ends : List (Option (Result Reply Refusal))) → length ends ≡ length targets → own_after_ends own ends ≡ own_after_all own (key_ends targets ends)
+own_ended own [] [] many = refl
+own_ended own [] (e ∷ ends) many = cc
+own_ended own (t ∷ targets) [] many = cc
+own_ended own (t ∷ targets) (None ∷ ends) many = let fewer : length ends ≡ length targets = cc in own_ended own targets ends fewer
+own_ended own (t ∷ targets) (Some x ∷ ends) many = let fewer : length ends ≡ length targets = cc in own_ended (own_after own x) targets ends fewer
 
 end_got : (state : State) (caller : Caller) (n : ℕ) (rounds : List LoadRound) (key : Bytes) (ended : Result Reply Refusal) → IsTurn caller n (said_in_loads rounds key) (record { key = key; ended = Some ended }) state
     → EndsAt state caller n (said_to_loads rounds) key Get ended
@@ -217,14 +213,6 @@ module _ {I J : Type 0} {D : I → Type 0} {E : J → Type 0} (loads_all : LoadA
   runs_from cache new session mid after keys was ends next none runs =
       subst (λ es. RunsRounds loads_all load_state keys cache (next_call session) es new after ends) none (subst (λ s. RunsRounds loads_all load_state keys cache s was new after ends) next runs)
 
-  -- the session's counts after the call
-  counts_got : (session after : Session I J D E) (turns : List Turn) (ends : List (Option (Result Reply Refusal))) → session.counts.reservations ≡ 0 → turn_ends turns ≡ ends → AreCounted session.counts ends 0 after.counts
-      → after.counts ≡ record session.counts { own = own_after_all session.counts.own (get_ends (turn_keys turns) (turn_ends turns)) }
-  counts_got session after turns ends none is counted =
-      let own : own_after_ends session.counts.own ends ≡ own_after_all session.counts.own (get_ends (turn_keys turns) (turn_ends turns)) =
-      ap (own_after_ends session.counts.own) (sym is) ∙ sym (own_got session.counts.own turns) in
-      counted ∙ (λ i. record session.counts { own = own i; reservations = sym none i })
-
   pub may_call : (law : StaysUnderway) (cache new : CacheState) (session after : Session I J D E) (keys : List Bytes) (ends : List (Option (Result Reply Refusal))) → MayCall cache session → IsOf new after
       → RunsRounds loads_all load_state keys cache (next_call session) [] new after ends → IsGettingInRounds [] keys cache (next_call session).caller [] [] → MayCall new after
   may_call law cache new session after keys ends may own runs first = may_call_next law cache new session after ends may own runs.left (runs.gets [] first).2.gets.underway (runs.counts session.counts)
@@ -240,18 +228,18 @@ module _ {I J : Type 0} {D : I → Type 0} {E : J → Type 0} (loads_all : LoadA
       let turns = gets.turns in
       let taken : take (length ends) keys ≡ keys = take_all (length ends) keys (omega (arith, whole)) in
       let keys_are : turn_keys turns ≡ keys = gets.keys_are ∙ taken in
-      let over : list_all is_some (turn_ends turns) ≡ true = none_open turns (sym gets.keys_open) in
+      let over : list_all is_some ends ≡ true = ap (list_all is_some) (sym gets.ends_are) ∙ none_open turns (sym gets.keys_open) in
       let same : get_ends (turn_keys turns) (turn_ends turns) ≡ get_ends keys ends = (λ i. get_ends (keys_are i) (gets.ends_are i)) in
       let many : length keys ≡ length (get_ops keys) = sym (length-map keys (λ (key : Bytes). (key, Get))) in
       let counted = runs.counts session.counts (λ i. record session.counts { reservations = may.reservations i }) in
-      let counts = counts_got session after turns ends may.reservations gets.ends_are counted
-      ∙ ap (λ es. record session.counts { own = own_after_all session.counts.own es }) same in (
+      let counts : after.counts ≡ record session.counts { own = own_after_all session.counts.own (get_ends keys ends) } =
+      counted ∙ (λ i. record session.counts { own = own_ended session.counts.own (get_ops keys) ends (whole ∙ many) i; reservations = sym may.reservations i }) in (
         rounds,
         record {
           carried = record {
             caller = caller;
             caller_is = refl;
-            ops_are = ap key_ops (sym same) ∙ ops_got turns over ∙ ap get_ops keys_are;
+            ops_are = ops_ended (get_ops keys) ends (whole ∙ many) over;
             each = λ state.
                 subst (λ n. All (λ (e : KeyEnd). IsStripeOf new e.key state → EndsAt state caller n (said_to_loads rounds) e.key e.op e.ended) (get_ends keys ends)) many
                 (subst (All (λ (e : KeyEnd). IsStripeOf new e.key state → EndsAt state caller (length keys) (said_to_loads rounds) e.key e.op e.ended)) same

@@ -23,11 +23,11 @@ use Rattle.jc_session.specs.declared.session.Session.{Session}
 use Rattle.jc_cache.specs.Caches.{CacheState}
 use Rattle.jc_bulk.specs.Bulk.{AreLooked, IsRefusedWhole, put_ops, put_changes, remove_ops, remove_changes}
 use Rattle.jc_bulk.specs.Clearing.{IsOutOfMemory}
-use Rattle.jc_bulk.specs.Ends.{failed_entries}
+use Rattle.jc_bulk.specs.Ends.{failed_entries, key_end, key_ends}
 use Rattle.jc_bulk.specs.Getting.{get_end, get_ends}
 use Rattle.jc_bulk.specs.WriteRounds.{changes_wanted}
 use Rattle.jc_bulk.specs.Writing.{AllWriteAs}
-use Rattle.jc_bulk.specs.WritingAll.{WritesWithoutFault, FailsToWrite, write_end, write_ends}
+use Rattle.jc_bulk.specs.WritingAll.{WritesWithoutFault, FailsToWrite}
 use Rattle.jc_bulk.proofs.GetResults.{get_ends_push, failed_push, failed_absent}
 use Rattle.jc_bulk.proofs.WriteRounds.{new_key}
 use Rattle.jc_bulk.proofs.Writes.{as_many_keys, key_of_target, same_target}
@@ -76,13 +76,13 @@ remove_push keys i key items near at is =
 
 -- 3. What failed.
 
-one_failed : (o : Bytes × Op) (end : Option (Result Reply Refusal)) → failed_entries (write_end o end) ≡ failed_entries (get_end o.0 end)
+one_failed : (o : Bytes × Op) (end : Option (Result Reply Refusal)) → failed_entries (key_end o end) ≡ failed_entries (get_end o.0 end)
 one_failed o None = refl
 one_failed o (Some x) = refl
 
 pub failed_more : (targets : List (Bytes × Op)) (ends : List (Option (Result Reply Refusal))) (i : ℕ) (o : Bytes × Op) (end : Option (Result Reply Refusal)) (failed : List (Bytes × Refusal))
     → length ends ≡ length targets → i < length targets → o ≡ get_or targets i o → end ≡ get_or ends i end → failed ≡ failed_entries (get_ends (take i (keys_of targets)) (take i ends))
-    → failed ++ failed_entries (write_end o end) ≡ failed_entries (get_ends (take (i + 1) (keys_of targets)) (take (i + 1) ends))
+    → failed ++ failed_entries (key_end o end) ≡ failed_entries (get_ends (take (i + 1) (keys_of targets)) (take (i + 1) ends))
 failed_more targets ends i o end failed many near at is so_far =
     let keys = keys_of targets in
     let here : get_or keys i o.0 ≡ o.0 = get_or_from_slice_get keys i o.0 o.0 (key_of_target targets i o near at) in
@@ -98,7 +98,7 @@ failed_new targets ends i o failed d near at so_far =
     ap (λ es. list_any (pointwise ◌==◌ o.0) (keys_of es)) so_far ∙ failed_absent (take i (keys_of targets)) (take i ends) o.0 (new_key targets i o d near at)
 
 pub failed_whole : (targets : List (Bytes × Op)) (ends : List (Option (Result Reply Refusal))) (i : ℕ) (failed : List (Bytes × Refusal)) → length ends ≡ length targets → length targets ≤ i
-    → failed ≡ failed_entries (get_ends (take i (keys_of targets)) (take i ends)) → failed ≡ failed_entries (write_ends targets ends)
+    → failed ≡ failed_entries (get_ends (take i (keys_of targets)) (take i ends)) → failed ≡ failed_entries (key_ends targets ends)
 failed_whole targets ends i failed many past so_far =
     so_far
     ∙ (λ j. failed_entries (get_ends (take_all i (keys_of targets) (omega (arith, past, as_many_keys targets)) j) (take_all i ends (omega (arith, past, many)) j)))

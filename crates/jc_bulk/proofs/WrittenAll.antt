@@ -28,21 +28,20 @@ use Rattle.jc_cache.specs.CacheInside.{IsPlaced}
 use Rattle.jc_cache.specs.Caches.{CacheState, EachStripe, IsIdleCache, HasNoCallsFrom, IsStripeOf}
 use Rattle.jc_cache.specs.Calls.{next_call}
 use Rattle.jc_cache.specs.Sessions.{IsOf, MayCall}
-use Rattle.jc_cache.specs.Whole.{own_after}
 use Rattle.jc_cache.proofs.CallerLemmas.{at_key}
 use Rattle.jc_bulk.specs.Bulk.{CauseAmong, HasNoCause, own_after_all, said_to_writes}
-use Rattle.jc_bulk.specs.Ends.{KeyEnd, key_ops, failed_entries, refusal_in, EndsAt}
+use Rattle.jc_bulk.specs.Ends.{KeyEnd, key_end, key_ends, failed_entries, refusal_in, EndsAt}
 use Rattle.jc_bulk.specs.GetRounds.{IsCauseIn, failures}
-use Rattle.jc_bulk.specs.Gets.{Turn, turn_keys, turn_ends, own_after_ends}
+use Rattle.jc_bulk.specs.Gets.{Turn, turn_keys, turn_ends}
 use Rattle.jc_bulk.specs.Getting.{get_ends}
 use Rattle.jc_bulk.specs.Laws.{StaysUnderway}
 use Rattle.jc_bulk.specs.Rounds.{WriteRound, AreOnce, round_keys, changes_in, said_in_writes, writer_causes}
 use Rattle.jc_bulk.specs.WriteRounds.{IsWritingInRounds, RunsWriteRounds, IsCauseOf, keys_written, changes_wanted}
 use Rattle.jc_bulk.specs.Writing.{IsTarget, HasEndedAt, AreWriteTurns}
-use Rattle.jc_bulk.specs.WritingAll.{WritesAll, write_end, write_ends}
+use Rattle.jc_bulk.specs.WritingAll.{WritesAll}
 use Rattle.jc_bulk.proofs.GetCommits.{distinct_take}
 use Rattle.jc_bulk.proofs.GetResults.{failures_are, none_mapped}
-use Rattle.jc_bulk.proofs.GotAll.{no_steps, none_open, once_only, grows_to, leaves_under, may_call_next}
+use Rattle.jc_bulk.proofs.GotAll.{no_steps, none_open, ops_ended, own_ended, once_only, grows_to, leaves_under, may_call_next}
 use Rattle.jc_bulk.proofs.Writes.{as_many_keys}
 
 -- 1. Before the first round.
@@ -71,19 +70,6 @@ begun_writes targets cache caller law distinct placed idle none = record {
 
 -- 2. How the keys ended.
 
-ops_written : (targets : List (Bytes × Op)) (ends : List (Option (Result Reply Refusal))) → length ends ≡ length targets → list_all is_some ends ≡ true → key_ops (write_ends targets ends) ≡ targets
-ops_written [] ends many all = refl
-ops_written (t ∷ targets) [] many all = cc
-ops_written (t ∷ targets) (None ∷ ends) many all = cc
-ops_written (t ∷ targets) (Some x ∷ ends) many all = let fewer : length ends ≡ length targets = cc in ap (λ os. t ∷ os) (ops_written targets ends fewer all)
-
-own_written : (own : ℕ) (targets : List (Bytes × Op)) (ends : List (Option (Result Reply Refusal))) → length ends ≡ length targets → own_after_ends own ends ≡ own_after_all own (write_ends targets ends)
-own_written own [] [] many = refl
-own_written own [] (e ∷ ends) many = cc
-own_written own (t ∷ targets) [] many = cc
-own_written own (t ∷ targets) (None ∷ ends) many = let fewer : length ends ≡ length targets = cc in own_written own targets ends fewer
-own_written own (t ∷ targets) (Some x ∷ ends) many = let fewer : length ends ≡ length targets = cc in own_written (own_after own x) targets ends fewer
-
 end_written : (state : State) (caller : Caller) (n : ℕ) (rounds : List WriteRound) (key : Bytes) (op : Op) (ended : Result Reply Refusal) → HasEndedAt state caller n (said_in_writes rounds key) key op (Some ended)
     → EndsAt state caller n (said_to_writes rounds) key op ended
 end_written state caller n rounds key op (Ok reply) h = h
@@ -92,7 +78,7 @@ end_written state caller n rounds key op (Err refusal) h = h
 -- `targets` are the last ones of `all`
 each_end : (cache : CacheState) (caller : Caller) (all : List (Bytes × Op)) (rounds : List WriteRound) (targets : List (Bytes × Op)) (turns : List Turn) → ((key : Bytes) (op : Op) → IsTarget targets key op → IsTarget all key op)
     → turn_keys turns ≡ keys_of targets → AreWriteTurns cache caller all (said_in_writes rounds) turns → (state : State)
-    → All (λ (e : KeyEnd). IsStripeOf cache e.key state → EndsAt state caller (length all) (said_to_writes rounds) e.key e.op e.ended) (write_ends targets (turn_ends turns))
+    → All (λ (e : KeyEnd). IsStripeOf cache e.key state → EndsAt state caller (length all) (said_to_writes rounds) e.key e.op e.ended) (key_ends targets (turn_ends turns))
 each_end cache caller all rounds [] turns among keys each state = All-nil _
 each_end cache caller all rounds (t ∷ targets) [] among keys each state = All-nil _
 each_end cache caller all rounds (t ∷ targets) (u ∷ turns) among keys each state =
@@ -107,36 +93,36 @@ each_end cache caller all rounds (t ∷ targets) (u ∷ turns) among keys each s
     rest = cc
 
     by : (e : Option (Result Reply Refusal)) → (IsStripeOf cache t.0 state → HasEndedAt state caller (length all) (said_in_writes rounds t.0) t.0 t.1 e)
-        → All (λ (k : KeyEnd). IsStripeOf cache k.key state → EndsAt state caller (length all) (said_to_writes rounds) k.key k.op k.ended) (write_ends targets (turn_ends turns))
-        → All (λ (k : KeyEnd). IsStripeOf cache k.key state → EndsAt state caller (length all) (said_to_writes rounds) k.key k.op k.ended) (write_end t e ++ write_ends targets (turn_ends turns))
+        → All (λ (k : KeyEnd). IsStripeOf cache k.key state → EndsAt state caller (length all) (said_to_writes rounds) k.key k.op k.ended) (key_ends targets (turn_ends turns))
+        → All (λ (k : KeyEnd). IsStripeOf cache k.key state → EndsAt state caller (length all) (said_to_writes rounds) k.key k.op k.ended) (key_end t e ++ key_ends targets (turn_ends turns))
     by None turn later = later
     by (Some x) turn later =
-        All-cons (λ (k : KeyEnd). IsStripeOf cache k.key state → EndsAt state caller (length all) (said_to_writes rounds) k.key k.op k.ended) (record { key = t.0; op = t.1; ended = x }) (write_ends targets (turn_ends turns))
+        All-cons (λ (k : KeyEnd). IsStripeOf cache k.key state → EndsAt state caller (length all) (said_to_writes rounds) k.key k.op k.ended) (record { key = t.0; op = t.1; ended = x }) (key_ends targets (turn_ends turns))
         (λ is. end_written state caller (length all) rounds t.0 t.1 x (turn is)) later
 
 -- 3. What failed.
 
-pub failed_written : (targets : List (Bytes × Op)) (ends : List (Option (Result Reply Refusal))) → failed_entries (write_ends targets ends) ≡ failed_entries (get_ends (keys_of targets) ends)
+pub failed_written : (targets : List (Bytes × Op)) (ends : List (Option (Result Reply Refusal))) → failed_entries (key_ends targets ends) ≡ failed_entries (get_ends (keys_of targets) ends)
 failed_written [] ends = refl
 failed_written (t ∷ targets) [] = refl
 failed_written (t ∷ targets) (None ∷ ends) = failed_written targets ends
 failed_written (t ∷ targets) (Some x ∷ ends) = ap (cons_option (option_map (λ r. (t.0, r)) (refusal_in x))) (failed_written targets ends)
 
-causes_are : (targets : List (Bytes × Op)) (ends : List (Option (Result Reply Refusal))) → length ends ≡ length targets → map (λ (e : Bytes × Refusal). e.1) (failed_entries (write_ends targets ends)) ≡ failures ends
+causes_are : (targets : List (Bytes × Op)) (ends : List (Option (Result Reply Refusal))) → length ends ≡ length targets → map (λ (e : Bytes × Refusal). e.1) (failed_entries (key_ends targets ends)) ≡ failures ends
 causes_are targets ends many = ap (map (λ (e : Bytes × Refusal). e.1)) (failed_written targets ends) ∙ failures_are (keys_of targets) ends (many ∙ sym (as_many_keys targets))
 
 is_cause : (fault : Option Refusal) (cause : Refusal) (rs : List Refusal) → fault ≡ Some cause → IsCauseIn fault rs → IsAmong rs cause
 is_cause fault cause rs is h = subst (λ o. IsCauseIn o rs) is h
 
 pub write_cause_among : (targets : List (Bytes × Op)) (ends : List (Option (Result Reply Refusal))) (rounds : List WriteRound) (fault : Option Refusal) (cause : Refusal) → length ends ≡ length targets
-    → IsCauseIn fault (writer_causes rounds) → IsCauseOf (Some cause) (failures ends) fault → CauseAmong (write_ends targets ends) rounds cause
+    → IsCauseIn fault (writer_causes rounds) → IsCauseOf (Some cause) (failures ends) fault → CauseAmong (key_ends targets ends) rounds cause
 write_cause_among targets ends rounds fault cause many returned (inl among) = inl (subst (λ rs. IsAmong rs cause) (sym (causes_are targets ends many)) among)
 write_cause_among targets ends rounds fault cause many returned (inr is) = inr (is_cause fault cause (writer_causes rounds) is returned)
 
 pub no_write_failure : (targets : List (Bytes × Op)) (ends : List (Option (Result Reply Refusal))) (rounds : List WriteRound) (fault : Option Refusal) → length ends ≡ length targets
-    → IsCauseIn fault (writer_causes rounds) → IsCauseOf None (failures ends) fault → HasNoCause (write_ends targets ends) rounds
+    → IsCauseIn fault (writer_causes rounds) → IsCauseOf None (failures ends) fault → HasNoCause (key_ends targets ends) rounds
 no_write_failure targets ends rounds fault many returned none = (
-  none_mapped (failed_entries (write_ends targets ends)) (causes_are targets ends many ∙ none.0),
+  none_mapped (failed_entries (key_ends targets ends)) (causes_are targets ends many ∙ none.0),
   subst (λ o. IsCauseIn o (writer_causes rounds)) none.1 returned,
 )
 
@@ -163,7 +149,7 @@ module _ {I J : Type 0} {D : I → Type 0} {E : J → Type 0} (writes_all : Writ
 
   pub written_all : (law : StaysUnderway) (cache new : CacheState) (session after : Session I J D E) (targets : List (Bytes × Op)) (ends : List (Option (Result Reply Refusal))) (fault : Option Refusal) → MayCall cache session → length ends ≡ length targets
       → RunsWriteRounds writes_all deletes_all write_state targets cache (next_call session) [] None new after ends fault → IsWritingInRounds [] targets cache (next_call session).caller [] []
-      → (rounds : List WriteRound) × WritesAll writes_all deletes_all write_state cache session targets (changes_wanted targets) (write_ends targets ends) rounds new after × IsCauseIn fault (writer_causes rounds)
+      → (rounds : List WriteRound) × WritesAll writes_all deletes_all write_state cache session targets (changes_wanted targets) (key_ends targets ends) rounds new after × IsCauseIn fault (writer_causes rounds)
   written_all law cache new session after targets ends fault may whole runs first =
       let caller = (next_call session).caller in
       let all = runs.writes [] first in
@@ -174,16 +160,16 @@ module _ {I J : Type 0} {D : I → Type 0} {E : J → Type 0} (writes_all : Writ
       let keys_are : turn_keys turns ≡ keys_of targets = writes.keys_are ∙ taken in
       let over : list_all is_some ends ≡ true = ap (list_all is_some) (sym writes.ends_are) ∙ none_open turns (sym writes.keys_open) in
       let counted = runs.counts session.counts (λ i. record session.counts { reservations = may.reservations i }) in
-      let counts : after.counts ≡ record session.counts { own = own_after_all session.counts.own (write_ends targets ends) } =
-      counted ∙ (λ i. record session.counts { own = own_written session.counts.own targets ends whole i; reservations = sym may.reservations i }) in (
+      let counts : after.counts ≡ record session.counts { own = own_after_all session.counts.own (key_ends targets ends) } =
+      counted ∙ (λ i. record session.counts { own = own_ended session.counts.own targets ends whole i; reservations = sym may.reservations i }) in (
         rounds,
         record {
           carried = record {
             caller = caller;
             caller_is = refl;
-            ops_are = ops_written targets ends whole over;
+            ops_are = ops_ended targets ends whole over;
             each = λ state.
-                subst (λ es. All (λ (e : KeyEnd). IsStripeOf new e.key state → EndsAt state caller (length targets) (said_to_writes rounds) e.key e.op e.ended) (write_ends targets es)) writes.ends_are
+                subst (λ es. All (λ (e : KeyEnd). IsStripeOf new e.key state → EndsAt state caller (length targets) (said_to_writes rounds) e.key e.op e.ended) (key_ends targets es)) writes.ends_are
                 (each_end new caller targets rounds targets turns (λ key op h. h) keys_are writes.each state);
             others = λ key state away is. writes.others key state (ap (λ ks. is_among ks key) keys_are ∙ away) is;
             grows = grows_to cache new runs.grows;

@@ -1,6 +1,7 @@
 -- How each key of a bulk call ended.
 --     KeyEnd          a key of the call, its operation, and how it ended: with its step's reply, or refused
 --     key_ops         the keys with their operations, in the call's order
+--     key_end, key_ends    how a key ended, if it did, and how these keys did, in their order
 --     refusal_in      the fault or refusal that a key ended in, if it did
 --     reply_value     the value that a key's step replied, if it did
 --     failed_entries  each key that ended in a fault or a refusal, with it, in the call's order
@@ -9,7 +10,7 @@
 --     MayRefuse       a key may end refused so: `HistoryFull` if its stripe is near full, `OutOfMemory` if the call may need a later round
 --     EndsAt          the key's stripe has exactly this one step of the call at the key, with this reply and the outside answers that were
 --                     given for it; or it has none, nothing was asked, and the refusal may come
-use Rattle.std.specs.Prelude.{◌≡◌, ◌<◌, ◌⊎◌, ◌+◌, ◌*◌, ◌&&◌, ℕ, List, [], ◌∷◌, length, map, Bool, true, not, nat_le, nat_lt, Option, None, Some, option_map, Result, Ok, Err}
+use Rattle.std.specs.Prelude.{◌≡◌, ◌<◌, ◌⊎◌, ◌+◌, ◌*◌, ◌++◌, ◌&&◌, ℕ, List, [], ◌∷◌, length, map, Bool, true, not, nat_le, nat_lt, Option, None, Some, option_map, Result, Ok, Err}
 use Rattle.std.specs.List.{filter_map}
 use Rattle.jc_types.specs.declared.caller.Caller.{Caller}
 use Rattle.jc_types.specs.declared.limits.TheConstants.{STEP_PLACES, RESERVATIONS_MAX}
@@ -33,6 +34,15 @@ pub record KeyEnd : Type 0 where
 
 abbrev pub key_ops : List KeyEnd → List (Bytes × Op)
 key_ops ends = map (λ (e : KeyEnd). (e.key, e.op)) ends
+
+abbrev pub key_end : Bytes × Op → Option (Result Reply Refusal) → List KeyEnd
+key_end target None = []
+key_end target (Some ended) = record { key = target.0; op = target.1; ended = ended } ∷ []
+
+abbrev pub key_ends : List (Bytes × Op) → List (Option (Result Reply Refusal)) → List KeyEnd
+key_ends [] ends = []
+key_ends (target ∷ targets) [] = []
+key_ends (target ∷ targets) (end ∷ ends) = key_end target end ++ key_ends targets ends
 
 -- 1. What a bulk call returns of its keys.
 

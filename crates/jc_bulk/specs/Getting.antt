@@ -5,7 +5,7 @@
 --     FailsToGet    some keys failed: these are all of them, with their faults and refusals, and the cause is one of these; and each key
 --                   that has a value was found
 --     NamesNoKey    no key is named as failed, and none as found
-use Rattle.std.specs.Prelude.{◌≡◌, ◌++◌, ℕ, List, [], ◌∷◌, Option, None, Some, Result}
+use Rattle.std.specs.Prelude.{◌≡◌, ℕ, List, [], Option, Result}
 use Rattle.jc_types.specs.declared.refusal.Refusal.{Refusal}
 use Rattle.jc_model.specs.declared.event.Op.TheVariants.{Get}
 use Rattle.jc_model.specs.declared.event.Reply.{Reply}
@@ -14,17 +14,14 @@ use Rattle.jc_outside.specs.CallingAll.{LoadAllRelation}
 use Rattle.jc_session.specs.declared.session.Session.{Session}
 use Rattle.jc_cache.specs.Caches.{CacheState}
 use Rattle.jc_bulk.specs.Bulk.{CarriesOut, AsksLoaderInRounds, CauseAmong, said_to_loads, get_ops}
-use Rattle.jc_bulk.specs.Ends.{KeyEnd, failed_entries, found_entries}
+use Rattle.jc_bulk.specs.Ends.{KeyEnd, key_end, key_ends, failed_entries, found_entries}
 use Rattle.jc_bulk.specs.Rounds.{LoadRound}
 
 abbrev pub get_end : Bytes → Option (Result Reply Refusal) → List KeyEnd
-get_end key None = []
-get_end key (Some ended) = record { key = key; op = Get; ended = ended } ∷ []
+get_end key end = key_end (key, Get) end
 
 abbrev pub get_ends : List Bytes → List (Option (Result Reply Refusal)) → List KeyEnd
-get_ends [] ends = []
-get_ends (key ∷ keys) [] = []
-get_ends (key ∷ keys) (end ∷ ends) = get_end key end ++ get_ends keys ends
+get_ends keys ends = key_ends (get_ops keys) ends
 
 pub record GetsAll
     {I J : Type 0} {D : I → Type 0} {E : J → Type 0}

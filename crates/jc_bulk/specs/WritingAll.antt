@@ -1,15 +1,13 @@
 -- A call that writes or deletes many keys.
---     write_end, write_ends    how a key ended, if it did, and how these keys did, in their order
 --     WritesAll     a session's next call, which writes or deletes these keys, and ended so: it was carried out for each of them, and the
 --                   writer was asked in these rounds, for no more than these changes
 --     WritesWithoutFault    the same, where no key failed and the writer returned no fault
 --     FailsToWrite  some keys failed, or the writer did: these are all keys that failed, with their faults and refusals, and the cause is
 --                   one of these, or a fault that the writer returned
-use Rattle.std.specs.Prelude.{◌≡◌, ◌++◌, ℕ, List, [], ◌∷◌, Option, None, Some, Result}
+use Rattle.std.specs.Prelude.{◌≡◌, ℕ, List, Option}
 use Rattle.jc_types.specs.declared.refusal.Refusal.{Refusal}
 use Rattle.jc_model.specs.declared.event.Change.{Change}
 use Rattle.jc_model.specs.declared.event.Op.{Op}
-use Rattle.jc_model.specs.declared.event.Reply.{Reply}
 use Rattle.jc_model.specs.Cache.{Bytes}
 use Rattle.jc_outside.specs.CallingAll.{WriteAllRelation, DeleteAllRelation}
 use Rattle.jc_session.specs.declared.session.Session.{Session}
@@ -17,15 +15,6 @@ use Rattle.jc_cache.specs.Caches.{CacheState}
 use Rattle.jc_bulk.specs.Bulk.{CarriesOut, AsksWriterInRounds, CauseAmong, HasNoCause, said_to_writes}
 use Rattle.jc_bulk.specs.Ends.{KeyEnd, failed_entries}
 use Rattle.jc_bulk.specs.Rounds.{WriteRound}
-
-abbrev pub write_end : Bytes × Op → Option (Result Reply Refusal) → List KeyEnd
-write_end target None = []
-write_end target (Some ended) = record { key = target.0; op = target.1; ended = ended } ∷ []
-
-abbrev pub write_ends : List (Bytes × Op) → List (Option (Result Reply Refusal)) → List KeyEnd
-write_ends [] ends = []
-write_ends (target ∷ targets) [] = []
-write_ends (target ∷ targets) (end ∷ ends) = write_end target end ++ write_ends targets ends
 
 pub record WritesAll
     {I J : Type 0} {D : I → Type 0} {E : J → Type 0}

@@ -11,12 +11,12 @@ ghost use Rattle.jc_model.specs.Cache.{Bytes};
 ghost use Rattle.jc_cache.specs.Sessions.{MayCall, LeavesSessions};
 ghost use Rattle.jc_bulk.specs.Bulk.{AreLooked, IsRefusedWhole, put_ops, put_changes, remove_ops, remove_changes};
 ghost use Rattle.jc_bulk.specs.Clearing.{IsOutOfMemory};
-ghost use Rattle.jc_bulk.specs.Ends.{failed_entries};
+ghost use Rattle.jc_bulk.specs.Ends.{failed_entries, key_end, key_ends};
 ghost use Rattle.jc_bulk.specs.GetRounds.{IsCauseIn, failures};
 ghost use Rattle.jc_bulk.specs.Rounds.{WriteRound, writer_causes};
 ghost use Rattle.jc_bulk.specs.WriteRounds.{IsCauseOf, changes_wanted};
 ghost use Rattle.jc_bulk.specs.Writing.{AllWriteAs};
-ghost use Rattle.jc_bulk.specs.WritingAll.{WritesAll, WritesWithoutFault, FailsToWrite, write_end, write_ends};
+ghost use Rattle.jc_bulk.specs.WritingAll.{WritesAll, WritesWithoutFault, FailsToWrite};
 
 use crate::clear_all::look_at_all;
 use crate::fault::BulkFault;
@@ -313,7 +313,7 @@ fn write_each<R: Wait>(
     requires fault { fault.old ≡ None }
     ensures may { MayCall cache.new session.new }
     ensures writes { (rounds : List WriteRound) × WritesAll writes_all deletes_all write_state cache.old session.old
-        targets.now (changes_wanted targets.now) (write_ends targets.now ends.new.items) rounds cache.new session.new
+        targets.now (changes_wanted targets.now) (key_ends targets.now ends.new.items) rounds cache.new session.new
         × IsCauseIn fault.new (writer_causes rounds) }
     ensures cause { IsCauseOf result (failures ends.new.items) fault.new }
     ensures whole { length ends.new.items ≡ length targets.now }
@@ -337,7 +337,7 @@ fn add_failed(
     requires many { length ends.now ≡ length targets.now }
     requires empty { failed.old.entries ≡ [] }
     requires room { length targets.now ≤ spare failed.old }
-    ensures { failed.new.entries ≡ failed_entries (write_ends targets.now ends.now) }
+    ensures { failed.new.entries ≡ failed_entries (key_ends targets.now ends.now) }
 {
     for place in 0..targets.len() {
         add_failure(&targets[place], &ends[place], failed);
@@ -352,7 +352,7 @@ fn add_failure(
 )
     requires new { list_any (pointwise ◌==◌ target.now.0) (keys_of failed.old.entries) ≡ false }
     requires room { 0 < spare failed.old }
-    ensures entries { failed.new.entries ≡ failed.old.entries ++ failed_entries (write_end target.now end.now) }
+    ensures entries { failed.new.entries ≡ failed.old.entries ++ failed_entries (key_end target.now end.now) }
     ensures room { spare failed.old ≤ spare failed.new + 1 }
 {
     if let Some(ended) = end {
