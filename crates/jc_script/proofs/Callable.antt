@@ -36,7 +36,7 @@ line_callable : (line : Line) → SaysWords line → is_callable line ≡ true
 line_callable (Open config) known = refl
 line_callable (Set key value) known = refl
 line_callable (Begin call session command) known = and_from _ _ (operation_single command.op known.2) (session_known session known.1)
-line_callable (BeginBulk call session bulk) known = and_from _ _ known.2 (session_known session known.1)
+line_callable (BeginBulk call session bulk) known = session_known session known.1
 line_callable (OfCall call act) known = refl
 line_callable (Foreign key value) known = refl
 line_callable Audit known = refl

@@ -13,17 +13,17 @@ use Rattle.jc_model.specs.Batches.{is_among}
 use Rattle.jc_model.specs.Cache.{Bytes}
 use Rattle.jc_model.specs.Table.{is_load_given}
 use Rattle.jc_world.specs.declared.event.Part.{Part}
-use Rattle.jc_world.specs.Calls.{CallState, open_keys, takes_turns}
+use Rattle.jc_world.specs.Calls.{CallState, keys_at_work, may_work, open_keys, takes_turns}
 use Rattle.jc_world.specs.declared.event.WorldEvent.{WorldEvent}
 use Rattle.jc_world.specs.declared.event.WorldEvent.TheVariants as event
 use Rattle.jc_world.specs.World.{WorldState, is_joined, open_call, part_of}
-use Rattle.jc_world.specs.Fits.{fits, is_free, may_report}
+use Rattle.jc_world.specs.Fits.{fits, is_free, may_report, may_start}
 use Rattle.jc_world.specs.Events.{AllFit}
-use Rattle.jc_world.specs.Together.{at_call, key_at, AreAt, FitTogether}
+use Rattle.jc_world.specs.Together.{at_call, key_at, looks, AreAt, FitTogether}
 use Rattle.jc_script.specs.declared.line.Act.{Act}
 use Rattle.jc_script.specs.declared.line.Act.TheVariants.{Read, ReadFail, Say, Apply, ApplyFail, ApplyLie, End, Drop, More, Take, Process}
 use Rattle.jc_script.specs.Words.{said, said_after}
-use Rattle.jc_script.specs.LineEvents.{event_at, events_of, is_asked, is_meant, is_started, is_time, key_events, keys_at_work, keys_of_act}
+use Rattle.jc_script.specs.LineEvents.{event_at, events_of, is_asked, is_meant, is_started, is_time, key_events, keys_of_act, leaves, left_keys}
 
 -- ---- a call under way
 
@@ -167,12 +167,6 @@ key_events-more w call act keys i key lt is =
     ∙ ap (map (event_at call act)) (filter-append (is_meant w call act) (take i keys) (key ∷ []))
     ∙ map-append (event_at call act) (filter (is_meant w call act) (take i keys)) (filter (is_meant w call act) (key ∷ []))
 
--- one key differs from no other
-pub one_differs : (o : Option Bytes) → IsDistinct (pointwise ◌==◌) (option_to_list o)
-unfolding IsDistinct
-one_differs None = tt
-one_differs (Some key) = (tt, tt)
-
 -- a key differs from those before it
 not_before : (keys : List Bytes) (i : ℕ) (key : Bytes) → IsDistinct (pointwise ◌==◌) keys → i < length keys → key ≡ get_or keys i key → is_among (take i keys) key ≡ false
 not_before [] zero key differ lt is = refl
@@ -183,8 +177,8 @@ not_before (k ∷ keys) (suc i) key differ lt is =
     ap (λ b. b || is_among (take i keys) key) (nat_list_eq_equiv.symm key k ∙ ap (pointwise ◌==◌ k) is ∙ apart)
     ∙ not_before keys i key (IsDistinct-tail (pointwise ◌==◌) k keys differ) (omega (arith, lt)) is
 
-pub asked_before : (p : Bytes → Bool) (keys : List Bytes) (i : ℕ) (key : Bytes) → IsDistinct (pointwise ◌==◌) keys → i < length keys → key ≡ get_or keys i key → is_among (filter p (take i keys)) key ≡ false
-asked_before p keys i key differ lt is = kept (take i keys) (not_before keys i key differ lt is)
+pub left_before : (p : Bytes → Bool) (keys : List Bytes) (i : ℕ) (key : Bytes) → IsDistinct (pointwise ◌==◌) keys → i < length keys → key ≡ get_or keys i key → is_among (filter p (take i keys)) key ≡ false
+left_before p keys i key differ lt is = kept (take i keys) (not_before keys i key differ lt is)
   where
     kept : (ks : List Bytes) → is_among ks key ≡ false → is_among (filter p ks) key ≡ false
     kept [] h = h
@@ -195,9 +189,33 @@ asked_before p keys i key differ lt is = kept (take i keys) (not_before keys i k
           | false ↦ kept ks parts.1
         ]
 
--- the keys that the writer was asked for, with one key more
-pub asked_more : (p : Bytes → Bool) (keys : List Bytes) (i : ℕ) (key : Bytes) → i < length keys → key ≡ get_or keys i key → filter p (take (i + 1) keys) ≡ filter p (take i keys) ++ filter p (key ∷ [])
-asked_more p keys i key lt is = ap (filter p) (take_more keys i key lt ∙ ap (λ k. take i keys ++ k ∷ []) (sym is)) ∙ filter-append p (take i keys) (key ∷ [])
+-- the keys that are kept, with one key more
+pub left_more : (p : Bytes → Bool) (keys : List Bytes) (i : ℕ) (key : Bytes) → i < length keys → key ≡ get_or keys i key → filter p (take (i + 1) keys) ≡ filter p (take i keys) ++ filter p (key ∷ [])
+left_more p keys i key lt is = ap (filter p) (take_more keys i key lt ∙ ap (λ k. take i keys ++ k ∷ []) (sym is)) ∙ filter-append p (take i keys) (key ∷ [])
+
+-- no event at all
+pub none_fit : (w : WorldState) → AllFit w []
+none_fit w [] new run = refl
+none_fit w (s ∷ seen) new run = absurd run
+
+-- one look more
+pub looks-more : (call from count : ℕ) → looks call from (suc count) ≡ looks call from count ++ event.Look call (from + count) ∷ []
+looks-more call from zero = let same : from ≡ from + 0 = omega (arith) in ap (λ n. event.Look call n ∷ []) same
+looks-more call from (suc count) =
+    let same : (from + 1) + count ≡ from + suc count = omega (arith) in
+    ap (λ events. event.Look call from ∷ events) (looks-more call (from + 1) count ∙ ap (λ n. looks call (from + 1) count ++ event.Look call n ∷ []) same)
+
+-- the first phases of a call that has just begun fit, at each key at which it works
+pub starts_fit : (w : WorldState) → FitTogether w → (call : ℕ) (u : CallState) → open_call w call ≡ Some u → ((key : Bytes) → is_free w call key ≡ true) → IsDistinct (pointwise ◌==◌) (keys_at_work u)
+    → list_all (may_work u) (keys_at_work u) ≡ true → AllFit w (key_events w call More (keys_at_work u))
+starts_fit w together call u here free differ work =
+    keys_fit w together call More (keys_at_work u) differ (all_kept (keys_at_work u) work)
+  where
+    all_kept : (keys : List Bytes) → list_all (may_work u) keys ≡ true → list_all (fits w) (key_events w call More keys) ≡ true
+    all_kept [] h = refl
+    all_kept (key ∷ keys) h =
+        let parts = and_parts (may_work u key) (list_all (may_work u) keys) h in
+        and_from _ _ (ap (may_start w call key) here ∙ and_from _ _ parts.0 (free key)) (all_kept keys parts.1)
 
 -- the events of an act fit if it is the time for it
 pub act_fits : (w : WorldState) → FitTogether w → (call : ℕ) (act : Act) (u : CallState) (keys : List Bytes) → open_call w call ≡ Some u → keys ≡ keys_of_act act u → IsDistinct (pointwise ◌==◌) keys
@@ -205,9 +223,11 @@ pub act_fits : (w : WorldState) → FitTogether w → (call : ℕ) (act : Act) (
 act_fits w together call Read u keys here is differ time = alone_fit w together call Read keys differ (all_of_kept _ (event_at call Read) (fits w) (λ key h. h) keys)
 act_fits w together call (ReadFail code) u keys here is differ time = alone_fit w together call (ReadFail code) keys differ (all_of_kept _ (event_at call (ReadFail code)) (fits w) (λ key h. h) keys)
 act_fits w together call (Say pairs) u keys here is differ time = alone_fit w together call (Say pairs) keys differ (all_of_kept _ (event_at call (Say pairs)) (fits w) (λ key h. and_from _ _ (said_given pairs key Nothing refl) h) keys)
-act_fits w together call (Apply left) u keys here is differ time = writer_fit w together call (is_meant w call (Apply left)) u keys [] None (λ key h. h) here is differ time
-act_fits w together call (ApplyFail code left) u keys here is differ time = writer_fit w together call (is_meant w call (ApplyFail code left)) u keys (filter (is_asked w call) keys) (Some code) (λ key h. cc) here is differ time
-act_fits w together call (ApplyLie code) u keys here is differ time = writer_fit w together call (is_meant w call (ApplyLie code)) u keys (filter (is_asked w call) keys) (Some code) (λ key h. h) here is differ time
+act_fits w together call (Apply left) u keys here is differ time =
+    writer_fit w together call (is_meant w call (Apply left)) u keys (left_keys w call (Apply left) keys) None (λ key h. (and_parts (is_asked w call key) (not (leaves (Apply left) key)) h).0) here is differ time
+act_fits w together call (ApplyFail code left) u keys here is differ time =
+    writer_fit w together call (is_meant w call (ApplyFail code left)) u keys (left_keys w call (ApplyFail code left) keys) (Some code) (λ key h. (and_parts (is_asked w call key) (not (leaves (ApplyFail code left) key)) h).0) here is differ time
+act_fits w together call (ApplyLie code) u keys here is differ time = writer_fit w together call (is_meant w call (ApplyLie code)) u keys (left_keys w call (ApplyLie code) keys) (Some code) (λ key h. h) here is differ time
 act_fits w together call End u keys here is differ time = alone_fit w together call End keys differ (and_parts _ _ time).1
 act_fits w together call Drop u keys here is differ time =
     let parts = and_parts (list_all (fits w) (key_events w call Drop keys)) (not (list_any (is_joined w call) keys)) time in

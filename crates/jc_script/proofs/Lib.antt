@@ -13,4 +13,3 @@ pub mod ReadProcess
 pub mod ReadLines
 pub mod Callable
 pub mod Fitting
-pub mod Starting

@@ -27,7 +27,7 @@ use Rattle.jc_script.specs.declared.line.Act.{Act}
 use Rattle.jc_script.specs.declared.line.Act.TheVariants.{Read, ReadFail, Say, Apply, ApplyFail, ApplyLie, End, Drop, More, Take, Process}
 use Rattle.jc_script.specs.ProcessWords.{source_words, call_text, fail_words}
 use Rattle.jc_script.specs.Words.{◌>>=◌, Pairs}
-use Rattle.jc_script.specs.Lines.{form_named, flags_of, takes_words, bare_op, valued_op, bare_of, valued_of, replace_if_of, begin_with, is_read, bulk_name, bulk_with, has_but_shape, left_of, apply_of, apply_fail_of, command_of, open_of, set_of, begin_of, lone_act, lone_of, coded_act, coded_of, say_of, foreign_of, read_line}
+use Rattle.jc_script.specs.Lines.{form_named, flags_of, takes_words, bare_op, valued_op, bare_of, valued_of, replace_if_of, begin_with, bulk_with, has_but_shape, left_of, apply_of, apply_fail_of, command_of, open_of, set_of, begin_of, lone_act, lone_of, coded_act, coded_of, say_of, foreign_of, read_line}
 use Rattle.jc_script.specs.Printing.{value_text, value_or_none_text}
 use Rattle.jc_script.specs.Spelled.{IsNumber, IsSession, IsKey, IsValue, IsValueOrNone, IsPair, AreLeft, HasKeys, IsOperation, IsAct, LinesReadBack, spelling, session_text, pair_text, flag_words, operation_words, bulk_words, left_words}
 use Rattle.jc_script.proofs.AreKeys.{key_back, keys_back, keys_are_words}
@@ -128,21 +128,21 @@ bulk_are_words bulk.RemoveEvery known = refl
 bulk_are_words bulk.Clear known = refl
 bulk_are_words (bulk.InvokeAll keys) known = keys_are_words keys known.1
 
-bulk_back : (call session : ℕ) (b : BulkCall) → IsNumber call → IsSession session → is_read (bulk_name b) ≡ true → HasKeys b
+bulk_back : (call session : ℕ) (b : BulkCall) → IsNumber call → IsSession session → HasKeys b
     → begin_of (decimal call ∷ session_text session ∷ bulk_words b) ≡ Ok (BeginBulk call session b)
-bulk_back call session (bulk.GetAll keys) n s on known =
-    begin_asks call session (codes "getall") keys (form.Bulk name.GetAll) _ n s refl (and_from _ _ on (lt-ltb 0 (length keys) known.0))
+bulk_back call session (bulk.GetAll keys) n s known =
+    begin_asks call session (codes "getall") keys (form.Bulk name.GetAll) _ n s refl (lt-ltb 0 (length keys) known.0)
     (ap (bulk_with call session) (ap (λ r. r >>= λ keys. Ok (bulk.GetAll keys)) (keys_back 1 keys known)))
-bulk_back call session (bulk.PutAll pairs) n s on known =
-    begin_asks call session (codes "putall") (map pair_text pairs) (form.Bulk name.PutAll) _ n s refl (and_from _ _ on (lt-ltb 0 (length (map pair_text pairs)) (subst (λ (count : ℕ). 1 ≤ count) (sym (length-map pairs pair_text)) known.0)))
+bulk_back call session (bulk.PutAll pairs) n s known =
+    begin_asks call session (codes "putall") (map pair_text pairs) (form.Bulk name.PutAll) _ n s refl (lt-ltb 0 (length (map pair_text pairs)) (subst (λ (count : ℕ). 1 ≤ count) (sym (length-map pairs pair_text)) known.0))
     (ap (bulk_with call session) (ap (λ r. r >>= λ pairs. Ok (bulk.PutAll pairs)) (distinct_pairs_back pairs known)))
-bulk_back call session (bulk.RemoveAll keys) n s on known =
-    begin_asks call session (codes "removeall") keys (form.Bulk name.RemoveAll) _ n s refl (and_from _ _ on (lt-ltb 0 (length keys) known.0))
+bulk_back call session (bulk.RemoveAll keys) n s known =
+    begin_asks call session (codes "removeall") keys (form.Bulk name.RemoveAll) _ n s refl (lt-ltb 0 (length keys) known.0)
     (ap (bulk_with call session) (ap (λ r. r >>= λ keys. Ok (bulk.RemoveAll keys)) (keys_back 1 keys known)))
-bulk_back call session bulk.RemoveEvery n s on known = begin_asks call session (codes "removeevery") [] (form.Bulk name.RemoveEvery) _ n s refl (and_from _ _ on refl) refl
-bulk_back call session bulk.Clear n s on known = begin_asks call session (codes "clear") [] (form.Bulk name.Clear) _ n s refl (and_from _ _ on refl) refl
-bulk_back call session (bulk.InvokeAll keys) n s on known =
-    begin_asks call session (codes "invokeall") keys (form.Bulk name.InvokeAll) _ n s refl (and_from _ _ on (lt-ltb 0 (length keys) known.0))
+bulk_back call session bulk.RemoveEvery n s known = begin_asks call session (codes "removeevery") [] (form.Bulk name.RemoveEvery) _ n s refl refl refl
+bulk_back call session bulk.Clear n s known = begin_asks call session (codes "clear") [] (form.Bulk name.Clear) _ n s refl refl refl
+bulk_back call session (bulk.InvokeAll keys) n s known =
+    begin_asks call session (codes "invokeall") keys (form.Bulk name.InvokeAll) _ n s refl (lt-ltb 0 (length keys) known.0)
     (ap (bulk_with call session) (ap (λ r. r >>= λ keys. Ok (bulk.InvokeAll keys)) (keys_back 1 keys known)))
 
 -- 3. What happens next to a call.
@@ -222,8 +222,8 @@ line_back (Begin call session command) known =
     (begin_back call session command.op command.key known.0.0 known.0.1 known.0.2 known.0.3)
 line_back (BeginBulk call session b) known =
     line_of_words (codes "begin") (decimal call ∷ session_text session ∷ bulk_words b) _ refl
-    (and_from _ _ (number_word call known.0.0) (and_from _ _ (session_word session known.0.1) (bulk_are_words b known.0.3))) known.1
-    (bulk_back call session b known.0.0 known.0.1 known.0.2 known.0.3)
+    (and_from _ _ (number_word call known.0.0) (and_from _ _ (session_word session known.0.1) (bulk_are_words b known.0.2))) known.1
+    (bulk_back call session b known.0.0 known.0.1 known.0.2)
 line_back (OfCall call act) known = act_back call act known.0.0 known.0.1 known.1
 line_back (Foreign key value) known =
     line_of_words (codes "foreign") (key ∷ value_or_none_text value ∷ []) _ refl (and_from _ _ (text_word _ key known.0.0) (and_from _ _ (value_or_none_word value known.0.1) refl)) known.1

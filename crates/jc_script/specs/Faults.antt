@@ -3,9 +3,10 @@
 --     field_fault      the fault of a refused shape: it names the field
 --     config_fault     the fault of a world's shape: the first number out of its limits
 --     begin_fault      the fault of a `begin`: first the number, then the caller
---     act_fault        the fault of an act: there is no such call, it names keys that the writer leaves, or it isn't the time for it
+--     act_fault        the fault of an act: there is no such call, it names keys that the writer leaves in a call of which it
+--                      can leave none alone, or it isn't the time for it
 --     state_fault      the fault that the state of the world gives a line, the first one in order
-use Rattle.std.specs.Prelude.{ℕ, List, codes, Option, None, Some, Result, Ok, Err, if◌then◌else◌}
+use Rattle.std.specs.Prelude.{◌&&◌, ℕ, List, codes, not, Option, None, Some, Result, Ok, Err, if◌then◌else◌}
 use Rattle.jc_types.specs.declared.refusal.Refusal.{Refusal}
 use Rattle.jc_types.specs.declared.refusal.Refusal.TheVariants as refusal
 use Rattle.jc_types.specs.declared.config.Field.TheVariants.{Stripes, Capacity, History}
@@ -13,7 +14,7 @@ use Rattle.jc_types.specs.Limits.{check}
 use Rattle.jc_world.specs.Calls.{CallState}
 use Rattle.jc_world.specs.World.{WorldState, open_call, is_busy}
 use Rattle.jc_world.specs.Fits.{is_new}
-use Rattle.jc_script.specs.LineEvents.{is_time_for, has_but}
+use Rattle.jc_script.specs.LineEvents.{is_time_for, allows_but, has_but}
 use Rattle.jc_script.specs.declared.fault.Fault.{Fault}
 use Rattle.jc_script.specs.declared.fault.Fault.TheVariants.{CutLine, LineTooLong, BadByte, BadLine, BadNumber, BadCaller, BadKey, BadValue, RepeatedKey, NotOpen, OpenTwice, BadConfig, SetTooLate, NotRising, CallerBusy, NoSuchCall, NotNow}
 use Rattle.jc_script.specs.declared.line.Line.{Line}
@@ -58,7 +59,8 @@ begin_fault w number session =
 abbrev pub act_fault : WorldState → ℕ → Act → Option CallState → Option Fault
 act_fault w number act None = Some NoSuchCall
 act_fault w number act (Some u) =
-    if has_but act then Some NotNow else if is_time_for w number act u then None else Some NotNow
+    if has_but act && not (allows_but u) then Some NotNow
+    else if is_time_for w number act u then None else Some NotNow
 
 abbrev pub state_fault : Option WorldState → Line → Option Fault
 state_fault None (Open config) = config_fault (check config)

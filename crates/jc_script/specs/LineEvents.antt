@@ -1,18 +1,21 @@
 -- The events that lines stand for.
 --     single          the command of a call that makes one operation
---     IsInvokeAll     a command is a call of `invokeAll` on these keys
---     first_key       the key that a call starts as it begins: the one at which it works, unless it is refused whole
---     first_of_each   the same of a call of many keys that takes one after the other, from its keys
---     call_events     the events that the begin of a call stands for, by the key that it starts
---     begin_events    the same, from its command
---     keys_at_work    the keys at which a call works: the current one alone, if it takes its keys in turn, else all open ones
+--     bulk_call       what a line says of a command on many keys: no line says `loadAll`
 --     is_drop         an act gives its call up
---     keys_of_act     the keys of a call that an act may be about: those at work; of an act that gives the call up all open ones
+--     keys_of_act     the keys of a call that an act may be about: those at which the call works; of an act that gives the call up all
+--                     open ones
 --     is_asked        the writer was asked for a key by a call, and hasn't returned
 --     is_started      a call has reserved a key
+--     is_listed       a key is among those that stand behind `but`, if `but` is there
+--     is_left_failing     a writer that fails leaves a key: one that is listed, and every key if there is no list
+--     leaves          an act says that the writer leaves a key
+--     is_changed      the writer was asked for a key, and the act says that it changes the store there
 --     is_meant        an act is about a key: what it says or asks for is waited for there
 --     event_at        the event that an act stands for at a key that it is about
 --     key_events      those events, at each key that an act is about, in the order of the call's keys
+--     start_events    the first phases of a call that has just begun, unless it is over: as `more` starts keys
+--     is_left         the writer was asked for a key, and the act says that it leaves it
+--     left_keys       the keys that the writer was asked for and leaves, as an act says
 --     end_of_act      the event of the whole call that comes behind them: the writer's return, or the call's leaving
 --     events_of       the events that an act stands for
 --     is_about_one    there is an event at a key
@@ -22,25 +25,23 @@
 --                     no key. A call that leaves has joined no load, and nothing was said outside for the keys it has reserved
 --     is_time_for     the same, of an act of a call under way
 --     has_but         an act names keys that the writer leaves
---     has_end         the end of calls that take their keys so is told: of calls of many keys
+--     allows_but      a call whose writer may leave some of its keys and not others: one that takes its keys all at once
 --     load_fault      the code with which an act says that the loader fails
---     begin_end       the call that begins, if its end is told: not if it starts no key
---     act_end         the call of an act, if its end is told: not if the act gives it up
 use Rattle.std.specs.Prelude.{◌≡◌, ◌&&◌, ℕ, List, [], ◌∷◌, ◌++◌, filter, length, map, nat_lt, slice_get, Bool, true, false, not, Option, None, Some, is_some, option_to_list, if◌then◌else◌}
 use Rattle.std.specs.List.{list_all, list_any}
-use Rattle.jc_types.specs.declared.limits.TheConstants.{BULK_KEYS_MAX}
 use Rattle.jc_model.specs.Cache.{Bytes}
 use Rattle.jc_model.specs.declared.event.LoadAnswer.TheVariants.{Failed}
 use Rattle.jc_script.specs.declared.line.Operation.{Operation}
 use Rattle.jc_world.specs.declared.command.Command.{Command}
 use Rattle.jc_world.specs.declared.command.Command.TheVariants as command
-use Rattle.jc_world.specs.declared.command.CallKind.{CallKind}
-use Rattle.jc_world.specs.declared.command.CallKind.TheVariants as kind
-use Rattle.jc_world.specs.Calls.{CallState, current_key, has_too_many_keys, new_call, open_keys, takes_turns}
+use Rattle.jc_model.specs.Batches.{is_among}
+use Rattle.jc_world.specs.Calls.{CallState, keys_at_work, open_keys, takes_turns}
 use Rattle.jc_world.specs.declared.event.WorldEvent.{WorldEvent}
 use Rattle.jc_world.specs.declared.event.WorldEvent.TheVariants as event
 use Rattle.jc_world.specs.World.{WorldState, has_progress, is_joined, part_of, waits_for_load, waits_for_process, waits_for_report}
 use Rattle.jc_world.specs.Fits.{fits}
+use Rattle.jc_script.specs.declared.line.BulkCall.{BulkCall}
+use Rattle.jc_script.specs.declared.line.BulkCall.TheVariants as bulk
 use Rattle.jc_script.specs.declared.line.Act.{Act}
 use Rattle.jc_script.specs.declared.line.Act.TheVariants.{Read, ReadFail, Say, Apply, ApplyFail, ApplyLie, End, Drop, More, Take, Process}
 use Rattle.jc_script.specs.Words.{said}
@@ -48,33 +49,17 @@ use Rattle.jc_script.specs.Words.{said}
 abbrev pub single : Operation → Command
 single operation = command.Single operation.op operation.key
 
-abbrev pub IsInvokeAll : List Bytes → Command → Type 0
-IsInvokeAll keys (command.InvokeAll set) = set.keys ≡ keys
-IsInvokeAll keys (command.Single op key) = ⊥
-IsInvokeAll keys (command.GetAll set) = ⊥
-IsInvokeAll keys (command.PutAll entries) = ⊥
-IsInvokeAll keys (command.RemoveAll set) = ⊥
-IsInvokeAll keys command.RemoveEvery = ⊥
-IsInvokeAll keys command.Clear = ⊥
-IsInvokeAll keys (command.LoadAll replace set) = ⊥
+abbrev pub bulk_call : Command → Option BulkCall
+bulk_call (command.Single op key) = None
+bulk_call (command.GetAll set) = Some (bulk.GetAll set.keys)
+bulk_call (command.PutAll map) = Some (bulk.PutAll map.entries)
+bulk_call (command.RemoveAll set) = Some (bulk.RemoveAll set.keys)
+bulk_call command.RemoveEvery = Some bulk.RemoveEvery
+bulk_call command.Clear = Some bulk.Clear
+bulk_call (command.LoadAll replace set) = None
+bulk_call (command.InvokeAll set) = Some (bulk.InvokeAll set.keys)
 
--- none, where the call is refused whole
-abbrev pub first_key : CallState → Option Bytes
-first_key u = if has_too_many_keys u then None else current_key u
-
-abbrev pub first_of_each : List Bytes → Option Bytes
-first_of_each keys = if nat_lt BULK_KEYS_MAX (length keys) then None else slice_get keys 0
-
-abbrev pub call_events : ℕ → ℕ → Command → Option Bytes → List WorldEvent
-call_events number session command None = event.Call number session command ∷ []
-call_events number session command (Some key) = event.Call number session command ∷ event.Start number key ∷ []
-
-abbrev pub begin_events : ℕ → ℕ → Command → List WorldEvent
-begin_events number session command =
-    call_events number session command (first_key (new_call number session command))
-
-abbrev pub keys_at_work : CallState → List Bytes
-keys_at_work u = if takes_turns u.kind then option_to_list (current_key u) else open_keys u
+-- 1. What an act does at the keys of its call.
 
 abbrev pub is_drop : Act → Bool
 is_drop Read = false
@@ -99,13 +84,39 @@ is_asked w call key = has_progress waits_for_report (part_of w call key)
 abbrev pub is_started : WorldState → ℕ → Bytes → Bool
 is_started w call key = is_some (part_of w call key)
 
--- a writer that fails and did nothing changes the store at no key
+-- without a list there is none
+abbrev pub is_listed : Option (List Bytes) → Bytes → Bool
+is_listed None key = false
+is_listed (Some keys) key = is_among keys key
+
+-- a writer that fails and says nothing of what it did leaves every key
+abbrev pub is_left_failing : Option (List Bytes) → Bytes → Bool
+is_left_failing None key = true
+is_left_failing (Some keys) key = is_among keys key
+
+-- one that lies has changed the store at every key, and leaves each
+abbrev pub leaves : Act → Bytes → Bool
+leaves Read key = false
+leaves (ReadFail code) key = false
+leaves (Say pairs) key = false
+leaves (Apply left) key = is_listed left key
+leaves (ApplyFail code left) key = is_left_failing left key
+leaves (ApplyLie code) key = true
+leaves End key = false
+leaves Drop key = false
+leaves More key = false
+leaves Take key = false
+leaves (Process source calls fail) key = false
+
+abbrev pub is_changed : WorldState → ℕ → Act → Bytes → Bool
+is_changed w call act key = is_asked w call key && not (leaves act key)
+
 abbrev pub is_meant : WorldState → ℕ → Act → Bytes → Bool
 is_meant w call Read key = has_progress waits_for_load (part_of w call key)
 is_meant w call (ReadFail code) key = has_progress waits_for_load (part_of w call key)
 is_meant w call (Say pairs) key = has_progress waits_for_load (part_of w call key)
-is_meant w call (Apply left) key = is_asked w call key
-is_meant w call (ApplyFail code left) key = false
+is_meant w call (Apply left) key = is_changed w call (Apply left) key
+is_meant w call (ApplyFail code left) key = is_changed w call (ApplyFail code left) key
 is_meant w call (ApplyLie code) key = is_asked w call key
 is_meant w call End key = is_started w call key
 is_meant w call Drop key = is_started w call key
@@ -130,14 +141,27 @@ event_at call (Process source calls fail) key = event.Process call key source ca
 abbrev pub key_events : WorldState → ℕ → Act → List Bytes → List WorldEvent
 key_events w call act keys = map (event_at call act) (filter (is_meant w call act) keys)
 
--- a writer that fails leaves each key that it was asked for
+-- as `more` does
+abbrev pub start_events : WorldState → ℕ → Option CallState → List WorldEvent
+start_events w number None = []
+start_events w number (Some u) = key_events w number More (keys_at_work u)
+
+abbrev pub is_left : WorldState → ℕ → Act → Bytes → Bool
+is_left w call act key = is_asked w call key && leaves act key
+
+abbrev pub left_keys : WorldState → ℕ → Act → List Bytes → List Bytes
+left_keys w call act keys = filter (is_left w call act) keys
+
 abbrev pub end_of_act : WorldState → ℕ → Act → List Bytes → List WorldEvent
 end_of_act w call Read keys = []
 end_of_act w call (ReadFail code) keys = []
 end_of_act w call (Say pairs) keys = []
-end_of_act w call (Apply left) keys = event.Report call [] None ∷ []
-end_of_act w call (ApplyFail code left) keys = event.Report call (filter (is_asked w call) keys) (Some code) ∷ []
-end_of_act w call (ApplyLie code) keys = event.Report call (filter (is_asked w call) keys) (Some code) ∷ []
+end_of_act w call (Apply left) keys =
+    event.Report call (left_keys w call (Apply left) keys) None ∷ []
+end_of_act w call (ApplyFail code left) keys =
+    event.Report call (left_keys w call (ApplyFail code left) keys) (Some code) ∷ []
+end_of_act w call (ApplyLie code) keys =
+    event.Report call (left_keys w call (ApplyLie code) keys) (Some code) ∷ []
 end_of_act w call End keys = []
 end_of_act w call Drop keys = event.Leave call ∷ []
 end_of_act w call More keys = []
@@ -150,6 +174,8 @@ events_of w call act keys = key_events w call act keys ++ end_of_act w call act 
 abbrev pub is_about_one : List WorldEvent → Bool
 is_about_one [] = false
 is_about_one (e ∷ events) = true
+
+-- 2. When it is the time for an act.
 
 -- an outside answer and a processor's run fit at each key that they are about, and so does a pick-up
 abbrev pub is_time : WorldState → ℕ → Act → List Bytes → List WorldEvent → Bool
@@ -169,7 +195,7 @@ abbrev pub is_time_for : WorldState → ℕ → Act → CallState → Bool
 is_time_for w call act u =
     let keys = keys_of_act act u in is_time w call act keys (key_events w call act keys)
 
--- the keys that the writer leaves: such an act is of no call that takes its keys one after the other
+-- the keys that the writer leaves
 abbrev pub has_but : Act → Bool
 has_but Read = false
 has_but (ReadFail code) = false
@@ -183,11 +209,9 @@ has_but More = false
 has_but Take = false
 has_but (Process source calls fail) = false
 
--- of calls of many keys
-abbrev pub has_end : CallKind → Bool
-has_end kind.Single = false
-has_end kind.KeyByKey = true
-has_end kind.Batch = true
+-- such an act is of no call that takes its keys one after the other
+abbrev pub allows_but : CallState → Bool
+allows_but u = not (takes_turns u.kind)
 
 -- at all keys that the loader was asked for
 abbrev pub load_fault : Act → Option ℕ
@@ -202,11 +226,3 @@ load_fault Drop = None
 load_fault More = None
 load_fault Take = None
 load_fault (Process source calls fail) = None
-
--- not where no key starts
-abbrev pub begin_end : ℕ → CallKind → Option Bytes → Option ℕ
-begin_end number kind first = if has_end kind && is_some first then Some number else None
-
--- not if it is given up
-abbrev pub act_end : ℕ → CallKind → Act → Option ℕ
-act_end number kind act = if has_end kind && not (is_drop act) then Some number else None

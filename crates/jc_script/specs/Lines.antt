@@ -4,7 +4,6 @@
 --     with_value                    the same of a function that leaves its value in a place: the result with that value
 --     with_line                     the same of a line, where a flag says whether the line asks for anything
 --     bulk_named, form_named        the call of many keys that a word names; the operation
---     is_read                       lines may begin such a call of many keys; a name that isn't read yet is none
 --     act_named                     the kind of line of a call, that a first word names
 --     line_named                    the kind of line that a first word names
 --     flags_of                      what of read-through and write-through is on
@@ -32,7 +31,6 @@
 --     is_comment                    a line that asks for nothing: an empty one, and one that begins with #
 --     some_line                     a line that asks for something, or its fault
 --     read_line                     what the bytes of a line ask for: nothing, for a comment
---     bulk_name                     the name of a call of many keys
 --     is_callable                   what a line begins is a call of one of the 32 sessions, and its operation is a call by itself, if
 --                                   it has but one
 use Rattle.std.specs.Prelude.{◌≡◌, ◌==◌, ℕ, List, [], ◌∷◌, length, Bool, true, false, ◌&&◌, not, nat_lt, nat_le, Option, Some, None, Result, Ok, Err, if◌then◌else◌, codes}
@@ -115,15 +113,6 @@ form_named word =
     if bytes_eq word (codes "invoke") then Ok (form.Bare bare.Invoke) else
     bulk_named word
 
--- the calls of many keys that lines may begin: a name that isn't read yet is none
-abbrev pub is_read : BulkName → Bool
-is_read name.GetAll = false
-is_read name.PutAll = false
-is_read name.RemoveAll = false
-is_read name.RemoveEvery = false
-is_read name.Clear = false
-is_read name.InvokeAll = true
-
 -- of a call that was begun
 abbrev pub act_named : List ℕ → Result LineKind Fault
 act_named word =
@@ -174,7 +163,7 @@ abbrev pub takes_words : Form → ℕ → Bool
 takes_words (form.Bare b) count = count == 1
 takes_words (form.Valued v) count = count == 2
 takes_words form.ReplaceIf count = count == 3
-takes_words (form.Bulk n) count = is_read n && bulk_takes n count
+takes_words (form.Bulk n) count = bulk_takes n count
 
 abbrev pub bare_op : Bare → Op
 bare_op bare.Get = op.Get
@@ -416,15 +405,11 @@ read_line text =
 
 -- 5. What may be begun. Each line that is read is so, and no contract of a public call cites this.
 
-abbrev pub bulk_name : BulkCall → BulkName
-bulk_name (bulk.GetAll keys) = name.GetAll
-bulk_name (bulk.PutAll pairs) = name.PutAll
-bulk_name (bulk.RemoveAll keys) = name.RemoveAll
-bulk_name bulk.RemoveEvery = name.RemoveEvery
-bulk_name bulk.Clear = name.Clear
-bulk_name (bulk.InvokeAll keys) = name.InvokeAll
-
 abbrev pub is_callable : Line → Bool
 is_callable (Begin number session command) = is_single command.op && is_session session
-is_callable (BeginBulk number session call) = is_read (bulk_name call) && is_session session
-is_callable other = true
+is_callable (BeginBulk number session call) = is_session session
+is_callable (Open config) = true
+is_callable (Set key value) = true
+is_callable (OfCall number act) = true
+is_callable (Foreign key value) = true
+is_callable Audit = true

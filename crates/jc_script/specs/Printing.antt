@@ -17,7 +17,8 @@
 --     joined_line, waits_line, again_line      that a call has joined, that its load isn't over, that it is to begin again
 --     dropped_line, refused_line, put_off_line     that a call has left; that it was refused; that a key is to be tried again
 --     refused_whole_line             that a call was refused whole
---     over_line                      that a call of many keys is over
+--     cause_text                     the first fault or last refusal that a call has met, or that it has met none
+--     over_line                      that a call of many keys is over, with its cause
 --     fails_line, fails_text         a failure's code; the same, if there is one
 --     answer_line, answer_text       a value or none that a loader read or said; any answer of a loader: one that fails says nothing
 --                                    of its key
@@ -184,8 +185,12 @@ refused_line call key refusal = subject call key ++ codes " refused " ++ refusal
 unfoldable pub refused_whole_line : ℕ → Refusal → List ℕ
 refused_whole_line call refusal = decimal call ++ codes " refused " ++ refusal_name refusal ++ codes "\n"
 
-unfoldable pub over_line : ℕ → List ℕ
-over_line call = decimal call ++ codes " over ok\n"
+abbrev pub cause_text : Option Refusal → List ℕ
+cause_text None = codes "ok"
+cause_text (Some refusal) = refusal_text refusal
+
+unfoldable pub over_line : ℕ → Option Refusal → List ℕ
+over_line call cause = decimal call ++ codes " over " ++ cause_text cause ++ codes "\n"
 
 unfoldable pub put_off_line : ℕ → Bytes → List ℕ
 put_off_line call key = subject call key ++ codes " put off\n"

@@ -43,7 +43,7 @@ use Rattle.jc_world.specs.declared.process.LoadSource.{LoadSource}
 use Rattle.jc_world.specs.declared.process.LoadSource.TheVariants.{Store, Stated, Failing}
 use Rattle.jc_script.specs.ProcessWords.{source_words, call_text, fail_words}
 use Rattle.jc_script.specs.Words.{number_of, caller_of, key_of, value_of, is_text}
-use Rattle.jc_script.specs.Lines.{is_read, bulk_name, read_line}
+use Rattle.jc_script.specs.Lines.{read_line}
 use Rattle.jc_script.specs.Printing.{value_text, value_or_none_text}
 
 -- 1. Words.
@@ -222,7 +222,7 @@ abbrev pub SaysWords : Line → Type 0
 SaysWords (Open config) = IsNumber config.stripes × IsNumber config.capacity × IsNumber config.history
 SaysWords (Set key value) = IsKey key × IsValue value
 SaysWords (Begin call session command) = IsNumber call × IsSession session × IsOperation command.op × IsKey command.key
-SaysWords (BeginBulk call session many) = IsNumber call × IsSession session × (is_read (bulk_name many) ≡ true) × HasKeys many
+SaysWords (BeginBulk call session many) = IsNumber call × IsSession session × HasKeys many
 SaysWords (OfCall call act) = IsNumber call × IsAct act
 SaysWords (Foreign key value) = IsKey key × IsValueOrNone value
 SaysWords Audit = Unit {0}

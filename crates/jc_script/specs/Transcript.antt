@@ -1,11 +1,11 @@
 -- The transcript of a script, as a relation, since the world may choose.
 --     State                    a world, once it was opened
 --     state_of                 the same, from what a `World` is to its callers
---     over_text, end_text      that a call is over, if it is; the same, if the end of a call is told at all
+--     end_text                 that a call of many keys is over, and with which cause, if it is the last one that is over
 --     PlaysEvents              the world may take these events, each of them fits when it comes, and this is printed of them
 --     PlaysCall                the same of the events of a call, with what its line says behind them: a fault, and the call's end
---     PlaysBegin, PlaysInvokeAll      the same of the events of a call's begin, by its command, and by the keys of `invokeAll`
---     PlaysBulk                the same of a call of many keys
+--     PlaysBegin               the same of a call that begins: its begin, with its looks at the stripes, and then its first phases
+--     PlaysBulk                the same of a call of many keys, by what its line says
 --     PlaysAct                 the same of the events of an act, if its call is under way
 --     PlaysForeign             the same of a foreign write
 --     Audited                  what is printed of an audit
@@ -18,17 +18,19 @@
 --     Ends                     what the last piece prints, and how the script ends: a piece with bytes is a cut line
 --     Transcript               from a state and a line on, the pieces print this and end so
 --     IsTranscript             the same of a whole script
-use Rattle.std.specs.Prelude.{◌≡◌, ◌==◌, ◌⊎◌, ℕ, ◌+◌, List, [], ◌∷◌, ◌++◌, Bool, true, IsTrue, Option, None, Some, Result, Ok, Err, codes}
+use Rattle.std.specs.Prelude.{◌≡◌, ◌==◌, ◌⊎◌, ℕ, ◌+◌, List, [], ◌∷◌, ◌++◌, Bool, true, IsTrue, Option, None, Some, Result, Ok, Err, codes, if◌then◌else◌}
 use Rattle.std.specs.List.{slice_split}
 use Rattle.jc_model.specs.Cache.{Bytes}
-use Rattle.jc_world.specs.Calls.{CallState, kind_of, new_call}
+use Rattle.jc_world.specs.Calls.{CallState}
 use Rattle.jc_world.specs.declared.command.Command.{Command}
+use Rattle.jc_world.specs.declared.ends.Over.{Over}
 use Rattle.jc_world.specs.declared.event.Shown.{Shown}
 use Rattle.jc_world.specs.declared.event.WorldEvent.{WorldEvent}
 use Rattle.jc_world.specs.declared.event.WorldEvent.TheVariants as event
 use Rattle.jc_world.specs.World.{WorldState, start, open_call, with_stored}
 use Rattle.jc_world.specs.PlayedWorld.{PlayedWorld}
 use Rattle.jc_world.specs.Events.{Run, all_fit}
+use Rattle.jc_world.specs.Together.{opening_events}
 use Rattle.jc_world.specs.Audit.{IsAudit}
 use Rattle.jc_world.specs.Coherent.{all_hold}
 use Rattle.jc_script.specs.declared.fault.Fault.{Fault}
@@ -36,13 +38,12 @@ use Rattle.jc_script.specs.declared.fault.Fault.TheVariants.{CutLine}
 use Rattle.jc_script.specs.declared.line.Line.{Line}
 use Rattle.jc_script.specs.declared.line.Line.TheVariants.{Open, Set, Begin, BeginBulk, OfCall, Foreign, Audit}
 use Rattle.jc_script.specs.declared.line.BulkCall.{BulkCall}
-use Rattle.jc_script.specs.declared.line.BulkCall.TheVariants as bulk
 use Rattle.jc_script.specs.declared.line.Act.{Act}
 use Rattle.jc_script.specs.declared.run.RunEnd.{RunEnd}
 use Rattle.jc_script.specs.declared.run.RunEnd.TheVariants.{Clean, LineFault}
 use Rattle.jc_script.specs.Lines.{read_line}
 use Rattle.jc_script.specs.Faults.{state_fault}
-use Rattle.jc_script.specs.LineEvents.{single, IsInvokeAll, first_key, begin_events, events_of, keys_of_act, load_fault, begin_end, act_end}
+use Rattle.jc_script.specs.LineEvents.{single, bulk_call, start_events, events_of, keys_of_act, load_fault}
 use Rattle.jc_script.specs.Printing.{texts, fails_text, over_line, audit_text, fault_line}
 
 -- a world, once it was opened
@@ -55,14 +56,10 @@ state_of (Some played) = Some played.world
 
 -- 1. What a line prints, and what it leaves.
 
--- a call that isn't under way any more
-abbrev pub over_text : ℕ → Option CallState → List ℕ
-over_text call None = over_line call
-over_text call (Some u) = []
-
-abbrev pub end_text : Option ℕ → WorldState → List ℕ
-end_text None after = []
-end_text (Some call) after = over_text call (open_call after call)
+-- a call that is given up, or refused whole, or has one key, is none of those
+abbrev pub end_text : ℕ → Option Over → List ℕ
+end_text call None = []
+end_text call (Some over) = if over.call == call then over_line call over.cause else []
 
 pub record PlaysEvents (w : WorldState) (events : List WorldEvent) (text : List ℕ) (after : WorldState) : Type 0 where
   pub seen : List Shown
@@ -70,37 +67,35 @@ pub record PlaysEvents (w : WorldState) (events : List WorldEvent) (text : List 
   pub fit : all_fit seen ≡ true
   pub text_is : text ≡ texts events seen
 
--- behind what its events show a line says its fault, and may tell the end of a call
-pub record PlaysCall (w : WorldState) (events : List WorldEvent) (fault : List ℕ) (end : Option ℕ) (text : List ℕ) (new : State) : Type 0 where
+-- behind what its events show a line says its fault, and that the call is over
+pub record PlaysCall (w : WorldState) (number : ℕ) (events : List WorldEvent) (fault : Option ℕ) (text : List ℕ) (new : State) : Type 0 where
   pub shown : List ℕ
   pub after : WorldState
   pub plays : PlaysEvents w events shown after
-  pub text_is : text ≡ shown ++ fault ++ end_text end after
+  pub text_is : text ≡ shown ++ fails_text number fault ++ end_text number after.ends.over
   pub new_is : new ≡ Some after
 
-abbrev pub PlaysBegin : WorldState → ℕ → ℕ → Command → List ℕ → State → Type 0
-PlaysBegin w number session command text new =
-    PlaysCall w (begin_events number session command) []
-    (begin_end number (kind_of command) (first_key (new_call number session command))) text new
-
-abbrev pub PlaysInvokeAll : WorldState → ℕ → ℕ → List Bytes → List ℕ → State → Type 0
-PlaysInvokeAll w number session keys text new =
-    (command : Command) × IsInvokeAll keys command × PlaysBegin w number session command text new
+-- which keys a call that takes the cached ones starts depends on what its looks have found
+pub record PlaysBegin (w : WorldState) (number session : ℕ) (command : Command) (text : List ℕ) (new : State) : Type 0 where
+  pub opening : List ℕ
+  pub begun : WorldState
+  pub started : List ℕ
+  pub after : WorldState
+  pub opens : PlaysEvents w (opening_events number session command w.config.stripes) opening begun
+  pub starts : PlaysEvents begun (start_events begun number (open_call begun number)) started after
+  pub text_is : text ≡ opening ++ started ++ end_text number after.ends.over
+  pub new_is : new ≡ Some after
 
 abbrev pub PlaysBulk : WorldState → ℕ → ℕ → BulkCall → List ℕ → State → Type 0
-PlaysBulk w number session (bulk.InvokeAll keys) text new = PlaysInvokeAll w number session keys text new
-PlaysBulk w number session (bulk.GetAll keys) text new = ⊥
-PlaysBulk w number session (bulk.PutAll pairs) text new = ⊥
-PlaysBulk w number session (bulk.RemoveAll keys) text new = ⊥
-PlaysBulk w number session bulk.RemoveEvery text new = ⊥
-PlaysBulk w number session bulk.Clear text new = ⊥
+PlaysBulk w number session call text new =
+    (command : Command) × (bulk_call command ≡ Some call)
+    × PlaysBegin w number session command text new
 
 -- a failed load is said once
 abbrev pub PlaysAct : WorldState → ℕ → Act → Option CallState → List ℕ → State → Type 0
 PlaysAct w number act None text new = ⊥
 PlaysAct w number act (Some u) text new =
-    PlaysCall w (events_of w number act (keys_of_act act u)) (fails_text number (load_fault act))
-    (act_end number u.kind act) text new
+    PlaysCall w number (events_of w number act (keys_of_act act u)) (load_fault act) text new
 
 abbrev pub PlaysForeign : WorldState → Bytes → Option Bytes → List ℕ → State → Type 0
 PlaysForeign w key value text None = ⊥

@@ -1,7 +1,7 @@
 //! Operations as words: their names, and what stands after a name.
 ghost use Rattle.std.specs.Prelude.{◌≡◌, map, length};
 ghost use Rattle.jc_script.specs.Lines.{Gives, with_value, form_named, bulk_named, takes_words, bare_op, valued_op, bare_of, valued_of};
-ghost use Rattle.jc_script.specs.Lines.{value_alone_of, replace_if_of, command_of, begin_with, is_read, bulk_takes, bulk_alone, bulk_of, bulk_with};
+ghost use Rattle.jc_script.specs.Lines.{value_alone_of, replace_if_of, command_of, begin_with, bulk_takes, bulk_alone, bulk_of, bulk_with};
 
 use crate::fault::{Fault, ReadError};
 use crate::line::{BulkCall, Line, Operation};
@@ -121,20 +121,6 @@ fn read_bulk_form(word: &[u8]) -> Result<Form, Fault>
     Err(Fault::BadLine)
 }
 
-/// The calls of many keys that lines may begin. A name that isn't read yet is a bad line.
-fn is_read(name: BulkName) -> bool
-    ensures { result ≡ is_read name }
-{
-    match name {
-        BulkName::GetAll => false,
-        BulkName::PutAll => false,
-        BulkName::RemoveAll => false,
-        BulkName::RemoveEvery => false,
-        BulkName::Clear => false,
-        BulkName::InvokeAll => true,
-    }
-}
-
 fn bulk_takes(name: BulkName, count: usize) -> bool
     ensures { result ≡ bulk_takes name count }
 {
@@ -154,7 +140,7 @@ pub fn has_shape(form: Form, count: usize) -> bool
         Form::Bare(_) => count == 1,
         Form::Valued(_) => count == 2,
         Form::ReplaceIf => count == 3,
-        Form::Bulk(name) => is_read(name) && bulk_takes(name, count),
+        Form::Bulk(name) => bulk_takes(name, count),
     }
 }
 

@@ -1,5 +1,5 @@
 //! The keys of a line.
-ghost use Rattle.std.specs.Prelude.{◌≡◌, ◌++◌, ◌∷◌, [], cond, length, not, slice_get, IfOk, OnOk};
+ghost use Rattle.std.specs.Prelude.{◌≡◌, ◌++◌, ◌∷◌, [], cond, not, IfOk, OnOk};
 ghost use Rattle.jc_model.specs.Batches.{is_among};
 
 use indexmap::IndexSet;
@@ -32,18 +32,11 @@ impl Keys {
         }
     }
 
-    /// How many keys there are.
-    pub fn len(&self) -> usize
-        ensures { result ≡ length self.now }
+    /// Whether a key is among them. It costs one look-up.
+    pub fn contains(&self, key: &Key) -> bool
+        ensures { result ≡ is_among self.now key.now }
     {
-        self.set.len()
-    }
-
-    /// The first key.
-    pub fn first(&self) -> Option<Key>
-        ensures { result ≡ slice_get self.now 0 }
-    {
-        self.set.first().copied()
+        self.set.contains(key)
     }
 
     /// One more key, after the others. Says whether it is new: a key that is there already stays as it is.

@@ -7,8 +7,6 @@ ghost use Rattle.jc_world.specs.Events.{AllFit};
 ghost use Rattle.jc_script.specs.declared.line.Line.TheVariants as lines;
 ghost use Rattle.jc_script.specs.Lines.{is_callable};
 ghost use Rattle.jc_script.specs.Faults.{config_fault};
-ghost use Rattle.jc_script.specs.LineEvents.{has_end};
-ghost use Rattle.jc_script.specs.Printing.{fails_text};
 ghost use Rattle.jc_script.specs.Transcript.{state_of, end_text, PlaysEvents, PlaysCall, PlaysForeign, Audited, PlaysLine, Prints, fault_of};
 
 mod acting;
@@ -25,7 +23,8 @@ use crate::print_shown::put_texts;
 use crate::printing::put;
 use jc_model::{LoadAnswer, Op};
 use jc_types::{Config, Key, Refusal, Value};
-use jc_world::command::{CallKind, Command};
+use jc_world::command::Command;
+use jc_world::ends::Over;
 use jc_world::event::{Shown, WorldEvent};
 use jc_world::world::World;
 use std::alloc::{AllocError, Global};
@@ -111,7 +110,12 @@ fn play_line(
     }
     match line {
         Line::Open(config) => open(alloc, world, config, out),
-        _ => Ok(Some(Fault::NotOpen)),
+        Line::Set(..)
+        | Line::Begin(..)
+        | Line::BeginBulk(..)
+        | Line::OfCall(..)
+        | Line::Foreign(..)
+        | Line::Audit => Ok(Some(Fault::NotOpen)),
     }
 }
 
@@ -136,10 +140,10 @@ fn play_line_on(
             Ok(None)
         }
         Line::Begin(number, session, operation) => {
-            play_begin(world, *number, *session, operation, buffers, out)
+            play_begin(alloc, world, *number, *session, operation, buffers, out)
         }
         Line::BeginBulk(number, session, call) => {
-            play_bulk(world, *number, *session, call, buffers, out)
+            play_bulk(alloc, world, *number, *session, call, buffers, out)
         }
         Line::OfCall(number, act) => act_on(alloc, world, *number, act, buffers, out),
         Line::Foreign(key, value) => {
@@ -196,27 +200,17 @@ fn open(
     Ok(None)
 }
 
-/// Whether `over` is printed of calls that take their keys so: of calls of many keys.
-fn has_end(kind: CallKind) -> bool
-    ensures { result ≡ has_end kind }
+/// That a call of many keys is over, if this one is the last that is.
+fn put_end(out: &mut Vec<u8>, call: u64, over: &Option<Over>) -> Result<(), AllocError>
+    ensures { OnOk result (out.new.items ≡ out.old.items ++ end_text call over.now) }
 {
-    match kind {
-        CallKind::Single => false,
-        CallKind::KeyByKey | CallKind::Batch => true,
-    }
-}
-
-/// What the end of a call prints.
-fn put_end(world: &World, end: Option<u64>, out: &mut Vec<u8>) -> Result<(), AllocError>
-    ensures { OnOk result (out.new.items ≡ out.old.items ++ end_text end world.now.world) }
-{
-    match end {
+    match over {
         None => Ok(()),
-        Some(call) => {
-            if world.open_call(call).is_some() {
+        Some(over) => {
+            if over.call != call {
                 return Ok(());
             }
-            put_over(out, call)
+            put_over(out, call, &over.cause)
         }
     }
 }
@@ -235,23 +229,22 @@ impl LineBuffers {
         Ok(())
     }
 
-    /// Plays the events of a call, and prints behind what the world shows of them the line's fault, and the end of a call.
+    /// Plays the events of a call, and prints behind what the world shows of them the line's fault, and that the call is over.
     fn play_call(
         &mut self,
         world: &mut World,
         call: u64,
         fault: Option<u32>,
-        end: Option<u64>,
         out: &mut Vec<u8>,
     ) -> Result<(), AllocError>
         requires { AllFit world.old.world self.old.events.items }
         ensures { OnOk result ((text : List ℕ)
-            × PlaysCall world.old.world self.old.events.items (fails_text call fault) end text (Some world.new.world)
+            × PlaysCall world.old.world call self.old.events.items fault text (Some world.new.world)
             × (out.new.items ≡ out.old.items ++ text)) }
     {
         self.play(world, out)?;
         put_fault_code(out, call, fault)?;
-        put_end(world, end, out)?;
+        put_end(out, call, &world.over())?;
         Ok(())
     }
 }

@@ -1,9 +1,9 @@
 //! Lines that several kinds of events print.
 ghost use Rattle.std.specs.Prelude.{◌≡◌, ◌++◌, OnOk};
 ghost use Rattle.jc_script.specs.Printing.{subject, write_line, delete_line, asks_text, fails_line, answer_line, answer_text, fails_text};
-ghost use Rattle.jc_script.specs.Printing.{refused_whole_line, over_line};
+ghost use Rattle.jc_script.specs.Printing.{refused_whole_line, cause_text, over_line};
 
-use crate::printing::{put, put_key, put_number, put_value, put_value_or_none};
+use crate::printing::{put, put_key, put_number, put_refusal, put_value, put_value_or_none};
 use jc_model::{Change, LoadAnswer};
 use jc_types::{Key, Refusal, Value};
 use std::alloc::AllocError;
@@ -114,11 +114,23 @@ pub fn put_refused_whole(out: &mut Vec<u8>, call: u64, refusal: &Refusal) -> Res
     put(out, "\n")
 }
 
+/// What a call has met first, or that it has met nothing.
+fn put_cause(out: &mut Vec<u8>, cause: &Option<Refusal>) -> Result<(), AllocError>
+    ensures { OnOk result (out.new.items ≡ out.old.items ++ cause_text cause.now) }
+{
+    match cause {
+        None => put(out, "ok"),
+        Some(refusal) => put_refusal(out, refusal),
+    }
+}
+
 /// A call of many keys is over.
 #[tactic(auto, unfolding(crate::specs::Printing::over_line))]
-pub fn put_over(out: &mut Vec<u8>, call: u64) -> Result<(), AllocError>
-    ensures { OnOk result (out.new.items ≡ out.old.items ++ over_line call) }
+pub fn put_over(out: &mut Vec<u8>, call: u64, cause: &Option<Refusal>) -> Result<(), AllocError>
+    ensures { OnOk result (out.new.items ≡ out.old.items ++ over_line call cause.now) }
 {
     put_number(out, call)?;
-    put(out, " over ok\n")
+    put(out, " over ")?;
+    put_cause(out, cause)?;
+    put(out, "\n")
 }

@@ -66,14 +66,25 @@ fn put_coded(out: &mut Vec<u8>, refusal: &Refusal, code: u32) -> Result<(), Allo
     put_number(out, code as u64)
 }
 
-fn put_refusal(out: &mut Vec<u8>, refusal: &Refusal) -> Result<(), AllocError>
+/// A refusal's name, with its code if it has one.
+pub fn put_refusal(out: &mut Vec<u8>, refusal: &Refusal) -> Result<(), AllocError>
     ensures { OnOk result (out.new.items ≡ out.old.items ++ refusal_text refusal.now) }
 {
     match refusal {
         Refusal::LoaderFailed(code) => put_coded(out, refusal, *code),
         Refusal::WriterFailed(code) => put_coded(out, refusal, *code),
         Refusal::ProcessorFailed(code) => put_coded(out, refusal, *code),
-        _ => put(out, refusal.name()),
+        Refusal::HistoryFull
+        | Refusal::Busy
+        | Refusal::TooManyInFlight
+        | Refusal::TooManyJoiners
+        | Refusal::OutOfMemory
+        | Refusal::TooManyKeys
+        | Refusal::BadConfig(_)
+        | Refusal::NoLoader
+        | Refusal::NoWriter
+        | Refusal::TooManySessions
+        | Refusal::StillReserved => put(out, refusal.name()),
     }
 }
 

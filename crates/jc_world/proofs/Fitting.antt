@@ -30,7 +30,8 @@ use Rattle.jc_world.specs.declared.event.WorldEvent.TheVariants as event
 use Rattle.std.specs.Ordering.{eq_by_cmp}
 use Rattle.jc_world.specs.World.{WorldState, open_call, of_call, part_of, waits_for_report, is_join, is_joined, is_untouched, has_progress}
 use Rattle.jc_world.specs.Fits.{fits, is_new, is_free, is_next, may_look, may_start, may_leave, waits_at, may_report}
-use Rattle.jc_world.specs.Events.{after_change, with_stripe, without_part, with_look, looks, Happens, Run, with_ends, is_fit, AllFit, LooksFit, StartFits, RestFits, with_change}
+use Rattle.jc_world.specs.Events.{after_change, with_stripe, without_part, with_look, Happens, Run, with_ends, is_fit, AllFit, with_change}
+use Rattle.jc_world.specs.Together.{looks}
 use Rattle.jc_world.specs.Sound.{is_up_to, IsCallOf, IsSoundWorld}
 use Rattle.jc_world.proofs.Holding.{call_on}
 use Rattle.jc_world.proofs.Entries.{split, tied}
@@ -84,7 +85,7 @@ fits_then w e es fit more (s ∷ ss) new (mid, inr (unfit, shows, is), run) = le
 pub one_fits : (w : WorldState) (e : WorldEvent) → fits w e ≡ true → AllFit w (e ∷ [])
 one_fits w e fit = fits_then w e [] fit (λ seen mid ends happens. none_fit (with_ends mid ends))
 
--- 2. Two events of a call under way.
+-- 2. A change of the store.
 
 -- once the writer has changed the store, it is still waited for
 pub still_waits : (call : ℕ) (o : Option Part) (part : Part) → of_call call o ≡ Some part → has_progress waits_for_report (of_call call o) ≡ true → has_progress waits_for_report (of_call call (Some (record part { progress = with_change part.progress }))) ≡ true
@@ -98,66 +99,6 @@ still_waits call o part is waits =
     unchanged Processing = refl
     unchanged (Processed loaded process) = refl
     unchanged (WritingEffect loaded process is_changed report) = refl
-
--- what is so of the key at which a call works is so of an open key
-any_current : (p : Bytes → Bool) (u : CallState) (key : Bytes) → current_key u ≡ Some key → p key ≡ true → list_any p (open_keys u) ≡ true
-any_current p u key current h = go (takes_turns u.kind) (open_keys u) current
-  where
-    go : (b : Bool) (keys : List Bytes) → cond b (slice_get keys 0) None ≡ Some key → list_any p keys ≡ true
-    go false keys at = cc
-    go true [] at = cc
-    go true (q ∷ keys) at = let is : q ≡ key = cc in ap (λ b. b || list_any p keys) (ap p is ∙ h)
-
--- the writer's return, behind its change of the store
-report_fits : (w : WorldState) (call : ℕ) (u : CallState) (key : Bytes) (left : List Bytes) (fault : Option ℕ) → open_call w call ≡ Some u → current_key u ≡ Some key → fits w (event.Change call key) ≡ true
-    → AllFit w (event.Change call key ∷ event.Report call left fault ∷ [])
-report_fits w call u key left fault here current fit =
-    fits_then w (event.Change call key) (event.Report call left fault ∷ []) fit (λ seen mid ends happens.
-    let part = happens.0 in
-    let new = after_change w key part happens.1 in
-    let P : WorldState → Type 0 = λ m. fits m (event.Report call left fault) ≡ true in
-    let there : get new.parts key ≡ Some (record part { progress = with_change part.progress }) = get-insert nat_list_cmp_total w.parts key (record part { progress = with_change part.progress }) key ∙ ap (λ b. cond b (Some (record part { progress = with_change part.progress })) (get w.parts key)) (tied key) in
-    one_fits (with_ends mid ends) (event.Report call left fault)
-    (subst P (sym happens.5)
-    (ap (may_report new call) here
-    ∙ any_current (waits_at new call) u key current (ap (λ o. has_progress waits_for_report (of_call call o)) there ∙ still_waits call (get w.parts key) part happens.2 fit))))
-
--- once a call has given its current key back, it has no reservation of any key
-no_part : (w : WorldState) (call : ℕ) (u : CallState) (key : Bytes) → open_call w call ≡ Some u → current_key u ≡ Some key → IsSoundWorld w → (q : Bytes) → of_call call (get (remove w.parts key) q) ≡ None
-no_part w call u key here current old q = missing (of_call call (get (remove w.parts key) q)) (λ part is.
-    let at = of_call-at call (get (remove w.parts key) q) part is in
-    split q key (λ b. cond b None (get w.parts q) ≡ Some part → ⊥)
-    (λ same e. cc)
-    (λ apart e.
-    let same : q ≡ key = turn_is u q key current (part_turn w call q part e at.1 old u here) in
-    let t : true ≡ false = sym (tied key) ∙ ap (λ k. eq_by_cmp key_cmp k key) (sym same) ∙ apart in cc)
-    (sym (get-remove nat_list_cmp_total w.parts key q) ∙ at.0))
-
--- nor a join, where it has none of that one
-no_join : (w : WorldState) (call : ℕ) (u : CallState) (key : Bytes) → open_call w call ≡ Some u → current_key u ≡ Some key → is_joined w call key ≡ false → IsSoundWorld w → (q : Bytes) → is_joined w call q ≡ false
-no_join w call u key here current free old q = refuted (is_joined w call q) (λ joined.
-    let j = join_any w (is_join call q) w.joins joined old.joins in
-    let same = join_is call q j.0 j.2 in
-    let v = some_of (open_call w j.0.caller.call) (IsCallOf j.0.caller.session j.0.key Get) j.3.call in
-    let it : v.0 ≡ u = same_found (open_call w call) v.0 u (ap (open_call w) (sym same.0) ∙ v.1) here in
-    let at : q ≡ key = turn_is u q key current ((λ i. is_turn (sym it i) (sym same.1 i)) ∙ v.2.2) in
-    let t : true ≡ false = sym joined ∙ ap (is_joined w call) at ∙ free in cc)
-
-all_hold_of : (p : Bytes → Bool) (keys : List Bytes) → ((q : Bytes) → p q ≡ true) → list_all p keys ≡ true
-all_hold_of p [] h = refl
-all_hold_of p (q ∷ keys) h = and_from _ _ (h q) (all_hold_of p keys h)
-
--- a call's leaving, behind its withdrawal
-pub leave_fits : (w : WorldState) (call : ℕ) (u : CallState) (key : Bytes) → open_call w call ≡ Some u → current_key u ≡ Some key → is_joined w call key ≡ false → IsSoundWorld w → fits w (event.Withdraw call key) ≡ true
-    → AllFit w (event.Withdraw call key ∷ event.Leave call ∷ [])
-leave_fits w call u key here current free old fit =
-    fits_then w (event.Withdraw call key) (event.Leave call ∷ []) fit (λ seen mid ends happens.
-    let new = without_part (with_stripe w key happens.4) key in
-    let P : WorldState → Type 0 = λ m. fits m (event.Leave call) ≡ true in
-    one_fits (with_ends mid ends) (event.Leave call)
-    (subst P (sym happens.7)
-    (ap (may_leave new call) here
-    ∙ all_hold_of (is_free new call) (open_keys u) (λ q. and_from _ _ (ap is_none (no_part w call u key here current old q)) (ap not (no_join w call u key here current free old q))))))
 
 -- 3. A call that has just begun.
 
@@ -179,7 +120,7 @@ nobody : (w : WorldState) (call other : ℕ) (P : CallState → Type 0) → open
 nobody w call other P none same h = let Q : Option CallState → Type 0 = λ o. IsSomeAnd o P in subst Q (ap (open_call w) same ∙ none) h
 
 -- nor has a new number a part or a join
-new_free : (w : WorldState) (call : ℕ) (key : Bytes) → is_new w.last call ≡ true → IsSoundWorld w → is_free w call key ≡ true
+pub new_free : (w : WorldState) (call : ℕ) (key : Bytes) → is_new w.last call ≡ true → IsSoundWorld w → is_free w call key ≡ true
 new_free w call key new old =
     let none = new_under w call new old in
     and_from _ _
@@ -189,21 +130,6 @@ new_free w call key new old =
     (ap not (refuted (is_joined w call key) (λ joined.
     let j = join_any w (is_join call key) w.joins joined old.joins in
     nobody w call j.0.caller.call (IsCallOf j.0.caller.session j.0.key Get) none (join_is call key j.0 j.2).0 j.3.call)))
-
--- a call's first phase, behind its beginning
-pub start_fits : (w : WorldState) → IsSoundWorld w → StartFits w
-start_fits w old call session command key fit opens turn few =
-    let u : CallState = new_call call session command in
-    let new : is_new w.last call ≡ true = (and_parts _ _ (and_parts _ _ fit).0).1 in
-    let here : find (has_number call) (w.calls ++ opened u) ≡ Some u =
-    ap (λ more. find (has_number call) (w.calls ++ more)) (opened_one u key opens few)
-    ∙ find-append (has_number call) w.calls (u ∷ []) ∙ ap (λ o. option_or o (find (has_number call) (u ∷ []))) (new_under w call new old) ∙ ap (λ b. cond b (Some u) None) (nat_eq_equiv.refl call)
-    in
-    let next : WorldState = record w { last = Some call; fresh = false; calls = w.calls ++ opened u } in
-    fits_then w (event.Call call session command) (event.Start call key ∷ []) fit (λ seen mid ends happens.
-    let P : WorldState → Type 0 = λ m. fits m (event.Start call key) ≡ true in
-    one_fits (with_ends mid ends) (event.Start call key)
-    (subst P (sym happens.1) (ap (may_start next call key) here ∙ and_from _ _ (and_from _ _ opens turn) (new_free w call key new old))))
 
 -- 4. A call that takes the keys that are cached.
 
@@ -255,7 +181,7 @@ sweeping call session command.Clear s is = (refl, cc)
 sweeping call session (command.LoadAll replace keys) s is = cc
 sweeping call session (command.InvokeAll keys) s is = cc
 
-looks_begun : (w : WorldState) → IsSoundWorld w → (call session : ℕ) (c : Command) (s : Sweep) → fits w (event.Call call session c) ≡ true → sweep_of c ≡ Some s → AllFit w (event.Call call session c ∷ looks call 0 w.config.stripes)
+pub looks_begun : (w : WorldState) → IsSoundWorld w → (call session : ℕ) (c : Command) (s : Sweep) → fits w (event.Call call session c) ≡ true → sweep_of c ≡ Some s → AllFit w (event.Call call session c ∷ looks call 0 w.config.stripes)
 looks_begun w old call session c s fit sweeps =
     let u : CallState = new_call call session c in
     let new : is_new w.last call ≡ true = (and_parts _ _ (and_parts _ _ fit).0).1 in
@@ -276,13 +202,7 @@ looks_begun w old call session c s fit sweeps =
     all_left : (m n : ℕ) → m ≡ 0 → m + n ≤ n
     all_left m n e = omega (arith, e)
 
-pub looks_fit_all : (w : WorldState) → IsSoundWorld w → LooksFit w
-looks_fit_all w old = record {
-  left = λ call count u s here sweeps few. looks_fit call count w u s here sweeps few;
-  begun = looks_begun w old;
-}
-
--- 5. What follows in a line.
+-- 5. A call that has reserved a key.
 
 -- a call that has reserved its key has not joined a load of it
 pub unjoined_held : (w : WorldState) (call : ℕ) (key : Bytes) → has_progress is_untouched (part_of w call key) ≡ true → IsSoundWorld w → is_joined w call key ≡ false
@@ -291,10 +211,3 @@ unjoined_held w call key held old = refuted (is_joined w call key) (λ joined.
     let same = join_is call key j.0 j.2 in
     let none : part_of w call key ≡ None = subst (λ n. part_of w n key ≡ None) same.0 (subst (λ k. part_of w j.0.caller.call k ≡ None) same.1 j.3.no_part) in
     let no : true ≡ false = sym held ∙ ap (has_progress is_untouched) none in cc)
-
-pub rest_fits : (w : WorldState) → IsSoundWorld w → RestFits w
-rest_fits w old = record {
-  alone = one_fits w;
-  report = report_fits w;
-  leave = λ call u key here current fit. leave_fits w call u key here current (unjoined_held w call key fit old) old fit;
-}

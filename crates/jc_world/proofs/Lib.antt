@@ -8,6 +8,7 @@ pub mod Looked
 pub mod Sweeps
 pub mod StripeKeys
 pub mod TaskLists
+pub mod AtWork
 pub mod Reporting
 pub mod Found
 pub mod Joiners
@@ -38,6 +39,7 @@ pub mod Runs
 pub mod Loads
 pub mod Homes
 pub mod Fitting
+pub mod Opening
 pub mod Together
 pub mod Closing
 pub mod Merging

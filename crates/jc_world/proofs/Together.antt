@@ -31,12 +31,12 @@ use Rattle.jc_world.specs.Fits.{fits, is_free, may_start, may_leave, waits_at, m
 use Rattle.jc_world.specs.Events.{with_change, after_change, Happens, Starts, is_fit, AllFit, with_ends, noted, subject}
 use Rattle.jc_world.specs.Ends.{EndsState}
 use Rattle.jc_world.specs.Sound.{IsCallOf, IsSoundWorld, Each}
-use Rattle.jc_world.specs.Together.{at_call, key_at, may_work, AreAt, FitTogether}
+use Rattle.jc_world.specs.Together.{at_call, key_at, AreAt, FitTogether}
 use Rattle.jc_world.proofs.Beginning.{may_start_at, may_turn, part_turn}
 use Rattle.jc_world.proofs.Callers.{picking, picking_turn}
 use Rattle.jc_world.proofs.Entries.{split, tied}
 use Rattle.jc_world.proofs.Facts.{refuted}
-use Rattle.jc_world.proofs.Fitting.{none_fit, fits_then, one_fits, start_fits, still_waits, unjoined_held}
+use Rattle.jc_world.proofs.Fitting.{none_fit, fits_then, one_fits, still_waits, unjoined_held}
 use Rattle.jc_world.proofs.Joiners.{join_is}
 use Rattle.jc_world.proofs.Noting.{noted_beside, sound_ends, sound_before}
 use Rattle.jc_world.proofs.Numbered.{some_of}
@@ -412,39 +412,9 @@ reporting_fits laws w old call keys left fault differ fit reports =
     all_together laws call (λ e. (k : Bytes) × (e ≡ event.Change call k)) (λ keys w. fits w (event.Report call left fault) ≡ true) (event.Report call left fault ∷ []) (goes_reporting call left fault) w keys (map (event.Change call) keys) old
     (are_mapped call keys (event.Change call) (own_call call)) differ (each_mapped _ (event.Change call) (λ key. (key, refl)) keys) (all_mapped (fits w) (event.Change call) keys fit) reports
 
--- 6. The first phases of a call, behind its beginning.
-
--- what fits behind an event in any run fits where that event leads
-behind : (w mid : WorldState) (first next : WorldEvent) (seen : Shown) → fits w first ≡ true → Happens w first seen mid → AllFit w (first ∷ next ∷ []) → fits mid next ≡ true
-behind w mid first next seen fit happens all =
-    let n = noted_beside (subject w first) seen mid in
-    sym (ap (λ m. fits m next) n.is ∙ fits_noted mid n.ends next) ∙ go (fits there next) refl
-  where
-    there : WorldState
-    there = noted (subject w first) seen mid
-
-    go : (b : Bool) → fits there next ≡ b → fits there next ≡ true
-    go true e = e
-    go false e =
-        let shown = all (seen ∷ shown.Unfit ∷ []) there (there, inl (fit, (mid, happens, refl)), (there, inr (e, refl, refl), refl)) in
-        let t : false ≡ true = (and_parts (is_fit seen) false shown).1 in cc
-
-begins_fit : Laws → (w : WorldState) → IsSoundWorld w → (call session : ℕ) (command : Command) (keys : List Bytes) → fits w (event.Call call session command) ≡ true → has_too_many_keys (new_call call session command) ≡ false
-    → IsDistinct (pointwise ◌==◌) keys → list_all (may_work (new_call call session command)) keys ≡ true → AllFit w (event.Call call session command ∷ map (event.Start call) keys)
-begins_fit laws w old call session command keys fit few differ work =
-    fits_then w (event.Call call session command) (map (event.Start call) keys) fit (λ seen mid ends happens.
-    events_fit laws (with_ends mid ends) (sound_then laws w mid (event.Call call session command) seen ends fit happens old) call keys (map (event.Start call) keys)
-    (are_mapped call keys (event.Start call) (own_call call)) differ
-    (all_noted mid ends (map (event.Start call) keys)
-    (all_mapped (fits mid) (event.Start call) keys
-    (all_more (may_work (new_call call session command)) (λ key. fits mid (event.Start call key)) keys (λ key t.
-    let parts = and_parts (is_some (op_at (new_call call session command) key)) (is_turn (new_call call session command) key) t in
-    behind w mid (event.Call call session command) (event.Start call key) seen fit happens (start_fits w old call session command key fit parts.0 parts.1 few)) work))))
-
 pub fit_together : Laws → (w : WorldState) → IsSoundWorld w → FitTogether w
 fit_together laws w old = record {
   events = events_fit laws w old;
   report = reporting_fits laws w old;
   leave = leaving_fits laws w old;
-  begin = begins_fit laws w old;
 }

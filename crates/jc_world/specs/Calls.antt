@@ -27,6 +27,8 @@
 --     current_key     the key at which a call works: the first open one of a call that works at one key at a time
 --     is_at           a key is the one that there is
 --     is_turn         a call may work at a key: the current one, if it works at one key at a time
+--     keys_at_work    the keys at which a call works: the current one alone, if it works at one at a time, else all that are open
+--     may_work        a key of a call is open, and it is its turn
 --     going_on        a call, if it isn't over
 --     settled         what is left of a call once a key of the call with this number has its reply or last refusal
 --     settle          the calls that are then under way
@@ -37,7 +39,7 @@
 --     replaced        the calls, once of the one with this number is left what there is
 --     look            the calls under way once a call has taken these keys: it is over if it has looked at each stripe, and no key
 --                     of it is open
-use Rattle.std.specs.Prelude.{◌==◌, ◌||◌, ◌+◌, ℕ, List, [], ◌∷◌, ◌++◌, length, nat_lt, slice_get, Bool, true, false, not, Option, None, Some, filter, map, is_some, option_map, if◌then◌else◌}
+use Rattle.std.specs.Prelude.{◌==◌, ◌&&◌, ◌||◌, ◌+◌, ℕ, List, [], ◌∷◌, ◌++◌, length, nat_lt, slice_get, Bool, true, false, not, Option, None, Some, filter, map, is_some, option_map, option_to_list, if◌then◌else◌}
 use Rattle.std.specs.List.{cons_option, filter_map, list_any}
 use Rattle.std.specs.Map.{keys_of, lookup, set_value}
 use Rattle.std.specs.Option.{option_flatten}
@@ -172,6 +174,12 @@ is_at (Some own) key = pointwise ◌==◌ key own
 
 abbrev pub is_turn : CallState → Bytes → Bool
 is_turn u key = if takes_turns u.kind then is_at (current_key u) key else true
+
+abbrev pub keys_at_work : CallState → List Bytes
+keys_at_work u = if takes_turns u.kind then option_to_list (current_key u) else open_keys u
+
+abbrev pub may_work : CallState → Bytes → Bool
+may_work u key = is_some (op_at u key) && is_turn u key
 
 -- a call isn't over
 abbrev pub is_going : CallState → Bool

@@ -44,13 +44,7 @@
 --     RunAppending                the same, and what they show is appended to a list
 --     is_fit, all_fit             what is shown is not the fault of an event that doesn't fit, and nothing that is shown is
 --     AllFit                      whatever the world may choose, each of these events fits when it comes
---     StartFits                   where a call fits that isn't refused whole, its first phase fits directly behind it
---     looks                       looks of a call at as many stripes, from a number on
---     LooksFit                    the looks of a call at stripes that are left fit one after the other, also directly behind its beginning
---     RestFits                    if the first fits, so do all: of an event alone, of a writer's change and its return, of a withdrawal
---                                 and the call's leaving. The last two are at the key at which a call works that works at one at a
---                                 time
-use Rattle.std.specs.Prelude.{◌≡◌, ◌⊎◌, ◌+◌, ◌≤◌, ℕ, zero, suc, List, [], ◌∷◌, ◌++◌, length, drop, Bool, true, false, ◌||◌, Option, None, Some, is_some, map, option_map, slice_get, slice_set, if◌then◌else◌}
+use Rattle.std.specs.Prelude.{◌≡◌, ◌⊎◌, ℕ, List, [], ◌∷◌, ◌++◌, length, drop, Bool, true, false, ◌||◌, Option, None, Some, is_some, map, option_map, slice_get, slice_set, if◌then◌else◌}
 use Rattle.std.specs.List.{filter_map, list_all}
 use Rattle.std.specs.FinMap.{get, insert, remove}
 use Rattle.jc_types.specs.declared.caller.Caller.{Caller}
@@ -451,36 +445,3 @@ all_fit seen = list_all is_fit seen
 abbrev pub AllFit : WorldState → List WorldEvent → Type 0
 AllFit old events =
     (seen : List Shown) (new : WorldState) → Run old events seen new → all_fit seen ≡ true
-
--- it does so in every world that is reached, at each key at which the call may work
-abbrev pub StartFits : WorldState → Type 0
-StartFits w =
-    (call session : ℕ) (command : Command) (key : Bytes)
-    → fits w (event.Call call session command) ≡ true
-    → is_some (op_at (new_call call session command) key) ≡ true
-    → is_turn (new_call call session command) key ≡ true
-    → has_too_many_keys (new_call call session command) ≡ false
-    → AllFit w (event.Call call session command ∷ event.Start call key ∷ [])
-
-abbrev pub looks : ℕ → ℕ → ℕ → List WorldEvent
-looks call from zero = []
-looks call from (suc count) = event.Look call from ∷ looks call (from + 1) count
-
--- so do the looks of a call that takes the keys that are cached
-pub record LooksFit (w : WorldState) : Type 0 where
-  pub left : (call count : ℕ) (u : CallState) (sweep : Sweep) → open_call w call ≡ Some u
-      → u.sweep ≡ Some sweep → sweep.stripe + count ≤ w.config.stripes
-      → AllFit w (looks call sweep.stripe count)
-  pub begun : (call session : ℕ) (command : Command) (sweep : Sweep)
-      → fits w (event.Call call session command) ≡ true → sweep_of command ≡ Some sweep
-      → AllFit w (event.Call call session command ∷ looks call 0 w.config.stripes)
-
--- so do these; of two, where the call works at one key at a time
-pub record RestFits (w : WorldState) : Type 0 where
-  pub alone : (e : WorldEvent) → fits w e ≡ true → AllFit w (e ∷ [])
-  pub report : (call : ℕ) (u : CallState) (key : Bytes) (left : List Bytes) (fault : Option ℕ)
-      → open_call w call ≡ Some u → current_key u ≡ Some key → fits w (event.Change call key) ≡ true
-      → AllFit w (event.Change call key ∷ event.Report call left fault ∷ [])
-  pub leave : (call : ℕ) (u : CallState) (key : Bytes) → open_call w call ≡ Some u
-      → current_key u ≡ Some key → fits w (event.Withdraw call key) ≡ true
-      → AllFit w (event.Withdraw call key ∷ event.Leave call ∷ [])

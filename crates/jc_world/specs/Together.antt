@@ -1,22 +1,50 @@
--- Events of one call at several of its keys, as the rounds of a call of many keys have them.
+-- Events of one call that follow each other: at its begin, and at several of its keys, as the rounds of a call of many keys have them.
+--     looks              looks of a call at as many stripes, from a number on
+--     looks_of           the looks that follow the begin of a call: at all stripes, if it takes the keys that are cached, else none
+--     opening_events     the begin of a call, and its looks
+--     BeginFits          where a call fits, so do its looks behind it, and then it is free of every key
 --     at_call, key_at    the key at which an event of the call with this number is, if it is one
 --     AreAt              events of this call, one at each of these keys, in their order
---     may_work           a key of a call is open, and it is its turn
 --     FitTogether        what fits at keys that differ fits one after the other: any such events; the writer's return behind its changes of
---                        the store; a call's leaving behind the withdrawals of all that it has reserved; and the first phases of a
---                        call directly behind its beginning
-use Rattle.std.specs.Prelude.{◌≡◌, ◌==◌, ◌&&◌, ◌||◌, ℕ, List, [], ◌∷◌, ◌++◌, map, Bool, true, false, Option, None, Some, is_some, if◌then◌else◌}
+--                        the store; and a call's leaving behind the withdrawals of all that it has reserved
+use Rattle.std.specs.Prelude.{◌≡◌, ◌==◌, ◌||◌, ◌+◌, ℕ, zero, suc, List, [], ◌∷◌, ◌++◌, map, true, Option, None, Some, is_some, if◌then◌else◌}
 use Rattle.std.specs.List.{IsDistinct, list_all}
 use Rattle.std.specs.Cmp.Lexicographic.{pointwise}
 use Rattle.jc_model.specs.Batches.{is_among}
 use Rattle.jc_model.specs.Cache.{Bytes}
+use Rattle.jc_world.specs.declared.event.Shown.{Shown}
 use Rattle.jc_world.specs.declared.event.WorldEvent.{WorldEvent}
 use Rattle.jc_world.specs.declared.event.WorldEvent.TheVariants as event
-use Rattle.jc_world.specs.Calls.{CallState, has_too_many_keys, is_turn, new_call, op_at, open_keys}
+use Rattle.jc_world.specs.Calls.{CallState, open_keys, sweep_of}
 use Rattle.jc_world.specs.declared.command.Command.{Command}
 use Rattle.jc_world.specs.World.{WorldState, open_call}
 use Rattle.jc_world.specs.Fits.{fits, is_free}
-use Rattle.jc_world.specs.Events.{AllFit}
+use Rattle.jc_world.specs.Events.{AllFit, Run}
+
+-- 1. How a call begins.
+
+abbrev pub looks : ℕ → ℕ → ℕ → List WorldEvent
+looks call from zero = []
+looks call from (suc count) = event.Look call from ∷ looks call (from + 1) count
+
+abbrev pub looks_of : ℕ → Command → ℕ → List WorldEvent
+looks_of call command stripes = if is_some (sweep_of command) then looks call 0 stripes else []
+
+abbrev pub opening_events : ℕ → ℕ → Command → ℕ → List WorldEvent
+opening_events call session command stripes =
+    event.Call call session command ∷ looks_of call command stripes
+
+-- it has reserved no key yet, and joined no load
+pub record BeginFits (w : WorldState) : Type 0 where
+  pub opening : (call session : ℕ) (command : Command)
+      → fits w (event.Call call session command) ≡ true
+      → AllFit w (opening_events call session command w.config.stripes)
+  pub free : (call session : ℕ) (command : Command) (seen : List Shown) (begun : WorldState)
+      (key : Bytes) → fits w (event.Call call session command) ≡ true
+      → Run w (opening_events call session command w.config.stripes) seen begun
+      → is_free begun call key ≡ true
+
+-- 2. What follows at keys that differ.
 
 -- an event of a call with another number is at no key of this call
 abbrev pub at_call : ℕ → ℕ → Bytes → Option Bytes
@@ -43,10 +71,6 @@ AreAt call (key ∷ keys) (e ∷ events) = (key_at call e ≡ Some key) × AreAt
 AreAt call [] (e ∷ events) = ⊥
 AreAt call (key ∷ keys) [] = ⊥
 
--- as far as its keys and their order go
-abbrev pub may_work : CallState → Bytes → Bool
-may_work u key = is_some (op_at u key) && is_turn u key
-
 -- of keys that differ
 pub record FitTogether (w : WorldState) : Type 0 where
   pub events : (call : ℕ) (keys : List Bytes) (events : List WorldEvent)
@@ -60,9 +84,3 @@ pub record FitTogether (w : WorldState) : Type 0 where
       → IsDistinct (pointwise ◌==◌) keys → list_all (λ key. fits w (event.Withdraw call key)) keys ≡ true
       → list_all (λ key. is_among keys key || is_free w call key) (open_keys u) ≡ true
       → AllFit w (map (event.Withdraw call) keys ++ event.Leave call ∷ [])
-  pub begin : (call session : ℕ) (command : Command) (keys : List Bytes)
-      → fits w (event.Call call session command) ≡ true
-      → has_too_many_keys (new_call call session command) ≡ false
-      → IsDistinct (pointwise ◌==◌) keys
-      → list_all (may_work (new_call call session command)) keys ≡ true
-      → AllFit w (event.Call call session command ∷ map (event.Start call) keys)

@@ -1,5 +1,5 @@
 //! What calls do.
-ghost use Rattle.std.specs.Prelude.{◌≡◌, ◌<◌, length};
+ghost use Rattle.std.specs.Prelude.{◌≡◌, ◌<◌, is_some, length};
 ghost use Rattle.jc_world.specs.Calls.{kind_of, sweep_of, next_sweep, takes_turns, puts_off, tasks, has_too_many};
 
 use indexmap::{IndexMap, IndexSet};
@@ -92,6 +92,13 @@ impl Command {
             }
             | Command::InvokeAll { keys: _ } => None,
         }
+    }
+
+    /// Whether the command takes the keys that are cached, whichever they are: its call looks at each stripe once.
+    pub fn is_sweep(&self) -> bool
+        ensures { result ≡ is_some (sweep_of self.now) }
+    {
+        self.sweep().is_some()
     }
 
     /// How many keys the command names. `removeAll()` and `clear` name none: theirs are those that are cached.

@@ -3,7 +3,7 @@ ghost use Rattle.std.specs.Prelude.{◌≡◌, ◌==◌, ◌++◌, true, Some, N
 ghost use Rattle.std.specs.Prelude.{OnErr, OnOk, IfOk};
 ghost use Rattle.std.specs.List.{list_all, list_any, IsDistinct};
 ghost use Rattle.std.specs.Cmp.Lexicographic.{pointwise};
-ghost use Rattle.jc_world.specs.Calls.{op_at, open_keys, current_key};
+ghost use Rattle.jc_world.specs.Calls.{op_at, open_keys, current_key, keys_at_work, may_work};
 ghost use Rattle.jc_world.specs.Calls.{is_turn, is_going, new_call, next_stripe, settled, with_found};
 ghost use Rattle.jc_world.specs.OpenCalls.{TakesKeys};
 ghost use Rattle.jc_world.specs.declared.command.Sweep.{Sweep};
@@ -16,8 +16,8 @@ use crate::command::{CallKind, Command, Sweep};
 use crate::held_keys::{HeldKeys, waits_for_report};
 use crate::reports::ReportedKey;
 use crate::tasks::{
-    Tasks, are_free, are_open, first_key, is_free_at, none_waits, op_among, push_each,
-    push_reported, put_if_open, put_open_among, settle_at, take_keys, tasks_for,
+    Tasks, are_free, are_open, first_key, is_free_at, names_each_once, none_waits, op_among,
+    push_each, push_reported, put_if_open, put_open_among, settle_at, take_keys, tasks_for,
 };
 use jc_model::Op;
 use jc_stripe::Join;
@@ -95,6 +95,24 @@ impl OpenCall {
             Tasks::One { key, op } => put_if_open(key, op, keys),
             Tasks::Many { ops, first: _ } => put_open_among(ops, keys),
         }
+    }
+
+    /// Appends the keys at which the call works: the current one, if it works at one key at a time, else all that are open. No two of
+    /// them are the same, and the call may work at each.
+    #[tactic(auto, using(crate::proofs::AtWork::all_work, crate::proofs::AtWork::work_differs))]
+    pub fn put_keys_at_work(&self, keys: &mut Vec<Key>) -> Result<(), AllocError>
+        ensures keys { OnOk result (keys.new.items ≡ keys.old.items ++ keys_at_work self.now) }
+        ensures distinct { IsDistinct (pointwise ◌==◌) (keys_at_work self.now) }
+        ensures work { list_all (may_work self.now) (keys_at_work self.now) ≡ true }
+    {
+        names_each_once(&self.tasks);
+        if !self.kind.takes_turns() {
+            return self.put_open_keys(keys);
+        }
+        if let Some(key) = self.current_key() {
+            keys.push(*key)?;
+        }
+        Ok(())
     }
 
     /// Whether the call may work at a key now, as far as the order of its keys goes.

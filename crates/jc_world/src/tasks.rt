@@ -2,7 +2,7 @@
 ghost use Rattle.std.specs.Prelude.{◌≡◌, ◌==◌, ◌+◌, ◌≤◌, ◌<◌, ◌++◌, ◌∷◌, [], not, true, Some, None, is_some, drop, length, option_copied};
 ghost use Rattle.std.specs.Prelude.{slice_get, OnErr, OnOk, IfOk};
 ghost use Rattle.std.specs.List.{list_all, list_any, IsDistinct};
-ghost use Rattle.std.specs.Map.{lookup, set_value};
+ghost use Rattle.std.specs.Map.{keys_of, lookup, set_value};
 ghost use Rattle.std.specs.Cmp.Lexicographic.{pointwise};
 ghost use Rattle.jc_world.specs.Calls.{at_each, put_each_of, tasks, op_in, is_open, open_in, sweep_of};
 ghost use Rattle.jc_world.specs.OpenCalls.{tasks_of, first_open, are_new, IsPlaced, IsMany, IsSwept};
@@ -109,6 +109,18 @@ fn put_values(
         }
     }
     Ok(())
+}
+
+/// No key is named twice. This does nothing: what it says is its contract.
+pub(crate) fn names_each_once(tasks: &Tasks)
+    ensures { IsDistinct (pointwise ◌==◌) (keys_of (tasks_of tasks.now)) }
+{
+    match tasks {
+        Tasks::One { key: _, op: _ } => {}
+        Tasks::Many { ops, first: _ } => {
+            let _ = ops.len();
+        }
+    }
 }
 
 /// The first key that is open.

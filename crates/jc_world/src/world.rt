@@ -5,8 +5,8 @@ ghost use Rattle.jc_types.specs.Limits.{check};
 ghost use Rattle.jc_world.specs.World.{start, is_busy, open_call, part_of, has_progress, waits_for_load, waits_for_process};
 ghost use Rattle.jc_world.specs.World.{waits_for_report, is_joined, with_stored};
 ghost use Rattle.jc_world.specs.Fits.{fits, is_new};
-ghost use Rattle.jc_world.specs.Events.{LooksFit, RestFits, RunAppending, StartFits};
-ghost use Rattle.jc_world.specs.Together.{FitTogether};
+ghost use Rattle.jc_world.specs.Events.{RunAppending};
+ghost use Rattle.jc_world.specs.Together.{BeginFits, FitTogether};
 ghost use Rattle.jc_world.specs.Coherent.{all_hold, Coherent};
 ghost use Rattle.jc_world.specs.Audit.{IsOrder, HasShares, IsAudit};
 
@@ -231,14 +231,6 @@ impl World {
         self.machine.fits(event)
     }
 
-    /// If the first event of a line fits, so do those that follow: the writer's return after its change of the store, and a call's
-    /// leaving after its withdrawal, for a call that works at one key at a time. This does nothing: what it says is its contract.
-    pub fn lets_calls_continue(&self)
-        ensures { RestFits self.now.world }
-    {
-        let _ = &self.machine;
-    }
-
     /// Events of one call at keys that differ, each of which fits now, fit one after the other: what happens at one key of a call
     /// takes nothing from its others. So does the writer's return behind its changes of the store, and a call's leaving behind the
     /// withdrawals of all that it has reserved. This does nothing: what it says is its contract.
@@ -250,18 +242,10 @@ impl World {
         let _ = &self.machine;
     }
 
-    /// Where a call fits that isn't refused whole, its first phase fits directly behind it, at each key at which it may work then. This
+    /// If a call fits, so do its looks at the stripes directly after it, and then it has reserved no key and joined no load. This
     /// does nothing: what it says is its contract.
-    pub fn lets_calls_start(&self)
-        ensures { StartFits self.now.world }
-    {
-        let _ = &self.machine;
-    }
-
-    /// The looks of a call that takes the keys that are cached, as `clear` does, fit one after the other, at the stripes that are left,
-    /// also directly behind its beginning. This does nothing: what it says is its contract.
-    pub fn lets_calls_look(&self)
-        ensures { LooksFit self.now.world }
+    pub fn lets_calls_begin(&self)
+        ensures { BeginFits self.now.world }
     {
         let _ = &self.machine;
     }

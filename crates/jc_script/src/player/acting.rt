@@ -1,25 +1,27 @@
 //! The lines about a call under way.
-ghost use Rattle.std.specs.Prelude.{◌≡◌, ◌==◌, ◌++◌, ◌∷◌, List, ℕ, [], Some, None, true, false, filter, OnOk, IfOk, option_to_list};
+ghost use Rattle.std.specs.Prelude.{◌≡◌, ◌==◌, ◌&&◌, ◌++◌, ◌∷◌, List, ℕ, [], Some, None, true, false, not, OnOk, IfOk};
 ghost use Rattle.std.specs.List.{IsDistinct, list_all, list_any};
 ghost use Rattle.std.specs.Cmp.Lexicographic.{pointwise};
 ghost use Rattle.jc_model.specs.Batches.{is_among};
 ghost use Rattle.jc_world.specs.declared.event.WorldEvent.TheVariants as event;
-ghost use Rattle.jc_world.specs.Calls.{CallState, current_key};
+ghost use Rattle.jc_world.specs.Calls.{CallState};
 ghost use Rattle.jc_world.specs.World.{open_call};
 ghost use Rattle.jc_world.specs.World.{is_joined};
 ghost use Rattle.jc_world.specs.Fits.{fits};
 ghost use Rattle.jc_script.specs.declared.line.Line.TheVariants as lines;
-ghost use Rattle.jc_script.specs.LineEvents.{keys_at_work, is_drop, has_but, keys_of_act, is_asked, is_started, is_meant, event_at, key_events};
-ghost use Rattle.jc_script.specs.LineEvents.{end_of_act, is_about_one, is_time, load_fault, act_end};
+ghost use Rattle.jc_script.specs.LineEvents.{is_drop, has_but, allows_but, keys_of_act, is_asked, is_started, is_listed, is_left_failing};
+ghost use Rattle.jc_script.specs.LineEvents.{leaves, is_changed, is_meant, is_left, left_keys, event_at, key_events};
+ghost use Rattle.jc_script.specs.LineEvents.{end_of_act, is_about_one, is_time, load_fault};
 ghost use Rattle.jc_script.specs.Transcript.{PlaysLine};
 
-use super::{LineBuffers, has_end};
+use super::LineBuffers;
 use crate::fault::Fault;
+use crate::keys::Keys;
 use crate::line::Act;
 use indexmap::IndexSet;
 use jc_model::{EntryCall, LoadAnswer, Op};
 use jc_types::{Key, Value};
-use jc_world::command::{CallKind, Command};
+use jc_world::command::Command;
 use jc_world::event::WorldEvent;
 use jc_world::open_call::OpenCall;
 use jc_world::process::{EntryCalls, LoadSource};
@@ -43,12 +45,11 @@ pub(super) fn act_on(
     match world.open_call(call) {
         None => Ok(Some(Fault::NoSuchCall)),
         Some(open_call) => {
-            if has_but(act) {
+            if has_but(act) && !allows_but(open_call) {
                 return Ok(Some(Fault::NotNow));
             }
-            let end = act_end(call, open_call.kind(), act);
             put_keys(open_call, act, &mut buffers.keys)?;
-            act_at(alloc, world, call, act, end, buffers, out)
+            act_at(alloc, world, call, act, buffers, out)
         }
     }
 }
@@ -59,13 +60,11 @@ fn act_at(
     world: &mut World,
     call: u64,
     act: &Act,
-    end: Option<u64>,
     buffers: &mut LineBuffers,
     out: &mut Vec<u8>,
 ) -> Result<Option<Fault>, AllocError>
-    requires but { has_but act.now ≡ false }
     requires call { (u : CallState) × (open_call world.old.world call ≡ Some u)
-        × (end ≡ act_end call u.kind act.now)
+        × ((has_but act.now && not (allows_but u)) ≡ false)
         × (buffers.old.keys.items ≡ keys_of_act act.now u) }
     requires distinct { IsDistinct (pointwise ◌==◌) buffers.old.keys.items }
     ensures { IfOk result (λ r. PlaysLine (Some world.old.world) (lines.OfCall call act.now) r out.old.items out.new.items (Some world.new.world)) }
@@ -77,19 +76,8 @@ fn act_at(
     put_end_of_act(alloc, world, call, act, &buffers.keys, &mut buffers.events)?;
     world.lets_keys_go_together();
     let fault = load_fault(act);
-    buffers.play_call(world, call, fault, end, out)?;
+    buffers.play_call(world, call, fault, out)?;
     Ok(None)
-}
-
-/// The call of a line, if its end is printed: not if the line gives it up.
-fn act_end(call: u64, kind: CallKind, act: &Act) -> Option<u64>
-    ensures { result ≡ act_end call kind act.now }
-{
-    if has_end(kind) && !is_drop(act) {
-        Some(call)
-    } else {
-        None
-    }
 }
 
 fn is_drop(act: &Act) -> bool
@@ -98,11 +86,30 @@ fn is_drop(act: &Act) -> bool
     matches!(act, Act::Drop)
 }
 
-/// Whether an act names keys that the writer leaves. No call under way takes such an act: each works at one key at a time.
+/// Whether an act names keys that the writer leaves.
 fn has_but(act: &Act) -> bool
     ensures { result ≡ has_but act.now }
 {
-    matches!(act, Act::Apply(Some(_)) | Act::ApplyFail(_, Some(_)))
+    match act {
+        Act::Apply(left) | Act::ApplyFail(_, left) => left.is_some(),
+        Act::Read
+        | Act::ReadFail(_)
+        | Act::Say(_)
+        | Act::ApplyLie(_)
+        | Act::End
+        | Act::Drop
+        | Act::More
+        | Act::Take
+        | Act::Process { .. } => false,
+    }
+}
+
+/// Whether the writer of a call may leave some of its keys and not others. A call that takes its keys one after the other asks for
+/// one at a time.
+fn allows_but(open_call: &OpenCall) -> bool
+    ensures { result ≡ allows_but open_call.now }
+{
+    !open_call.kind().takes_turns()
 }
 
 /// The code with which the loader fails, if the act says so.
@@ -133,37 +140,12 @@ fn put_keys(open_call: &OpenCall, act: &Act, keys: &mut Vec<Key>) -> Result<(), 
     if is_drop(act) {
         open_call.put_open_keys(keys)
     } else {
-        put_keys_at_work(open_call, keys)
+        open_call.put_keys_at_work(keys)
     }
-}
-
-/// The keys at which a call works: the current one alone, if it takes its keys in turn, else all that are open.
-fn put_keys_at_work(open_call: &OpenCall, keys: &mut Vec<Key>) -> Result<(), AllocError>
-    ensures keys { OnOk result (keys.new.items ≡ keys.old.items ++ keys_at_work open_call.now) }
-    ensures distinct { IsDistinct (pointwise ◌==◌) (keys_at_work open_call.now) }
-{
-    if open_call.kind().takes_turns() {
-        put_current_key(open_call, keys)
-    } else {
-        open_call.put_open_keys(keys)
-    }
-}
-
-/// The key at which a call works that takes its keys in turn.
-#[tactic(auto, using(crate::proofs::Fitting::one_differs))]
-fn put_current_key(open_call: &OpenCall, keys: &mut Vec<Key>) -> Result<(), AllocError>
-    ensures keys { OnOk result (
-        keys.new.items ≡ keys.old.items ++ option_to_list (current_key open_call.now)) }
-    ensures distinct { IsDistinct (pointwise ◌==◌) (option_to_list (current_key open_call.now)) }
-{
-    if let Some(key) = open_call.current_key() {
-        keys.push(*key)?;
-    }
-    Ok(())
 }
 
 /// What an act does at each of these keys that it is about.
-fn put_key_events(
+pub(super) fn put_key_events(
     alloc: Global,
     world: &World,
     call: u64,
@@ -204,12 +186,65 @@ fn is_meant(world: &World, call: u64, act: &Act, key: &Key) -> bool
 {
     match act {
         Act::Read | Act::ReadFail(_) | Act::Say(_) => world.waits_for_load(call, key),
-        Act::Apply(_) | Act::ApplyLie(_) => world.waits_for_report(call, key),
-        Act::ApplyFail(..) => false,
+        Act::Apply(_) | Act::ApplyFail(..) => is_changed(world, call, act, key),
+        Act::ApplyLie(_) => world.waits_for_report(call, key),
         Act::End | Act::Drop => world.is_reserved(call, key),
         Act::More => true,
         Act::Take => world.is_joined(call, key),
         Act::Process { .. } => world.waits_for_process(call, key),
+    }
+}
+
+/// Whether the writer was asked for a key, and changes the store there as the act says.
+fn is_changed(world: &World, call: u64, act: &Act, key: &Key) -> bool
+    ensures { result ≡ is_changed world.now.world call act.now key.now }
+{
+    world.waits_for_report(call, key) && !leaves(act, key)
+}
+
+/// Whether the writer was asked for a key, and leaves it as the act says.
+fn is_left(world: &World, call: u64, act: &Act, key: &Key) -> bool
+    ensures { result ≡ is_left world.now.world call act.now key.now }
+{
+    world.waits_for_report(call, key) && leaves(act, key)
+}
+
+/// Whether an act says that the writer leaves a key.
+fn leaves(act: &Act, key: &Key) -> bool
+    ensures { result ≡ leaves act.now key.now }
+{
+    match act {
+        Act::Apply(left) => is_listed(left, key),
+        Act::ApplyFail(_, left) => is_left_failing(left, key),
+        Act::ApplyLie(_) => true,
+        Act::Read
+        | Act::ReadFail(_)
+        | Act::Say(_)
+        | Act::End
+        | Act::Drop
+        | Act::More
+        | Act::Take
+        | Act::Process { .. } => false,
+    }
+}
+
+/// Whether a key is among those that stand behind `but`.
+fn is_listed(left: &Option<Keys>, key: &Key) -> bool
+    ensures { result ≡ is_listed left.now key.now }
+{
+    match left {
+        None => false,
+        Some(keys) => keys.contains(key),
+    }
+}
+
+/// The same, of a writer that fails: if it doesn't say what it leaves, it leaves each key.
+fn is_left_failing(left: &Option<Keys>, key: &Key) -> bool
+    ensures { result ≡ is_left_failing left.now key.now }
+{
+    match left {
+        None => true,
+        Some(keys) => keys.contains(key),
     }
 }
 
@@ -287,9 +322,12 @@ fn put_end_of_act(
         events.new.items ≡ events.old.items ++ end_of_act world.now.world call act.now keys.now) }
 {
     match act {
-        Act::Apply(_) => put_report(events, call, LeftKeys::new(alloc), None),
+        Act::Apply(_) => {
+            let left = left_keys(alloc, world, call, act, keys)?;
+            put_report(events, call, left, None)
+        }
         Act::ApplyFail(code, _) | Act::ApplyLie(code) => {
-            let left = asked_keys(alloc, world, call, keys)?;
+            let left = left_keys(alloc, world, call, act, keys)?;
             put_report(events, call, left, Some(*code))
         }
         Act::Drop => put_leave(events, call),
@@ -324,30 +362,37 @@ fn put_leave(events: &mut Vec<WorldEvent>, call: u64) -> Result<(), AllocError>
     Ok(())
 }
 
-/// The keys that the writer was asked for and hasn't returned for.
-fn asked_keys(alloc: Global, world: &World, call: u64, keys: &[Key]) -> Result<LeftKeys, AllocError>
-    requires { IsDistinct (pointwise ◌==◌) keys.now }
-    ensures { IfOk result (λ left. left ≡ filter (is_asked world.now.world call) keys.now) }
-{
-    let mut asked = IndexSet::new(alloc);
-    for key in keys {
-        add_if_asked(world, call, key, &mut asked)?;
-    }
-    Ok(LeftKeys::of(asked))
-}
-
-fn add_if_asked(
+/// The keys that the writer was asked for and leaves, as an act says.
+fn left_keys(
+    alloc: Global,
     world: &World,
     call: u64,
-    key: &Key,
-    asked: &mut IndexSet<Key>,
-) -> Result<(), AllocError>
-    requires { is_among asked.old.keys key.now ≡ false }
-    ensures { OnOk result (
-        asked.new.keys ≡ asked.old.keys ++ filter (is_asked world.now.world call) (key.now ∷ [])) }
+    act: &Act,
+    keys: &[Key],
+) -> Result<LeftKeys, AllocError>
+    requires { IsDistinct (pointwise ◌==◌) keys.now }
+    ensures { IfOk result (λ left. left ≡ left_keys world.now.world call act.now keys.now) }
 {
-    if world.waits_for_report(call, key) {
-        asked.insert(*key)?;
+    let mut left = IndexSet::new(alloc);
+    for key in keys {
+        add_if_left(world, call, act, key, &mut left)?;
+    }
+    Ok(LeftKeys::of(left))
+}
+
+fn add_if_left(
+    world: &World,
+    call: u64,
+    act: &Act,
+    key: &Key,
+    left: &mut IndexSet<Key>,
+) -> Result<(), AllocError>
+    requires { is_among left.old.keys key.now ≡ false }
+    ensures { OnOk result (
+        left.new.keys ≡ left.old.keys ++ left_keys world.now.world call act.now (key.now ∷ [])) }
+{
+    if is_left(world, call, act, key) {
+        left.insert(*key)?;
     }
     Ok(())
 }

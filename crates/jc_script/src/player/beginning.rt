@@ -1,27 +1,31 @@
 //! The lines that begin a call.
 ghost use Rattle.std.specs.Prelude.{◌≡◌, ◌++◌, List, ℕ, Some, None, true, OnOk, IfOk};
+ghost use Rattle.jc_model.specs.Cache.{Bytes};
 ghost use Rattle.jc_world.specs.declared.event.WorldEvent.TheVariants as event;
-ghost use Rattle.jc_world.specs.Calls.{new_call};
-ghost use Rattle.jc_world.specs.Fits.{fits, is_session};
+ghost use Rattle.jc_world.specs.World.{open_call};
+ghost use Rattle.jc_world.specs.Fits.{fits, is_free, is_playable};
+ghost use Rattle.jc_world.specs.Events.{AllFit};
+ghost use Rattle.jc_world.specs.Together.{looks, opening_events};
 ghost use Rattle.jc_script.specs.declared.line.Line.TheVariants as lines;
 ghost use Rattle.jc_script.specs.Lines.{is_callable};
 ghost use Rattle.jc_script.specs.Faults.{begin_fault};
-ghost use Rattle.jc_script.specs.LineEvents.{single, first_key, first_of_each, call_events, begin_end};
-ghost use Rattle.jc_script.specs.Transcript.{PlaysBegin, PlaysInvokeAll, PlaysLine};
+ghost use Rattle.jc_script.specs.LineEvents.{single, bulk_call, start_events};
+ghost use Rattle.jc_script.specs.Transcript.{PlaysBegin, PlaysLine};
 
-use super::{LineBuffers, has_end};
+use super::acting::put_key_events;
+use super::{LineBuffers, put_end};
 use crate::fault::Fault;
-use crate::keys::Keys;
-use crate::line::{BulkCall, Operation};
+use crate::line::{Act, BulkCall, Operation};
 use jc_model::{LoadAnswer, Op};
-use jc_types::{BULK_KEYS_MAX, Key, Value};
-use jc_world::command::{CallKind, Command};
+use jc_types::{Key, Value};
+use jc_world::command::Command;
 use jc_world::event::WorldEvent;
 use jc_world::world::World;
-use std::alloc::AllocError;
+use std::alloc::{AllocError, Global};
 
 /// A line that begins a call of one key, or its fault.
 pub(super) fn play_begin(
+    alloc: Global,
     world: &mut World,
     number: u32,
     session: u32,
@@ -36,12 +40,21 @@ pub(super) fn play_begin(
     if let Some(fault) = fault_of_begin(world, number, session) {
         return Ok(Some(fault));
     }
-    begin_one(world, number, session, operation, buffers, out)?;
+    begin(
+        alloc,
+        world,
+        number,
+        session,
+        single(operation),
+        buffers,
+        out,
+    )?;
     Ok(None)
 }
 
 /// A line that begins a call of many keys, or its fault.
 pub(super) fn play_bulk(
+    alloc: Global,
     world: &mut World,
     number: u32,
     session: u32,
@@ -56,14 +69,8 @@ pub(super) fn play_bulk(
     if let Some(fault) = fault_of_begin(world, number, session) {
         return Ok(Some(fault));
     }
-    match call {
-        BulkCall::InvokeAll(keys) => begin_invoke_all(world, number, session, keys, buffers, out)?,
-        BulkCall::GetAll(_)
-        | BulkCall::PutAll(_)
-        | BulkCall::RemoveAll(_)
-        | BulkCall::RemoveEvery
-        | BulkCall::Clear => unreachable!(),
-    }
+    let command = command_of(call)?;
+    begin(alloc, world, number, session, command, buffers, out)?;
     Ok(None)
 }
 
@@ -79,108 +86,119 @@ fn fault_of_begin(world: &World, number: u32, session: u32) -> Option<Fault>
     None
 }
 
-fn begin_one(
-    world: &mut World,
-    number: u32,
-    session: u32,
-    operation: &Operation,
-    buffers: &mut LineBuffers,
-    out: &mut Vec<u8>,
-) -> Result<(), AllocError>
-    requires { fits world.old.world (event.Call number session (single operation.now)) ≡ true }
-    ensures { OnOk result ((text : List ℕ)
-        × PlaysBegin world.old.world number session (single operation.now) text (Some world.new.world)
-        × (out.new.items ≡ out.old.items ++ text)) }
+/// The command of a line that begins a call of one key.
+fn single(operation: &Operation) -> Command
+    ensures { result ≡ single operation.now }
 {
     let Operation { op, key } = *operation;
-    let command = Command::Single { op, key };
-    begin(world, number, session, command, Some(key), buffers, out)
+    Command::Single { op, key }
 }
 
-/// The key that a call of `invokeAll` starts as it begins.
-fn first_of_each(keys: &Keys) -> Option<Key>
-    ensures { result ≡ first_of_each keys.now }
+/// The command of a line that begins a call of many keys.
+fn command_of(call: &BulkCall) -> Result<Command, AllocError>
+    ensures call { IfOk result (λ command. bulk_call command ≡ Some call.now) }
+    ensures playable { IfOk result (λ command. is_playable command ≡ true) }
 {
-    if keys.len() > BULK_KEYS_MAX {
-        return None;
+    match call {
+        BulkCall::GetAll(keys) => Ok(Command::GetAll { keys: keys.copy()? }),
+        BulkCall::PutAll(pairs) => {
+            let entries = pairs.copy()?;
+            Ok(Command::PutAll { entries })
+        }
+        BulkCall::RemoveAll(keys) => Ok(Command::RemoveAll { keys: keys.copy()? }),
+        BulkCall::RemoveEvery => Ok(Command::RemoveEvery),
+        BulkCall::Clear => Ok(Command::Clear),
+        BulkCall::InvokeAll(keys) => Ok(Command::InvokeAll { keys: keys.copy()? }),
     }
-    keys.first()
 }
 
-fn begin_invoke_all(
-    world: &mut World,
-    number: u32,
-    session: u32,
-    keys: &Keys,
-    buffers: &mut LineBuffers,
-    out: &mut Vec<u8>,
-) -> Result<(), AllocError>
-    requires known { is_session session ≡ true }
-    requires fits { begin_fault world.old.world number session ≡ None }
-    ensures { OnOk result ((text : List ℕ)
-        × PlaysInvokeAll world.old.world number session keys.now text (Some world.new.world)
-        × (out.new.items ≡ out.old.items ++ text)) }
-{
-    let command = Command::InvokeAll { keys: keys.copy()? };
-    let first = first_of_each(keys);
-    begin(world, number, session, command, first, buffers, out)
-}
-
-/// A call begins, and starts its first key, if it isn't refused whole.
+/// A call begins, looks at the stripes if it takes the keys that are cached, and starts the keys at which it works then.
 fn begin(
+    alloc: Global,
     world: &mut World,
     number: u32,
     session: u32,
     command: Command,
-    first: Option<Key>,
     buffers: &mut LineBuffers,
     out: &mut Vec<u8>,
 ) -> Result<(), AllocError>
-    requires fits { fits world.old.world (event.Call number session command) ≡ true }
-    requires first { first ≡ first_key (new_call number session command) }
+    requires { fits world.old.world (event.Call number session command) ≡ true }
     ensures { OnOk result ((text : List ℕ)
         × PlaysBegin world.old.world number session command text (Some world.new.world)
         × (out.new.items ≡ out.old.items ++ text)) }
 {
     let call = number as u64;
-    let end = begin_end(call, command.kind(), &first);
-    put_begun(&mut buffers.events, call, session, command, first)?;
-    world.lets_calls_start();
-    world.lets_calls_continue();
-    buffers.play_call(world, call, None, end, out)?;
+    put_opening(&mut buffers.events, call, session, command, world.stripes())?;
+    world.lets_calls_begin();
+    buffers.play(world, out)?;
+    put_starts(alloc, world, call, buffers)?;
+    buffers.play(world, out)?;
+    put_end(out, call, &world.over())?;
     Ok(())
 }
 
-fn put_begun(
+/// The begin of a call, and its looks at the stripes.
+fn put_opening(
     events: &mut Vec<WorldEvent>,
     call: u64,
     session: u32,
     command: Command,
-    first: Option<Key>,
+    stripes: usize,
 ) -> Result<(), AllocError>
-    ensures { OnOk result (events.new.items ≡ call_events call session command first) }
+    ensures { OnOk result (events.new.items ≡ opening_events call session command stripes) }
 {
     let _types: Option<(Op, Value, LoadAnswer)> = None;
     events.clear();
-    events.try_reserve(2)?;
-    events.push_reserved(WorldEvent::Call {
+    let is_sweep = command.is_sweep();
+    events.push(WorldEvent::Call {
         call,
         session,
         command,
-    });
-    if let Some(key) = first {
-        events.push_reserved(WorldEvent::Start { call, key });
+    })?;
+    if is_sweep {
+        put_looks(events, call, stripes)?;
     }
     Ok(())
 }
 
-/// The call that begins, if its end is printed: not if no key of it starts.
-fn begin_end(call: u64, kind: CallKind, first: &Option<Key>) -> Option<u64>
-    ensures { result ≡ begin_end call kind first.now }
+/// The looks of a call at each of so many stripes.
+fn put_looks(events: &mut Vec<WorldEvent>, call: u64, stripes: usize) -> Result<(), AllocError>
+    ensures { OnOk result (events.new.items ≡ events.old.items ++ looks call 0 stripes) }
 {
-    if has_end(kind) && first.is_some() {
-        Some(call)
-    } else {
-        None
+    let _types: Option<(Command, Op, Value, LoadAnswer)> = None;
+    for stripe in 0..stripes {
+        events.push(WorldEvent::Look { call, stripe })?;
+    }
+    Ok(())
+}
+
+/// The first phases of a call that has just begun: none, if it is over. Each of them fits when it comes.
+fn put_starts(
+    alloc: Global,
+    world: &World,
+    call: u64,
+    buffers: &mut LineBuffers,
+) -> Result<(), AllocError>
+    requires { (key : Bytes) → is_free world.now.world call key ≡ true }
+    ensures events { OnOk result (
+        buffers.new.events.items ≡ start_events world.now.world call (open_call world.now.world call)) }
+    ensures fit { AllFit world.now.world (start_events world.now.world call (open_call world.now.world call)) }
+{
+    world.lets_keys_go_together();
+    buffers.events.clear();
+    match world.open_call(call) {
+        None => Ok(()),
+        Some(open_call) => {
+            buffers.keys.clear();
+            open_call.put_keys_at_work(&mut buffers.keys)?;
+            put_key_events(
+                alloc,
+                world,
+                call,
+                &Act::More,
+                &buffers.keys,
+                &mut buffers.events,
+            )
+        }
     }
 }

@@ -1,11 +1,50 @@
-use Rattle.std.proofs.Common.{List, sym, subst}
+use Rattle.std.proofs.Common.{◌≡◌, ◌∙◌, ◌++◌, ℕ, List, Option, ap, refl, subst, sym, append_assoc}
+use Rattle.jc_world.specs.declared.ends.Over.{Over}
 use Rattle.jc_world.specs.declared.event.WorldEvent.{WorldEvent}
-use Rattle.jc_world.specs.Events.{AllFit}
-use Rattle.jc_script.proofs.Starting.{call_fits}
+use Rattle.jc_world.specs.Events.{AllFit, Run}
+use Rattle.jc_world.specs.Together.{opening_events}
+use Rattle.jc_script.specs.Transcript.{end_text, PlaysEvents}
 use Rattle.jc_script.proofs.player.beginning.begin.Goals as goal
 
-pub play_call-requires : goal.play_call-requires
-play_call-requires c =
+pub play-requires : goal.play-requires
+play-requires c =
+    let P : List WorldEvent → Type 0 = λ events. AllFit c.args.world.now.world events in
+    let these = c.in_ok-put_opening.ensures ∙ ap (opening_events c.args.number c.args.session c.args.command) c.stripes.ensures in
+    subst P (sym these) (c.lets_calls_begin.ensures.opening c.args.number c.args.session c.args.command c.requires)
+
+pub put_starts-requires : goal.put_starts-requires
+put_starts-requires c =
     let w = c.args.world.now.world in
-    let P : List WorldEvent → Type 0 = λ events. AllFit w events in
-    subst P (sym c.in_ok-put_begun.ensures) (call_fits w c.lets_calls_start.ensures c.lets_calls_continue.ensures c.args.number c.args.session c.args.command c.args.first c.requires.fits c.requires.first)
+    let mid = c.play.new.world.world in
+    let played = c.in_ok-play.ensures.1 in
+    let P : List WorldEvent → Type 0 = λ events. Run w events played.seen mid in
+    let these = c.in_ok-put_opening.ensures ∙ ap (opening_events c.args.number c.args.session c.args.command) c.stripes.ensures in
+    λ key. c.lets_calls_begin.ensures.free c.args.number c.args.session c.args.command played.seen mid key c.requires (subst P these played.runs)
+
+pub returns : goal.returns
+returns c =
+    let w = c.args.world.now.world in
+    let mid = c.play.new.world.world in
+    let after = c.play-2.new.world.world in
+    let first = c.in_ok-play.ensures in
+    let next = c.in_ok-play-2.ensures in
+    let before = c.args.out.now.items in
+    let end = end_text c.args.number after.ends.over in
+    let these = c.in_ok-put_opening.ensures ∙ ap (opening_events c.args.number c.args.session c.args.command) c.stripes.ensures in
+    let P : List WorldEvent → Type 0 = λ events. PlaysEvents w events first.0 mid in
+    let Q : List WorldEvent → Type 0 = λ events. PlaysEvents mid events next.0 after in (
+      first.0 ++ next.0 ++ end,
+      record {
+        opening = first.0;
+        begun = mid;
+        started = next.0;
+        after = after;
+        opens = subst P these first.1;
+        starts = subst Q c.in_ok-put_starts.ensures.events next.1;
+        text_is = refl;
+        new_is = refl;
+      },
+      c.in_ok-put_end.ensures ∙ ap (λ (over : Option Over). c.play-2.new.out.items ++ end_text c.args.number over) c.over.ensures
+          ∙ ap (λ (front : List ℕ). front ++ end) (next.2 ∙ ap (λ (front : List ℕ). front ++ next.0) first.2 ∙ append_assoc before first.0 next.0)
+          ∙ append_assoc before (first.0 ++ next.0) end,
+    )
