@@ -2,6 +2,9 @@
 //!
 //! Such a text has cases, with a line `==` between two of them. A case is a comment, which says the rule that it shows, a script,
 //! and after a line `--` the script's whole transcript.
+mod batches;
+mod bulk_calls;
+mod bulk_loads;
 mod callers;
 mod coherence;
 mod evictions;

@@ -14,7 +14,15 @@ begin 1 s1 get
 begin 1 s1 put a
 begin 1 s1 replaceif a 1
 begin 1 s1 replaceif a 1 2 3
-begin 1 s1 clear
+begin 1 s1 getall
+begin x y putall
+begin 1 s1 removeall
+begin 1 s1 removeall a  b
+begin 1 s1 removeevery a
+begin x y clear !
+begin 1 s1 clearall
+begin 1 s1 loadall keep a
+reopen 1 2 100
 readfail x
 readfail x 1 2
 apply 1 a
@@ -58,6 +66,7 @@ readfail 1 x
 readfail x y
 open 1 2 100x
 begin x y get !
+begin 01 s0 getall !
 drop x
 more 01
 take 1000000000
@@ -75,6 +84,8 @@ begin 1 s0 get !
 begin 1 s33 get a
 begin 1 s01 get a
 begin 1 t1 get a
+begin 1 s0 clear
+begin 1 s33 putall !
 ==
 bad key
 begin 1 s1 put ! !
@@ -85,9 +96,19 @@ say 1 a=1 !=!
 say 1 =1
 apply 1 but !
 applyfail 1 2 but a ! a
+begin 1 s1 getall a ! a
+begin 1 s1 getall a=1
+begin 1 s1 removeall ~
+begin 1 s1 putall !
+begin 1 s1 putall =1
+begin 1 s1 putall a=1 !=1 a=2
 ==
 repeated key
 begin 1 s1 invokeall a a !
+begin 1 s1 getall a a !
+begin 1 s1 removeall a b a
+begin 1 s1 putall a=1 a=!
+begin 1 s1 putall a=1 a
 apply 1 but a b a !
 applyfail 1 2 but a a
 ==
@@ -105,6 +126,11 @@ say 1 a=
 say 1 a
 say 1 a=-
 say 1 a=1=2
+begin 1 s1 putall a
+begin 1 s1 putall a= a=
+begin 1 s1 putall a=! a=1
+begin 1 s1 putall a=1 b=- b=1
+begin 1 s1 putall a=1=2
 ";
 
 #[test]
@@ -121,6 +147,7 @@ audit
 foreign a 1
 set a 1
 begin 1 s1 get a
+begin 1 s1 removeevery
 drop 1
 more 1
 take 1
@@ -142,16 +169,20 @@ open 1 1 65537
 set too late
 open 1 2 100; begin 1 s1 get a; set a 1
 open 1 2 100; foreign a -; set a 1
+open 1 2 100; begin 1 s1 clear; set a 1
 ==
 number not rising
 open 1 2 100; begin 1 s1 get a; begin 1 s2 get a
 open 1 2 100; begin 7 s1 get a; begin 0 s2 get a
+open 1 2 100; begin 7 s1 clear; begin 7 s1 clear
 open 1 2 100 read write; begin 1 s1 get a; begin 1 s1 get a
 ==
 caller busy
 open 1 2 100 read write; begin 1 s1 get a; begin 2 s1 get b
 open 1 2 100 read; begin 1 s1 get a; begin 2 s2 get a; begin 3 s2 get b
 open 1 2 100 read; begin 1 s1 get a; begin 2 s2 get a; drop 1; take 2; begin 3 s2 get b
+open 1 2 100 read; begin 1 s1 getall a b; begin 2 s1 clear
+open 1 2 100 write; begin 1 s1 put a 1; begin 2 s2 putall a=2; begin 3 s2 clear
 ==
 no such call
 open 1 2 100; read 1
@@ -163,6 +194,10 @@ open 1 2 100; begin 1 s1 get a; drop 1
 open 1 2 100 read; begin 1 s1 get a; drop 1; more 1
 open 1 2 100 read; begin 1 s1 get a; begin 2 s2 get a; read 1; end 1; take 2; take 2
 open 1 2 100 read; begin 1 s1 get a; begin 2 s2 get a; drop 1; take 2; drop 2; more 2
+open 1 2 100; begin 1 s1 getall a b; take 1
+open 1 2 100; begin 1 s1 removeevery; more 1
+open 1 2 100; begin 1 s1 clear; end 1
+open 1 2 100 read; begin 1 s1 getall a b; drop 1; read 1
 ";
 
 #[test]
@@ -211,9 +246,50 @@ open 1 2 100 read write; begin 1 s1 put a 1; process 1
 open 1 2 100 read write; begin 1 s1 put a 1; apply 1 but a
 open 1 2 100 read write; begin 1 s1 put a 1; applyfail 1 2 but
 open 1 2 100 write; begin 1 s1 invokeall a; process 1 set=1; apply 1 but a
+open 1 2 100 write; begin 1 s1 invokeall a; process 1 set=1; applyfail 1 2 but
 ";
 
 #[test]
 fn tells_what_a_call_does_not_wait_for(rt: HostRuntime) {
     all_end_with_faults(&rt, rt.alloc(), TOO_EARLY);
+}
+
+const BULK_TOO_EARLY: &str = "\
+not now
+open 1 2 100 read; begin 1 s1 getall a b; more 1
+open 1 2 100 read; begin 1 s1 getall a b; take 1
+open 1 2 100 read; begin 1 s1 getall a b; end 1
+open 1 2 100 read; begin 1 s1 getall a b; process 1
+open 1 2 100 read; begin 1 s1 getall a b; apply 1
+open 1 2 100 read; begin 1 s1 getall a b; apply 1 but a
+open 1 2 100 read; begin 1 s1 getall a b; read 1; read 1
+open 1 2 100 read; begin 1 s1 getall a b; say 1 a=1; readfail 1 2
+open 1 2 100 read; begin 1 s1 getall a b; read 1; drop 1
+open 1 2 100 read; begin 1 s1 getall a b; readfail 1 2; drop 1
+open 1 2 100 write; begin 1 s1 putall a=1 b=2; read 1
+open 1 2 100 write; begin 1 s1 putall a=1 b=2; end 1
+open 1 2 100 write; begin 1 s1 putall a=1 b=2; apply 1 but a; apply 1
+open 1 2 100 write; begin 1 s1 putall a=1 b=2; applyfail 1 2; applylie 1 2
+open 1 2 100 write; begin 1 s1 putall a=1 b=2; applylie 1 2; applyfail 1 3 but
+open 1 2 100 write; begin 1 s1 removeall a b; applyfail 1 2; drop 1
+open 1 2 100 write; begin 1 s1 removeall a b; apply 1 but a b; drop 1
+open 1 2 100 write; begin 1 s1 put a 1; begin 2 s2 putall a=2 b=2; more 2
+open 1 2 100 write; begin 1 s1 put a 1; begin 2 s2 putall a=2; apply 2
+open 1 2 100 write; begin 1 s1 put a 1; begin 2 s2 putall a=2; end 2
+open 1 2 100 write; begin 1 s1 put a 1; begin 2 s2 putall a=2; take 2
+open 1 2 100 write; begin 1 s1 put a 1; begin 2 s2 removeall a b; apply 2 but b; more 2
+open 1 2 100 read; begin 1 s1 get a; begin 2 s2 getall a b; take 2
+open 1 2 100 read; begin 1 s1 get a; begin 2 s2 getall a b; drop 2
+open 1 2 100 read; begin 1 s1 get a; begin 2 s2 getall a; read 2
+open 1 2 100 read; begin 1 s1 get a; begin 2 s2 getall a; end 2
+open 1 2 100 read; begin 1 s1 get a; begin 2 s2 getall a; more 2
+open 1 2 100 read; begin 1 s1 getall a b; begin 2 s2 getall b; drop 1; drop 2
+open 1 2 100 read write; begin 1 s1 get a; begin 2 s2 put b 1; begin 3 s3 getall a b; more 3
+open 1 2 100 read write; begin 1 s1 get a; begin 2 s2 put b 1; begin 3 s3 getall a b; drop 3
+open 1 2 100 read write; begin 1 s1 get a; begin 2 s2 getall a b; read 2; end 2; drop 1; more 2
+";
+
+#[test]
+fn tells_what_a_bulk_call_does_not_wait_for(rt: HostRuntime) {
+    all_end_with_faults(&rt, rt.alloc(), BULK_TOO_EARLY);
 }
