@@ -8,6 +8,8 @@ KIND  plain     one stripe, nobody asked outside: get and put on few keys. The h
       stripes   all eleven operations over 64 stripes, with read-through and write-through
       mixed     16 stripes of 4,096 entries, nobody asked outside: four gets to a put, of 10,000 keys
       joins     64 stripes with read-through: one get of a key loads, and 15 others join it and take its answer
+      bulk      64 stripes, read-through and write-through: getall, putall and removeall of up to 1,024 keys, four calls
+                under way at once; now and then a removeevery or a clear
       hits16, hits4096
                 one stripe, nobody asked outside: gets of random keys among so many entries, which are all there
       evictions16, evictions4096
@@ -246,6 +248,86 @@ def joins(size):
     return script.text()
 
 
+class Bulk(Script):
+    """Calls of many keys, with both options on. No key is reserved twice at once, so none is put off."""
+
+    EACH = 32  # keys of a stripe: its reservations at once are no more
+
+    def start(self, session, op, keys):
+        """The first phases. Answers the call's number, whether it writes, the asked keys, and what they would become."""
+        self.call += 1
+        values = [self.value(8) if op == 'putall' else None for _ in keys]
+        words = [key if value is None else f'{key}={value}' for key, value in zip(keys, values)]
+        if op in ('removeevery', 'clear'):
+            words = []
+        self.put(' '.join(['begin', str(self.call), f's{session}', op] + words))
+        asked = []
+        for key, value in zip(keys, values):
+            if op == 'clear' or op == 'getall' and key in self.cache:
+                self.step(key, None if op == 'clear' else self.cache[key])
+            else:
+                asked.append((key, value))
+        return self.call, op != 'getall', asked
+
+    def reply(self, begun):
+        """What is said outside, if anybody is asked. Answers what the keys become."""
+        call, writes, asked = begun
+        if not asked:
+            return []
+        fails = self.numbers.below(8) == 0
+        if not writes:
+            self.put(f'readfail {call} 7' if fails else f'read {call}')
+            return [(key, None if fails else self.store.get(key)) for key, _ in asked]
+        left = {asked[self.numbers.below(len(asked))][0] for _ in range(4)} if fails else set()
+        # a writer that leaves some keys fails, or returns as if it hadn't
+        how = [f'apply {call}', f'applyfail {call} 9'][self.numbers.below(2)] if fails else f'apply {call}'
+        self.put(' '.join([how] + (['but'] + sorted(left) if left else [])))
+        for key, value in asked:
+            if key not in left:
+                self.keep(self.store, key, value)
+        return [(key, self.cache.get(key) if key in left else value) for key, value in asked]
+
+    def commit(self, begun, becomes):
+        if becomes:
+            self.put(f'end {begun[0]}')
+        for key, value in becomes:
+            self.step(key, value)
+
+    def round(self, calls):
+        begun = [self.start(i + 1, op, keys) for i, (op, keys) in enumerate(calls)]
+        becomes = [self.reply(b) for b in begun]
+        for b, values in zip(begun, becomes):
+            self.commit(b, values)
+        assert max(self.steps.values()) + 3 * self.EACH <= self.history, 'a history could be full'
+
+
+def bulk(size):
+    script = Bulk(size)
+    script.open(64, 64, 16384, ' read write')
+    below = script.numbers.below
+    keys = keys_of(64, script.EACH, 8)
+    keys = [keys[i * 997 % len(keys)] for i in range(len(keys))]
+    for key in keys[::2]:
+        value = script.value(8)
+        script.put(f'set {key} {value}')
+        script.store[key] = value
+    operations = ('getall', 'getall', 'getall', 'putall', 'putall', 'removeall')
+    lengths = (1024, 512, 256, 1), (1024, 64, 128, 16), (700, 300, 500, 33), (2, 1000, 4, 512)
+    rounds = 0
+    while not script.is_full():
+        rounds += 1
+        if rounds % 16 == 0:
+            every = sorted(script.cache, key=lambda key: (sum(key.encode()) % 64, key))
+            script.round([(('removeevery', 'clear')[rounds // 16 % 2], every)])
+            continue
+        first, calls = below(len(keys)), []
+        for length in lengths[below(len(lengths))]:
+            calls.append((operations[below(len(operations))], [keys[(first + i) % len(keys)] for i in range(length)]))
+            first += length
+        script.round(calls)
+    return script.text()
+
+
 def filled(entries):
     """One stripe that is full of so many entries."""
     script = Script(2)
@@ -279,6 +361,7 @@ KINDS = {
     'stripes': stripes,
     'mixed': mixed,
     'joins': joins,
+    'bulk': bulk,
     'hits16': lambda size: hits(16, size),
     'hits4096': lambda size: hits(4096, size),
     'evictions16': lambda size: evictions(16, size),
