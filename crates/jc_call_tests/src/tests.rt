@@ -9,6 +9,8 @@ ghost use Rattle.jc_cache.specs.Sessions.{MayCall};
 mod answers;
 mod asking;
 mod asking_all;
+mod bulk;
+mod bulk_lines;
 mod bytes;
 mod calls;
 mod clearing;
@@ -83,7 +85,12 @@ struct Desk {
 impl Desk {
     fn new(rt: &impl Abort, alloc: Global) -> Self {
         let entries = [(key(rt, "a"), value(rt, "1"))];
-        let store = Store::of(alloc, &entries).expect(rt, "memory");
+        Desk::of(rt, alloc, &entries)
+    }
+
+    /// A desk whose store has these entries.
+    fn of(rt: &impl Abort, alloc: Global, entries: &[(Key, Value)]) -> Self {
+        let store = Store::of(alloc, entries).expect(rt, "memory");
         Desk {
             store: SharedStore::new(alloc, store).expect(rt, "memory"),
             counts: SharedCounts::new(alloc).expect(rt, "memory"),

@@ -41,6 +41,8 @@ pub fn answer_of(rt: &impl Abort, text: &str) -> Answer {
         "WriterFailed" => Err(Refusal::WriterFailed(code(rt, rest))),
         "ProcessorFailed" => Err(Refusal::ProcessorFailed(code(rt, rest))),
         "HistoryFull" => Err(Refusal::HistoryFull),
+        "OutOfMemory" => Err(Refusal::OutOfMemory),
+        "TooManyKeys" => Err(Refusal::TooManyKeys),
         _ => Ok(Reply::Value(Some(value(rt, word)))),
     }
 }
