@@ -6,16 +6,13 @@ use Rattle.std.specs.Map.{keys_of, lookup}
 use Rattle.std.proofs.lemmas.List.{take_more}
 use Rattle.std.proofs.lemmas.List.Elements.{filter_map-append}
 use Rattle.std.proofs.lemmas.Map.Made.{is_some-lookup}
+use Rattle.jc_types.proofs.CallerLemmas.{none_from}
 use Rattle.jc_model.specs.Cache.{Bytes}
 
 pub filter_map_more : {X Y : Type 0} (h : X → Option Y) (xs : List X) (i : ℕ) (x : X) → i < length xs → x ≡ get_or xs i x
     → filter_map h (take (i + 1) xs) ≡ filter_map h (take i xs) ++ cons_option (h x) []
 filter_map_more h xs i x lt is =
     ap (filter_map h) (take_more xs i x lt ∙ ap (λ y. take i xs ++ y ∷ []) (sym is)) ∙ filter_map-append h (take i xs) (x ∷ [])
-
-none_from : {X : Type 0} (o : Option X) → is_some o ≡ false → o ≡ None
-none_from None e = refl
-none_from (Some x) e = absurd (true≢false e)
 
 -- a key that no entry has is found by no look-up
 pub absent_from : {X : Type 0} (test : Bytes → Bool) (es : List (Bytes × X)) → list_any test (keys_of es) ≡ false → lookup test es ≡ None

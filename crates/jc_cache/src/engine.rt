@@ -2,7 +2,7 @@
 ghost use Rattle.std.specs.Prelude.{◌≡◌, ℕ, true, false, None, IsSome, if◌then◌else◌};
 ghost use Rattle.jc_outside.specs.declared.done.Origin.TheVariants.{Live};
 ghost use Rattle.jc_mutentry.specs.Done.{effect_change};
-ghost use Rattle.jc_stripe.specs.Effects.{HasReport, write_answer};
+ghost use Rattle.jc_stripe.specs.Effects.{HasReport, report_answer};
 ghost use Rattle.jc_stripe.specs.State.{State, IsIdle};
 ghost use Rattle.jc_model.specs.Table.{is_invoke, process_ask};
 ghost use Rattle.jc_stripe.specs.Phases.{MayBegin};
@@ -143,7 +143,7 @@ fn write_effect<R: Wait>(
     ensures writer { AsksWriter (boxed writes) (boxed write_state)
         session.old.hands.outside.writer ticket.old.reservation.key
         (if write_through then process_ask done.now.process else None)
-        (write_answer result) session.new.hands.outside.writer }
+        (report_answer result) session.new.hands.outside.writer }
     ensures ticket { ticket.new.reservation ≡ ticket.old.reservation }
     ensures loader { session.new.hands.outside.loader ≡ session.old.hands.outside.loader }
     ensures held { session.new.hands.held ≡ 0 }

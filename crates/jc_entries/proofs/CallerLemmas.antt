@@ -12,6 +12,7 @@ use Rattle.std.proofs.lemmas.Cmp.{nat_list_cmp_total}
 use Rattle.std.proofs.lemmas.Bool.{not-true, not-false, or_left, or_right}
 use Rattle.std.proofs.lemmas.List.{reverse-append}
 use Rattle.std.proofs.lemmas.List.Sorted.{list_any-IsPermutation, IsPermutation-map, IsPermutation-reverse}
+use Rattle.jc_types.proofs.CallerLemmas.{found_test}
 use Rattle.jc_model.specs.declared.event.Cause.TheVariants.{Full, Memory}
 use Rattle.jc_model.specs.Cache.{Bytes, key_cmp}
 use Rattle.jc_model.specs.Listed.{others, with_entry_first}
@@ -76,14 +77,6 @@ pub lru_victim-found : (entries : List (Bytes × Bytes)) (pinned : List Bytes) (
 lru_victim-found entries pinned key h =
     is_some-find key_cmp key entries ∙ sym (any_key (eq_by_cmp key_cmp key) entries)
     ∙ found_passes _ (eq_by_cmp key_cmp key) (keys_of (reverse entries)) key h ((eq_by_cmp_equiv nat_list_cmp_total).refl key)
-
-found_is : (b : Bool) (k key : Bytes) (o : Option Bytes) (p : Bytes → Bool) → p k ≡ b → cond b (Some k) o ≡ Some key → (o ≡ Some key → p key ≡ true) → p key ≡ true
-found_is true k key o p t h later = let same : k ≡ key = cc in ap p (sym same) ∙ t
-found_is false k key o p t h later = later h
-
-found_test : (p : Bytes → Bool) (keys : List Bytes) (key : Bytes) → find p keys ≡ Some key → p key ≡ true
-found_test p [] key h = cc
-found_test p (k ∷ ks) key h = found_is (p k) k key (find p ks) p refl h (found_test p ks key)
 
 -- it isn't pinned
 pub lru_victim-unpinned : (entries : List (Bytes × Bytes)) (pinned : List Bytes) (key : Bytes) → lru_victim entries pinned ≡ Some key → is_pinned pinned key ≡ false

@@ -4,6 +4,7 @@ use Rattle.std.specs.Option.{option_map_or}
 use Rattle.std.specs.Ordering.{eq_by_cmp}
 use Rattle.std.specs.FinMap as finite
 use Rattle.std.proofs.lemmas.Bool.{ltb-true, lt-ltb, or_parts, or_right}
+use Rattle.jc_types.proofs.CallerLemmas.{none_from}
 use Rattle.jc_model.specs.Cache.{Bytes, key_cmp}
 use Rattle.jc_model.specs.Listed.{others}
 use Rattle.jc_model.proofs.CallerLemmas.{find-others, distinct-others, distinct-first}
@@ -13,13 +14,9 @@ use Rattle.jc_entries.proofs.CallerLemmas.{length-others, length-others_found, o
 
 -- 1. Room.
 
-is_none_then : (o : Option Bytes) → is_some o ≡ false → o ≡ None
-is_none_then None h = refl
-is_none_then (Some x) h = cc
-
 -- what has no room is new
 pub no_room-new : (entries : ByUse) (key : Bytes) → has_room_for key entries ≡ false → finite.find key_cmp key entries.list ≡ None
-no_room-new entries key h = is_none_then _ (or_parts _ _ h).0
+no_room-new entries key h = none_from _ (or_parts _ _ h).0
 
 -- with the victim gone there is room
 pub has_room_for-eviction : (entries : ByUse) (key victim : Bytes) → IsValidByUse entries → is_some (finite.find key_cmp victim entries.list) ≡ true

@@ -3,7 +3,7 @@
 --     InsertsInRoom           the entry is the first, and nobody was evicted
 --     InsertsAfterEviction    the entry is the first, and the victim was evicted for it
 --     FindsAllPinned          there was no room, and no entry could be evicted: nothing has changed
---     FindsNoMemory           a new entry found no memory: the victim was evicted, if there was no room, and nothing else has changed
+--     FindsNoMemory           an allocation for a new entry failed: the victim was evicted, if there was no room, and nothing else has changed
 --     Inserts                 the case that an answer stands for
 use Rattle.std.specs.Prelude.{◌≡◌, ◌||◌, nat_lt, Bool, true, false, Option, None, Some, IsSome, is_some, List, ◌∷◌, length, if◌then◌else◌}
 use Rattle.std.specs.FinMap as finite
@@ -36,7 +36,7 @@ pub record FindsAllPinned (old new : ByUse) (key : Bytes) (pinned : List Bytes) 
   pub nobody : evicted ≡ None
   pub after : new ≡ old
 
--- a new entry found no memory: the victim was evicted, if there was no room, and nothing else has changed
+-- an allocation for a new entry failed: the victim was evicted, if there was no room, and nothing else has changed
 pub record FindsNoMemory (old new : ByUse) (key : Bytes) (pinned : List Bytes) (evicted : Option Bytes) : Type 0 where
   pub is_new : finite.find key_cmp key old.list ≡ None
   pub victim_is : evicted ≡ (if has_room_for key old then None else lru_victim old.list pinned)

@@ -2,7 +2,7 @@
 //!
 //! JSR 107 leaves eviction to the provider. Here the least recently used entry is evicted, unless its
 //! key is pinned, as is the key of a call that is asking the loader or the writer.
-ghost use Rattle.std.specs.Prelude.{◌≡◌, ◌+◌, ◌<◌, ◌≤◌, ◌↔◌, [], ◌∷◌, ◌++◌, length, true, is_some, IsOk, IsTrue, IfOk, OnOk};
+ghost use Rattle.std.specs.Prelude.{◌≡◌, ◌+◌, ◌<◌, ◌≤◌, [], ◌∷◌, ◌++◌, length, true, is_some, IsOk, IfOk, OnOk};
 ghost use Rattle.std.specs.Prelude.{OnErr, vec_len, vec_capacity};
 ghost use Rattle.std.specs.Map.{keys_of};
 ghost use Rattle.std.specs.FinMap as finite;
@@ -150,7 +150,7 @@ impl Entries {
 
     /// Appends the entries, the most recently used first.
     ///
-    /// An `Err` says that there was no memory for them, and `out` is as it was. It doesn't come if `out`
+    /// An `Err` says that an allocation failed, and `out` is as it was. It doesn't come if `out`
     /// has room for them all.
     pub fn append_to(&self, out: &mut Vec<(Key, Value)>) -> Result<(), AllocError>
         ensures ok { OnOk result (out.new.items ≡ out.old.items ++ self.now.list) }
@@ -167,18 +167,11 @@ impl Entries {
     }
 
     /// How many entries there are, at most [`capacity`](Entries::capacity).
-    pub fn len(&self) -> usize
+    fn len(&self) -> usize
         ensures len { result ≡ length self.now.list }
         ensures valid { IsValidByUse self.now }
     {
         self.cache.len()
-    }
-
-    /// Whether there is no entry.
-    pub fn is_empty(&self) -> bool
-        ensures { IsTrue result ↔ (self.now.list ≡ []) }
-    {
-        self.len() == 0
     }
 
     /// How many entries may be kept, from 1 to [`CAPACITY_MAX`].
@@ -198,8 +191,8 @@ impl Entries {
         has_room || self.peek(key).is_some()
     }
 
-    /// Gives the key this value, and makes its entry the most recently used. If it had no entry, there
-    /// may be no memory for one, and nothing changes.
+    /// Gives the key this value, and makes its entry the most recently used. If it had no entry, the
+    /// allocation for one may fail, and nothing changes.
     fn put_first(&mut self, key: &Key, value: &Value) -> Result<(), AllocError>
         requires room { has_room_for key.now self.old ≡ true }
         ensures ok { OnOk result (self.new ≡ record self.old { list = (key.now, value.now) ∷ others key.now self.old.list }) }

@@ -127,29 +127,6 @@ impl History {
         self.starts.len()
     }
 
-    /// Whether there is no event yet.
-    pub fn is_empty(&self) -> bool
-        ensures { IsTrue result ↔ (self.now.events ≡ []) }
-    {
-        self.starts.is_empty()
-    }
-
-    /// How many places are promised and not used or given back.
-    pub fn promised(&self) -> usize
-        ensures promised { result ≡ self.now.promised }
-        ensures within { IsWithinLimit self.now }
-    {
-        self.promised
-    }
-
-    /// How many events there may be, at most [`HISTORY_MAX`].
-    pub fn limit(&self) -> usize
-        ensures limit { result ≡ self.now.limit }
-        ensures within { IsWithinLimit self.now }
-    {
-        self.limit
-    }
-
     /// The event at a place, as it was pushed. The earliest is at 0.
     pub fn event(&self, place: usize) -> Event
         requires { place < length self.now.events }

@@ -1,5 +1,5 @@
 -- Lemmas for the crates above.
-use Rattle.std.proofs.Common.{◌≡◌, ℕ, suc, ◌+◌, ◌<◌, ◌==◌, ◌&&◌, ◌++◌, List, [], ◌∷◌, Bool, true, false, cond, not, length, get_or, take, map, filter, find, ◌||◌, append-nil, count_by, Some, None, is_some, refl, ap, sym, ◌∙◌, arith}
+use Rattle.std.proofs.Common.{◌≡◌, ℕ, suc, ◌+◌, ◌<◌, ◌==◌, ◌&&◌, ◌++◌, List, [], ◌∷◌, Bool, true, false, cond, not, length, get_or, take, map, filter, find, append-nil, count_by, Some, None, refl, ap, sym, ◌∙◌, arith}
 use Rattle.std.proofs.lemmas.List.{length-map, map-append}
 use Rattle.std.proofs.lemmas.List.Elements.{filter_more}
 use Rattle.std.proofs.lemmas.List.Sums.{length-filter, sum_by-cons}
@@ -13,11 +13,11 @@ use Rattle.jc_model.specs.Cache.{Bytes}
 use Rattle.jc_inflight.specs.declared.joiner.Joiner.{Joiner}
 use Rattle.jc_inflight.specs.declared.joiner.JoinState.{JoinState}
 use Rattle.jc_inflight.specs.declared.joiner.JoinState.TheVariants.{Again}
-use Rattle.jc_inflight.specs.Joining.{belongs_to, has_joined, is_waiting, waits, waits_for, callers_of}
+use Rattle.jc_inflight.specs.Joining.{belongs_to, is_waiting, waits, waits_for, callers_of}
 use Rattle.jc_inflight.specs.Resolving.{with_answer, answered_from}
 use Rattle.jc_inflight.specs.Dissolving.{told_to_retry, after_dissolve}
 use Rattle.jc_inflight.specs.IsJoinerList.{IsJoinerList}
-use Rattle.jc_inflight.specs.Taking.{state_of, without_joiner, after_take, is_over}
+use Rattle.jc_inflight.specs.Taking.{join_state_of, without_joiner, after_take, is_over}
 
 -- 1. The end of a load changes no caller and no key.
 
@@ -92,32 +92,23 @@ belongs_to_one caller key j later differ h =
     let same = belongs_to_same caller key j h in
     (λ i. belongs_to (sym same.0 i) (sym same.1 i) later) ∙ differ
 
--- it learns something exactly if it has joined
-pub is_some_state_of : (caller : Caller) (key : Bytes) (joiners : List Joiner) → is_some (state_of caller key joiners) ≡ has_joined caller key joiners
-is_some_state_of caller key [] = refl
-is_some_state_of caller key (j ∷ js) =
-    elim (belongs_to caller key j) as (λ b. is_some (option_map (λ x. x.state) (cond b (Some j) (find (belongs_to caller key) js))) ≡ (b || has_joined caller key js)) [
-      | true ↦ refl
-      | false ↦ is_some_state_of caller key js
-    ]
-
 -- its joiner goes if the load is over, and else the table stays
-pub after_take_over : (caller : Caller) (key : Bytes) (joiners : List Joiner) (state : JoinState) → state_of caller key joiners ≡ Some state → is_waiting state ≡ false
+pub after_take_over : (caller : Caller) (key : Bytes) (joiners : List Joiner) (state : JoinState) → join_state_of caller key joiners ≡ Some state → is_waiting state ≡ false
     → after_take caller key joiners ≡ without_joiner caller key joiners
 after_take_over caller key joiners state is over =
     ap (λ o. cond (is_over o) (without_joiner caller key joiners) joiners) is ∙ ap (λ b. cond (not b) (without_joiner caller key joiners) joiners) over
 
-pub after_take_waiting : (caller : Caller) (key : Bytes) (joiners : List Joiner) (state : JoinState) → state_of caller key joiners ≡ Some state → is_waiting state ≡ true
+pub after_take_waiting : (caller : Caller) (key : Bytes) (joiners : List Joiner) (state : JoinState) → join_state_of caller key joiners ≡ Some state → is_waiting state ≡ true
     → after_take caller key joiners ≡ joiners
 after_take_waiting caller key joiners state is waiting =
     ap (λ o. cond (is_over o) (without_joiner caller key joiners) joiners) is ∙ ap (λ b. cond (not b) (without_joiner caller key joiners) joiners) waiting
 
-pub after_take_nobody : (caller : Caller) (key : Bytes) (joiners : List Joiner) → state_of caller key joiners ≡ None → after_take caller key joiners ≡ joiners
+pub after_take_nobody : (caller : Caller) (key : Bytes) (joiners : List Joiner) → join_state_of caller key joiners ≡ None → after_take caller key joiners ≡ joiners
 after_take_nobody caller key joiners is = ap (λ o. cond (is_over o) (without_joiner caller key joiners) joiners) is
 
 -- 4. How many joiners still wait, for any load.
 
-count-cons : (p : Joiner → Bool) (j : Joiner) (js : List Joiner) → count_by p (j ∷ js) ≡ cond (p j) 1 0 + count_by p js
+pub count-cons : (p : Joiner → Bool) (j : Joiner) (js : List Joiner) → count_by p (j ∷ js) ≡ cond (p j) 1 0 + count_by p js
 count-cons p j js = sum_by-cons (λ x. cond (p x) 1 0) j js
 
 waits-from_waits_for : (load : ℕ) (j : Joiner) → waits_for load j ≡ true → waits j ≡ true
@@ -153,7 +144,7 @@ waiting-after_dissolve load (j ∷ js) =
 
 -- a joiner that is taken out didn't wait
 waiting-without : (caller : Caller) (key : Bytes) (joiners : List Joiner) (state : JoinState) → AllPairs (λ j later. belongs_to j.caller j.key later ≡ false) joiners
-    → state_of caller key joiners ≡ Some state → is_waiting state ≡ false → count_by waits (without_joiner caller key joiners) ≡ count_by waits joiners
+    → join_state_of caller key joiners ≡ Some state → is_waiting state ≡ false → count_by waits (without_joiner caller key joiners) ≡ count_by waits joiners
 waiting-without caller key [] state once h over = cc
 waiting-without caller key (j ∷ js) state once h over =
     let p = belongs_to caller key in
@@ -169,7 +160,7 @@ waiting-without caller key (j ∷ js) state once h over =
 
 pub waiting-after_take : (caller : Caller) (key : Bytes) (joiners : List Joiner) → IsJoinerList joiners → count_by waits (after_take caller key joiners) ≡ count_by waits joiners
 waiting-after_take caller key joiners is =
-    elim (state_of caller key joiners) as (λ o. state_of caller key joiners ≡ o → count_by waits (cond (is_over o) (without_joiner caller key joiners) joiners) ≡ count_by waits joiners) [
+    elim (join_state_of caller key joiners) as (λ o. join_state_of caller key joiners ≡ o → count_by waits (cond (is_over o) (without_joiner caller key joiners) joiners) ≡ count_by waits joiners) [
       | None ↦ λ h. refl
       | Some state ↦ λ h.
           elim (is_waiting state) as (λ b. is_waiting state ≡ b → count_by waits (cond (not b) (without_joiner caller key joiners) joiners) ≡ count_by waits joiners) [

@@ -15,7 +15,7 @@ use Rattle.jc_model.specs.Cache.{Bytes}
 use Rattle.jc_inflight.specs.declared.joiner.Joiner.{Joiner}
 use Rattle.jc_inflight.specs.declared.joiner.JoinState.TheVariants.{Waiting}
 use Rattle.jc_inflight.specs.Joining.{belongs_to, has_joined, with_joiner}
-use Rattle.jc_inflight.specs.Taking.{state_of, without_joiner}
+use Rattle.jc_inflight.specs.Taking.{join_state_of, without_joiner}
 use Rattle.jc_inflight.specs.IsJoinerList.{IsJoinerList}
 use Rattle.jc_types.proofs.CallerLemmas.{find_at_place, find_nowhere, remove_at_place}
 use Rattle.jc_inflight.proofs.CallerLemmas.{call_of, belongs_to_one}
@@ -75,7 +75,7 @@ IsJoinerList-without caller key joiners is =
 
 -- the joiner at a caller's place, and the joiners without it
 pub state_at_place : (caller : Caller) (key : Bytes) (joiners : List Joiner) (i : ℕ) (j : Joiner) → position (belongs_to caller key) joiners ≡ Some i → j ≡ get_or joiners i j
-    → state_of caller key joiners ≡ Some j.state
+    → join_state_of caller key joiners ≡ Some j.state
 state_at_place caller key joiners i j at is = ap (option_map (λ x. x.state)) (find_at_place (belongs_to caller key) joiners i j at is)
 
 pub remove_joiner : (caller : Caller) (key : Bytes) (joiners : List Joiner) (i : ℕ) → IsJoinerList joiners → position (belongs_to caller key) joiners ≡ Some i
@@ -84,5 +84,5 @@ remove_joiner caller key joiners i is at =
     remove_at_place (belongs_to caller key) joiners i at (λ a b d lt within. belongs_to_one caller key (get_or joiners a d) (get_or joiners b d) (is.once a b d lt within))
 
 -- a call with no place has no joiner
-pub state_nowhere : (caller : Caller) (key : Bytes) (joiners : List Joiner) → position (belongs_to caller key) joiners ≡ None → state_of caller key joiners ≡ None
+pub state_nowhere : (caller : Caller) (key : Bytes) (joiners : List Joiner) → position (belongs_to caller key) joiners ≡ None → join_state_of caller key joiners ≡ None
 state_nowhere caller key joiners none = ap (option_map (λ x. x.state)) (find_nowhere (belongs_to caller key) joiners none)

@@ -1,5 +1,5 @@
 -- What a call learns that asks for its answer, and what that leaves.
---     state_of           how far the load is that the caller has joined at the key, if it has
+--     join_state_of      how far the load is that the caller has joined at the key, if it has
 --     is_over            whether there is such a load, and it is over
 --     without_joiner     the joiners of the other callers and keys
 --     after_take         the joiners after the call has asked: without its joiner if the load is over
@@ -10,8 +10,8 @@ use Rattle.jc_inflight.specs.declared.joiner.Joiner.{Joiner}
 use Rattle.jc_inflight.specs.declared.joiner.JoinState.{JoinState}
 use Rattle.jc_inflight.specs.Joining.{belongs_to, is_waiting}
 
-abbrev pub state_of : Caller → Bytes → List Joiner → Option JoinState
-state_of caller key joiners = option_map (λ j. j.state) (find (belongs_to caller key) joiners)
+abbrev pub join_state_of : Caller → Bytes → List Joiner → Option JoinState
+join_state_of caller key joiners = option_map (λ j. j.state) (find (belongs_to caller key) joiners)
 
 abbrev pub is_over : Option JoinState → Bool
 is_over None = false
@@ -21,4 +21,4 @@ abbrev pub without_joiner : Caller → Bytes → List Joiner → List Joiner
 without_joiner caller key joiners = filter (λ j. not (belongs_to caller key j)) joiners
 
 abbrev pub after_take : Caller → Bytes → List Joiner → List Joiner
-after_take caller key joiners = if is_over (state_of caller key joiners) then without_joiner caller key joiners else joiners
+after_take caller key joiners = if is_over (join_state_of caller key joiners) then without_joiner caller key joiners else joiners

@@ -1,11 +1,11 @@
 //! The joiners of a stripe's loads.
-ghost use Rattle.std.specs.Prelude.{◌≡◌, ◌↔◌, ◌<◌, ◌≤◌, ◌+◌, ◌^◌, [], IsTrue, count_by, length, position, false};
+ghost use Rattle.std.specs.Prelude.{◌≡◌, ◌↔◌, ◌<◌, ◌≤◌, ◌+◌, ◌^◌, [], IsTrue, count_by, length, nat_le, position, false};
 ghost use Rattle.std.specs.Bool.{OnTrue, OnFalse};
 ghost use Rattle.jc_types.specs.declared.limits.TheConstants.{JOINERS_MAX};
 ghost use Rattle.jc_inflight.specs.Joining.{belongs_to, has_joined, waits_for, with_joiner};
 ghost use Rattle.jc_inflight.specs.Resolving.{after_resolve};
 ghost use Rattle.jc_inflight.specs.Dissolving.{after_dissolve};
-ghost use Rattle.jc_inflight.specs.Taking.{state_of, after_take};
+ghost use Rattle.jc_inflight.specs.Taking.{join_state_of, after_take};
 ghost use Rattle.jc_inflight.specs.IsJoinerList.{IsJoinerList};
 
 use crate::{JoinState, Joiner};
@@ -47,7 +47,7 @@ impl Joiners {
 
     /// Has a call join the load of its key, to wait for its end. The load is named by the number of its reservation.
     ///
-    /// Conditions: the caller has no joiner of this key.
+    /// Conditions: the caller has no joiner of this key in [`list`](Joiners::list).
     ///
     /// A `false`, if there are [`JOINERS_MAX`] joiners, leaves the table as it was.
     pub fn join(&mut self, caller: Caller, key: &Key, load: u64) -> bool
@@ -103,7 +103,7 @@ impl Joiners {
     /// A `None`, if the call hasn't joined or has taken its answer, leaves the table as it was. So does
     /// [`JoinState::Waiting`].
     pub fn take(&mut self, caller: Caller, key: &Key) -> Option<JoinState>
-        ensures state { result ≡ state_of caller key.now self.old }
+        ensures state { result ≡ join_state_of caller key.now self.old }
         ensures left { self.new ≡ after_take caller key.now self.old }
     {
         let place = place_of(&self.joiners, caller, key)?;
@@ -114,28 +114,12 @@ impl Joiners {
         Some(state)
     }
 
-    /// Whether a call has joined a load of the key and hasn't taken its answer.
-    pub fn has_joined(&self, caller: Caller, key: &Key) -> bool
-        ensures joined { result ≡ has_joined caller key.now self.now }
-        ensures list { IsJoinerList self.now }
-    {
-        self.joiners.iter().any(|j| j.belongs_to(caller, key))
-    }
-
     /// The joiners in the order of joining, which is the order in which [`Joiners::resolve`] gives out its places.
     pub fn list(&self) -> &[Joiner]
         ensures joiners { result.now ≡ self.now }
         ensures list { IsJoinerList self.now }
     {
         &self.joiners
-    }
-
-    /// How many joiners there are, at most [`JOINERS_MAX`].
-    pub fn len(&self) -> usize
-        ensures len { result ≡ length self.now }
-        ensures list { IsJoinerList self.now }
-    {
-        self.joiners.len()
     }
 
     /// Whether nobody has joined.
@@ -147,7 +131,7 @@ impl Joiners {
 
     /// Whether there are [`JOINERS_MAX`] joiners, so that no further call can join.
     pub fn is_full(&self) -> bool
-        ensures { IsTrue result ↔ (length self.now ≡ JOINERS_MAX) }
+        ensures { result ≡ nat_le JOINERS_MAX (length self.now) }
     {
         self.joiners.is_full()
     }

@@ -1,7 +1,7 @@
 -- What a reader accepts is what can be read.
 use Rattle.std.proofs.Common.{◌≡◌, ◌==◌, ◌&&◌, ◌||◌, inl, inr, ℕ, ◌+◌, ◌-◌, ◌≤◌, List, [], ◌∷◌, ◌++◌, length, Bool, true, false, cond, if◌then◌else◌, is_none, is_some, Option, None, Some, refl, sym, ap, ◌∙◌, subst, arith, nat_le, add-zero}
 use Rattle.std.proofs.lemmas.List.{length-append}
-use Rattle.std.proofs.lemmas.Bool.{leb-true, le-leb, eqb-true, and_parts}
+use Rattle.std.proofs.lemmas.Bool.{leb-true, le-leb, eqb-true, and_parts, and_from, false_from_ne_true}
 use Rattle.std.proofs.lemmas.Cmp.{nat_list_cmp_total, nat_list_eq_equiv}
 use Rattle.std.specs.Cmp.Lexicographic.{pointwise, texts_ties}
 use Rattle.std.specs.Ordering.{eq_by_cmp}
@@ -20,23 +20,19 @@ use Rattle.jc_model.specs.Table.{NewStep, seq_entry, seq_cache}
 use Rattle.jc_model.specs.Group.{Group, events_of, step_place, shared_event, cache_after_group, without_own, without_victim, cache_before_step, cache_after_step}
 use Rattle.jc_model.specs.Lawful.{inserts, is_joinable, joined_fits, evicted_fits, IsLawfulStep, IsLawful}
 use Rattle.jc_model.proofs.Reading.{Phase, Between, Chosen, Open, with_joined, with_evicted, behind, Reads}
-use Rattle.jc_model.specs.Reader.{new_group, opened, own_goes, is_full, Accepts}
-use Rattle.jc_model.proofs.CallerLemmas.{none_is, same_cache, same_key}
+use Rattle.jc_model.specs.Reader.{read_group, opened_group, own_goes, is_full, Accepts}
+use Rattle.jc_model.proofs.CallerLemmas.{none_is, same_cache, same_key, shadowed}
 use Rattle.jc_model.proofs.Readings.{joined_so_far, evicted_so_far}
 
 -- 1. Sizes.
 
-shadow : {A : Type 0} (b : Bool) (x y z : A) → cond b x (cond b y z) ≡ cond b x z
-shadow true x y z = refl
-shadow false x y z = refl
-
 remove-with_entry : (m : Cache) (key : Bytes) (entry : Option Bytes) → remove (with_entry m key entry) key ≡ remove m key
 remove-with_entry m key None = same_cache _ _ (λ q.
     get-remove nat_list_cmp_total (remove m key) key q ∙ ap (cond (eq_by_cmp key_cmp q key) None) (get-remove nat_list_cmp_total m key q)
-    ∙ shadow (eq_by_cmp key_cmp q key) None None _ ∙ sym (get-remove nat_list_cmp_total m key q))
+    ∙ shadowed (eq_by_cmp key_cmp q key) None None _ ∙ sym (get-remove nat_list_cmp_total m key q))
 remove-with_entry m key (Some value) = same_cache _ _ (λ q.
     get-remove nat_list_cmp_total (insert m key value) key q ∙ ap (cond (eq_by_cmp key_cmp q key) None) (get-insert nat_list_cmp_total m key value q)
-    ∙ shadow (eq_by_cmp key_cmp q key) None (Some value) _ ∙ sym (get-remove nat_list_cmp_total m key q))
+    ∙ shadowed (eq_by_cmp key_cmp q key) None (Some value) _ ∙ sym (get-remove nat_list_cmp_total m key q))
 
 cond_less : (b : Bool) (n : ℕ) → cond b (n - 1) n ≤ n
 cond_less true n = omega arith
@@ -126,7 +122,7 @@ cache_now (Open p c g) = cache_after_step c g
 abbrev stage_now : Config → Phase → Stage
 stage_now config (Between p c) = Outside
 stage_now config (Chosen p c key) = Picked key
-stage_now config (Open p c g) = Inside (opened config c (step_place p g) g)
+stage_now config (Open p c g) = Inside (opened_group config c (step_place p g) g)
 
 -- what was tested so far
 abbrev Tested : Config → Phase → Type 0
@@ -159,18 +155,14 @@ behind_evicted p g cause e =
 
 -- 4. The step's own eviction.
 
-join_and : (a b : Bool) → a ≡ true → b ≡ true → (a && b) ≡ true
-join_and true b g h = h
-join_and false b g h = cc
-
-own_fits : (config : Config) (place : ℕ) (c : Cache) (g : Group) (cause : Cause) → evicted_fits config c g (Some cause) ≡ true → own_goes (opened config c place g) g.step.key cause ≡ true
-own_fits config place c g Memory h = join_and _ _ (join_and _ _ (nat_list_eq_equiv.refl g.step.key) h) refl
+own_fits : (config : Config) (place : ℕ) (c : Cache) (g : Group) (cause : Cause) → evicted_fits config c g (Some cause) ≡ true → own_goes (opened_group config c place g) g.step.key cause ≡ true
+own_fits config place c g Memory h = and_from _ _ (and_from _ _ (nat_list_eq_equiv.refl g.step.key) h) refl
 own_fits config place c g Full h =
     let a = and_parts (inserts c g && (len c == config.capacity)) (is_none g.victim) h in
     let b = and_parts (inserts c g) (len c == config.capacity) a.0 in
-    join_and _ _ (join_and _ _ (nat_list_eq_equiv.refl g.step.key) b.0) (join_and _ _ b.1 a.1)
+    and_from _ _ (and_from _ _ (nat_list_eq_equiv.refl g.step.key) b.0) (and_from _ _ b.1 a.1)
 
-fits_own : (config : Config) (place : ℕ) (c : Cache) (g : Group) (key : Bytes) (cause : Cause) → own_goes (opened config c place g) key cause ≡ true → (key ≡ g.step.key) × (evicted_fits config c g (Some cause) ≡ true)
+fits_own : (config : Config) (place : ℕ) (c : Cache) (g : Group) (key : Bytes) (cause : Cause) → own_goes (opened_group config c place g) key cause ≡ true → (key ≡ g.step.key) × (evicted_fits config c g (Some cause) ≡ true)
 fits_own config place c g key Memory h =
     let a = and_parts (pointwise ◌==◌ key g.step.key && inserts c g) true h in
     let b = and_parts (pointwise ◌==◌ key g.step.key) (inserts c g) a.0 in
@@ -179,10 +171,10 @@ fits_own config place c g key Full h =
     let a = and_parts (pointwise ◌==◌ key g.step.key && inserts c g) ((len c == config.capacity) && is_none g.victim) h in
     let b = and_parts (pointwise ◌==◌ key g.step.key) (inserts c g) a.0 in
     let d = and_parts (len c == config.capacity) (is_none g.victim) a.1 in
-    (same_key key g.step.key (sym (texts_ties key g.step.key) ∙ b.0), join_and _ _ (join_and _ _ b.1 d.0) d.1)
+    (same_key key g.step.key (sym (texts_ties key g.step.key) ∙ b.0), and_from _ _ (and_from _ _ b.1 d.0) d.1)
 
 -- where the step's key must go, the group cannot end without it
-no_end : (config : Config) (place : ℕ) (c : Cache) (g : Group) (key : Bytes) → len (cache_after_step c g) ≤ config.capacity → own_goes (opened config c place g) key Full ≡ true → ⊥
+no_end : (config : Config) (place : ℕ) (c : Cache) (g : Group) (key : Bytes) → len (cache_after_step c g) ≤ config.capacity → own_goes (opened_group config c place g) key Full ≡ true → ⊥
 no_end config place c g key w h =
     let f = fits_own config place c g key Full h in
     let a = and_parts (inserts c g && (len c == config.capacity)) (is_none g.victim) f.1 in
@@ -190,10 +182,6 @@ no_end config place c g key w h =
     let longer = len_stepped c g b.0 (none_is _ a.1) in
     let full = eqb-true (len c) config.capacity b.1 in
     omega arith
-
-to_false : (b : Bool) → (b ≡ true → ⊥) → b ≡ false
-to_false true h = absurd (h refl)
-to_false false h = refl
 
 or_false : (a b : Bool) → a ≡ false → (a || b) ≡ true → b ≡ true
 or_false true b e h = cc
@@ -212,12 +200,12 @@ no_true h = cc
 
 -- the reader's state behind a group's step
 started : (config : Config) (p : ℕ) (c : Cache) (g : Group) (place : ℕ) (es : List Event) → place ≡ step_place p g → behind p g ≡ place + 1
-    → Accepts config (behind p g) (cache_after_step c g) (Inside (opened config c (step_place p g) g)) es → Accepts config (place + 1) (cache_after_step c g) (Inside (opened config c place g)) es
-started config p c g place es e b a = moved config _ _ _ _ _ _ es b refl (ap (λ q. Inside (opened config c q g)) (sym e)) a
+    → Accepts config (behind p g) (cache_after_step c g) (Inside (opened_group config c (step_place p g) g)) es → Accepts config (place + 1) (cache_after_step c g) (Inside (opened_group config c place g)) es
+started config p c g place es e b a = moved config _ _ _ _ _ _ es b refl (ap (λ q. Inside (opened_group config c q g)) (sym e)) a
 
 unstarted : (config : Config) (p : ℕ) (c : Cache) (g : Group) (place : ℕ) (es : List Event) → place ≡ step_place p g → behind p g ≡ place + 1
-    → Accepts config (place + 1) (cache_after_step c g) (Inside (opened config c place g)) es → Accepts config (behind p g) (cache_after_step c g) (Inside (opened config c (step_place p g) g)) es
-unstarted config p c g place es e b a = moved config _ _ _ _ _ _ es (sym b) refl (ap (λ q. Inside (opened config c q g)) e) a
+    → Accepts config (place + 1) (cache_after_step c g) (Inside (opened_group config c place g)) es → Accepts config (behind p g) (cache_after_step c g) (Inside (opened_group config c (step_place p g) g)) es
+unstarted config p c g place es e b a = moved config _ _ _ _ _ _ es (sym b) refl (ap (λ q. Inside (opened_group config c q g)) e) a
 
 evicted_next : (config : Config) (place : ℕ) (c : Cache) (kept : Opened) (key : Bytes) (cause : Cause) (es : List Event) (b : Bool) → own_goes kept key cause ≡ b
     → Accepts config place (if b then remove c key else c) (if b then Outside else Picked key) es
@@ -236,7 +224,7 @@ to config (Between p c) [] t r = refl
 to config (Chosen p c key) [] t r = absurd r
 to config (Open p c g) [] t r = le-leb _ _ (within_now config c g t.1 r)
 to config (Between p c) (Step who op key out None reply ∷ es) t r =
-    let g = new_group None who op key out reply in
+    let g = read_group None who op key out reply in
     let P : Phase → Type 0 = λ phase. Reads config phase es in
     let is : Some (Open p c g) ≡ Some r.0 = r.1 in
     let same : r.0 ≡ Open p c g = cc in
@@ -251,7 +239,7 @@ to config (Between p c) (Evict key Full ∷ es) t r =
     (refl, to config (Chosen p c key) es t (subst P same r.2))
 to config (Between p c) (Evict key Memory ∷ es) t r = absurd (some_not r.0 r.1)
 to config (Chosen p c v) (Step who op key out None reply ∷ es) t r =
-    let g = new_group (Some v) who op key out reply in
+    let g = read_group (Some v) who op key out reply in
     let P : Phase → Type 0 = λ phase. Reads config phase es in
     let is : Some (Open p c g) ≡ Some r.0 = r.1 in
     let same : r.0 ≡ Open p c g = cc in
@@ -263,7 +251,7 @@ to config (Chosen p c v) (Evict key cause ∷ es) t r = absurd (some_not r.0 r.1
 to config (Open p c g) (Step who op key out None reply ∷ es) t (inl a) = let is = a.1 in cc
 to config (Open p c g) (Step who op key out None reply ∷ es) t (inr (inl b)) = let is = b.1 in cc
 to config (Open p c g) (Step who op key out None reply ∷ es) t (inr (inr d)) =
-    let h = new_group None who op key out reply in
+    let h = read_group None who op key out reply in
     let q = behind p g in
     let P : Phase → Type 0 = λ phase. Reads config phase es in
     let Q : Cache → Type 0 = λ c. Reads config (Open q c h) es in
@@ -285,7 +273,7 @@ to config (Open p c g) (Step who op key out (Some other) reply ∷ es) t (inr (i
 to config (Open p c g) (Step who op key out (Some other) reply ∷ es) t (inr (inr d)) = absurd (some_not d.0 d.1)
 to config (Open p c g) (Evict key cause ∷ es) t (inl a) = let is = a.1 in cc
 to config (Open p c g) (Evict key cause ∷ es) t (inr (inl b)) =
-    let kept = opened config c (step_place p g) g in
+    let kept = opened_group config c (step_place p g) g in
     let P : Event → Type 0 = λ e. Accepts config (behind p g) (cache_after_step c g) (Inside kept) (e ∷ es) in
     let own = own_fits config (step_place p g) c g b.0 b.2.evicted in
     let shorter : len (remove (cache_after_step c g) g.step.key) ≤ config.capacity = let a = len_own c g in let d = t.0 in omega arith in
@@ -296,10 +284,10 @@ to config (Open p c g) (Evict key cause ∷ es) t (inr (inl b)) =
     )
 to config (Open p c g) (Evict key Memory ∷ es) t (inr (inr d)) = absurd (some_not d.0 d.1)
 to config (Open p c g) (Evict key Full ∷ es) t (inr (inr d)) =
-    let kept = opened config c (step_place p g) g in
+    let kept = opened_group config c (step_place p g) g in
     let q = behind p g in
     let within = within_now config c g t.1 d.2 in
-    let own = to_false (own_goes kept key Full) (no_end config (step_place p g) c g key within) in
+    let own = false_from_ne_true (own_goes kept key Full) (no_end config (step_place p g) c g key within) in
     let P : Phase → Type 0 = λ phase. Reads config phase es in
     let Q : Cache → Type 0 = λ c. Reads config (Chosen q c key) es in
     let is : Some (Chosen q (cache_after_group c g) key) ≡ Some d.0 = d.1 in
@@ -314,7 +302,7 @@ or_true true h = refl
 or_true false h = h
 
 -- the step's own key went
-gone : (config : Config) (p : ℕ) (c : Cache) (g : Group) (key : Bytes) (cause : Cause) (es : List Event) → Tested config (Open p c g) → own_goes (opened config c (step_place p g) g) key cause ≡ true
+gone : (config : Config) (p : ℕ) (c : Cache) (g : Group) (key : Bytes) (cause : Cause) (es : List Event) → Tested config (Open p c g) → own_goes (opened_group config c (step_place p g) g) key cause ≡ true
     → (len (remove (cache_after_step c g) g.step.key) ≤ config.capacity → Reads config (Between (behind p (with_evicted g cause)) (cache_after_group c (with_evicted g cause))) es)
     → Reads config (Open p c g) (Evict key cause ∷ es)
 gone config p c g key cause es t own rest =
@@ -327,7 +315,7 @@ gone config p c g key cause es t own rest =
       rest shorter,
     ))
 
-gone_moved : (config : Config) (p : ℕ) (c : Cache) (g : Group) (key : Bytes) (cause : Cause) (es : List Event) → Tested config (Open p c g) → own_goes (opened config c (step_place p g) g) key cause ≡ true
+gone_moved : (config : Config) (p : ℕ) (c : Cache) (g : Group) (key : Bytes) (cause : Cause) (es : List Event) → Tested config (Open p c g) → own_goes (opened_group config c (step_place p g) g) key cause ≡ true
     → Accepts config (behind p g + 1) (remove (cache_after_step c g) key) Outside es → Accepts config (behind p (with_evicted g cause)) (remove (cache_after_step c g) g.step.key) Outside es
 gone_moved config p c g key cause es t own a =
     let f = fits_own config (step_place p g) c g key cause own in
@@ -340,18 +328,18 @@ from config (Between p c) [] t a = tt
 from config (Chosen p c key) [] t a = absurd (no_true a)
 from config (Open p c g) [] t a = lawful_now config p c g t (leb-true _ _ a)
 from config (Between p c) (Step who op key out None reply ∷ es) t a =
-    let g = new_group None who op key out reply in
+    let g = read_group None who op key out reply in
     (Open p c g, refl, from config (Open p c g) es (t, refl, a.0.1, refl) (unstarted config p c g p es (sym (add-zero p)) (omega arith) a.1))
 from config (Between p c) (Step who op key out (Some other) reply ∷ es) t a = absurd a.0
 from config (Between p c) (Evict key Full ∷ es) t a = (Chosen p c key, refl, from config (Chosen p c key) es t a.1)
 from config (Between p c) (Evict key Memory ∷ es) t a = absurd (no_true a.0)
 from config (Chosen p c v) (Step who op key out None reply ∷ es) t a =
-    let g = new_group (Some v) who op key out reply in
+    let g = read_group (Some v) who op key out reply in
     (Open p c g, refl, from config (Open p c g) es (t, refl, a.0.1, refl) (unstarted config p c g (p + 1) es refl (omega arith) a.1))
 from config (Chosen p c v) (Step who op key out (Some other) reply ∷ es) t a = absurd a.0
 from config (Chosen p c v) (Evict key cause ∷ es) t a = absurd (no_true a.0)
 from config (Open p c g) (Step who op key out None reply ∷ es) t a =
-    let h = new_group None who op key out reply in
+    let h = read_group None who op key out reply in
     let q = behind p g in
     let within = leb-true _ _ a.0.0 in
     let back = sym (left_stepped c g t.1) in
@@ -366,12 +354,12 @@ from config (Open p c g) (Step who op key out (Some other) reply ∷ es) t a =
           (moved config _ _ _ _ _ _ es (sym (behind_joined p g who t.1)) refl refl a.1),
     )
 from config (Open p c g) (Evict key Memory ∷ es) t a =
-    let kept = opened config c (step_place p g) g in
+    let kept = opened_group config c (step_place p g) g in
     let own : own_goes kept key Memory ≡ true = or_true (own_goes kept key Memory) a.0 in
     let rest = next_evicted config (behind p g + 1) (cache_after_step c g) kept key Memory es true own a.1 in
     gone config p c g key Memory es t own (λ shorter. from config (Between (behind p (with_evicted g Memory)) (cache_after_group c (with_evicted g Memory))) es shorter (gone_moved config p c g key Memory es t own rest))
 from config (Open p c g) (Evict key Full ∷ es) t a =
-    let kept = opened config c (step_place p g) g in
+    let kept = opened_group config c (step_place p g) g in
     elim (own_goes kept key Full) as (λ b. own_goes kept key Full ≡ b → Reads config (Open p c g) (Evict key Full ∷ es)) [
       | true ↦ λ own.
           let rest = next_evicted config (behind p g + 1) (cache_after_step c g) kept key Full es true own a.1 in

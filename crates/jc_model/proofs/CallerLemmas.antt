@@ -45,7 +45,7 @@ from_entries-others key entries = same_cache _ _ (λ q.
     get-from_entries nat_list_cmp_total (others key entries) q ∙ find-others key entries q
     ∙ sym (get-remove nat_list_cmp_total (from_entries entries) key q ∙ ap (cond (eq_by_cmp key_cmp q key) None) (get-from_entries nat_list_cmp_total entries q)))
 
-shadowed : {A : Type 0} (b : Bool) (x y z : A) → cond b x (cond b y z) ≡ cond b x z
+pub shadowed : {A : Type 0} (b : Bool) (x y z : A) → cond b x (cond b y z) ≡ cond b x z
 shadowed true x y z = refl
 shadowed false x y z = refl
 

@@ -3,7 +3,7 @@ use Rattle.std.proofs.Common.{◌≡◌, ◌==◌, ◌≤◌, ℕ, List, [], ◌
 use Rattle.std.specs.List.{list_all}
 use Rattle.std.specs.Ordering.{eq_by_cmp}
 use Rattle.std.specs.Cmp.{eq_by_cmp_equiv}
-use Rattle.std.proofs.lemmas.Bool.{and_parts, and_from, eqb-true}
+use Rattle.std.proofs.lemmas.Bool.{and_parts, and_from, eqb-true, eq-eqb}
 use Rattle.std.proofs.lemmas.Cmp.{nat_list_cmp_total, nat_eq_equiv}
 use Rattle.std.specs.FinMap.{find, from_entries, get-from_entries}
 use Rattle.jc_types.specs.declared.config.Config.{Config}
@@ -34,14 +34,11 @@ holds_found p (e ∷ es) h =
 pub opening_few : (config : Config) (stripe : ℕ) (opening : List (Bytes × Bytes)) → has_distinct_keys opening ≡ true → IsOpening config stripe (from_entries opening) → length opening ≤ config.capacity
 opening_few config stripe opening once opens = let e = len-distinct opening once in let few = opens.few in omega arith
 
-eqb_same : (a b : ℕ) → a ≡ b → (a == b) ≡ true
-eqb_same a b e = ap (λ x. x == b) e ∙ nat_eq_equiv.refl b
-
 pub opening_own : (config : Config) (stripe : ℕ) (opening : List (Bytes × Bytes)) → IsOpening config stripe (from_entries opening)
     → list_all (λ e. stripe_of e.0 config.stripes == stripe) opening ≡ true
 opening_own config stripe opening opens =
     holds_found (λ k. stripe_of k config.stripes == stripe) opening
-    (λ key found. eqb_same _ _ (opens.own key (ap is_some (get-from_entries nat_list_cmp_total opening key) ∙ found)))
+    (λ key found. eq-eqb _ _ (opens.own key (ap is_some (get-from_entries nat_list_cmp_total opening key) ∙ found)))
 
 -- 3. One stripe.
 

@@ -9,7 +9,7 @@ use Rattle.jc_model.specs.declared.event.Event.TheVariants.{Step, Evict}
 use Rattle.jc_model.specs.Cache.{Bytes, Cache}
 use Rattle.jc_model.specs.Group.{Group, events_of, step_place, shared_event, cache_after_group}
 use Rattle.jc_model.specs.Lawful.{IsLawful}
-use Rattle.jc_model.specs.Reader.{new_group}
+use Rattle.jc_model.specs.Reader.{read_group}
 
 -- where a reader stands: between two groups, behind a group's victim, or behind a group's step and some of its joined steps.
 -- The cache is that before the group, and the place that of the group's first event
@@ -30,13 +30,13 @@ behind place group = place + length (events_of place group)
 
 -- what an event that begins a group leads to
 abbrev pub begun : ℕ → Cache → Event → Option Phase
-begun place cache (Step caller op key out None reply) = Some (Open place cache (new_group None caller op key out reply))
+begun place cache (Step caller op key out None reply) = Some (Open place cache (read_group None caller op key out reply))
 begun place cache (Step caller op key out (Some other) reply) = None
 begun place cache (Evict key Full) = Some (Chosen place cache key)
 begun place cache (Evict key Memory) = None
 
 abbrev pub chosen_begun : ℕ → Cache → Bytes → Event → Option Phase
-chosen_begun place cache victim (Step caller op key out None reply) = Some (Open place cache (new_group (Some victim) caller op key out reply))
+chosen_begun place cache victim (Step caller op key out None reply) = Some (Open place cache (read_group (Some victim) caller op key out reply))
 chosen_begun place cache victim (Step caller op key out (Some other) reply) = None
 chosen_begun place cache victim (Evict key cause) = None
 

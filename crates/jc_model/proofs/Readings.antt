@@ -10,7 +10,7 @@ use Rattle.jc_model.specs.Cache.{Bytes, Cache}
 use Rattle.jc_model.specs.Group.{Group, events_of, victim_events, step_event, evicted_events, step_place, shared_event, history_of, cache_after_group}
 use Rattle.jc_model.specs.Lawful.{IsLawful, AreLawful}
 use Rattle.jc_model.specs.Table.{NewStep}
-use Rattle.jc_model.specs.Reader.{new_group}
+use Rattle.jc_model.specs.Reader.{read_group}
 use Rattle.jc_model.proofs.Reading.{Phase, Between, Chosen, Open, with_joined, with_evicted, behind, begun, chosen_begun, Reads}
 
 -- the events of a phase's group so far
@@ -45,7 +45,7 @@ pub record Spells (config : Config) (place : ℕ) (cache : Cache) (events : List
 begun_so_far : (place : ℕ) (cache : Cache) (e : Event) (phase : Phase) → begun place cache e ≡ Some phase → (so_far phase ≡ e ∷ []) × (start_of phase ≡ place) × (cache_of phase ≡ cache) × IsFresh phase
 begun_so_far place cache (Step who op key out None reply) phase h =
     let P : Phase → Type 0 = λ p. (so_far p ≡ Step who op key out None reply ∷ []) × (start_of p ≡ place) × (cache_of p ≡ cache) × IsFresh p in
-    let is : Open place cache (new_group None who op key out reply) ≡ phase = cc in subst P is (refl, refl, refl, refl)
+    let is : Open place cache (read_group None who op key out reply) ≡ phase = cc in subst P is (refl, refl, refl, refl)
 begun_so_far place cache (Step who op key out (Some other) reply) phase h = cc
 begun_so_far place cache (Evict key Full) phase h =
     let P : Phase → Type 0 = λ p. (so_far p ≡ Evict key Full ∷ []) × (start_of p ≡ place) × (cache_of p ≡ cache) × IsFresh p in
@@ -55,7 +55,7 @@ begun_so_far place cache (Evict key Memory) phase h = cc
 chosen_so_far : (place : ℕ) (cache : Cache) (key : Bytes) (e : Event) (phase : Phase) → chosen_begun place cache key e ≡ Some phase → (so_far phase ≡ Evict key Full ∷ e ∷ []) × (start_of phase ≡ place) × (cache_of phase ≡ cache) × IsFresh phase
 chosen_so_far place cache victim (Step who op key out None reply) phase h =
     let P : Phase → Type 0 = λ p. (so_far p ≡ Evict victim Full ∷ Step who op key out None reply ∷ []) × (start_of p ≡ place) × (cache_of p ≡ cache) × IsFresh p in
-    let is : Open place cache (new_group (Some victim) who op key out reply) ≡ phase = cc in subst P is (refl, refl, refl, refl)
+    let is : Open place cache (read_group (Some victim) who op key out reply) ≡ phase = cc in subst P is (refl, refl, refl, refl)
 chosen_so_far place cache victim (Step who op key out (Some other) reply) phase h = cc
 chosen_so_far place cache victim (Evict key cause) phase h = cc
 
@@ -141,10 +141,10 @@ complete_group : (config : Config) (place : ℕ) (cache : Cache) (victim : Optio
     → Reads config (Between (behind place (record { victim = victim; caller = who; step = made; joined = joined; evicted = ev })) (cache_after_group cache (record { victim = victim; caller = who; step = made; joined = joined; evicted = ev }))) rest
     → Reads config (Between place cache) (events_of place (record { victim = victim; caller = who; step = made; joined = joined; evicted = ev }) ++ rest)
 complete_group config place cache None who made joined ev rest lawful reads =
-    let g = new_group None who made.op made.key made.out made.reply in
+    let g = read_group None who made.op made.key made.out made.reply in
     (Open place cache g, refl, complete_joined config place cache g joined ev rest _ refl refl lawful reads)
 complete_group config place cache (Some v) who made joined ev rest lawful reads =
-    let g = new_group (Some v) who made.op made.key made.out made.reply in
+    let g = read_group (Some v) who made.op made.key made.out made.reply in
     (Chosen place cache v, refl, (Open place cache g, refl, complete_joined config place cache g joined ev rest _ refl refl lawful reads))
 
 -- what lawful groups spell can be read

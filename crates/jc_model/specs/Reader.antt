@@ -4,8 +4,8 @@
 --     first_stripe                 the stripe of the first key, of the opening or else of the events, and 0 if there is no key
 --     are_of_stripe                the keys of the opening and of the events are all of this stripe
 --     are_of_one_stripe            they are all of one stripe
---     new_group                    a group of which the step was read
---     opened                       what is kept of a group whose step is at a place
+--     read_group                   a group of which the step was read
+--     opened_group                 what is kept of a group whose step is at a place
 --     cause_fits                   the step's own key may go for this cause
 --     own_goes                     this key, for this cause, is the step's own and may go
 --     is_full                      a cause is `Full`
@@ -17,7 +17,7 @@
 --     Fits                         an event may come next
 --     evict_stage, evict_cache     the stage and the cache behind an eviction
 --     then_stage, then_cache       the stage and the cache behind an event
---     may_end                      the history may end
+--     may_stop                     the history may end
 --     Accepts                      each of the events fits behind those before it
 --     comes_before                 an event is a step of the same session with a lower number than another
 use Rattle.std.specs.Prelude.{◌≡◌, ◌==◌, ◌&&◌, ◌||◌, ℕ, ◌+◌, List, [], ◌∷◌, Bool, true, false, IsTrue, Option, None, Some, is_none, nat_le, nat_lt, if◌then◌else◌}
@@ -57,13 +57,13 @@ abbrev pub are_of_one_stripe : ℕ → List (Bytes × Bytes) → List Event → 
 are_of_one_stripe stripes opening events = are_of_stripe stripes (first_stripe stripes opening events) opening events
 
 -- a group of which the step was read
-abbrev pub new_group : Option Bytes → Caller → Op → Bytes → Out → Reply → Group
-new_group victim caller op key out reply =
+abbrev pub read_group : Option Bytes → Caller → Op → Bytes → Out → Reply → Group
+read_group victim caller op key out reply =
     record { victim = victim; caller = caller; step = record { op = op; key = key; out = out; reply = reply }; joined = []; evicted = None }
 
 -- what is kept of a group whose step is at a place
-abbrev pub opened : Config → Cache → ℕ → Group → Opened
-opened config cache place group =
+abbrev pub opened_group : Config → Cache → ℕ → Group → Opened
+opened_group config cache place group =
     record {
       place = place;
       key = group.step.key;
@@ -91,7 +91,7 @@ picked_victim (Picked key) = Some key
 picked_victim (Inside kept) = None
 
 abbrev pub group_at : Stage → Caller → Op → Bytes → Out → Reply → Group
-group_at stage caller op key out reply = new_group (picked_victim stage) caller op key out reply
+group_at stage caller op key out reply = read_group (picked_victim stage) caller op key out reply
 
 -- no more entries than fit, at the end of a group
 abbrev pub is_within : Config → Cache → Stage → Bool
@@ -131,7 +131,7 @@ evict_cache cache (Inside kept) key cause = if own_goes kept key cause then remo
 
 -- the stage behind an event at a place
 abbrev pub then_stage : Config → Cache → ℕ → Stage → Event → Stage
-then_stage config cache place stage (Step caller op key out None reply) = Inside (opened config cache place (group_at stage caller op key out reply))
+then_stage config cache place stage (Step caller op key out None reply) = Inside (opened_group config cache place (group_at stage caller op key out reply))
 then_stage config cache place stage (Step caller op key out (Some other) reply) = stage
 then_stage config cache place stage (Evict key cause) = evict_stage stage key cause
 
@@ -142,14 +142,14 @@ then_cache cache stage (Step caller op key out (Some other) reply) = cache
 then_cache cache stage (Evict key cause) = evict_cache cache stage key cause
 
 -- the history may end
-abbrev pub may_end : Config → Cache → Stage → Bool
-may_end config cache Outside = true
-may_end config cache (Picked key) = false
-may_end config cache (Inside kept) = nat_le (len cache) config.capacity
+abbrev pub may_stop : Config → Cache → Stage → Bool
+may_stop config cache Outside = true
+may_stop config cache (Picked key) = false
+may_stop config cache (Inside kept) = nat_le (len cache) config.capacity
 
 -- each of the events fits behind those before it
 abbrev pub Accepts : Config → ℕ → Cache → Stage → List Event → Type 0
-Accepts config place cache stage [] = IsTrue (may_end config cache stage)
+Accepts config place cache stage [] = IsTrue (may_stop config cache stage)
 Accepts config place cache stage (e ∷ es) =
     Fits config cache stage e × Accepts config (place + 1) (then_cache cache stage e) (then_stage config cache place stage e) es
 

@@ -19,7 +19,7 @@
 --     answers_fit                                      exactly those answered that the tables ask for
 --     after_effect                                     the entry with a processor's net effect
 --     outcome_of                                       what a processor answers the caller
---     replaced                                         a value in the place of an entry, if there is one
+--     entry_after_replace                              a value in the place of an entry, if there is one
 --     entry_without_fault, reply_without_fault         the last two columns, if there is no fault
 --     entry_by_fault, reply_by_fault                   the entry and the reply, by whether there is a fault: a fault leaves the entry and is the
 --                                                      reply
@@ -216,9 +216,9 @@ outcome_of (process.Ended net outcome) = outcome
 outcome_of process.NotAsked = None
 outcome_of (process.Failed code) = None
 
-abbrev pub replaced : Option Bytes → Bytes → Option Bytes
-replaced None value = None
-replaced (Some old) value = Some value
+abbrev pub entry_after_replace : Option Bytes → Bytes → Option Bytes
+entry_after_replace None value = None
+entry_after_replace (Some old) value = Some value
 
 abbrev pub entry_without_fault : Op → Option Bytes → Out → Option Bytes
 entry_without_fault Get entry out = value_after_load out.load entry
@@ -229,9 +229,9 @@ entry_without_fault (PutIfAbsent value) entry out = Some (unwrap_or entry value)
 entry_without_fault Remove entry out = None
 entry_without_fault (RemoveIf old) entry out = if holds entry old then None else entry
 entry_without_fault GetAndRemove entry out = None
-entry_without_fault (Replace value) entry out = replaced entry value
+entry_without_fault (Replace value) entry out = entry_after_replace entry value
 entry_without_fault (ReplaceIf old new) entry out = if holds entry old then Some new else entry
-entry_without_fault (GetAndReplace value) entry out = replaced entry value
+entry_without_fault (GetAndReplace value) entry out = entry_after_replace entry value
 entry_without_fault Clear entry out = None
 entry_without_fault (LoadAll replace) entry out = value_after_load out.load entry
 entry_without_fault Invoke entry out = after_effect out.process (value_after_load out.load entry)

@@ -1,5 +1,5 @@
 //! A cache's contents: a map from keys to values (JSR 107, "Fundamentals").
-ghost use Rattle.std.specs.Prelude.{◌≡◌, ◌↔◌, ◌++◌, IsTrue, IfOk, OnOk, OnErr, is_ok, None, Some};
+ghost use Rattle.std.specs.Prelude.{◌≡◌, ◌++◌, IsTrue, IfOk, OnOk, OnErr, is_ok, None, Some};
 ghost use Rattle.std.specs.FinMap as map;
 ghost use Rattle.jc_model.specs.Cache.{entry_at, with_entry};
 
@@ -63,13 +63,6 @@ impl Contents {
         ensures { result ≡ map.len self.now }
     {
         self.map.len()
-    }
-
-    /// Whether there is no key.
-    pub fn is_empty(&self) -> bool
-        ensures { IsTrue result ↔ (self.now ≡ map.empty) }
-    {
-        self.map.is_empty()
     }
 
     /// Gives the key this value. The other keys keep theirs. The only error is that an allocation failed: the map is

@@ -5,9 +5,10 @@
 //! - [`table`] says what each operation asks for, leaves and replies, as methods of [`event::Op`].
 //! - [`batches`] says what a bulk write means for each of its keys.
 //! - [`processor`] has an entry processor's calls on its entry.
-//! - [`contents`] has a cache's contents as a map, and [`listed`] as a plain list.
-//! - [`legal`] is the slow checker of one stripe's history. It rests on [`callers`] (the callers'
-//!   order), [`stripes`] (the keys of one stripe) and [`reader`] (reading event by event).
+//! - [`contents`] has a cache's contents as a map.
+//! - [`legal`] is the slow checker of one stripe's history. It rests on `callers` (the callers' order),
+//!   `stripes` (the keys of one stripe), `listed` (an opening as a plain list) and `reader` (reading
+//!   event by event).
 #![tactic(auto)]
 
 pub mod batches;
@@ -15,7 +16,7 @@ mod callers;
 mod checker;
 pub mod contents;
 pub mod event;
-pub mod listed;
+mod listed;
 pub mod processor;
 mod reader;
 mod same;

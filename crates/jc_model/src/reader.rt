@@ -2,7 +2,7 @@
 ghost use Rattle.std.specs.Prelude.{◌≡◌, ◌↔◌, IsTrue, IfOk};
 ghost use Rattle.std.specs.FinMap.{from_entries};
 ghost use Rattle.jc_model.specs.Listed.{has_distinct_keys};
-ghost use Rattle.jc_model.specs.Reader.{own_goes, picked_victim, is_within, fits_evict, may_end, Accepts};
+ghost use Rattle.jc_model.specs.Reader.{own_goes, picked_victim, is_within, fits_evict, may_stop, Accepts};
 
 mod fits;
 mod follows;
@@ -93,8 +93,8 @@ impl Stage {
     }
 
     /// Whether the history may end.
-    fn may_end(&self, config: &Config, contents: &Contents) -> bool
-        ensures { result ≡ may_end config.now contents.now self.now }
+    fn may_stop(&self, config: &Config, contents: &Contents) -> bool
+        ensures { result ≡ may_stop config.now contents.now self.now }
     {
         match self {
             Stage::Outside => true,
@@ -124,5 +124,5 @@ pub(crate) fn are_accepted(
         }
         stage = go_over(config, &mut contents, &stage, place, event)?;
     }
-    Ok(stage.may_end(config, &contents))
+    Ok(stage.may_stop(config, &contents))
 }

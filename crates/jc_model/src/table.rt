@@ -1,7 +1,7 @@
 //! The operation table: what an [`Op`] asks of the loader and the writer, which entry it leaves, and what it
 //! replies (JSR 107, "Integration", whose two tables are the first two of these; "Entry Processors").
 ghost use Rattle.std.specs.Prelude.{◌≡◌, ◌↔◌, IsTrue, is_some, is_none, if◌then◌else◌};
-ghost use Rattle.jc_model.specs.Table.{holds, replaced, value_after_load, loader_ask, always_if, wanted_if, load_fits};
+ghost use Rattle.jc_model.specs.Table.{holds, entry_after_replace, value_after_load, loader_ask, always_if, wanted_if, load_fits};
 ghost use Rattle.jc_model.specs.Table.{is_invoke, early_fault, first_fault, write_ask, answers_fit, after_effect, outcome_of};
 ghost use Rattle.jc_model.specs.Table.{entry_without_fault, reply_without_fault, entry_after, reply_after};
 ghost use Rattle.jc_model.specs.Table.{ask_if, process_ask};
@@ -38,8 +38,8 @@ fn entry_if(entry: Option<Value>, old: &Value, next: Option<Value>) -> Option<Va
 }
 
 /// A value in the place of the entry, if there is one.
-fn replaced(entry: Option<Value>, value: Value) -> Option<Value>
-    ensures { result ≡ replaced entry value }
+fn entry_after_replace(entry: Option<Value>, value: Value) -> Option<Value>
+    ensures { result ≡ entry_after_replace entry value }
 {
     match entry {
         Some(_) => Some(value),
@@ -102,7 +102,7 @@ impl Op {
             Op::PutIfAbsent(value) => Some(entry.unwrap_or(*value)),
             Op::Remove | Op::GetAndRemove | Op::Clear => None,
             Op::RemoveIf(old) => entry_if(entry, old, None),
-            Op::Replace(value) | Op::GetAndReplace(value) => replaced(entry, *value),
+            Op::Replace(value) | Op::GetAndReplace(value) => entry_after_replace(entry, *value),
             Op::ReplaceIf { old, new } => entry_if(entry, old, Some(*new)),
             Op::Invoke => after_effect(out.process, value_after_load(out.load, entry)),
         }

@@ -11,11 +11,11 @@ use Rattle.jc_model.specs.declared.processor.EntryAnswer.{EntryAnswer}
 use Rattle.jc_model.specs.Processor.{mutation, last_mutation, is_get, has_get, before_mutation, uses_load, failed_in, found_in, value_or_fault, answer_after, answers_after, all_answers}
 use Rattle.jc_model.specs.declared.processor.EntryAnswer.TheVariants.{Present}
 
-or_none : {A : Type 0} (o : Option A) → option_or o None ≡ o
+pub or_none : {A : Type 0} (o : Option A) → option_or o None ≡ o
 or_none None = refl
 or_none (Some x) = refl
 
-or_assoc : {A : Type 0} (a b c : Option A) → option_or (option_or a b) c ≡ option_or a (option_or b c)
+pub or_assoc : {A : Type 0} (a b c : Option A) → option_or (option_or a b) c ≡ option_or a (option_or b c)
 or_assoc None b c = refl
 or_assoc (Some x) b c = refl
 

@@ -14,7 +14,8 @@ use Rattle.jc_model.specs.Processor.{last_mutation, effect_of, has_get, uses_loa
 use Rattle.jc_mutentry.specs.Entries.{EntryState, IsAfter, Makes}
 use Rattle.jc_mutentry.specs.Inside.{is_load_failed}
 use Rattle.jc_mutentry.specs.Playing.{played_answers, LoadsAs, IsPlayed}
-use Rattle.jc_mutentry.proofs.LookingBack.{asks, uses-append, all-unused}
+use Rattle.jc_mutentry.proofs.LookingBack.{asks, uses-append, all-unused, or_none, or_assoc}
+use Rattle.jc_model.proofs.CallerLemmas.{none_is}
 
 -- 1. The calls up to the first `getValue`.
 
@@ -110,10 +111,6 @@ first-asked true false true f h n = (refl, refl)
 first-asked true false false f h n = cc
 first-asked false c d f h n = cc
 
-none-is : {A : Type 0} (o : Option A) → is_none o ≡ true → o ≡ None
-none-is None h = refl
-none-is (Some x) h = cc
-
 -- until then each call is made, also the one whose load fails
 pub made-more : (rt : Bool) (i : Option Bytes) (a : LoadAnswer) (calls : List EntryCall) (call : EntryCall) → fails rt i a calls ≡ false
     → played_calls rt i a (calls ++ call ∷ []) ≡ calls ++ call ∷ []
@@ -123,23 +120,15 @@ made-more rt i a calls call h =
           let used = used-some (uses_load rt i (calls ++ call ∷ [])) (failed_in a) f in
           let first = first-asked (rt && is_none i) (asks calls) (is_none (last_mutation calls)) (asks (call ∷ []))
           (sym (uses-append rt i calls (call ∷ [])) ∙ used.0) (unused-none (uses_load rt i calls) (failed_in a) h used.1) in
-          up-last calls call (none-is (last_mutation calls) first.1) first.0
+          up-last calls call (none_is (last_mutation calls) first.1) first.0
       | false ↦ λ f. refl
     ] refl
 
 -- 3. The values among the answers.
 
-or-again : {A : Type 0} (a b c : Option A) → option_or (option_or a b) c ≡ option_or a (option_or b c)
-or-again None b c = refl
-or-again (Some x) b c = refl
-
-or-none : {A : Type 0} (o : Option A) → option_or o None ≡ o
-or-none None = refl
-or-none (Some x) = refl
-
 last_value-push : (answers : List EntryAnswer) (answer : EntryAnswer) → last_value (answers ++ answer ∷ []) ≡ option_or (answer_value answer) (last_value answers)
-last_value-push [] answer = sym (or-none (answer_value answer))
-last_value-push (x ∷ answers) answer = ap (λ o. option_or o (answer_value x)) (last_value-push answers answer) ∙ or-again (answer_value answer) (last_value answers) (answer_value x)
+last_value-push [] answer = sym (or_none (answer_value answer))
+last_value-push (x ∷ answers) answer = ap (λ o. option_or o (answer_value x)) (last_value-push answers answer) ∙ or_assoc (answer_value answer) (last_value answers) (answer_value x)
 
 unwrap-or : {A : Type 0} (v l : Option A) (d : A) → unwrap_or (option_or v l) d ≡ unwrap_or v (unwrap_or l d)
 unwrap-or None l d = refl

@@ -1,9 +1,9 @@
 -- The answers of a `loadAll`, by key (`CacheLoader.loadAll`).
---     AnswersByKey         the answers: each key that was asked, with its value or none
---     answers_code    a code for answers, which their type needs
+--     AnswersByKey     the answers: each key that was asked, with its value or none
+--     answers_code     a code for answers, which their type needs
 --     no_answers       no answers yet, of these keys
 --     is_asked         whether a key was asked
---     with_answer      the answers with this value at a key; of a key that wasn't asked nothing is kept
+--     answers_with     the answers with this value at a key; of a key that wasn't asked nothing is kept
 --     answer_of        the answer at a key, or none
 use Rattle.std.specs.Prelude.{Bool, List, map, Option, None, Some, is_some, if◌then◌else◌}
 use Rattle.std.specs.Coded.{Coded, coded_list, coded_option, coded_ℕ}
@@ -23,8 +23,8 @@ no_answers keys = from_entries (map (λ key. (key, None)) keys)
 abbrev pub is_asked : AnswersByKey → Bytes → Bool
 is_asked answers key = is_some (get answers key)
 
-abbrev pub with_answer : AnswersByKey → Bytes → Bytes → AnswersByKey
-with_answer answers key value = if is_asked answers key then insert answers key (Some value) else answers
+abbrev pub answers_with : AnswersByKey → Bytes → Bytes → AnswersByKey
+answers_with answers key value = if is_asked answers key then insert answers key (Some value) else answers
 
 abbrev pub answer_of : AnswersByKey → Bytes → Option Bytes
 answer_of answers key = option_map_or (λ answer. answer) (get answers key) None

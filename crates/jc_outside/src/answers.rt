@@ -2,7 +2,7 @@
 ghost use Rattle.std.specs.Prelude.{◌≡◌, [], IfOk, OnOk};
 ghost use Rattle.std.specs.FinMap.{from_entries};
 ghost use Rattle.jc_model.specs.Cache.{key_cmp};
-ghost use Rattle.jc_outside.specs.Answers.{no_answers, is_asked, with_answer, answer_of};
+ghost use Rattle.jc_outside.specs.Answers.{no_answers, is_asked, answers_with, answer_of};
 
 use indexmap::IndexMap;
 use jc_types::{Key, Value};
@@ -51,7 +51,7 @@ impl Answers {
     /// wasn't, nothing changes.
     pub fn put(&mut self, key: &Key, value: &Value) -> bool
         ensures asked { result ≡ is_asked self.old key.now }
-        ensures answers { self.new ≡ with_answer self.old key.now value.now }
+        ensures answers { self.new ≡ answers_with self.old key.now value.now }
     {
         match self.answers.get_mut(key) {
             Some(answer) => *answer = Some(*value),

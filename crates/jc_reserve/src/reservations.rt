@@ -1,5 +1,5 @@
 //! The reservations of a stripe.
-ghost use Rattle.std.specs.Prelude.{◌≡◌, ◌≤◌, ◌↔◌, ◌==◌, [], IsTrue, IsSome, IfSome, OnSome, IfNone, length, position};
+ghost use Rattle.std.specs.Prelude.{◌≡◌, ◌≤◌, ◌↔◌, ◌==◌, [], IsTrue, IsSome, IfSome, OnSome, IfNone, length, nat_le, position};
 ghost use Rattle.std.specs.Cmp.Lexicographic.{pointwise};
 ghost use Rattle.jc_types.specs.declared.limits.TheConstants.{RESERVATIONS_MAX, LAST_NUMBER};
 ghost use Rattle.jc_reserve.specs.Table.{keys_of};
@@ -42,17 +42,10 @@ impl<T: Copy + Default> Reservations<T> {
     pub fn new() -> Self
         ensures { result ≡ record { held = []; next = 0 } }
     {
-        Self::new_from(0)
-    }
-
-    /// A table with no key reserved, whose first reservation has this number.
-    pub fn new_from(next: u64) -> Self
-        ensures { result ≡ record { held = []; next = next } }
-    {
         Reservations {
             held: ArrayVec::new(),
             keys: ArrayVec::new(),
-            next,
+            next: 0,
         }
     }
 
@@ -125,14 +118,6 @@ impl<T: Copy + Default> Reservations<T> {
         &self.keys
     }
 
-    /// How many keys are reserved, at most [`RESERVATIONS_MAX`].
-    pub fn len(&self) -> usize
-        ensures len { result ≡ length self.now.held }
-        ensures table { IsReservationTable self.now }
-    {
-        self.held.len()
-    }
-
     /// Whether no key is reserved.
     pub fn is_empty(&self) -> bool
         ensures { IsTrue result ↔ (length self.now.held ≡ 0) }
@@ -142,7 +127,7 @@ impl<T: Copy + Default> Reservations<T> {
 
     /// Whether [`RESERVATIONS_MAX`] keys are reserved.
     pub fn is_full(&self) -> bool
-        ensures { IsTrue result ↔ (length self.now.held ≡ RESERVATIONS_MAX) }
+        ensures { result ≡ nat_le RESERVATIONS_MAX (length self.now.held) }
     {
         self.held.is_full()
     }
@@ -160,7 +145,7 @@ impl<T: Copy + Default> Reservations<T> {
     fn can_reserve(&self, key: &Key) -> bool
         ensures { IsTrue result ↔ CanReserve self.now key.now }
     {
-        self.len() < RESERVATIONS_MAX && self.next < LAST_NUMBER && !self.is_reserved(key)
+        !self.is_full() && self.next < LAST_NUMBER && !self.is_reserved(key)
     }
 
     /// The place of a key's reservation, in the order of reserving.

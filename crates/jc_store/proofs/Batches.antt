@@ -8,7 +8,7 @@ use Rattle.std.proofs.lemmas.Map.Lookups.{exact_bytes}
 use Rattle.std.specs.FinMap.{get, insert, find, same_map, from_entries, get-from_entries, get-insert}
 use Rattle.jc_model.specs.Cache.{Bytes, Cache, key_cmp, entry_at, with_entry}
 use Rattle.jc_model.proofs.CallerLemmas.{same_key}
-use Rattle.jc_outside.specs.Answers.{AnswersByKey, is_asked, with_answer}
+use Rattle.jc_outside.specs.Answers.{AnswersByKey, is_asked, answers_with}
 use Rattle.jc_store.specs.Store.{answers_from, with_entries, without_keys}
 
 -- 1. Changes.
@@ -104,7 +104,7 @@ none-answered store done keys k none = same_map nat_list_cmp_total exact_bytes _
 
 -- a key with one
 pub one-answered : (store : Cache) (done keys : List Bytes) (k v : Bytes) → among k keys ≡ true → entry_at store k ≡ Some v
-    → with_answer (answers_by (values_at store done) keys) k v ≡ answers_by (values_at store (done ++ k ∷ [])) keys
+    → answers_with (answers_by (values_at store done) keys) k v ≡ answers_by (values_at store (done ++ k ∷ [])) keys
 one-answered store done keys k v there has =
     let m = answers_by (values_at store done) keys in
     let asked : is_asked m k ≡ true = ap (λ (o : Option (Option Bytes)). is_some o) (get-by (values_at store done) keys k ∙ ap (λ b. cond b (Some (values_at store done k)) None) there) in

@@ -5,7 +5,7 @@ use Rattle.std.proofs.lemmas.List.{length-map}
 use Rattle.std.proofs.lemmas.List.Folds.{list_all-append, list_all-map}
 use Rattle.std.specs.List.{list_any, list_all}
 use Rattle.std.specs.Cmp.Lexicographic.{pointwise}
-use Rattle.std.proofs.lemmas.Bool.{and_parts, and_from}
+use Rattle.std.proofs.lemmas.Bool.{and_parts, and_from, or_left, or_right}
 use Rattle.jc_types.proofs.CallerLemmas.{all_imply, all_filter}
 use Rattle.jc_types.specs.declared.config.Config.{Config}
 use Rattle.jc_model.specs.Cache.{Bytes, Cache, entry_at}
@@ -20,14 +20,6 @@ use Rattle.jc_stripe.specs.declared.ticket.Reservation.{Reservation}
 
 -- 1. What holds of each.
 
-pub or_left : (a b : Bool) → a ≡ true → (a || b) ≡ true
-or_left true b h = refl
-or_left false b h = cc
-
-pub or_right : (a b : Bool) → b ≡ true → (a || b) ≡ true
-or_right true b h = refl
-or_right false b h = h
-
 pub all-push : {A : Type 0} (p : A → Bool) (xs : List A) (x : A) → list_all p xs ≡ true → p x ≡ true → list_all p (xs ++ x ∷ []) ≡ true
 all-push p xs x all one = list_all-append p xs (x ∷ []) ∙ and_from _ _ all (and_from _ _ one refl)
 
@@ -38,7 +30,6 @@ all_both p q (x ∷ xs) g h =
     let qs = and_parts (q x) (list_all q xs) h in
     and_from _ _ (and_from _ _ ps.0 qs.0) (all_both p q xs ps.1 qs.1)
 
--- what each answers_at_once, one that is found answers_at_once
 -- 2. Reservations.
 
 -- the test of two calls goes both ways
@@ -85,14 +76,11 @@ ask_found config cache p (x ∷ xs) r h all =
       | false ↦ λ h. ask_found config cache p xs r h all.1
     ] h
 
-key_itself : (key : Bytes) → pointwise ◌==◌ key key ≡ true
-key_itself key = nat_list_eq_equiv.refl key
-
 -- where the entries at the reserved keys are the same, the reservations ask the same
 pub ask_same : (config : Config) (cache next : Cache) (rs : List Reservation) → ((q : Bytes) → list_any (is_key q) rs ≡ true → entry_at next q ≡ entry_at cache q) → AllAsk config cache rs → AllAsk config next rs
 ask_same config cache next [] same all = tt
 ask_same config cache next (r ∷ rs) same all = (
-  ap (first_asked config r.op) (same r.key (or_left _ _ (key_itself r.key))) ∙ all.0,
+  ap (first_asked config r.op) (same r.key (or_left _ _ (nat_list_eq_equiv.refl r.key))) ∙ all.0,
   ask_same config cache next rs (λ q e. same q (or_right (is_key q r) (list_any (is_key q) rs) e)) all.1,
 )
 

@@ -1,4 +1,5 @@
--- Lemmas for the crates above: where the step of a phase is, and which steps of a stripe are parked after each phase.
+-- Lemmas for the crates above: where the step of a phase is, which steps of a stripe are parked after each phase, whom an operation
+-- asks first, and the keys of a stripe.
 --     step_at                             a step is at its place, with its reply
 --     joined_parks, withdrawn_parks       a join and a withdrawal park what was parked
 --     beginner_parks                      a call that may begin has no parked step at its key
@@ -9,10 +10,22 @@
 --     others_park                         it parks of the steps at other places what was parked
 --     again_parks_same                    a pick-up that is told to retry parks what was parked
 --     invokes                             only an `Invoke` is given a processor's ticket
+--     answering_asks, loads_asked         what answers at once asks nobody, and what asks the loader first loads a key whole
+--     writer_reserves, processor_reserves what asks a writer or a processor first reserves its key
+--     next_begun                          a first phase doesn't make the next number of a reservation less
+--     without_none                        the reservations without a key that none of them has
+--     none_twice                          no key of an empty list stands twice
+--     keys_once, keys_own                 the keys of a stripe differ, and belong to it
 use Rattle.std.proofs.Common.{◌≡◌, ◌==◌, ◌&&◌, ◌||◌, ◌+◌, ℕ, zero, suc, List, [], ◌∷◌, Bool, true, false, cond, not, Option, None, Some, is_none, refl, sym, ap, ◌∙◌, slice_get}
-use Rattle.std.proofs.lemmas.Bool.{eqb-true, and_parts}
-use Rattle.std.specs.List.{list_all}
-use Rattle.std.specs.Cmp.Lexicographic.{pointwise, same_text}
+use Rattle.std.specs.Ordering.{eq_by_cmp}
+use Rattle.std.specs.Map.{keys_of}
+use Rattle.std.specs.FinMap.{find}
+use Rattle.std.proofs.lemmas.Cmp.{nat_list_eq_equiv}
+use Rattle.std.proofs.lemmas.List.Sorted.{list_any-IsPermutation}
+use Rattle.std.proofs.lemmas.Map.Keys.{IsDistinct-IsPermutation, IsDistinct-cons}
+use Rattle.std.proofs.lemmas.Bool.{eqb-true, and_parts, or_parts, not-false}
+use Rattle.std.specs.List.{list_any, list_all, IsDistinct, AllByRecursion}
+use Rattle.std.specs.Cmp.Lexicographic.{pointwise, same_text, texts_ties}
 use Rattle.jc_types.proofs.CallerLemmas.{all_imply}
 use Rattle.jc_types.specs.declared.caller.Caller.{Caller}
 use Rattle.jc_types.specs.declared.config.Config.{Config}
@@ -24,7 +37,8 @@ use Rattle.jc_model.specs.declared.event.Change.{Change}
 use Rattle.jc_model.specs.declared.event.ProcessAnswer.TheVariants as process
 use Rattle.jc_model.specs.declared.event.Out.{Out}
 use Rattle.jc_model.specs.declared.event.Reply.{Reply}
-use Rattle.jc_model.specs.Cache.{Bytes, entry_at}
+use Rattle.jc_model.specs.Cache.{Bytes, entry_at, key_cmp}
+use Rattle.jc_model.specs.Listed.{has_distinct_keys}
 use Rattle.jc_model.specs.Table.{always_if, write_ask, is_invoke}
 use Rattle.jc_model.specs.Legal.{in_order, may_come, may_follow}
 use Rattle.jc_inflight.specs.declared.joiner.JoinState.TheVariants.{Answered, Again}
@@ -36,11 +50,17 @@ use Rattle.jc_stripe.specs.declared.ticket.Reservation.{Reservation}
 use Rattle.jc_stripe.specs.Tickets.{JoinClaim, ProcessClaim, asks_processor}
 use Rattle.jc_stripe.specs.Refusals.{first_asked, first_by}
 use Rattle.jc_stripe.specs.declared.begun.Begun.TheVariants as begun
-use Rattle.jc_stripe.specs.State.{State, IsOut, waits}
+use Rattle.jc_stripe.specs.State.{State, IsOut, waits, is_of}
+use Rattle.jc_stripe.specs.Keys.{AreKeys}
+use Rattle.jc_stripe.specs.OrderOfUse.{by_use}
 use Rattle.jc_stripe.specs.Phases.{MayBegin, Begins, Steps, new_group, with_joiner, after_commit, after_withdrawal, without_joiner, told_to}
 use Rattle.jc_stripe.specs.Reached.{IsReached, may_share}
 use Rattle.jc_stripe.specs.OnePhase.{is_parked}
 use Rattle.jc_stripe.proofs.Settled.{claim_left, keyed_callers}
+pub use Rattle.jc_stripe.proofs.Refusing.{answering_asks, writer_reserves, processor_reserves}
+pub use Rattle.jc_stripe.proofs.Settled.{loads_asked}
+pub use Rattle.jc_stripe.proofs.Numbering.{without_none}
+pub use Rattle.jc_stripe.proofs.Uniform.{next_begun}
 use Rattle.jc_stripe.proofs.ParkedSteps.{parked-joined, parked-dissolved, parked-answered, parked-callers}
 use Rattle.jc_stripe.proofs.OwnPick.{is_call, differs, before_differs, after_differs, parked_other, none_parked, parked_told}
 use Rattle.jc_stripe.proofs.Own.{unparked, step_there, again_parks}
@@ -156,3 +176,46 @@ asks_invoking config op entry h = no_processor false config.write_through (write
 
 pub invokes : (old new : State) (caller : Caller) (key : Bytes) (op : Op) (ticket : ProcessClaim) → Begins old caller key op (begun.Process ticket) new → is_invoke op ≡ true
 invokes old new caller key op ticket begins = asks_invoking old.config op (entry_at old.cache key) (ap asks_processor begins.1 ∙ begins.2)
+
+-- 6. The keys of a stripe.
+
+none_there : (q : Bytes) (entries : List (Bytes × Bytes)) → is_none (find key_cmp q entries) ≡ true → AllByRecursion (λ k. pointwise ◌==◌ q k ≡ false) (keys_of entries)
+none_there q [] h = tt
+none_there q (e ∷ es) h = by (eq_by_cmp key_cmp q e.0) refl h (none_there q es)
+  where
+    by : (b : Bool) → eq_by_cmp key_cmp q e.0 ≡ b → is_none (cond b (Some e.1) (find key_cmp q es)) ≡ true
+        → (is_none (find key_cmp q es) ≡ true → AllByRecursion (λ k. pointwise ◌==◌ q k ≡ false) (keys_of es)) → AllByRecursion (λ k. pointwise ◌==◌ q k ≡ false) (keys_of (e ∷ es))
+    by true is none rest = cc
+    by false is none rest = (texts_ties q e.0 ∙ is, rest none)
+
+pub none_twice : IsDistinct (pointwise ◌==◌) []
+unfolding IsDistinct
+none_twice = tt
+
+once : (entries : List (Bytes × Bytes)) → has_distinct_keys entries ≡ true → IsDistinct (pointwise ◌==◌) (keys_of entries)
+once [] h = none_twice
+once (e ∷ es) h =
+    let parts = and_parts (is_none (find key_cmp e.0 es)) (has_distinct_keys es) h in
+    IsDistinct-cons (pointwise ◌==◌) e.0 (keys_of es) (none_there e.0 es parts.0) (once es parts.1)
+
+pub keys_once : (s : State) (found : List Bytes) → IsReached s → AreKeys s found → IsDistinct (pointwise ◌==◌) found
+keys_once s found reached are =
+    IsDistinct-IsPermutation (pointwise ◌==◌) nat_list_eq_equiv.symm (keys_of (by_use s.opening s.history)) found are.each (once (by_use s.opening s.history) reached.used.once)
+
+none_other : (p : Bytes → Bool) (xs : List Bytes) → list_all p xs ≡ true → list_any (λ x. not (p x)) xs ≡ false
+none_other p [] h = refl
+none_other p (x ∷ xs) h = let parts = and_parts (p x) (list_all p xs) h in (λ i. not (parts.0 i) || none_other p xs parts.1 i)
+
+all_pass : (p : Bytes → Bool) (xs : List Bytes) → list_any (λ x. not (p x)) xs ≡ false → list_all p xs ≡ true
+all_pass p [] h = refl
+all_pass p (x ∷ xs) h = let parts = or_parts (not (p x)) (list_any (λ y. not (p y)) xs) h in (λ i. not-false (p x) parts.0 i && all_pass p xs parts.1 i)
+
+all_keys : (p : Bytes → Bool) (entries : List (Bytes × Bytes)) → list_all p (keys_of entries) ≡ list_all (λ (e : Bytes × Bytes). p e.0) entries
+all_keys p [] = refl
+all_keys p (e ∷ es) = ap (λ b. p e.0 && b) (all_keys p es)
+
+pub keys_own : (s : State) (found : List Bytes) → IsReached s → AreKeys s found → list_all (is_of s) found ≡ true
+keys_own s found reached are =
+    let keys : List Bytes = keys_of (by_use s.opening s.history) in
+    let own : list_all (is_of s) keys ≡ true = all_keys (is_of s) (by_use s.opening s.history) ∙ reached.used.own in
+    all_pass (is_of s) found (sym (list_any-IsPermutation (λ k. not (is_of s k)) keys found are.each) ∙ none_other (is_of s) keys own)

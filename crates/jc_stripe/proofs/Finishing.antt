@@ -1,5 +1,5 @@
 -- A step that was appended keeps a stripe's fields sound.
-use Rattle.std.proofs.Common.{◌≡◌, ◌≤◌, ◌+◌, ◌-◌, ℕ, List, [], ◌∷◌, ◌++◌, map, length, count_by, Bool, true, false, IsTrue, None, refl, sym, ap, ◌∙◌, subst, arith}
+use Rattle.std.proofs.Common.{◌≡◌, ◌≤◌, ◌+◌, ◌-◌, ℕ, List, [], ◌∷◌, ◌++◌, map, length, count_by, IsTrue, None, refl, sym, ap, ◌∙◌, subst, arith}
 use Rattle.std.specs.FinMap.{from_entries}
 use Rattle.jc_model.specs.declared.event.Op.{Op}
 use Rattle.jc_model.specs.declared.event.Out.{Out}
@@ -28,12 +28,12 @@ use Rattle.jc_stripe.proofs.Fields.{left-reserved_of, pinned-reserved_of}
 use Rattle.jc_stripe.proofs.Fitting.{said_fits, said_given}
 use Rattle.jc_stripe.proofs.Settled.{shares_with, claim_asks}
 use Rattle.jc_inflight.proofs.CallerLemmas.{length-callers_of, waiting-answered_from}
-use Rattle.jc_types.specs.declared.limits.TheConstants.{STEP_PLACES, HIT_PLACES}
+use Rattle.jc_types.specs.declared.limits.TheConstants.{STEP_PLACES}
 use Rattle.jc_stripe.proofs.Stepping.{AreEntries, IsMade, IsTold, group_is, steps_put, by_use_put, few_put}
-use Rattle.jc_stripe.proofs.Refusing.{alone_passes, passing_keeps}
+use Rattle.jc_stripe.proofs.Refusing.{alone_passes, answering_keeps}
 use Rattle.jc_stripe.proofs.Stepped.{one_event}
 use Rattle.jc_stripe.proofs.Making.{one_exactly}
-use Rattle.jc_stripe.proofs.Reaching.{begins_done, reached_commits}
+use Rattle.jc_stripe.proofs.Reaching.{begins_done, reached_commits, few_done}
 use Rattle.jc_types.specs.declared.caller.Caller.{Caller}
 use Rattle.jc_stripe.specs.declared.ticket.Reservation.{Reservation}
 
@@ -172,10 +172,6 @@ commit_few load js place waiting made w =
 
 -- 3. The places of a call that is done at once.
 
-few_places : (free : Bool) (n : ℕ) → (free ≡ false → n ≤ HIT_PLACES) → n ≤ STEP_PLACES → n ≤ places_needed free
-few_places true n one three = three
-few_places false n one three = one refl
-
 -- what it appends fits into the places that it needs
 pub done_few : (i : Inside) (caller : Caller) (key : Bytes) (op : Op) (entries : ByUse) (keys : List Bytes) (made : NewGroup) (place : ℕ) → IsStripe i
     → first_asked i.config op (entry_at (state_of i).cache key) ≡ Nobody → keys ≡ keys_of i.reservations.held → IsMade (state_of i) caller key op nothing_said made
@@ -185,6 +181,6 @@ done_few i caller key op entries keys made place sound nobody keys_are is keeps 
     let same = group_is m i.entries entries keys caller key op nothing_said [] made (done_entries i keys sound keys_are) is keeps in
     let events : length (group_events place made []) ≡ length (events_of place (new_group m caller key op nothing_said [] keeps.short)) = ap (λ (g : Group). length (events_of place g)) same in
     let three = few_put place made [] in
-    few_places (needs_free_key m key op) (length (group_events place made []))
-    (λ e. let one = one_event m caller key op nothing_said keeps.short place (passing_keeps i.config op (entry_at m.cache key) (alone_passes m key op nobody e)) in omega arith)
+    few_done (needs_free_key m key op) (length (group_events place made []))
+    (λ e. let one = one_event m caller key op nothing_said keeps.short place (answering_keeps i.config op (entry_at m.cache key) (alone_passes m key op nobody e)) in omega arith)
     (omega arith)

@@ -18,7 +18,7 @@ use Rattle.jc_stripe.specs.Refusals.{first_asked, first_by, is_wanted, writer_fo
 use Rattle.jc_stripe.specs.Appending.{AnswersFirst, AnswersProcess, is_write_due}
 
 -- a writer's request is none of the loader's
-not_loader : (b : Bool) (change : Option Change) → writer_for (cond b change None) ≡ Loader → (A : Type 0) → A
+pub not_loader : (b : Bool) (change : Option Change) → writer_for (cond b change None) ≡ Loader → (A : Type 0) → A
 not_loader true None h A = cc
 not_loader true (Some change) h A = cc
 not_loader false change h A = cc

@@ -20,7 +20,8 @@ use Rattle.jc_stripe.specs.Refusals.{answers_at_once, first_asked, first_refusal
 use Rattle.jc_stripe.specs.OrderOfUse.{used_at}
 use Rattle.jc_stripe.specs.Phases.{own_cause}
 use Rattle.jc_stripe.specs.Appending.{AppliesStep}
-use Rattle.jc_stripe.proofs.Refusing.{passing_asks}
+use Rattle.jc_stripe.proofs.Refusing.{answering_asks}
+use Rattle.std.proofs.lemmas.Bool.{and_right}
 
 pub hit_applies : (old new : ByUse) (keys : List Bytes) (key value : Bytes) → finite.find key_cmp key old.list ≡ Some value → new ≡ record old { list = after_touch key old.list } → AppliesStep old keys key Get nothing_said None None new
 hit_applies old new keys key value found after =
@@ -38,11 +39,7 @@ passes : (state : State) (key value : Bytes) → entry_at state.cache key ≡ So
 passes state key value found = ap (λ o. is_some o || not state.config.read_through) found
 
 pub hit_asks : (state : State) (key value : Bytes) → entry_at state.cache key ≡ Some value → first_asked state.config Get (entry_at state.cache key) ≡ Nobody
-hit_asks state key value found = passing_asks state.config Get (entry_at state.cache key) (passes state key value found)
-
-and_never : (b : Bool) → (b && false) ≡ false
-and_never true = refl
-and_never false = refl
+hit_asks state key value found = answering_asks state.config Get (entry_at state.cache key) (passes state key value found)
 
 none_of : {A : Type 0} (b : Bool) (o : Option A) → b ≡ false → is_some (if b then o else None) ≡ false
 none_of true o h = cc
@@ -65,6 +62,6 @@ hit_refusal state caller key value found room =
     let places : has_room state caller.call (places_needed (needs_free_key state key Get)) ≡ true = ap (λ b. has_room state caller.call (places_needed b)) free ∙ room in
     let needs : needs_reservation state key Get ≡ false = ap (λ f. reserves f && is_none (load_joined state key Get)) (hit_asks state key value found) in
     let joins : is_some (load_joined state key Get) ≡ false =
-    none_of _ (load_at (reservation_of state key)) (ap (λ o. state.config.read_through && is_none o) found ∙ and_never state.config.read_through) in
+    none_of _ (load_at (reservation_of state key)) (ap (λ o. state.config.read_through && is_none o) found ∙ and_right state.config.read_through false refl) in
     unrefused (has_room state caller.call (places_needed (needs_free_key state key Get))) (is_reserved state key) (needs_free_key state key Get) (needs_reservation state key Get) (nat_le RESERVATIONS_MAX (length state.reservations))
     (is_some (load_joined state key Get)) (nat_le JOINERS_MAX (length state.joiners)) places free needs joins

@@ -6,13 +6,10 @@
 --     other_load             the reservation of another load has another key
 use Rattle.std.proofs.Common.{◌≡◌, ◌==◌, ◌≤◌, ◌<◌, ◌+◌, ◌&&◌, ℕ, List, [], ◌∷◌, ◌++◌, length, Bool, true, false, cond, not, Option, None, Some, find, filter, refl, sym, ap, ◌∙◌, arith, slice_get}
 use Rattle.std.proofs.lemmas.List.{length-append, get_or_append_left}
-use Rattle.std.proofs.lemmas.List.Folds.{find-append}
-use Rattle.std.proofs.lemmas.List.Sums.{sum_by-cons, sum_by-append}
+use Rattle.std.proofs.lemmas.List.Sums.{sum_by-append}
 use Rattle.std.proofs.lemmas.Option.{slice_get_within, get_or_from_slice_get, slice_get-get_or}
-use Rattle.std.proofs.lemmas.Bool.Decides.{nat_tests}
-use Rattle.std.proofs.lemmas.Cmp.{nat_list_eq_equiv}
+use Rattle.std.proofs.lemmas.Cmp.{nat_list_eq_equiv, nat_eq_equiv}
 use Rattle.std.specs.List.{list_any, count_by}
-use Rattle.std.specs.Option.{option_or}
 use Rattle.jc_model.specs.declared.event.Event.{Event}
 use Rattle.jc_model.specs.Cache.{Bytes, entry_at}
 use Rattle.jc_inflight.specs.declared.joiner.Joiner.{Joiner}
@@ -24,8 +21,10 @@ use Rattle.jc_stripe.specs.declared.ticket.First.TheVariants.{Nobody, Loader, Wr
 use Rattle.jc_stripe.specs.Refusals.{load_of, load_at}
 use Rattle.jc_stripe.specs.State.{State, is_key, without_key, waits}
 use Rattle.jc_stripe.specs.Reached.{AreNumbered, FindsLoad, JoinFits, AllJoin}
-use Rattle.jc_stripe.proofs.Numbering.{found_once, found_any}
+use Rattle.jc_stripe.proofs.Numbering.{found_once}
+use Rattle.jc_types.proofs.CallerLemmas.{found_any, stands_on}
 use Rattle.jc_stripe.specs.declared.ticket.Reservation.{Reservation}
+use Rattle.jc_inflight.proofs.CallerLemmas.{count-cons}
 
 -- 1. What is found.
 
@@ -40,9 +39,6 @@ found_kept p q (x ∷ xs) r h k =
       ]
     ] refl h
 
-pub found_before : {A : Type 0} (p : A → Bool) (xs ys : List A) (r : A) → find p xs ≡ Some r → find p (xs ++ ys) ≡ Some r
-found_before p xs ys r h = find-append p xs ys ∙ ap (λ o. option_or o (find p ys)) h
-
 load_first : (first : First) (number load : ℕ) → load_of first number ≡ Some load → (first ≡ Loader) × (number ≡ load)
 load_first Nobody number load h = cc
 load_first Loader number load h = (refl, cc)
@@ -53,12 +49,6 @@ load_first (Processor seen loads) number load h = cc
 pub loaded_at : (o : Option Reservation) (load : ℕ) → load_at o ≡ Some load → (r : Reservation) × (o ≡ Some r) × (r.first ≡ Loader) × (r.number ≡ load)
 loaded_at None load h = cc
 loaded_at (Some r) load h = let parts = load_first r.first r.number load h in (r, refl, parts.0, parts.1)
-
--- what is in a history stays at its place
-pub stands_on : {A : Type 0} (xs ys : List A) (k : ℕ) (x : A) → slice_get xs k ≡ Some x → slice_get (xs ++ ys) k ≡ Some x
-stands_on xs ys k x h =
-    let within : k < length xs = slice_get_within xs k x h in
-    slice_get-get_or (xs ++ ys) k x (omega (arith, length-append xs ys)) ∙ ap Some (get_or_append_left xs ys x k within ∙ get_or_from_slice_get xs k x x h)
 
 -- 2. Joiners that fit still do.
 
@@ -95,9 +85,6 @@ join_kept state q (j ∷ js) all = elim (q j) as (λ b. AllJoin state (cond b (j
 
 -- 3. Another load.
 
-number_itself : (n : ℕ) → (n == n) ≡ true
-number_itself n = grind (arith, nat_tests)
-
 -- the reservation of another load has another key
 pub other_load : (next : ℕ) (rs : List Reservation) (key : Bytes) (r s : Reservation) → AreNumbered next rs → find (is_key r.key) rs ≡ Some r → find (is_key key) rs ≡ Some s
     → (s.number == r.number) ≡ false → is_key r.key s ≡ false
@@ -105,7 +92,7 @@ other_load next rs key r s numbered h g differs =
     elim (is_key r.key s) as (λ b. is_key r.key s ≡ b → is_key r.key s ≡ false) [
       | true ↦ λ e.
           let same : r ≡ s = found_once (λ (x : Reservation) (y : Reservation). is_key x.key y) (is_key r.key) (is_key key) rs r s numbered.once h g e (nat_list_eq_equiv.symm s.key r.key ∙ e) in
-          let bad : true ≡ false = sym (number_itself r.number) ∙ ap (λ (x : Reservation). x.number == r.number) same ∙ differs in cc
+          let bad : true ≡ false = sym (nat_eq_equiv.refl r.number) ∙ ap (λ (x : Reservation). x.number == r.number) same ∙ differs in cc
       | false ↦ λ e. e
     ] refl
 
@@ -126,9 +113,6 @@ still_there next rs r j numbered h load w not_for s g =
     and_true false = refl
 
 -- 4. Counts.
-
-pub count-cons : (p : Joiner → Bool) (j : Joiner) (js : List Joiner) → count_by p (j ∷ js) ≡ cond (p j) 1 0 + count_by p js
-count-cons p j js = sum_by-cons (λ x. cond (p x) 1 0) j js
 
 pub count-push : (p : Joiner → Bool) (js : List Joiner) (j : Joiner) → p j ≡ true → count_by p (js ++ j ∷ []) ≡ count_by p js + 1
 count-push p js j h =

@@ -19,6 +19,8 @@ use Rattle.jc_entries.proofs.CallerLemmas.{others-missing}
 use Rattle.jc_stripe.specs.OrderOfUse.{is_use, used_at}
 use Rattle.jc_stripe.specs.Phases.{own_cause}
 use Rattle.jc_stripe.specs.Appending.{AppliesStep, inserts_into, overflows_in, victim_in, entries_after}
+use Rattle.std.proofs.lemmas.Bool.{and_right, or_parts}
+use Rattle.jc_types.proofs.CallerLemmas.{none_from}
 
 -- a step that uses an entry and leaves this one, of a list that is not too long
 pub record Uses (old : ByUse) (key value : Bytes) (op : Op) (out : Out) : Type 0 where
@@ -26,11 +28,11 @@ pub record Uses (old : ByUse) (key value : Bytes) (op : Op) (out : Out) : Type 0
   pub is_use : is_use op out ≡ true
   pub entry : entry_after op (finite.find key_cmp key old.list) out ≡ Some value
 
-none_both : (b : Bool) → cond {A = Option Bytes} b None None ≡ None
+pub none_both : (b : Bool) → cond {A = Option Bytes} b None None ≡ None
 none_both true = refl
 none_both false = refl
 
--- a key that is missing is missing after_eviction the victim
+-- a key that is missing is missing after the victim's eviction
 missing_without : (victim : Option Bytes) (key : Bytes) (entries : List (Bytes × Bytes)) → finite.find key_cmp key entries ≡ None → finite.find key_cmp key (after_eviction victim entries) ≡ None
 missing_without None key entries h = h
 missing_without (Some v) key entries h = find-others v entries key ∙ ap (cond (eq_by_cmp key_cmp key v) None) h ∙ none_both (eq_by_cmp key_cmp key v)
@@ -52,14 +54,6 @@ is_full n capacity few h = grind (arith, nat_tests)
 not_full : (n capacity : ℕ) → nat_lt n capacity ≡ true → (n == capacity) ≡ false
 not_full n capacity h = grind (arith, nat_tests)
 
-neither : (a b : Bool) → (a || b) ≡ false → (a ≡ false) × (b ≡ false)
-neither true b h = cc
-neither false b h = (refl, h)
-
-pub is_none_then : (o : Option Bytes) → is_some o ≡ false → o ≡ None
-is_none_then None h = refl
-is_none_then (Some x) h = cc
-
 -- what is known where there is no place
 pub record IsCrowded (old : ByUse) (key : Bytes) (op : Op) (out : Out) : Type 0 where
   pub missing : finite.find key_cmp key old.list ≡ None
@@ -71,8 +65,8 @@ inserts_new entries key value op out missing entry = ap (λ o. is_none o && is_s
 
 crowded : (old : ByUse) (key value : Bytes) (op : Op) (out : Out) → Uses old key value op out → has_room_for key old ≡ false → IsCrowded old key op out
 crowded old key value op out uses h =
-    let parts = neither (is_some (finite.find key_cmp key old.list)) (nat_lt (length old.list) old.capacity) h in
-    let missing = is_none_then (finite.find key_cmp key old.list) parts.0 in
+    let parts = or_parts (is_some (finite.find key_cmp key old.list)) (nat_lt (length old.list) old.capacity) h in
+    let missing = none_from (finite.find key_cmp key old.list) parts.0 in
     let inserts = inserts_new old.list key value op out missing uses.entry in
     record {
       missing = missing;
@@ -98,7 +92,7 @@ kept_after old new key value pinned victim op out uses h =
       left = h.after ∙ ap (λ es. record old { list = es }) (sym (used_new (others victim old.list) key value op out uses.is_use missing (entry_new old key value op out known.missing uses)));
     }
 
--- nobody could go, or there was no memory for it
+-- nobody could go, or an allocation for it failed
 goes_again : (old : ByUse) (key value : Bytes) (victim : Option Bytes) (cause : Cause) (op : Op) (out : Out) → Uses old key value op out → finite.find key_cmp key old.list ≡ None
     → entries_after old.list key op out victim (Some cause) ≡ after_eviction victim old.list
 goes_again old key value victim cause op out uses missing =
@@ -160,15 +154,11 @@ not_kept old new key value pinned Memory evicted op out uses h = out_of_memory o
 pub use_is : {A : Type 0} (fault fault_is : Option A) (used used_is : Bool) → fault ≡ fault_is → used ≡ used_is → is_some fault ≡ false → used ≡ true → (is_none fault_is && used_is) ≡ true
 use_is fault fault_is used used_is f u g h = ap (λ o. is_none o && used_is) (sym f) ∙ ap (λ b. not b && used_is) g ∙ sym u ∙ h
 
-and_false : (b : Bool) → (b && false) ≡ false
-and_false true = refl
-and_false false = refl
-
 -- it leaves no entry, where there was none
 pub kept_none : (old : ByUse) (key : Bytes) (pinned : List Bytes) (op : Op) (out : Out) → is_use op out ≡ true → finite.find key_cmp key old.list ≡ None → entry_after op (finite.find key_cmp key old.list) out ≡ None
     → AppliesStep old pinned key op out None None old
 kept_none old key pinned op out is_used missing entry =
-    let none_in : inserts_into old.list key op out ≡ false = ap (λ o. is_none (finite.find key_cmp key old.list) && is_some o) entry ∙ and_false (is_none (finite.find key_cmp key old.list)) in
+    let none_in : inserts_into old.list key op out ≡ false = ap (λ o. is_none (finite.find key_cmp key old.list) && is_some o) entry ∙ and_right (is_none (finite.find key_cmp key old.list)) false refl in
     record {
       short = false;
       victim_is = sym (ap (λ b. cond (b && (length old.list == old.capacity)) (lru_victim old.list pinned) None) none_in);

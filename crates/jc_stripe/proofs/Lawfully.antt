@@ -27,6 +27,7 @@ use Rattle.jc_stripe.specs.Reached.{IsUsed}
 use Rattle.jc_stripe.proofs.Used.{find-entry, same-entry}
 use Rattle.jc_stripe.specs.Phases as phases
 use Rattle.jc_types.specs.declared.caller.Caller.{Caller}
+use Rattle.jc_stripe.proofs.Keeping.{none_both}
 
 -- 1. A history of groups, and one more.
 
@@ -123,10 +124,6 @@ victim_known m key op out v used h =
       there = least_used-there m v used known.1;
       missing = none_is _ ((and_parts (is_none (entry_at m.cache key)) (is_some (entry_after op (entry_at m.cache key) out)) parts.0).0);
     }
-
-none_both : (b : Bool) → cond {A = Option Bytes} b None None ≡ None
-none_both true = refl
-none_both false = refl
 
 -- the step's own entry is the same without its victim
 pub own_entry : (m : State) (key : Bytes) (op : Op) (out : Out) (victim : Option Bytes) → IsUsed m → phases.victim m key op out ≡ victim → entry_at (group.without_victim m.cache victim) key ≡ entry_at m.cache key

@@ -1,5 +1,5 @@
 -- The laws of the phases.
-use Rattle.std.proofs.Common.{◌≡◌, List, [], length, Bool, true, false, append-nil, refl, sym, ap, subst, ◌∙◌}
+use Rattle.std.proofs.Common.{◌≡◌, List, [], length, true, append-nil, refl, sym, ap, subst, ◌∙◌}
 use Rattle.std.specs.List.{list_any}
 use Rattle.jc_model.specs.declared.event.Op.{Op}
 use Rattle.jc_model.specs.declared.event.Out.{Out}
@@ -16,7 +16,7 @@ use Rattle.jc_stripe.specs.State.{State, is_key, is_reserved, without_reservatio
 use Rattle.jc_stripe.specs.Phases.{new_group, after_commit, Steps, Begins, Commits, Withdraws, PicksUp}
 use Rattle.jc_stripe.specs.Reached.{IsReached, IsUsed}
 use Rattle.jc_stripe.specs.Laws.{IsSameStripe, Extends}
-use Rattle.jc_stripe.proofs.Refusing.{not_refused, alone_passes, passing_keeps}
+use Rattle.jc_stripe.proofs.Refusing.{not_refused, alone_passes, answering_keeps, clash}
 use Rattle.jc_stripe.proofs.Beside.{none_left}
 use Rattle.jc_stripe.proofs.Stepped.{kept_on}
 use Rattle.jc_types.specs.declared.caller.Caller.{Caller}
@@ -70,15 +70,11 @@ begins_keeps old new caller key op (begun.Refused refusal) q reached h there = a
 begins_keeps old new caller key op (begun.Done done) q reached h there =
     ap (λ (s : State). entry_at s.cache q) h.2.after
     ∙ kept_on old caller key op nothing_said [] h.2.short q reached.used there
-    (λ is. passing_keeps old.config op (entry_at old.cache key) (alone_passes old key op h.1 ((not_refused old caller key op h.0).free (ap (is_reserved old) (sym is) ∙ there))))
+    (λ is. answering_keeps old.config op (entry_at old.cache key) (alone_passes old key op h.1 ((not_refused old caller key op h.0).free (ap (is_reserved old) (sym is) ∙ there))))
 begins_keeps old new caller key op (begun.Load ticket) q reached h there = ap (λ (s : State). entry_at s.cache q) h.4
 begins_keeps old new caller key op (begun.Write ticket) q reached h there = ap (λ (s : State). entry_at s.cache q) h.4
 begins_keeps old new caller key op (begun.Process ticket) q reached h there = ap (λ (s : State). entry_at s.cache q) h.4
 begins_keeps old new caller key op (begun.Joined join) q reached h there = ap (λ (s : State). entry_at s.cache q) h.3
-
-clash : (b : Bool) → b ≡ true → b ≡ false → ⊥
-clash true g h = cc
-clash false g h = cc
 
 pub commits_keeps : (old new : State) (r : Reservation) (out : Out) (done : StepDone) (q : Bytes) → IsReached old → Commits old r out done new → is_reserved (without_reservation old r.key) q ≡ true
     → entry_at new.cache q ≡ entry_at old.cache q

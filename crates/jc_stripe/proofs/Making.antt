@@ -34,7 +34,7 @@ use Rattle.jc_stripe.proofs.Inner.{used_of}
 use Rattle.jc_stripe.proofs.Fields.{push-reserved_of, length-reserved_of, left-reserved_of, held-reserved_of}
 use Rattle.jc_stripe.proofs.Refusing.{not_refused, few_out, was_free, ticket_places, next_below, join_places, few_joined}
 use Rattle.jc_stripe.proofs.Tables.{reached_reserved, reached_joined}
-use Rattle.jc_stripe.proofs.Numbering.{first_pairs, later_pairs}
+use Rattle.jc_stripe.proofs.Numbering.{first_pairs, later_pairs, without_none}
 use Rattle.jc_stripe.proofs.Joining.{count-push}
 use Rattle.jc_types.specs.declared.caller.Caller.{Caller}
 use Rattle.jc_stripe.specs.declared.ticket.Reservation.{Reservation}
@@ -112,14 +112,6 @@ sound-joined i caller load key js history sound t h reached =
 
 -- 3. A withdrawal.
 
-all_others : (key : Bytes) (rs : List Reservation) → list_any (is_key key) rs ≡ false → without_key key rs ≡ rs
-all_others key [] h = refl
-all_others key (r ∷ rs) h =
-    elim (is_key key r) as (λ b. (b || list_any (is_key key) rs) ≡ false → cond (not b) (r ∷ without_key key rs) (without_key key rs) ≡ r ∷ rs) [
-      | true ↦ λ h. cc
-      | false ↦ λ h. ap (λ xs. r ∷ xs) (all_others key rs h)
-    ] h
-
 -- one key stands once
 none_more : (r : Reservation) (rs : List Reservation) → All (λ later. is_key r.key later ≡ false) rs → list_any (is_key r.key) rs ≡ false
 none_more r [] h = refl
@@ -134,7 +126,7 @@ one_exactly key (x ∷ xs) r once h =
       | true ↦ λ e h.
           let is : key ≡ x.key = same_key key x.key (sym (texts_ties key x.key) ∙ e) in
           let none : list_any (is_key key) xs ≡ false = ap (λ k. list_any (is_key k) xs) is ∙ none_more x xs (first_pairs (λ y later. is_key y.key later ≡ false) x xs once) in
-          let same : length (without_key key xs) ≡ length xs = ap length (all_others key xs none) in
+          let same : length (without_key key xs) ≡ length xs = ap length (without_none key xs none) in
           omega arith
       | false ↦ λ e h. let rest = one_exactly key xs r (later_pairs (λ y later. is_key y.key later ≡ false) x xs once) h in omega arith
     ] refl h

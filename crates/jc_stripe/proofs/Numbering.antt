@@ -1,37 +1,21 @@
 -- What keeps the keys and the numbers of reservations apart, and what a claim tells of its reservation.
-use Rattle.std.proofs.Common.{◌≡◌, ◌==◌, ◌<◌, ◌+◌, ◌||◌, ℕ, suc, List, [], ◌∷◌, ◌++◌, length, get_or, Bool, true, false, cond, not, Some, find, refl, sym, ap, ◌∙◌, subst, arith}
+use Rattle.std.proofs.Common.{◌≡◌, ◌==◌, ◌<◌, ◌+◌, ◌||◌, ℕ, suc, List, [], ◌∷◌, ◌++◌, length, get_or, Bool, true, false, cond, not, Some, find, refl, sym, ap, ◌∙◌, arith}
 use Rattle.std.proofs.lemmas.Bool.Decides.{nat_tests}
 use Rattle.std.proofs.lemmas.Cmp.{nat_list_eq_equiv}
-use Rattle.std.proofs.lemmas.List.Elements.{All-head, All-tail, All-push, All-filter}
+use Rattle.std.proofs.lemmas.List.Elements.{All-push, All-filter}
 use Rattle.std.proofs.lemmas.List.Folds.{list_any_at}
 use Rattle.std.proofs.lemmas.List.Kept.{AllPairs-filter}
 use Rattle.std.proofs.lemmas.List.Quantifiers.{all_pairs_push}
 use Rattle.std.specs.List.{AllPairs, All, list_any}
 use Rattle.std.specs.Cmp.Lexicographic.{same_text}
+use Rattle.std.proofs.lemmas.Bool.{eq-eqb}
+use Rattle.jc_types.proofs.CallerLemmas.{found_test, found_holds}
 use Rattle.jc_model.specs.Cache.{Bytes}
 use Rattle.jc_stripe.specs.State.{is_key, without_key}
 use Rattle.jc_stripe.specs.Reached.{AreNumbered}
 use Rattle.jc_stripe.specs.declared.ticket.Reservation.{Reservation}
 
 -- 1. What is found.
-
--- what is found answers_at_once the test
-pub found_test : {X : Type 0} (p : X → Bool) (xs : List X) (r : X) → find p xs ≡ Some r → p r ≡ true
-found_test p [] r h = cc
-found_test p (x ∷ xs) r h =
-    elim (p x) as (λ b. p x ≡ b → cond b (Some x) (find p xs) ≡ Some r → p r ≡ true) [
-      | true ↦ λ e h. let is : x ≡ r = cc in ap p (sym is) ∙ e
-      | false ↦ λ e h. found_test p xs r h
-    ] refl h
-
--- what holds of each holds of what is found
-pub found_holds : {X : Type 0} (p : X → Bool) (P : X → Type 0) (xs : List X) (r : X) → find p xs ≡ Some r → All P xs → P r
-found_holds p P [] r h all = cc
-found_holds {X} p P (x ∷ xs) r h all =
-    elim (p x) as (λ b. cond b (Some x) (find p xs) ≡ Some r → P r) [
-      | true ↦ λ h. let is : x ≡ r = cc in subst P is (All-head P x xs all)
-      | false ↦ λ h. found_holds p P xs r h (All-tail P x xs all)
-    ] h
 
 pub later_pairs : {X : Type 0} (R : X → X → Type 0) (x : X) (xs : List X) → AllPairs R (x ∷ xs) → AllPairs R xs
 later_pairs R x xs h i j d lt within = h (suc i) (suc j) d (omega arith) (omega arith)
@@ -61,21 +45,21 @@ found_once {X} e p q (x ∷ xs) r s once h g t u =
 pub key_found : (key : Bytes) (rs : List Reservation) (r : Reservation) → find (is_key key) rs ≡ Some r → key ≡ r.key
 key_found key rs r h = same_text key r.key (sym (found_test (is_key key) rs r h))
 
-same_number : (m n : ℕ) → m ≡ n → (m == n) ≡ true
-same_number m n e = grind (arith, nat_tests)
-
 -- no two have one number
 pub one_number : (next : ℕ) (rs : List Reservation) (k l : Bytes) (r s : Reservation) → AreNumbered next rs → find (is_key k) rs ≡ Some r → find (is_key l) rs ≡ Some s → r.number ≡ s.number → r ≡ s
 one_number next rs k l r s numbered h g e =
-    found_once (λ (x : Reservation) (y : Reservation). x.number == y.number) (is_key k) (is_key l) rs r s numbered.numbers h g (same_number _ _ e) (same_number _ _ (sym e))
-
--- a key that is found is reserved
-pub found_any : {X : Type 0} (p : X → Bool) (xs : List X) (r : X) → find p xs ≡ Some r → list_any p xs ≡ true
-found_any p [] r h = cc
-found_any p (x ∷ xs) r h =
-    elim (p x) as (λ b. cond b (Some x) (find p xs) ≡ Some r → (b || list_any p xs) ≡ true) [ true ↦ λ h. refl | false ↦ λ h. found_any p xs r h ] h
+    found_once (λ (x : Reservation) (y : Reservation). x.number == y.number) (is_key k) (is_key l) rs r s numbered.numbers h g (eq-eqb _ _ e) (eq-eqb _ _ (sym e))
 
 -- 3. A reservation more, and less.
+
+-- without a key that no reservation has they are the same
+pub without_none : (key : Bytes) (rs : List Reservation) → list_any (is_key key) rs ≡ false → without_key key rs ≡ rs
+without_none key [] h = refl
+without_none key (r ∷ rs) h =
+    elim (is_key key r) as (λ b. (b || list_any (is_key key) rs) ≡ false → cond (not b) (r ∷ without_key key rs) (without_key key rs) ≡ r ∷ rs) [
+      | true ↦ λ h. cc
+      | false ↦ λ h. ap (λ xs. r ∷ xs) (without_none key rs h)
+    ] h
 
 -- a key that is free is no reservation's
 other_key : (rs : List Reservation) (r : Reservation) (k : ℕ) (d : Reservation) → k < length rs → list_any (is_key r.key) rs ≡ false → is_key (get_or rs k d).key r ≡ false
@@ -86,7 +70,7 @@ other_key rs r k d within free =
       | false ↦ λ e. nat_list_eq_equiv.symm x.key r.key ∙ e
     ] refl
 
-below_other : (m n : ℕ) → m < n → (m == n) ≡ false
+pub below_other : (m n : ℕ) → m < n → (m == n) ≡ false
 below_other m n h = grind (arith, nat_tests)
 
 pub numbered-push : (next : ℕ) (rs : List Reservation) (r : Reservation) → AreNumbered next rs → r.number ≡ next → list_any (is_key r.key) rs ≡ false → AreNumbered (next + 1) (rs ++ r ∷ [])

@@ -1,13 +1,12 @@
 -- The callers' order, and the stripe's keys, behind the group of a step.
-use Rattle.std.proofs.Common.{◌≡◌, ◌==◌, ◌&&◌, ◌||◌, ℕ, List, [], ◌∷◌, ◌++◌, map, Bool, true, false, cond, not, Option, None, Some, is_some, nat_lt, refl, sym, ap, ◌∙◌, append_assoc, append-nil, arith}
+use Rattle.std.proofs.Common.{◌≡◌, ◌==◌, ◌&&◌, ◌||◌, ℕ, List, [], ◌∷◌, ◌++◌, map, Bool, true, false, cond, not, Option, None, Some, is_some, nat_lt, refl, sym, ap, ◌∙◌, append_assoc, append-nil}
 use Rattle.std.specs.List.{list_all}
 use Rattle.std.specs.Cmp.Lexicographic.{pointwise}
 use Rattle.std.specs.Ordering.{eq_by_cmp}
 use Rattle.std.specs.FinMap as finite
 use Rattle.std.proofs.lemmas.List.Folds.{list_all-append}
-use Rattle.std.proofs.lemmas.Bool.Decides.{nat_tests}
-use Rattle.std.proofs.lemmas.Cmp.{nat_list_eq_equiv}
-use Rattle.std.proofs.lemmas.Bool.{and_parts}
+use Rattle.std.proofs.lemmas.Cmp.{nat_list_eq_equiv, nat_eq_equiv}
+use Rattle.std.proofs.lemmas.Bool.{and_parts, and_from}
 use Rattle.jc_model.specs.declared.event.Event.{Event}
 use Rattle.jc_model.specs.declared.event.Event.TheVariants.{Step, Evict}
 use Rattle.jc_model.specs.declared.event.Op.{Op}
@@ -30,13 +29,6 @@ use Rattle.jc_stripe.specs.Reached.{is_own}
 use Rattle.jc_stripe.specs.Appending.{without_own_entry, entries_after}
 use Rattle.jc_types.specs.declared.caller.Caller.{Caller}
 
-pub join_and : (a b : Bool) → a ≡ true → b ≡ true → (a && b) ≡ true
-join_and true b g h = h
-join_and false b g h = cc
-
-pub turned_eq : (a b : ℕ) → (a == b) ≡ (b == a)
-turned_eq a b = grind (arith, nat_tests)
-
 -- 1. What may come behind what.
 
 -- a step of this session, number and key may come behind all of these
@@ -44,7 +36,7 @@ abbrev pub comes_behind : List Event → Caller → Bytes → Bool
 comes_behind events caller key = list_all (λ e. may_come e caller key) events
 
 pub behind-append : (xs ys : List Event) (caller : Caller) (key : Bytes) → comes_behind xs caller key ≡ true → comes_behind ys caller key ≡ true → comes_behind (xs ++ ys) caller key ≡ true
-behind-append xs ys caller key g h = list_all-append (λ e. may_come e caller key) xs ys ∙ join_and _ _ g h
+behind-append xs ys caller key g h = list_all-append (λ e. may_come e caller key) xs ys ∙ and_from _ _ g h
 
 comes : (a b l k : Bool) → (not a || (b && not k)) ≡ true → (not a || l || (b && not k)) ≡ true
 comes true true true k h = refl
@@ -57,8 +49,8 @@ pub comes_beside : (who : Caller) (k : Bytes) (op : Op) (out : Out) (shared : Op
     → may_come (Step who op k out shared reply) caller key ≡ true
 comes_beside who k op out shared reply caller key h =
     comes (who.session == caller.session) (who.call == caller.call) (nat_lt who.call caller.call) (pointwise ◌==◌ k key)
-    (ap (λ b. not b || ((who.call == caller.call) && not (pointwise ◌==◌ k key))) (turned_eq who.session caller.session)
-    ∙ ap (λ b. not (caller.session == who.session) || (b && not (pointwise ◌==◌ k key))) (turned_eq who.call caller.call)
+    (ap (λ b. not b || ((who.call == caller.call) && not (pointwise ◌==◌ k key))) (nat_eq_equiv.symm who.session caller.session)
+    ∙ ap (λ b. not (caller.session == who.session) || (b && not (pointwise ◌==◌ k key))) (nat_eq_equiv.symm who.call caller.call)
     ∙ ap (λ b. not (caller.session == who.session) || ((caller.call == who.call) && not b)) (nat_list_eq_equiv.symm k key)
     ∙ h)
 
@@ -68,7 +60,7 @@ away false l c h = refl
 
 -- of another session
 pub comes_away : (who : Caller) (k : Bytes) (op : Op) (out : Out) (shared : Option ℕ) (reply : Reply) (caller : Caller) (key : Bytes) → not (caller.session == who.session) ≡ true → may_come (Step who op k out shared reply) caller key ≡ true
-comes_away who k op out shared reply caller key h = away (who.session == caller.session) (nat_lt who.call caller.call) _ (ap not (turned_eq who.session caller.session) ∙ h)
+comes_away who k op out shared reply caller key h = away (who.session == caller.session) (nat_lt who.call caller.call) _ (ap not (nat_eq_equiv.symm who.session caller.session) ∙ h)
 
 behind-victim : (victim : Option Bytes) (caller : Caller) (key : Bytes) → comes_behind (victim_events victim) caller key ≡ true
 behind-victim None caller key = refl
@@ -87,7 +79,7 @@ behind-shared : (place : ℕ) (k : Bytes) (answer : LoadAnswer) (callers : List 
 behind-shared place k answer [] caller key h = refl
 behind-shared place k answer (c ∷ cs) caller key h =
     let parts = and_parts (not (caller.session == c.session) || ((caller.call == c.call) && not (pointwise ◌==◌ key k))) (beside_callers caller key k cs) h in
-    join_and _ _ (comes_beside c k Get (load_only answer) (Some place) (reply_after Get None (load_only answer)) caller key parts.0) (behind-shared place k answer cs caller key parts.1)
+    and_from _ _ (comes_beside c k Get (load_only answer) (Some place) (reply_after Get None (load_only answer)) caller key parts.0) (behind-shared place k answer cs caller key parts.1)
 
 -- a step that is beside those of a group may come behind it
 pub behind-group : (place : ℕ) (g : Group) (caller : Caller) (key : Bytes) → (not (caller.session == g.caller.session) || ((caller.call == g.caller.call) && not (pointwise ◌==◌ key g.step.key))) ≡ true
@@ -96,7 +88,7 @@ behind-group place g caller key beside callers =
     let shared : List Event = map (shared_event (step_place place g) g.step.key g.step.out.load) g.joined in
     behind-append (victim_events g.victim ++ step_event g ∷ shared) (evicted_events g.step.key g.evicted) caller key
     (behind-append (victim_events g.victim) (step_event g ∷ shared) caller key (behind-victim g.victim caller key)
-    (join_and _ _ (comes_beside g.caller g.step.key g.step.op g.step.out None g.step.reply caller key beside) (behind-shared (step_place place g) g.step.key g.step.out.load g.joined caller key callers)))
+    (and_from _ _ (comes_beside g.caller g.step.key g.step.op g.step.out None g.step.reply caller key beside) (behind-shared (step_place place g) g.step.key g.step.out.load g.joined caller key callers)))
     (behind-evicted g.step.key g.evicted caller key)
 
 -- 2. The order of the events.
@@ -108,7 +100,7 @@ follows_come (Evict k' cause ∷ xs) who op k out shared reply = follows_come xs
 
 -- a step more, behind which it may come
 pub order-pushed : (xs : List Event) (who : Caller) (op : Op) (k : Bytes) (out : Out) (shared : Option ℕ) (reply : Reply) → in_order xs ≡ true → comes_behind xs who k ≡ true → in_order (xs ++ Step who op k out shared reply ∷ []) ≡ true
-order-pushed xs who op k out shared reply g h = order-last xs (Step who op k out shared reply) ∙ join_and _ _ g (follows_come xs who op k out shared reply ∙ h)
+order-pushed xs who op k out shared reply g h = order-last xs (Step who op k out shared reply) ∙ and_from _ _ g (follows_come xs who op k out shared reply ∙ h)
 
 follows_evict : (xs : List Event) (k : Bytes) (cause : Cause) → list_all (λ e. may_follow e (Evict k cause)) xs ≡ true
 follows_evict [] k cause = refl
@@ -116,7 +108,7 @@ follows_evict (Step who op key out shared reply ∷ xs) k cause = follows_evict 
 follows_evict (Evict key c ∷ xs) k cause = follows_evict xs k cause
 
 order-evicted : (xs : List Event) (k : Bytes) (cause : Cause) → in_order xs ≡ true → in_order (xs ++ Evict k cause ∷ []) ≡ true
-order-evicted xs k cause g = order-last xs (Evict k cause) ∙ join_and _ _ g (follows_evict xs k cause)
+order-evicted xs k cause g = order-last xs (Evict k cause) ∙ and_from _ _ g (follows_evict xs k cause)
 
 order-victim : (xs : List Event) (victim : Option Bytes) → in_order xs ≡ true → in_order (xs ++ victim_events victim) ≡ true
 order-victim xs None g = ap in_order (append-nil xs) ∙ g
@@ -142,7 +134,7 @@ callers_pushed xs who k op out shared reply key [] apart h = refl
 callers_pushed xs who k op out shared reply key (c ∷ cs) apart h =
     let away = and_parts (not (c.session == who.session)) (list_all (λ d. not (d.session == who.session)) cs) apart in
     let parts = and_parts (comes_behind xs c key) (callers_behind xs key cs) h in
-    join_and _ _ (behind-append xs (Step who op k out shared reply ∷ []) c key parts.0 (join_and _ _ (comes_away who k op out shared reply c key away.0) refl))
+    and_from _ _ (behind-append xs (Step who op k out shared reply ∷ []) c key parts.0 (and_from _ _ (comes_away who k op out shared reply c key away.0) refl))
     (callers_pushed xs who k op out shared reply key cs away.1 parts.1)
 
 order-shared : (xs : List Event) (place : ℕ) (key : Bytes) (answer : LoadAnswer) (callers : List Caller) → in_order xs ≡ true → callers_behind xs key callers ≡ true → apart_callers callers ≡ true
@@ -165,7 +157,7 @@ callers_victim : (xs : List Event) (victim : Option Bytes) (key : Bytes) (caller
 callers_victim xs victim key [] h = refl
 callers_victim xs victim key (c ∷ cs) h =
     let parts = and_parts (comes_behind xs c key) (callers_behind xs key cs) h in
-    join_and _ _ (behind-append xs (victim_events victim) c key parts.0 (behind-victim victim c key)) (callers_victim xs victim key cs parts.1)
+    and_from _ _ (behind-append xs (victim_events victim) c key parts.0 (behind-victim victim c key)) (callers_victim xs victim key cs parts.1)
 
 -- a group more
 pub order-group : (xs : List Event) (place : ℕ) (g : Group) → in_order xs ≡ true → MayPut xs g.caller g.step.key g.joined → in_order (xs ++ events_of place g) ≡ true
@@ -187,23 +179,23 @@ order-group xs place g order may =
 
 own-shared : (m : State) (place : ℕ) (key : Bytes) (answer : LoadAnswer) (callers : List Caller) → is_of m key ≡ true → list_all (is_own m) (map (shared_event place key answer) callers) ≡ true
 own-shared m place key answer [] h = refl
-own-shared m place key answer (c ∷ cs) h = join_and _ _ h (own-shared m place key answer cs h)
+own-shared m place key answer (c ∷ cs) h = and_from _ _ h (own-shared m place key answer cs h)
 
 own-victim : (m : State) (victim : Option Bytes) → ((v : Bytes) → victim ≡ Some v → is_of m v ≡ true) → list_all (is_own m) (victim_events victim) ≡ true
 own-victim m None h = refl
-own-victim m (Some v) h = join_and _ _ (h v refl) refl
+own-victim m (Some v) h = and_from _ _ (h v refl) refl
 
 own-evicted : (m : State) (key : Bytes) (cause : Option Cause) → is_of m key ≡ true → list_all (is_own m) (evicted_events key cause) ≡ true
 own-evicted m key None h = refl
-own-evicted m key (Some cause) h = join_and _ _ h refl
+own-evicted m key (Some cause) h = and_from _ _ h refl
 
 -- the events of a group are of the stripe's keys
 pub own-group : (m : State) (place : ℕ) (g : Group) → is_of m g.step.key ≡ true → ((v : Bytes) → g.victim ≡ Some v → is_of m v ≡ true) → list_all (is_own m) (events_of place g) ≡ true
 own-group m place g key victim =
     let shared : List Event = map (shared_event (step_place place g) g.step.key g.step.out.load) g.joined in
     list_all-append (is_own m) (victim_events g.victim ++ step_event g ∷ shared) (evicted_events g.step.key g.evicted)
-    ∙ join_and _ _
-    (list_all-append (is_own m) (victim_events g.victim) (step_event g ∷ shared) ∙ join_and _ _ (own-victim m g.victim victim) (join_and _ _ key (own-shared m (step_place place g) g.step.key g.step.out.load g.joined key)))
+    ∙ and_from _ _
+    (list_all-append (is_own m) (victim_events g.victim) (step_event g ∷ shared) ∙ and_from _ _ (own-victim m g.victim victim) (and_from _ _ key (own-shared m (step_place place g) g.step.key g.step.out.load g.joined key)))
     (own-evicted m g.step.key g.evicted key)
 
 -- what is found among entries of the stripe's keys is of the stripe
@@ -224,11 +216,11 @@ own_others : (m : State) (key : Bytes) (entries : List (Bytes × Bytes)) → lis
 own_others m key [] h = refl
 own_others m key (e ∷ es) h =
     let parts = and_parts (is_of m e.0) (list_all (λ entry. is_of m entry.0) es) h in
-    elim (not (pointwise ◌==◌ key e.0)) as (λ b. list_all (λ entry. is_of m entry.0) (cond b (e ∷ others key es) (others key es)) ≡ true) [ true ↦ join_and _ _ parts.0 (own_others m key es parts.1) | false ↦ own_others m key es parts.1 ]
+    elim (not (pointwise ◌==◌ key e.0)) as (λ b. list_all (λ entry. is_of m entry.0) (cond b (e ∷ others key es) (others key es)) ≡ true) [ true ↦ and_from _ _ parts.0 (own_others m key es parts.1) | false ↦ own_others m key es parts.1 ]
 
 own_listed : (m : State) (key : Bytes) (entry : Option Bytes) (entries : List (Bytes × Bytes)) → is_of m key ≡ true → list_all (λ e. is_of m e.0) entries ≡ true → list_all (λ e. is_of m e.0) (with_entry_first key entry entries) ≡ true
 own_listed m key None entries k h = own_others m key entries h
-own_listed m key (Some value) entries k h = join_and _ _ k (own_others m key entries h)
+own_listed m key (Some value) entries k h = and_from _ _ k (own_others m key entries h)
 
 own_without : (m : State) (victim : Option Bytes) (entries : List (Bytes × Bytes)) → list_all (λ e. is_of m e.0) entries ≡ true → list_all (λ e. is_of m e.0) (after_eviction victim entries) ≡ true
 own_without m None entries h = h

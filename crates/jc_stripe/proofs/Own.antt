@@ -2,10 +2,8 @@
 --     own_left     the law
 use Rattle.std.proofs.Common.{◌≡◌, ◌==◌, ◌&&◌, ◌||◌, ◌+◌, ℕ, List, [], ◌∷◌, ◌++◌, map, length, filter, Bool, true, false, cond, not, None, Some, refl, sym, ap, ◌∙◌, arith, append_assoc, slice_get, find, option_map}
 use Rattle.std.proofs.lemmas.Bool.{eqb-true, and_parts}
-use Rattle.std.proofs.lemmas.Cmp.{nat_list_eq_equiv}
+use Rattle.std.proofs.lemmas.Cmp.{nat_list_eq_equiv, nat_eq_equiv}
 use Rattle.std.proofs.lemmas.List.{length-append}
-use Rattle.std.proofs.lemmas.Option.{slice_get-get_or}
-use Rattle.std.proofs.Math.Seq.{get_or-append_seam}
 use Rattle.std.specs.List.{list_all}
 use Rattle.std.specs.Cmp.Lexicographic.{pointwise, same_text}
 use Rattle.jc_types.proofs.CallerLemmas.{all_found}
@@ -32,7 +30,8 @@ use Rattle.jc_stripe.specs.OnePhase.{is_answered, is_parked, is_own_step, own_st
 use Rattle.jc_stripe.specs.OwnSteps.{AddsOwn, OwnSteps}
 use Rattle.jc_stripe.proofs.OwnPick.{none_parked, parked_other, picks_own}
 use Rattle.jc_stripe.proofs.Settled.{keyed_callers}
-use Rattle.jc_stripe.proofs.ParkedSteps.{number_itself, joiners_call, own-parked, own-answered, own-victim, own-evicted, own-shared, filter-append, all_parked, parked-callers, parked-joined, parked-dissolved}
+use Rattle.jc_stripe.proofs.ParkedSteps.{joiners_call, own-parked, own-answered, own-victim, own-evicted, own-shared, filter-append, all_parked, parked-callers, parked-joined, parked-dissolved}
+use Rattle.jc_stripe.proofs.SharedSteps.{stands_at}
 
 -- 1. A call of its own has nothing parked.
 
@@ -65,16 +64,12 @@ own_mine js place g free parked =
     let p : Event → Bool = is_own_step session js in
     let shared : List Event = map (shared_event (step_place place g) g.step.key g.step.out.load) g.joined in
     let own : List Event = evicted_events g.step.key g.evicted in
-    let mine = number_itself session in
+    let mine = nat_eq_equiv.refl session in
     let none = own-shared session js (step_place place g) g.step.key g.step.out.load g.joined parked in
     let steps : filter p (step_event g ∷ shared) ≡ step_event g ∷ [] = λ i. cond (mine i && not (free i)) (step_event g ∷ none i) (filter p shared) in
     filter-append p (victim_events g.victim ++ step_event g ∷ shared) own
     ∙ (λ i. filter-append p (victim_events g.victim) (step_event g ∷ shared) i ++ own-evicted session js g.step.key g.evicted i)
     ∙ (λ i. (own-victim session js g.victim i ++ steps i) ++ [])
-
-there_at : (before : List Event) (event : Event) (after : List Event) → slice_get (before ++ event ∷ after) (length before) ≡ Some event
-there_at before event after =
-    slice_get-get_or (before ++ event ∷ after) (length before) event (omega (arith, length-append before (event ∷ after))) ∙ ap Some (get_or-append_seam before event after event)
 
 pub step_there : (history : List Event) (g : Group) → slice_get (history ++ events_of (length history) g) (step_place (length history) g) ≡ Some (step_event g)
 step_there history g =
@@ -83,7 +78,7 @@ step_there history g =
     let gone : List Event = evicted_events g.step.key g.evicted in
     let is : history ++ events_of (length history) g ≡ (history ++ front) ++ step_event g ∷ (shared ++ gone) =
     ap (λ es. history ++ es) (append_assoc front (step_event g ∷ shared) gone) ∙ sym (append_assoc history front (step_event g ∷ (shared ++ gone))) in
-    ap (λ n. slice_get (history ++ events_of (length history) g) n) (sym (length-append history front)) ∙ ap (λ h. slice_get h (length (history ++ front))) is ∙ there_at (history ++ front) (step_event g) (shared ++ gone)
+    ap (λ n. slice_get (history ++ events_of (length history) g) n) (sym (length-append history front)) ∙ ap (λ h. slice_get h (length (history ++ front))) is ∙ stands_at (history ++ front) (step_event g) (shared ++ gone)
 
 adds : (m new : State) (caller : Caller) (key : Bytes) (op : Op) (out : Out) (callers : List Caller) (done : StepDone) → Steps m caller key op out callers done new
     → is_parked m.joiners caller key ≡ false → all_parked m.joiners key callers ≡ true → AddsOwn caller.session m new (Step caller op key out None done.reply) done.place

@@ -4,11 +4,12 @@
 --     steps_behind                  a step whose call may still come behind a history isn't in it
 --     all_behind                    where the session's own steps and its joiners let a call begin, its whole history does
 use Rattle.std.proofs.Common.{◌≡◌, ◌≤◌, ◌==◌, ◌&&◌, ◌||◌, length, ℕ, zero, suc, List, [], ◌∷◌, ◌++◌, filter, find, option_map, Bool, true, false, cond, not, Option, Some, nat_lt, refl, sym, ap, ◌∙◌, arith, slice_get}
-use Rattle.std.proofs.lemmas.Bool.{eqb-true, true≢false, and_parts, and_from}
-use Rattle.std.proofs.lemmas.Cmp.{nat_list_eq_equiv}
+use Rattle.std.proofs.lemmas.Bool.{eqb-true, true≢false, and_parts, and_from, and_right, or_left, or_right}
+use Rattle.std.proofs.lemmas.Cmp.{nat_list_eq_equiv, nat_eq_equiv}
 use Rattle.std.proofs.lemmas.List.Folds.{list_all-append}
 use Rattle.std.specs.List.{list_all}
 use Rattle.std.specs.Cmp.Lexicographic.{pointwise}
+use Rattle.jc_stripe.proofs.Settled.{if_so}
 use Rattle.jc_types.proofs.CallerLemmas.{all_imply}
 use Rattle.jc_types.specs.declared.caller.Caller.{Caller}
 use Rattle.jc_model.specs.declared.event.Event.{Event}
@@ -30,9 +31,7 @@ use Rattle.jc_stripe.specs.Phases.{is_other_join, PicksUp}
 use Rattle.jc_stripe.specs.Reached.{IsReached}
 use Rattle.jc_stripe.specs.OnePhase.{is_answered, is_parked, is_own_step, own_steps, GainsOwn}
 use Rattle.jc_stripe.specs.OwnSteps.{may_come_all}
-use Rattle.jc_stripe.proofs.Beside.{or_left, or_right}
-use Rattle.jc_stripe.proofs.Ordered.{turned_eq}
-use Rattle.jc_stripe.proofs.ParkedSteps.{number_itself, number_below, and_false, joiners_call, filter-append}
+use Rattle.jc_stripe.proofs.ParkedSteps.{number_below, joiners_call, filter-append}
 
 -- 1. The other events are other calls' or of other keys.
 
@@ -57,7 +56,7 @@ before_differs c op k out shared reply (Evict k' cause) h = refl
 
 pub after_differs : (c : Caller) (op : Op) (k : Bytes) (out : Out) (shared : Option ℕ) (reply : Reply) (y : Event) → may_follow (Step c op k out shared reply) y ≡ true → differs c k y ≡ true
 after_differs c op k out shared reply (Step c' op' k' out' shared' reply') h =
-    (λ i. not (turned_eq c'.session c.session i && turned_eq c'.call c.call i && nat_list_eq_equiv.symm k' k i))
+    (λ i. not (nat_eq_equiv.symm c'.session c.session i && nat_eq_equiv.symm c'.call c.call i && nat_list_eq_equiv.symm k' k i))
     ∙ apart_by (c.session == c'.session) (nat_lt c.call c'.call) (c.call == c'.call) (pointwise ◌==◌ k k') (λ e. number_below c'.call c.call (sym (eqb-true c.call c'.call e))) h
 after_differs c op k out shared reply (Evict k' cause) h = refl
 
@@ -80,7 +79,7 @@ other_call : (c : Caller) (k : Bytes) (j : Joiner) (c' : Caller) (k' : Bytes) �
 other_call c k j c' k' d is =
     let one = joiners_call c k j is in
     (λ i. (eqb-true j.caller.session c.session one.session i == c'.session) && (eqb-true j.caller.call c.call one.call i == c'.call) && pointwise ◌==◌ k' (sym one.key i))
-    ∙ (λ i. turned_eq c.session c'.session i && turned_eq c.call c'.call i && pointwise ◌==◌ k' k) ∙ opened (is_call c k c' k') d
+    ∙ (λ i. nat_eq_equiv.symm c.session c'.session i && nat_eq_equiv.symm c.call c'.call i && pointwise ◌==◌ k' k) ∙ opened (is_call c k c' k') d
   where
     opened : (b : Bool) → not b ≡ true → b ≡ false
     opened true h = sym h
@@ -142,8 +141,8 @@ picks_own old new join reply place shared reached h =
     let differ = others_differ c Get k out (Some shared) reply pre post (ap in_order (sym parts.2) ∙ reached.legal.order) in
     let p : Event → Bool = is_own_step s js in
     let q : Event → Bool = is_own_step s (taking.without_joiner c k js) in
-    let hidden : ((s == s) && not (is_parked js c k)) ≡ false = ap (λ b. (s == s) && not b) (parked_told c k js place shared h.1) ∙ and_false (s == s) in
-    let shown : ((s == s) && not (is_parked (taking.without_joiner c k js) c k)) ≡ true = λ i. number_itself s i && not (none_parked c k js i) in (
+    let hidden : ((s == s) && not (is_parked js c k)) ≡ false = ap (λ b. (s == s) && not b) (parked_told c k js place shared h.1) ∙ and_right (s == s) false refl in
+    let shown : ((s == s) && not (is_parked (taking.without_joiner c k js) c k)) ≡ true = λ i. nat_eq_equiv.refl s i && not (none_parked c k js i) in (
       out,
       record {
         there = ap (λ (z : State). slice_get z.history place) h.3 ∙ h.2.1;
@@ -159,7 +158,7 @@ picks_own old new join reply place shared reached h =
 -- 4. A step whose call may still come behind a history isn't in it.
 
 never : (c : Caller) (op : Op) (k : Bytes) (out : Out) (shared : Option ℕ) (reply : Reply) → may_come (Step c op k out shared reply) c k ≡ false
-never c op k out shared reply = λ i. not (number_itself c.session i) || number_below c.call c.call refl i || (number_itself c.call i && not (nat_list_eq_equiv.refl k i))
+never c op k out shared reply = λ i. not (nat_eq_equiv.refl c.session i) || number_below c.call c.call refl i || (nat_eq_equiv.refl c.call i && not (nat_list_eq_equiv.refl k i))
 
 pub steps_behind : (history more : List Event) (c : Caller) (op : Op) (k : Bytes) (out : Out) (shared : Option ℕ) (reply : Reply) (place : ℕ) → may_come_all history c k ≡ true
     → slice_get (history ++ more) place ≡ Some (Step c op k out shared reply) → length history ≤ place
@@ -174,10 +173,6 @@ steps_behind (x ∷ xs) more c op k out shared reply (suc place) h there =
 
 -- 5. Where the session's own steps and its joiners let a call begin, its whole history does.
 
-second : (a b : Bool) → a ≡ true → (not a || b) ≡ true → b ≡ true
-second true b g h = h
-second false b g h = cc
-
 parked_apart : (c : Caller) (k : Bytes) (c' : Caller) (k' : Bytes) (js : List Joiner) → c'.session ≡ c.session → list_all (is_other_join c k) js ≡ true → is_parked js c' k' ≡ true → ((c'.call == c.call) && not (pointwise ◌==◌ k' k)) ≡ true
 parked_apart c k c' k' [] same all h = cc
 parked_apart c k c' k' (j ∷ js) same all h =
@@ -187,7 +182,7 @@ parked_apart c k c' k' (j ∷ js) same all h =
           let one = joiners_call c' k' j e in
           let call : c'.call ≡ j.caller.call = sym (eqb-true j.caller.call c'.call one.call) in
           let mine : (j.caller.session == c.session) ≡ true = ap (λ s. j.caller.session == s) (sym same) ∙ one.session in
-          (λ i. (call i == c.call) && not (pointwise ◌==◌ (one.key i) k)) ∙ second (j.caller.session == c.session) ((j.caller.call == c.call) && not (pointwise ◌==◌ j.key k)) mine parts.0
+          (λ i. (call i == c.call) && not (pointwise ◌==◌ (one.key i) k)) ∙ if_so (j.caller.session == c.session) ((j.caller.call == c.call) && not (pointwise ◌==◌ j.key k)) mine parts.0
       | false ↦ λ e h. parked_apart c k c' k' js same parts.1 h
     ] refl h
 

@@ -7,8 +7,8 @@
 --     parked-callers                  those that share a load are parked behind it
 use Rattle.std.proofs.Common.{◌≡◌, ◌==◌, ◌&&◌, ◌||◌, ◌+◌, ℕ, List, [], ◌∷◌, ◌++◌, map, filter, Bool, true, false, cond, not, Option, None, Some, refl, sym, ap, ◌∙◌, arith, append-nil, nat_lt}
 use Rattle.std.proofs.lemmas.Bool.Decides.{nat_tests}
-use Rattle.std.proofs.lemmas.Bool.{eqb-true, and_parts, and_from}
-use Rattle.std.proofs.lemmas.Cmp.{nat_list_eq_equiv}
+use Rattle.std.proofs.lemmas.Bool.{eqb-true, and_parts, and_from, and_right, or_right}
+use Rattle.std.proofs.lemmas.Cmp.{nat_list_eq_equiv, nat_eq_equiv}
 use Rattle.std.specs.List.{list_all}
 use Rattle.std.specs.Cmp.Lexicographic.{pointwise, same_text}
 use Rattle.jc_types.proofs.CallerLemmas.{all_imply}
@@ -33,9 +33,7 @@ use Rattle.jc_inflight.specs.Taking as taking
 use Rattle.jc_stripe.specs.State.{waits}
 use Rattle.jc_stripe.specs.Reached.{may_share}
 use Rattle.jc_stripe.specs.OnePhase.{is_answered, is_parked, is_own_step}
-use Rattle.jc_stripe.proofs.Beside.{or_right}
-use Rattle.jc_stripe.proofs.Ordered.{turned_eq}
-use Rattle.jc_stripe.proofs.Settled.{keyed}
+use Rattle.jc_stripe.proofs.Settled.{keyed, if_so}
 use Rattle.jc_types.specs.declared.caller.Caller.{Caller}
 
 -- 1. The own steps behind other joiners.
@@ -52,9 +50,6 @@ joiners_call c k j is =
     let inner = and_parts (j.caller.session == c.session) (j.caller.call == c.call) outer.0 in
     record { session = inner.0; call = inner.1; key = same_text k j.key (sym outer.1) }
 
-pub number_itself : (n : ℕ) → (n == n) ≡ true
-number_itself n = grind (arith, nat_tests)
-
 -- of a session's step it matters alone whether it is parked
 pub tested : (mine p q : Bool) → (mine ≡ true → p ≡ q) → (mine && not p) ≡ (mine && not q)
 tested true p q f = ap not (f refl)
@@ -70,13 +65,9 @@ own-parked other js next (Step c op k out shared reply ∷ events) same =
     λ i. cond (test i) (Step c op k out shared reply ∷ rest i) (rest i)
 own-parked other js next (Evict k cause ∷ events) same = own-parked other js next events same
 
-pub and_false : (b : Bool) → (b && false) ≡ false
-and_false true = refl
-and_false false = refl
-
 -- one that waits parks nothing
 pub parked-joined : (caller : Caller) (load : ℕ) (key : Bytes) (js : List Joiner) (c : Caller) (k : Bytes) → is_parked (joining.with_joiner caller key load js) c k ≡ is_parked js c k
-parked-joined caller load key [] c k = ap (λ b. b || false) (and_false _)
+parked-joined caller load key [] c k = ap (λ b. b || false) (and_right _ false refl)
 parked-joined caller load key (j ∷ js) c k = ap (λ b. (belongs_to c k j && is_answered j.state) || b) (parked-joined caller load key js c k)
 
 pub waiting_parks : (state : JoinState) → is_waiting state ≡ true → is_answered state ≡ false
@@ -101,7 +92,7 @@ pub other_parks : (caller : Caller) (key : Bytes) (j : Joiner) (c : Caller) (k :
 other_parks caller key j c k differs is =
     let outer = and_parts ((j.caller.session == caller.session) && (j.caller.call == caller.call)) (pointwise ◌==◌ key j.key) is in
     let here : j.caller.session ≡ caller.session = eqb-true j.caller.session caller.session (and_parts (j.caller.session == caller.session) (j.caller.call == caller.call) outer.0).0 in
-    ap (λ b. b && (j.caller.call == c.call) && pointwise ◌==◌ k j.key) (turned_eq j.caller.session c.session ∙ ap (λ t. c.session == t) here ∙ differs)
+    ap (λ b. b && (j.caller.call == c.call) && pointwise ◌==◌ k j.key) (nat_eq_equiv.symm j.caller.session c.session ∙ ap (λ t. c.session == t) here ∙ differs)
 
 pub parked-without : (caller : Caller) (key : Bytes) (js : List Joiner) (c : Caller) (k : Bytes) → (c.session == caller.session) ≡ false → is_parked (taking.without_joiner caller key js) c k ≡ is_parked js c k
 parked-without caller key [] c k differs = refl
@@ -124,16 +115,12 @@ not_yet c k j h =
       | true ↦ λ is.
           let outer = and_parts ((j.caller.session == c.session) && (j.caller.call == c.call)) (pointwise ◌==◌ k j.key) is in
           let inner = and_parts (j.caller.session == c.session) (j.caller.call == c.call) outer.0 in
-          let session : (c.session == j.caller.session) ≡ true = turned_eq c.session j.caller.session ∙ inner.0 in
+          let session : (c.session == j.caller.session) ≡ true = nat_eq_equiv.symm c.session j.caller.session ∙ inner.0 in
           let number : nat_lt c.call j.caller.call ≡ false = number_below j.caller.call c.call (eqb-true j.caller.call c.call inner.1) in
           let bad : (not true || false || ((c.call == j.caller.call) && not true)) ≡ true = (λ i. not (sym session i) || sym number i || ((c.call == j.caller.call) && not (sym outer.1 i))) ∙ h in
-          sym bad ∙ and_false (c.call == j.caller.call)
+          sym bad ∙ and_right (c.call == j.caller.call) false refl
       | false ↦ λ is. refl
     ] refl
-
-pub if_waits : (b c : Bool) → b ≡ true → (not b || c) ≡ true → c ≡ true
-if_waits true c w h = h
-if_waits false c w h = cc
 
 -- the answers park no step that stands already
 pub parked-answered : (load step place : ℕ) (js : List Joiner) (c : Caller) (op : Op) (k : Bytes) (out : Out) (shared : Option ℕ) (reply : Reply)
@@ -143,7 +130,7 @@ parked-answered load step place (j ∷ js) c op k out shared reply h =
     let parts = and_parts (not (waits j) || may_come (Step c op k out shared reply) j.caller j.key) (list_all (λ j. not (waits j) || may_come (Step c op k out shared reply) j.caller j.key) js) h in
     elim (waits_for load j) as (λ b. waits_for load j ≡ b → is_parked (cond b (with_answer place step j ∷ answered_from load step (place + 1) js) (j ∷ answered_from load step place js)) c k ≡ is_parked (j ∷ js) c k) [
       | true ↦ λ w.
-          let none : belongs_to c k j ≡ false = not_yet c k j (if_waits (waits j) _ (and_parts (j.load == load) (is_waiting j.state) w).1 parts.0) in
+          let none : belongs_to c k j ≡ false = not_yet c k j (if_so (waits j) _ (and_parts (j.load == load) (is_waiting j.state) w).1 parts.0) in
           ap (λ b. (b && true) || is_parked (answered_from load step (place + 1) js) c k) none
           ∙ parked-answered load step (place + 1) js c op k out shared reply parts.1
           ∙ ap (λ b. (b && is_answered j.state) || is_parked js c k) (sym none)
@@ -194,7 +181,7 @@ own-shared other js place key answer [] h = refl
 own-shared other js place key answer (c ∷ cs) h =
     let parts = and_parts (is_parked js c key) (all_parked js key cs) h in
     let rest = own-shared other js place key answer cs parts.1 in
-    let test : ((c.session == other) && not (is_parked js c key)) ≡ false = ap (λ b. (c.session == other) && not b) parts.0 ∙ and_false (c.session == other) in
+    let test : ((c.session == other) && not (is_parked js c key)) ≡ false = ap (λ b. (c.session == other) && not b) parts.0 ∙ and_right (c.session == other) false refl in
     λ i. cond (test i) (shared_event place key answer c ∷ rest i) (rest i)
 
 -- a group whose callers' steps are parked has own steps of its session alone
@@ -235,4 +222,4 @@ parked-callers load step place key (j ∷ js) h =
     ] parts.0
   where
     itself : (j : Joiner) → pointwise ◌==◌ j.key key ≡ true → belongs_to j.caller key j ≡ true
-    itself j e = and_from _ _ (and_from _ _ (number_itself j.caller.session) (number_itself j.caller.call)) (nat_list_eq_equiv.symm key j.key ∙ e)
+    itself j e = and_from _ _ (and_from _ _ (nat_eq_equiv.refl j.caller.session) (nat_eq_equiv.refl j.caller.call)) (nat_list_eq_equiv.symm key j.key ∙ e)

@@ -17,7 +17,7 @@ use Rattle.jc_inflight.specs.declared.joiner.JoinState.TheVariants.{Waiting, Ans
 use Rattle.jc_inflight.specs.Joining.{belongs_to, is_waiting}
 use Rattle.jc_inflight.specs.Taking.{after_take}
 use Rattle.jc_inflight.specs.Taking as taking
-use Rattle.jc_inflight.proofs.CallerLemmas.{belongs_to_same, after_take_over, after_take_waiting}
+use Rattle.jc_inflight.proofs.CallerLemmas.{belongs_to_same, after_take_over, after_take_waiting, count-cons}
 use Rattle.jc_stripe.specs.Tickets.{JoinClaim}
 use Rattle.jc_stripe.specs.State.{State, IsJoined, waits}
 use Rattle.jc_stripe.specs.declared.begun.Picked.TheVariants as picked
@@ -26,8 +26,7 @@ use Rattle.jc_stripe.specs.Inside.{IsStripe, state_of}
 use Rattle.jc_stripe.specs.Phases.{PicksUp, is_other_join, told_to, IsSharedStep}
 use Rattle.jc_stripe.specs.Reached.{IsReached, AllJoin, JoinFits, are_apart}
 use Rattle.jc_stripe.specs.Appending.{HasToldStep, after_pick_up}
-use Rattle.jc_stripe.proofs.Numbering.{found_test}
-use Rattle.jc_stripe.proofs.Joining.{count-cons}
+use Rattle.jc_types.proofs.CallerLemmas.{found_test}
 use Rattle.jc_stripe.proofs.Tables.{reached_left}
 use Rattle.jc_stripe.proofs.Making.{not_joined}
 

@@ -26,15 +26,16 @@ use Rattle.jc_stripe.specs.State.{State, is_key, is_reserved, IsOut, new_reserva
 use Rattle.jc_stripe.specs.Refusals.{first_refusal, first_asked, needs_free_key, places_needed, needs_reservation}
 use Rattle.jc_stripe.specs.Phases.{MayBegin, is_other_call, is_other_join, new_group, after_group, Steps, Begins, Commits, with_joiner, after_commit}
 use Rattle.jc_stripe.specs.Reached.{IsReached, IsUsed}
-use Rattle.jc_stripe.proofs.Refusing.{not_refused, roomy, alone_passes, passing_keeps, was_free, ticket_places, few_out, join_places, few_joined, loader_needs, writer_needs, processor_needs}
+use Rattle.jc_stripe.proofs.Refusing.{not_refused, roomy, alone_passes, answering_keeps, was_free, ticket_places, few_out, join_places, few_joined, loader_needs, writer_needs, processor_needs}
 use Rattle.jc_stripe.proofs.Tables.{reached_reserved, reached_joined}
-use Rattle.jc_stripe.proofs.Beside.{ask_same, or_right, none_left}
+use Rattle.jc_stripe.proofs.Beside.{ask_same, none_left}
 use Rattle.jc_stripe.proofs.Settled.{SharedAt, joins_same, joins_settled, remains_settled, may_commit, beside_found, callers_behind, callers_other, callers_apart, callers_beside, callers_left, claim_left_waiting, one_less_claimed, count_left, length_left}
 use Rattle.jc_stripe.proofs.SharedSteps.{shared-group}
 use Rattle.jc_stripe.proofs.Ordered.{order-group}
 use Rattle.jc_stripe.proofs.Stepped.{legal_on, used_on, own_on, kept_on, all_swap, ends_on, shares_on, few_events, one_event}
 use Rattle.jc_types.specs.declared.caller.Caller.{Caller}
 use Rattle.jc_stripe.specs.declared.ticket.Reservation.{Reservation}
+use Rattle.std.proofs.lemmas.Bool.{or_right}
 
 -- 1. A reached state's history is legal.
 
@@ -59,7 +60,7 @@ all_empty p [] = refl
 all_empty p (x ∷ xs) = all_empty p xs
 
 -- how many events it has at most
-few_done : (free : Bool) (n : ℕ) → (free ≡ false → n ≤ HIT_PLACES) → n ≤ STEP_PLACES → n ≤ places_needed free
+pub few_done : (free : Bool) (n : ℕ) → (free ≡ false → n ≤ HIT_PLACES) → n ≤ STEP_PLACES → n ≤ places_needed free
 few_done true n one three = three
 few_done false n one three = one refl
 
@@ -68,7 +69,7 @@ pub begins_done : (old new : State) (caller : Caller) (key : Bytes) (op : Op) (d
 begins_done old new caller key op done reached may none nobody steps =
     let g : Group = new_group old caller key op nothing_said [] steps.short in
     let more : List Event = events_of (length old.history) g in
-    let passing : needs_free_key old key op ≡ false → entry_after op (entry_at old.cache key) nothing_said ≡ entry_at old.cache key = λ e. passing_keeps old.config op (entry_at old.cache key) (alone_passes old key op nobody e) in
+    let passing : needs_free_key old key op ≡ false → entry_after op (entry_at old.cache key) nothing_said ≡ entry_at old.cache key = λ e. answering_keeps old.config op (entry_at old.cache key) (alone_passes old key op nobody e) in
     let room = roomy old caller.call (places_needed (needs_free_key old key op)) (not_refused old caller key op none).room in
     let few : length more ≤ places_needed (needs_free_key old key op) = few_done (needs_free_key old key op) (length more) (λ e. one_event old caller key op nothing_said steps.short (length old.history) (passing e))
     (few_events (length old.history) g) in

@@ -2,7 +2,7 @@
 use Rattle.std.proofs.Common.{◌≡◌, ◌≤◌, ◌<◌, ◌+◌, ◌||◌, ◌&&◌, ℕ, List, length, Bool, true, false, cond, not, Option, Some, None, is_some, is_none, nat_le, nat_lt, find, refl, sym, ap, ◌∙◌, arith, if◌then◌else◌}
 use Rattle.std.specs.List.{list_any}
 use Rattle.std.proofs.lemmas.Bool.Decides.{nat_tests}
-use Rattle.std.proofs.lemmas.Bool.{and_parts}
+use Rattle.std.proofs.lemmas.Bool.{and_parts, not-false}
 use Rattle.jc_types.specs.declared.caller.Caller.{Caller}
 use Rattle.jc_types.specs.declared.config.Config.{Config}
 use Rattle.jc_types.specs.declared.limits.TheConstants.{STEP_PLACES, HIT_PLACES, RESERVATIONS_MAX, JOINERS_MAX}
@@ -17,7 +17,7 @@ use Rattle.jc_stripe.specs.declared.ticket.First.TheVariants.{Nobody, Loader, Wr
 use Rattle.jc_stripe.specs.Tickets.{asks_writer, asks_processor}
 use Rattle.jc_stripe.specs.State.{State, is_key, is_reserved, reservation_of, promised}
 use Rattle.jc_stripe.specs.Refusals.{first_asked, first_by, first_refusal, needs_free_key, may_join, has_room, last_number, load_at, load_joined, needs_reservation, answers_at_once, places_needed, reserves, writer_for}
-use Rattle.jc_stripe.proofs.Numbering.{found_any}
+use Rattle.jc_types.proofs.CallerLemmas.{found_any}
 use Rattle.jc_stripe.specs.declared.ticket.Reservation.{Reservation}
 
 -- 1. None of the conditions holds.
@@ -86,16 +86,16 @@ get_asks true write None h = cc
 get_asks false write entry h = asks_none write
 
 -- a call that answers at once asks nobody
-pub passing_asks : (config : Config) (op : Op) (entry : Option Bytes) → answers_at_once config op entry ≡ true → first_asked config op entry ≡ Nobody
-passing_asks config Get entry h = get_asks config.read_through config.write_through entry h
-passing_asks config ContainsKey entry h = asks_none config.write_through
-passing_asks config op entry h = cc
+pub answering_asks : (config : Config) (op : Op) (entry : Option Bytes) → answers_at_once config op entry ≡ true → first_asked config op entry ≡ Nobody
+answering_asks config Get entry h = get_asks config.read_through config.write_through entry h
+answering_asks config ContainsKey entry h = asks_none config.write_through
+answering_asks config op entry h = cc
 
--- a call that answers_at_once leaves the entry
-pub passing_keeps : (config : Config) (op : Op) (entry : Option Bytes) → answers_at_once config op entry ≡ true → entry_after op entry nothing_said ≡ entry
-passing_keeps config Get entry h = refl
-passing_keeps config ContainsKey entry h = refl
-passing_keeps config op entry h = cc
+-- a call that answers at once leaves the entry
+pub answering_keeps : (config : Config) (op : Op) (entry : Option Bytes) → answers_at_once config op entry ≡ true → entry_after op entry nothing_said ≡ entry
+answering_keeps config Get entry h = refl
+answering_keeps config ContainsKey entry h = refl
+answering_keeps config op entry h = cc
 
 -- what is known of a call that joins
 pub record Joins (state : State) (key : Bytes) (op : Op) (load : ℕ) : Type 0 where
@@ -153,15 +153,11 @@ split : (b : Bool) (A : Type 0) → (b ≡ true → A) → (b ≡ false → A) �
 split true A f g = f refl
 split false A f g = g refl
 
-no_then : (b : Bool) → not b ≡ false → b ≡ true
-no_then true h = refl
-no_then false h = cc
-
 -- a call that asks nobody and does not need its key free answers at once
 pub alone_passes : (state : State) (key : Bytes) (op : Op) → first_asked state.config op (entry_at state.cache key) ≡ Nobody → needs_free_key state key op ≡ false → answers_at_once state.config op (entry_at state.cache key) ≡ true
 alone_passes state key op nobody free =
     split (answers_at_once state.config op (entry_at state.cache key)) _ (λ e. e) (λ e.
-    let joined = joins_some (load_joined state key op) (either (answers_at_once state.config op (entry_at state.cache key)) (is_some (load_joined state key op)) (no_then _ free) e) in
+    let joined = joins_some (load_joined state key op) (either (answers_at_once state.config op (entry_at state.cache key)) (is_some (load_joined state key op)) (not-false _ free) e) in
     is_loader _ nobody (joins_known state key op joined.0 joined.1).asks _)
 
 -- a call that needs a reservation needs its key free
@@ -169,14 +165,14 @@ pub needing_stops : (state : State) (key : Bytes) (op : Op) → needs_reservatio
 needing_stops state key op needs =
     let parts = and_parts (reserves (first_asked state.config op (entry_at state.cache key))) (is_none (load_joined state key op)) needs in
     both_not (answers_at_once state.config op (entry_at state.cache key)) (load_joined state key op)
-    (λ e. let asks = passing_asks state.config op (entry_at state.cache key) e in let f : reserves Nobody ≡ true = ap reserves (sym asks) ∙ parts.0 in cc) parts.1
+    (λ e. let asks = answering_asks state.config op (entry_at state.cache key) e in let f : reserves Nobody ≡ true = ap reserves (sym asks) ∙ parts.0 in cc) parts.1
   where
     both_not : (a : Bool) (o : Option ℕ) → (a ≡ true → ⊥) → is_none o ≡ true → not (a || is_some o) ≡ true
     both_not true o h e = absurd (h refl)
     both_not false None h e = refl
     both_not false (Some x) h e = cc
 
-clash : (b : Bool) → b ≡ true → b ≡ false → ⊥
+pub clash : (b : Bool) → b ≡ true → b ≡ false → ⊥
 clash true g h = cc
 clash false g h = cc
 
@@ -209,6 +205,19 @@ join_places s caller key op load none joins =
 
 pub few_joined : (s : State) (caller : Caller) (key : Bytes) (op : Op) (load : ℕ) → first_refusal s caller key op ≡ None → load_joined s key op ≡ Some load → length s.joiners < JOINERS_MAX
 few_joined s caller key op load none joins = fewer_than JOINERS_MAX (length s.joiners) ((not_refused s caller key op none).few_joined (ap is_some joins))
+
+-- a writer and a processor that are asked first reserve the key
+pub writer_reserves : (first : First) → asks_writer first ≡ true → reserves first ≡ true
+writer_reserves Nobody h = cc
+writer_reserves Loader h = refl
+writer_reserves (Writer change) h = refl
+writer_reserves (Processor seen loads) h = refl
+
+pub processor_reserves : (first : First) → asks_processor first ≡ true → reserves first ≡ true
+processor_reserves Nobody h = cc
+processor_reserves Loader h = refl
+processor_reserves (Writer change) h = refl
+processor_reserves (Processor seen loads) h = refl
 
 -- a loader that is asked alone, a writer, and a processor need a reservation
 pub loader_needs : (s : State) (key : Bytes) (op : Op) → load_joined s key op ≡ None → first_asked s.config op (entry_at s.cache key) ≡ Loader → needs_reservation s key op ≡ true

@@ -6,13 +6,12 @@
 --     SharedAt                     each caller's step stands at its place
 --     joins_settled, joins_same    the joiners behind a commit, and behind a step that is done at once
 use Rattle.std.proofs.Common.{◌≡◌, ◌==◌, ◌≤◌, ◌+◌, ◌&&◌, ◌||◌, ℕ, List, [], ◌∷◌, ◌++◌, length, map, Bool, true, false, cond, not, Option, None, Some, find, filter, refl, sym, ap, ◌∙◌, subst, arith, slice_get}
-use Rattle.std.proofs.lemmas.Bool.{eqb-true, and_parts, and_from}
+use Rattle.std.proofs.lemmas.Bool.{eqb-true, and_parts, and_from, or_right}
 use Rattle.std.proofs.lemmas.Cmp.{nat_list_eq_equiv}
 use Rattle.std.specs.List.{list_any, list_all, count_by}
 use Rattle.std.specs.Cmp.Lexicographic.{pointwise, same_text}
 use Rattle.jc_types.proofs.CallerLemmas.{all_imply, all_found}
 use Rattle.jc_types.specs.declared.config.Config.{Config}
-use Rattle.jc_model.specs.declared.event.Change.{Change}
 use Rattle.jc_model.specs.declared.event.Event.{Event}
 use Rattle.jc_model.specs.declared.event.Event.TheVariants.{Step}
 use Rattle.jc_model.specs.declared.event.Op.{Op}
@@ -29,17 +28,18 @@ use Rattle.jc_inflight.specs.declared.joiner.JoinState.{JoinState}
 use Rattle.jc_inflight.specs.declared.joiner.JoinState.TheVariants.{Waiting, Answered, Again}
 use Rattle.jc_inflight.specs.Joining.{is_waiting, waits_for, callers_of}
 use Rattle.jc_inflight.specs.Resolving.{with_answer, answered_from, after_resolve}
-use Rattle.jc_inflight.proofs.CallerLemmas.{calls-answered_from}
+use Rattle.jc_inflight.proofs.CallerLemmas.{calls-answered_from, count-cons}
 use Rattle.jc_stripe.specs.declared.ticket.First.TheVariants.{Loader}
 use Rattle.jc_stripe.specs.State.{State, is_key, is_of, IsOut, without_key, waits}
-use Rattle.jc_stripe.specs.Refusals.{first_asked, writer_for}
+use Rattle.jc_stripe.specs.Refusals.{first_asked}
 use Rattle.jc_stripe.specs.Phases.{MayBegin, after_commit, is_other_call, is_other_join}
 use Rattle.jc_stripe.specs.Reached.{IsReached, AreNumbered, AllAsk, FindsLoad, JoinFits, AllJoin, may_end, may_share, are_beside, are_apart, all_apart}
 use Rattle.jc_stripe.proofs.Numbering.{one_number, key_found, numbered-left}
-use Rattle.jc_stripe.proofs.Beside.{or_right, all_both, beside_turned, all_left, beside_left, ask_left, ask_found, one_less, apart_turned, between_left, between_first, between_others, one_apart-alike, apart-alike, between-alike, length-alike}
-use Rattle.jc_stripe.proofs.Joining.{loaded_at, fits_on, join_on, finds_on, still_there, count-cons}
+use Rattle.jc_stripe.proofs.Beside.{all_both, beside_turned, all_left, beside_left, ask_left, ask_found, one_less, apart_turned, between_left, between_first, between_others, one_apart-alike, apart-alike, between-alike, length-alike}
+use Rattle.jc_stripe.proofs.Joining.{loaded_at, fits_on, join_on, finds_on, still_there}
 use Rattle.jc_types.specs.declared.caller.Caller.{Caller}
 use Rattle.jc_stripe.specs.declared.ticket.Reservation.{Reservation}
+use Rattle.jc_stripe.proofs.Fitting.{not_loader}
 
 -- 1. Who shares the load.
 
@@ -50,22 +50,16 @@ pub record Shares (old : State) (r : Reservation) : Type 0 where
   pub first : r.first ≡ Loader
   pub whole : loads_whole r.op ≡ true
 
--- a writer's request is none of the loader's
-not_loader : (b : Bool) (change : Option Change) → writer_for (cond b change None) ≡ Loader → (A : Type 0) → A
-not_loader true None h A = cc
-not_loader true (Some change) h A = cc
-not_loader false change h A = cc
-
 -- the operations that ask the loader first load a key whole
-pub asks_whole : (config : Config) (op : Op) (entry : Option Bytes) → first_asked config op entry ≡ Loader → loads_whole op ≡ true
-asks_whole config Get entry h = refl
-asks_whole config (LoadAll replace) entry h = refl
-asks_whole config Invoke entry h = cc
-asks_whole config op entry h = not_loader config.write_through (write_ask op entry process.NotAsked) h _
+pub loads_asked : (config : Config) (op : Op) (entry : Option Bytes) → first_asked config op entry ≡ Loader → loads_whole op ≡ true
+loads_asked config Get entry h = refl
+loads_asked config (LoadAll replace) entry h = refl
+loads_asked config Invoke entry h = cc
+loads_asked config op entry h = not_loader config.write_through (write_ask op entry process.NotAsked) h _
 
 pub whole_load : (old : State) (r : Reservation) → IsReached old → IsOut old r → r.first ≡ Loader → loads_whole r.op ≡ true
 whole_load old r reached found first =
-    asks_whole old.config r.op (entry_at old.cache r.key) (ask_found old.config old.cache (is_key r.key) old.reservations r found reached.asks ∙ first)
+    loads_asked old.config r.op (entry_at old.cache r.key) (ask_found old.config old.cache (is_key r.key) old.reservations r found reached.asks ∙ first)
 
 pub waiting_finds : (state : State) (j : Joiner) (s : JoinState) → is_waiting s ≡ true → JoinFits state j s → FindsLoad state j
 waiting_finds state j Waiting w fits = fits
@@ -125,7 +119,7 @@ keyed_callers old r reached found = go old.joiners reached.joins
 
 -- 2. The callers.
 
--- what follows of each caller from a test that its joiner answers_at_once
+-- what follows of each caller from a test that its joiner passes
 pub callers_then : (load : ℕ) (key : Bytes) (p : Joiner → Bool) (q : Caller → Bool) (js : List Joiner) → ((j : Joiner) → waits_for load j ≡ true → j.key ≡ key → p j ≡ true → q j.caller ≡ true)
     → keyed load key js ≡ true → list_all p js ≡ true → list_all q (callers_of load js) ≡ true
 callers_then load key p q [] f k h = refl
@@ -138,15 +132,15 @@ callers_then load key p q (j ∷ js) f k h =
       | false ↦ λ w e. rest
     ] refl keys.0
 
-if_waits : (b c : Bool) → b ≡ true → (not b || c) ≡ true → c ≡ true
-if_waits true c w h = h
-if_waits false c w h = cc
+pub if_so : (b c : Bool) → b ≡ true → (not b || c) ≡ true → c ≡ true
+if_so true c w h = h
+if_so false c w h = cc
 
 -- each caller's step may come behind the events
 pub callers_behind : (old : State) (r : Reservation) → IsReached old → IsOut old r → list_all (λ (c : Caller). list_all (λ e. may_come e c r.key) old.history) (callers_of r.number old.joiners) ≡ true
 callers_behind old r reached found =
     callers_then r.number r.key (may_share old.history) (λ c. list_all (λ e. may_come e c r.key) old.history) old.joiners
-    (λ j w k h. ap (λ q. list_all (λ e. may_come e j.caller q) old.history) (sym k) ∙ if_waits (waits j) _ (and_parts (j.load == r.number) (is_waiting j.state) w).1 h)
+    (λ j w k h. ap (λ q. list_all (λ e. may_come e j.caller q) old.history) (sym k) ∙ if_so (waits j) _ (and_parts (j.load == r.number) (is_waiting j.state) w).1 h)
     (keyed_callers old r reached found) reached.shares
 
 other_session : (a b k : Bool) → k ≡ true → (a || (b && not k)) ≡ true → a ≡ true
@@ -302,7 +296,7 @@ apart_left load place js h = apart-alike (after_resolve load place js) js (calls
 pub between_resolved : (key : Bytes) (load place : ℕ) (rs : List Reservation) (js : List Joiner) → all_apart rs js ≡ true → all_apart (without_key key rs) (after_resolve load place js) ≡ true
 between_resolved key load place rs js h = between-alike (without_key key rs) js (after_resolve load place js) (sym (calls-answered_from load place (place + 1) js)) (between_left key rs js h)
 
--- 5. What a commit appends may be appended, once its reservation is without_reservation and its joiners are with_answer.
+-- 5. What a commit appends may be appended, once its reservation is released and its joiners are answered.
 
 pub may_commit : (old : State) (r : Reservation) (place : ℕ) → IsReached old → IsOut old r → MayBegin (after_commit old r place) r.caller r.key
 may_commit old r place reached found =

@@ -13,7 +13,7 @@ use Rattle.jc_stripe.proofs.Settled.{SharedAt}
 use Rattle.jc_types.specs.declared.caller.Caller.{Caller}
 
 -- the place of an event is the number of those before it
-stands_at : (before : List Event) (event : Event) (after : List Event) → slice_get (before ++ event ∷ after) (length before) ≡ Some event
+pub stands_at : (before : List Event) (event : Event) (after : List Event) → slice_get (before ++ event ∷ after) (length before) ≡ Some event
 stands_at before event after =
     slice_get-get_or (before ++ event ∷ after) (length before) event (omega (arith, length-append before (event ∷ after))) ∙ ap Some (get_or-append_seam before event after event)
 

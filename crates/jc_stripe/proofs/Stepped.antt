@@ -8,7 +8,7 @@ use Rattle.std.specs.FinMap.{from_entries, len, get-remove}
 use Rattle.std.proofs.lemmas.List.{length-append}
 use Rattle.std.proofs.lemmas.List.Folds.{list_all-append}
 use Rattle.std.proofs.lemmas.Cmp.{nat_list_cmp_total, nat_list_eq_equiv}
-use Rattle.std.proofs.lemmas.Bool.{and_parts}
+use Rattle.std.proofs.lemmas.Bool.{and_parts, and_from}
 use Rattle.jc_model.specs.declared.event.Event.{Event}
 use Rattle.jc_model.specs.declared.event.Event.TheVariants.{Step}
 use Rattle.jc_model.specs.declared.event.Op.{Op}
@@ -32,10 +32,11 @@ use Rattle.jc_stripe.specs.Reached.{IsUsed, may_end, may_share, is_own}
 use Rattle.jc_stripe.specs.Appending.{entries_after}
 use Rattle.jc_stripe.proofs.Used.{by_use-append, by_use-group, apart-left, from-left}
 use Rattle.jc_stripe.proofs.Lawfully.{history-push, lawful-push, cache_after-push, victim_known, own_entry}
-use Rattle.jc_stripe.proofs.Ordered.{join_and, comes_behind, behind-append, behind-group, own_least, own_left, own-group}
+use Rattle.jc_stripe.proofs.Ordered.{comes_behind, behind-append, behind-group, own_least, own_left, own-group}
 use Rattle.jc_stripe.specs.Phases as phases
 use Rattle.jc_types.specs.declared.caller.Caller.{Caller}
 use Rattle.jc_stripe.specs.declared.ticket.Reservation.{Reservation}
+use Rattle.jc_stripe.proofs.Refusing.{clash}
 
 -- 1. The history, and what it leaves.
 
@@ -67,7 +68,7 @@ pub own_on : (m : State) (caller : Caller) (key : Bytes) (op : Op) (out : Out) (
 own_on m caller key op out callers short used own k =
     let g = new_group m caller key op out callers short in
     list_all-append (is_own m) m.history (events_of (length m.history) g)
-    ∙ join_and _ _ own (own-group m (length m.history) g k (λ v h. own_least m v used.own (victim_known m key op out v used h).least))
+    ∙ and_from _ _ own (own-group m (length m.history) g k (λ v h. own_least m v used.own (victim_known m key op out v used h).least))
 
 -- 2. The entries of other keys, and of reserved ones.
 
@@ -83,10 +84,6 @@ pinned_key q (r ∷ rs) h =
     or-right : (a b : Bool) → b ≡ true → (a || b) ≡ true
     or-right true b h = refl
     or-right false b h = h
-
-clash : (b : Bool) → b ≡ true → b ≡ false → ⊥
-clash true g h = cc
-clash false g h = cc
 
 -- what is reserved stays without the victim
 kept_without : (m : State) (key : Bytes) (op : Op) (out : Out) (q : Bytes) (victim : Option Bytes) → IsUsed m → phases.victim m key op out ≡ victim → list_any (is_key q) m.reservations ≡ true
@@ -107,10 +104,6 @@ none_inserted (Some x) left same = refl
 
 pub not_inserted : (m : State) (key : Bytes) (op : Op) (out : Out) → entry_after op (entry_at m.cache key) out ≡ entry_at m.cache key → inserts_here m key op out ≡ false
 not_inserted m key op out same = none_inserted (entry_at m.cache key) (entry_after op (entry_at m.cache key) out) same
-
-cond_same : {A : Type 0} (b : Bool) (x y : A) → (b ≡ true → x ≡ y) → cond b x y ≡ y
-cond_same true x y h = h refl
-cond_same false x y h = refl
 
 -- what is left of an entry once the step's own is out
 own_out : (cache : Cache) (key q : Bytes) (entry : Option Bytes) (cause : Option Cause) → eq_by_cmp key_cmp q key ≡ false → entry_at (without_own (with_entry cache key entry) key cause) q ≡ entry_at cache q
@@ -146,15 +139,15 @@ kept_on m caller key op out callers short q used there keeps = go (eq_by_cmp key
 -- the order of two tests of each
 pub all_swap : {A B : Type 0} (p : A → B → Bool) (xs : List A) (ys : List B) → list_all (λ x. list_all (p x) ys) xs ≡ true → list_all (λ y. list_all (λ x. p x y) xs) ys ≡ true
 all_swap p xs [] h = refl
-all_swap {A} {B} p xs (y ∷ ys) h = join_and _ _ (firsts xs h) (all_swap p xs ys (rests xs h))
+all_swap {A} {B} p xs (y ∷ ys) h = and_from _ _ (firsts xs h) (all_swap p xs ys (rests xs h))
   where
     firsts : (xs : List A) → list_all (λ x. list_all (p x) (y ∷ ys)) xs ≡ true → list_all (λ x. p x y) xs ≡ true
     firsts [] h = refl
-    firsts (x ∷ xs) h = let parts = and_parts (p x y && list_all (p x) ys) (list_all (λ x. list_all (p x) (y ∷ ys)) xs) h in join_and _ _ (and_parts (p x y) (list_all (p x) ys) parts.0).0 (firsts xs parts.1)
+    firsts (x ∷ xs) h = let parts = and_parts (p x y && list_all (p x) ys) (list_all (λ x. list_all (p x) (y ∷ ys)) xs) h in and_from _ _ (and_parts (p x y) (list_all (p x) ys) parts.0).0 (firsts xs parts.1)
 
     rests : (xs : List A) → list_all (λ x. list_all (p x) (y ∷ ys)) xs ≡ true → list_all (λ x. list_all (p x) ys) xs ≡ true
     rests [] h = refl
-    rests (x ∷ xs) h = let parts = and_parts (p x y && list_all (p x) ys) (list_all (λ x. list_all (p x) (y ∷ ys)) xs) h in join_and _ _ (and_parts (p x y) (list_all (p x) ys) parts.0).1 (rests xs parts.1)
+    rests (x ∷ xs) h = let parts = and_parts (p x y && list_all (p x) ys) (list_all (λ x. list_all (p x) (y ∷ ys)) xs) h in and_from _ _ (and_parts (p x y) (list_all (p x) ys) parts.0).1 (rests xs parts.1)
 
 -- the steps of reservations that are beside those of the group may still come
 pub ends_on : (history : List Event) (place : ℕ) (g : Group) (rs : List Reservation) → list_all (may_end history) rs ≡ true → list_all (is_other_call g.caller g.step.key) rs ≡ true
@@ -164,7 +157,7 @@ ends_on history place g (r ∷ rs) ends beside callers =
     let e = and_parts (may_end history r) (list_all (may_end history) rs) ends in
     let b = and_parts (is_other_call g.caller g.step.key r) (list_all (is_other_call g.caller g.step.key) rs) beside in
     let c = and_parts (list_all (λ c. is_other_call c g.step.key r) g.joined) (list_all (λ r. list_all (λ c. is_other_call c g.step.key r) g.joined) rs) callers in
-    join_and _ _ (behind-append history (events_of place g) r.caller r.key e.0 (behind-group place g r.caller r.key b.0 c.0)) (ends_on history place g rs e.1 b.1 c.1)
+    and_from _ _ (behind-append history (events_of place g) r.caller r.key e.0 (behind-group place g r.caller r.key b.0 c.0)) (ends_on history place g rs e.1 b.1 c.1)
 
 -- so may those of joiners that wait
 pub shares_on : (history : List Event) (place : ℕ) (g : Group) (js : List Joiner) → list_all (may_share history) js ≡ true → list_all (λ j. not (waits j) || is_other_join g.caller g.step.key j) js ≡ true
@@ -174,7 +167,7 @@ shares_on history place g (j ∷ js) shares apart callers =
     let s = and_parts (may_share history j) (list_all (may_share history) js) shares in
     let a = and_parts (not (waits j) || is_other_join g.caller g.step.key j) (list_all (λ j. not (waits j) || is_other_join g.caller g.step.key j) js) apart in
     let c = and_parts (list_all (λ c. not (waits j) || is_other_join c g.step.key j) g.joined) (list_all (λ j. list_all (λ c. not (waits j) || is_other_join c g.step.key j) g.joined) js) callers in
-    join_and _ _ (one (waits j) g.joined s.0 a.0 c.0) (shares_on history place g js s.1 a.1 c.1)
+    and_from _ _ (one (waits j) g.joined s.0 a.0 c.0) (shares_on history place g js s.1 a.1 c.1)
   where
     each : (callers : List Caller) → list_all (λ c. false || is_other_join c g.step.key j) callers ≡ true → list_all (λ c. is_other_join c g.step.key j) callers ≡ true
     each [] h = refl

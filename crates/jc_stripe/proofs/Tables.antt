@@ -10,7 +10,7 @@ use Rattle.std.proofs.lemmas.List.Sums.{length-filter, count_by-le-length}
 use Rattle.std.specs.List.{list_all, count_by}
 use Rattle.std.specs.FinMap.{len, empty, len-empty, from_entries}
 use Rattle.std.proofs.lemmas.Bool.{and_parts, and_from}
-use Rattle.jc_types.proofs.CallerLemmas.{all_filter}
+use Rattle.jc_types.proofs.CallerLemmas.{all_filter, found_more}
 use Rattle.jc_types.specs.declared.config.Config.{Config}
 use Rattle.jc_types.specs.Limits.{check}
 use Rattle.jc_model.specs.declared.event.Event.{Event}
@@ -22,7 +22,7 @@ use Rattle.jc_inflight.specs.declared.joiner.Joiner.{Joiner}
 use Rattle.jc_inflight.specs.declared.joiner.JoinState.TheVariants.{Waiting, Again}
 use Rattle.jc_inflight.specs.Joining.{belongs_to, waits_for}
 use Rattle.jc_inflight.specs.Dissolving.{after_dissolve}
-use Rattle.jc_inflight.proofs.CallerLemmas.{calls-after_dissolve}
+use Rattle.jc_inflight.proofs.CallerLemmas.{calls-after_dissolve, count-cons}
 use Rattle.jc_stripe.specs.declared.begun.Picked.{Picked}
 use Rattle.jc_stripe.specs.declared.begun.Picked.TheVariants as picked
 use Rattle.jc_stripe.specs.declared.ticket.First.{First}
@@ -36,7 +36,7 @@ use Rattle.jc_types.specs.declared.limits.TheConstants.{STEP_PLACES, HIT_PLACES,
 use Rattle.jc_stripe.proofs.Refusing.{joins_known}
 use Rattle.jc_stripe.proofs.Numbering.{numbered-push, numbered-left}
 use Rattle.jc_stripe.proofs.Beside.{all-push, beside-push, all_left, beside_left, ask-push, ask_left, fewer_left, apart-push, apart_kept, between-push, between_kept, between_left, apart-alike, between-alike, length-alike}
-use Rattle.jc_stripe.proofs.Joining.{fits_on, join_on, finds_on, found_before, join-push, join_kept, still_there, count-cons, count-push, count_kept}
+use Rattle.jc_stripe.proofs.Joining.{fits_on, join_on, finds_on, join-push, join_kept, still_there, count-push, count_kept}
 use Rattle.jc_types.specs.declared.caller.Caller.{Caller}
 use Rattle.jc_stripe.specs.declared.ticket.Reservation.{Reservation}
 
@@ -146,7 +146,7 @@ reached_reserved state caller key op first old begins few places asks free =
       asks = ask-push state.config state.cache state.reservations r old.asks asks;
       ends = all-push (may_end state.history) state.reservations r old.ends begins.behind;
       beside = beside-push state.reservations r old.beside begins.beside;
-      joins = join_on state new [] state.joiners (same_history state.history) (λ j w f. finds_on state new j refl (λ q e. refl) (λ x h. found_before _ state.reservations (r ∷ []) x h) f) old.joins;
+      joins = join_on state new [] state.joiners (same_history state.history) (λ j w f. finds_on state new j refl (λ q e. refl) (λ x h. found_more _ state.reservations (r ∷ []) x h) f) old.joins;
       shares = old.shares;
       apart = old.apart;
       between = all-push (λ (x : Reservation). list_all (is_other_join x.caller x.key) state.joiners) state.reservations r old.between begins.apart;

@@ -2,7 +2,7 @@
 --     all_not        one that fails a test at a place
 --     all_more       a test of the first ones, and of one more
 use Rattle.std.proofs.Common.{◌≡◌, ◌&&◌, ℕ, zero, suc, List, [], ◌∷◌, map, take, Bool, true, false, cond, Option, None, Some, IsSomeAnd, find, option_map, ◌==◌, refl, sym, ap, ◌∙◌, slice_get}
-use Rattle.std.proofs.lemmas.Bool.{eqb-true, and_parts, and_from}
+use Rattle.std.proofs.lemmas.Bool.{eqb-true, and_parts, and_from, and_right}
 use Rattle.std.specs.List.{list_all}
 use Rattle.std.specs.Cmp.Lexicographic.{same_text}
 use Rattle.jc_model.specs.Cache.{Bytes}
@@ -13,14 +13,10 @@ use Rattle.jc_stripe.specs.declared.ticket.Note.{Note}
 use Rattle.jc_stripe.specs.State.{is_key}
 use Rattle.jc_stripe.specs.Inside.{note_reservation}
 
-and_false : (b : Bool) → (b && false) ≡ false
-and_false true = refl
-and_false false = refl
-
 pub all_not : {A : Type 0} (p : A → Bool) (xs : List A) (i : ℕ) (x : A) → slice_get xs i ≡ Some x → p x ≡ false → list_all p xs ≡ false
 all_not p [] i x h n = cc
 all_not p (y ∷ ys) zero x h n = let is : y ≡ x = cc in ap (λ b. b && list_all p ys) (ap p is ∙ n)
-all_not p (y ∷ ys) (suc i) x h n = ap (λ b. p y && b) (all_not p ys i x h n) ∙ and_false (p y)
+all_not p (y ∷ ys) (suc i) x h n = ap (λ b. p y && b) (all_not p ys i x h n) ∙ and_right (p y) false refl
 
 pub all_more : {A : Type 0} (p : A → Bool) (xs : List A) (i : ℕ) (x : A) → slice_get xs i ≡ Some x → p x ≡ true → list_all p (take i xs) ≡ true → list_all p (take (suc i) xs) ≡ true
 all_more p [] i x h t before = cc

@@ -2,6 +2,7 @@
 --     one_uniform                  the law
 use Rattle.std.proofs.Common.{◌≡◌, ◌≤◌, ◌==◌, ◌+◌, ⊎_elim, ℕ, List, [], length, true, false, refl, sym, ap, ◌∙◌, subst, arith}
 use Rattle.std.proofs.lemmas.Bool.{eqb-true}
+use Rattle.std.proofs.lemmas.Cmp.{nat_eq_equiv}
 use Rattle.jc_model.specs.declared.event.Op.{Op}
 use Rattle.jc_model.specs.Cache.{Bytes}
 use Rattle.jc_model.specs.Group.{Group, nothing_said}
@@ -22,7 +23,6 @@ use Rattle.jc_stripe.specs.Phases.{new_group, after_commit, Begins, PicksUp, Ste
 use Rattle.jc_stripe.specs.Reached.{IsReached}
 use Rattle.jc_stripe.specs.Laws.{Extends, KeepsReserved}
 use Rattle.jc_stripe.specs.OnePhase.{FirstPhase, LastPhase, Withdrawal, PickUp, IsPhaseOf, OnePhase, own_steps}
-use Rattle.jc_stripe.proofs.Ordered.{turned_eq}
 use Rattle.jc_stripe.proofs.Settled.{keyed_callers}
 use Rattle.jc_stripe.proofs.Reaching.{reached_begins, reached_commits}
 use Rattle.jc_stripe.proofs.Tables.{reached_withdrawn, reached_picked}
@@ -44,7 +44,7 @@ record KeepsOthers (session : ℕ) (old new : State) : Type 0 where
 -- 2. The phases.
 
 session_differs : (session other s : ℕ) → (other == session) ≡ false → s ≡ session → (s == other) ≡ false
-session_differs session other s differs is = turned_eq s other ∙ ap (λ n. other == n) is ∙ differs
+session_differs session other s differs is = nat_eq_equiv.symm s other ∙ ap (λ n. other == n) is ∙ differs
 
 -- nothing happens
 uniform_same : (session : ℕ) (old new : State) → IsReached old → new ≡ old → KeepsOthers session old new
@@ -71,7 +71,7 @@ others_begun other old new caller key op (first.Joined join) differs h =
     ap (λ (s : State). own_steps other s) h.3
     ∙ own-parked other old.joiners (joining.with_joiner join.caller join.key join.load old.joiners) old.history (λ c k e. parked-joined join.caller join.load join.key old.joiners c k)
 
-next_begun : (old new : State) (caller : Caller) (key : Bytes) (op : Op) (begun : Begun) → Begins old caller key op begun new → old.next ≤ new.next
+pub next_begun : (old new : State) (caller : Caller) (key : Bytes) (op : Op) (begun : Begun) → Begins old caller key op begun new → old.next ≤ new.next
 next_begun old new caller key op (first.Refused refusal) h = let n = ap (λ (s : State). s.next) h.1 in omega arith
 next_begun old new caller key op (first.Done done) h = let n = ap (λ (s : State). s.next) h.2.after in omega arith
 next_begun old new caller key op (first.Load ticket) h = let n = ap (λ (s : State). s.next) h.4 in omega arith

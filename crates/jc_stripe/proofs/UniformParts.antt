@@ -6,6 +6,7 @@ use Rattle.std.proofs.lemmas.Bool.{eqb-true}
 use Rattle.std.proofs.lemmas.List.Elements.{All-head, All-tail}
 use Rattle.std.specs.List.{list_all, AllPairs, All}
 use Rattle.std.specs.Cmp.Lexicographic.{same_text}
+use Rattle.std.proofs.lemmas.Cmp.{nat_eq_equiv}
 use Rattle.jc_types.specs.declared.caller.Caller.{Caller}
 use Rattle.jc_model.specs.declared.event.Event.{Event}
 use Rattle.jc_model.specs.declared.event.Event.TheVariants.{Step}
@@ -32,7 +33,7 @@ use Rattle.jc_stripe.specs.Laws.{KeepsReserved}
 use Rattle.jc_stripe.specs.OnePhase.{FirstPhase, LastPhase, Withdrawal, PickUp, IsPhaseOf, own_steps, GainsOwn, is_of_others, join_claim}
 use Rattle.jc_stripe.specs.OwnSteps.{AddsOwn, OwnSteps}
 use Rattle.jc_stripe.proofs.Numbering.{later_pairs, first_pairs}
-use Rattle.jc_stripe.proofs.ParkedSteps.{number_itself, joiners_call, filter-append}
+use Rattle.jc_stripe.proofs.ParkedSteps.{joiners_call, filter-append}
 
 -- 1. Own steps.
 
@@ -70,7 +71,7 @@ abbrev others_held : ℕ → List Reservation → List Reservation
 others_held session rs = filter (λ r. is_of_others session r.caller) rs
 
 mine_not : (session s : ℕ) → s ≡ session → not (s == session) ≡ false
-mine_not session s is = ap not (ap (λ n. n == session) is ∙ number_itself session)
+mine_not session s is = ap not (ap (λ n. n == session) is ∙ nat_eq_equiv.refl session)
 
 held_pushed : (session : ℕ) (rs : List Reservation) (r : Reservation) → r.caller.session ≡ session → others_held session (rs ++ r ∷ []) ≡ others_held session rs
 held_pushed session rs r is =

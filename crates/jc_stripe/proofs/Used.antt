@@ -20,7 +20,7 @@ use Rattle.jc_model.specs.Group.{Group, victim_events, shared_event, evicted_eve
 use Rattle.jc_model.specs.Group as group
 use Rattle.jc_model.proofs.CallerLemmas.{from_entries-others, from_entries-first, distinct-others, distinct-first, same_cache, get-with_entry, same_key}
 use Rattle.jc_entries.specs.ByUse.{after_eviction}
-use Rattle.jc_stripe.specs.OrderOfUse.{uses, is_use, used_at, used, by_use}
+use Rattle.jc_stripe.specs.OrderOfUse.{uses, is_use, used_at, order_after_event, by_use}
 use Rattle.jc_stripe.specs.Appending.{without_own_entry, entries_after}
 use Rattle.jc_types.specs.declared.caller.Caller.{Caller}
 
@@ -28,7 +28,7 @@ use Rattle.jc_types.specs.declared.caller.Caller.{Caller}
 
 pub by_use-append : (entries : List (Bytes × Bytes)) (xs ys : List Event) → by_use entries (xs ++ ys) ≡ by_use (by_use entries xs) ys
 by_use-append entries [] ys = refl
-by_use-append entries (x ∷ xs) ys = by_use-append (used entries x) xs ys
+by_use-append entries (x ∷ xs) ys = by_use-append (order_after_event entries x) xs ys
 
 -- shared steps leave the entries
 pub by_use-shared : (entries : List (Bytes × Bytes)) (place : ℕ) (key : Bytes) (answer : LoadAnswer) (callers : List Caller) → by_use entries (map (shared_event place key answer) callers) ≡ entries
@@ -43,7 +43,7 @@ by_use-evicted : (entries : List (Bytes × Bytes)) (key : Bytes) (cause : Option
 by_use-evicted entries key None = refl
 by_use-evicted entries key (Some cause) = refl
 
--- a group leaves the entries after_eviction its victim, with the step's, and after_eviction what goes again
+-- a group leaves the entries after its victim's eviction, with the step's entry, and after that entry's own eviction if it goes again
 pub by_use-group : (entries : List (Bytes × Bytes)) (place : ℕ) (g : Group) → by_use entries (events_of place g) ≡ entries_after entries g.step.key g.step.op g.step.out g.victim g.evicted
 by_use-group entries place g =
     let shared : List Event = map (shared_event (step_place place g) g.step.key g.step.out.load) g.joined in
@@ -84,13 +84,13 @@ from-without : (victim : Option Bytes) (entries : List (Bytes × Bytes)) → fro
 from-without None entries = refl
 from-without (Some key) entries = from_entries-others key entries
 
--- an entry that is put where it is leaves the cache
-chosen : {A : Type 0} (b : Bool) (x y : A) → (b ≡ true → x ≡ y) → cond b x y ≡ y
-chosen true x y h = h refl
-chosen false x y h = refl
+pub cond_same : {A : Type 0} (b : Bool) (x y : A) → (b ≡ true → x ≡ y) → cond b x y ≡ y
+cond_same true x y h = h refl
+cond_same false x y h = refl
 
+-- an entry that is put where it is leaves the cache
 pub same-entry : (cache : Cache) (key : Bytes) (entry : Option Bytes) → entry ≡ entry_at cache key → with_entry cache key entry ≡ cache
-same-entry cache key entry h = same_cache _ _ (λ q. get-with_entry cache key entry q ∙ chosen (eq_by_cmp key_cmp q key) entry (entry_at cache q) (λ e. h ∙ ap (entry_at cache) (sym (same_key q key e))))
+same-entry cache key entry h = same_cache _ _ (λ q. get-with_entry cache key entry q ∙ cond_same (eq_by_cmp key_cmp q key) entry (entry_at cache q) (λ e. h ∙ ap (entry_at cache) (sym (same_key q key e))))
 
 -- a step that is no use leaves its entry
 not_found : (answer : LoadAnswer) (entry : Option Bytes) → is_some (found_in answer) ≡ false → value_after_load answer entry ≡ entry

@@ -7,8 +7,8 @@ use Rattle.std.proofs.lemmas.Cmp.{nat_list_eq_equiv}
 use Rattle.std.proofs.lemmas.List.Folds.{list_all-append}
 use Rattle.std.specs.List.{list_all, list_any}
 use Rattle.std.specs.Cmp.Lexicographic.{pointwise}
-use Rattle.std.proofs.lemmas.Bool.{and_from}
-use Rattle.jc_types.proofs.CallerLemmas.{all_imply}
+use Rattle.std.proofs.lemmas.Bool.{and_from, or_left}
+use Rattle.jc_types.proofs.CallerLemmas.{all_imply, found_holds}
 use Rattle.jc_types.specs.declared.caller.Caller.{Caller}
 use Rattle.jc_model.specs.declared.event.Event.{Event}
 use Rattle.jc_model.specs.declared.event.Event.TheVariants.{Step, Evict}
@@ -25,7 +25,7 @@ use Rattle.jc_inflight.specs.declared.joiner.Joiner.{Joiner}
 use Rattle.jc_inflight.specs.Joining.{is_waiting, waits_for, callers_of}
 use Rattle.jc_inflight.specs.Resolving.{with_answer, answered_from}
 use Rattle.jc_stripe.specs.declared.ticket.First.{First}
-use Rattle.jc_stripe.specs.declared.ticket.First.TheVariants.{Nobody, Loader, Writer, Processor}
+use Rattle.jc_stripe.specs.declared.ticket.First.TheVariants.{Loader}
 use Rattle.jc_stripe.specs.declared.ticket.Reservation.{Reservation}
 use Rattle.jc_stripe.specs.declared.begun.StepDone.{StepDone}
 use Rattle.jc_stripe.specs.Tickets.{Ticket, ProcessClaim, asks_writer}
@@ -34,28 +34,19 @@ use Rattle.jc_stripe.specs.Refusals.{first_by, first_asked, reserves, load_at, m
 use Rattle.jc_stripe.specs.Phases.{is_other_call, is_other_join, new_group, after_commit, Steps, Commits}
 use Rattle.jc_stripe.specs.Reached.{IsReached, JoinFits, AllJoin}
 use Rattle.jc_stripe.specs.OwnSteps.{is_before_call, HasNoCallFrom, CallerNumbers, WholeCall, JoinsOnlyLoads}
-use Rattle.jc_stripe.proofs.Numbering.{found_holds}
 use Rattle.jc_stripe.proofs.Joining.{loaded_at}
-use Rattle.jc_stripe.proofs.Refusing.{was_free, processor_needs}
+use Rattle.jc_stripe.proofs.Refusing.{was_free, writer_reserves, processor_needs}
 use Rattle.jc_stripe.proofs.Settled.{waiting_finds}
 use Rattle.jc_stripe.proofs.OwnPick.{all_behind}
-use Rattle.jc_stripe.proofs.Beside.{or_left}
 use Rattle.jc_stripe.proofs.ParkedSteps.{filter-append}
+use Rattle.jc_stripe.proofs.Numbering.{below_other, without_none}
 
 -- 1. A reservation that comes and goes leaves the others.
-
-none_kept : (key : Bytes) (rs : List Reservation) → list_any (is_key key) rs ≡ false → without_key key rs ≡ rs
-none_kept key [] h = refl
-none_kept key (r ∷ rs) h =
-    elim (is_key key r) as (λ b. (b || list_any (is_key key) rs) ≡ false → cond (not b) (r ∷ without_key key rs) (without_key key rs) ≡ r ∷ rs) [
-      | true ↦ λ h. cc
-      | false ↦ λ h. ap (λ x. r ∷ x) (none_kept key rs h)
-    ] h
 
 pub without_new : (key : Bytes) (rs : List Reservation) (r : Reservation) → list_any (is_key key) rs ≡ false → is_key key r ≡ true → without_key key (rs ++ r ∷ []) ≡ rs
 without_new key rs r free is =
     filter-append (λ x. not (is_key key x)) rs (r ∷ [])
-    ∙ (λ i. none_kept key rs free i ++ cond (not (is i)) (r ∷ []) [])
+    ∙ (λ i. without_none key rs free i ++ cond (not (is i)) (r ∷ []) [])
     ∙ nil_after rs
   where
     nil_after : (xs : List Reservation) → xs ++ [] ≡ xs
@@ -63,9 +54,6 @@ without_new key rs r free is =
     nil_after (x ∷ xs) = ap (λ ys. x ∷ ys) (nil_after xs)
 
 -- 2. Nobody waits for a load that isn't there yet.
-
-above : (m n : ℕ) → m < n → (m == n) ≡ false
-above m n h = grind (arith, nat_tests)
 
 nobody_waits : (old : State) (j : Joiner) → IsReached old → JoinFits old j j.state → waits_for old.next j ≡ false
 nobody_waits old j reached fits =
@@ -75,7 +63,7 @@ nobody_waits old j reached fits =
           let found = loaded_at (reservation_of old j.key) j.load finds.load in
           let below : found.0.number < old.next = found_holds (is_key j.key) (λ (r : Reservation). r.number < old.next) old.reservations found.0 found.1 reached.numbered.below in
           let load : j.load < old.next = subst (λ (n : ℕ). n < old.next) found.3 below in
-          ap (λ b. b && true) (above j.load old.next load)
+          ap (λ b. b && true) (below_other j.load old.next load)
       | false ↦ λ w. none (j.load == old.next)
     ] refl
   where
@@ -97,9 +85,6 @@ none_called old (j ∷ js) reached all =
 
 -- 3. The whole call.
 
-texts_same : (x : Bytes) → pointwise ◌==◌ x x ≡ true
-texts_same x = nat_list_eq_equiv.refl x
-
 one_step : (old mid new : State) (caller : Caller) (key : Bytes) (op : Op) (first : First) (r : Reservation) (out : Out) (done : StepDone) → IsReached old → is_reserved old key ≡ false
     → r ≡ new_reservation old caller key op first → mid ≡ with_reservation old r → Commits mid r out done new → Steps (record old { next = old.next + 1 }) caller key op out [] done new
 one_step old mid new caller key op first r out done reached free is goes commits =
@@ -107,7 +92,7 @@ one_step old mid new caller key op first r out done reached free is goes commits
     let m : mid ≡ with_reservation old r0 = goes ∙ ap (with_reservation old) is in
     let P : State × Reservation → Type 0 = λ x. Steps (after_commit x.0 x.1 done.place) x.1.caller x.1.key x.1.op out (callers_of x.1.number x.0.joiners) done new in
     let steps : Steps (after_commit (with_reservation old r0) r0 done.place) caller key op out (callers_of old.next old.joiners) done new = subst P (λ i. (m i, is i)) commits.1 in
-    let rest = without_new key old.reservations r0 free (texts_same key) in
+    let rest = without_new key old.reservations r0 free (nat_list_eq_equiv.refl key) in
     let joins = none_resolved old done.place (done.place + 1) old.joiners reached reached.joins in
     let state : after_commit (with_reservation old r0) r0 done.place ≡ record old { next = old.next + 1 } = λ i. record old { reservations = rest i; joiners = joins i; next = old.next + 1 } in
     let Q : State × List Caller → Type 0 = λ x. Steps x.0 caller key op out x.1 done new in
@@ -135,12 +120,6 @@ writers_join_not config (GetAndReplace value) entry h = refl
 writers_join_not config Clear entry h = refl
 writers_join_not config (LoadAll replace) entry h = refl
 writers_join_not config Invoke entry h = refl
-
-writer_reserves : (first : First) → asks_writer first ≡ true → reserves first ≡ true
-writer_reserves Nobody h = cc
-writer_reserves Loader h = refl
-writer_reserves (Writer change) h = refl
-writer_reserves (Processor seen loads) h = refl
 
 pub whole_call : WholeCall
 whole_call = record {

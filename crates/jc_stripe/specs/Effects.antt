@@ -3,7 +3,7 @@
 --                     nothing after a loader's or processor's fault
 --     HasReport       the writer's report is there exactly if a change is due, and then it was made for this reservation and this change,
 --                     and comes from where the stripe's answers do
---     write_answer    the writer's answer, or that it wasn't asked
+--     report_answer   the writer's answer, or that it wasn't asked
 --     process_out     the outside answers of a processor's step
 use Rattle.std.specs.Prelude.{◌≡◌, Option, None, Some, if◌then◌else◌}
 use Rattle.jc_types.specs.declared.config.Config.{Config}
@@ -27,9 +27,9 @@ HasReport origin r None (Some report) = ⊥
 HasReport origin r (Some change) None = ⊥
 HasReport origin r (Some change) (Some report) = (report.ask ≡ record { reservation = r; change = change }) × (report.origin ≡ origin)
 
-abbrev pub write_answer : Option (WriteResult EffectClaim) → WriteAnswer
-write_answer None = NotAsked
-write_answer (Some report) = report.answer
+abbrev pub report_answer : Option (WriteResult EffectClaim) → WriteAnswer
+report_answer None = NotAsked
+report_answer (Some report) = report.answer
 
 abbrev pub process_out : ProcessResult Reservation → Option (WriteResult EffectClaim) → Out
-process_out done report = record { load = done.load; write = write_answer report; process = done.process }
+process_out done report = record { load = done.load; write = report_answer report; process = done.process }

@@ -1,30 +1,22 @@
 -- The laws of the phases, over every state.
 --     StaysReached      each phase leads from a reached state to a reached one
---     IsLegal           the history of a reached state is legal from its opening
 --     IsSameStripe      one state is of the same stripe as another: of the same shape, number, origin and opening
 --     Extends           one state comes after another: of the same stripe, with the earlier history as a prefix of its own
 --     Grows             a phase appends to the history of its stripe and changes nothing that is in it
---     WasFree           a key that gets a ticket was free
---     Keeps             a call that a reservation of its key does not stop leaves the entry
 --     KeepsReserved     the entry of a reserved key stays in every first phase and every commit but its own; a withdrawal and a
 --                       pick-up leave the whole cache
-use Rattle.std.specs.Prelude.{◌≡◌, List, ◌++◌, true, false, Option, None}
+use Rattle.std.specs.Prelude.{◌≡◌, List, ◌++◌, true}
 use Rattle.jc_types.specs.declared.caller.Caller.{Caller}
-use Rattle.jc_types.specs.declared.config.Config.{Config}
 use Rattle.jc_model.specs.declared.event.Event.{Event}
 use Rattle.jc_model.specs.declared.event.Op.{Op}
 use Rattle.jc_model.specs.declared.event.Out.{Out}
 use Rattle.jc_model.specs.Cache.{Bytes, entry_at}
-use Rattle.jc_model.specs.Table.{entry_after}
-use Rattle.jc_model.specs.Group.{nothing_said}
-use Rattle.jc_model.specs.Legal.{Legal}
 use Rattle.jc_stripe.specs.declared.ticket.Reservation.{Reservation}
 use Rattle.jc_stripe.specs.declared.begun.Begun.{Begun}
 use Rattle.jc_stripe.specs.declared.begun.StepDone.{StepDone}
 use Rattle.jc_stripe.specs.declared.begun.Picked.{Picked}
 use Rattle.jc_stripe.specs.Tickets.{JoinClaim}
 use Rattle.jc_stripe.specs.State.{State, is_reserved, without_reservation}
-use Rattle.jc_stripe.specs.Refusals.{first_refusal, answers_at_once, needs_reservation}
 use Rattle.jc_stripe.specs.Phases.{MayBegin, Begins, Commits, Withdraws, PicksUp}
 use Rattle.jc_stripe.specs.Reached.{IsReached}
 
@@ -33,9 +25,6 @@ pub record StaysReached : Type 0 where
   pub commits : (old new : State) (r : Reservation) (out : Out) (done : StepDone) → IsReached old → Commits old r out done new → IsReached new
   pub withdraws : (old new : State) (r : Reservation) → IsReached old → Withdraws old r new → IsReached new
   pub picks_up : (old new : State) (join : JoinClaim) (p : Picked) → IsReached old → PicksUp old join p new → IsReached new
-
-abbrev pub IsLegal : Type 0
-IsLegal = (state : State) → IsReached state → Legal state.config state.opening state.history
 
 -- the later state is of the same stripe
 pub record IsSameStripe (old new : State) : Type 0 where
@@ -55,12 +44,6 @@ pub record Grows : Type 0 where
   pub commits : (old new : State) (r : Reservation) (out : Out) (done : StepDone) → Commits old r out done new → Extends old new
   pub withdraws : (old new : State) (r : Reservation) → Withdraws old r new → Extends old new
   pub picks_up : (old new : State) (join : JoinClaim) (p : Picked) → PicksUp old join p new → Extends old new
-
-abbrev pub WasFree : Type 0
-WasFree = (s : State) (caller : Caller) (key : Bytes) (op : Op) → first_refusal s caller key op ≡ None → needs_reservation s key op ≡ true → is_reserved s key ≡ false
-
-abbrev pub Keeps : Type 0
-Keeps = (config : Config) (op : Op) (entry : Option Bytes) → answers_at_once config op entry ≡ true → entry_after op entry nothing_said ≡ entry
 
 pub record KeepsReserved : Type 0 where
   pub begins : (old new : State) (caller : Caller) (key : Bytes) (op : Op) (b : Begun) (q : Bytes) → IsReached old → Begins old caller key op b new → is_reserved old q ≡ true → entry_at new.cache q ≡ entry_at old.cache q

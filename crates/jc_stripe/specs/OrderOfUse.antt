@@ -1,12 +1,12 @@
 -- The order in which a stripe's entries were used, from its opening and its events alone.
---     uses           whether an operation without a fault, by what the loader answered, makes the entry that it leaves the most
---                    recently used: each does, but a `ContainsKey` and a `LoadAll` that kept no value
---     is_use         whether a step makes the entry that it leaves the most recently used: it has no fault, and its operation does
---     used_at        the entries behind a step that isn't shared: its entry is moved or put to the front, or goes
---     used           the entries behind an event, the most recently used first
---     by_use         the entries behind a history
---     pinned         the keys that are reserved: their entries can't be evicted
---     least_used     the victim if there is no room: the least recently used that isn't pinned, if there is one
+--     uses               whether an operation without a fault, by what the loader answered, makes the entry that it leaves the most
+--                        recently used: each does, but a `ContainsKey` and a `LoadAll` that kept no value
+--     is_use             whether a step makes the entry that it leaves the most recently used: it has no fault, and its operation does
+--     used_at            the entries behind a step that isn't shared: its entry is moved or put to the front, or goes
+--     order_after_event  the entries behind an event, the most recently used first
+--     by_use             the entries behind a history
+--     pinned             the keys that are reserved: their entries can't be evicted
+--     least_used         the victim if there is no room: the least recently used that isn't pinned, if there is one
 use Rattle.std.specs.Prelude.{List, [], ◌∷◌, map, Bool, true, false, ◌&&◌, Option, None, Some, is_none, is_some, if◌then◌else◌}
 use Rattle.std.specs.FinMap as finite
 use Rattle.jc_model.specs.declared.event.Op.{Op}
@@ -52,16 +52,16 @@ used_at entries key op out = if is_use op out then with_entry_first key (entry_a
 -- 2. What a history uses.
 
 -- a shared step finds its entry, if there is one, in front
-abbrev pub used : List (Bytes × Bytes) → Event → List (Bytes × Bytes)
-used entries (Step caller op key out None reply) = used_at entries key op out
-used entries (Step caller op key out (Some place) reply) = entries
-used entries (Evict key cause) = others key entries
+abbrev pub order_after_event : List (Bytes × Bytes) → Event → List (Bytes × Bytes)
+order_after_event entries (Step caller op key out None reply) = used_at entries key op out
+order_after_event entries (Step caller op key out (Some place) reply) = entries
+order_after_event entries (Evict key cause) = others key entries
 
 abbrev pub by_use : List (Bytes × Bytes) → List Event → List (Bytes × Bytes)
 by_use entries [] = entries
-by_use entries (event ∷ events) = by_use (used entries event) events
+by_use entries (event ∷ events) = by_use (order_after_event entries event) events
 
--- 3. Who has to go.
+-- 3. The victim.
 
 abbrev pub pinned : List Reservation → List Bytes
 pinned reservations = map (λ r. r.key) reservations

@@ -179,7 +179,7 @@ IsSharedStep state join reply place shared_with =
     (out : Out) × (slice_get state.history place ≡ Some (Step join.caller Get join.key out (Some shared_with) reply))
 
 abbrev pub told_to : State → JoinClaim → Option JoinState
-told_to state join = taking.state_of join.caller join.key state.joiners
+told_to state join = taking.join_state_of join.caller join.key state.joiners
 
 abbrev pub PicksUp : State → JoinClaim → Picked → State → Type 0
 PicksUp old join (picked.Answer reply place shared_with) new =

@@ -1,5 +1,5 @@
 //! The laws of the phases, over every stripe. Each function does nothing: what it says is its contract.
-ghost use Rattle.jc_stripe.specs.Laws.{StaysReached, IsLegal, Grows, WasFree, Keeps, KeepsReserved};
+ghost use Rattle.jc_stripe.specs.Laws.{StaysReached, Grows, KeepsReserved};
 ghost use Rattle.jc_stripe.specs.OnePhase.{OnePhase};
 ghost use Rattle.jc_stripe.specs.OwnSteps.{OwnSteps, CallerNumbers, StepsBehind, WholeCall, JoinsOnlyLoads};
 
@@ -10,24 +10,9 @@ pub fn stays_reached()
     ensures { StaysReached }
 {}
 
-/// The history of every stripe is legal from its opening.
-pub fn is_legal()
-    ensures { IsLegal }
-{}
-
 /// Whatever phase a stripe makes, what is in its history stays there, more may follow it, and its opening is the same.
 pub fn grows()
     ensures { Grows }
-{}
-
-/// A call that isn't refused and needs a reservation finds its key free. So a key that gets a ticket was free.
-pub fn was_free()
-    ensures { WasFree }
-{}
-
-/// A call that answers from the cached entry, also while another call has the key reserved, leaves that entry as it is.
-pub fn keeps()
-    ensures { Keeps }
 {}
 
 /// No phase but a reservation's own commit changes the entry of its key: it is neither evicted nor mutated meanwhile.

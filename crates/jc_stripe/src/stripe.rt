@@ -15,7 +15,7 @@ ghost use Rattle.jc_stripe.specs.State.{IsOut, IsJoined, IsIdle};
 ghost use Rattle.jc_stripe.specs.OrderOfUse.{by_use};
 ghost use Rattle.jc_stripe.specs.Appending.{AnswersFirst, HasToldStep, after_pick_up};
 ghost use Rattle.jc_stripe.specs.Phases.{MayBegin, Begins, Commits, Withdraws, PicksUp, told_to};
-ghost use Rattle.jc_stripe.specs.Effects.{HasReport, change_due, write_answer, process_out};
+ghost use Rattle.jc_stripe.specs.Effects.{HasReport, change_due, report_answer, process_out};
 ghost use Rattle.jc_stripe.specs.OnePhase.{IsPhaseOf};
 
 mod beginning;
@@ -41,8 +41,8 @@ use std::alloc::{AllocError, Global};
 use std::marker::Model;
 
 /// What the writer answered, if it was asked. The report is spent.
-fn write_answer(report: Option<WriteDone<EffectAsk>>) -> WriteAnswer
-    ensures answer { result ≡ write_answer report }
+fn report_answer(report: Option<WriteDone<EffectAsk>>) -> WriteAnswer
+    ensures answer { result ≡ report_answer report }
     ensures given { is_write_given result ≡ is_some report }
 {
     match report {
@@ -206,7 +206,7 @@ impl Stripe {
         ensures commits { Commits self.old ticket.reservation (process_out done report) result self.new }
         ensures phase { IsPhaseOf ticket.reservation.caller.session self.old self.new }
     {
-        let write = write_answer(report);
+        let write = report_answer(report);
         let (receipt, load, process) = done.into_parts();
         receipt.spend();
         let out = Out {

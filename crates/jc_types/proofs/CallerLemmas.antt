@@ -1,12 +1,13 @@
--- Lemmas for the crates above: the first place at which a test passes, and what is found, left out or mapped there; and a test that
--- all elements pass.
-use Rattle.std.proofs.Common.{◌≡◌, ℕ, ◌-◌, suc, ◌<◌, is_some, List, [], ◌∷◌, ◌++◌, take, drop, Bool, true, false, cond, not, length, Some, None, ap, refl, sym, ◌∙◌, arith, find, filter, map, get_or}
+-- Lemmas for the crates above: the first place at which a test passes, and what is found, left out or mapped there; what is known of
+-- an element that is found; a test that all elements pass; and what stands at a place of a longer list.
+use Rattle.std.proofs.Common.{◌≡◌, ℕ, ◌-◌, suc, ◌<◌, is_some, Option, List, [], ◌∷◌, ◌++◌, take, drop, Bool, true, false, cond, not, length, Some, None, ap, refl, sym, ◌∙◌, arith, find, filter, map, get_or, ◌||◌, ◌+◌, subst}
 use Rattle.std.proofs.lemmas.Grind.{common_steps}
-use Rattle.std.proofs.lemmas.List.{map-append, take-map, drop-map}
+use Rattle.std.proofs.lemmas.List.{map-append, take-map, drop-map, length-append, get_or_append_left}
 use Rattle.std.proofs.lemmas.List.Elements.{All-head, All-tail}
-use Rattle.std.proofs.lemmas.List.Folds.{find_at}
-use Rattle.std.proofs.lemmas.Option.{slice_get_read}
+use Rattle.std.proofs.lemmas.List.Folds.{find_at, find-append}
+use Rattle.std.proofs.lemmas.Option.{slice_get_read, slice_get_within, get_or_from_slice_get, slice_get-get_or}
 use Rattle.std.proofs.lemmas.Bool.{and_parts, and_from}
+use Rattle.std.specs.Option.{option_or}
 use Rattle.std.specs.List.{list_all, list_any, slice_get, position, position_or_len, remove, AllPairs, All}
 
 module _ {X : Type 0} (p : X → Bool) where
@@ -28,6 +29,34 @@ module _ {X : Type 0} (p : X → Bool) where
       let rest : position p xs ≡ None = grind (arith, common_steps) in
       let here : p x ≡ false = grind (arith, common_steps) in
       rw here (find_nowhere xs rest)
+
+  -- one that is found passes the test
+  pub found_test : (xs : List X) (x : X) → find p xs ≡ Some x → p x ≡ true
+  found_test [] x h = cc
+  found_test (y ∷ ys) x h =
+      elim (p y) as (λ b. p y ≡ b → cond b (Some y) (find p ys) ≡ Some x → p x ≡ true) [
+        | true ↦ λ e h. let is : y ≡ x = cc in ap p (sym is) ∙ e
+        | false ↦ λ e h. found_test ys x h
+      ] refl h
+
+  -- so one passes
+  pub found_any : (xs : List X) (x : X) → find p xs ≡ Some x → list_any p xs ≡ true
+  found_any [] x h = cc
+  found_any (y ∷ ys) x h =
+      elim (p y) as (λ b. cond b (Some y) (find p ys) ≡ Some x → (b || list_any p ys) ≡ true) [ true ↦ λ h. refl | false ↦ λ h. found_any ys x h ] h
+
+  -- what holds of each holds of it
+  pub found_holds : (P : X → Type 0) (xs : List X) (x : X) → find p xs ≡ Some x → All P xs → P x
+  found_holds P [] x h all = cc
+  found_holds P (y ∷ ys) x h all =
+      elim (p y) as (λ b. cond b (Some y) (find p ys) ≡ Some x → P x) [
+        | true ↦ λ h. let is : y ≡ x = cc in subst P is (All-head P y ys all)
+        | false ↦ λ h. found_holds P ys x h (All-tail P y ys all)
+      ] h
+
+  -- and it is found in a longer list
+  pub found_more : (xs ys : List X) (x : X) → find p xs ≡ Some x → find p (xs ++ ys) ≡ Some x
+  found_more xs ys x h = find-append p xs ys ∙ ap (λ o. option_or o (find p ys)) h
 
   pub filter_all : (xs : List X) → All (λ x. p x ≡ true) xs → filter p xs ≡ xs
   filter_all [] all = refl
@@ -87,3 +116,14 @@ all_found p q (x ∷ xs) r h all =
       | true ↦ λ h. let is : x ≡ r = cc in ap q (sym is) ∙ parts.0
       | false ↦ λ h. all_found p q xs r h parts.1
     ] h
+
+-- what stands at a place stands there in a longer list
+pub stands_on : {A : Type 0} (xs ys : List A) (k : ℕ) (x : A) → slice_get xs k ≡ Some x → slice_get (xs ++ ys) k ≡ Some x
+stands_on xs ys k x h =
+    let within : k < length xs = slice_get_within xs k x h in
+    slice_get-get_or (xs ++ ys) k x (omega (arith, length-append xs ys)) ∙ ap Some (get_or_append_left xs ys x k within ∙ get_or_from_slice_get xs k x x h)
+
+-- an option that has nothing is `None`
+pub none_from : {X : Type 0} (o : Option X) → is_some o ≡ false → o ≡ None
+none_from None h = refl
+none_from (Some x) h = cc

@@ -4,7 +4,7 @@ ghost use Rattle.jc_model.specs.Cache.{entry_at};
 ghost use Rattle.jc_model.specs.Table.{answers_fit, entry_after, reply_after};
 ghost use Rattle.jc_model.specs.Group.{without_victim};
 ghost use Rattle.jc_model.specs.Lawful.{victim_fits, IsLawfulStep};
-ghost use Rattle.jc_model.specs.Reader.{new_group, FitsShared, Fits};
+ghost use Rattle.jc_model.specs.Reader.{read_group, FitsShared, Fits};
 
 use crate::contents::Contents;
 use crate::event::{Event, Op, Out, Reply};
@@ -45,7 +45,7 @@ fn does_victim_fit(
     out: &Out,
 ) -> bool
     ensures { (reply : _) → result ≡ victim_fits config.now contents.now
-        (new_group victim.now (record { session = 0; call = 0 }) op.now key.now out.now reply) victim.now }
+        (read_group victim.now (record { session = 0; call = 0 }) op.now key.now out.now reply) victim.now }
 {
     let entry = entry_before(contents, victim, key);
     match victim {
@@ -78,7 +78,7 @@ fn does_start(
     reply: &Reply,
 ) -> bool
     ensures { IsTrue result ↔ IsLawfulStep config.now contents.now
-        (new_group victim.now (record { session = 0; call = 0 }) op.now key.now out.now reply.now) }
+        (read_group victim.now (record { session = 0; call = 0 }) op.now key.now out.now reply.now) }
 {
     is_made(config, entry_before(contents, victim, key), op, out, reply)
         && does_victim_fit(config, contents, victim, op, key, out)

@@ -1,7 +1,7 @@
 //! What an event leads to: where the reader is after it, and what the cache then has.
 ghost use Rattle.std.specs.Prelude.{◌≡◌, IfOk, OnOk};
 ghost use Rattle.jc_model.specs.Group.{cache_after_step};
-ghost use Rattle.jc_model.specs.Reader.{new_group, opened, then_stage, then_cache};
+ghost use Rattle.jc_model.specs.Reader.{read_group, opened_group, then_stage, then_cache};
 
 use crate::contents::Contents;
 use crate::event::{Event, Op, Out};
@@ -11,7 +11,7 @@ use jc_types::{Config, Key};
 use std::alloc::AllocError;
 
 /// What is kept of a group at its step.
-fn opened_by(
+fn opened_group(
     config: &Config,
     contents: &Contents,
     place: usize,
@@ -20,8 +20,8 @@ fn opened_by(
     key: &Key,
     out: &Out,
 ) -> Opened
-    ensures { (reply : _) → result ≡ opened config.now contents.now place
-        (new_group victim.now (record { session = 0; call = 0 }) op.now key.now out.now reply) }
+    ensures { (reply : _) → result ≡ opened_group config.now contents.now place
+        (read_group victim.now (record { session = 0; call = 0 }) op.now key.now out.now reply) }
 {
     let entry = entry_before(contents, victim, key);
     Opened {
@@ -46,7 +46,7 @@ fn make_step(
     out: &Out,
 ) -> Result<(), AllocError>
     ensures { (reply : _) → OnOk result (contents.new ≡ cache_after_step contents.old
-        (new_group victim.now (record { session = 0; call = 0 }) op.now key.now out.now reply)) }
+        (read_group victim.now (record { session = 0; call = 0 }) op.now key.now out.now reply)) }
 {
     if let Some(victim) = victim {
         contents.remove(victim);
@@ -78,7 +78,7 @@ pub(super) fn go_over(
             Some(_) => Ok(*stage),
             None => {
                 let victim = stage.victim();
-                let kept = opened_by(config, contents, place, &victim, op, key, out);
+                let kept = opened_group(config, contents, place, &victim, op, key, out);
                 make_step(contents, &victim, op, key, out)?;
                 Ok(Stage::Inside(kept))
             }

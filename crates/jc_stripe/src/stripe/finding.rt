@@ -78,14 +78,14 @@ impl Stripe {
     fn is_reserving_full(&self) -> bool
         ensures { result ≡ nat_le RESERVATIONS_MAX (length self.now.reservations) }
     {
-        RESERVATIONS_MAX <= self.reservations.len()
+        self.reservations.is_full()
     }
 
     /// Whether no further call can join a load.
     fn is_joining_full(&self) -> bool
         ensures { result ≡ nat_le JOINERS_MAX (length self.now.joiners) }
     {
-        JOINERS_MAX <= self.joiners.len()
+        self.joiners.is_full()
     }
 
     /// The first refusal that a call meets here, if any, by what it finds at its key.

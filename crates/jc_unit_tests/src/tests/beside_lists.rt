@@ -133,7 +133,7 @@ fn calls_both(
 
 /// Both have the same keys, in the same order.
 fn are_same(rt: &impl Abort, alloc: Global, entries: &Entries, plain: &PlainList) {
-    let mut keys = Vec::with_capacity(alloc, entries.len()).expect(rt, "memory");
+    let mut keys = Vec::with_capacity(alloc, entries.capacity()).expect(rt, "memory");
     entries.keys(&mut keys);
     for entry in &plain.list {
         is(rt, "order", keys.pop(), Some(entry.0));

@@ -16,7 +16,7 @@ fn keys_in(rt: &impl Abort, alloc: Global, text: &str) -> Vec<Key> {
 
 /// The keys of the entries as a text, the most recently used first.
 fn shown(rt: &impl Abort, alloc: Global, entries: &Entries) -> Vec<u8> {
-    let mut keys = Vec::with_capacity(alloc, entries.len()).expect(rt, "memory");
+    let mut keys = Vec::with_capacity(alloc, entries.capacity()).expect(rt, "memory");
     entries.keys(&mut keys);
     let mut text = Vec::new(alloc);
     for key in &keys {
@@ -112,7 +112,7 @@ fn lists(rt: &impl Abort, alloc: Global, entries: &Entries, want: &str) {
 #[test]
 fn keeps_the_order_of_use(rt: HostRuntime) {
     let mut entries = empty(&rt, rt.alloc(), 3);
-    is(&rt, "new", entries.is_empty(), true);
+    holds(&rt, rt.alloc(), &entries, "new", b"");
     plays(&rt, rt.alloc(), &mut entries, USES);
     lists(&rt, rt.alloc(), &entries, "b=4 c=3");
 }
@@ -157,7 +157,6 @@ fn fills(rt: &impl Abort, alloc: Global, capacity: usize) {
     let found = entries.insert(&key(rt, b"m"), &x, &[]);
     let first = key(rt, &0usize.to_be_bytes());
     is(rt, "one more", found, Inserted::KeptAfter(first));
-    is(rt, "full", entries.len(), capacity);
     is(rt, "full", entries.capacity(), capacity);
 }
 

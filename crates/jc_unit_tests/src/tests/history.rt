@@ -11,33 +11,33 @@ fn empty(rt: &impl Abort, alloc: Global, limit: usize) -> History {
     History::new(alloc, limit).expect(rt, "memory")
 }
 
-/// What is asked for, a limit, the places promised of it, how many more are asked for, whether they fit, and how many are promised
+/// What is asked for, a limit, the places promised of it, how many more are asked for, whether they fit, and how many are free
 /// then.
 type Promise = (&'static str, usize, usize, usize, bool, usize);
 
 const PROMISES: &[Promise] = &[
-    ("all", 16, 0, 16, true, 16),
-    ("one more than all", 16, 0, 17, false, 0),
-    ("the rest", 16, 13, 3, true, 16),
-    ("one more than the rest", 16, 13, 4, false, 13),
-    ("none of none", 16, 16, 0, true, 16),
-    ("far too many", 16, 1, usize::MAX, false, 1),
+    ("all", 16, 0, 16, true, 0),
+    ("one more than all", 16, 0, 17, false, 16),
+    ("the rest", 16, 13, 3, true, 0),
+    ("one more than the rest", 16, 13, 4, false, 3),
+    ("none of none", 16, 16, 0, true, 0),
+    ("far too many", 16, 1, usize::MAX, false, 15),
     ("none of a history with no place", 0, 0, 0, true, 0),
     ("one of a history with no place", 0, 0, 1, false, 0),
-    ("the last of the most", 65536, 65535, 1, true, 65536),
-    ("one more than the most", 65536, 65535, 2, false, 65535),
+    ("the last of the most", 65536, 65535, 1, true, 0),
+    ("one more than the most", 65536, 65535, 2, false, 1),
 ];
 
 /// Asserts what becomes of a promise beside an earlier one.
 fn promises(rt: &impl Abort, alloc: Global, promise: &Promise) {
-    let (at, limit, promised, asked, fits, left) = *promise;
+    let (at, limit, promised, asked, fits, free) = *promise;
+    assert!(rt; free <= HISTORY_MAX);
     let mut history = empty(rt, alloc, limit);
     is(rt, at, history.promise(promised), true);
     is(rt, at, history.has_room(asked), fits);
-    is(rt, at, history.promised(), promised);
     is(rt, at, history.promise(asked), fits);
-    is(rt, at, history.promised(), left);
-    is(rt, at, history.limit(), limit);
+    is(rt, at, history.has_room(free), true);
+    is(rt, at, history.has_room(free + 1), false);
 }
 
 #[test]
@@ -47,15 +47,17 @@ fn promises_up_to_the_limit(rt: HostRuntime) {
     }
 }
 
-/// Pushes into a place that is promised.
+/// Pushes into a place that is promised for it.
 fn pushes(rt: &impl Abort, history: &mut History, event: &Event) {
-    assert!(rt; 0 < history.promised());
+    let fits = history.promise(1);
+    assert!(rt; fits);
     history.push(event);
 }
 
-/// Pushes a step of which each part is lent into a place that is promised.
+/// Pushes a step of which each part is lent into a place that is promised for it.
 fn pushes_lent(rt: &impl Abort, history: &mut History, event: &Event) {
-    assert!(rt; 0 < history.promised());
+    let fits = history.promise(1);
+    assert!(rt; fits);
     match event {
         Event::Step {
             caller,
@@ -76,11 +78,6 @@ fn pushes_lent(rt: &impl Abort, history: &mut History, event: &Event) {
     }
 }
 
-/// How many events there are, and how many places are promised.
-fn counts(history: &History) -> (usize, usize) {
-    (history.len(), history.promised())
-}
-
 fn hit(key: Key, value: Value) -> Event {
     Event::Step {
         caller: Caller {
@@ -95,28 +92,25 @@ fn hit(key: Key, value: Value) -> Event {
     }
 }
 
-/// Pushes twice, into places of which so many are promised then, and gives the rest back.
-fn pushes_two(rt: &impl Abort, history: &mut History, event: &Event, left: usize) {
-    pushes(rt, history, event);
-    pushes(rt, history, event);
-    is(rt, "two more", history.promised(), left);
-    assert!(rt; left == history.promised());
-    history.unpromise(left);
+/// Has `n` places promised, pushes into two of them, and gives the rest back.
+fn pushes_two_of(rt: &impl Abort, history: &mut History, n: usize, event: &Event) {
+    let fits = history.promise(n);
+    assert!(rt; fits && 2 <= n);
+    history.push(event);
+    history.push(event);
+    history.unpromise(n - 2);
 }
 
 #[test]
 fn pushes_into_promised_places(rt: HostRuntime) {
     let event = hit(key(&rt, b"k"), value(&rt, b""));
     let mut history = empty(&rt, rt.alloc(), 4);
-    is(&rt, "new", history.is_empty(), true);
-    is(&rt, "three of four", history.promise(3), true);
-    pushes_two(&rt, &mut history, &event, 1);
-    is(&rt, "two of four", counts(&history), (2, 0));
-    is(&rt, "two of four", history.is_empty(), false);
+    is(&rt, "new", history.len(), 0);
+    pushes_two_of(&rt, &mut history, 3, &event);
+    is(&rt, "two of four", history.len(), 2);
     is(&rt, "one too many", history.promise(3), false);
-    is(&rt, "the rest", history.promise(2), true);
-    pushes_two(&rt, &mut history, &event, 0);
-    is(&rt, "full", counts(&history), (4, 0));
+    pushes_two_of(&rt, &mut history, 2, &event);
+    is(&rt, "full", history.len(), 4);
     is(&rt, "full", history.has_room(1), false);
     is(&rt, "full", history.has_room(0), true);
 }
@@ -175,7 +169,6 @@ fn reads_back(rt: HostRuntime) {
     };
     let third = largest(key, long);
     let mut history = empty(&rt, rt.alloc(), 3);
-    is(&rt, "room for three", history.promise(3), true);
     pushes(&rt, &mut history, &first);
     pushes(&rt, &mut history, &second);
     pushes_lent(&rt, &mut history, &third);

@@ -10,7 +10,8 @@ fn caller(session: u32, call: u64) -> Caller {
 }
 
 fn join(rt: &impl Abort, joiners: &mut Joiners, caller: Caller, key: &Key, load: u64) -> bool {
-    assert!(rt; !joiners.has_joined(caller, key), "no call joins twice");
+    let joined = joiners.list().iter().any(|j| j.belongs_to(caller, key));
+    assert!(rt; !joined, "no call joins twice");
     joiners.join(caller, key, load)
 }
 
@@ -88,7 +89,7 @@ fn answers_in_the_order_of_joining(rt: HostRuntime) -> Result<(), Fail> {
     is(&rt, "no longer", joiners.waiting(7), 0);
     is(&rt, "still", joiners.waiting(8), 1);
     take(&rt, &mut joiners, ANSWERS)?;
-    is(&rt, "length", joiners.len(), 1);
+    is(&rt, "length", joiners.list().len(), 1);
     Ok(())
 }
 
@@ -133,6 +134,9 @@ fn join_64(rt: &impl Abort, joiners: &mut Joiners, key: &Key) {
     }
 }
 
+// The call that joined late waits, and the one whose place it took is gone.
+const LATE: &[Taken] = &[(2, 0, "k", Some(JoinState::Waiting)), (1, 0, "k", None)];
+
 /// No call joins while there are 64 joiners, whether they wait or not. One that is taken leaves a place free.
 #[test]
 fn holds_64_joiners_and_no_65th(rt: HostRuntime) -> Result<(), Fail> {
@@ -151,8 +155,6 @@ fn holds_64_joiners_and_no_65th(rt: HostRuntime) -> Result<(), Fail> {
     );
     take(&rt, &mut joiners, &[(1, 0, "k", FIRST)])?;
     is(&rt, "room", join(&rt, &mut joiners, late, &k, 9), true);
-    is(&rt, "joined", joiners.has_joined(late, &k), true);
-    is(&rt, "taken", joiners.has_joined(caller(1, 0), &k), false);
     is(&rt, "full again", joiners.is_full(), true);
-    Ok(())
+    take(&rt, &mut joiners, LATE)
 }

@@ -1,6 +1,7 @@
 use Rattle.std.proofs.Common.{not, sym, ◌∙◌, ap}
+use Rattle.jc_types.proofs.CallerLemmas.{none_from}
 use Rattle.jc_model.specs.Table.{entry_after}
-use Rattle.jc_stripe.proofs.Keeping.{kept_after, kept_none, is_none_then, not_kept, use_is}
+use Rattle.jc_stripe.proofs.Keeping.{kept_after, kept_none, not_kept, use_is}
 use Rattle.jc_stripe.proofs.appending.apply_to_entries.Goals as goal
 
 pub returns-in-KeptAfter : goal.returns-in-KeptAfter
@@ -27,5 +28,5 @@ pub returns-then-is_none : goal.returns-then-is_none
 returns-then-is_none c =
     kept_none c.args.entries.now c.args.key.now c.args.pinned.now c.args.op.now c.args.out.now
     (use_is _ _ _ _ c.first_fault.ensures c.uses.ensures (sym c.is_some.ensures ∙ c.if-is_some.false) c.if-not-uses.false)
-    (sym c.requires.entry ∙ is_none_then c.args.entry (c.is_none.ensures ∙ ap not c.if-is_none.true))
+    (sym c.requires.entry ∙ none_from c.args.entry (c.is_none.ensures ∙ ap not c.if-is_none.true))
     (ap (λ o. entry_after c.args.op.now o c.args.out.now) (sym c.requires.entry) ∙ sym c.entry_after.ensures ∙ c.in-None.is)

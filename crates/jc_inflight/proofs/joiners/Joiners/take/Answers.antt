@@ -1,7 +1,7 @@
 use Rattle.std.proofs.Common.{Some, position, subst, sym, ap, ◌∙◌, get_or}
 use Rattle.jc_inflight.specs.declared.joiner.Joiner.{Joiner}
 use Rattle.jc_inflight.specs.Joining.{belongs_to, is_waiting}
-use Rattle.jc_inflight.specs.Taking.{state_of, after_take}
+use Rattle.jc_inflight.specs.Taking.{join_state_of, after_take}
 use Rattle.jc_inflight.specs.IsJoinerList.{IsJoinerList}
 use Rattle.jc_inflight.proofs.CallerLemmas.{after_take_over, after_take_waiting, after_take_nobody}
 use Rattle.jc_inflight.proofs.JoinerList.{IsJoinerList-without, state_at_place, remove_joiner, state_nowhere}
@@ -10,7 +10,7 @@ use Rattle.jc_inflight.proofs.joiners.Joiners.take.Goals as goal
 pub returns-in_err-place-clause-state : goal.returns-in_err-place-clause-state
 returns-in_err-place-clause-state c =
     let none = ap (position (belongs_to c.args.caller c.args.key.now)) (sym c.deref.ensures.0) ∙ sym c.place_of.ensures ∙ c.in_err-place.was in
-    c.from_residual.ensures ∙ sym (state_nowhere c.args.caller c.args.key.now c.self.inside.joiners.items none) ∙ ap (state_of c.args.caller c.args.key.now) c.self.view_is
+    c.from_residual.ensures ∙ sym (state_nowhere c.args.caller c.args.key.now c.self.inside.joiners.items none) ∙ ap (join_state_of c.args.caller c.args.key.now) c.self.view_is
 
 pub returns-in_err-place-clause-left : goal.returns-in_err-place-clause-left
 returns-in_err-place-clause-left c =
@@ -24,7 +24,7 @@ returns-then-not-is_waiting-clause-state c =
     let j = c.index-deref-place.result in
     let is = c.index-deref-place.is ∙ ap (λ js. get_or js c.in_ok-place.place j) c.deref-2.ensures.0 in
     ap (λ (x : Joiner). Some x.state) (sym c.index-deref-place.is) ∙ sym (state_at_place c.args.caller c.args.key.now c.self.inside.joiners.items c.in_ok-place.place j at is)
-    ∙ ap (state_of c.args.caller c.args.key.now) c.self.view_is
+    ∙ ap (join_state_of c.args.caller c.args.key.now) c.self.view_is
 
 pub returns-else-not-is_waiting-clause-state : goal.returns-else-not-is_waiting-clause-state
 returns-else-not-is_waiting-clause-state c =
@@ -32,7 +32,7 @@ returns-else-not-is_waiting-clause-state c =
     let j = c.index-deref-place.result in
     let is = c.index-deref-place.is ∙ ap (λ js. get_or js c.in_ok-place.place j) c.deref-2.ensures.0 in
     ap (λ (x : Joiner). Some x.state) (sym c.index-deref-place.is) ∙ sym (state_at_place c.args.caller c.args.key.now c.self.inside.joiners.items c.in_ok-place.place j at is)
-    ∙ ap (state_of c.args.caller c.args.key.now) c.self.view_is
+    ∙ ap (join_state_of c.args.caller c.args.key.now) c.self.view_is
 
 pub returns-then-not-is_waiting-clause-left : goal.returns-then-not-is_waiting-clause-left
 returns-then-not-is_waiting-clause-left c =

@@ -2,7 +2,7 @@ use Rattle.std.proofs.Common.{◌≡◌, ◌+◌, ◌++◌, [], ◌∷◌, take,
 use Rattle.std.proofs.lemmas.List.{take_more, take-append-drop}
 use Rattle.std.proofs.Math.Seq.{take-length}
 use Rattle.jc_model.specs.Cache.{Bytes}
-use Rattle.jc_outside.specs.Answers.{with_answer}
+use Rattle.jc_outside.specs.Answers.{answers_with}
 use Rattle.jc_store.proofs.Batches.{among, answers_by, values_at, all-answered, is_among, one-answered, none-answered}
 use Rattle.jc_store.proofs.store.Store.read_all.Goals as goal
 use Rattle.jc_store.proofs.store.Store.read_all.Goals.{in-Some, in_default}
@@ -20,7 +20,7 @@ loop-key-preserved c =
     elim c.match-read.branch [
       | in-Some w ↦
           w.answers-is ∙ w.put.ensures.answers
-          ∙ ap (λ m. with_answer m k w.in-Some.value) c.loop-key.invariant
+          ∙ ap (λ m. answers_with m k w.in-Some.value) c.loop-key.invariant
           ∙ one-answered store done keys k w.in-Some.value there (sym c.read.ensures ∙ w.in-Some.is)
           ∙ ap (λ xs. answers_by (values_at store xs) keys) more
       | in_default w ↦

@@ -9,7 +9,7 @@ commits : (c : goal.After-commit) → Commits c.args.self.now c.args.ticket.rese
 commits c =
     let P : Reservation × Out → Type 0 = λ x. Commits c.args.self.now x.0 x.1 c.commit.result c.commit.new.self in
     let answers = c.into_parts-receipt.ensures in
-    subst P (λ i. (c.spend-2.ensures.reservation i, record { load = answers.load i; write = c.write_answer-write.ensures.answer i; process = answers.process i })) c.commit.ensures
+    subst P (λ i. (c.spend-2.ensures.reservation i, record { load = answers.load i; write = c.report_answer-write.ensures.answer i; process = answers.process i })) c.commit.ensures
 
 pub returns-clause-commits : goal.returns-clause-commits
 returns-clause-commits c = commits c

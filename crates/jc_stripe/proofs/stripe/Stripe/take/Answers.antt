@@ -8,13 +8,13 @@ use Rattle.jc_stripe.proofs.Picking.{pick_sound, joined_told, told_step}
 use Rattle.jc_stripe.proofs.stripe.Stripe.take.Goals as goal
 
 heard : (c : goal.In-Some) → told_to (state_of c.self.inside) c.args.join.now ≡ Some c.in-Some.state
-heard c = (λ i. taking.state_of (sym c.caller.ensures i) (sym c.key.ensures i) c.self.inside.joiners) ∙ sym c.take.ensures.state ∙ c.in-Some.is
+heard c = (λ i. taking.join_state_of (sym c.caller.ensures i) (sym c.key.ensures i) c.self.inside.joiners) ∙ sym c.take.ensures.state ∙ c.in-Some.is
 
 pub unreachable-requires : goal.unreachable-requires
 unreachable-requires c =
     let Joined : State → Type 0 = λ s. IsJoined s c.args.join.now in
     joined_told (state_of c.self.inside) c.args.join.now (subst Joined (sym c.self.view_is) c.requires)
-    ((λ i. taking.state_of (sym c.caller.ensures i) (sym c.key.ensures i) c.self.inside.joiners) ∙ sym c.take.ensures.state ∙ c.in-None.is)
+    ((λ i. taking.join_state_of (sym c.caller.ensures i) (sym c.key.ensures i) c.self.inside.joiners) ∙ sym c.take.ensures.state ∙ c.in-None.is)
 
 pub invariant_of-self : goal.invariant_of-self
 invariant_of-self c =
