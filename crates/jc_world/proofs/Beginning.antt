@@ -5,14 +5,14 @@
 --     may_turn, part_turn            a call may work at a key that it starts, and at one that it has reserved
 use Rattle.std.proofs.Common.{◌≡◌, ◌==◌, ◌&&◌, ◌||◌, ◌+◌, ℕ, zero, suc, List, [], ◌∷◌, ◌++◌, length, Ok, Bool, true, false, cond, not, Option, None, Some, IsSomeAnd, find, slice_get, is_none, is_some, refl, sym, ap, ◌∙◌, subst, arith, add-zero, zero-add, append-nil}
 use Rattle.std.specs.Cmp.Lexicographic.{pointwise}
-use Rattle.std.proofs.lemmas.Bool.{eq-eqb, eqb-true, and_parts, and_from}
+use Rattle.std.proofs.lemmas.Bool.{eq-eqb, eqb-true, and_parts, and_from, or_left, or_right, false_from_ne_true, not-true}
 use Rattle.std.proofs.lemmas.Cmp.{nat_list_cmp_total}
 use Rattle.std.specs.FinMap.{get, insert, get-insert, len-empty}
 use Rattle.jc_world.proofs.Numbered.{some_of}
 use Rattle.jc_types.proofs.CallerLemmas.{all_filter}
 use Rattle.jc_types.specs.declared.caller.Caller.{Caller}
 use Rattle.jc_types.specs.declared.config.Config.{Config}
-use Rattle.jc_types.specs.Limits.{check}
+use Rattle.jc_types.specs.Limits.{check, is_session}
 use Rattle.jc_types.specs.Stripes.{stripe_of}
 use Rattle.jc_model.specs.declared.event.Op.{Op}
 use Rattle.jc_model.specs.declared.event.Op.TheVariants.{Get}
@@ -31,16 +31,16 @@ use Rattle.jc_world.specs.declared.event.Premises.{Premises}
 use Rattle.jc_world.specs.Calls.{CallState, has_number, op_at, op_for, is_turn, new_call, opened}
 use Rattle.jc_world.specs.declared.event.WorldEvent.TheVariants as event
 use Rattle.jc_world.specs.World.{WorldState, Parts, home, stripe_for, empty_stripe, empty_stripes, start, is_busy, open_call, part_of, is_joined}
-use Rattle.jc_world.specs.Fits.{is_playable, is_session, is_new, is_free, may_start, fits}
-use Rattle.jc_world.specs.Sound.{IsStripe, is_up_to, has_parked_answer, is_served_in, is_served, FitsKey, FitsCall, CallsFit, IsCallOf, IsHeld, IsOwned, AllOwned, IsCalled, AllCalled, IsSoundWorld, Each}
+use Rattle.jc_world.specs.Fits.{is_playable, is_new, is_free, may_start, fits}
+use Rattle.jc_world.specs.Sound.{IsStripe, is_up_to, has_parked_answer, is_served_in, is_served, FitsKey, FitsCall, CallsFit, IsCallOf, IsHeld, IsOwned, AllOwned, IsCalled, AllCalled, IsSoundWorld}
 use Rattle.jc_world.proofs.Halves.{HasOrder}
 use Rattle.jc_world.proofs.Shares.{found_test, shape_same, fact_found, each_map, each_test}
-use Rattle.jc_world.proofs.Underway.{found_number, fits_found, calls_on, elsewhere_found, up_self, up_more, numbers_more, comes_new, calls_pushed, each_found, find_pushed, same_bytes, of_call-none}
+use Rattle.jc_world.proofs.Underway.{found_number, fits_found, calls_on, calls_all, elsewhere_found, up_self, up_more, numbers_more, comes_new, calls_pushed, each_found, find_pushed, same_bytes, of_call-none}
 use Rattle.jc_world.proofs.Joiners.{joiner_of, other_key}
 use Rattle.jc_world.proofs.Looked.{Taken}
 use Rattle.jc_world.proofs.Settling.{Left, IsTurnOf, done_for}
 use Rattle.jc_world.proofs.NewCalls.{opened_cases}
-use Rattle.jc_world.proofs.Facts.{refuted, not_true, same_found}
+use Rattle.jc_world.proofs.Facts.{same_found}
 use Rattle.jc_world.proofs.Entries.{split}
 
 -- 1. What changes nothing of the callers' order.
@@ -50,13 +50,13 @@ pub unless : (a b : Bool) → (a ≡ true → b ≡ true) → b ≡ false → a 
 unless true b f h = let t : true ≡ false = sym (f refl) ∙ h in cc
 unless false b f h = refl
 
--- a key of a call fits a world of the same order, where it is served if it was
+-- a key of a call fits a world of the same order, in which it is served if it was
 fits_key : (w n : WorldState) (caller : Caller) (key : Bytes) (op : Op) → n.order ≡ w.order → (is_served w caller key ≡ true → is_served n caller key ≡ true) → FitsKey w caller key op → FitsKey n caller key op
 fits_key w n caller key op order served h = record {
   comes = λ e. ap (λ o. may_come_all o caller key) order ∙ h.comes (unless (is_served w caller key) (is_served n caller key) served e);
 }
 
--- what is left of a call fits a world of the same order and the same last number, where it is served if it was
+-- what is left of a call fits a world of the same order and the same last number, in which it is served if it was
 pub fits_left : (w n : WorldState) (call : ℕ) (key : Bytes) (u v : CallState) → Left call key u v → n.last ≡ w.last → n.order ≡ w.order → ((q : Bytes) (op : Op) → op_for v q ≡ Some op → is_served w u.caller q ≡ true → is_served n u.caller q ≡ true) → FitsCall w u → FitsCall n v
 fits_left w n call key u v left last order served h = record {
   number = (λ i. is_up_to (last i) (left.caller_is i).call) ∙ h.number;
@@ -74,7 +74,7 @@ fits_taken w n u v taken last order served h = record {
       subst P (sym taken.caller_is) (fits_key w n u.caller q op order (served q op is) (h.keys q op (taken.was q op is)));
 }
 
--- a call fits a world of the same order and the same last number, where it is served if it was
+-- a call fits a world of the same order and the same last number, in which it is served if it was
 pub fits_same : (w n : WorldState) (u : CallState) → n.last ≡ w.last → n.order ≡ w.order → ((key : Bytes) (op : Op) → op_for u key ≡ Some op → is_served w u.caller key ≡ true → is_served n u.caller key ≡ true) → FitsCall w u → FitsCall n u
 fits_same w n u last order served h = record {
   number = ap (λ l. is_up_to l u.caller.call) last ∙ h.number;
@@ -84,11 +84,7 @@ fits_same w n u last order served h = record {
 -- the calls fit a world of the same order, the same last number and the same joiners
 pub calls_same : (w n : WorldState) (calls : List CallState) → n.last ≡ w.last → n.order ≡ w.order → ((caller : Caller) (key : Bytes) → is_served w caller key ≡ true → is_served n caller key ≡ true) → CallsFit w calls → CallsFit n calls
 calls_same w n calls last order served fit =
-    calls_on w n (λ u. Unit {0}) calls (λ u t h. fits_same w n u last order (λ q op is. served u.caller q) h) (each_one calls) fit
-  where
-    each_one : (xs : List CallState) → Each (λ (u : CallState). Unit {0}) xs
-    each_one [] = tt
-    each_one (x ∷ xs) = (tt, each_one xs)
+    calls_all w n calls (λ u h. fits_same w n u last order (λ q op is. served u.caller q) h) fit
 
 -- the store changes
 pub order_stored : (w : WorldState) (store : Cache) (premises : Premises) (fresh : Bool) → IsSoundWorld w → HasOrder (record w { store = store; fresh = fresh; premises = premises })
@@ -102,14 +98,14 @@ order_stored w store premises fresh old =
       owned = λ n s here. each_map (IsOwned w) (IsOwned new) s.reservations (λ r h. record { part = h.part; call = h.call }) (old.owned n s here);
     }
 
--- a key's part goes on, of the same call
+-- a key's part stays, of the same call
 pub owned_part : (parts : Parts) (key q : Bytes) (part : Part) (call : ℕ) → IsSomeAnd (get parts q) (λ p. p.reservation.caller.call ≡ call) → (q ≡ key → part.reservation.caller.call ≡ call) → IsSomeAnd (get (insert parts key part) q) (λ p. p.reservation.caller.call ≡ call)
 owned_part parts key q part call h here =
     let P : Option Part → Type 0 = λ o. IsSomeAnd o (λ p. p.reservation.caller.call ≡ call) in
     subst P (sym (get-insert nat_list_cmp_total parts key part q))
     (split q key (λ b. P (cond b (Some part) (get parts q))) here (λ apart. h))
 
--- a key's part goes on
+-- a key's part stays
 pub order_parted : (w : WorldState) (key : Bytes) (old part : Part) (premises : Premises) (store : Cache) → get w.parts key ≡ Some old → part.reservation.caller.call ≡ old.reservation.caller.call → IsSoundWorld w
     → HasOrder (record w { parts = insert w.parts key part; premises = premises; store = store })
 order_parted w key old part premises store there same was =
@@ -201,7 +197,7 @@ called_parts a b c d h =
 abbrev begun_world : WorldState → ℕ → List CallState → WorldState
 begun_world w call more = record w { last = Some call; fresh = false; calls = w.calls ++ more }
 
--- a call fits behind a new number
+-- a call fits after a new number
 fits_more : (w : WorldState) (call : ℕ) (more : List CallState) (x : CallState) → is_new w.last call ≡ true → FitsCall w x → FitsCall (begun_world w call more) x
 fits_more w call more x new h = record {
   number = up_more w.last call x.caller.call new h.number;
@@ -252,7 +248,7 @@ pub record MayStart (w : WorldState) (u : CallState) (key : Bytes) (op : Op) : T
   pub none : is_none (part_of w u.caller.call key) ≡ true
   pub alone : is_joined w u.caller.call key ≡ false
 
--- so where a start fits
+-- so if a start fits
 pub may_start_at : (w : WorldState) (call : ℕ) (key : Bytes) (u : CallState) (op : Op) → fits w (event.Start call key) ≡ true → open_call w call ≡ Some u → op_at u key ≡ Some op → IsSoundWorld w → MayStart w u key op
 may_start_at w call key u op fit is op_is old =
     let tests = and_parts (is_some (op_at u key) && is_turn u key) (is_free w call key) (sym (ap (may_start w call key) is) ∙ fit) in
@@ -264,7 +260,7 @@ may_start_at w call key u op fit is op_is old =
       turn = (and_parts (is_some (op_at u key)) (is_turn u key) tests.0).1;
       fit = (fits_found w (has_number call) w.calls u is old.calls).keys key op (done_for u key op op_is);
       none = ap (λ n. is_none (part_of w n key)) number ∙ parts.0;
-      alone = ap (λ n. is_joined w n key) number ∙ not_true (is_joined w call key) parts.1;
+      alone = ap (λ n. is_joined w n key) number ∙ not-true (is_joined w call key) parts.1;
     }
 
 -- a call may work at a key that it starts
@@ -289,17 +285,9 @@ not_own w call key r none h mine at =
 
 -- one of another session, or of the same call at another key
 pub apart_or : (a : Bool) (number call : ℕ) (k key : Bytes) → number ≡ call → (k ≡ key → ⊥) → (a || ((number == call) && not (pointwise ◌==◌ k key))) ≡ true
-apart_or a number call k key mine other = or_last a _ (and_from _ _ (eq-eqb number call mine) (ap not (refuted (pointwise ◌==◌ k key) (λ e. other (same_bytes k key e)))))
-  where
-    or_last : (a b : Bool) → b ≡ true → (a || b) ≡ true
-    or_last true b h = refl
-    or_last false b h = h
+apart_or a number call k key mine other = or_right a _ (and_from _ _ (eq-eqb number call mine) (ap not (false_from_ne_true (pointwise ◌==◌ k key) (λ e. other (same_bytes k key e)))))
 
 -- the first test is enough
-first_one : (a b : Bool) → a ≡ true → (a || b) ≡ true
-first_one true b h = refl
-first_one false b h = cc
-
 -- each reservation is another session's, or at another key
 beside_own : (w : WorldState) (u : CallState) (key : Bytes) (op : Op) (r : Reservation) → IsSoundWorld w → MayStart w u key op → IsOwned w r → is_other_call u.caller key r ≡ true
 beside_own w u key op r old may h =
@@ -308,7 +296,7 @@ beside_own w u key op r old may h =
       | true ↦ λ e.
           let mine : r.caller.call ≡ u.caller.call = sym (eqb-true u.caller.call r.caller.call e) in
           apart_or (not (r.caller.session == u.caller.session)) r.caller.call u.caller.call r.key key mine (not_own w u.caller.call key r may.none h mine)
-      | false ↦ λ e. first_one (not (r.caller.session == u.caller.session)) _ (ap (λ s. not (s == u.caller.session)) (sym call.2.0) ∙ elsewhere_found w u.caller.call r.caller.call w.calls u call.0 old.calls may.here call.1 e)
+      | false ↦ λ e. or_left (not (r.caller.session == u.caller.session)) _ (ap (λ s. not (s == u.caller.session)) (sym call.2.0) ∙ elsewhere_found w u.caller.call r.caller.call w.calls u call.0 old.calls may.here call.1 e)
     ] refl
 
 -- and so is each joiner
@@ -319,7 +307,7 @@ apart_own w u key op m j old may h =
       | true ↦ λ e.
           let mine : j.caller.call ≡ u.caller.call = sym (eqb-true u.caller.call j.caller.call e) in
           apart_or (not (j.caller.session == u.caller.session)) j.caller.call u.caller.call j.key key mine (other_key w u.caller.call key j.caller.call j.key may.alone h.join mine)
-      | false ↦ λ e. first_one (not (j.caller.session == u.caller.session)) _ (ap (λ s. not (s == u.caller.session)) (sym call.2.0) ∙ elsewhere_found w u.caller.call j.caller.call w.calls u call.0 old.calls may.here call.1 e)
+      | false ↦ λ e. or_left (not (j.caller.session == u.caller.session)) _ (ap (λ s. not (s == u.caller.session)) (sym call.2.0) ∙ elsewhere_found w u.caller.call j.caller.call w.calls u call.0 old.calls may.here call.1 e)
     ] refl
 
 -- a caller that has no join of a key is not served there
@@ -355,7 +343,7 @@ begins_with w u key op from old there may =
       apart = each_test (IsCalled w (home w key)) (is_join_apart u.caller key) from.joiners (λ j h. apart_own w u key op (home w key) j old may h) (old.called (home w key) from there);
     }
 
--- the same, where a start fits
+-- the same, if a start fits
 pub begins_at : (w : WorldState) (call : ℕ) (key : Bytes) (u : CallState) (op : Op) (from : State) → fits w (event.Start call key) ≡ true → open_call w call ≡ Some u → op_at u key ≡ Some op → stripe_for w key ≡ Some from → IsSoundWorld w
     → MayBegin from u.caller key
 begins_at w call key u op from fit is op_is there old = begins_with w u key op from old there (may_start_at w call key u op fit is op_is old)

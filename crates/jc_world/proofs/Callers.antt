@@ -7,7 +7,7 @@ use Rattle.std.specs.List.{list_all}
 use Rattle.std.specs.Ordering.{eq_by_cmp}
 use Rattle.std.specs.Cmp.{eq_by_cmp_equiv}
 use Rattle.std.specs.Cmp.Lexicographic.{pointwise, texts_ties}
-use Rattle.std.proofs.lemmas.Bool.{eqb-true, and_parts}
+use Rattle.std.proofs.lemmas.Bool.{eqb-true, and_parts, false_from_ne_true, not-true}
 use Rattle.std.proofs.lemmas.Cmp.{nat_list_cmp_total, nat_list_eq_equiv}
 use Rattle.std.specs.FinMap.{get, insert, remove, get-insert, get-remove, empty, from_entries}
 use Rattle.jc_world.proofs.Numbered.{some_of}
@@ -38,17 +38,15 @@ use Rattle.jc_stripe.specs.Tickets.{Ticket, ProcessClaim, JoinClaim}
 use Rattle.jc_stripe.specs.State.{State, is_key, is_of, is_reserved, with_reservation, without_key, IsOut}
 use Rattle.jc_stripe.specs.Refusals.{reserves}
 use Rattle.jc_stripe.specs.Phases.{Begins, Commits, Withdraws, PicksUp, Steps, new_group, after_commit, with_joiner, without_joiner}
-use Rattle.jc_stripe.specs.Laws.{IsSameStripe, Extends}
+use Rattle.jc_stripe.specs.Laws.{IsSameStripe, Extends, StaysReached}
 use Rattle.jc_stripe.specs.Reached.{IsReached, JoinFits}
 use Rattle.jc_stripe.specs.OwnSteps.{may_come_all}
-use Rattle.jc_stripe.specs.Laws.{StaysReached}
 use Rattle.jc_world.specs.declared.event.Part.{Part}
 use Rattle.jc_world.specs.declared.event.Progress.{Progress}
 use Rattle.jc_world.specs.declared.event.Premises.{Premises}
 use Rattle.jc_world.specs.declared.event.Shown.{Shown}
 use Rattle.jc_world.specs.declared.event.Shown.TheVariants as shown
-use Rattle.jc_world.specs.declared.command.Sweep.{Sweep}
-use Rattle.jc_world.specs.Calls.{CallState, has_number, open_keys, op_at, op_for, is_turn, settle, going_on, with_found}
+use Rattle.jc_world.specs.Calls.{CallState, SweepState, has_number, open_keys, op_at, op_for, is_turn, settle, going_on, with_found}
 use Rattle.jc_world.specs.declared.event.WorldEvent.{WorldEvent}
 use Rattle.jc_world.specs.declared.event.WorldEvent.TheVariants as event
 use Rattle.jc_world.specs.World.{WorldState, Parts, home, stripe_for, open_call, part_of, is_joined, is_join, join_of, joins_without, out_of, with_stored}
@@ -56,7 +54,7 @@ use Rattle.jc_world.specs.Fits.{is_free, may_leave, fits}
 use Rattle.jc_world.specs.Events.{with_stripe, with_phase, with_settled, without_call, with_look, new_load, new_write, new_part, with_part, without_part, with_join, without_join, step_of, Starts, Ends, Picks, Happens, new_process}
 use Rattle.jc_world.specs.Audit.{cache_in, cache_at, IsOrder, HasShares}
 use Rattle.jc_world.specs.Sound.{IsStripe, is_up_to, has_answer, has_parked_answer, is_served_in, is_served, FitsKey, FitsCall, CallsFit, IsCallOf, IsHeld, IsOwned, AllOwned, IsCalled, IsSoundWorld, IsWaitedFor, Each}
-use Rattle.jc_world.proofs.Halves.{HasOrder, order_half}
+use Rattle.jc_world.proofs.Halves.{HasOrder, order_half, order_half}
 use Rattle.jc_world.proofs.Returns.{IsReport}
 use Rattle.jc_world.proofs.Places.{at_stripe, stripe_put}
 use Rattle.jc_world.proofs.Reservations.{out_reserved, was_free, writer_alone}
@@ -68,7 +66,7 @@ use Rattle.jc_world.proofs.Settling.{open_now, Left, done_for, IsTurnOf, still_c
 use Rattle.jc_world.proofs.LoadKeys.{key_of_load, each_fits}
 use Rattle.jc_world.proofs.Joiners.{joiner_of, unanswered, told_resolved, told_waiting, told_dissolved, told_pushed, find_kept, each_own, each_caller, each_both, join_is, joined_no_part}
 use Rattle.jc_world.proofs.Beginning.{unless, fits_left, fits_same, fits_taken, calls_same, order_stored, owned_part, order_parted, order_called, MayStart, may_start_at, may_turn, part_turn, not_own, apart_or, unserved, begins_with}
-use Rattle.jc_world.proofs.Facts.{refuted, not_true, same_found}
+use Rattle.jc_world.proofs.Facts.{same_found}
 use Rattle.jc_world.proofs.Entries.{tied}
 
 -- 1. A key that is settled.
@@ -112,7 +110,7 @@ order_over w call u free is old =
           (λ r h.
           let P : Option CallState → Type 0 = λ o. IsSomeAnd o (IsCallOf r.caller.session r.key r.op) in
           let v = some_of (open_call w r.caller.call) (IsCallOf r.caller.session r.key r.op) h.call in
-          let apart = refuted (call == r.caller.call) (λ e.
+          let apart = false_from_ne_true (call == r.caller.call) (λ e.
           let mine : r.caller.call ≡ call = sym (eqb-true call r.caller.call e) in
           let same : v.0 ≡ u = same_found (open_call w call) v.0 u (ap (open_call w) (sym mine) ∙ v.1) is in
           let one = open_now (is_free w call) u r.key r.op (ap (λ (x : CallState). op_at x r.key) (sym same) ∙ v.2.1) free in
@@ -137,8 +135,8 @@ goes from mid to caller key op out callers done same history steps = record {
   history = ap (λ (s : State). s.history) steps.after ∙ ap (λ h. h ++ events_of (length mid.history) (new_group mid caller key op out callers steps.short)) history;
 }
 
--- a step is put down for a call under way, at a key where it isn't served yet: at the one that is settled then, or where it is served
--- then
+-- a step is appended for a call under way, at a key at which it isn't served yet: the one that is settled then, or one at which
+-- it is served then
 pub record IsPut (w n : WorldState) (call : ℕ) (key : Bytes) (who : Caller) (k : Bytes) : Type 0 where
   pub v : CallState
   pub here : open_call w who.call ≡ Some v
@@ -156,12 +154,12 @@ put_caller w n call key who k p = λ i. record { session = p.session_is i; call 
 abbrev KeepsParked : State → State → Type 0
 KeepsParked from to = (caller : Caller) (key : Bytes) → has_parked_answer (joiner_of caller key from.joiners) ≡ true → has_parked_answer (joiner_of caller key to.joiners) ≡ true
 
--- so who is served is served in a world with another stripe
+-- so a caller that is served is served in a world with another stripe
 served_set : (w : WorldState) (key : Bytes) (from to : State) → stripe_for w key ≡ Some from → KeepsParked from to → (caller : Caller) (q : Bytes) → is_served w caller q ≡ true → is_served_in (slice_get (slice_set w.stripes (home w key) to) (home w q)) caller q ≡ true
 served_set w key from to there keeps caller q =
     at_stripe w.stripes (home w key) (home w q) from to (λ o x. is_served_in o caller q ≡ true → is_served_in x caller q ≡ true) there (keeps caller q) (λ h. h)
 
--- a step may still come at a key that goes on and isn't served then
+-- a step may still come at a key that stays open and isn't served then
 put_behind : (w n : WorldState) (call : ℕ) (key : Bytes) (u v : CallState) (q : Bytes) (op : Op) (who : Caller) (k : Bytes) → CallsFit w w.calls → IsFound w u → Left call key u v → op_for v q ≡ Some op → is_served n u.caller q ≡ false → IsPut w n call key who k
     → comes_behind who k u.caller q ≡ true
 put_behind w n call key u v q op who k fit found left is free p =
@@ -331,14 +329,10 @@ order_joins w key from to join there is reached old =
 
 -- 5. The first phase.
 
--- the half of a sound world
-order_of : (w : WorldState) → IsSoundWorld w → HasOrder w
-order_of w h = record { shape = h.shape; order = h.order; numbers = h.numbers; calls = h.calls; owned = h.owned }
-
 -- by what is shown of the first phase
 starts : StaysReached → (w new : WorldState) (u : CallState) (key : Bytes) (op : Op) (from to : State) (seen : Shown) → stripe_for w key ≡ Some from → Starts w u.caller key op from to seen new → MayStart w u key op → IsSoundWorld w → HasOrder new
 starts stays w new u key op from to (shown.Refused refusal) there h may old = subst HasOrder (sym h.1) (order_refused w u key op may old)
-starts stays w new u key op from to (shown.PutOff refusal) there h may old = subst HasOrder (sym h.1) (order_of w old)
+starts stays w new u key op from to (shown.PutOff refusal) there h may old = subst HasOrder (sym h.1) (order_half w old)
 starts stays w new u key op from to (shown.Stepped seen) there h may old = subst HasOrder (sym h.2) (order_done stays w u key op from to (step_of seen) there h.0 may old)
 starts stays w new u key op from to shown.Loads there h may old =
     let at = old.shape.each (home w key) from there in
@@ -380,16 +374,16 @@ part_kept w key r apart h =
 
 -- the reservations of another stripe are of other keys
 other_stripe : (w : WorldState) (key : Bytes) (n : ℕ) (s : State) (rs : List Reservation) → IsStripe w n s → (home w key ≡ n → ⊥) → list_all (λ r. is_of s r.key) rs ≡ true → list_all (λ r. not (is_key key r)) rs ≡ true
-other_stripe w key n s rs at apart = all_imply (λ (r : Reservation). is_of s r.key) (λ r. not (is_key key r)) rs (λ r mine. ap not (refuted (is_key key r) (λ same.
+other_stripe w key n s rs at apart = all_imply (λ (r : Reservation). is_of s r.key) (λ r. not (is_key key r)) rs (λ r mine. ap not (false_from_ne_true (is_key key r) (λ same.
     let keys = same_bytes key r.key same in
     let number : sum r.key % s.config.stripes ≡ s.stripe = eqb-true (sum r.key % s.config.stripes) s.stripe mine in
     apart (ap (λ k. sum k % w.config.stripes) keys ∙ ap (λ (c : Config). sum r.key % c.stripes) (sym at.config_is) ∙ number ∙ at.number_is))))
 
--- the reservations that are left are owned, where each of another key is
+-- the reservations that are left are owned, if each of another key is
 owned_left_over : (w n : WorldState) (key : Bytes) (from to : State) → stripe_for w key ≡ Some from → to.reservations ≡ without_key key from.reservations → ((r : Reservation) → is_key key r ≡ false → IsOwned w r → IsOwned n r) → IsSoundWorld w
     → (m : ℕ) (s : State) → slice_get (slice_set w.stripes (home w key) to) m ≡ Some s → AllOwned n s.reservations
 owned_left_over w n key from to there left on old m s =
-    let on_all : (rs : List Reservation) → list_all (λ r. not (is_key key r)) rs ≡ true → AllOwned w rs → AllOwned n rs = λ rs. all_owned w n (λ r. not (is_key key r)) rs (λ r t h. on r (not_true (is_key key r) t) h) in
+    let on_all : (rs : List Reservation) → list_all (λ r. not (is_key key r)) rs ≡ true → AllOwned w rs → AllOwned n rs = λ rs. all_owned w n (λ r. not (is_key key r)) rs (λ r t h. on r (not-true (is_key key r) t) h) in
     set_cases w.stripes (home w key) m to s
     (λ same at.
     let stays : without_key key from.reservations ≡ s.reservations = sym left ∙ ap (λ (s : State). s.reservations) at in
@@ -400,7 +394,7 @@ owned_left_over w n key from to there left on old m s =
 abbrev ended_world : WorldState → Bytes → State → State → ℕ → WorldState
 ended_world w key from to call = without_part (with_settled (with_phase w key from to) call key) key
 
--- what the stripe of a commit goes on by
+-- how the stripe of a commit continues
 pub record Ending (w : WorldState) (call : ℕ) (key : Bytes) (from to : State) : Type 0 where
   pub extends : Extends from to
   pub put : AllBy (IsPut w (ended_world w key from to call) call key) extends.more
@@ -423,7 +417,7 @@ caller_put w key from to call load place j k there joiners own h key_is waits =
       session_is = v.2.0;
       op = Get;
       op_is = ap (op_at v.0) (sym key_is) ∙ v.2.1;
-      unserved = ap (is_served w j.caller) (sym key_is) ∙ before ∙ refuted (has_parked_answer (Some j)) (unanswered j.state (and_parts (j.load == load) (is_waiting j.state) waits).1);
+      unserved = ap (is_served w j.caller) (sym key_is) ∙ before ∙ false_from_ne_true (has_parked_answer (Some j)) (unanswered j.state (and_parts (j.load == load) (is_waiting j.state) waits).1);
       over = inr (ap (is_served n j.caller) (sym key_is) ∙ after ∙ told_waiting load place (place + 1) j.caller j.key from.joiners j own waits);
     }
 
@@ -438,7 +432,7 @@ ending w call key part from to done is part_call r_key there out steps owned old
     let mid = after_commit from r done.place in
     let g = goes from mid to r.caller r.key r.op (out_of part) (callers_of r.number from.joiners) done (record { config = refl; stripe = refl; origin = refl; opening = refl }) refl steps in
     let n = ended_world w key from to call in
-    let alone : is_joined w r.caller.call r.key ≡ false = (λ i. is_joined w (part_call i) (r_key i)) ∙ refuted (is_joined w call key) (λ t. let e : Some part ≡ None = sym is ∙ joined_no_part w call key t old.joins in cc) in
+    let alone : is_joined w r.caller.call r.key ≡ false = (λ i. is_joined w (part_call i) (r_key i)) ∙ false_from_ne_true (is_joined w call key) (λ t. let e : Some part ≡ None = sym is ∙ joined_no_part w call key t old.joins in cc) in
     let one : IsPut w n call key r.caller r.key = record { v = u.0; here = u.1; session_is = u.2.0; op = r.op; op_is = u.2.1; unserved = unserved w r.caller r.key alone old; over = inl (part_call, r_key) } in
     let joiners : to.joiners ≡ resolved r.number done.place from.joiners = ap (λ (s : State). s.joiners) steps.after in
     let at = old.shape.each (home w key) from there in
@@ -478,18 +472,14 @@ order_commit w call key from to old there turn e reached =
     }) old)
 
 -- by what is shown of the last phase
-ended : StaysReached → (w new : WorldState) (call : ℕ) (key : Bytes) (part : Part) (from to : State) (seen : Shown) → part_of w call key ≡ Some part → stripe_for w key ≡ Some from → Ends w call key part from to seen new → IsSoundWorld w → HasOrder new
-ended stays w new call key part from to (shown.Stepped seen) is there h old =
+pub order_ended : StaysReached → (w new : WorldState) (call : ℕ) (key : Bytes) (part : Part) (from to : State) (seen : Shown) → part_of w call key ≡ Some part → stripe_for w key ≡ Some from → Ends w call key part from to seen new → IsSoundWorld w → HasOrder new
+order_ended stays w new call key part from to (shown.Stepped seen) is there h old =
     let at = old.shape.each (home w key) from there in
     let e = ending_at w call key part from to (step_of seen) is there h.0 old in
     let reached = stays.commits from to part.reservation (out_of part) (step_of seen) at.reached h.0 in
     let mine = of_call-at call (get w.parts key) part is in
     subst HasOrder (sym h.2) (order_commit w call key from to old there (part_turn w call key part mine.0 mine.1 old) e reached)
-ended stays w new call key part from to seen is there h old = absurd h
-
--- a last phase
-pub order_ended : StaysReached → (w new : WorldState) (call : ℕ) (key : Bytes) (part : Part) (from to : State) (seen : Shown) → part_of w call key ≡ Some part → stripe_for w key ≡ Some from → Ends w call key part from to seen new → IsSoundWorld w → HasOrder new
-order_ended stays w new call key part from to seen is there h old = ended stays w new call key part from to seen is there h old
+order_ended stays w new call key part from to seen is there h old = absurd h
 
 -- 7. A reservation is given back, and an answer picked up.
 
@@ -511,11 +501,11 @@ order_withdrawn stays w key claim from to key_is there h old =
           (λ r apart k. record { part = part_kept w key r apart k; call = k.call }) old;
     }
 
--- what is parked for another call, or at another key, stays where one has its answer
+-- what is parked for another call, or at another key, stays if one has its answer
 told_without : (one other : Caller) (key k : Bytes) (js : List Joiner) → (other.call ≡ one.call → k ≡ key → ⊥) → has_parked_answer (joiner_of other k js) ≡ true → has_parked_answer (joiner_of other k (without one key js)) ≡ true
 told_without one other key k js apart h =
     ap has_parked_answer (find_kept (is_joiner_of other k) (λ j. not (is_joiner_of one key j)) js (λ x t.
-    ap not (refuted (is_joiner_of one key x) (λ e.
+    ap not (false_from_ne_true (is_joiner_of one key x) (λ e.
     let mine = and_parts ((x.caller.session == other.session) && (x.caller.call == other.call)) (pointwise ◌==◌ k x.key) t in
     let its = and_parts ((x.caller.session == one.session) && (x.caller.call == one.call)) (pointwise ◌==◌ key x.key) e in
     let my_call : x.caller.call ≡ other.call = eqb-true x.caller.call other.call (and_parts (x.caller.session == other.session) (x.caller.call == other.call) mine.0).1 in
@@ -587,7 +577,7 @@ order_picked stays w call key join from to p joined there picks is old =
           (λ apart here. kept s.reservations (old.owned n s here));
     }
 
--- a call that is to begin again has no answer
+-- a call that is told to retry has no answer
 again_untold : (o : Option Joiner) → option_map (λ (j : Joiner). j.state) o ≡ Some Again → has_parked_answer o ≡ false
 again_untold None h = refl
 again_untold (Some j) h = go j.state (same_some j.state Again h)
@@ -600,7 +590,7 @@ again_untold (Some j) h = go j.state (same_some j.state Again h)
     go (Answered place shared) h = cc
     go Again h = refl
 
--- a call is to begin again
+-- a call is told to retry
 order_again : StaysReached → (w : WorldState) (call : ℕ) (key : Bytes) (join : JoinClaim) (from to : State) → join_of w call key ≡ Some join → stripe_for w key ≡ Some from → PicksUp from join picked.Again to → IsSoundWorld w
     → HasOrder (without_join (with_stripe w key to) call key)
 order_again stays w call key join from to joined there picks old =
@@ -630,7 +620,7 @@ pub order_picks : StaysReached → (w new : WorldState) (call : ℕ) (key : Byte
 order_picks stays w new call key join from to (shown.PickedUp seen) joined there h old =
     subst HasOrder (sym h.2) (order_picked stays w call key join from to (picked.Answer seen.reply seen.place seen.shared) joined there h.0 h.0.3 old)
 order_picks stays w new call key join from to shown.Again joined there h old = subst HasOrder (sym h.1) (order_again stays w call key join from to joined there h.0 old)
-order_picks stays w new call key join from to shown.Waits joined there h old = subst HasOrder (sym h.1) (order_of w old)
+order_picks stays w new call key join from to shown.Waits joined there h old = subst HasOrder (sym h.1) (order_half w old)
 order_picks stays w new call key join from to seen joined there h old = absurd h
 
 -- a call leaves
@@ -642,16 +632,16 @@ order_left w call fit old = go (open_call w call) refl fit
     go (Some u) e h = order_over w call u h e old
 
 -- a call takes the keys of a stripe
-pub looked_called : (w : WorldState) (call : ℕ) (keys : List Bytes) (s : Sweep) (u : CallState) → open_call w call ≡ Some u → u.sweep ≡ Some s → (number session : ℕ) (q : Bytes) (op : Op) → IsSomeAnd (open_call w number) (IsCallOf session q op)
-    → IsSomeAnd (open_call (with_look w call keys s) number) (IsCallOf session q op)
-looked_called w call keys s u here sweeps number session q op h =
-    still_replaced call (λ x. going_on (with_found w.config.stripes keys s x)) u number session q op w.calls here (λ v goes. taken_of w.config.stripes keys s u v sweeps goes) (λ is over. taken_on w.config.stripes keys s u q op is over) h
+pub looked_called : (w : WorldState) (call stripe : ℕ) (keys : List Bytes) (s : SweepState) (u : CallState) → open_call w call ≡ Some u → u.sweep ≡ Some s → (number session : ℕ) (q : Bytes) (op : Op) → IsSomeAnd (open_call w number) (IsCallOf session q op)
+    → IsSomeAnd (open_call (with_look w call stripe keys s) number) (IsCallOf session q op)
+looked_called w call stripe keys s u here sweeps number session q op h =
+    still_replaced call (λ x. going_on (with_found w.config.stripes stripe keys s x)) u number session q op w.calls here (λ v goes. taken_of w.config.stripes stripe keys s u v sweeps goes) (λ is over. taken_on w.config.stripes stripe keys s u q op is over) h
 
-order_looked : (w : WorldState) (call : ℕ) (keys : List Bytes) (s : Sweep) (u : CallState) → open_call w call ≡ Some u → u.sweep ≡ Some s → IsSoundWorld w → HasOrder (with_look w call keys s)
-order_looked w call keys s u here sweeps old =
-    let new : WorldState = with_look w call keys s in
-    let left : CallState → Option CallState = λ x. going_on (with_found w.config.stripes keys s x) in
-    let taken : (v : CallState) → left u ≡ Some v → Taken u v = λ v goes. taken_of w.config.stripes keys s u v sweeps goes in
+order_looked : (w : WorldState) (call stripe : ℕ) (keys : List Bytes) (s : SweepState) (u : CallState) → open_call w call ≡ Some u → u.sweep ≡ Some s → IsSoundWorld w → HasOrder (with_look w call stripe keys s)
+order_looked w call stripe keys s u here sweeps old =
+    let new : WorldState = with_look w call stripe keys s in
+    let left : CallState → Option CallState = λ x. going_on (with_found w.config.stripes stripe keys s x) in
+    let taken : (v : CallState) → left u ≡ Some v → Taken u v = λ v goes. taken_of w.config.stripes stripe keys s u v sweeps goes in
     record {
       shape = shape_same w new refl refl refl old.shape;
       order = old.order;
@@ -660,13 +650,13 @@ order_looked w call keys s u here sweeps old =
           (λ x h. fits_same w new x refl refl (λ q op is k. k) h)
           (λ v goes h. fits_taken w new u v (taken v goes) refl refl (λ q op is k. k) h) old.calls;
       owned = λ n s here_s. each_map (IsOwned w) (IsOwned new) s.reservations
-          (λ r h. record { part = h.part; call = looked_called w call keys _ u here sweeps r.caller.call r.caller.session r.key r.op h.call })
+          (λ r h. record { part = h.part; call = looked_called w call stripe keys _ u here sweeps r.caller.call r.caller.session r.key r.op h.call })
           (old.owned n s here_s);
     }
 
 -- 8. An event that fits.
 
--- a call's part goes on
+-- a call's part stays
 pub order_part : (w : WorldState) (call : ℕ) (key : Bytes) (old part : Part) (premises : Premises) (store : Cache) → part_of w call key ≡ Some old → part.reservation.caller.call ≡ old.reservation.caller.call → IsSoundWorld w
     → HasOrder (record w { parts = insert w.parts key part; premises = premises; store = store })
 order_part w call key old part premises store is same was = order_parted w key old part premises store (of_call-at call (get w.parts key) old is).0 same was
@@ -678,7 +668,7 @@ part_key w call key part is old = (some_of (stripe_for w key) (λ s. IsHeld s ke
 -- by the kind of the event
 pub order_happens : StaysReached → (w new : WorldState) (e : WorldEvent) (seen : Shown) → fits w e ≡ true → Happens w e seen new → (IsReport e → IsSoundWorld new) → IsSoundWorld w → HasOrder new
 order_happens stays w new (event.Call call session command) seen fit h back old = subst HasOrder (sym h.1) (order_called w call session command fit old)
-order_happens stays w new (event.Look call stripe) seen fit h back old = subst HasOrder (sym h.9) (order_looked w call h.6 h.1 h.0 h.2 h.3 old)
+order_happens stays w new (event.Look call stripe) seen fit h back old = subst HasOrder (sym h.9) (order_looked w call stripe h.6 h.1 h.0 h.2 h.3 old)
 order_happens stays w new (event.Start call key) seen fit h back old = order_started stays w new call key h.0 h.1 h.4 h.6 seen fit h.2 h.3 h.5 h.7 old
 order_happens stays w new (event.Read call key) seen fit h back old = subst HasOrder (sym h.3) (order_part w call key h.0 _ _ w.store h.1 refl old)
 order_happens stays w new (event.Say call key answer) seen fit h back old = subst HasOrder (sym h.3) (order_part w call key h.0 _ _ w.store h.1 refl old)

@@ -2,17 +2,16 @@
 --     ended          one key less, once its reservation is over
 --     none_reserved  with nothing held no key is reserved
 --     picked         one join less, once it has its answer
---     never_waits    where no key is reserved no joiner waits
+--     never_waits    if no key is reserved, no joiner waits
 --     held_out, joins_out    what is out in a world that is sound
-use Rattle.std.proofs.Common.{inl, inr, ◌⊎◌, ◌≡◌, ◌==◌, ◌&&◌, ◌||◌, ◌+◌, ℕ, List, [], ◌∷◌, ◌++◌, length, Bool, true, false, cond, not, Option, None, Some, IsSomeAnd, is_some, option_map, slice_get, slice_set, get_or, ◌<◌, arith, refl, sym, ap, ◌∙◌, subst}
+use Rattle.std.proofs.Common.{inl, inr, ◌⊎◌, ◌≡◌, ◌==◌, ◌&&◌, ◌||◌, ◌+◌, ℕ, List, [], ◌∷◌, ◌++◌, length, Bool, true, false, cond, not, Option, None, Some, IsSomeAnd, is_some, option_map, slice_get, slice_set, get_or, ◌<◌, arith, refl, sym, ap, ◌∙◌, subst, find as find_in}
 use Rattle.std.specs.List.{list_all, list_any}
 use Rattle.std.specs.Ordering.{eq_by_cmp}
 use Rattle.std.specs.Cmp.{eq_by_cmp_equiv}
 use Rattle.std.specs.Cmp.Lexicographic.{pointwise, texts_ties}
-use Rattle.std.proofs.lemmas.Bool.{eq-eqb, eqb-true, and_parts, and_from}
+use Rattle.std.proofs.lemmas.Bool.{eq-eqb, eqb-true, and_parts, and_from, not-true, false_from_ne_true}
 use Rattle.std.proofs.lemmas.Cmp.{nat_list_cmp_total, nat_list_eq_equiv}
 use Rattle.std.specs.FinMap.{get, remove, empty, get-remove, get-empty}
-use Rattle.std.proofs.Common.{find as find_in}
 use Rattle.jc_types.proofs.CallerLemmas.{all_filter, all_imply}
 use Rattle.jc_types.specs.declared.config.Config.{Config}
 use Rattle.jc_types.specs.Stripes.{stripe_of}
@@ -40,7 +39,6 @@ use Rattle.jc_world.proofs.Shares.{set_cases, length-slice_set, each_test}
 use Rattle.jc_world.proofs.Underway.{others_left, same_bytes}
 use Rattle.jc_world.proofs.Reservations.{found_left}
 use Rattle.jc_world.proofs.Joiners.{joiner_of, find_kept, joined_resolved, joined_dissolved}
-use Rattle.jc_world.proofs.Facts.{refuted}
 
 -- 1. A reservation that is over.
 
@@ -96,7 +94,7 @@ left_set config ss n from to left at config_is number_is origin_is reached =
           (λ apart here. left.each m s here);
     }
 
--- what is left where one key is taken out
+-- what is left if one key is taken out
 left_at : (parts left : Parts) (key q : Bytes) → left ≡ remove parts key → get left q ≡ cond (eq_by_cmp key_cmp q key) None (get parts q)
 left_at parts left key q is = ap (λ (m : Parts). get m q) is ∙ get-remove nat_list_cmp_total parts key q
 
@@ -123,16 +121,12 @@ backs parts left key [] is h k = refl
 backs parts left key (r ∷ rs) is h k =
     let a = and_parts (is_some (get parts r.key)) (list_all (λ (r : Reservation). is_some (get parts r.key)) rs) h in
     let b = and_parts (not (is_key key r)) (list_all (λ (r : Reservation). not (is_key key r)) rs) k in
-    let apart : eq_by_cmp key_cmp r.key key ≡ false = (eq_by_cmp_equiv nat_list_cmp_total).symm r.key key ∙ sym (texts_ties key r.key) ∙ not_true (is_key key r) b.0 in
+    let apart : eq_by_cmp key_cmp r.key key ≡ false = (eq_by_cmp_equiv nat_list_cmp_total).symm r.key key ∙ sym (texts_ties key r.key) ∙ not-true (is_key key r) b.0 in
     and_from _ _ (ap is_some (left_at parts left key r.key is ∙ ap (λ b. cond b None (get parts r.key)) apart) ∙ a.0) (backs parts left key rs is a.1 b.1)
-  where
-    not_true : (b : Bool) → not b ≡ true → b ≡ false
-    not_true true h = cc
-    not_true false h = refl
 
 -- the reservations of another stripe are of other keys
 other_stripe : (config : Config) (key : Bytes) (m : ℕ) (s : State) (rs : List Reservation) → IsLeft config m s → (stripe_of key config.stripes ≡ m → ⊥) → list_all (λ r. is_of s r.key) rs ≡ true → list_all (λ r. not (is_key key r)) rs ≡ true
-other_stripe config key m s rs at apart = all_imply (λ (r : Reservation). is_of s r.key) (λ r. not (is_key key r)) rs (λ r mine. ap not (refuted (is_key key r) (λ same.
+other_stripe config key m s rs at apart = all_imply (λ (r : Reservation). is_of s r.key) (λ r. not (is_key key r)) rs (λ r mine. ap not (false_from_ne_true (is_key key r) (λ same.
     let keys = same_bytes key r.key same in
     let number : stripe_of r.key s.config.stripes ≡ s.stripe = eqb-true (stripe_of r.key s.config.stripes) s.stripe mine in
     apart (ap (λ k. stripe_of k config.stripes) keys ∙ ap (λ (c : Config). stripe_of r.key c.stripes) (sym at.config_is) ∙ number ∙ at.number_is))))
@@ -182,7 +176,7 @@ pub last_join : (config : Config) (ss : List State) (js : List JoinClaim) (join 
 last_join config ss [] join h = h.0
 last_join config ss (x ∷ xs) join h = last_join config ss xs join h.1
 
--- where no key is reserved no joiner waits
+-- if no key is reserved, no joiner waits
 never : (s : State) (p : Joiner → Bool) (js : List Joiner) → s.reservations ≡ [] → AllJoin s js → option_map (λ (j : Joiner). j.state) (find_in p js) ≡ Some Waiting → ⊥
 never s p [] none fits h = cc
 never s p (x ∷ xs) none fits h =
@@ -207,7 +201,7 @@ picked_left from to join (picked.NotYet back) reached none h = absurd (never_wai
 other_joined : (from : State) (join j : JoinClaim) → is_join j.caller.call j.key join ≡ false → IsJoined from j → IsJoined (without_joiner from join) j
 other_joined from join j apart h =
     let J : Option Joiner → Type 0 = λ o. IsSomeAnd o (λ x. x.load ≡ j.load) in
-    subst J (sym (find_kept (is_joiner_of j.caller j.key) (λ x. not (is_joiner_of join.caller join.key x)) from.joiners (λ x t. ap not (refuted (is_joiner_of join.caller join.key x) (λ e.
+    subst J (sym (find_kept (is_joiner_of j.caller j.key) (λ x. not (is_joiner_of join.caller join.key x)) from.joiners (λ x t. ap not (false_from_ne_true (is_joiner_of join.caller join.key x) (λ e.
     let mine = parts_of_test j x t in
     let same = parts_of_test join x e in
     let its : is_join j.caller.call j.key join ≡ true = and_from _ _ (eq-eqb join.caller.call j.caller.call (sym same.0 ∙ mine.0)) (ap (pointwise ◌==◌ j.key) (sym same.1 ∙ mine.1) ∙ nat_list_eq_equiv.refl j.key) in
@@ -218,7 +212,7 @@ other_joined from join j apart h =
         let parts = and_parts ((x.caller.session == j.caller.session) && (x.caller.call == j.caller.call)) (pointwise ◌==◌ j.key x.key) t in
         (eqb-true x.caller.call j.caller.call (and_parts (x.caller.session == j.caller.session) (x.caller.call == j.caller.call) parts.0).1, sym (same_bytes j.key x.key parts.1))
 
--- none of a list passes a test where none of it and of one more does
+-- none of a list passes a test if none of it and of one more does
 none_of : (p : JoinClaim → Bool) (xs : List JoinClaim) (y : JoinClaim) → not (list_any p (xs ++ y ∷ [])) ≡ true → (not (list_any p xs) ≡ true) × (p y ≡ false)
 none_of p [] y h = (refl, elim (p y) as (λ b. not (b || false) ≡ true → b ≡ false) [ true ↦ λ h. cc | false ↦ λ h. refl ] h)
 none_of p (x ∷ xs) y h = elim (p x) as (λ b. not (b || list_any p (xs ++ y ∷ [])) ≡ true → (not (b || list_any p xs) ≡ true) × (p y ≡ false)) [ true ↦ λ h. cc | false ↦ λ h. none_of p xs y h ] h

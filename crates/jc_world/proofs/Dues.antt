@@ -49,7 +49,7 @@ dues_remove config parts key all q part e =
     (λ apart e. all q part e)
     (sym (get-remove nat_list_cmp_total parts key q) ∙ e)
 
--- 2. A part goes on.
+-- 2. A part stays.
 
 due_change : (config : Config) (r : Reservation) (p : Progress) → is_due_in config r p ≡ true → is_due_in config r (with_change p) ≡ true
 due_change config r (Loading answer) h = h

@@ -41,18 +41,18 @@ split q key P here there =
 pub tied : (key : Bytes) → eq_by_cmp key_cmp key key ≡ true
 tied key = (eq_by_cmp_equiv nat_list_cmp_total).refl key
 
--- 1. The entries behind the group of a step.
+-- 1. The entries after the group of a step.
 
 -- nothing agrees with every store
 gone_agrees : (b : Bool) (entry stored : Option Bytes) → Agrees entry stored → Agrees (cond b None entry) stored
 gone_agrees true entry stored h = tt
 gone_agrees false entry stored h = h
 
--- where an entry goes, the others agree as before
+-- if an entry is removed, the others agree as before
 agrees_removed : (cache : Cache) (key q : Bytes) (stored : Option Bytes) → Agrees (entry_at cache q) stored → Agrees (entry_at (remove cache key) q) stored
 agrees_removed cache key q stored h = let P : Option Bytes → Type 0 = λ o. Agrees o stored in subst P (sym (get-remove nat_list_cmp_total cache key q)) (gone_agrees (eq_by_cmp key_cmp q key) _ stored h)
 
--- also where it is a group's victim
+-- also if it is a group's victim
 agrees_without : (cache : Cache) (victim : Option Bytes) (q : Bytes) (stored : Option Bytes) → Agrees (entry_at cache q) stored → Agrees (entry_at (without_victim cache victim) q) stored
 agrees_without cache None q stored h = h
 agrees_without cache (Some key) q stored h = agrees_removed cache key q stored h
@@ -83,7 +83,7 @@ found_before s key op out =
     found_without s.cache key (overflows s key op out) (least_used s)
     (λ over. none_is (entry_at s.cache key) (came (is_none (entry_at s.cache key)) (is_some (entry_after op (entry_at s.cache key) out)) (len s.cache == s.config.capacity) over))
 
--- a step's entries agree with what is stored where its own and the others' do
+-- a step's entries agree with what is stored if its own and the others' do
 pub agrees_stepped : (old new : State) (caller : Caller) (key : Bytes) (op : Op) (out : Out) (callers : List Caller) (done : StepDone) (q : Bytes) (stored : Option Bytes) → Steps old caller key op out callers done new
     → Agrees (cond (eq_by_cmp key_cmp q key) (entry_after op (entry_at old.cache key) out) (entry_at old.cache q)) stored → Agrees (entry_at new.cache q) stored
 agrees_stepped old new caller key op out callers done q stored steps h =
@@ -119,7 +119,7 @@ writes_if false entry next asks change e h = not_asked change _ h
 to : (asks change : Change) → Some asks ≡ Some change → changed_to asks ≡ changed_to change
 to asks change h = ap changed_to (same_some asks change h)
 
--- where the writer did as it was asked, the operation leaves what the store then holds
+-- if the writer did as it was asked, the operation leaves what the store then holds
 pub writes : (op : Op) (entry : Option Bytes) (change : Change) → write_ask op entry process.NotAsked ≡ Some change → entry_without_fault op entry (write_only write.Done) ≡ changed_to change
 writes (Put value) entry change h = to (Write value) change h
 writes (GetAndPut value) entry change h = to (Write value) change h
@@ -143,19 +143,19 @@ writer_is true (Some asks) change h = cc
 writer_is true None change h = cc
 writer_is false asks change h = cc
 
--- where the writer table is read, no loader is asked
+-- if the writer table is read, no loader is asked
 no_loader : (b : Bool) (asks : Option Change) (A : Type 0) → writer_for (cond b asks None) ≡ Loader → A
 no_loader true (Some asks) A h = cc
 no_loader true None A h = cc
 no_loader false asks A h = cc
 
--- where the loader table is read, no writer is asked
+-- if the loader table is read, no writer is asked
 no_writer : (b write : Bool) (change : Change) (A : Type 0) → first_by (always_if b) (cond write None None) ≡ Writer change → A
 no_writer true write change A h = cc
 no_writer false true change A h = cc
 no_writer false false change A h = cc
 
--- with write-through on, nobody is asked only where there is nothing to write
+-- with write-through on, nobody is asked only if there is nothing to write
 unasked : (b : Bool) (asks : Option Change) → writer_for (cond b asks None) ≡ Nobody → b ≡ true → asks ≡ None
 unasked true None h on = refl
 unasked true (Some asks) h on = cc
@@ -175,7 +175,7 @@ writes_asked config (LoadAll replace) entry change h = no_writer _ config.write_
 writes_asked config Invoke entry change h = cc
 writes_asked config op entry change h = writer_is config.write_through (write_ask op entry process.NotAsked) change h
 
--- 4. What agrees with the store goes on to.
+-- 4. What agrees with the store still does.
 
 -- a load keeps an entry, or makes it what was found
 pub loads : (op : Op) (entry : Option Bytes) (answer : LoadAnswer) (stored : Option Bytes) → loads_whole op ≡ true → Agrees entry stored → Agrees (found_in answer) stored → Agrees (entry_after op entry (load_only answer)) stored

@@ -1,19 +1,9 @@
 -- Small facts of tests and of what is found.
---     refuted, not_true, denied     a test that does not hold is false
+--     denied                        a test whose converse holds doesn't hold
 --     missing, same_found           what is not found is none, and what is found twice is one
 use Rattle.std.proofs.Common.{◌≡◌, ◌∙◌, Bool, true, false, not, Option, None, Some, refl, sym}
 
--- what is not true is false
-pub refuted : (b : Bool) → (b ≡ true → ⊥) → b ≡ false
-refuted true h = absurd (h refl)
-refuted false h = refl
-
--- a test whose converse holds is false
-pub not_true : (b : Bool) → not b ≡ true → b ≡ false
-not_true true h = cc
-not_true false h = refl
-
--- and doesn't hold
+-- a test whose converse holds doesn't hold
 pub denied : (b : Bool) → not b ≡ true → b ≡ true → ⊥
 denied true h k = cc
 denied false h k = cc

@@ -1,50 +1,45 @@
--- Events that fit: none of them is shown as a fault, and some fit directly behind others.
+-- Events that fit: none of them is shown as a fault, and some fit directly after others.
 --     fits_then      an event that fits, and what fits wherever it leads
 --     one_fits       an event that fits, alone
---     report_fits    the writer's return, behind its change of the store
---     leave_fits     a call's leaving, behind its withdrawal
---     start_fits     a call's first phase, behind its beginning
+--     report_fits    the writer's return, after its change of the store
+--     leave_fits     a call's leaving, after its withdrawal
+--     start_fits     a call's first phase, after its beginning
 --     looks_fit_all  the looks of a call
 --     rest_fits      what follows in a line, if its first event fits
-use Rattle.std.proofs.Common.{◌≡◌, ◌||◌, ◌+◌, ◌<◌, ◌≤◌, ℕ, zero, suc, List, [], ◌∷◌, ◌++◌, Bool, true, false, cond, not, Option, None, Some, IsSomeAnd, find, inl, inr, refl, sym, ap, ◌∙◌, subst, arith, is_none, is_some, nat_lt, nat_le, slice_get}
+use Rattle.std.proofs.Common.{◌≡◌, ◌||◌, ◌+◌, ◌<◌, ◌≤◌, ℕ, zero, suc, List, [], ◌∷◌, ◌++◌, true, false, cond, not, Option, None, Some, IsSomeAnd, find, inl, inr, refl, sym, ap, ◌∙◌, subst, arith, is_none, is_some, nat_lt, nat_le}
 use Rattle.std.specs.Option.{option_or}
-use Rattle.std.specs.FinMap.{get, remove, get-insert, get-remove}
-use Rattle.std.proofs.lemmas.Bool.{eq-eqb, and_parts, and_from}
+use Rattle.std.specs.FinMap.{get}
+use Rattle.std.proofs.lemmas.Bool.{eq-eqb, and_parts, and_from, false_from_ne_true, lt-ltb}
 use Rattle.std.proofs.lemmas.Bool.Decides.{nat_tests}
-use Rattle.std.proofs.lemmas.Cmp.{nat_list_cmp_total, nat_eq_equiv}
+use Rattle.std.proofs.lemmas.Cmp.{nat_eq_equiv}
 use Rattle.std.proofs.lemmas.List.Folds.{find-append}
-use Rattle.std.specs.List.{list_all, list_any}
+use Rattle.std.specs.List.{list_any}
 use Rattle.jc_model.specs.declared.event.Op.TheVariants.{Get}
-use Rattle.jc_model.specs.Cache.{Bytes, key_cmp}
+use Rattle.jc_model.specs.Cache.{Bytes}
 use Rattle.jc_world.specs.declared.event.Part.{Part}
 use Rattle.jc_world.specs.declared.event.Progress.{Progress}
 use Rattle.jc_world.specs.declared.event.Progress.TheVariants.{Loading, Writing, Processing, Processed, WritingEffect}
 use Rattle.jc_world.specs.declared.command.Command.{Command}
 use Rattle.jc_world.specs.declared.command.Command.TheVariants as command
-use Rattle.jc_world.specs.declared.command.Sweep.{Sweep}
-use Rattle.jc_world.specs.Calls.{CallState, takes_turns, has_number, has_too_many_keys, at_each, current_key, is_going, is_open, is_turn, open_keys, op_at, opened, new_call, going_on, sweep_of, with_found}
+use Rattle.jc_world.specs.Calls.{CallState, SweepState, has_looked, has_looked_at_each, has_number, has_too_many_keys, at_each, is_going, is_open, op_at, opened, new_call, going_on, sweep_of, with_found}
 use Rattle.jc_world.specs.declared.event.Shown.{Shown}
 use Rattle.jc_world.specs.declared.event.Shown.TheVariants as shown
 use Rattle.jc_world.specs.declared.event.WorldEvent.{WorldEvent}
 use Rattle.jc_world.specs.declared.event.WorldEvent.TheVariants as event
-use Rattle.std.specs.Ordering.{eq_by_cmp}
 use Rattle.jc_world.specs.World.{WorldState, open_call, of_call, part_of, waits_for_report, is_join, is_joined, is_untouched, has_progress}
-use Rattle.jc_world.specs.Fits.{fits, is_new, is_free, is_next, may_look, may_start, may_leave, waits_at, may_report}
-use Rattle.jc_world.specs.Events.{after_change, with_stripe, without_part, with_look, Happens, Run, with_ends, is_fit, AllFit, with_change}
+use Rattle.jc_world.specs.Fits.{fits, is_new, is_free, is_to_look, may_look}
+use Rattle.jc_world.specs.Events.{with_look, Happens, Run, with_ends, is_fit, AllFit, with_change}
 use Rattle.jc_world.specs.Together.{looks}
 use Rattle.jc_world.specs.Sound.{is_up_to, IsCallOf, IsSoundWorld}
 use Rattle.jc_world.proofs.Holding.{call_on}
-use Rattle.jc_world.proofs.Entries.{split, tied}
 use Rattle.jc_world.proofs.Looked.{found_replaced}
+use Rattle.jc_world.proofs.Unseen.{missed, unseen, seen_below}
 use Rattle.jc_world.proofs.Underway.{found_number, fits_found, of_call-at}
 use Rattle.jc_world.proofs.Joiners.{join_any, join_is}
-use Rattle.jc_world.proofs.Settling.{turn_is}
-use Rattle.jc_world.proofs.NewCalls.{begun_cases, opened_one}
-use Rattle.jc_world.proofs.Beginning.{part_turn}
+use Rattle.jc_world.proofs.NewCalls.{begun_cases}
 use Rattle.jc_world.specs.Ends.{EndsState}
 use Rattle.jc_world.proofs.Noting.{noted_as}
-use Rattle.jc_world.proofs.Facts.{refuted, missing, same_found}
-use Rattle.jc_world.proofs.Numbered.{some_of}
+use Rattle.jc_world.proofs.Facts.{missing, same_found}
 
 -- 1. What fits is shown as no fault.
 
@@ -111,7 +106,7 @@ above (Some last) call new up = go last call new up
     go last call new up = grind (arith, nat_tests)
 
 -- no call under way has a new number
-new_under : (w : WorldState) (call : ℕ) → is_new w.last call ≡ true → IsSoundWorld w → open_call w call ≡ None
+pub new_under : (w : WorldState) (call : ℕ) → is_new w.last call ≡ true → IsSoundWorld w → open_call w call ≡ None
 new_under w call new old = missing (open_call w call) (λ u here.
     above w.last call new (ap (is_up_to w.last) (sym (found_number call w.calls u here)) ∙ (fits_found w (has_number call) w.calls u here old.calls).number))
 
@@ -127,51 +122,46 @@ new_free w call key new old =
     (ap is_none (missing (part_of w call key) (λ part is.
     let at = of_call-at call (get w.parts key) part is in
     nobody w call part.reservation.caller.call (λ u. op_at u key ≡ Some part.reservation.op) none at.1 (call_on w key part at.0 old))))
-    (ap not (refuted (is_joined w call key) (λ joined.
+    (ap not (false_from_ne_true (is_joined w call key) (λ joined.
     let j = join_any w (is_join call key) w.joins joined old.joins in
     nobody w call j.0.caller.call (IsCallOf j.0.caller.session j.0.key Get) none (join_is call key j.0 j.2).0 j.3.call)))
 
 -- 4. A call that takes the keys that are cached.
 
--- it looks at one stripe more
-goes_looking : (stripes : ℕ) (keys : List Bytes) (s : Sweep) (u : CallState) → s.stripe + 1 < stripes → going_on (with_found stripes keys s u) ≡ Some (record u { tasks = u.tasks ++ at_each s.op keys; sweep = Some (record s { stripe = s.stripe + 1 }) })
-goes_looking stripes keys s u more =
-    let next : CallState → Option Sweep → CallState = λ u o. record u { tasks = u.tasks ++ at_each s.op keys; sweep = o } in
-    ap (λ b. going_on (next u (cond b (Some (record s { stripe = s.stripe + 1 })) None))) (less (s.stripe + 1) stripes more)
-  where
-    less : (m n : ℕ) → m < n → nat_lt m n ≡ true
-    less m n lt = grind (arith, nat_tests)
+look_now : (w : WorldState) (call stripe : ℕ) (u : CallState) (s : SweepState) → open_call w call ≡ Some u → u.sweep ≡ Some s → stripe < w.config.stripes → has_looked s.looked stripe ≡ false → fits w (event.Look call stripe) ≡ true
+look_now w call stripe u s here sweeps within fresh =
+    ap (may_look w.config.stripes stripe) here ∙ and_from _ _ (lt-ltb stripe w.config.stripes within) (ap (is_to_look stripe) sweeps ∙ ap not fresh)
 
 -- behind a look at a stripe that isn't the last
-looked_next : (w : WorldState) (call : ℕ) (keys : List Bytes) (s : Sweep) (u : CallState) → open_call w call ≡ Some u → s.stripe + 1 < w.config.stripes
-    → (v : CallState) × (open_call (with_look w call keys s) call ≡ Some v) × (v.sweep ≡ Some (record s { stripe = s.stripe + 1 }))
-looked_next w call keys s u here more =
-    let v : CallState = record u { tasks = u.tasks ++ at_each s.op keys; sweep = Some (record s { stripe = s.stripe + 1 }) } in
-    (v, found_replaced call (λ x. going_on (with_found w.config.stripes keys s x)) u v w.calls here (goes_looking w.config.stripes keys s u more) refl, refl)
-
-look_next : (w : WorldState) (call : ℕ) (u : CallState) (s : Sweep) → open_call w call ≡ Some u → u.sweep ≡ Some s → fits w (event.Look call s.stripe) ≡ true
-look_next w call u s here sweeps = ap (may_look s.stripe) here ∙ ap (is_next s.stripe) sweeps ∙ nat_eq_equiv.refl s.stripe
+looked_next : (w : WorldState) (call stripe : ℕ) (keys : List Bytes) (s : SweepState) (u : CallState) → open_call w call ≡ Some u → has_looked_at_each (s.looked ++ stripe ∷ []) w.config.stripes ≡ false
+    → (v : CallState) × (open_call (with_look w call stripe keys s) call ≡ Some v) × (v.sweep ≡ Some (record s { looked = s.looked ++ stripe ∷ [] }))
+looked_next w call stripe keys s u here more =
+    let next : Option SweepState → CallState = λ o. record u { tasks = u.tasks ++ at_each s.op keys; sweep = o } in
+    let v : CallState = next (Some (record s { looked = s.looked ++ stripe ∷ [] })) in
+    (v, found_replaced call (λ x. going_on (with_found w.config.stripes stripe keys s x)) u v w.calls here (ap (λ b. going_on (next (cond b None (Some (record s { looked = s.looked ++ stripe ∷ [] }))))) more) refl, refl)
 
 -- what a look leaves
-look_leaves : (w mid : WorldState) (call stripe : ℕ) (u : CallState) (s : Sweep) (seen : Shown) → open_call w call ≡ Some u → u.sweep ≡ Some s → (h : Happens w (event.Look call stripe) seen mid) → mid ≡ with_look w call h.6 s
+look_leaves : (w mid : WorldState) (call stripe : ℕ) (u : CallState) (s : SweepState) (seen : Shown) → open_call w call ≡ Some u → u.sweep ≡ Some s → (h : Happens w (event.Look call stripe) seen mid) → mid ≡ with_look w call stripe h.6 s
 look_leaves w mid call stripe u s seen here sweeps h =
     let same_u : h.0 ≡ u = same_found (open_call w call) h.0 u h.2 here in
     let same_s : h.1 ≡ s = same_found u.sweep h.1 s (ap (λ (x : CallState). x.sweep) (sym same_u) ∙ h.3) sweeps in
-    h.9 ∙ ap (with_look w call h.6) same_s
+    h.9 ∙ ap (with_look w call stripe h.6) same_s
 
-looks_fit : (call count : ℕ) (w : WorldState) (u : CallState) (s : Sweep) → open_call w call ≡ Some u → u.sweep ≡ Some s → s.stripe + count ≤ w.config.stripes → AllFit w (looks call s.stripe count)
-looks_fit call zero w u s here sweeps few = none_fit w
-looks_fit call (suc zero) w u s here sweeps few = one_fits w (event.Look call s.stripe) (look_next w call u s here sweeps)
-looks_fit call (suc (suc count)) w u s here sweeps few =
-    let more : s.stripe + 1 < w.config.stripes = omega (arith, few) in
-    let rest : (s.stripe + 1) + suc count ≤ w.config.stripes = omega (arith, few) in
-    fits_then w (event.Look call s.stripe) (looks call (s.stripe + 1) (suc count)) (look_next w call u s here sweeps) (λ seen mid ends h.
-    let v = looked_next w call h.6 s u here more in
-    subst (λ m. AllFit (with_ends m ends) (looks call (s.stripe + 1) (suc count))) (sym (look_leaves w mid call s.stripe u s seen here sweeps h))
-    (looks_fit call (suc count) (with_ends (with_look w call h.6 s) ends) v.0 (record s { stripe = s.stripe + 1 }) v.1 v.2 rest))
+looks_fit : (call count from : ℕ) (w : WorldState) (u : CallState) (s : SweepState) → open_call w call ≡ Some u → u.sweep ≡ Some s → ((i : ℕ) → has_looked s.looked i ≡ true → i < from) → from + count ≤ w.config.stripes → AllFit w (looks call from count)
+looks_fit call zero from w u s here sweeps below few = none_fit w
+looks_fit call (suc zero) from w u s here sweeps below few =
+    one_fits w (event.Look call from) (look_now w call from u s here sweeps (omega (arith, few)) (unseen s.looked from below))
+looks_fit call (suc (suc count)) from w u s here sweeps below few =
+    let next = seen_below s.looked from below in
+    let more = missed (s.looked ++ from ∷ []) (from + 1) w.config.stripes (unseen (s.looked ++ from ∷ []) (from + 1) next) (omega (arith, few)) in
+    let rest : (from + 1) + suc count ≤ w.config.stripes = omega (arith, few) in
+    fits_then w (event.Look call from) (looks call (from + 1) (suc count)) (look_now w call from u s here sweeps (omega (arith, few)) (unseen s.looked from below)) (λ seen mid ends h.
+    let v = looked_next w call from h.6 s u here more in
+    subst (λ m. AllFit (with_ends m ends) (looks call (from + 1) (suc count))) (sym (look_leaves w mid call from u s seen here sweeps h))
+    (looks_fit call (suc count) (from + 1) (with_ends (with_look w call from h.6 s) ends) v.0 (record s { looked = s.looked ++ from ∷ [] }) v.1 v.2 next rest))
 
--- a call that looks at the stripes names no key, and starts at the first one
-sweeping : (call session : ℕ) (c : Command) (s : Sweep) → sweep_of c ≡ Some s → (has_too_many_keys (new_call call session c) ≡ false) × (s.stripe ≡ 0)
+-- a call that looks at the stripes names no key, and has looked at none
+sweeping : (call session : ℕ) (c : Command) (s : SweepState) → sweep_of c ≡ Some s → (has_too_many_keys (new_call call session c) ≡ false) × (s.looked ≡ [])
 sweeping call session (command.Single op key) s is = cc
 sweeping call session (command.GetAll keys) s is = cc
 sweeping call session (command.PutAll entries) s is = cc
@@ -181,7 +171,7 @@ sweeping call session command.Clear s is = (refl, cc)
 sweeping call session (command.LoadAll replace keys) s is = cc
 sweeping call session (command.InvokeAll keys) s is = cc
 
-pub looks_begun : (w : WorldState) → IsSoundWorld w → (call session : ℕ) (c : Command) (s : Sweep) → fits w (event.Call call session c) ≡ true → sweep_of c ≡ Some s → AllFit w (event.Call call session c ∷ looks call 0 w.config.stripes)
+pub looks_begun : (w : WorldState) → IsSoundWorld w → (call session : ℕ) (c : Command) (s : SweepState) → fits w (event.Call call session c) ≡ true → sweep_of c ≡ Some s → AllFit w (event.Call call session c ∷ looks call 0 w.config.stripes)
 looks_begun w old call session c s fit sweeps =
     let u : CallState = new_call call session c in
     let new : is_new w.last call ≡ true = (and_parts _ _ (and_parts _ _ fit).0).1 in
@@ -196,17 +186,19 @@ looks_begun w old call session c s fit sweeps =
     let next : WorldState = record w { last = Some call; fresh = false; calls = w.calls ++ opened u } in
     fits_then w (event.Call call session c) (looks call 0 w.config.stripes) fit (λ seen mid ends happens.
     subst (λ m. AllFit (with_ends m ends) (looks call 0 w.config.stripes)) (sym happens.1)
-    (subst (λ n. AllFit (with_ends next ends) (looks call n w.config.stripes)) facts.1
-    (looks_fit call w.config.stripes (with_ends next ends) u s here sweeps (all_left s.stripe w.config.stripes facts.1))))
+    (looks_fit call w.config.stripes 0 (with_ends next ends) u s here sweeps (none_seen s.looked facts.1) (all_left w.config.stripes)))
   where
-    all_left : (m n : ℕ) → m ≡ 0 → m + n ≤ n
-    all_left m n e = omega (arith, e)
+    none_seen : (looked : List ℕ) → looked ≡ [] → (i : ℕ) → has_looked looked i ≡ true → i < 0
+    none_seen looked e i h = let t : false ≡ true = sym (ap (λ ls. has_looked ls i) e) ∙ h in cc
+
+    all_left : (n : ℕ) → 0 + n ≤ n
+    all_left n = omega arith
 
 -- 5. A call that has reserved a key.
 
 -- a call that has reserved its key has not joined a load of it
 pub unjoined_held : (w : WorldState) (call : ℕ) (key : Bytes) → has_progress is_untouched (part_of w call key) ≡ true → IsSoundWorld w → is_joined w call key ≡ false
-unjoined_held w call key held old = refuted (is_joined w call key) (λ joined.
+unjoined_held w call key held old = false_from_ne_true (is_joined w call key) (λ joined.
     let j = join_any w (is_join call key) w.joins joined old.joins in
     let same = join_is call key j.0 j.2 in
     let none : part_of w call key ≡ None = subst (λ n. part_of w n key ≡ None) same.0 (subst (λ k. part_of w j.0.caller.call k ≡ None) same.1 j.3.no_part) in

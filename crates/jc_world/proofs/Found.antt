@@ -1,11 +1,11 @@
 -- The tasks of a call that has taken more keys.
 --     lookup-found           a key is looked up among the tasks, and then among those of the keys that were found
 --     op_of_found            at a key that was found the call's operation is done
---     still_done             what is done goes on
+--     still_done             what is done is done still
 --     found_new              one key more, which is new
 --     first_found            the first open key keeps its place
 --     first_kept             and stays the first
-use Rattle.std.proofs.Common.{◌≡◌, ◌==◌, ◌<◌, ◌+◌, ℕ, zero, suc, Bool, true, false, cond, List, [], ◌∷◌, ◌++◌, filter, take, length, slice_get, Option, None, Some, is_none, refl, sym, ap, ◌∙◌}
+use Rattle.std.proofs.Common.{◌≡◌, ◌==◌, ◌<◌, ℕ, zero, suc, Bool, true, false, cond, List, [], ◌∷◌, ◌++◌, filter, take, length, slice_get, Option, None, Some, is_none, refl, sym, ap, ◌∙◌}
 use Rattle.std.specs.Prelude.{get_or}
 use Rattle.std.specs.List.{list_all, list_any, IsDistinct}
 use Rattle.std.specs.Map.{keys_of, lookup}
@@ -13,11 +13,13 @@ use Rattle.std.specs.Option.{option_flatten, option_or}
 use Rattle.std.specs.Cmp.Lexicographic.{pointwise}
 use Rattle.std.proofs.lemmas.Bool.{and_parts}
 use Rattle.std.proofs.lemmas.Map.Made.{is_some-lookup}
+use Rattle.std.proofs.lemmas.Option.{slice_get_read}
+use Rattle.jc_model.proofs.CallerLemmas.{none_is}
 use Rattle.jc_model.specs.declared.event.Op.{Op}
 use Rattle.jc_model.specs.Cache.{Bytes}
 use Rattle.jc_world.specs.Calls.{Task, at_each, op_in, is_open, open_in}
 use Rattle.jc_world.specs.OpenCalls.{first_open, are_new}
-use Rattle.jc_world.proofs.TaskLists.{absent, none_from, slice_get_here, keys-at_each, first_each}
+use Rattle.jc_world.proofs.TaskLists.{absent, none_from, keys-at_each, first_each}
 
 -- 1. Looking a key up.
 
@@ -48,16 +50,12 @@ all_at p [] i key h at = cc
 all_at p (k ∷ keys) zero key h at = let is : k ≡ key = cc in ap p (sym is) ∙ (and_parts (p k) (list_all p keys) h).0
 all_at p (k ∷ keys) (suc i) key h at = all_at p keys i key (and_parts (p k) (list_all p keys) h).1 at
 
-is_none_of : {A : Type 0} (o : Option A) → is_none o ≡ true → o ≡ None
-is_none_of None h = refl
-is_none_of (Some x) h = cc
-
 pub found_new : (tasks : List Task) (one : Op) (keys : List Bytes) (i : ℕ) (key : Bytes) → are_new tasks keys ≡ true → IsDistinct (pointwise ◌==◌) keys → i < length keys → key ≡ get_or keys i key
     → lookup (pointwise ◌==◌ key) (tasks ++ at_each one (take i keys)) ≡ None
 found_new tasks one keys i key new distinct lt is =
     let test = pointwise ◌==◌ key in
-    let at : slice_get keys i ≡ Some key = slice_get_here keys i key lt is in
-    let before : lookup test tasks ≡ None = is_none_of _ (all_at (λ k. is_none (lookup (pointwise ◌==◌ k) tasks)) keys i key new at) in
+    let at : slice_get keys i ≡ Some key = slice_get_read keys (length keys) i key refl lt is in
+    let before : lookup test tasks ≡ None = none_is _ (all_at (λ k. is_none (lookup (pointwise ◌==◌ k) tasks)) keys i key new at) in
     let found : lookup test (at_each one (take i keys)) ≡ None =
     none_from _ (is_some-lookup test (at_each one (take i keys)) ∙ ap (list_any test) (keys-at_each one (take i keys)) ∙ absent keys i key distinct at) in
     lookup-found test tasks (at_each one (take i keys)) ∙ ap (λ o. option_or o (lookup test (at_each one (take i keys)))) before ∙ found

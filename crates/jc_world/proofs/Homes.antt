@@ -1,7 +1,7 @@
 -- A stripe caches none but its own keys, so what all stripes cache for a key is what its own stripe does.
 --     homes          a stripe that is reached caches no key of another
 --     gathered       the stripes together cache what the world does
---     found_next     the stripes that are left, where one was gone through
+--     found_next     the stripes that are left, once one was gone through
 --     agrees         an entry of a coherent world doesn't differ
 --     none_differ    so none does
 use Rattle.std.specs.Prelude.{T}
@@ -14,7 +14,7 @@ use Rattle.std.specs.Cmp.{eq_by_cmp_equiv}
 use Rattle.std.specs.Cmp.Lexicographic.{texts_ties}
 use Rattle.std.specs.FinMap.{get, remove, find, is_sorted, entries, entries_sorted, from_entries, get-remove, get-empty, get-entries, get-from_entries}
 use Rattle.std.specs.FinMap.Entries.{below_all}
-use Rattle.std.proofs.lemmas.Bool.{ne_eqb, and_parts}
+use Rattle.std.proofs.lemmas.Bool.{ne_eqb, and_parts, and_right}
 use Rattle.std.proofs.lemmas.Cmp.{nat_list_cmp_total}
 use Rattle.std.proofs.lemmas.List.Folds.{list_all-append}
 use Rattle.jc_types.specs.declared.config.Config.{Config}
@@ -36,7 +36,7 @@ use Rattle.jc_world.specs.Gathered.{or_else, found_after}
 
 -- 1. What a group leaves at other keys.
 
--- a key that isn't there stays out where one goes
+-- a key that isn't there stays out if one is removed
 none_removed : (cache : Cache) (key gone : Bytes) → entry_at cache key ≡ None → entry_at (remove cache gone) key ≡ None
 none_removed cache key gone h = get-remove nat_list_cmp_total cache gone key ∙ ap (cond (eq_by_cmp key_cmp key gone) None) h ∙ none (eq_by_cmp key_cmp key gone)
   where
@@ -44,12 +44,12 @@ none_removed cache key gone h = get-remove nat_list_cmp_total cache gone key ∙
     none true = refl
     none false = refl
 
--- where a full stripe's victim goes
+-- if a full stripe's victim is removed
 none_without : (cache : Cache) (key : Bytes) (gone : Option Bytes) → entry_at cache key ≡ None → entry_at (without_victim cache gone) key ≡ None
 none_without cache key None h = h
 none_without cache key (Some gone) h = none_removed cache key gone h
 
--- and where the step's own key does
+-- and if the step's own key is
 none_evicted : (cache : Cache) (key own : Bytes) (cause : Option Cause) → entry_at cache key ≡ None → entry_at (without_own cache own cause) key ≡ None
 none_evicted cache key own None h = h
 none_evicted cache key own (Some cause) h = none_removed cache key own h
@@ -108,7 +108,7 @@ found_none : (found : Option Bytes) (stripes : List State) (key : Bytes) → ((i
 found_none found [] key h = refl
 found_none found (s ∷ ss) key h = ap (λ o. found_after (or_else o found) ss key) (h 0 s refl) ∙ found_none found ss key (λ i x e. h (suc i) x e)
 
--- where one alone may, what it caches counts
+-- if one alone may, what it caches counts
 found_one : (found : Option Bytes) (stripes : List State) (key : Bytes) (n : ℕ) → ((i : ℕ) (s : State) → slice_get stripes i ≡ Some s → (n ≡ i → ⊥) → entry_at s.cache key ≡ None)
     → found_after found stripes key ≡ or_else (entry_in (slice_get stripes n) key) found
 found_one found [] key n h = refl
@@ -158,7 +158,7 @@ none_below key (e ∷ es) h =
     let parts = and_parts (is_lt (key_cmp key e.0)) (below_all key_cmp key es) h in
     ap (λ b. cond b (Some e.1) (find key_cmp key es)) (less_not_equal (key_cmp key e.0) parts.0) ∙ none_below key es parts.1
 
--- what is found in a sorted list is found behind the first, too, if it stands there
+-- what is found in a sorted list is found after the first, too, if it is there
 found_behind : (e : Bytes × Bytes) (es : List (Bytes × Bytes)) (key value : Bytes) → below_all key_cmp e.0 es ≡ true → find key_cmp key es ≡ Some value → find key_cmp key (e ∷ es) ≡ Some value
 found_behind e es key value low h =
     elim (eq_by_cmp key_cmp key e.0) as (λ b. eq_by_cmp key_cmp key e.0 ≡ b → cond b (Some e.1) (find key_cmp key es) ≡ Some value) [
@@ -166,7 +166,7 @@ found_behind e es key value low h =
       | false ↦ λ t. h
     ] refl
 
--- where a test fails at each key with its value, it takes nothing of a sorted list
+-- if a test fails at each key with its value, it takes nothing of a sorted list
 takes_none : (p : Bytes × Bytes → Bool) (es : List (Bytes × Bytes)) → is_sorted key_cmp es ≡ true → ((key value : Bytes) → find key_cmp key es ≡ Some value → p (key, value) ≡ false) → filter p es ≡ []
 takes_none p [] sorted h = refl
 takes_none p (e ∷ es) sorted h =
@@ -181,11 +181,7 @@ held_true stored value h = ap (λ o. holds o value) h ∙ texts_ties value value
 
 -- an entry that is held doesn't differ
 held_apart : (stored : Option Bytes) (value : Bytes) (changed : Bool) → (changed ≡ false → stored ≡ Some value) → (not (holds stored value) && not changed) ≡ false
-held_apart stored value true h = never (not (holds stored value))
-  where
-    never : (b : Bool) → (b && false) ≡ false
-    never true = refl
-    never false = refl
+held_apart stored value true h = and_right (not (holds stored value)) false refl
 held_apart stored value false h = ap (λ b. not b && true) (held_true stored value (h refl))
 
 -- an entry that a coherent world caches doesn't differ

@@ -3,14 +3,15 @@
 --     TellsIn            a stripe has the joiner of a join, whose state tells that of the load
 --     tells_kept         it does later, if the joiners are the same or more, and the load stays out
 --     tells_committed, tells_withdrawn      it does where any load is over
-use Rattle.std.proofs.Common.{◌≡◌, ◌==◌, ◌<◌, ◌&&◌, ◌||◌, ◌+◌, ℕ, zero, suc, List, [], ◌∷◌, ◌++◌, length, Bool, true, false, cond, Some, IsSomeAnd, find, slice_get, refl, sym, ap, ◌∙◌, subst, arith}
+use Rattle.std.proofs.Common.{◌≡◌, ◌==◌, ◌<◌, ◌&&◌, ◌||◌, ◌+◌, ℕ, List, [], ◌∷◌, ◌++◌, length, Bool, true, false, cond, Some, IsSomeAnd, find, slice_get, refl, sym, ap, ◌∙◌, subst, arith}
 use Rattle.std.specs.List.{list_any}
 use Rattle.std.specs.Cmp.Lexicographic.{pointwise}
 use Rattle.std.proofs.Math.Seq.{take-append_seam}
 use Rattle.std.proofs.lemmas.List.{take-append-le}
 use Rattle.std.proofs.lemmas.List.Folds.{list_any-append}
 use Rattle.std.proofs.lemmas.Option.{slice_get_within}
-use Rattle.std.proofs.lemmas.Bool.{eq-eqb, eqb-true, and_parts}
+use Rattle.std.proofs.lemmas.Bool.{eq-eqb, eqb-true, and_parts, false_from_ne_true}
+use Rattle.jc_world.proofs.Shares.{still_at}
 use Rattle.jc_types.specs.declared.caller.Caller.{Caller}
 use Rattle.jc_model.specs.Cache.{Bytes}
 use Rattle.jc_inflight.specs.declared.joiner.Joiner.{Joiner}
@@ -36,7 +37,6 @@ use Rattle.jc_world.proofs.Reservations.{found_left}
 use Rattle.jc_world.proofs.Entries.{split}
 use Rattle.jc_world.proofs.Kept.{some_map}
 use Rattle.jc_world.proofs.LoadKeys.{same_number}
-use Rattle.jc_world.proofs.Facts.{refuted}
 
 -- what was shown so far, each with its event
 abbrev pub Shows : Type 0
@@ -58,13 +58,7 @@ TellsIn number shows join r s = IsSomeAnd (joiner_of join.caller join.key s.join
 
 -- 2. More was shown.
 
--- what is there is there in a longer list
-there_more : {A : Type 0} (xs ys : List A) (i : ℕ) (x : A) → slice_get xs i ≡ Some x → slice_get (xs ++ ys) i ≡ Some x
-there_more [] ys i x h = cc
-there_more (z ∷ zs) ys zero x h = h
-there_more (z ∷ zs) ys (suc i) x h = there_more zs ys i x h
-
--- and so is the one at the end
+-- the one at the end of a list is there
 there_last : {A : Type 0} (xs : List A) (x : A) → slice_get (xs ++ x ∷ []) (length xs) ≡ Some x
 there_last [] x = refl
 there_last (z ∷ zs) x = there_last zs x
@@ -73,7 +67,7 @@ there_last (z ∷ zs) x = there_last zs x
 end_more : (shows more : Shows) (r : Reservation) (at : ℕ) (e : WorldEvent) (seen : Shown) → IsEnd shows r at e seen → IsEnd (shows ++ more) r at e seen
 end_more shows more r at e seen h =
     let within : at < length shows = slice_get_within shows at (e, seen) h.there in
-    record { there = there_more shows more at (e, seen) h.there; first = ap (list_any (ends_load r)) (take-append-le at shows more (omega arith)) ∙ h.first }
+    record { there = still_at shows more at (e, seen) h.there; first = ap (list_any (ends_load r)) (take-append-le at shows more (omega arith)) ∙ h.first }
 
 -- an event is the end of a load that was out before it
 end_last : (shows : Shows) (r : Reservation) (e : WorldEvent) (seen : Shown) → list_any (ends_load r) shows ≡ false → IsEnd (shows ++ (e, seen) ∷ []) r (length shows) e seen
@@ -81,7 +75,7 @@ end_last shows r e seen none = record { there = there_last shows (e, seen); firs
 
 -- an event of another key ends no load of this one
 pub none_of_key : (r : Reservation) (call : ℕ) (key : Bytes) (seen : Shown) → (r.key ≡ key → ⊥) → ((is_fit seen && (call == r.caller.call)) && pointwise ◌==◌ r.key key) ≡ false
-none_of_key r call key seen apart = refuted _ (λ t. apart (same_bytes r.key key (and_parts (is_fit seen && (call == r.caller.call)) (pointwise ◌==◌ r.key key) t).1))
+none_of_key r call key seen apart = false_from_ne_true _ (λ t. apart (same_bytes r.key key (and_parts (is_fit seen && (call == r.caller.call)) (pointwise ◌==◌ r.key key) t).1))
 
 -- it tells the same later, if a load that is waited for is still out
 pub tells_on : (number : ℕ) (shows more : Shows) (s t : State) (r : Reservation) (state : JoinState) → (is_waiting state ≡ true → IsOut s r → IsOut t r × (list_any (ends_load r) more ≡ false)) → Tells number shows s r state
@@ -96,7 +90,7 @@ tells_out number shows s r Waiting waits h = h
 tells_out number shows s r (Answered place shared) waits h = cc
 tells_out number shows s r Again waits h = cc
 
--- the joiners are the same, or there are more behind them
+-- the joiners are the same, or there are more after them
 pub tells_kept : (number : ℕ) (shows more : Shows) (join : JoinClaim) (r : Reservation) (s t : State) (behind : List Joiner) → t.joiners ≡ s.joiners ++ behind → list_any (ends_load r) more ≡ false → (IsOut s r → IsOut t r)
     → TellsIn number shows join r s → TellsIn number (shows ++ more) join r t
 tells_kept number shows more join r s t behind joiners none out h =
@@ -154,7 +148,7 @@ keys_apart p r rs over out apart same =
 out_past : (p r : Reservation) (rs : List Reservation) → find (is_key r.key) rs ≡ Some r → (r.key ≡ p.key → ⊥) → find (is_key r.key) (without_key p.key rs) ≡ Some r
 out_past p r rs out apart = split r.key p.key (λ b. find (is_key r.key) (without_key p.key rs) ≡ Some r) (λ same. absurd (apart same)) (λ other. found_left r.key p.key rs other ∙ out)
 
--- the first of two tests fails, where both don't hold and the second does
+-- the first of two tests fails, if both don't hold and the second does
 first_fails : (a b : Bool) → (a && b) ≡ false → b ≡ true → a ≡ false
 first_fails true b h t = sym t ∙ h
 first_fails false b h t = refl

@@ -4,16 +4,15 @@
 --     waited_on                 each join in another world
 --     once_filter, once_pushed      no two joins are of one call and one key
 --     join_any                  a join, with what is true of it
---     other_key         a call that has not joined the load of a key is at another key, where it has joined
---     stands_at         where a join stands in the list
+--     other_key         a call that has not joined the load of a key is at another key, if it has joined there
+--     stands_at         where a join is in the list
 use Rattle.std.proofs.Common.{◌≡◌, ◌==◌, ◌&&◌, ◌||◌, ◌+◌, ℕ, zero, suc, List, [], ◌∷◌, ◌++◌, Bool, true, false, cond, not, Option, None, Some, IsSomeAnd, find, filter, map, position, slice_get, refl, sym, ap, ◌∙◌, subst, arith, is_some}
-use Rattle.std.specs.List.{list_all, list_any, position_from}
-use Rattle.std.specs.List.{insert as insert_at, remove as remove_at}
+use Rattle.std.specs.List.{list_all, list_any, position_from, insert as insert_at, remove as remove_at}
 use Rattle.std.proofs.lemmas.Iterator.Adapters.{position_from-zero}
 use Rattle.std.specs.Ordering.{eq_by_cmp}
 use Rattle.std.specs.Cmp.Lexicographic.{pointwise}
 use Rattle.std.specs.FinMap.{get, insert, remove, get-insert, get-remove}
-use Rattle.std.proofs.lemmas.Bool.{eqb-true, and_parts, and_from}
+use Rattle.std.proofs.lemmas.Bool.{eqb-true, and_parts, and_from, or_right, false_from_ne_true}
 use Rattle.std.proofs.lemmas.Cmp.{nat_list_cmp_total, nat_eq_equiv, nat_list_eq_equiv}
 use Rattle.jc_types.specs.declared.caller.Caller.{Caller}
 use Rattle.jc_model.specs.Cache.{Bytes, key_cmp}
@@ -30,7 +29,7 @@ use Rattle.jc_stripe.specs.Reached.{are_apart}
 use Rattle.jc_world.specs.declared.event.Part.{Part}
 use Rattle.jc_world.specs.World.{WorldState, Parts, of_call, part_of, is_join, is_joined, joins_without}
 use Rattle.jc_world.specs.Sound.{has_answer, has_parked_answer, IsWaitedFor, AllWaitedFor, is_joined_once, AllCalled, Each}
-use Rattle.jc_world.proofs.Shares.{turned_eq, each_map}
+use Rattle.jc_world.proofs.Shares.{each_map}
 use Rattle.jc_world.proofs.Underway.{same_bytes}
 
 -- the joiner of a caller at a key
@@ -45,7 +44,7 @@ unanswered Waiting h k = cc
 unanswered (Answered place shared) h k = cc
 unanswered Again h k = cc
 
--- an answer that is parked stays where others are parked
+-- an answer that is parked stays if others are parked
 pub told_resolved : (load step place : ℕ) (caller : Caller) (key : Bytes) (js : List Joiner) → has_parked_answer (joiner_of caller key js) ≡ true → has_parked_answer (joiner_of caller key (answered_from load step place js)) ≡ true
 told_resolved load step place caller key [] h = h
 told_resolved load step place caller key (x ∷ xs) h =
@@ -77,7 +76,7 @@ told_waiting load step place caller key (x ∷ xs) j h waits =
       ] h
     ] refl
 
--- an answer that is parked stays where a load is withdrawn
+-- an answer that is parked stays if a load is withdrawn
 pub told_dissolved : (load : ℕ) (caller : Caller) (key : Bytes) (js : List Joiner) → has_parked_answer (joiner_of caller key js) ≡ true → has_parked_answer (joiner_of caller key (dissolved load js)) ≡ true
 told_dissolved load caller key [] h = h
 told_dissolved load caller key (x ∷ xs) h =
@@ -93,7 +92,7 @@ told_dissolved load caller key (x ∷ xs) h =
       ] h
     ] refl
 
--- and where one more joins
+-- and if one more joins
 pub told_pushed : (caller : Caller) (key : Bytes) (js more : List Joiner) → has_parked_answer (joiner_of caller key js) ≡ true → has_parked_answer (joiner_of caller key (js ++ more)) ≡ true
 told_pushed caller key [] more h = cc
 told_pushed caller key (x ∷ xs) more h =
@@ -109,14 +108,10 @@ find_kept p q [] f = refl
 find_kept p q (x ∷ xs) f =
     elim (q x) as (λ b. q x ≡ b → find p (cond b (x ∷ filter q xs) (filter q xs)) ≡ cond (p x) (Some x) (find p xs)) [
       | true ↦ λ e. ap (cond (p x) (Some x)) (find_kept p q xs f)
-      | false ↦ λ e. find_kept p q xs f ∙ sym (ap (λ b. cond b (Some x) (find p xs)) (fails (p x) (λ t. let u : true ≡ false = sym (f x t) ∙ e in cc)))
+      | false ↦ λ e. find_kept p q xs f ∙ sym (ap (λ b. cond b (Some x) (find p xs)) (false_from_ne_true (p x) (λ t. let u : true ≡ false = sym (f x t) ∙ e in cc)))
     ] refl
-  where
-    fails : (b : Bool) → (b ≡ true → ⊥) → b ≡ false
-    fails true h = absurd (h refl)
-    fails false h = refl
 
--- one is there where one is found
+-- one is there if one is found
 pub any_kept : {A : Type 0} (p q : A → Bool) (xs : List A) → ((x : A) → p x ≡ true → q x ≡ true) → list_any p xs ≡ true → list_any p (filter q xs) ≡ true
 any_kept p q [] f h = h
 any_kept p q (x ∷ xs) f h =
@@ -133,7 +128,7 @@ any_kept p q (x ∷ xs) f h =
 -- two joiners that are apart are not one
 not_of : (x j : Joiner) → is_other_join x.caller x.key j ≡ true → belongs_to j.caller j.key x ≡ false
 not_of x j h =
-    (λ i. (turned_eq x.caller.session j.caller.session i && turned_eq x.caller.call j.caller.call i) && pointwise ◌==◌ j.key x.key)
+    (λ i. (nat_eq_equiv.symm x.caller.session j.caller.session i && nat_eq_equiv.symm x.caller.call j.caller.call i) && pointwise ◌==◌ j.key x.key)
     ∙ go (j.caller.session == x.caller.session) (j.caller.call == x.caller.call) (pointwise ◌==◌ j.key x.key) h
   where
     go : (s n k : Bool) → (not s || (n && not k)) ≡ true → ((s && n) && k) ≡ false
@@ -168,7 +163,7 @@ each_caller P load (x ∷ xs) h =
 
 -- 3. A joiner is there.
 
--- who has joined a load has joined it where some are answered
+-- a call that has joined a load still has if some are answered
 pub joined_resolved : (P : Joiner → Type 0) (load step place : ℕ) (caller : Caller) (key : Bytes) (js : List Joiner) → ((place : ℕ) (x : Joiner) → P x → P (with_answer place step x)) → IsSomeAnd (joiner_of caller key js) P → IsSomeAnd (joiner_of caller key (answered_from load step place js)) P
 joined_resolved P load step place caller key [] f h = h
 joined_resolved P load step place caller key (x ∷ xs) f h =
@@ -200,26 +195,16 @@ joined_dissolved P load caller key (x ∷ xs) f h =
       ] h
     ]
 
--- or where one more joins
+-- or if one more joins
 pub joined_front : (P : Joiner → Type 0) (p : Joiner → Bool) (xs ys : List Joiner) → IsSomeAnd (find p xs) P → IsSomeAnd (find p (xs ++ ys)) P
 joined_front P p [] ys h = absurd h
 joined_front P p (x ∷ xs) ys h = elim (p x) as (λ b. IsSomeAnd (cond b (Some x) (find p xs)) P → IsSomeAnd (cond b (Some x) (find p (xs ++ ys))) P) [ true ↦ λ h. h | false ↦ λ h. joined_front P p xs ys h ] h
 
--- and the last has, where none before it is of its call and key
+-- and the last has, if none before it is of its call and key
 pub joined_last : (P : Joiner → Type 0) (p : Joiner → Bool) (xs : List Joiner) (y : Joiner) → find p xs ≡ None → p y ≡ true → P y → IsSomeAnd (find p (xs ++ y ∷ [])) P
 joined_last P p [] y none e h = let Q : Bool → Type 0 = λ b. IsSomeAnd (cond b (Some y) None) P in subst Q (sym e) h
 joined_last P p (x ∷ xs) y none e h =
     elim (p x) as (λ b. cond b (Some x) (find p xs) ≡ None → IsSomeAnd (cond b (Some x) (find p (xs ++ y ∷ []))) P) [ true ↦ λ t. cc | false ↦ λ t. joined_last P p xs y t e h ] none
-
--- one is there where more are
-pub any_front : {A : Type 0} (p : A → Bool) (xs ys : List A) → list_any p xs ≡ true → list_any p (xs ++ ys) ≡ true
-any_front p [] ys h = cc
-any_front p (x ∷ xs) ys h = elim (p x) as (λ b. (b || list_any p xs) ≡ true → (b || list_any p (xs ++ ys)) ≡ true) [ true ↦ λ h. refl | false ↦ λ h. any_front p xs ys h ] h
-
--- and the last is
-pub any_last : {A : Type 0} (p : A → Bool) (xs : List A) (y : A) → p y ≡ true → list_any p (xs ++ y ∷ []) ≡ true
-any_last p [] y h = ap (λ b. b || false) h
-any_last p (x ∷ xs) y h = elim (p x) as (λ b. (b || list_any p (xs ++ y ∷ [])) ≡ true) [ true ↦ refl | false ↦ any_last p xs y h ]
 
 -- 4. Each joiner has its join and its call.
 
@@ -232,7 +217,7 @@ called_resolved w m load step place (x ∷ xs) h =
       | false ↦ (h.0, called_resolved w m load step place xs h.1)
     ]
 
--- and those that are to begin again
+-- and those that are told to retry
 pub called_dissolved : (w : WorldState) (m load : ℕ) (js : List Joiner) → AllCalled w m js → AllCalled w m (dissolved load js)
 called_dissolved w m load [] h = tt
 called_dissolved w m load (x ∷ xs) h =
@@ -263,12 +248,8 @@ each_joined [] = tt
 each_joined (x ∷ xs) = (
   ap (λ b. b || list_any (is_join x.caller.call x.key) xs) (and_from _ _ (nat_eq_equiv.refl x.caller.call) (nat_list_eq_equiv.refl x.key)),
   each_map (λ (j : JoinClaim). list_any (is_join j.caller.call j.key) xs ≡ true) (λ (j : JoinClaim). (is_join j.caller.call j.key x || list_any (is_join j.caller.call j.key) xs) ≡ true) xs
-      (λ j h. or_second (is_join j.caller.call j.key x) (list_any (is_join j.caller.call j.key) xs) h) (each_joined xs),
+      (λ j h. or_right (is_join j.caller.call j.key x) (list_any (is_join j.caller.call j.key) xs) h) (each_joined xs),
 )
-  where
-    or_second : (a b : Bool) → b ≡ true → (a || b) ≡ true
-    or_second true b h = refl
-    or_second false b h = h
 
 -- one that passes a test, with what is true of it
 pub join_any : (w : WorldState) (p : JoinClaim → Bool) (js : List JoinClaim) → list_any p js ≡ true → AllWaitedFor w js → (j : JoinClaim) × (find p js ≡ Some j) × (p j ≡ true) × IsWaitedFor w j
@@ -283,14 +264,14 @@ join_any w p (x ∷ xs) h waited =
 pub join_is : (call : ℕ) (key : Bytes) (j : JoinClaim) → is_join call key j ≡ true → (j.caller.call ≡ call) × (j.key ≡ key)
 join_is call key j h = let parts = and_parts (j.caller.call == call) (pointwise ◌==◌ key j.key) h in (eqb-true j.caller.call call parts.0, sym (same_bytes key j.key parts.1))
 
--- where a call has joined, it has no part
+-- if a call has joined, it has no part
 pub joined_no_part : (w : WorldState) (call : ℕ) (key : Bytes) → is_joined w call key ≡ true → AllWaitedFor w w.joins → part_of w call key ≡ None
 joined_no_part w call key h waited =
     let j = join_any w (is_join call key) w.joins h waited in
     let is = join_is call key j.0 j.2 in
     (λ i. part_of w (sym is.0 i) (sym is.1 i)) ∙ j.3.no_part
 
--- a call that has not joined the load of a key is at another key, where it has joined
+-- a call that has not joined the load of a key is at another key, if it has joined there
 pub other_key : (w : WorldState) (call : ℕ) (key : Bytes) (number : ℕ) (q : Bytes) → is_joined w call key ≡ false → is_joined w number q ≡ true → number ≡ call → q ≡ key → ⊥
 other_key w call key number q free joined one same = let t : true ≡ false = sym joined ∙ (λ i. is_joined w (one i) (same i)) ∙ free in cc
 
@@ -318,7 +299,7 @@ once_filter q (x ∷ xs) h =
 
 -- a join of another call or key is no join of this one
 not_joined : (j x : JoinClaim) → is_join j.caller.call j.key x ≡ false → is_join x.caller.call x.key j ≡ false
-not_joined j x h = (λ i. turned_eq j.caller.call x.caller.call i && turned_key x.key j.key i) ∙ h
+not_joined j x h = (λ i. nat_eq_equiv.symm j.caller.call x.caller.call i && turned_key x.key j.key i) ∙ h
   where
     turned_key : (a b : Bytes) → pointwise ◌==◌ a b ≡ pointwise ◌==◌ b a
     turned_key a b = nat_list_eq_equiv.symm a b
@@ -339,7 +320,7 @@ once_pushed (x ∷ xs) j h o =
 
 -- 6. The parts of calls that have joined.
 
--- a call has no part where another's is put
+-- a call has no part if another's is put
 pub none_inserted : (parts : Parts) (key q : Bytes) (part : Part) (call : ℕ) → of_call call (get parts q) ≡ None → (q ≡ key → (part.reservation.caller.call == call) ≡ false) → of_call call (get (insert parts key part) q) ≡ None
 none_inserted parts key q part call none other =
     ap (of_call call) (get-insert nat_list_cmp_total parts key part q)
@@ -348,7 +329,7 @@ none_inserted parts key q part call none other =
       | false ↦ λ e. none
     ] refl)
 
--- nor where one goes
+-- nor if one is removed
 pub none_removed : (parts : Parts) (key q : Bytes) (call : ℕ) → of_call call (get parts q) ≡ None → of_call call (get (remove parts key) q) ≡ None
 none_removed parts key q call none =
     ap (of_call call) (get-remove nat_list_cmp_total parts key q) ∙ (elim (eq_by_cmp key_cmp q key) as (λ b. of_call call (cond b None (get parts q)) ≡ None) [ true ↦ refl | false ↦ none ])
@@ -363,7 +344,7 @@ part_other (Some p) old call is none =
 
 -- 7. A join in the list.
 
--- where a call's join of a key stands: it is the first, and without it all others are left
+-- where a call's join of a key is: it is the first, and without it all others are left
 pub record Stands (call : ℕ) (key : Bytes) (js : List JoinClaim) (place : ℕ) : Type 0 where
   pub join : JoinClaim
   pub here : slice_get js place ≡ Some join

@@ -1,12 +1,13 @@
 -- Each event keeps what the joins and the joiners of a world say.
 --     joins_called, joins_over, joins_phase, joins_joined, joins_picks, joins_parted, joins_stored     by the kind of the event
 --     joins_start, joins_happens       before anything has happened, and after any event that fits
-use Rattle.std.proofs.Common.{◌≡◌, ◌==◌, ◌&&◌, ◌+◌, ℕ, List, [], ◌∷◌, ◌++◌, Ok, Bool, true, false, not, Option, None, Some, IsSomeAnd, find, slice_get, slice_set, is_none, refl, sym, ap, ◌∙◌, subst}
+use Rattle.std.proofs.Common.{◌≡◌, ◌==◌, ◌&&◌, ◌||◌, ◌+◌, ℕ, List, [], ◌∷◌, ◌++◌, Ok, Bool, true, false, not, Option, None, Some, IsSomeAnd, find, slice_get, slice_set, is_none, refl, sym, ap, ◌∙◌, subst}
 use Rattle.std.specs.List.{list_all, list_any}
 use Rattle.std.specs.Cmp.Lexicographic.{pointwise}
 use Rattle.std.specs.FinMap.{get, insert, remove}
-use Rattle.std.proofs.lemmas.Bool.{eq-eqb, eqb-true, and_parts, and_from}
+use Rattle.std.proofs.lemmas.Bool.{eq-eqb, eqb-true, and_parts, and_from, false_from_ne_true, or_left, or_right}
 use Rattle.std.proofs.lemmas.Cmp.{nat_eq_equiv, nat_list_eq_equiv}
+use Rattle.std.proofs.lemmas.List.Folds.{list_any-append}
 use Rattle.jc_world.proofs.Numbered.{some_of}
 use Rattle.jc_types.specs.declared.caller.Caller.{Caller}
 use Rattle.jc_types.specs.declared.config.Config.{Config}
@@ -26,12 +27,11 @@ use Rattle.jc_stripe.specs.Tickets.{Ticket, ProcessClaim, JoinClaim}
 use Rattle.jc_stripe.specs.State.{State, IsJoined}
 use Rattle.jc_stripe.specs.Phases.{Withdraws, with_joiner, without_joiner}
 use Rattle.jc_world.specs.declared.command.Command.{Command}
-use Rattle.jc_world.specs.declared.command.Sweep.{Sweep}
 use Rattle.jc_world.specs.declared.event.Part.{Part}
 use Rattle.jc_world.specs.declared.event.Premises.{Premises}
 use Rattle.jc_world.specs.declared.event.Shown.{Shown}
 use Rattle.jc_world.specs.declared.event.Shown.TheVariants as shown
-use Rattle.jc_world.specs.Calls.{CallState, has_number, open_keys, op_at, is_turn, opened, settle, drop_call, new_call}
+use Rattle.jc_world.specs.Calls.{CallState, SweepState, has_number, open_keys, op_at, is_turn, opened, settle, drop_call, new_call}
 use Rattle.jc_world.specs.declared.event.WorldEvent.{WorldEvent}
 use Rattle.jc_world.specs.declared.event.WorldEvent.TheVariants as event
 use Rattle.jc_world.specs.World.{WorldState, Parts, home, stripe_for, start, open_call, of_call, part_of, is_join, join_of, is_joined, joins_without}
@@ -45,12 +45,12 @@ use Rattle.jc_world.proofs.Shares.{is_some_and, set_cases, found_test, fact_foun
 use Rattle.jc_world.proofs.Underway.{find_over, find_pushed, of_call-at, same_bytes}
 use Rattle.jc_world.proofs.Settling.{open_now, still_called, IsTurnOf}
 use Rattle.jc_world.proofs.LoadKeys.{joins_get}
-use Rattle.jc_world.proofs.Joiners.{joiner_of, any_kept, any_front, any_last, joined_resolved, joined_dissolved, joined_front, joined_last, find_kept, called_resolved, called_dissolved, once_pushed, once_filter, waited_on, each_joined, join_is, joined_no_part, other_key, none_inserted, none_removed, part_other, each_both}
+use Rattle.jc_world.proofs.Joiners.{joiner_of, any_kept, joined_resolved, joined_dissolved, joined_front, joined_last, find_kept, called_resolved, called_dissolved, once_pushed, once_filter, waited_on, each_joined, join_is, joined_no_part, other_key, none_inserted, none_removed, part_other, each_both}
 use Rattle.jc_world.proofs.Beginning.{MayStart, may_start_at, may_turn, part_turn, start_is}
 use Rattle.jc_world.proofs.Callers.{looked_called, Picking, picking, picking_turn}
-use Rattle.jc_world.proofs.Facts.{denied, missing, refuted}
+use Rattle.jc_world.proofs.Facts.{denied, missing}
 
--- 1. What goes on.
+-- 1. What stays.
 
 -- a joiner is of its session, its call and its key
 joiner_is : (caller : Caller) (key : Bytes) (j : Joiner) → is_joiner_of caller key j ≡ true → (j.caller.session ≡ caller.session) × (j.caller.call ≡ caller.call) × (j.key ≡ key)
@@ -59,18 +59,18 @@ joiner_is caller key j h =
     let pair = and_parts (j.caller.session == caller.session) (j.caller.call == caller.call) parts.0 in
     (eqb-true j.caller.session caller.session pair.0, eqb-true j.caller.call caller.call pair.1, sym (same_bytes key j.key parts.1))
 
--- each join goes on to another world, with the same joins
+-- each join stays in another world, with the same joins
 pub kept_joins : (w n : WorldState) → ((j : JoinClaim) → is_joined w j.caller.call j.key ≡ true → IsWaitedFor w j → IsWaitedFor n j) → IsSoundWorld w → AllWaitedFor n w.joins
 kept_joins w n f old = each_both (λ (j : JoinClaim). is_joined w j.caller.call j.key ≡ true) (IsWaitedFor w) (IsWaitedFor n) w.joins f (each_joined w.joins) old.joins
 
--- what is there stays there where the stripe of a key is another
+-- what is there stays there if the stripe of a key is another
 out_on : (w : WorldState) (key : Bytes) (from to : State) (j : JoinClaim) → stripe_for w key ≡ Some from → (IsJoined from j → IsJoined to j)
     → IsSomeAnd (stripe_for w j.key) (λ s. IsJoined s j) → IsSomeAnd (slice_get (slice_set w.stripes (home w key) to) (home w j.key)) (λ s. IsJoined s j)
 out_on w key from to j there keeps =
     let F : State → Type 0 = λ s. IsJoined s j in
     at_stripe w.stripes (home w key) (home w j.key) from to (λ o x. IsSomeAnd o F → IsSomeAnd x F) there keeps (λ h. h)
 
--- each joiner goes on where the stripe of a key is another
+-- each joiner stays if the stripe of a key is another
 called_set : (w n : WorldState) (key : Bytes) (from to : State) → stripe_for w key ≡ Some from → (AllCalled w (home w key) from.joiners → AllCalled n (home w key) to.joiners)
     → ((m : ℕ) (js : List Joiner) → (home w key ≡ m → ⊥) → AllCalled w m js → AllCalled n m js) → IsSoundWorld w
     → (m : ℕ) (s : State) → slice_get (slice_set w.stripes (home w key) to) m ≡ Some s → AllCalled n m s.joiners
@@ -91,7 +91,7 @@ joins_stored w store premises fresh old =
       once = old.once;
     }
 
--- a key's part goes on
+-- a key's part stays
 pub joins_parted : (w : WorldState) (call : ℕ) (key : Bytes) (was part : Part) (premises : Premises) (store : Cache) → part_of w call key ≡ Some was → part.reservation.caller.call ≡ was.reservation.caller.call → IsSoundWorld w
     → HasJoins (record w { parts = insert w.parts key part; premises = premises; store = store })
 joins_parted w call key was part premises store is same old =
@@ -120,17 +120,17 @@ joins_called w call session command old =
     }
 
 -- a call takes the keys of a stripe
-joins_looked : (w : WorldState) (call : ℕ) (keys : List Bytes) (s : Sweep) (u : CallState) → open_call w call ≡ Some u → u.sweep ≡ Some s → IsSoundWorld w → HasJoins (with_look w call keys s)
-joins_looked w call keys s u here sweeps old =
-    let new : WorldState = with_look w call keys s in
-    let still = looked_called w call keys s u here sweeps in
+joins_looked : (w : WorldState) (call stripe : ℕ) (keys : List Bytes) (s : SweepState) (u : CallState) → open_call w call ≡ Some u → u.sweep ≡ Some s → IsSoundWorld w → HasJoins (with_look w call stripe keys s)
+joins_looked w call stripe keys s u here sweeps old =
+    let new : WorldState = with_look w call stripe keys s in
+    let still = looked_called w call stripe keys s u here sweeps in
     record {
       joins = kept_joins w new (λ j t h. record { out = h.out; call = still j.caller.call j.caller.session j.key Get h.call; no_part = h.no_part }) old;
       called = λ m s at. each_map (IsCalled w m) (IsCalled new m) s.joiners (λ j h. record { home_is = h.home_is; join = h.join; call = still j.caller.call j.caller.session j.key Get h.call }) (old.called m s at);
       once = old.once;
     }
 
--- a call that has joined goes on where a key that isn't joined is settled
+-- a call that has joined continues if a key that isn't joined is settled
 still_under : (w : WorldState) (call : ℕ) (key : Bytes) → is_joined w call key ≡ false → IsTurnOf w.calls call key → (number session : ℕ) (q : Bytes) → is_joined w number q ≡ true
     → IsSomeAnd (open_call w number) (IsCallOf session q Get) → IsSomeAnd (find (has_number number) (settle call key w.calls)) (IsCallOf session q Get)
 still_under w call key free turn number session q joined h = still_called call key number session q Get w.calls (other_key w call key number q free joined) turn h
@@ -151,7 +151,7 @@ still_beside : (w : WorldState) (call : ℕ) (u : CallState) → open_call w cal
 still_beside w call u is free number session q joined h =
     let P : Option CallState → Type 0 = λ o. IsSomeAnd o (IsCallOf session q Get) in
     let v = some_of (open_call w number) (IsCallOf session q Get) h in
-    let apart = refuted (call == number) (λ e.
+    let apart = false_from_ne_true (call == number) (λ e.
     let mine : number ≡ call = sym (eqb-true call number e) in
     let t : Some v.0 ≡ Some u = sym v.1 ∙ ap (open_call w) mine ∙ is in
     let same : v.0 ≡ u = cc in
@@ -165,7 +165,7 @@ still_beside w call u is free number session q joined h =
 abbrev phase_world : WorldState → Bytes → State → List Event → List CallState → Parts → WorldState
 phase_world w key to order calls parts = record w { stripes = slice_set w.stripes (home w key) to; order = order; calls = calls; parts = parts }
 
--- the stripe keeps its joiners, and the calls that have joined go on without a part
+-- the stripe keeps its joiners, and the calls that have joined continue without a part
 joins_phase : (w : WorldState) (key : Bytes) (from to : State) (order : List Event) (calls : List CallState) (parts : Parts) → stripe_for w key ≡ Some from
     → ((j : JoinClaim) → IsJoined from j → IsJoined to j)
     → ((n : WorldState) → AllCalled n (home w key) from.joiners → AllCalled n (home w key) to.joiners)
@@ -198,7 +198,7 @@ same_called m from to same n h = subst (AllCalled n m) (sym same) h
 none_reserved : (w : WorldState) (call : ℕ) (key : Bytes) (part : Part) → part.reservation.caller.call ≡ call → is_joined w call key ≡ false → (number : ℕ) (q : Bytes) → is_joined w number q ≡ true → part_of w number q ≡ None
     → of_call number (get (insert w.parts key part) q) ≡ None
 none_reserved w call key part call_is free number q joined none =
-    none_inserted w.parts key q part number none (λ same. ap (λ c. c == number) call_is ∙ refuted (call == number) (λ e. other_key w call key number q free joined (sym (eqb-true call number e)) same))
+    none_inserted w.parts key q part number none (λ same. ap (λ c. c == number) call_is ∙ false_from_ne_true (call == number) (λ e. other_key w call key number q free joined (sym (eqb-true call number e)) same))
 
 -- 4. The first phase.
 
@@ -221,11 +221,11 @@ joins_joined w u key op from to join there join_is to_is get_is may old =
     let session_is : join.caller.session ≡ u.caller.session = ap (λ (j : JoinClaim). j.caller.session) join_is in
     let call_is : join.caller.call ≡ u.caller.call = ap (λ (j : JoinClaim). j.caller.call) join_is in
     let key_is : join.key ≡ key = ap (λ (j : JoinClaim). j.key) join_is in
-    let on : (m : ℕ) (j : Joiner) → IsCalled w m j → IsCalled new m j = λ m j h. record { home_is = h.home_is; join = any_front (is_join j.caller.call j.key) w.joins (join ∷ []) h.join; call = h.call } in
+    let on : (m : ℕ) (j : Joiner) → IsCalled w m j → IsCalled new m j = λ m j h. record { home_is = h.home_is; join = list_any-append (is_join j.caller.call j.key) w.joins (join ∷ []) ∙ or_left _ _ h.join; call = h.call } in
     let its_call : IsSomeAnd (open_call w join.caller.call) (IsCallOf join.caller.session join.key Get) = is_some_and (open_call w join.caller.call) (IsCallOf join.caller.session join.key Get) u (ap (open_call w) call_is ∙ may.here) (sym session_is, ap (op_at u) key_is ∙ may.op_is ∙ ap Some get_is, ap (is_turn u) key_is ∙ may.turn) in
     let one : IsCalled new (home w key) next = record {
       home_is = ap (home w) key_is;
-      join = any_last (is_join join.caller.call join.key) w.joins join (and_from _ _ (nat_eq_equiv.refl join.caller.call) (nat_list_eq_equiv.refl join.key));
+      join = list_any-append (is_join join.caller.call join.key) w.joins (join ∷ []) ∙ or_right _ _ (ap (λ b. b || false) (and_from _ _ (nat_eq_equiv.refl join.caller.call) (nat_list_eq_equiv.refl join.key)));
       call = its_call;
     } in
     let F : State → Type 0 = λ s. IsJoined s join in
@@ -280,7 +280,7 @@ joins_started w new u key op from to seen there h may old = absurd h
 
 -- a call with a part has no join of its key
 unjoined_part : (w : WorldState) (call : ℕ) (key : Bytes) (part : Part) → part_of w call key ≡ Some part → IsSoundWorld w → is_joined w call key ≡ false
-unjoined_part w call key part is old = refuted (is_joined w call key) (λ t. let e : Some part ≡ None = sym is ∙ joined_no_part w call key t old.joins in cc)
+unjoined_part w call key part is old = false_from_ne_true (is_joined w call key) (λ t. let e : Some part ≡ None = sym is ∙ joined_no_part w call key t old.joins in cc)
 
 -- by what is shown of the last phase
 joins_ended : (w new : WorldState) (call : ℕ) (key : Bytes) (part : Part) (from to : State) (seen : Shown) → part_of w call key ≡ Some part → stripe_for w key ≡ Some from → Ends w call key part from to seen new → IsSoundWorld w → HasJoins new
@@ -307,7 +307,7 @@ joins_withdrawn w key claim from to there h old =
 
 -- 6. An answer is picked up.
 
--- the calls that go on: all of them, or all but the one at the key
+-- the calls that continue: all of them, or all but the one at the key
 record GoOn (w : WorldState) (call : ℕ) (key : Bytes) (calls : List CallState) : Type 0 where
   keeps : (number session : ℕ) (q : Bytes) → (number ≡ call → q ≡ key → ⊥) → IsSomeAnd (open_call w number) (IsCallOf session q Get) → IsSomeAnd (find (has_number number) calls) (IsCallOf session q Get)
 
@@ -315,7 +315,7 @@ record GoOn (w : WorldState) (call : ℕ) (key : Bytes) (calls : List CallState)
 all_go_on : (w : WorldState) (call : ℕ) (key : Bytes) → GoOn w call key w.calls
 all_go_on w call key = record { keeps = λ number session q apart h. h }
 
--- the others do, where the key is settled
+-- the others do, if the key is settled
 others_go_on : (w : WorldState) (call : ℕ) (key : Bytes) → IsTurnOf w.calls call key → GoOn w call key (settle call key w.calls)
 others_go_on w call key turn = record { keeps = λ number session q apart h. still_called call key number session q Get w.calls apart turn h }
 
@@ -342,7 +342,7 @@ joins_picked w call key join from to calls joined there is go old =
     let out : (j : JoinClaim) → not (is_join call key j) ≡ true → IsJoined from j → IsJoined to j = λ j other h.
     let J : Option Joiner → Type 0 = λ o. IsSomeAnd o (λ x. x.load ≡ j.load) in
     subst J (sym (ap (joiner_of j.caller j.key) joiners
-    ∙ find_kept (is_joiner_of j.caller j.key) (λ x. not (its x)) from.joiners (λ x t. ap not (refuted (its x) (λ e.
+    ∙ find_kept (is_joiner_of j.caller j.key) (λ x. not (its x)) from.joiners (λ x t. ap not (false_from_ne_true (its x) (λ e.
     let mine = joiner_is j.caller j.key x t in
     let same = joiner_is join.caller join.key x e in
     denied (is_join call key j) other (join_of_is call j.caller.call key j.key (sym mine.2 ∙ same.2 ∙ p.join_key) (sym mine.1 ∙ same.1 ∙ p.call_is))))))) h
@@ -351,7 +351,7 @@ joins_picked w call key join from to calls joined there is go old =
     let apart = λ (mine : j.caller.call ≡ call) (at : j.key ≡ key). other at mine (session_at w call key join p j.caller.call j.caller.session j.key mine h.call) in
     record {
       home_is = h.home_is;
-      join = any_kept (is_join j.caller.call j.key) (λ x. not (is_join call key x)) w.joins (λ x t. ap not (refuted (is_join call key x) (λ e.
+      join = any_kept (is_join j.caller.call j.key) (λ x. not (is_join call key x)) w.joins (λ x t. ap not (false_from_ne_true (is_join call key x) (λ e.
           let mine = join_is j.caller.call j.key x t in
           let same = join_is call key x e in
           apart (sym mine.0 ∙ same.0) (sym mine.1 ∙ same.1)))) h.join;
@@ -406,7 +406,7 @@ joins_left w call fit old = go (open_call w call) refl
 -- by the kind of the event
 pub joins_happens : (w new : WorldState) (e : WorldEvent) (seen : Shown) → fits w e ≡ true → Happens w e seen new → (IsReport e → IsSoundWorld new) → IsSoundWorld w → HasJoins new
 joins_happens w new (event.Call call session command) seen fit h back old = subst HasJoins (sym h.1) (joins_called w call session command old)
-joins_happens w new (event.Look call stripe) seen fit h back old = subst HasJoins (sym h.9) (joins_looked w call h.6 h.1 h.0 h.2 h.3 old)
+joins_happens w new (event.Look call stripe) seen fit h back old = subst HasJoins (sym h.9) (joins_looked w call stripe h.6 h.1 h.0 h.2 h.3 old)
 joins_happens w new (event.Start call key) seen fit h back old = joins_started w new h.0 key h.1 h.4 h.6 seen h.5 h.7 (may_start_at w call key h.0 h.1 fit h.2 h.3 old) old
 joins_happens w new (event.Read call key) seen fit h back old = subst HasJoins (sym h.3) (joins_parted w call key h.0 _ _ w.store h.1 refl old)
 joins_happens w new (event.Say call key answer) seen fit h back old = subst HasJoins (sym h.3) (joins_parted w call key h.0 _ _ w.store h.1 refl old)

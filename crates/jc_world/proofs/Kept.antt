@@ -101,7 +101,7 @@ hold_writer on w h l q e =
 undisturbed : (on w l : Bool) → (on && (w && l && false)) ≡ true → ⊥
 undisturbed on w l h = let t = (and_parts (w && l) false ((and_parts on (w && l && false) h).1)).1 in cc
 
--- what holds of what is there goes on to what follows from it
+-- what holds of what is there holds of what follows from it
 pub some_map : {A : Type 0} (o : Option A) (P Q : A → Type 0) → ((x : A) → P x → Q x) → IsSomeAnd o P → IsSomeAnd o Q
 some_map None P Q f h = h
 some_map (Some x) P Q f h = f x h
@@ -134,7 +134,7 @@ same_test true false h = cc
 same_test false true h = cc
 same_test false false h = refl
 
--- what a key's part, its entry and the store say, where the entry goes
+-- what a key's part, its entry and the store say, if the entry is changed
 told_on : (o : Option Part) (stored entry next : Option Bytes) → (Agrees entry stored → Agrees next stored) → KeyAgrees o stored entry → KeyAgrees o stored next
 told_on None stored entry next f h = f h
 told_on (Some part) stored entry next f h = go part.progress h
@@ -182,7 +182,7 @@ is_out_reserved s key part h = ap (is_reserved s) (sym h.key_is) ∙ out_reserve
 pub unheld : (w : WorldState) (key : Bytes) (s : State) → stripe_for w key ≡ Some s → is_reserved s key ≡ false → IsSoundWorld w → get w.parts key ≡ None
 unheld w key s at free old = missing (get w.parts key) (λ p e. let t = is_out_reserved s key p (held_at w key p s e at old) in cc)
 
--- where no call is under way, none is found
+-- if no call is under way, none is found
 none_under : (call : ℕ) (calls : List CallState) (u : CallState) → calls ≡ [] → find (has_number call) calls ≡ Some u → ⊥
 none_under call calls u none h = let e : None ≡ Some u = ap (find (has_number call)) (sym none) ∙ h in cc
 
@@ -190,7 +190,7 @@ none_under call calls u none h = let e : None ≡ Some u = ap (find (has_number 
 begun_before : (w : WorldState) (call : ℕ) (u : CallState) → open_call w call ≡ Some u → IsSoundWorld w → w.fresh ≡ true → ⊥
 begun_before w call u is old fresh = none_under call w.calls u (old.idle fresh) is
 
--- nor is it where a key has a part
+-- nor is it if a key has a part
 worn : (w : WorldState) (key : Bytes) (part : Part) → get w.parts key ≡ Some part → IsSoundWorld w → w.fresh ≡ true → ⊥
 worn w key part there old fresh =
     let on = some_of (open_call w part.reservation.caller.call) (λ u. op_at u key ≡ Some part.reservation.op) (call_on w key part there old) in
@@ -293,7 +293,7 @@ told_report Processing first report stored entry due honest h = cc
 told_report (Processed loaded process) first report stored entry due honest h = cc
 told_report (WritingEffect loaded process is_changed was) first report stored entry due honest h = record { written = h.written; unwritten = h.unwritten; honest = λ e. same_test is_changed (is_done report) honest }
 
--- a held key goes on: whom it asked stays, and what is then known of all keys holds
+-- a held key stays held: whom it asked stays, and what is then known of all keys holds
 parts_progressed : (w : WorldState) (call : ℕ) (key : Bytes) (part : Part) (p : Progress) (store : Cache) (premises : Premises) → part_of w call key ≡ Some part
     → (is_asked part.progress part.reservation.first ≡ true → is_asked p part.reservation.first ≡ true)
     → (all_hold (record w { premises = premises }) ≡ true → AllTold w (insert w.parts key (record part { progress = p })) store) → IsSoundWorld w
@@ -418,7 +418,7 @@ parts_called w call session command fit old =
 
 -- 6. The first phase.
 
--- a part stays held, where its reservation does
+-- a part stays held, if its reservation does
 held_on : (from next : State) (key : Bytes) (part : Part) → IsOut next part.reservation → IsHeld from key part → IsHeld next key part
 held_on from next key part out h = record { key_is = h.key_is; out = out; asked = h.asked }
 
@@ -431,7 +431,7 @@ parts_over w call u calls is old = record {
   idle = λ f. absurd (begun_before w call u is old f);
 }
 
--- a step was put down
+-- a step was appended
 held_stepped : (caller : Caller) (key : Bytes) (op : Op) (from next : State) (done : StepDone) (q : Bytes) (p : Part) → Begins from caller key op (begun.Done done) next → IsHeld from q p → IsHeld next q p
 held_stepped caller key op from next done q p begins h =
     let R : List Reservation → Type 0 = λ rs. find (is_key p.reservation.key) rs ≡ Some p.reservation in
@@ -653,14 +653,14 @@ held_removed w key from next q p at left old e =
 abbrev EndsBy : Bytes → Part → State → State → StepDone → Type 0
 EndsBy key part from next done = Steps (after_commit from part.reservation done.place) part.reservation.caller key part.reservation.op (out_of part) (callers_of part.reservation.number from.joiners) done next
 
--- a commit's own entry agrees with the store, where what the operation leaves does
+-- a commit's own entry agrees with the store, if what the operation leaves does
 agrees_own : (key : Bytes) (part : Part) (from next : State) (done : StepDone) (stored : Option Bytes) → EndsBy key part from next done
     → Agrees (entry_after part.reservation.op (entry_at from.cache key) (out_of part)) stored → Agrees (entry_at next.cache key) stored
 agrees_own key part from next done stored steps h =
     agrees_stepped (after_commit from part.reservation done.place) next part.reservation.caller key part.reservation.op (out_of part) (callers_of part.reservation.number from.joiners) done key stored steps
     (let P : Bool → Type 0 = λ b. Agrees (cond b (entry_after part.reservation.op (entry_at from.cache key) (out_of part)) (entry_at from.cache key)) stored in subst P (sym (tied key)) h)
 
--- and the others go on to
+-- and the others still do
 agrees_other : (key : Bytes) (part : Part) (from next : State) (done : StepDone) (q : Bytes) (stored : Option Bytes) → EndsBy key part from next done
     → eq_by_cmp key_cmp q key ≡ false → Agrees (entry_at from.cache q) stored → Agrees (entry_at next.cache q) stored
 agrees_other key part from next done q stored steps apart h =

@@ -1,7 +1,8 @@
--- How many events a phase puts down.
+-- How many events a phase appends.
 --     begun_length, ended_length     a victim, a step, the steps that share its load, of at most all joiners, and an eviction of its key
 --     has_room                       an order that has room for them has it for what a phase puts down
-use Rattle.std.proofs.Common.{◌≡◌, ◌+◌, ◌≤◌, ℕ, suc, List, [], ◌∷◌, ◌++◌, length, map, filter, Bool, true, false, cond, Option, None, Some, refl, ap, arith, length-append, ◌-◌}
+use Rattle.std.proofs.Common.{◌≡◌, ◌+◌, ◌≤◌, ℕ, suc, List, [], ◌∷◌, ◌++◌, length, map, filter, Bool, true, false, cond, Option, None, Some, ap, arith, length-append, ◌-◌}
+use Rattle.std.proofs.lemmas.List.{length-map}
 use Rattle.jc_types.specs.declared.caller.Caller.{Caller}
 use Rattle.jc_types.specs.declared.limits.TheConstants.{STEP_PLACES, JOINERS_MAX}
 use Rattle.jc_model.specs.declared.event.Op.{Op}
@@ -24,15 +25,10 @@ victim_length : (victim : Option Bytes) → length (victim_events victim) ≤ 1
 victim_length None = omega arith
 victim_length (Some key) = omega arith
 
--- and at most one behind it
+-- and at most one after it
 evicted_length : (key : Bytes) (cause : Option Cause) → length (evicted_events key cause) ≤ 1
 evicted_length key None = omega arith
 evicted_length key (Some cause) = omega arith
-
--- as many as before
-map_length : {A B : Type 0} (f : A → B) (xs : List A) → length (map f xs) ≡ length xs
-map_length f [] = refl
-map_length f (x ∷ xs) = ap suc (map_length f xs)
 
 -- at most as many
 filter_length : {A : Type 0} (p : A → Bool) (xs : List A) → length (filter p xs) ≤ length xs
@@ -51,13 +47,13 @@ group_length place group =
     let b = length-append front (step_event group ∷ shared) in
     let v = victim_length group.victim in
     let o = evicted_length group.step.key group.evicted in
-    let m = map_length (shared_event (step_place place group) group.step.key group.step.out.load) group.joined in
+    let m = length-map group.joined (shared_event (step_place place group) group.step.key group.step.out.load) in
     omega arith
 
 -- a load has at most as many callers as there are joiners
 callers_length : (load : ℕ) (js : List Joiner) → length (callers_of load js) ≤ length js
 callers_length load js =
-    let m : length (callers_of load js) ≡ length (filter (waits_for load) js) = map_length (λ (j : Joiner). j.caller) (filter (waits_for load) js) in
+    let m : length (callers_of load js) ≡ length (filter (waits_for load) js) = length-map (filter (waits_for load) js) (λ (j : Joiner). j.caller) in
     let f = filter_length (waits_for load) js in
     omega arith
 

@@ -5,6 +5,7 @@ pub mod Underway
 pub mod Settling
 pub mod NewCalls
 pub mod Looked
+pub mod Unseen
 pub mod Sweeps
 pub mod StripeKeys
 pub mod TaskLists

@@ -1,6 +1,6 @@
--- Each answer of a loader stands in one step, or is kept for its commit.
---     total          how many steps of a key have an answer of their own, and one more where one is kept
---     total_step     each event raises that by one where it is an answer for the key, and else leaves it
+-- Each answer of a loader is in one step, or is kept for its commit.
+--     total          how many steps of a key have an answer of their own, and one more if one is kept
+--     total_step     each event raises that by one if it is an answer for the key, and else leaves it
 --     total_run      so a run raises it by its answers
 use Rattle.std.proofs.Common.{inl, inr, ◌≡◌, ◌==◌, ◌&&◌, ◌+◌, ℕ, List, [], ◌∷◌, ◌++◌, length, map, drop, zip, count_by, Bool, true, false, cond, Option, None, Some, refl, sym, ap, ◌∙◌, arith}
 use Rattle.std.specs.Ordering.{eq_by_cmp}
@@ -9,7 +9,7 @@ use Rattle.std.specs.FinMap.{get, insert, remove, get-empty, get-insert, get-rem
 use Rattle.std.proofs.lemmas.Cmp.{nat_list_cmp_total}
 use Rattle.std.proofs.lemmas.List.Sums.{sum_by-cons, sum_by-append}
 use Rattle.std.proofs.Math.Seq.{drop-append_seam}
-use Rattle.std.proofs.lemmas.Bool.{and_parts}
+use Rattle.std.proofs.lemmas.Bool.{and_parts, not-true, and_right}
 use Rattle.jc_types.specs.declared.caller.Caller.{Caller}
 use Rattle.jc_types.specs.declared.config.Config.{Config}
 use Rattle.jc_model.specs.declared.event.Op.{Op}
@@ -55,7 +55,6 @@ use Rattle.jc_world.proofs.Kept.{unheld}
 use Rattle.jc_world.proofs.Noting.{noted_as}
 use Rattle.jc_world.proofs.Returns.{each_report}
 use Rattle.jc_world.proofs.Sounding.{Laws, sound_step}
-use Rattle.jc_world.proofs.Facts.{not_true}
 use Rattle.jc_world.proofs.Holding.{is_part}
 
 -- 1. What is counted.
@@ -76,7 +75,7 @@ none_victim : (key : Bytes) (victim : Option Bytes) → count_by (is_load key) (
 none_victim key None = refl
 none_victim key (Some k) = refl
 
--- nor one behind the step
+-- nor one after the step
 none_evicted : (key k : Bytes) (cause : Option Cause) → count_by (is_load key) (evicted_events k cause) ≡ 0
 none_evicted key k None = refl
 none_evicted key k (Some cause) = refl
@@ -119,17 +118,13 @@ unanswered : (b : Bool) (n m : ℕ) → b ≡ false → n ≡ m → n ≡ one_if
 unanswered b n m none same = let e : one_if b ≡ 0 = ap one_if none in omega arith
 
 -- two tests, of which the second fails
-and_false : (b : Bool) → (b && false) ≡ false
-and_false true = refl
-and_false false = refl
-
 -- what is kept of a key whose part is put in place
 loaded_inserted : (parts : Parts) (key q : Bytes) (part : Part) → (q ≡ key → is_load_given (out_of part).load ≡ is_loaded (get parts q)) → is_loaded (get (insert parts key part) q) ≡ is_loaded (get parts q)
 loaded_inserted parts key q part same =
     ap is_loaded (get-insert nat_list_cmp_total parts key part q)
     ∙ split q key (λ b. is_loaded (cond b (Some part) (get parts q)) ≡ is_loaded (get parts q)) same (λ apart. refl)
 
--- and where one goes for which nothing is kept
+-- and if one is removed for which nothing is kept
 loaded_removed : (parts : Parts) (key q : Bytes) → (q ≡ key → is_loaded (get parts q) ≡ false) → is_loaded (get (remove parts key) q) ≡ is_loaded (get parts q)
 loaded_removed parts key q none =
     ap is_loaded (get-remove nat_list_cmp_total parts key q)
@@ -144,7 +139,7 @@ no_answer : (o : Option Part) (part : Part) → o ≡ Some part → has_progress
 no_answer o part is waits = go part.progress (sym (ap (has_progress waits_for_load) is) ∙ waits)
   where
     go : (p : Progress) → waits_for_load p ≡ true → is_load_given (out_in p).load ≡ false
-    go (Loading answer) h = not_true (is_load_given answer) h
+    go (Loading answer) h = not-true (is_load_given answer) h
     go (Writing is_changed report) h = refl
     go Processing h = refl
     go (Processed loaded process) h = cc
@@ -166,7 +161,7 @@ no_touch : (o : Option Part) (part : Part) → o ≡ Some part → has_progress 
 no_touch o part is untouched = go part.progress (sym (ap (has_progress is_untouched) is) ∙ untouched)
   where
     go : (p : Progress) → is_untouched p ≡ true → is_load_given (out_in p).load ≡ false
-    go (Loading answer) h = not_true (is_load_given answer) h
+    go (Loading answer) h = not-true (is_load_given answer) h
     go (Writing is_changed report) h = refl
     go Processing h = refl
     go (Processed loaded process) h = cc
@@ -237,7 +232,7 @@ total_started w new u key op from to (shown.PutOff refusal) q there h old = ap (
 total_started w new u key op from to (shown.Stepped seen) q there h old =
     let steps = h.0.2 in
     let added_is = step_loads from to u.caller key op nothing_said [] (step_of seen) q steps in
-    let none : one_if (pointwise ◌==◌ q key && false) ≡ 0 = ap one_if (and_false (pointwise ◌==◌ q key)) in
+    let none : one_if (pointwise ◌==◌ q key && false) ≡ 0 = ap one_if (and_right (pointwise ◌==◌ q key) false refl) in
     let more = none_append q w.order (added from to) in
     let kept = one_if (is_loaded (get w.parts q)) in
     let grows : count_by (is_load q) (w.order ++ added from to) + kept ≡ count_by (is_load q) w.order + kept = ap (λ n. n + kept) (let e : count_by (is_load q) (w.order ++ added from to) ≡ count_by (is_load q) w.order = omega arith in e) in
@@ -262,7 +257,7 @@ total_started w new u key op from to (shown.Processes entry) q there h old =
 total_started w new u key op from to shown.Joins q there h old = ap (λ (x : WorldState). total x q) h.2
 total_started w new u key op from to seen q there h old = absurd h
 
--- the last phase: what was kept stands in the step
+-- the last phase: what was kept is in the step
 total_ended : (w new : WorldState) (call : ℕ) (key : Bytes) (part : Part) (from to : State) (seen : Shown) (q : Bytes) → part_of w call key ≡ Some part → part.reservation.key ≡ key → Ends w call key part from to seen new → total new q ≡ total w q
 total_ended w new call key part from to (shown.Stepped seen) q is key_is h =
     let r = part.reservation in

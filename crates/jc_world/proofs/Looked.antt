@@ -2,14 +2,14 @@
 --     Taken            what is left of the call: what it does or may still do at a key it did before, and what it did it does
 --     taken_of         so it is
 --     calls_replaced   the calls fit another world
---     still_replaced   a call goes on at each of its keys
+--     still_replaced   a call continues at each of its keys
 --     each_replaced    a fact of each call
 --     found_replaced   and the call is found by its number
---     place_at         where the call stands
+--     place_at         where the call is
 --     remove_set       what is put at a place and taken out is taken out
 --     look_put, look_out
 --                      what is left of the call is put in its place, or taken out
-use Rattle.std.proofs.Common.{◌≡◌, ◌==◌, ◌+◌, ℕ, zero, suc, List, [], ◌∷◌, ◌++◌, Bool, true, false, cond, Option, None, Some, IsSomeAnd, find, nat_lt, position, slice_get, slice_set, refl, sym, ap, ◌∙◌, subst, arith}
+use Rattle.std.proofs.Common.{◌≡◌, ◌==◌, ◌+◌, ℕ, zero, suc, List, [], ◌∷◌, ◌++◌, Bool, true, false, cond, Option, None, Some, IsSomeAnd, find, position, slice_get, slice_set, refl, sym, ap, ◌∙◌, subst, arith}
 use Rattle.std.specs.List.{list_all, cons_option, position_from, remove}
 use Rattle.std.proofs.lemmas.Iterator.Adapters.{position_from-zero}
 use Rattle.std.specs.Map.{lookup}
@@ -19,14 +19,13 @@ use Rattle.std.proofs.lemmas.Bool.{and_parts, and_from}
 use Rattle.jc_types.specs.declared.caller.Caller.{Caller}
 use Rattle.jc_model.specs.declared.event.Op.{Op}
 use Rattle.jc_model.specs.Cache.{Bytes}
-use Rattle.jc_world.specs.declared.command.Sweep.{Sweep}
-use Rattle.jc_world.specs.Calls.{CallState, has_number, at_each, op_at, op_found, op_or_found, op_for, open_keys, open_in, is_at, is_turn, takes_turns, is_going, going_on, next_sweep, with_found, replaced, look}
+use Rattle.jc_world.specs.Calls.{CallState, SweepState, has_looked_at_each, has_number, at_each, op_at, op_found, op_or_found, op_for, open_keys, open_in, is_at, is_turn, takes_turns, is_going, going_on, next_sweep, with_found, replaced, look}
 use Rattle.jc_world.specs.World.{WorldState}
 use Rattle.jc_world.specs.Sound.{is_apart, FitsCall, CallsFit, IsCallOf, Each}
 use Rattle.jc_world.proofs.Facts.{same_found}
 use Rattle.jc_world.proofs.Found.{lookup-found, op_of_found, still_done, first_kept}
 use Rattle.jc_world.proofs.Settling.{going_is, none_left, apart_of, apart_from, goes_behind, goes_here}
-use Rattle.jc_world.proofs.Underway.{calls_on}
+use Rattle.jc_world.proofs.Underway.{calls_all}
 
 -- 1. A call that has taken keys.
 
@@ -37,29 +36,30 @@ pub record Taken (u v : CallState) : Type 0 where
   pub turns : (q : Bytes) → is_turn u q ≡ true → is_turn v q ≡ true
 
 -- the sweep behind a look does the same at what it finds
-op_of_next : (stripes : ℕ) (s : Sweep) (op : Op) → op_found (next_sweep stripes s) ≡ Some op → s.op ≡ op
-op_of_next stripes s op h =
-    elim (nat_lt (s.stripe + 1) stripes) as (λ b. op_found (cond b (Some (record s { stripe = s.stripe + 1 })) None) ≡ Some op → s.op ≡ op) [
-      | true ↦ λ h. let is : s.op ≡ op = cc in is
-      | false ↦ λ h. cc
+op_of_next : (stripes stripe : ℕ) (s : SweepState) (op : Op) → op_found (next_sweep stripes stripe s) ≡ Some op → s.op ≡ op
+op_of_next stripes stripe s op h =
+    let looked = s.looked ++ stripe ∷ [] in
+    elim (has_looked_at_each looked stripes) as (λ b. op_found (cond b None (Some (record s { looked = looked }))) ≡ Some op → s.op ≡ op) [
+      | true ↦ λ h. cc
+      | false ↦ λ h. let is : s.op ≡ op = cc in is
     ] h
 
-found_was : (stripes : ℕ) (keys : List Bytes) (s : Sweep) (u : CallState) (q : Bytes) (op : Op) → u.sweep ≡ Some s → op_for (with_found stripes keys s u) q ≡ Some op → op_for u q ≡ Some op
-found_was stripes keys s u q op sweeps h =
+found_was : (stripes stripe : ℕ) (keys : List Bytes) (s : SweepState) (u : CallState) (q : Bytes) (op : Op) → u.sweep ≡ Some s → op_for (with_found stripes stripe keys s u) q ≡ Some op → op_for u q ≡ Some op
+found_was stripes stripe keys s u q op sweeps h =
     go (lookup test u.tasks) (lookup test (at_each s.op keys)) (λ o. op_of_found test s.op keys o)
-    (ap (op_or_found (next_sweep stripes s)) (sym (lookup-found test u.tasks (at_each s.op keys))) ∙ h)
+    (ap (op_or_found (next_sweep stripes stripe s)) (sym (lookup-found test u.tasks (at_each s.op keys))) ∙ h)
   where
     test : Bytes → Bool
     test = pointwise ◌==◌ q
 
-    go : (o p : Option (Option Op)) → ((x : Option Op) → p ≡ Some x → x ≡ Some s.op) → op_or_found (next_sweep stripes s) (option_or o p) ≡ Some op → op_or_found u.sweep o ≡ Some op
+    go : (o p : Option (Option Op)) → ((x : Option Op) → p ≡ Some x → x ≡ Some s.op) → op_or_found (next_sweep stripes stripe s) (option_or o p) ≡ Some op → op_or_found u.sweep o ≡ Some op
     go (Some x) p is h = h
     go None (Some x) is h = ap op_found sweeps ∙ sym (is x refl) ∙ h
-    go None None is h = ap op_found sweeps ∙ ap Some (op_of_next stripes s op h)
+    go None None is h = ap op_found sweeps ∙ ap Some (op_of_next stripes stripe s op h)
 
 -- the first open key stays the first
-found_turns : (stripes : ℕ) (keys : List Bytes) (s : Sweep) (u : CallState) (q : Bytes) → is_turn u q ≡ true → is_turn (with_found stripes keys s u) q ≡ true
-found_turns stripes keys s u q h = by (takes_turns u.kind) h
+found_turns : (stripes stripe : ℕ) (keys : List Bytes) (s : SweepState) (u : CallState) (q : Bytes) → is_turn u q ≡ true → is_turn (with_found stripes stripe keys s u) q ≡ true
+found_turns stripes stripe keys s u q h = by (takes_turns u.kind) h
   where
     at : (o : Option Bytes) → slice_get (open_keys u) 0 ≡ o → is_at o q ≡ true → is_at (slice_get (open_in (u.tasks ++ at_each s.op keys)) 0) q ≡ true
     at None e h = cc
@@ -69,19 +69,19 @@ found_turns stripes keys s u q h = by (takes_turns u.kind) h
     by true h = at (slice_get (open_keys u) 0) refl h
     by false h = refl
 
-pub taken_of : (stripes : ℕ) (keys : List Bytes) (s : Sweep) (u v : CallState) → u.sweep ≡ Some s → going_on (with_found stripes keys s u) ≡ Some v → Taken u v
-taken_of stripes keys s u v sweeps h =
-    subst (Taken u) (sym (going_is (with_found stripes keys s u) v h))
+pub taken_of : (stripes stripe : ℕ) (keys : List Bytes) (s : SweepState) (u v : CallState) → u.sweep ≡ Some s → going_on (with_found stripes stripe keys s u) ≡ Some v → Taken u v
+taken_of stripes stripe keys s u v sweeps h =
+    subst (Taken u) (sym (going_is (with_found stripes stripe keys s u) v h))
     (record {
       caller_is = refl;
-      was = λ q op is. found_was stripes keys s u q op sweeps is;
+      was = λ q op is. found_was stripes stripe keys s u q op sweeps is;
       goes = λ q op is. still_done u.tasks (at_each s.op keys) q op is;
-      turns = λ q is. found_turns stripes keys s u q is;
+      turns = λ q is. found_turns stripes stripe keys s u q is;
     })
 
 -- a call with an open key isn't over by a look
-pub taken_on : (stripes : ℕ) (keys : List Bytes) (s : Sweep) (u : CallState) (q : Bytes) (op : Op) → op_at u q ≡ Some op → going_on (with_found stripes keys s u) ≡ None → ⊥
-taken_on stripes keys s u q op is over = none_left (with_found stripes keys s u) q op over (still_done u.tasks (at_each s.op keys) q op is)
+pub taken_on : (stripes stripe : ℕ) (keys : List Bytes) (s : SweepState) (u : CallState) (q : Bytes) (op : Op) → op_at u q ≡ Some op → going_on (with_found stripes stripe keys s u) ≡ None → ⊥
+taken_on stripes stripe keys s u q op is over = none_left (with_found stripes stripe keys s u) q op over (still_done u.tasks (at_each s.op keys) q op is)
 
 -- 2. The calls under way.
 
@@ -109,11 +109,7 @@ calls_replaced w n call left u (x ∷ xs) here same on now fit =
     ] here
   where
     others : CallsFit n xs
-    others = calls_on w n (λ c. Unit {0}) xs (λ c t h. on c h) (each_one xs) fit.2
-      where
-        each_one : (ys : List CallState) → Each (λ (c : CallState). Unit {0}) ys
-        each_one [] = tt
-        each_one (y ∷ ys) = (tt, each_one ys)
+    others = calls_all w n xs on fit.2
 
     go : (o : Option CallState) → left x ≡ o → x ≡ u → CallsFit n (cons_option o xs)
     go None e is = others
@@ -179,7 +175,7 @@ found_replaced call left u v (x ∷ xs) here goes same =
       | false ↦ λ e here. ap (λ b. cond b (Some x) (find (has_number call) (replaced call left xs))) e ∙ found_replaced call left u v xs here goes same
     ] refl here
 
--- 3. Where the call stands.
+-- 3. Where the call is.
 
 pub record IsPlaceOf (call : ℕ) (left : CallState → Option CallState) (calls : List CallState) (place : ℕ) : Type 0 where
   pub u : CallState
@@ -232,20 +228,20 @@ remove_set (x ∷ xs) zero v = refl
 remove_set (x ∷ xs) (suc i) v = ap (λ cs. x ∷ cs) (remove_set xs i v)
 
 -- what is left of the call is put in its place, or taken out
-left_is : (call stripes : ℕ) (keys : List Bytes) (s : Sweep) (calls : List CallState) (u x v : CallState) → find (has_number call) calls ≡ Some u → find (has_number call) calls ≡ Some x → v ≡ with_found stripes keys s x → (b : Bool) → is_going v ≡ b
-    → going_on (with_found stripes keys s u) ≡ cond b (Some v) None
-left_is call stripes keys s calls u x v one two is b goes =
+left_is : (call stripes stripe : ℕ) (keys : List Bytes) (s : SweepState) (calls : List CallState) (u x v : CallState) → find (has_number call) calls ≡ Some u → find (has_number call) calls ≡ Some x → v ≡ with_found stripes stripe keys s x → (b : Bool) → is_going v ≡ b
+    → going_on (with_found stripes stripe keys s u) ≡ cond b (Some v) None
+left_is call stripes stripe keys s calls u x v one two is b goes =
     let same : u ≡ x = same_found (find (has_number call) calls) u x one two in
-    ap (λ (y : CallState). going_on (with_found stripes keys s y)) same ∙ ap going_on (sym is) ∙ ap (λ c. cond c (Some v) None) goes
+    ap (λ (y : CallState). going_on (with_found stripes stripe keys s y)) same ∙ ap going_on (sym is) ∙ ap (λ c. cond c (Some v) None) goes
 
-pub look_put : (call stripes place : ℕ) (keys : List Bytes) (s : Sweep) (x v : CallState) (calls : List CallState) → position (has_number call) calls ≡ Some place → find (has_number call) calls ≡ Some x → v ≡ with_found stripes keys s x → is_going v ≡ true
-    → slice_set calls place v ≡ look call stripes keys s calls
-look_put call stripes place keys s x v calls at found is goes =
-    let p = place_at call (λ u. going_on (with_found stripes keys s u)) calls place at in
-    sym (p.put v (left_is call stripes keys s calls p.u x v p.first found is true goes))
+pub look_put : (call stripes stripe place : ℕ) (keys : List Bytes) (s : SweepState) (x v : CallState) (calls : List CallState) → position (has_number call) calls ≡ Some place → find (has_number call) calls ≡ Some x → v ≡ with_found stripes stripe keys s x → is_going v ≡ true
+    → slice_set calls place v ≡ look call stripes stripe keys s calls
+look_put call stripes stripe place keys s x v calls at found is goes =
+    let p = place_at call (λ u. going_on (with_found stripes stripe keys s u)) calls place at in
+    sym (p.put v (left_is call stripes stripe keys s calls p.u x v p.first found is true goes))
 
-pub look_out : (call stripes place : ℕ) (keys : List Bytes) (s : Sweep) (x v : CallState) (calls : List CallState) → position (has_number call) calls ≡ Some place → find (has_number call) calls ≡ Some x → v ≡ with_found stripes keys s x → is_going v ≡ false
-    → remove (slice_set calls place v) place ≡ look call stripes keys s calls
-look_out call stripes place keys s x v calls at found is over =
-    let p = place_at call (λ u. going_on (with_found stripes keys s u)) calls place at in
-    remove_set calls place v ∙ sym (p.taken_out (left_is call stripes keys s calls p.u x v p.first found is false over))
+pub look_out : (call stripes stripe place : ℕ) (keys : List Bytes) (s : SweepState) (x v : CallState) (calls : List CallState) → position (has_number call) calls ≡ Some place → find (has_number call) calls ≡ Some x → v ≡ with_found stripes stripe keys s x → is_going v ≡ false
+    → remove (slice_set calls place v) place ≡ look call stripes stripe keys s calls
+look_out call stripes stripe place keys s x v calls at found is over =
+    let p = place_at call (λ u. going_on (with_found stripes stripe keys s u)) calls place at in
+    remove_set calls place v ∙ sym (p.taken_out (left_is call stripes stripe keys s calls p.u x v p.first found is false over))

@@ -1,5 +1,5 @@
 -- An index map by keys, and the finite map that it means: a removal, a map with no entry, and what was popped.
-use Rattle.std.proofs.Common.{◌≡◌, ◌==◌, List, [], ◌∷◌, ◌++◌, length, arith, Option, None, Some, Bool, true, false, cond, refl, sym, ap, ◌∙◌}
+use Rattle.std.proofs.Common.{◌≡◌, ◌==◌, List, [], ◌∷◌, ◌++◌, Option, None, Some, Bool, true, false, cond, refl, sym, ap, ◌∙◌}
 use Rattle.std.specs.Ordering.{eq_by_cmp}
 use Rattle.std.specs.Cmp.{eq_by_cmp_equiv}
 use Rattle.std.specs.Cmp.Lexicographic.{pointwise}
@@ -8,6 +8,7 @@ use Rattle.std.proofs.lemmas.Map.Lookups.{exact_bytes}
 use Rattle.std.specs.Map.{lookup}
 use Rattle.std.specs.FinMap as map
 use Rattle.std.specs.FinMap.{find, same_map, from_entries, get-from_entries, get-insert, get-remove}
+use Rattle.std.proofs.lemmas.List.{nil_from_length}
 use Rattle.indexmap.specs.IndexMap.{IndexMap, index_map_len, Updates}
 use Rattle.jc_model.specs.Cache.{Bytes, key_cmp}
 use Rattle.jc_model.proofs.CallerLemmas.{same_key}
@@ -23,14 +24,10 @@ module _ {X S : Type 0} where
 module _ {S : Type 0} where
   -- a map with no entry has nothing at any key
   pub nothing_at : {X : Type 0} (m : IndexMap Bytes X S) (q : Bytes) → index_map_len m ≡ 0 → map.get (from_entries {R = key_cmp} m.entries) q ≡ None
-  nothing_at m q none = get-from_entries nat_list_cmp_total m.entries q ∙ ap (find key_cmp q) (no_entries m.entries none)
-    where
-      no_entries : {A : Type 0} (xs : List A) → length xs ≡ 0 → xs ≡ []
-      no_entries [] h = refl
-      no_entries (x ∷ xs) h = absurd (omega arith)
+  nothing_at m q none = get-from_entries nat_list_cmp_total m.entries q ∙ ap (find key_cmp q) (nil_from_length m.entries none)
 
 module _ {K X : Type 0} where
-  -- one that was pushed is found, where it wasn't there
+  -- one that was pushed is found, if it wasn't there
   pub lookup-push : (test : K → Bool) (es : List (K × X)) (k : K) (v : X) → lookup test es ≡ None → test k ≡ true → lookup test (es ++ (k, v) ∷ []) ≡ Some v
   lookup-push test [] k v none t = ap (λ b. cond b (Some v) None) t
   lookup-push test (e ∷ es) k v none t =

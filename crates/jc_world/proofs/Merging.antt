@@ -12,6 +12,7 @@ use Rattle.std.proofs.lemmas.Bool.{eqb-true}
 use Rattle.std.proofs.lemmas.List.{take_more, take-append-drop, get_or-set_same, get_or-set_other}
 use Rattle.std.proofs.lemmas.List.Sums.{sum_by-cons, sum_by-append, count_by_more_yes, count_by_more_no}
 use Rattle.std.proofs.lemmas.Option.{slice_get_read}
+use Rattle.std.proofs.lemmas.Cmp.{nat_eq_equiv}
 use Rattle.jc_types.specs.declared.limits.TheConstants.{STRIPES_MAX}
 use Rattle.jc_model.specs.declared.event.Event.{Event}
 use Rattle.jc_stripe.specs.State.{State}
@@ -33,9 +34,6 @@ use Rattle.jc_world.specs.Turns.{OrderedStripes, IsPhase, IsQuietPhase, ordered_
 
 count_one : (number turn : ℕ) (turns : List ℕ) → turns_of number (turn ∷ turns) ≡ cond (turn == number) 1 0 + turns_of number turns
 count_one number turn turns = sum_by-cons (λ t. cond (t == number) 1 0) turn turns
-
-same_number : (n : ℕ) → (n == n) ≡ true
-same_number n = grind (arith, nat_tests)
 
 -- as many turns of one stripe
 alone : (number turn n : ℕ) → turns_of number (replicate n turn) ≡ cond (turn == number) n 0
@@ -82,7 +80,7 @@ merged_both left (turn ∷ turns) more =
 merged_alone : (left : ℕ → List Event) (number : ℕ) (more : List Event) → left number ≡ more → merge left (replicate (length more) number) ≡ more
 merged_alone left number [] is = refl
 merged_alone left number (e ∷ more) is =
-    let rest : after_turn left number number ≡ more = ap (λ b. cond b (drop 1 (left number)) (left number)) (same_number number) ∙ ap (drop 1) is in
+    let rest : after_turn left number number ≡ more = ap (λ b. cond b (drop 1 (left number)) (left number)) (nat_eq_equiv.refl number) ∙ ap (drop 1) is in
     ap (λ xs. take 1 xs ++ merge (after_turn left number) (replicate (length more) number)) is
     ∙ ap (λ xs. e ∷ xs) (merged_alone (after_turn left number) number more rest)
 
@@ -107,7 +105,7 @@ others_length (x ∷ xs) n h = omega arith
 has_first : (left : ℕ → List Event) (turn : ℕ) (turns : List ℕ) → ((number : ℕ) → turns_of number (turn ∷ turns) ≤ length (left number)) → 1 + turns_of turn turns ≤ length (left turn)
 has_first left turn turns each =
     let Q : ℕ → Type 0 = λ n. n ≤ length (left turn) in
-    subst Q (count_one turn turn turns ∙ ap (λ b. cond b 1 0 + turns_of turn turns) (same_number turn)) (each turn)
+    subst Q (count_one turn turn turns ∙ ap (λ b. cond b 1 0 + turns_of turn turns) (nat_eq_equiv.refl turn)) (each turn)
 
 within_turn : (b : Bool) (n : ℕ) (xs : List Event) → cond b 1 0 + n ≤ length xs → n ≤ length (cond b (drop 1 xs) xs)
 within_turn true n xs h = others_length xs n (omega arith)
@@ -303,7 +301,7 @@ pub record HasNext (stripes : List State) (n place : ℕ) : Type 0 where
   pub event : (s : State) → s ≡ get_or stripes n s → place < length s.history
 
 counted_more : (n : ℕ) (turns : List ℕ) (i : ℕ) → i < length turns → n ≡ get_or turns i 0 → turns_of n (take (i + 1) turns) ≡ turns_of n (take i turns) + 1
-counted_more n turns i h is = count_by_more_yes (λ t. t == n) turns i 0 h (ap (λ t. t == n) (sym is) ∙ same_number n)
+counted_more n turns i h is = count_by_more_yes (λ t. t == n) turns i 0 h (ap (λ t. t == n) (sym is) ∙ nat_eq_equiv.refl n)
 
 counted_same : (n m : ℕ) (turns : List ℕ) (i : ℕ) → i < length turns → n ≡ get_or turns i 0 → (n == m) ≡ false → turns_of m (take (i + 1) turns) ≡ turns_of m (take i turns)
 counted_same n m turns i h is apart = count_by_more_no (λ t. t == m) turns i 0 h (ap (λ t. t == m) (sym is) ∙ apart)
@@ -333,7 +331,7 @@ has_next stripes turns i each h =
       event = λ s at. subst (λ xs. place < length xs) (ap history_in (slice_get_read stripes (length stripes) n s refl within at)) here;
     }
 
--- the counts go on with the turns
+-- the counts continue with the turns
 pub counts_more : (taken turns : List ℕ) (i n place : ℕ) → n < length taken → length taken ≡ STRIPES_MAX → i < length turns → n ≡ get_or turns i 0 → place ≡ get_or taken n 0 → ((m : ℕ) → m < STRIPES_MAX → get_or taken m 0 ≡ turns_of m (take i turns))
     → (m : ℕ) → m < STRIPES_MAX → get_or (slice_set taken n (place + 1)) m 0 ≡ turns_of m (take (i + 1) turns)
 counts_more taken turns i n place within len h is read each m few =
@@ -345,4 +343,4 @@ counts_more taken turns i n place within len h is read each m few =
     ] refl
   where
     unlike : (n m : ℕ) → (n == m) ≡ false → n ≡ m → ⊥
-    unlike n m e same = let t = sym (same_number m) ∙ ap (λ k. k == m) (sym same) ∙ e in cc
+    unlike n m e same = let t = sym (nat_eq_equiv.refl m) ∙ ap (λ k. k == m) (sym same) ∙ e in cc

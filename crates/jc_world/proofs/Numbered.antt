@@ -13,7 +13,7 @@ some_of (Some x) P h = (x, refl, h)
 pub within : (xs : List State) (i : ℕ) (P : State → Type 0) → IsSomeAnd (slice_get xs i) P → i < length xs
 within xs i P h = let found = some_of (slice_get xs i) P h in slice_get_within xs i found.0 found.1
 
--- what is read at a place is what stands there
+-- what is read at a place is what is there
 pub at_index : (xs : List State) (i : ℕ) (x : State) (P : State → Type 0) → IsSomeAnd (slice_get xs i) P → x ≡ get_or xs i x → slice_get xs i ≡ Some x
 at_index xs i x P h is = slice_get_read xs _ i x refl (within xs i P h) is
 

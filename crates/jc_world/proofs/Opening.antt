@@ -1,19 +1,23 @@
--- How a call begins: its looks fit behind its begin, and then it is free of every key.
-use Rattle.std.proofs.Common.{◌≡◌, ◌∙◌, ℕ, zero, suc, ◌+◌, List, [], ◌∷◌, Bool, true, false, cond, Option, None, Some, is_some, inl, inr, refl, sym, ap}
+-- How a call begins: its looks fit behind its begin, and then it is free of every key; a call of one key is then under way, and may
+-- make its first phase.
+use Rattle.std.proofs.Common.{◌≡◌, ◌∙◌, ℕ, zero, suc, ◌+◌, List, [], ◌∷◌, ◌++◌, Bool, true, false, cond, None, Some, find, is_some, inl, inr, refl, sym, ap, subst}
 use Rattle.jc_model.specs.Cache.{Bytes}
+use Rattle.std.specs.Option.{option_flatten, option_or}
+use Rattle.std.proofs.lemmas.Cmp.{nat_eq_equiv, nat_list_eq_equiv}
+use Rattle.std.proofs.lemmas.List.Folds.{find-append}
+use Rattle.jc_model.specs.declared.event.Op.{Op}
 use Rattle.jc_world.specs.declared.command.Command.{Command}
-use Rattle.jc_world.specs.declared.command.Sweep.{Sweep}
+use Rattle.jc_world.specs.declared.command.Command.TheVariants as command
 use Rattle.jc_world.specs.declared.event.Shown.{Shown}
-use Rattle.jc_world.specs.declared.event.WorldEvent.{WorldEvent}
 use Rattle.jc_world.specs.declared.event.WorldEvent.TheVariants as event
-use Rattle.jc_world.specs.Calls.{sweep_of}
-use Rattle.jc_world.specs.World.{WorldState, is_free_of}
-use Rattle.jc_world.specs.Fits.{fits, is_new, is_free}
-use Rattle.jc_world.specs.Events.{AllFit, Run, Step}
+use Rattle.jc_world.specs.Calls.{CallState, has_number, may_work, new_call, sweep_of}
+use Rattle.jc_world.specs.World.{WorldState, is_free_of, open_call}
+use Rattle.jc_world.specs.Fits.{fits, is_new, is_free, may_start}
+use Rattle.jc_world.specs.Events.{AllFit, Run, Step, with_ends}
 use Rattle.jc_world.specs.Sound.{IsSoundWorld}
-use Rattle.jc_world.specs.Together.{looks, looks_of, opening_events, BeginFits}
-use Rattle.std.proofs.lemmas.Bool.{and_parts}
-use Rattle.jc_world.proofs.Fitting.{looks_begun, new_free, one_fits}
+use Rattle.jc_world.specs.Together.{looks, opening_events, BeginFits}
+use Rattle.std.proofs.lemmas.Bool.{and_from, and_parts}
+use Rattle.jc_world.proofs.Fitting.{fits_then, looks_begun, new_free, new_under, one_fits}
 use Rattle.jc_world.proofs.Noting.{noted_as}
 
 opening : (w : WorldState) → IsSoundWorld w → (call session : ℕ) (command : Command) → fits w (event.Call call session command) ≡ true → AllFit w (opening_events call session command w.config.stripes)
@@ -66,5 +70,42 @@ free w old call session command seen begun key fit run =
     let new : is_new w.last call ≡ true = (and_parts _ _ (and_parts _ _ fit).0).1 in
     (λ i. is_free_of (beside.parts i) (beside.joins i) call key) ∙ new_free w call key new old
 
+-- a call of one key is under way once it has begun
+found_new : (w : WorldState) → IsSoundWorld w → (call session : ℕ) (op : Op) (key : Bytes) → fits w (event.Call call session (command.Single op key)) ≡ true
+    → find (has_number call) (w.calls ++ new_call call session (command.Single op key) ∷ []) ≡ Some (new_call call session (command.Single op key))
+found_new w old call session op key fit =
+    let u : CallState = new_call call session (command.Single op key) in
+    let new : is_new w.last call ≡ true = (and_parts _ _ (and_parts _ _ fit).0).1 in
+    find-append (has_number call) w.calls (u ∷ []) ∙ ap (λ o. option_or o (find (has_number call) (u ∷ []))) (new_under w call new old) ∙ ap (λ b. cond b (Some u) None) (nat_eq_equiv.refl call)
+
+-- and may work at its key
+works_at : (call session : ℕ) (op : Op) (key : Bytes) → may_work (new_call call session (command.Single op key)) key ≡ true
+works_at call session op key = and_from _ _ (ap (λ b. is_some (option_flatten (cond b (Some (Some op)) None))) (nat_list_eq_equiv.refl key)) (nat_list_eq_equiv.refl key)
+
+single : (w : WorldState) → IsSoundWorld w → (call session : ℕ) (op : Op) (key : Bytes) → fits w (event.Call call session (command.Single op key)) ≡ true
+    → AllFit w (event.Call call session (command.Single op key) ∷ event.Start call key ∷ [])
+single w old call session op key fit =
+    let u : CallState = new_call call session (command.Single op key) in
+    let new : is_new w.last call ≡ true = (and_parts _ _ (and_parts _ _ fit).0).1 in
+    let next : WorldState = record w { last = Some call; fresh = false; calls = w.calls ++ u ∷ [] } in
+    fits_then w (event.Call call session (command.Single op key)) (event.Start call key ∷ []) fit (λ seen mid ends happens.
+    subst (λ m. AllFit (with_ends m ends) (event.Start call key ∷ [])) (sym happens.1)
+    (one_fits (with_ends next ends) (event.Start call key)
+    (ap (may_start (with_ends next ends) call key) (found_new w old call session op key fit)
+    ∙ and_from _ _ (works_at call session op key) (new_free w call key new old))))
+
+underway : (w : WorldState) → IsSoundWorld w → (call session : ℕ) (op : Op) (key : Bytes) (seen : List Shown) (begun : WorldState) → fits w (event.Call call session (command.Single op key)) ≡ true
+    → Run w (event.Call call session (command.Single op key) ∷ []) seen begun → open_call begun call ≡ Some (new_call call session (command.Single op key))
+underway w old call session op key [] begun fit run = absurd run
+underway w old call session op key (s ∷ t ∷ ss) begun fit run = absurd run.2
+underway w old call session op key (s ∷ []) begun fit (next, step, is) =
+    ap (λ x. open_call x call) is ∙ by step
+  where
+    by : Step w (event.Call call session (command.Single op key)) s next → open_call next call ≡ Some (new_call call session (command.Single op key))
+    by (inl (fit_now, (mid, happens, noted))) =
+        let n = noted_as w mid next (event.Call call session (command.Single op key)) s noted in
+        ap (λ x. open_call x call) n.is ∙ ap (λ x. open_call x call) happens.1 ∙ found_new w old call session op key fit
+    by (inr (unfit, shows, same)) = let t : true ≡ false = sym fit ∙ unfit in cc
+
 pub begin_fits : (w : WorldState) → IsSoundWorld w → BeginFits w
-begin_fits w old = record { opening = opening w old; free = free w old }
+begin_fits w old = record { opening = opening w old; free = free w old; single = single w old; underway = underway w old }

@@ -29,11 +29,10 @@ use Rattle.jc_world.specs.declared.event.PickedUp.{PickedUp}
 use Rattle.jc_world.specs.declared.event.WorldEvent.TheVariants as event
 use Rattle.jc_world.specs.declared.event.Shown.{Shown}
 use Rattle.jc_world.specs.declared.event.Shown.TheVariants as shown
-use Rattle.jc_world.specs.World.{WorldState, Parts, home, stripe_for, open_call, part_of, join_of, joins_without, out_of}
+use Rattle.jc_world.specs.World.{WorldState, Parts, home, stripe_for, open_call, part_of, join_of, joins_without, out_of, is_join}
 use Rattle.jc_world.specs.Fits.{fits, is_free, may_start}
 use Rattle.jc_world.specs.Events.{Happens, Starts, RefusesAs, step_of, with_new_part, new_load, new_write, new_part, BeginsAs, new_process}
 use Rattle.jc_world.specs.Sound.{IsHeld, IsSoundWorld, IsWaitedFor, is_due}
-use Rattle.jc_world.specs.World.{is_join}
 use Rattle.jc_world.specs.Turns.{OrderedStripes, IsPhase, IsQuietPhase}
 use Rattle.jc_world.proofs.Numbered.{some_of}
 use Rattle.jc_world.proofs.Holding.{is_part}
@@ -107,7 +106,7 @@ same_set [] i x y h e = cc
 same_set (z ∷ zs) zero x y h e = let is : z ≡ x = cc in ap (λ s. s ∷ zs) (e ∙ sym is)
 same_set (z ∷ zs) (suc i) x y h e = ap (λ s. z ∷ s) (same_set zs i x y h e)
 
--- what a state has not put down
+-- what a state has not appended
 none_new : (order xs ys : List Event) → xs ≡ ys → order ++ drop (length ys) xs ≡ order
 none_new order xs ys e = ap (λ zs. order ++ drop (length ys) zs) e ∙ ap (λ zs. order ++ zs) (gone ys) ∙ append-nil order
   where

@@ -3,14 +3,14 @@
 --     follows_step       an event that doesn't end the join keeps it so, with what it shows
 --     follows_run        so does a run
 --     part_of_out        the part of a reservation that is out
---     follows_joined     it is so where the call has just joined
+--     follows_joined     it is so if the call has just joined
 --     resolves           so what a pick-up shows is what has become of the load
 --     answers_joins      the whole, from the join to the pick-up
 use Rattle.std.proofs.Common.{inl, inr, ◌≡◌, ◌==◌, ◌&&◌, ◌||◌, ℕ, List, [], ◌∷◌, ◌++◌, zip, Bool, true, false, cond, not, Option, None, Some, IsSomeAnd, option_map, find, slice_get, slice_set, refl, sym, ap, ◌∙◌, subst, append-nil, append_assoc}
 use Rattle.std.specs.List.{list_any}
 use Rattle.std.specs.FinMap.{get}
 use Rattle.std.specs.Cmp.Lexicographic.{pointwise}
-use Rattle.std.proofs.lemmas.Bool.{eq-eqb, and_from}
+use Rattle.std.proofs.lemmas.Bool.{eq-eqb, and_from, or_parts, false_from_ne_true}
 use Rattle.std.proofs.lemmas.Cmp.{nat_eq_equiv, nat_list_eq_equiv}
 use Rattle.jc_types.specs.declared.caller.Caller.{Caller}
 use Rattle.jc_types.specs.declared.config.Config.{Config}
@@ -53,7 +53,6 @@ use Rattle.jc_world.proofs.Sounding.{Laws, sound_step, sound_run}
 use Rattle.jc_world.specs.Ends.{EndsState}
 use Rattle.jc_world.proofs.Noting.{noted_as}
 use Rattle.jc_world.proofs.Beside.{beside}
-use Rattle.jc_world.proofs.Facts.{refuted}
 
 -- 1. From world to world.
 
@@ -158,7 +157,7 @@ follows_others w new call key other from to shows more join r found there after 
     let is = join_is call key other (found_test (is_join call key) w.joins other found) in
     let left : join_of new join.caller.call join.key ≡ Some join =
     ap (find (is_join join.caller.call join.key)) joins
-    ∙ find_kept (is_join join.caller.call join.key) (λ x. not (is_join call key x)) w.joins (λ x mine. ap not (refuted (is_join call key x) (λ its.
+    ∙ find_kept (is_join join.caller.call join.key) (λ x. not (is_join call key x)) w.joins (λ x mine. ap not (false_from_ne_true (is_join call key x) (λ its.
     let a = join_is join.caller.call join.key x mine in
     let b = join_is call key x its in
     apart (sym b.0 ∙ a.0) (sym b.1 ∙ a.1))))
@@ -167,7 +166,7 @@ follows_others w new call key other from to shows more join r found there after 
     let Q : Joiner → Type 0 = TellsOf (home w join.key) (shows ++ more) to r in
     let kept : joiner_of join.caller join.key to.joiners ≡ joiner_of join.caller join.key from.joiners =
     ap (λ (s : State). joiner_of join.caller join.key s.joiners) after
-    ∙ find_kept (belongs_to join.caller join.key) (λ x. not (belongs_to other.caller other.key x)) from.joiners (λ x mine. ap not (refuted (belongs_to other.caller other.key x) (λ its.
+    ∙ find_kept (belongs_to join.caller join.key) (λ x. not (belongs_to other.caller other.key x)) from.joiners (λ x mine. ap not (false_from_ne_true (belongs_to other.caller other.key x) (λ its.
     let a = belongs_to_same join.caller join.key x mine in
     let b = belongs_to_same other.caller other.key x its in
     apart (sym is.0 ∙ ap (λ (c : Caller). c.call) (sym b.0 ∙ a.0)) (sym is.1 ∙ sym b.1 ∙ a.1))))
@@ -245,17 +244,13 @@ follows_step w new e seen shows join r (inl (fit, (mid, happens, is))) last old 
 follows_step w new e seen shows join r (inr (unfit, shown_is, is)) last old f = follows_beside w new w shows _ join r f is refl refl refl (ap (λ b. b || false) (ap (λ s. ends_load r (e, s)) shown_is ∙ unfit_ends r e))
 
 -- both tests fail, where not one of them holds
-neither : (a b : Bool) → (a || b) ≡ false → (a ≡ false) × (b ≡ false)
-neither true b h = cc
-neither false b h = (refl, h)
-
 follows_run : Laws → (w new : WorldState) (es : List WorldEvent) (ss : List Shown) (shows : Shows) (join : JoinClaim) (r : Reservation) → Run w es ss new → list_any (is_last_pick_up join.caller.call join.key) (zip es ss) ≡ false → IsSoundWorld w
     → Follows w shows join r → Follows new (shows ++ zip es ss) join r
 follows_run laws w new [] [] shows join r run none old f = follows_beside w new w shows [] join r f run refl refl refl refl
 follows_run laws w new [] (s ∷ ss) shows join r run none old f = absurd run
 follows_run laws w new (e ∷ es) [] shows join r run none old f = absurd run
 follows_run laws w new (e ∷ es) (s ∷ ss) shows join r (mid, step, rest) none old f =
-    let parts = neither (is_last_pick_up join.caller.call join.key (e, s)) (list_any (is_last_pick_up join.caller.call join.key) (zip es ss)) none in
+    let parts = or_parts (is_last_pick_up join.caller.call join.key (e, s)) (list_any (is_last_pick_up join.caller.call join.key) (zip es ss)) none in
     let next = follows_step w mid e s shows join r step parts.0 old f in
     let P : Shows → Type 0 = λ xs. Follows new xs join r in
     subst P (append_assoc shows ((e, s) ∷ []) (zip es ss)) (follows_run laws mid new es ss (shows ++ (e, s) ∷ []) join r rest parts.1 (sound_step laws w e s mid step old) next)
@@ -278,7 +273,7 @@ part_of_out w key s r there key_is out old =
 
 -- 3. The join, and the pick-up.
 
--- one is there where one is found
+-- one is there if one is found
 found_any : {A : Type 0} (p : A → Bool) (xs : List A) (x : A) → find p xs ≡ Some x → list_any p xs ≡ true
 found_any p [] x h = cc
 found_any p (y ∷ ys) x h = elim (p y) as (λ b. cond b (Some y) (find p ys) ≡ Some x → (b || list_any p ys) ≡ true) [ true ↦ λ h. refl | false ↦ λ h. found_any p ys x h ] h

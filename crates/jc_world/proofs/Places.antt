@@ -1,7 +1,6 @@
--- The stripes of a world, where one is set.
+-- The stripes of a world, once one is set.
 use Rattle.std.proofs.Common.{◌≡◌, ◌<◌, ◌≤◌, ◌%◌, ℕ, zero, suc, length, List, [], ◌∷◌, sum, Bool, true, false, cond, Option, Some, Ok, refl, sym, ap, subst, arith, slice_get, slice_set, nat_le, get_or, Result, Err}
-use Rattle.std.proofs.lemmas.Bool.Decides.{nat_tests}
-use Rattle.std.proofs.lemmas.Bool.{and_parts}
+use Rattle.std.proofs.lemmas.Bool.{and_parts, leb-true}
 use Rattle.std.proofs.lemmas.Option.{slice_get-get_or}
 use Rattle.jc_types.specs.declared.config.Config.{Config}
 use Rattle.jc_types.specs.declared.refusal.Refusal.{Refusal}
@@ -12,7 +11,7 @@ use Rattle.jc_stripe.specs.State.{State}
 use Rattle.jc_world.specs.World.{WorldState, home, stripe_for, empty_stripe}
 use Rattle.jc_world.specs.Sound.{IsShaped}
 
--- what goes on from a stripe to the one that is put in its place goes on at every number
+-- what stays true from a stripe to the one that is put in its place stays true at every number
 pub at_stripe_apart : (stripes : List State) (i j : ℕ) (from next : State) (P : Option State → Option State → Type 0) → slice_get stripes i ≡ Some from → (i ≡ j → P (Some from) (Some next)) → ((i ≡ j → ⊥) → P (slice_get stripes j) (slice_get stripes j))
     → P (slice_get stripes j) (slice_get (slice_set stripes i next) j)
 at_stripe_apart [] i j from next P h same other = cc
@@ -37,20 +36,13 @@ in_limits : (b : Bool) (more : Result (Unit {0}) Refusal) (refusal : Refusal) �
 in_limits true more refusal h = refl
 in_limits false more refusal h = cc
 
--- at least one is above zero
-positive : (n : ℕ) → nat_le 1 n ≡ true → 0 < n
-positive n h = grind (arith, nat_tests)
-
 -- there is a stripe
 pub some_stripe : (config : Config) → check config ≡ Ok tt → 0 < config.stripes
-some_stripe config h = positive config.stripes ((and_parts (nat_le 1 config.stripes) (nat_le config.stripes STRIPES_MAX) (in_limits (is_between 1 STRIPES_MAX config.stripes) _ _ h)).0)
+some_stripe config h = leb-true 1 config.stripes ((and_parts (nat_le 1 config.stripes) (nat_le config.stripes STRIPES_MAX) (in_limits (is_between 1 STRIPES_MAX config.stripes) _ _ h)).0)
 
 -- and no more than a cache may have
-at_most : (n : ℕ) → nat_le n STRIPES_MAX ≡ true → n ≤ STRIPES_MAX
-at_most n h = grind (arith, nat_tests)
-
 pub few_stripes : (config : Config) → check config ≡ Ok tt → config.stripes ≤ STRIPES_MAX
-few_stripes config h = at_most config.stripes ((and_parts (nat_le 1 config.stripes) (nat_le config.stripes STRIPES_MAX) (in_limits (is_between 1 STRIPES_MAX config.stripes) _ _ h)).1)
+few_stripes config h = leb-true config.stripes STRIPES_MAX ((and_parts (nat_le 1 config.stripes) (nat_le config.stripes STRIPES_MAX) (in_limits (is_between 1 STRIPES_MAX config.stripes) _ _ h)).1)
 
 -- a remainder is a place in a list of that length
 within : (n count stripes : ℕ) → 0 < stripes → count ≡ stripes → n % stripes < count

@@ -6,6 +6,7 @@ use Rattle.std.specs.Cmp.Lexicographic.{pointwise, texts_ties}
 use Rattle.std.specs.Ordering.{eq_by_cmp}
 use Rattle.std.proofs.lemmas.Cmp.{nat_list_eq_equiv}
 use Rattle.std.proofs.lemmas.List.Folds.{find-append}
+use Rattle.std.proofs.lemmas.Bool.{false_from_ne_true}
 use Rattle.jc_types.specs.declared.caller.Caller.{Caller}
 use Rattle.jc_types.specs.declared.config.Config.{Config}
 use Rattle.jc_types.specs.declared.refusal.Refusal.{Refusal}
@@ -22,7 +23,6 @@ use Rattle.jc_stripe.specs.Refusals.{first_refusal, first_asked, first_by, write
 use Rattle.jc_stripe.specs.declared.ticket.First.{First}
 use Rattle.jc_stripe.specs.declared.ticket.First.TheVariants.{Nobody, Loader}
 use Rattle.jc_world.proofs.Joiners.{find_kept}
-use Rattle.jc_world.proofs.Facts.{refuted}
 
 -- what is found is found in a longer list
 pub found_more : {A : Type 0} (p : A → Bool) (xs ys : List A) (x : A) → find p xs ≡ Some x → find p (xs ++ ys) ≡ Some x
@@ -48,7 +48,7 @@ pick true true true other h e = cc
 needs_none : (s : State) (caller : Caller) (key : Bytes) (op : Op) → first_refusal s caller key op ≡ None → is_reserved s key ≡ true → needs_free_key s key op ≡ false
 needs_none s caller key op none there = pick (has_room s caller.call (places_needed (needs_free_key s key op))) (is_reserved s key) (needs_free_key s key op) _ none there
 
--- where there is nothing to write, nobody is asked
+-- if there is nothing to write, nobody is asked
 asks_none : (b : Bool) → writer_for (cond b None None) ≡ Nobody
 asks_none true = refl
 asks_none false = refl
@@ -73,7 +73,7 @@ only_answers false load h none = let t : not (is_some {T = ℕ} None) ≡ false 
 -- a key that gets a ticket was free
 pub was_free : (s : State) (caller : Caller) (key : Bytes) (op : Op) (first : First) → first_refusal s caller key op ≡ None → load_joined s key op ≡ None → first_asked s.config op (entry_at s.cache key) ≡ first → reserves first ≡ true → is_reserved s key ≡ false
 was_free s caller key op first none alone asks due =
-    refuted (is_reserved s key) (λ there.
+    false_from_ne_true (is_reserved s key) (λ there.
     let answering = only_answers (answers_at_once s.config op (entry_at s.cache key)) (load_joined s key op) (needs_none s caller key op none there) alone in
     let e = answering_asks s.config op (entry_at s.cache key) answering in
     let f : reserves Nobody ≡ true = ap reserves (sym e ∙ asks) ∙ due in cc)
@@ -87,18 +87,18 @@ writer_alone s key Get first h writes = loads_only (s.config.read_through && is_
     loads_only false write h = let t : asks_writer Nobody ≡ true = ap asks_writer (sym (asks_none write) ∙ h) ∙ writes in cc
 writer_alone s key op first h writes = refl
 
--- the last of a list is found, where none before it passes the test
+-- the last of a list is found, if none before it passes the test
 pub found_last : {A : Type 0} (p : A → Bool) (xs : List A) (r : A) → list_any p xs ≡ false → p r ≡ true → find p (xs ++ r ∷ []) ≡ Some r
 found_last p [] r none e = ap (λ b. cond b (Some r) None) e
 found_last p (x ∷ xs) r none e = elim (p x) as (λ b. (b || list_any p xs) ≡ false → cond b (Some x) (find p (xs ++ r ∷ [])) ≡ Some r) [ true ↦ λ h. cc | false ↦ λ h. found_last p xs r h e ] none
 
--- the reservation that is put behind the others is the one of its key
+-- the reservation that is put after the others is the one of its key
 pub new_out : (s : State) (r : Reservation) → is_reserved s r.key ≡ false → find (is_key r.key) (s.reservations ++ r ∷ []) ≡ Some r
 new_out s r free = found_last (is_key r.key) s.reservations r free (nat_list_eq_equiv.refl r.key)
 
 -- another key's reservation stays
 pub found_left : (q key : Bytes) (rs : List Reservation) → eq_by_cmp key_cmp q key ≡ false → find (is_key q) (without_key key rs) ≡ find (is_key q) rs
-found_left q key rs apart = find_kept (is_key q) (λ r. not (is_key key r)) rs (λ x t. ap not (refuted (is_key key x) (λ f.
+found_left q key rs apart = find_kept (is_key q) (λ r. not (is_key key r)) rs (λ x t. ap not (false_from_ne_true (is_key key x) (λ f.
     let same : q ≡ key = same_key q x.key (sym (texts_ties q x.key) ∙ t) ∙ sym (same_key key x.key (sym (texts_ties key x.key) ∙ f)) in
     let tie : pointwise ◌==◌ q key ≡ true = ap (pointwise ◌==◌ q) (sym same) ∙ nat_list_eq_equiv.refl q in
     let u : true ≡ false = sym tie ∙ texts_ties q key ∙ apart in cc)))

@@ -3,31 +3,29 @@
 --     done_for               what is done at an open key
 --     Left                   a call that goes on: what it does or may still do at a key it did before, and not at the key that was
 --                            settled
---     turn_is                a call that works at one key at a time may work at its current one alone
 --     IsTurnOf               a call may work at a key, if it is under way
---     still_called           a call goes on at each other key
+--     still_called           a call continues at each other key
 --     calls_settled          the calls fit another world
 --     each_settled           a fact of each call
 --     retained               a walk that keeps what a definition keeps
-use Rattle.std.proofs.Common.{◌≡◌, ◌==◌, ◌&&◌, ◌||◌, ℕ, List, [], ◌∷◌, Bool, true, false, cond, not, Option, None, Some, IsSomeAnd, find, filter, is_some, slice_get, refl, sym, ap, ◌∙◌, subst}
+use Rattle.std.proofs.Common.{◌≡◌, ◌==◌, ◌&&◌, ◌||◌, ℕ, List, [], ◌∷◌, Bool, true, false, cond, not, Option, None, Some, IsSomeAnd, find, filter, is_some, refl, sym, ap, ◌∙◌, subst}
 use Rattle.std.specs.List.{list_all, list_any, cons_option, filter_map}
 use Rattle.std.specs.List.Retain.{RetainsInTurn}
 use Rattle.std.specs.Map.{keys_of, lookup, set_value}
 use Rattle.std.specs.Option.{option_flatten}
 use Rattle.std.specs.Cmp.Lexicographic.{pointwise}
-use Rattle.std.proofs.lemmas.Bool.{eq-eqb, eqb-true, and_parts, and_from}
+use Rattle.std.proofs.lemmas.Bool.{eq-eqb, eqb-true, and_parts, and_from, or_right, false_from_ne_true}
 use Rattle.jc_types.specs.declared.caller.Caller.{Caller}
 use Rattle.jc_model.specs.declared.event.Op.{Op}
 use Rattle.jc_model.specs.Cache.{Bytes}
 use Rattle.jc_world.specs.Calls.{CallState, Task, has_number, op_in, op_at, op_or_found, op_for, is_open, open_in, open_keys, current_key, is_at, is_turn, takes_turns, is_going, going_on, settled, settle}
 use Rattle.jc_world.specs.World.{WorldState}
 use Rattle.jc_world.specs.Sound.{is_apart, FitsCall, CallsFit, IsCallOf, Each}
-use Rattle.jc_world.proofs.Facts.{refuted}
 use Rattle.jc_world.proofs.Underway.{same_bytes}
 
 -- 1. Open keys.
 
--- what is behind another key
+-- what is after another key
 behind : (q : Bytes) (task : Task) (tasks : List Task) → pointwise ◌==◌ q task.0 ≡ false → op_in (task ∷ tasks) q ≡ op_in tasks q
 behind q task tasks e = ap (λ b. option_flatten (cond b (Some task.1) (lookup (pointwise ◌==◌ q) tasks))) e
 
@@ -54,7 +52,7 @@ in_all p (task ∷ tasks) key op h all =
 pub open_now : (p : Bytes → Bool) (u : CallState) (key : Bytes) (op : Op) → op_at u key ≡ Some op → list_all p (open_keys u) ≡ true → p key ≡ true
 open_now p u key op h all = in_all p u.tasks key op h all
 
--- where something is done, a key is open
+-- if something is done, a key is open
 pub some_open : (tasks : List Task) (key : Bytes) (op : Op) → op_in tasks key ≡ Some op → list_any is_open tasks ≡ true
 some_open [] key op h = cc
 some_open (task ∷ tasks) key op h =
@@ -62,10 +60,6 @@ some_open (task ∷ tasks) key op h =
       | true ↦ λ e. ap (λ b. b || list_any is_open tasks) (ap is_some (sym (ahead key task tasks e) ∙ h))
       | false ↦ λ e. or_right (is_open task) (list_any is_open tasks) (some_open tasks key op (sym (behind key task tasks e) ∙ h))
     ] refl
-  where
-    or_right : (b c : Bool) → c ≡ true → (b || c) ≡ true
-    or_right true c h = refl
-    or_right false c h = h
 
 -- 2. Tasks of which a key was settled.
 
@@ -84,7 +78,7 @@ at_other key q [] other = refl
 at_other key q (task ∷ tasks) other =
     elim (pointwise ◌==◌ key task.0) as (λ b. pointwise ◌==◌ key task.0 ≡ b → op_in (cond b ((task.0, None) ∷ tasks) (task ∷ set_value (pointwise ◌==◌ key) tasks None)) q ≡ op_in (task ∷ tasks) q) [
       | true ↦ λ e.
-          let apart = refuted (pointwise ◌==◌ q task.0) (λ at. other (same_bytes q task.0 at ∙ sym (same_bytes key task.0 e))) in
+          let apart = false_from_ne_true (pointwise ◌==◌ q task.0) (λ at. other (same_bytes q task.0 at ∙ sym (same_bytes key task.0 e))) in
           behind q (task.0, None) tasks apart ∙ sym (behind q task tasks apart)
       | false ↦ λ e. elim (pointwise ◌==◌ q task.0) as (λ b. option_flatten (cond b (Some task.1) (lookup (pointwise ◌==◌ q) (set_value (pointwise ◌==◌ key) tasks None))) ≡ option_flatten (cond b (Some task.1) (lookup (pointwise ◌==◌ q) tasks))) [ true ↦ refl | false ↦ at_other key q tasks other ]
     ] refl
@@ -99,7 +93,7 @@ done_for u q op h = go (lookup (pointwise ◌==◌ q) u.tasks) h
     go None h = cc
     go (Some one) h = h
 
--- the call goes on: what it does or may still do at a key it did before, and another key was settled
+-- the call continues: what it does or may still do at a key it did before, and another key was settled
 pub record Left (call : ℕ) (key : Bytes) (u v : CallState) : Type 0 where
   pub caller_is : v.caller ≡ u.caller
   pub sweep_is : v.sweep ≡ u.sweep
@@ -107,7 +101,7 @@ pub record Left (call : ℕ) (key : Bytes) (u v : CallState) : Type 0 where
   pub was : (q : Bytes) (op : Op) → op_for v q ≡ Some op → op_for u q ≡ Some op
   pub other : (q : Bytes) (op one : Op) → op_for v q ≡ Some op → op_at u q ≡ Some one → u.caller.call ≡ call → q ≡ key → ⊥
 
--- what goes on is what there is
+-- the call that continues is the one that there is
 pub going_is : (u v : CallState) → going_on u ≡ Some v → v ≡ u
 going_is u v h = go (is_going u) h
   where
@@ -115,13 +109,9 @@ going_is u v h = go (is_going u) h
     go true h = let is : u ≡ v = cc in sym is
     go false h = cc
 
--- a call with an open key goes on
+-- a call with an open key continues
 pub goes_at : (u : CallState) (q : Bytes) (op : Op) → op_at u q ≡ Some op → is_going u ≡ true
 goes_at u q op at = or_right (is_some u.sweep) (list_any is_open u.tasks) (some_open u.tasks q op at)
-  where
-    or_right : (b c : Bool) → c ≡ true → (b || c) ≡ true
-    or_right true c h = refl
-    or_right false c h = h
 
 -- so one that doesn't has none
 pub none_left : (u : CallState) (q : Bytes) (op : Op) → going_on u ≡ None → op_at u q ≡ Some op → ⊥
@@ -154,7 +144,7 @@ left_was call key u q op h =
       | false ↦ λ h. h
     ] h
 
--- where something is done a key is looked up
+-- if something is done, a key is looked up
 done_there : (o : Option (Option Op)) (one : Op) → option_flatten o ≡ Some one → (two : Option Op) × (o ≡ Some two)
 done_there None one h = cc
 done_there (Some two) one h = (two, refl)
@@ -193,7 +183,7 @@ left_of call key u v is =
       other = λ q op one h. left_other call key u q op one (back q op h);
     }
 
--- what is done at another key goes on
+-- what is done at another key is done still
 still_open : (call : ℕ) (key : Bytes) (u : CallState) (q : Bytes) (op : Op) → (u.caller.call ≡ call → q ≡ key → ⊥) → op_at u q ≡ Some op → op_in (tasks_left call key u) q ≡ Some op
 still_open call key u q op other h =
     elim (has_number call u) as (λ b. has_number call u ≡ b → op_in (cond b (set_value (pointwise ◌==◌ key) u.tasks None) u.tasks) q ≡ Some op) [
@@ -201,15 +191,7 @@ still_open call key u q op other h =
       | false ↦ λ e. h
     ] refl
 
--- the current key is the only one
-pub turn_is : (u : CallState) (q key : Bytes) → current_key u ≡ Some key → is_turn u q ≡ true → q ≡ key
-turn_is u q key current turn =
-    elim (takes_turns u.kind) as (λ b. cond b (slice_get (open_keys u) 0) None ≡ Some key → cond b (is_at (cond b (slice_get (open_keys u) 0) None) q) true ≡ true → q ≡ key) [
-      | true ↦ λ c t. same_bytes q key (ap (λ o. is_at o q) (sym c) ∙ t)
-      | false ↦ λ c t. cc
-    ] current turn
-
--- so of two keys at which such a call may work, one is the other
+-- of two keys at which a call may work that takes one after the other, one is the other
 one_turn : (u : CallState) (q key : Bytes) → takes_turns u.kind ≡ true → is_turn u q ≡ true → is_turn u key ≡ true → q ≡ key
 one_turn u q key turns a b = go (current_key u) (at q a) (at key b)
   where
@@ -220,11 +202,11 @@ one_turn u q key turns a b = go (current_key u) (at q a) (at key b)
     go None a b = cc
     go (Some own) a b = same_bytes q own a ∙ sym (same_bytes key own b)
 
--- what a call may still work at, where a key at which it may work is settled
+-- what a call may still work at, if a key at which it may work is settled
 turn_left : (call : ℕ) (key : Bytes) (u : CallState) (q : Bytes) → (has_number call u ≡ true → is_turn u key ≡ true) → (u.caller.call ≡ call → q ≡ key → ⊥) → is_turn u q ≡ true → is_turn (record u { tasks = tasks_left call key u }) q ≡ true
 turn_left call key u q turn other h =
     elim (has_number call u) as (λ b. has_number call u ≡ b → is_turn (record u { tasks = cond b (set_value (pointwise ◌==◌ key) u.tasks None) u.tasks }) q ≡ true) [
-      | true ↦ λ e. batch (record u { tasks = set_value (pointwise ◌==◌ key) u.tasks None }) (refuted (takes_turns u.kind) (λ t. other (eqb-true u.caller.call call e) (one_turn u q key t h (turn e))))
+      | true ↦ λ e. batch (record u { tasks = set_value (pointwise ◌==◌ key) u.tasks None }) (false_from_ne_true (takes_turns u.kind) (λ t. other (eqb-true u.caller.call call e) (one_turn u q key t h (turn e))))
       | false ↦ λ e. h
     ] refl
   where
@@ -236,11 +218,11 @@ turn_left call key u q turn other h =
 abbrev pub IsTurnOf : List CallState → ℕ → Bytes → Type 0
 IsTurnOf calls call key = (u : CallState) → find (has_number call) calls ≡ Some u → is_turn u key ≡ true
 
--- a fact of a call at a key that goes on
+-- a fact of a call at a key that stays open
 abbrev Goes : ℕ → ℕ → Bytes → Op → List CallState → Type 0
 Goes number session q op calls = IsSomeAnd (find (has_number number) calls) (IsCallOf session q op)
 
--- what is behind a call that is not looked for
+-- what is after a call that is not looked for
 pub goes_behind : (number session : ℕ) (q : Bytes) (op : Op) (x : CallState) (calls : List CallState) → has_number number x ≡ false → Goes number session q op calls → Goes number session q op (x ∷ calls)
 goes_behind number session q op x calls apart h = let P : Bool → Type 0 = λ b. IsSomeAnd (cond b (Some x) (find (has_number number) calls)) (IsCallOf session q op) in subst P (sym apart) h
 
@@ -271,7 +253,7 @@ goes_passed : (call : ℕ) (key : Bytes) (number session : ℕ) (q : Bytes) (op 
 goes_passed call key number session q op x calls None e apart h = h
 goes_passed call key number session q op x calls (Some v) e apart h = goes_behind number session q op v calls (ap (λ (c : Caller). c.call == number) (left_of call key x v e).caller_is ∙ apart) h
 
--- a call goes on at each key but the one that is settled
+-- a call continues at each key but the one that is settled
 goes_on : (call : ℕ) (key : Bytes) (number session : ℕ) (q : Bytes) (op : Op) (calls : List CallState) → (number ≡ call → q ≡ key → ⊥) → (number ≡ call → IsTurnOf calls number key) → IsSomeAnd (find (has_number number) calls) (IsCallOf session q op)
     → IsSomeAnd (find (has_number number) (settle call key calls)) (IsCallOf session q op)
 goes_on call key number session q op [] other turn h = h
@@ -314,7 +296,7 @@ calls_settled w n call key P (x ∷ xs) f each fit = go (settled call key x) ref
     go None e rest = rest
     go (Some v) e rest = let left = left_of call key x v e in (f x v left each.0 fit.0, apart_from x v (settle call key xs) left.caller_is (apart_settled call key x xs fit.1), rest)
 
--- a fact of each call goes on to what is left
+-- a fact of each call holds of what is left
 pub each_settled : (call : ℕ) (key : Bytes) (P : CallState → Type 0) (calls : List CallState) → ((u v : CallState) → Left call key u v → P u → P v) → Each P calls → Each P (settle call key calls)
 each_settled call key P [] f each = tt
 each_settled call key P (x ∷ xs) f each = go (settled call key x) refl (each_settled call key P xs f each.1)

@@ -1,14 +1,13 @@
--- The order's parts: what a stripe puts down stands in its own part, and behind what may stand before it.
---     shape_set      the shape of a world, where one stripe is another and the order is that stripe's longer one
+-- The order's parts: what a stripe appends is in its own part, and after what may come before it.
+--     shape_set      the shape of a world, if one stripe is another and the order is that stripe's longer one
 --     AllBy          each step among events is of such a caller at such a key
---     added_order    steps that may come behind an order stand at its end
---     comes_added    a step may still come, if it may behind each that is added
+--     added_order    steps that may come after an order are at its end
+--     comes_added    a step may still come, if it may after each that is added
 use Rattle.std.proofs.Common.{◌≡◌, ◌==◌, ◌&&◌, ◌||◌, ℕ, zero, suc, List, [], ◌∷◌, ◌++◌, length, drop, Bool, true, false, cond, not, Option, None, Some, IsSomeAnd, filter, find, map, nat_lt, slice_get, slice_set, refl, sym, ap, ◌∙◌, subst, arith, append-nil}
 use Rattle.std.specs.List.{list_all}
 use Rattle.std.specs.Cmp.Lexicographic.{pointwise}
 use Rattle.std.proofs.Math.Seq.{drop-append_seam}
 use Rattle.std.proofs.lemmas.Bool.{ne_eqb, eqb-true, and_parts, and_from}
-use Rattle.std.proofs.lemmas.Bool.Decides.{nat_tests}
 use Rattle.std.proofs.lemmas.List.Elements.{filter-append}
 use Rattle.std.proofs.lemmas.List.Folds.{list_all-append}
 use Rattle.jc_types.specs.declared.caller.Caller.{Caller}
@@ -39,9 +38,11 @@ use Rattle.jc_world.specs.Sound.{IsStripe, IsShaped, is_up_to, number_up_to, Eac
 pub is_some_and : {A : Type 0} (o : Option A) (P : A → Type 0) (x : A) → o ≡ Some x → P x → IsSomeAnd o P
 is_some_and o P x e h = let Q : Option _ → Type 0 = λ o. IsSomeAnd o P in subst Q (sym e) h
 
--- a test of two numbers goes both ways
-pub turned_eq : (a b : ℕ) → (a == b) ≡ (b == a)
-turned_eq a b = grind (arith, nat_tests)
+-- what is at a place stays there if more follows
+pub still_at : {A : Type 0} (xs ys : List A) (i : ℕ) (x : A) → slice_get xs i ≡ Some x → slice_get (xs ++ ys) i ≡ Some x
+still_at [] ys i x h = cc
+still_at (z ∷ zs) ys zero x h = h
+still_at (z ∷ zs) ys (suc i) x h = still_at zs ys i x h
 
 -- a place of a list of which one place is another
 pub set_cases : {A P : Type 0} (xs : List A) (i j : ℕ) (x y : A) → (i ≡ j → x ≡ y → P) → ((i ≡ j → ⊥) → slice_get xs j ≡ Some y → P) → slice_get (slice_set xs i x) j ≡ Some y → P
@@ -104,9 +105,9 @@ each_kept P Q p (x ∷ xs) f each =
       | false ↦ λ e. each_kept P Q p xs f each.1
     ] refl
 
--- 2. What a stripe puts down.
+-- 2. What a stripe appends.
 
--- what a stripe put down
+-- what a stripe appended
 abbrev pub added : State → State → List Event
 added from to = drop (length from.history) to.history
 
@@ -122,12 +123,12 @@ all_kept : {A : Type 0} (p : A → Bool) (xs : List A) → list_all p xs ≡ tru
 all_kept p [] h = refl
 all_kept p (x ∷ xs) h = let parts = and_parts (p x) (list_all p xs) h in ap (λ b. cond b (x ∷ filter p xs) (filter p xs)) parts.0 ∙ ap (λ ys. x ∷ ys) (all_kept p xs parts.1)
 
--- and none that pass where another test fails then
+-- and none that pass if another test fails then
 none_kept : {A : Type 0} (p q : A → Bool) (xs : List A) → ((x : A) → p x ≡ true → q x ≡ false) → list_all p xs ≡ true → filter q xs ≡ []
 none_kept p q [] f h = refl
 none_kept p q (x ∷ xs) f h = let parts = and_parts (p x) (list_all p xs) h in ap (λ b. cond b (x ∷ filter q xs) (filter q xs)) (f x parts.0) ∙ none_kept p q xs f parts.1
 
--- what a stripe that is reached puts down is of its keys
+-- what a stripe that is reached appends is of its keys
 own_added : (w : WorldState) (n : ℕ) (from to : State) (g : Extends from to) → IsStripe w n from → IsReached to → list_all (is_of_stripe w.config.stripes n) g.more ≡ true
 own_added w n from to g at reached =
     let s : to.config.stripes ≡ w.config.stripes = ap (λ (c : Config). c.stripes) (g.same.config ∙ at.config_is) in
@@ -170,7 +171,7 @@ shape_same w n config stripes order shape = record {
       record { config_is = h.config_is ∙ sym config; number_is = h.number_is; origin_is = h.origin_is; reached = h.reached; share = share ∙ h.share };
 }
 
--- one stripe is another, and the order has all that it put down
+-- one stripe is another, and the order has all that it appended
 pub shape_set : (w n : WorldState) (key : Bytes) (from to : State) → n.config ≡ w.config → n.stripes ≡ slice_set w.stripes (home w key) to → IsShaped w → stripe_for w key ≡ Some from
     → to.config ≡ from.config → to.stripe ≡ from.stripe → to.origin ≡ from.origin → IsReached to
     → of_stripe w.config.stripes (home w key) n.order ≡ to.history
@@ -231,19 +232,19 @@ by_group P place group one callers =
     let all_steps : AllBy P steps = (one, by_shared P (step_place place group) group.step.key group.step.out.load group.joined callers) in
     by_append P (front ++ steps) (evicted_events group.step.key group.evicted) (by_append P front steps (by_victim P group.victim) all_steps) (by_evicted P group.step.key group.evicted)
 
--- a fact of each event, where it holds of each step
+-- a fact of each event, if it holds of each step
 pub all_by : (P : Caller → Bytes → Type 0) (p : Event → Bool) (es : List Event) → ((who : Caller) (op : Op) (key : Bytes) (out : Out) (shared : Option ℕ) (reply : Reply) → P who key → p (Step who op key out shared reply) ≡ true)
     → ((key : Bytes) (cause : Cause) → p (Evict key cause) ≡ true) → AllBy P es → list_all p es ≡ true
 all_by P p [] f g h = refl
 all_by P p (Step who op key out shared reply ∷ es) f g h = and_from _ _ (f who op key out shared reply h.0) (all_by P p es f g h.1)
 all_by P p (Evict key cause ∷ es) f g h = and_from _ _ (g key cause) (all_by P p es f g h)
 
--- everything may stand before an eviction
+-- everything may come before an eviction
 before_evict : (x : Event) (key : Bytes) (cause : Cause) → may_follow x (Evict key cause) ≡ true
 before_evict (Step who op key' out shared reply) key cause = refl
 before_evict (Evict key' cause') key cause = refl
 
--- events may stand behind an order if their steps may come behind it
+-- events may come after an order if their steps may
 all_follow : (xs ys : List Event) → AllBy (λ who key. may_come_all xs who key ≡ true) ys → list_all (λ x. list_all (may_follow x) ys) xs ≡ true
 all_follow [] ys h = refl
 all_follow (x ∷ xs) ys h = and_from _ _
@@ -251,7 +252,7 @@ all_follow (x ∷ xs) ys h = and_from _ _
     (λ who op key out shared reply k. (and_parts (may_come x who key) (may_come_all xs who key) k).0) (before_evict x) h)
     (all_follow xs ys (by_map (λ who key. may_come_all (x ∷ xs) who key ≡ true) (λ who key. may_come_all xs who key ≡ true) ys (λ who key k. (and_parts (may_come x who key) (may_come_all xs who key) k).1) h))
 
--- two parts in order, of which the one may stand behind the other
+-- two parts in order, of which the one may come after the other
 order_joined : (xs ys : List Event) → in_order xs ≡ true → in_order ys ≡ true → list_all (λ x. list_all (may_follow x) ys) xs ≡ true → in_order (xs ++ ys) ≡ true
 order_joined [] ys h k f = k
 order_joined (x ∷ xs) ys h k f =
@@ -264,7 +265,7 @@ order_back : (xs ys : List Event) → in_order (xs ++ ys) ≡ true → in_order 
 order_back [] ys h = h
 order_back (x ∷ xs) ys h = order_back xs ys (and_parts (list_all (may_follow x) (xs ++ ys)) (in_order (xs ++ ys)) h).1
 
--- the order with steps that may come behind it
+-- the order with steps that may come after it
 pub added_order : (order : List Event) (from to : State) (g : Extends from to) → IsReached to → in_order order ≡ true → AllBy (λ who key. may_come_all order who key ≡ true) g.more → in_order (order ++ added from to) ≡ true
 added_order order from to g reached h none =
     ap (λ more. in_order (order ++ more)) (added_is from to g)
@@ -279,11 +280,11 @@ pub numbers_added : (last : Option ℕ) (order : List Event) (from to : State) (
 numbers_added last order from to g before here =
     added_all (number_up_to last) order from to g before (all_by (λ who key. is_up_to last who.call ≡ true) (number_up_to last) g.more (λ who op key out shared reply h. h) (λ key cause. refl) here)
 
--- a step of this caller at this key may come behind one of the other
+-- a step of this caller at this key may come after one of the other
 abbrev pub comes_behind : Caller → Bytes → Caller → Bytes → Bool
 comes_behind who k caller key = not (who.session == caller.session) || nat_lt who.call caller.call || ((who.call == caller.call) && not (pointwise ◌==◌ k key))
 
--- a step may still come if it may behind each that is added
+-- a step may still come if it may after each that is added
 pub comes_added : (order : List Event) (from to : State) (caller : Caller) (key : Bytes) (g : Extends from to) → may_come_all order caller key ≡ true → AllBy (λ who k. comes_behind who k caller key ≡ true) g.more → may_come_all (order ++ added from to) caller key ≡ true
 comes_added order from to caller key g before here =
     added_all (λ e. may_come e caller key) order from to g before

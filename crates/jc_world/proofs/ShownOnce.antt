@@ -73,7 +73,7 @@ owed_same js next None same = refl
 owed_same js next (Some (stripe.Step c op k out shared reply)) same = ap times_shown (same c op k out shared reply refl)
 owed_same js next (Some (stripe.Evict k cause)) same = refl
 
--- behind a group's step nothing is owed, if those that share its load are parked
+-- after a group's step nothing is owed, if those that share its load are parked
 none_owed : (js : List Joiner) (place : ℕ) (key : Bytes) (answer : LoadAnswer) (callers : List Caller) (cause : Option Cause) (p : ℕ) → list_all (λ c. is_parked js c key) callers ≡ true
     → times_owed js (slice_get (map (shared_event place key answer) callers ++ evicted_events key cause) p) ≡ 0
 none_owed js place key answer [] None p h = refl
@@ -102,7 +102,7 @@ group_owed js place group p free parked = go group.victim p
     go (Some key) zero = ap one_if (sym (eqb-suc-zero 0))
     go (Some key) (suc p) = from_step p ∙ ap one_if (sym (eqb-suc-suc 0 p))
 
--- and so it is where the group follows a history of which as much is parked as before
+-- and so it is if the group follows a history of which as much is parked as before
 history_owed : (js next : List Joiner) (events more : List Event) (n p : ℕ) → ((i : ℕ) (c : Caller) (op : Op) (k : Bytes) (out : Out) (shared : Option ℕ) (reply : Reply) → slice_get events i ≡ Some (stripe.Step c op k out shared reply) → is_parked next c k ≡ is_parked js c k)
     → ((i : ℕ) → times_owed next (slice_get more i) ≡ one_if (n == i))
     → times_owed next (slice_get (events ++ more) p) ≡ one_if (length events + n == p) + times_owed js (slice_get events p)

@@ -41,7 +41,7 @@ use Rattle.jc_world.specs.Events.{new_load, new_write, new_part, step_of, report
 use Rattle.jc_world.specs.Sound.{IsSoundWorld, Each}
 use Rattle.jc_world.specs.Headline.{start_with}
 use Rattle.jc_world.specs.Replies.{IsReplyOfStep, Stands}
-use Rattle.jc_world.proofs.Shares.{each_filter, each_pushed, found_test, each_map, added, fact_found}
+use Rattle.jc_world.proofs.Shares.{each_filter, each_pushed, found_test, each_map, added, fact_found, still_at}
 use Rattle.jc_world.proofs.Underway.{found_number, of_call-at}
 use Rattle.jc_world.proofs.Looked.{Taken, taken_of, each_replaced}
 use Rattle.jc_world.proofs.Settling.{Left, done_for, each_settled}
@@ -58,12 +58,6 @@ use Rattle.jc_world.proofs.Beside.{beside}
 use Rattle.jc_world.proofs.Sounding.{Laws, sound_step}
 
 -- 1. Places of lists.
-
--- what is at a place stays there if more follows
-pub still_at : {A : Type 0} (xs ys : List A) (i : ℕ) (x : A) → slice_get xs i ≡ Some x → slice_get (xs ++ ys) i ≡ Some x
-still_at [] ys i x h = cc
-still_at (z ∷ zs) ys zero x h = h
-still_at (z ∷ zs) ys (suc i) x h = still_at zs ys i x h
 
 -- what is at a place of a list with one more was there, or is the last
 pub pushed_at : {A P : Type 0} (xs : List A) (y : A) (i : ℕ) (x : A) → (slice_get xs i ≡ Some x → P) → (i ≡ length xs → y ≡ x → P) → slice_get (xs ++ y ∷ []) i ≡ Some x → P
@@ -303,7 +297,7 @@ begun_happens shows w new (event.Look call stripe) seen last h old =
     let stripes = w.config.stripes in
     subst (AllBegun shows) (sym h.9)
     (record {
-      calls = each_replaced call (λ u. going_on (with_found stripes h.6 h.1 u)) (IsBegun shows) h.0 w.calls h.2 (λ v goes b. begun_taken shows h.0 v (taken_of stripes h.6 h.1 h.0 v h.3 goes) b) old.calls;
+      calls = each_replaced call (λ u. going_on (with_found stripes stripe h.6 h.1 u)) (IsBegun shows) h.0 w.calls h.2 (λ v goes b. begun_taken shows h.0 v (taken_of stripes stripe h.6 h.1 h.0 v h.3 goes) b) old.calls;
       parts = old.parts;
       joins = old.joins;
     })
@@ -450,7 +444,7 @@ stands_step shows w new e seen (inr (unfit, shows_it, is)) old sound begun = sub
 abbrev pub AllStand : WorldState → List (WorldEvent × Shown) → Type 0
 AllStand w shows = (at : ℕ) (e : WorldEvent) (seen : Shown) → slice_get shows at ≡ Some (e, seen) → Stands w (take at shows) e seen
 
--- it goes on so with one event more
+-- it stays so with one event more
 stands_more : (shows : List (WorldEvent × Shown)) (w new : WorldState) (e : WorldEvent) (s : Shown) → IsLater w new → AllStand w shows → Stands new shows e s → AllStand new (shows ++ (e, s) ∷ [])
 stands_more shows w new e s later stand one at x seen is =
     let now = shows ++ (e, s) ∷ [] in

@@ -1,22 +1,22 @@
 -- How a call keeps its tasks: a map by key, in which a key that is settled keeps its place.
---     absent                  a key isn't among those before it, where all differ
+--     absent                  a key isn't among those before it, if all differ
 --     at_each-more, put_each_of-more
 --                             one key more, and one entry more
 --     new_at, new_put         so it goes last
 --     put_in_place            a key that is there keeps its place
 --     open_keys-more          the open keys of one task more
 --     open_distinct, one_distinct
---                             keys that differ differ where they are open; one key differs from no other
+--                             of keys that differ the open ones differ; one key differs from no other
 --     open_more, open_fails   a test of the open keys, at one task more, and at one that fails
 --     absent_same             a key that isn't there can't be settled
 --     first_each, first_put   all keys are open at first
---     open_within             a key is open exactly if the first one stands before the end
---     first_key_at            the first of the open keys stands there
+--     open_within             a key is open exactly if the first one is before the end
+--     first_key_at            the first of the open keys is there
 --     first_here, first_next
 --                             the first open key from a place on
 --     first_settled, first_fits
 --                             once a key is settled, the first open one is found from where it was
-use Rattle.std.proofs.Common.{◌≡◌, ◌==◌, ◌<◌, ◌≤◌, ◌+◌, ◌&&◌, ◌||◌, ℕ, zero, suc, Bool, true, false, cond, not, List, [], ◌∷◌, ◌++◌, map, filter, take, drop, length, option_map, subst, slice_get, Option, None, Some, is_some, refl, sym, ap, ◌∙◌, arith, true≢false, zero-add}
+use Rattle.std.proofs.Common.{◌≡◌, ◌==◌, ◌<◌, ◌≤◌, ◌+◌, ◌&&◌, ◌||◌, ℕ, zero, suc, Bool, true, false, cond, not, List, [], ◌∷◌, ◌++◌, filter, take, drop, length, option_map, subst, slice_get, Option, None, Some, is_some, refl, sym, ap, ◌∙◌, arith, true≢false, zero-add}
 use Rattle.std.specs.List.{list_all, list_any, IsDistinct, AllByRecursion}
 use Rattle.std.specs.Map.{keys_of, lookup, set_value}
 use Rattle.std.specs.Option.{option_flatten}
@@ -24,10 +24,10 @@ use Rattle.std.specs.Prelude.{get_or}
 use Rattle.std.specs.Cmp.Lexicographic.{pointwise}
 use Rattle.std.proofs.lemmas.Map.Keys.{IsDistinct-head, IsDistinct-tail}
 use Rattle.std.proofs.lemmas.Map.Made.{IsDistinct-keys_filter, is_some-lookup}
-use Rattle.std.proofs.lemmas.Bool.{and_parts, and_from}
+use Rattle.std.proofs.lemmas.Bool.{and_parts, and_from, and_right, false_from_ne_true}
 use Rattle.std.proofs.lemmas.Bool.Decides.{nat_tests}
-use Rattle.std.proofs.lemmas.List.{take_more}
-use Rattle.std.proofs.lemmas.Option.{get_or_from_slice_get, slice_get_within}
+use Rattle.std.proofs.lemmas.List.{take_more, map-append}
+use Rattle.std.proofs.lemmas.Option.{get_or_from_slice_get, slice_get_within, slice_get_read}
 use Rattle.indexmap.specs.IndexMap.{IndexMap, insert_entry}
 use Rattle.indexmap.proofs.CallerLemmas.{insert_entry-new}
 use Rattle.jc_model.specs.declared.event.Op.{Op}
@@ -35,7 +35,6 @@ use Rattle.jc_model.specs.declared.event.Op.TheVariants as op
 use Rattle.jc_model.specs.Cache.{Bytes}
 use Rattle.jc_world.specs.Calls.{Task, at_each, put_each_of, op_in, is_open, open_in}
 use Rattle.jc_world.specs.OpenCalls.{first_open}
-use Rattle.jc_world.proofs.Facts.{refuted}
 use Rattle.jc_world.proofs.Underway.{same_bytes}
 
 -- 1. New keys.
@@ -53,17 +52,8 @@ absent [] (suc i) key d at = refl
 absent (x ∷ keys) zero key d at = refl
 absent (x ∷ keys) (suc i) key d at =
     let no : pointwise ◌==◌ x key ≡ false = at_place (λ y. pointwise ◌==◌ x y ≡ false) keys i key (IsDistinct-head (pointwise ◌==◌) x keys d) at in
-    let apart : pointwise ◌==◌ key x ≡ false = refuted (pointwise ◌==◌ key x) (λ e. let t : true ≡ false = sym e ∙ ap (λ k. pointwise ◌==◌ k x) (same_bytes key x e) ∙ ap (pointwise ◌==◌ x) (sym (same_bytes key x e)) ∙ no in cc) in
+    let apart : pointwise ◌==◌ key x ≡ false = false_from_ne_true (pointwise ◌==◌ key x) (λ e. let t : true ≡ false = sym e ∙ ap (λ k. pointwise ◌==◌ k x) (same_bytes key x e) ∙ ap (pointwise ◌==◌ x) (sym (same_bytes key x e)) ∙ no in cc) in
     ap (λ b. b || list_any (pointwise ◌==◌ key) (take i keys)) apart ∙ absent keys i key (IsDistinct-tail (pointwise ◌==◌) x keys d) at
-
--- what stands at a place
-pub slice_get_here : {X : Type 0} (xs : List X) (i : ℕ) (x : X) → i < length xs → x ≡ get_or xs i x → slice_get xs i ≡ Some x
-slice_get_here [] i x lt is = absurd (not_less i lt)
-  where
-    not_less : (i : ℕ) → i < 0 → ⊥
-    not_less i lt = omega (arith, lt)
-slice_get_here (y ∷ ys) zero x lt is = ap Some (sym is)
-slice_get_here (y ∷ ys) (suc i) x lt is = slice_get_here ys i x (omega (arith, lt)) is
 
 key_at : (entries : List (Bytes × Bytes)) (i : ℕ) (key value : Bytes) → slice_get entries i ≡ Some (key, value) → slice_get (keys_of entries) i ≡ Some key
 key_at [] i key value at = cc
@@ -73,10 +63,6 @@ key_at (e ∷ entries) (suc i) key value at = key_at entries i key value at
 pub none_from : {X : Type 0} (o : Option X) → is_some o ≡ false → o ≡ None
 none_from None e = refl
 none_from (Some x) e = absurd (true≢false e)
-
-pub map-push : {X Y : Type 0} (f : X → Y) (xs : List X) (x : X) → map f (xs ++ x ∷ []) ≡ map f xs ++ f x ∷ []
-map-push f [] x = refl
-map-push f (y ∷ ys) x = ap (λ zs. f y ∷ zs) (map-push f ys x)
 
 -- a key that is new goes last
 new_last : {S : Type 0} (m : IndexMap Bytes (Option Op) S) (key : Bytes) (o : Option Op) → list_any (pointwise ◌==◌ key) (keys_of m.entries) ≡ false
@@ -100,10 +86,10 @@ take-keys (suc i) (e ∷ entries) = ap (λ ks. e.0 ∷ ks) (take-keys i entries)
 pub at_each-more : {S : Type 0} (m : IndexMap Bytes (Option Op) S) (one : Op) (keys : List Bytes) (i : ℕ) (key : Bytes) → IsDistinct (pointwise ◌==◌) keys → i < length keys → key ≡ get_or keys i key
     → m.entries ≡ at_each one (take i keys) → insert_entry (pointwise ◌==◌) m.entries key (Some one) ≡ at_each one (take (i + 1) keys)
 at_each-more m one keys i key distinct lt is made =
-    let at : slice_get keys i ≡ Some key = slice_get_here keys i key lt is in
+    let at : slice_get keys i ≡ Some key = slice_get_read keys (length keys) i key refl lt is in
     new_last m key (Some one) (ap (λ es. list_any (pointwise ◌==◌ key) (keys_of es)) made ∙ ap (list_any (pointwise ◌==◌ key)) (keys-at_each one (take i keys)) ∙ absent keys i key distinct at)
     ∙ ap (λ es. es ++ (key, Some one) ∷ []) made
-    ∙ sym (ap (at_each one) (take_more keys i key lt ∙ ap (λ x. take i keys ++ x ∷ []) (sym is)) ∙ map-push (λ k. (k, Some one)) (take i keys) key)
+    ∙ sym (ap (at_each one) (take_more keys i key lt ∙ ap (λ x. take i keys ++ x ∷ []) (sym is)) ∙ map-append (λ k. (k, Some one)) (take i keys) (key ∷ []))
 
 -- one entry more
 pub put_each_of-more : {S : Type 0} (m : IndexMap Bytes (Option Op) S) (entries : List (Bytes × Bytes)) (i : ℕ) (key value : Bytes) → IsDistinct (pointwise ◌==◌) (keys_of entries) → slice_get entries i ≡ Some (key, value)
@@ -114,7 +100,7 @@ put_each_of-more m entries i key value distinct at made =
     new_last m key (Some (op.Put value))
     (ap (λ es. list_any (pointwise ◌==◌ key) (keys_of es)) made ∙ ap (list_any (pointwise ◌==◌ key)) (keys-put_each_of (take i entries) ∙ take-keys i entries) ∙ absent (keys_of entries) i key distinct (key_at entries i key value at))
     ∙ ap (λ es. es ++ (key, Some (op.Put value)) ∷ []) made
-    ∙ sym (ap put_each_of (take_more entries i (key, value) lt ∙ ap (λ x. take i entries ++ x ∷ []) (sym is)) ∙ map-push (λ (e : Bytes × Bytes). (e.0, Some (op.Put e.1))) (take i entries) (key, value))
+    ∙ sym (ap put_each_of (take_more entries i (key, value) lt ∙ ap (λ x. take i entries ++ x ∷ []) (sym is)) ∙ map-append (λ (e : Bytes × Bytes). (e.0, Some (op.Put e.1))) (take i entries) ((key, value) ∷ []))
 
 -- 2. A key that is settled.
 
@@ -127,7 +113,7 @@ put_in_place key (task ∷ tasks) o there =
       | false ↦ λ there. ap (λ ts. task ∷ ts) (put_in_place key tasks o there)
     ] there
 
--- where something is done the key is there
+-- if something is done, the key is there
 pub there_at : (key : Bytes) (tasks : List Task) → is_some (op_in tasks key) ≡ true → is_some (lookup (pointwise ◌==◌ key) tasks) ≡ true
 there_at key tasks h = go (lookup (pointwise ◌==◌ key) tasks) h
   where
@@ -135,7 +121,7 @@ there_at key tasks h = go (lookup (pointwise ◌==◌ key) tasks) h
     go None h = h
     go (Some one) h = refl
 
--- where nothing is done nothing is settled
+-- if nothing is done, nothing is settled
 pub absent_same : (key : Bytes) (tasks : List Task) → op_in tasks key ≡ None → set_value (pointwise ◌==◌ key) tasks None ≡ tasks
 absent_same key [] none = refl
 absent_same key (task ∷ tasks) none =
@@ -179,13 +165,9 @@ open_fails p (task ∷ tasks) zero key one at there fails =
 open_fails p (task ∷ tasks) (suc i) key one at there fails =
     let rest = open_fails p tasks i key one at there fails in
     elim (is_open task) as (λ b. list_all p (keys_of (cond b (task ∷ filter is_open tasks) (filter is_open tasks))) ≡ false) [
-      | true ↦ and_false (p task.0) _ rest
+      | true ↦ and_right (p task.0) _ rest
       | false ↦ rest
     ]
-  where
-    and_false : (b c : Bool) → c ≡ false → (b && c) ≡ false
-    and_false true c h = h
-    and_false false c h = refl
 
 -- the open keys of one task more
 pub open_keys-more : (tasks : List Task) (i : ℕ) (key : Bytes) (one : Option Op) → slice_get tasks i ≡ Some (key, one) → open_in (take (i + 1) tasks) ≡ open_in (take i tasks) ++ cond (is_some one) (key ∷ []) []
@@ -207,7 +189,7 @@ open_keys-more tasks i key one at = let next : i + 1 ≡ suc i = omega (arith) i
           | false ↦ go tasks i at
         ]
 
--- keys that differ differ where they are open
+-- of keys that differ the open ones differ
 pub open_distinct : (tasks : List Task) → IsDistinct (pointwise ◌==◌) (keys_of tasks) → IsDistinct (pointwise ◌==◌) (open_in tasks)
 open_distinct tasks d = IsDistinct-keys_filter (pointwise ◌==◌) is_open tasks d
 
@@ -230,7 +212,7 @@ first_put (e ∷ entries) = refl
 same_suc : (a b : ℕ) → (a == b) ≡ (suc a == suc b)
 same_suc a b = grind (arith, nat_tests)
 
--- a key is open exactly if the first one stands before the end
+-- a key is open exactly if the first one is before the end
 pub open_within : (tasks : List Task) → list_any is_open tasks ≡ not (first_open tasks == length tasks)
 open_within [] = refl
 open_within (task ∷ tasks) =
@@ -242,7 +224,7 @@ open_within (task ∷ tasks) =
     no_zero : (n : ℕ) → (0 == suc n) ≡ false
     no_zero n = grind (arith, nat_tests)
 
--- the first of the open keys stands there
+-- the first of the open keys is there
 pub first_key_at : (tasks : List Task) → slice_get (open_in tasks) 0 ≡ option_map (λ (task : Task). task.0) (slice_get tasks (first_open tasks))
 first_key_at [] = refl
 first_key_at (task ∷ tasks) =
@@ -251,13 +233,13 @@ first_key_at (task ∷ tasks) =
       | false ↦ first_key_at tasks
     ]
 
--- where a key at a place is open, it is the first from there
+-- if a key at a place is open, it is the first from there
 pub first_here : (tasks : List Task) (i : ℕ) (key : Bytes) (one : Option Op) → slice_get tasks i ≡ Some (key, one) → is_some one ≡ true → first_open (drop i tasks) ≡ 0
 first_here [] i key one at there = cc
 first_here (task ∷ tasks) zero key one at there = let is : task ≡ (key, one) = cc in ap (λ b. cond b 0 (suc (first_open tasks))) (ap (λ (t : Task). is_open t) is ∙ there)
 first_here (task ∷ tasks) (suc i) key one at there = first_here tasks i key one at there
 
--- where it isn't, the first one stands behind it
+-- if it isn't, the first one is after it
 next_open : (tasks : List Task) (i : ℕ) (key : Bytes) (one : Option Op) → slice_get tasks i ≡ Some (key, one) → is_some one ≡ false → first_open (drop i tasks) ≡ suc (first_open (drop (suc i) tasks))
 next_open [] i key one at gone = cc
 next_open (task ∷ tasks) zero key one at gone = let is : task ≡ (key, one) = cc in ap (λ b. cond b 0 (suc (first_open tasks))) (ap (λ (t : Task). is_open t) is ∙ gone)

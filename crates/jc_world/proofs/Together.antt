@@ -1,14 +1,14 @@
--- Events of one call at keys that differ: what fits at one of them fits as well behind what happens at another.
+-- Events of one call at keys that differ: what fits at one of them fits as well after what happens at another.
 --     Keeps           at a key, a call is as far in one world as in another
 --     kept_fit        what fits at such a key fits in either
 --     keeps_other     what happens at a key keeps every other key of the call
 --     fit_together    what fits at keys that differ fits one after the other
-use Rattle.std.proofs.Common.{inl, inr, ◌≡◌, ◌==◌, ◌||◌, ◌&&◌, ◌∙◌, ℕ, List, [], ◌∷◌, ◌++◌, map, Bool, true, false, cond, not, Option, None, Some, IsSomeAnd, find, is_none, is_some, refl, sym, ap, subst, append-nil}
+use Rattle.std.proofs.Common.{inl, ◌≡◌, ◌==◌, ◌||◌, ◌&&◌, ◌∙◌, ℕ, List, [], ◌∷◌, ◌++◌, map, Bool, true, false, cond, not, Option, None, Some, IsSomeAnd, find, is_none, is_some, refl, sym, ap, subst, append-nil}
 use Rattle.std.specs.FinMap.{get, insert, remove, get-insert, get-remove}
 use Rattle.std.specs.List.{IsDistinct, AllByRecursion, list_all, list_any}
 use Rattle.std.specs.Cmp.Lexicographic.{pointwise}
 use Rattle.std.specs.Ordering.{eq_by_cmp}
-use Rattle.std.proofs.lemmas.Bool.{eqb-true, and_parts, and_from}
+use Rattle.std.proofs.lemmas.Bool.{eqb-true, and_parts, and_from, or_right, false_from_ne_true}
 use Rattle.std.proofs.lemmas.Cmp.{nat_list_cmp_total, nat_list_eq_equiv, nat_eq_equiv}
 use Rattle.std.proofs.lemmas.List.Folds.{list_any-append}
 use Rattle.std.proofs.lemmas.Map.Keys.{IsDistinct-head, IsDistinct-tail}
@@ -24,18 +24,16 @@ use Rattle.jc_world.specs.declared.event.Shown.{Shown}
 use Rattle.jc_world.specs.declared.event.Shown.TheVariants as shown
 use Rattle.jc_world.specs.declared.event.WorldEvent.{WorldEvent}
 use Rattle.jc_world.specs.declared.event.WorldEvent.TheVariants as event
-use Rattle.jc_world.specs.Calls.{CallState, has_number, has_too_many_keys, is_turn, new_call, op_at, open_keys, settle}
-use Rattle.jc_world.specs.declared.command.Command.{Command}
+use Rattle.jc_world.specs.Calls.{CallState, has_number, is_turn, op_at, open_keys, settle}
 use Rattle.jc_world.specs.World.{WorldState, Parts, open_call, of_call, part_of, is_join, is_joined, joins_without, has_progress, waits_for_load, waits_for_report}
 use Rattle.jc_world.specs.Fits.{fits, is_free, may_start, may_leave, waits_at, may_report}
-use Rattle.jc_world.specs.Events.{with_change, after_change, Happens, Starts, is_fit, AllFit, with_ends, noted, subject}
+use Rattle.jc_world.specs.Events.{with_change, after_change, Happens, Starts, AllFit, with_ends, noted, subject}
 use Rattle.jc_world.specs.Ends.{EndsState}
 use Rattle.jc_world.specs.Sound.{IsCallOf, IsSoundWorld, Each}
 use Rattle.jc_world.specs.Together.{at_call, key_at, AreAt, FitTogether}
 use Rattle.jc_world.proofs.Beginning.{may_start_at, may_turn, part_turn}
 use Rattle.jc_world.proofs.Callers.{picking, picking_turn}
 use Rattle.jc_world.proofs.Entries.{split, tied}
-use Rattle.jc_world.proofs.Facts.{refuted}
 use Rattle.jc_world.proofs.Fitting.{none_fit, fits_then, one_fits, still_waits, unjoined_held}
 use Rattle.jc_world.proofs.Joiners.{join_is}
 use Rattle.jc_world.proofs.Noting.{noted_beside, sound_ends, sound_before}
@@ -81,7 +79,7 @@ kept_start w mid call key keeps fit = go (open_call w call) refl
     go None e = let t : false ≡ true = sym (ap (may_start w call key) e) ∙ fit in cc
     go (Some u) e = at u e (op_at u key) refl
 
--- a fact of a key of a call, where an event names them
+-- a fact of a key of a call, if an event names them
 at_named : (call other : ℕ) (key q : Bytes) (P : ℕ → Bytes → Type 0) → (other ≡ call) × (key ≡ q) → P call q → P other key
 at_named call other key q P is h = subst (λ n. P n key) (sym is.0) (subst (P call) (sym is.1) h)
 
@@ -109,7 +107,7 @@ kept_fit w mid call (event.Foreign key value) q at keeps fit = cc
 
 -- keys that differ don't tie
 untied : (q key : Bytes) → (q ≡ key → ⊥) → eq_by_cmp key_cmp q key ≡ false
-untied q key apart = refuted (eq_by_cmp key_cmp q key) (λ e. apart (same_key q key e))
+untied q key apart = false_from_ne_true (eq_by_cmp key_cmp q key) (λ e. apart (same_key q key e))
 
 part_beside : (parts : Parts) (q key : Bytes) (part : Part) (call : ℕ) → (q ≡ key → ⊥) → of_call call (get (insert parts key part) q) ≡ of_call call (get parts q)
 part_beside parts q key part call apart = ap (of_call call) (get-insert nat_list_cmp_total parts key part q ∙ ap (λ b. cond b (Some part) (get parts q)) (untied q key apart))
@@ -119,7 +117,7 @@ part_without parts q key call apart = ap (of_call call) (get-remove nat_list_cmp
 
 -- a join of another key
 join_apart : (call : ℕ) (q : Bytes) (join : JoinClaim) → (q ≡ join.key → ⊥) → is_join call q join ≡ false
-join_apart call q join apart = refuted (is_join call q join) (λ e. apart (sym (join_is call q join e).1))
+join_apart call q join apart = false_from_ne_true (is_join call q join) (λ e. apart (sym (join_is call q join e).1))
 
 join_more : (joins : List JoinClaim) (call : ℕ) (q : Bytes) (join : JoinClaim) → (q ≡ join.key → ⊥) → list_any (is_join call q) (joins ++ join ∷ []) ≡ list_any (is_join call q) joins
 join_more joins call q join apart =
@@ -134,7 +132,7 @@ join_less [] call other q key apart = refl
 join_less (j ∷ js) call other q key apart =
     elim (is_join other key j) as (λ b. is_join other key j ≡ b → list_any (is_join call q) (cond (not b) (j ∷ joins_without other key js) (joins_without other key js)) ≡ (is_join call q j || list_any (is_join call q) js)) [
       | true ↦ λ e.
-          let away : is_join call q j ≡ false = refuted (is_join call q j) (λ t. apart (sym (join_is call q j t).1 ∙ (join_is other key j e).1)) in
+          let away : is_join call q j ≡ false = false_from_ne_true (is_join call q j) (λ t. apart (sym (join_is call q j t).1 ∙ (join_is other key j e).1)) in
           join_less js call other q key apart ∙ sym (ap (λ b. b || list_any (is_join call q) js) away)
       | false ↦ λ e. ap (λ b. is_join call q j || b) (join_less js call other q key apart)
     ] refl
@@ -231,7 +229,7 @@ Apart key keys = AllByRecursion (λ later. pointwise ◌==◌ key later ≡ fals
 not_same : (key q : Bytes) → pointwise ◌==◌ key q ≡ false → q ≡ key → ⊥
 not_same key q apart same = let t : true ≡ false = sym (nat_list_eq_equiv.refl key) ∙ ap (pointwise ◌==◌ key) (sym same) ∙ apart in cc
 
--- what fits at the other keys goes on fitting
+-- what fits at the other keys still fits
 rest_kept : (w mid : WorldState) (call : ℕ) (e : WorldEvent) (seen : Shown) (key : Bytes) (keys : List Bytes) (events : List WorldEvent) → key_at call e ≡ Some key → fits w e ≡ true → Happens w e seen mid → IsSoundWorld w
     → AreAt call keys events → Apart key keys → list_all (fits w) events ≡ true → list_all (fits mid) events ≡ true
 rest_kept w mid call e seen key [] [] at fit h old are apart fits_all = refl
@@ -269,7 +267,7 @@ sound_then laws w mid e seen ends fit happens old =
     let n = noted_beside (subject w e) seen mid in
     sound_ends mid ends (sound_before mid (noted (subject w e) seen mid) n.ends n.is (sound_step laws w e seen (noted (subject w e) seen mid) (inl (fit, (mid, happens, refl))) old))
 
--- what is so behind each event, of the keys that are left, and what then fits
+-- what is so after each event, of the keys that are left, and what then fits
 pub record Goes (call : ℕ) (P : WorldEvent → Type 0) (Q : List Bytes → WorldState → Type 0) (tail : List WorldEvent) : Type 0 where
   pub step : (w mid : WorldState) (ends : EndsState) (e : WorldEvent) (seen : Shown) (key : Bytes) (keys : List Bytes) → IsSoundWorld w → P e → key_at call e ≡ Some key → fits w e ≡ true → Happens w e seen mid → Q (key ∷ keys) w → Q keys (with_ends mid ends)
   pub end : (w : WorldState) → Q [] w → AllFit w tail
@@ -313,7 +311,7 @@ events_fit laws w old call keys events are differ fit =
     subst (AllFit w) (append-nil events)
     (all_together laws call (λ e. Unit {0}) (λ keys w. Unit {0}) [] (record { step = λ w mid ends e seen key keys old is at fit h q. tt; end = λ w q. none_fit w }) w keys events old are differ (each_any events) fit tt)
 
--- 4. A call's leaving, behind the withdrawals of all that it has reserved.
+-- 4. A call's leaving, after the withdrawals of all that it has reserved.
 
 -- the call is under way, and each of its open keys is still to be given back, or free
 pub record IsLeaving (call : ℕ) (keys : List Bytes) (w : WorldState) : Type 0 where
@@ -325,10 +323,6 @@ all_more : (p q : Bytes → Bool) (keys : List Bytes) → ((key : Bytes) → p k
 all_more p q [] f h = refl
 all_more p q (key ∷ keys) f h = let parts = and_parts (p key) (list_all p keys) h in and_from _ _ (f key parts.0) (all_more p q keys f parts.1)
 
-or_true : (a b : Bool) → b ≡ true → (a || b) ≡ true
-or_true true b h = refl
-or_true false b h = h
-
 -- what was still to be given back is free behind its withdrawal
 free_then : (w : WorldState) (call : ℕ) (key : Bytes) (keys : List Bytes) (q : Bytes) → is_joined w call key ≡ false → (is_among (key ∷ keys) q || is_free w call q) ≡ true
     → (is_among keys q || (is_none (of_call call (get (remove w.parts key) q)) && not (is_joined w call q))) ≡ true
@@ -336,7 +330,7 @@ free_then w call key keys q alone h =
     elim (pointwise ◌==◌ q key) as (λ b. pointwise ◌==◌ q key ≡ b → ((b || is_among keys q) || is_free w call q) ≡ true → (is_among keys q || (is_none (of_call call (get (remove w.parts key) q)) && not (is_joined w call q))) ≡ true) [
       | true ↦ λ e h.
           let same = same_bytes q key e in
-          or_true (is_among keys q) _ (and_from _ _
+          or_right (is_among keys q) _ (and_from _ _
           (ap (λ o. is_none (of_call call o)) (get-remove nat_list_cmp_total w.parts key q ∙ ap (λ b. cond b None (get w.parts q)) (ap (λ k. eq_by_cmp key_cmp k key) same ∙ tied key)))
           (ap not (ap (is_joined w call) same ∙ alone)))
       | false ↦ λ e h.
@@ -368,7 +362,7 @@ leaving_fits laws w old call u keys here differ fit rest =
     all_together laws call (λ e. (k : Bytes) × (e ≡ event.Withdraw call k)) (IsLeaving call) (event.Leave call ∷ []) (goes_leaving call) w keys (map (event.Withdraw call) keys) old
     (are_mapped call keys (event.Withdraw call) (own_call call)) differ (each_mapped _ (event.Withdraw call) (λ key. (key, refl)) keys) (all_mapped (fits w) (event.Withdraw call) keys fit) (record { u = u; here = here; rest = rest })
 
--- 5. The writer's return, behind its changes of the store.
+-- 5. The writer's return, after its changes of the store.
 
 -- once it has changed the store at a key, it is waited for at each key as before
 waits_kept : (w : WorldState) (call : ℕ) (key q : Bytes) (part : Part) (change : Change) → part_of w call key ≡ Some part → has_progress waits_for_report (part_of w call q) ≡ true
@@ -389,7 +383,7 @@ report_kept w call key part change is h = go (open_call w call) h
     any (q ∷ keys) h =
         elim (waits_at w call q) as (λ b. waits_at w call q ≡ b → (b || list_any (waits_at w call) keys) ≡ true → (waits_at (after_change w key part change) call q || list_any (waits_at (after_change w key part change) call) keys) ≡ true) [
           | true ↦ λ e h. ap (λ b. b || list_any (waits_at (after_change w key part change) call) keys) (waits_kept w call key q part change is e)
-          | false ↦ λ e h. or_true (waits_at (after_change w key part change) call q) _ (any keys h)
+          | false ↦ λ e h. or_right (waits_at (after_change w key part change) call q) _ (any keys h)
         ] refl h
 
     go : (o : Option CallState) → may_report w call o ≡ true → may_report (after_change w key part change) call o ≡ true

@@ -8,7 +8,7 @@
 use Rattle.std.proofs.Common.{◌≡◌, ◌==◌, ◌||◌, ℕ, List, [], ◌∷◌, ◌++◌, Bool, true, false, cond, not, Option, None, Some, IsSomeAnd, find, filter, nat_lt, nat_le, refl, sym, ap, ◌∙◌, subst, arith, is_none}
 use Rattle.std.specs.List.{list_all, list_any}
 use Rattle.std.specs.Cmp.Lexicographic.{pointwise, texts_ties}
-use Rattle.std.proofs.lemmas.Bool.{eqb-true, and_parts, and_from}
+use Rattle.std.proofs.lemmas.Bool.{eqb-true, and_parts, and_from, not-true, or_left, or_right}
 use Rattle.std.proofs.lemmas.Cmp.{nat_eq_equiv}
 use Rattle.std.proofs.lemmas.Bool.Decides.{nat_tests}
 use Rattle.jc_types.proofs.CallerLemmas.{all_filter, all_imply, all_found}
@@ -26,7 +26,7 @@ use Rattle.jc_world.specs.World.{WorldState, of_call}
 use Rattle.jc_world.specs.Fits.{is_new}
 use Rattle.jc_stripe.specs.OwnSteps.{may_come_all}
 use Rattle.jc_world.specs.Sound.{is_up_to, number_up_to, is_apart, FitsCall, CallsFit, IsOwned, AllOwned, Each}
-use Rattle.jc_world.proofs.Shares.{turned_eq, found_test}
+use Rattle.jc_world.proofs.Shares.{found_test}
 
 -- 1. A call that is over.
 
@@ -70,13 +70,13 @@ pub calls_on : (w n : WorldState) (P : CallState → Type 0) (calls : List CallS
 calls_on w n P [] f each fit = tt
 calls_on w n P (x ∷ xs) f each fit = (f x each.0 fit.0, fit.1, calls_on w n P xs f each.1 fit.2)
 
+pub calls_all : (w n : WorldState) (calls : List CallState) → ((u : CallState) → FitsCall w u → FitsCall n u) → CallsFit w calls → CallsFit n calls
+calls_all w n [] f fit = tt
+calls_all w n (x ∷ xs) f fit = (f x fit.0, fit.1, calls_all w n xs f fit.2)
+
 -- a call of another number is not found
 number_apart : (x u : CallState) → is_apart x u ≡ true → has_number u.caller.call x ≡ false
-number_apart x u h = go (x.caller.call == u.caller.call) (ap not (turned_eq x.caller.call u.caller.call) ∙ (and_parts (not (u.caller.session == x.caller.session)) (not (u.caller.call == x.caller.call)) h).1)
-  where
-    go : (b : Bool) → not b ≡ true → b ≡ false
-    go true h = cc
-    go false h = refl
+number_apart x u h = not-true (x.caller.call == u.caller.call) (ap not (nat_eq_equiv.symm x.caller.call u.caller.call) ∙ (and_parts (not (u.caller.session == x.caller.session)) (not (u.caller.call == x.caller.call)) h).1)
 
 -- each call is found by its number
 pub each_found : (w : WorldState) (calls : List CallState) → CallsFit w calls → Each (λ (u : CallState). find (has_number u.caller.call) calls ≡ Some u) calls
@@ -111,7 +111,7 @@ apart_over w call (x ∷ xs) u h fit =
           ap (λ (y : CallState). list_all (is_elsewhere y.caller.session) (drop_call call xs)) (sym is) ∙ here
       | false ↦ λ h.
           let away = elsewhere x u (all_found (has_number call) (is_apart x) xs u h fit.1) in
-          and_from _ _ (ap not (turned_eq x.caller.session u.caller.session) ∙ away) (apart_over w call xs u h fit.2)
+          and_from _ _ (ap not (nat_eq_equiv.symm x.caller.session u.caller.session) ∙ away) (apart_over w call xs u h fit.2)
     ] h
 
 -- a call under way of another number is of another session
@@ -158,15 +158,9 @@ event_more last call (Evict k c) new up = refl
 pub numbers_more : (last : Option ℕ) (call : ℕ) (order : List Event) → is_new last call ≡ true → list_all (number_up_to last) order ≡ true → list_all (number_up_to (Some call)) order ≡ true
 numbers_more last call order new h = all_imply (number_up_to last) (number_up_to (Some call)) order (λ e. event_more last call e new) h
 
--- the second test is enough
-or-middle : (a b c : Bool) → b ≡ true → (a || b || c) ≡ true
-or-middle true b c h = refl
-or-middle false true c h = refl
-or-middle false false c h = cc
-
 -- an event is before a new call, at any key
 event_before : (last : Option ℕ) (caller : Caller) (key : Bytes) (e : Event) → is_new last caller.call ≡ true → number_up_to last e ≡ true → may_come e caller key ≡ true
-event_before last caller key (Step who op k out shared reply) new up = or-middle (not (who.session == caller.session)) _ _ (up_to_new last caller.call who.call new up)
+event_before last caller key (Step who op k out shared reply) new up = or_left _ _ (or_right (not (who.session == caller.session)) _ (up_to_new last caller.call who.call new up))
 event_before last caller key (Evict k c) new up = refl
 
 -- a step of a new call may come
@@ -175,7 +169,7 @@ comes_new last caller key order new h = all_imply (number_up_to last) (λ e. may
 
 -- a session that is not busy has no call of these
 not_busy : (session : ℕ) (x : CallState) (xs : List CallState) → not (list_any (is_of_session session) (x ∷ xs)) ≡ true → (not (session == x.caller.session) ≡ true) × (not (list_any (is_of_session session) xs) ≡ true)
-not_busy session x xs h = let parts = neither (is_of_session session x) (list_any (is_of_session session) xs) h in (ap not (turned_eq session x.caller.session) ∙ parts.0, parts.1)
+not_busy session x xs h = let parts = neither (is_of_session session x) (list_any (is_of_session session) xs) h in (ap not (nat_eq_equiv.symm session x.caller.session) ∙ parts.0, parts.1)
   where
     neither : (a b : Bool) → not (a || b) ≡ true → (not a ≡ true) × (not b ≡ true)
     neither true b h = cc
@@ -232,7 +226,7 @@ of_call-at call (Some p) part h =
       | false ↦ λ e h. cc
     ] refl h
 
--- where a call has no part, the key has none that names it
+-- if a call has no part, the key has none that names it
 pub of_call-none : (call : ℕ) (o : Option Part) (part : Part) → is_none (of_call call o) ≡ true → o ≡ Some part → (part.reservation.caller.call == call) ≡ true → ⊥
 of_call-none call None part none is e = cc
 of_call-none call (Some p) part none is e =

@@ -2,7 +2,7 @@
 --     IsCache       a map of all that is cached, over all stripes
 --     differs       an entry that isn't the store's, while no writer's change of its key waits for its commit
 --     differing     the keys of such entries
---     cache_in      what a stripe caches, and nothing where there is no stripe
+--     cache_in      what a stripe caches, and nothing if there is no stripe
 --     cache_at      what the stripe with a number caches
 --     IsOrder       the order is one legal history over all stripes from empty ones, and what is cached is what it leaves
 --     HasShares      each stripe's history is its part of the order: a place in a stripe counts the events of that stripe alone
@@ -41,7 +41,7 @@ HasShares w =
     (number : ℕ) (s : State) → slice_get w.stripes number ≡ Some s
     → s.history ≡ of_stripe w.config.stripes number w.order
 
--- the entries stand in the byte order of their keys
+-- the entries are in the byte order of their keys
 pub record IsAudit (w : WorldState) (cached_entries stored_entries : List (Bytes × Bytes))
     (keys : List Bytes) (events : ℕ) (legal : Bool) : Type 0 where
   pub cache : Cache

@@ -8,8 +8,10 @@
 --     takes_turns     a call of a kind works at one key at a time
 --     puts_off        a key of a call of a kind that meets a refusal stays open, to be tried again: in a call of one key it doesn't
 --     has_too_many    tasks are more than a call may have keys
---     sweep_of        how far a command is that takes the keys that are cached, before its first look; none of another command
---     CallState       a call under way: who calls, how it takes its keys, what it does, and how far its sweep of the stripes is
+--     SweepState      what a call that takes the keys that are cached does at each key that it finds, and the stripes at which it
+--                     has looked
+--     sweep_of        the sweep of a command that takes the keys that are cached, before its first look; none of another command
+--     CallState       a call under way: who calls, how it takes its keys, what it does, and its sweep of the stripes
 --     new_call        a call that has just begun
 --     has_too_many_keys
 --                     a call names too many keys: it is refused whole
@@ -33,13 +35,15 @@
 --     settled         what is left of a call once a key of the call with this number has its reply or last refusal
 --     settle          the calls that are then under way
 --     drop_call       the calls without one that is over
---     next_stripe     the stripe at which a call looks next: none if it looks at none, or has looked at all
---     next_sweep      how far a sweep of as many stripes is behind one look more: none behind the last
---     with_found      a call that has taken the keys of the stripe at which it looked
+--     has_looked      a stripe is among those at which a call has looked
+--     has_looked_at_each
+--                     so is each of so many stripes
+--     next_sweep      a sweep of so many stripes behind a look at one more: none once it has looked at each
+--     with_found      a call, of so many stripes, that has looked at a stripe and taken its keys
 --     replaced        the calls, once of the one with this number is left what there is
---     look            the calls under way once a call has taken these keys: it is over if it has looked at each stripe, and no key
---                     of it is open
-use Rattle.std.specs.Prelude.{◌==◌, ◌&&◌, ◌||◌, ◌+◌, ℕ, List, [], ◌∷◌, ◌++◌, length, nat_lt, slice_get, Bool, true, false, not, Option, None, Some, filter, map, is_some, option_map, option_to_list, if◌then◌else◌}
+--     look            the calls under way once a call has looked at a stripe and taken these keys: it is over if it has looked at
+--                     each stripe, and no key of it is open
+use Rattle.std.specs.Prelude.{◌==◌, ◌&&◌, ◌||◌, ℕ, zero, suc, List, [], ◌∷◌, ◌++◌, length, nat_lt, slice_get, Bool, true, false, not, Option, None, Some, filter, map, is_some, option_map, option_to_list, if◌then◌else◌}
 use Rattle.std.specs.List.{cons_option, filter_map, list_any}
 use Rattle.std.specs.Map.{keys_of, lookup, set_value}
 use Rattle.std.specs.Option.{option_flatten}
@@ -54,7 +58,6 @@ use Rattle.jc_model.specs.Cache.{Bytes}
 use Rattle.jc_world.specs.declared.command.CallKind.{CallKind}
 use Rattle.jc_world.specs.declared.command.CallKind.TheVariants as kind
 use Rattle.jc_world.specs.declared.command.Command.{Command}
-use Rattle.jc_world.specs.declared.command.Sweep.{Sweep}
 use Rattle.jc_world.specs.declared.command.Command.TheVariants.{Single, GetAll, PutAll, RemoveAll, RemoveEvery, Clear, LoadAll, InvokeAll}
 
 -- 1. Commands.
@@ -78,14 +81,18 @@ tasks Clear = []
 tasks (LoadAll replace keys) = at_each (op.LoadAll replace) keys.keys
 tasks (InvokeAll keys) = at_each op.Invoke keys.keys
 
--- `removeAll()` and `clear()` look at one stripe after the other, from the first one on
-abbrev pub sweep_of : Command → Option Sweep
+pub record SweepState : Type 0 where
+  pub op : Op  -- at each key that it finds
+  pub looked : List ℕ  -- the numbers of the stripes, in the order of its looks
+
+-- `removeAll()` and `clear()` look at each stripe
+abbrev pub sweep_of : Command → Option SweepState
 sweep_of (Single op key) = None
 sweep_of (GetAll keys) = None
 sweep_of (PutAll entries) = None
 sweep_of (RemoveAll keys) = None
-sweep_of RemoveEvery = Some (record { op = op.Remove; stripe = 0 })
-sweep_of Clear = Some (record { op = op.Clear; stripe = 0 })
+sweep_of RemoveEvery = Some (record { op = op.Remove; looked = [] })
+sweep_of Clear = Some (record { op = op.Clear; looked = [] })
 sweep_of (LoadAll replace keys) = None
 sweep_of (InvokeAll keys) = None
 
@@ -119,7 +126,7 @@ pub record CallState : Type 0 where
   pub caller : Caller
   pub kind : CallKind
   pub tasks : List Task  -- in the order of its command, or as its looks have found them
-  pub sweep : Option Sweep  -- none if it looks at no stripe, or has looked at each
+  pub sweep : Option SweepState  -- none if it looks at no stripe, or has looked at each
 
 abbrev pub new_call : ℕ → ℕ → Command → CallState
 new_call call session command =
@@ -145,10 +152,10 @@ abbrev pub op_at : CallState → Bytes → Option Op
 op_at u key = op_in u.tasks key
 
 -- at a key that isn't among the tasks
-abbrev pub op_found : Option Sweep → Option Op
+abbrev pub op_found : Option SweepState → Option Op
 op_found sweep = option_map (λ s. s.op) sweep
 
-abbrev pub op_or_found : Option Sweep → Option (Option Op) → Option Op
+abbrev pub op_or_found : Option SweepState → Option (Option Op) → Option Op
 op_or_found sweep None = op_found sweep
 op_or_found sweep (Some op) = op
 
@@ -212,17 +219,24 @@ drop_call call calls = filter (λ u. not (has_number call u)) calls
 
 -- 5. Calls that look at the stripes.
 
-abbrev pub next_stripe : CallState → Option ℕ
-next_stripe u = option_map (λ s. s.stripe) u.sweep
+abbrev pub has_looked : List ℕ → ℕ → Bool
+has_looked looked stripe = list_any (λ other. other == stripe) looked
 
--- behind the last stripe there is none
-abbrev pub next_sweep : ℕ → Sweep → Option Sweep
-next_sweep stripes sweep =
-    if nat_lt (sweep.stripe + 1) stripes then Some (record sweep { stripe = sweep.stripe + 1 }) else None
+-- at each of so many stripes
+abbrev pub has_looked_at_each : List ℕ → ℕ → Bool
+has_looked_at_each looked zero = true
+has_looked_at_each looked (suc stripe) =
+    has_looked looked stripe && has_looked_at_each looked stripe
 
-abbrev pub with_found : ℕ → List Bytes → Sweep → CallState → CallState
-with_found stripes keys sweep u =
-    record u { tasks = u.tasks ++ at_each sweep.op keys; sweep = next_sweep stripes sweep }
+-- behind the last look there is none
+abbrev pub next_sweep : ℕ → ℕ → SweepState → Option SweepState
+next_sweep stripes stripe sweep =
+    let looked = sweep.looked ++ stripe ∷ [] in
+    if has_looked_at_each looked stripes then None else Some (record sweep { looked = looked })
+
+abbrev pub with_found : ℕ → ℕ → List Bytes → SweepState → CallState → CallState
+with_found stripes stripe keys sweep u =
+    record u { tasks = u.tasks ++ at_each sweep.op keys; sweep = next_sweep stripes stripe sweep }
 
 -- the first call with this number
 abbrev pub replaced : ℕ → (CallState → Option CallState) → List CallState → List CallState
@@ -230,5 +244,6 @@ replaced call left [] = []
 replaced call left (u ∷ calls) =
     if has_number call u then cons_option (left u) calls else u ∷ replaced call left calls
 
-abbrev pub look : ℕ → ℕ → List Bytes → Sweep → List CallState → List CallState
-look call stripes keys sweep calls = replaced call (λ u. going_on (with_found stripes keys sweep u)) calls
+abbrev pub look : ℕ → ℕ → ℕ → List Bytes → SweepState → List CallState → List CallState
+look call stripes stripe keys sweep calls =
+    replaced call (λ u. going_on (with_found stripes stripe keys sweep u)) calls

@@ -1,12 +1,12 @@
 -- The world as a machine: what an event that fits shows, and what it leaves.
 --     with_stripe                 the world with a key's stripe at another state
---     with_phase                  the same, and what the stripe appended to its history stands at the end of the order
+--     with_phase                  the same, and what the stripe appended to its history is at the end of the order
 --     step_of                     what is shown of a step, but for its stripe
 --     with_call                   the world once a call has begun: it is under way, unless it is over at once
 --     shown_begun                 what the beginning of a call shows: it has begun, or it is refused whole
 --     with_settled                the world in which a key of a call has its reply or last refusal: without the call if it was the last
 --     without_call                the world without a call that leaves
---     with_look                   the world in which a call has taken these keys
+--     with_look                   the world in which a call has looked at a stripe, and taken these keys
 --     new_load, new_write, new_process     the progress of a key whose loader, writer or processor is to be asked
 --     new_part                    what is kept of a key that was just reserved
 --     with_part, without_part     the world with this part of a key, and with none
@@ -74,8 +74,6 @@ use Rattle.jc_stripe.specs.State.{State}
 use Rattle.jc_stripe.specs.Keys.{AreKeys}
 use Rattle.jc_stripe.specs.Phases.{Begins, Commits, Withdraws, PicksUp}
 use Rattle.jc_world.specs.declared.command.CallKind.{CallKind}
-use Rattle.jc_world.specs.declared.command.Sweep.{Sweep}
-use Rattle.jc_world.specs.declared.command.Command.{Command}
 use Rattle.jc_world.specs.declared.event.WorldEvent.{WorldEvent}
 use Rattle.jc_world.specs.declared.event.WorldEvent.TheVariants as event
 use Rattle.jc_world.specs.declared.event.Shown.{Shown}
@@ -84,7 +82,7 @@ use Rattle.jc_world.specs.declared.event.Stepped.{Stepped}
 use Rattle.jc_world.specs.declared.reports.ReportedKey.{ReportedKey}
 use Rattle.jc_world.specs.Ends.{EndsState, is_bulk, is_given_up, with_met, with_over}
 use Rattle.jc_world.specs.declared.ends.Subject.{Subject}
-use Rattle.jc_world.specs.Calls.{CallState, open_keys, current_key, is_turn, puts_off, op_at, new_call, has_too_many_keys, opened, settle, drop_call, sweep_of, look}
+use Rattle.jc_world.specs.Calls.{CallState, SweepState, open_keys, puts_off, op_at, new_call, has_too_many_keys, opened, settle, drop_call, look}
 use Rattle.jc_world.specs.declared.event.Part.{Part}
 use Rattle.jc_world.specs.declared.event.Progress.{Progress}
 use Rattle.jc_world.specs.declared.event.Progress.TheVariants.{Loading, Writing, Processing, Processed, WritingEffect}
@@ -99,7 +97,7 @@ use Rattle.jc_world.specs.Fits.{fits}
 abbrev pub with_stripe : WorldState → Bytes → State → WorldState
 with_stripe w key to = record w { stripes = slice_set w.stripes (home w key) to }
 
--- the same, and what it appended to its history stands at the end of the order
+-- the same, and what it appended to its history is at the end of the order
 abbrev pub with_phase : WorldState → Bytes → State → State → WorldState
 with_phase w key from to =
     record w {
@@ -127,8 +125,9 @@ abbrev pub without_call : WorldState → ℕ → WorldState
 without_call w call = record w { calls = drop_call call w.calls }
 
 -- a call takes the keys of a stripe
-abbrev pub with_look : WorldState → ℕ → List Bytes → Sweep → WorldState
-with_look w call keys sweep = record w { calls = look call w.config.stripes keys sweep w.calls }
+abbrev pub with_look : WorldState → ℕ → ℕ → List Bytes → SweepState → WorldState
+with_look w call stripe keys sweep =
+    record w { calls = look call w.config.stripes stripe keys sweep w.calls }
 
 -- what is kept of a key that was reserved
 abbrev pub new_load : Progress
@@ -215,7 +214,7 @@ Picks old call key join from to shown.Waits new =
     PicksUp from join (picked.NotYet join) to × (new ≡ old)
 Picks old call key join from to seen new = ⊥
 
--- 3. What was said outside.
+-- 3. Outside answers.
 
 -- the world with this progress of a reserved key
 abbrev pub with_progress : WorldState → Bytes → Part → Progress → WorldState
@@ -331,10 +330,10 @@ Happens old (event.Call call session command) seen new =
     (seen ≡ shown_begun (new_call call session command))
     × (new ≡ with_call old (new_call call session command))
 Happens old (event.Look call stripe) seen new =
-    (u : CallState) × (sweep : Sweep) × (open_call old call ≡ Some u) × (u.sweep ≡ Some sweep)
+    (u : CallState) × (sweep : SweepState) × (open_call old call ≡ Some u) × (u.sweep ≡ Some sweep)
     × (from : State) × (slice_get old.stripes stripe ≡ Some from)
     × (keys : List Bytes) × AreKeys from keys
-    × (seen ≡ shown.Looked) × (new ≡ with_look old call keys sweep)
+    × (seen ≡ shown.Looked) × (new ≡ with_look old call stripe keys sweep)
 Happens old (event.Start call key) seen new =
     (u : CallState) × (op : Op) × (open_call old call ≡ Some u) × (op_at u key ≡ Some op)
     × (from : State) × (stripe_for old key ≡ Some from) × (to : State)

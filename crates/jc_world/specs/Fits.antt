@@ -1,7 +1,6 @@
 -- When an event fits.
 --     is_single      an operation is a call by itself: each but `Clear` and `LoadAll`
 --     is_playable    a command that a world plays: one operation that is a call by itself, or one on many keys, but for `loadAll`
---     is_session     a number is that of a session: from 1 to the most sessions
 --     is_new         a call's number is above all before it
 --     is_free        a call has neither a reservation nor a join of a key
 --     may_start      a key is open in a call, which may work at it and has neither a reservation nor a join of it
@@ -9,24 +8,22 @@
 --     waits_in       in these parts the writer was asked for a key by a call, and hasn't returned
 --     waits_at       that is so in the parts of a world
 --     may_report     that is so of an open key of the call
---     is_next        a stripe is the next one of a sweep
---     may_look       a stripe is the one at which a call looks next
+--     is_to_look     a sweep hasn't looked at a stripe yet
+--     may_look       a call takes the keys that are cached, and hasn't looked at this one of so many stripes
 --     fits           an event fits
-use Rattle.std.specs.Prelude.{ℕ, Bool, true, false, not, ◌&&◌, ◌==◌, Option, None, Some, is_some, nat_lt}
+use Rattle.std.specs.Prelude.{ℕ, Bool, true, false, not, ◌&&◌, Option, None, Some, is_some, nat_lt}
 use Rattle.std.specs.List.{list_all, list_any}
 use Rattle.std.specs.FinMap.{get}
-use Rattle.jc_types.specs.declared.limits.TheConstants.{SESSIONS_MAX}
-use Rattle.jc_types.specs.Limits.{is_between}
+use Rattle.jc_types.specs.Limits.{is_session}
 use Rattle.jc_model.specs.declared.event.Op.{Op}
 use Rattle.jc_model.specs.declared.event.Op.TheVariants.{Get, ContainsKey, Put, GetAndPut, PutIfAbsent, Remove, RemoveIf, GetAndRemove, Replace, ReplaceIf, GetAndReplace, Clear, LoadAll, Invoke}
 use Rattle.jc_model.specs.Cache.{Bytes}
 use Rattle.jc_model.specs.Table.{is_load_given}
-use Rattle.jc_world.specs.declared.command.Sweep.{Sweep}
 use Rattle.jc_world.specs.declared.command.Command.{Command}
 use Rattle.jc_world.specs.declared.command.Command.TheVariants as command
 use Rattle.jc_world.specs.declared.event.WorldEvent.{WorldEvent}
 use Rattle.jc_world.specs.declared.event.WorldEvent.TheVariants as event
-use Rattle.jc_world.specs.Calls.{CallState, open_keys, is_turn, op_at}
+use Rattle.jc_world.specs.Calls.{CallState, SweepState, has_looked, open_keys, is_turn, op_at}
 use Rattle.jc_world.specs.World.{WorldState, is_busy, open_call, of_call, part_of, Parts, is_free_of, waits_for_load, waits_for_report, is_answered, is_untouched, is_joined, has_progress, waits_for_process}
 
 -- the operations that are calls by themselves: the others are keys of a bulk call
@@ -56,10 +53,6 @@ is_playable command.RemoveEvery = true
 is_playable command.Clear = true
 is_playable (command.LoadAll replace keys) = false
 is_playable (command.InvokeAll keys) = true
-
--- the sessions are numbered from 1
-abbrev pub is_session : ℕ → Bool
-is_session session = is_between 1 SESSIONS_MAX session
 
 -- the number is above all before it
 abbrev pub is_new : Option ℕ → ℕ → Bool
@@ -92,19 +85,20 @@ abbrev pub may_report : WorldState → ℕ → Option CallState → Bool
 may_report w call None = false
 may_report w call (Some u) = list_any (waits_at w call) (open_keys u)
 
--- the call looks at this stripe next
-abbrev pub is_next : ℕ → Option Sweep → Bool
-is_next stripe None = false
-is_next stripe (Some sweep) = sweep.stripe == stripe
+-- none is left of a sweep that has looked at each stripe
+abbrev pub is_to_look : ℕ → Option SweepState → Bool
+is_to_look stripe None = false
+is_to_look stripe (Some sweep) = not (has_looked sweep.looked stripe)
 
-abbrev pub may_look : ℕ → Option CallState → Bool
-may_look stripe None = false
-may_look stripe (Some u) = is_next stripe u.sweep
+-- in any order
+abbrev pub may_look : ℕ → ℕ → Option CallState → Bool
+may_look stripes stripe None = false
+may_look stripes stripe (Some u) = nat_lt stripe stripes && is_to_look stripe u.sweep
 
 abbrev pub fits : WorldState → WorldEvent → Bool
 fits w (event.Call call session command) =
     is_playable command && is_session session && is_new w.last call && not (is_busy w session)
-fits w (event.Look call stripe) = may_look stripe (open_call w call)
+fits w (event.Look call stripe) = may_look w.config.stripes stripe (open_call w call)
 fits w (event.Start call key) = may_start w call key (open_call w call)
 fits w (event.Read call key) = has_progress waits_for_load (part_of w call key)
 fits w (event.Say call key answer) =

@@ -1,18 +1,17 @@
 -- How a call keeps what it does at its keys. No contract of a public call cites this.
 --     tasks_of       what a call does, as data
---     first_open     how many tasks stand before the first one whose key is open: all, if none is
+--     first_open     how many tasks come before the first one whose key is open: all, if none is
 --     IsPlaced       of a call of many keys, the place of the first open one is kept
 --     IsMany         what a call does is kept as that of a call of many keys
 --     IsSwept        so it is of a call that is to look at a stripe
 --     are_new        keys of which no task is
---     TakesKeys      a call looks at one of so many stripes next, and these keys differ, also from those that it has
-use Rattle.std.specs.Prelude.{◌≡◌, ◌==◌, ◌<◌, ℕ, suc, List, [], ◌∷◌, Bool, true, Option, Some, is_none, is_some, if◌then◌else◌}
+--     TakesKeys      a call is still to look at a stripe, and these keys differ, also from those that it has
+use Rattle.std.specs.Prelude.{◌≡◌, ◌==◌, ℕ, suc, List, [], ◌∷◌, Bool, true, Option, Some, is_none, is_some, if◌then◌else◌}
 use Rattle.std.specs.List.{list_all, IsDistinct}
 use Rattle.std.specs.Map.{lookup}
 use Rattle.std.specs.Cmp.Lexicographic.{pointwise}
 use Rattle.jc_model.specs.Cache.{Bytes}
-use Rattle.jc_world.specs.declared.command.Sweep.{Sweep}
-use Rattle.jc_world.specs.Calls.{CallState, Task, is_open}
+use Rattle.jc_world.specs.Calls.{CallState, SweepState, Task, is_open}
 use Rattle.jc_world.specs.declared.tasks.Tasks.{Tasks}
 use Rattle.jc_world.specs.declared.tasks.Tasks.TheVariants.{One, Many}
 
@@ -32,15 +31,14 @@ abbrev pub IsMany : Tasks → Type 0
 IsMany (One key op) = ⊥
 IsMany (Many ops first) = Unit {0}
 
-abbrev pub IsSwept : Option Sweep → Tasks → Type 0
+abbrev pub IsSwept : Option SweepState → Tasks → Type 0
 IsSwept sweep tasks = is_some sweep ≡ true → IsMany tasks
 
 abbrev pub are_new : List Task → List Bytes → Bool
 are_new tasks keys = list_all (λ key. is_none (lookup (pointwise ◌==◌ key) tasks)) keys
 
-pub record TakesKeys (stripes : ℕ) (keys : List Bytes) (u : CallState) : Type 0 where
-  pub sweep : Sweep
+pub record TakesKeys (keys : List Bytes) (u : CallState) : Type 0 where
+  pub sweep : SweepState
   pub sweep_is : u.sweep ≡ Some sweep
-  pub within : sweep.stripe < stripes
   pub new : are_new u.tasks keys ≡ true
   pub distinct : IsDistinct (pointwise ◌==◌) keys

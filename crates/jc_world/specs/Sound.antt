@@ -27,10 +27,10 @@
 --     ProgressAgrees                and so of a reserved key, by its part
 --     KeyAgrees                     as long as the premises hold: what is known of any key, by its part, the store's value and the
 --                                   cached one
---     FitsSweep, Sweeps             a call that looks at the stripes: the one at which it looks next is there, and the keys that it has
---                                   taken are of those before it
+--     Sweeps                        a call that is still to look at a stripe: the keys that it has taken are of those at which it has
+--                                   looked
 --     IsSoundWorld                  all of it; and while a world is fresh, nothing is cached, reserved, joined or under way
-use Rattle.std.specs.Prelude.{◌≡◌, ◌==◌, ◌<◌, ℕ, List, [], ◌∷◌, length, Ok, Bool, true, false, not, ◌&&◌, Option, None, Some, IfSome, IsSomeAnd, is_none, is_some, find, slice_get, nat_le}
+use Rattle.std.specs.Prelude.{◌≡◌, ◌==◌, ℕ, List, [], ◌∷◌, length, Ok, Bool, true, false, not, ◌&&◌, Option, None, Some, IfSome, IsSomeAnd, is_none, is_some, find, slice_get, nat_le}
 use Rattle.std.specs.List.{list_all, list_any}
 use Rattle.std.specs.Map.{lookup}
 use Rattle.std.specs.Cmp.Lexicographic.{pointwise}
@@ -63,8 +63,7 @@ use Rattle.jc_stripe.specs.Tickets.{JoinClaim, asks_loader, asks_writer, asks_pr
 use Rattle.jc_stripe.specs.State.{State, IsOut, IsJoined}
 use Rattle.jc_stripe.specs.Reached.{IsReached}
 use Rattle.jc_stripe.specs.OwnSteps.{may_come_all}
-use Rattle.jc_world.specs.Calls.{CallState, op_at, op_for, is_turn}
-use Rattle.jc_world.specs.declared.command.Sweep.{Sweep}
+use Rattle.jc_world.specs.Calls.{CallState, SweepState, has_looked, op_at, op_for, is_turn}
 use Rattle.jc_world.specs.declared.event.Part.{Part}
 use Rattle.jc_world.specs.declared.event.Progress.{Progress}
 use Rattle.jc_world.specs.declared.event.Progress.TheVariants.{Loading, Writing, Processing, Processed, WritingEffect}
@@ -241,13 +240,11 @@ KeyAgrees (Some part) stored entry =
 
 -- 6. The calls that look at the stripes.
 
-pub record FitsSweep (config : Config) (u : CallState) (sweep : Sweep) : Type 0 where
-  pub within : sweep.stripe < config.stripes
-  pub before : (key : Bytes) → is_some (lookup (pointwise ◌==◌ key) u.tasks) ≡ true
-      → stripe_of key config.stripes < sweep.stripe
-
 abbrev pub Sweeps : Config → CallState → Type 0
-Sweeps config u = (sweep : Sweep) → u.sweep ≡ Some sweep → FitsSweep config u sweep
+Sweeps config u =
+    (sweep : SweepState) → u.sweep ≡ Some sweep
+    → (key : Bytes) → is_some (lookup (pointwise ◌==◌ key) u.tasks) ≡ true
+    → has_looked sweep.looked (stripe_of key config.stripes) ≡ true
 
 -- 7. The world. While it is fresh, nothing is cached, reserved, joined or under way.
 pub record IsSoundWorld (w : WorldState) : Type 0 where

@@ -2,11 +2,11 @@
 --     looks              looks of a call at as many stripes, from a number on
 --     looks_of           the looks that follow the begin of a call: at all stripes, if it takes the keys that are cached, else none
 --     opening_events     the begin of a call, and its looks
---     BeginFits          where a call fits, so do its looks behind it, and then it is free of every key
+--     BeginFits          if a call fits, so do its looks after it, and then it is free of every key
 --     at_call, key_at    the key at which an event of the call with this number is, if it is one
 --     AreAt              events of this call, one at each of these keys, in their order
---     FitTogether        what fits at keys that differ fits one after the other: any such events; the writer's return behind its changes of
---                        the store; and a call's leaving behind the withdrawals of all that it has reserved
+--     FitTogether        what fits at keys that differ fits one after the other: any such events; the writer's return after its
+--                        changes of the store; and a call's leaving after the withdrawals of all that it has reserved
 use Rattle.std.specs.Prelude.{◌≡◌, ◌==◌, ◌||◌, ◌+◌, ℕ, zero, suc, List, [], ◌∷◌, ◌++◌, map, true, Option, None, Some, is_some, if◌then◌else◌}
 use Rattle.std.specs.List.{IsDistinct, list_all}
 use Rattle.std.specs.Cmp.Lexicographic.{pointwise}
@@ -15,8 +15,10 @@ use Rattle.jc_model.specs.Cache.{Bytes}
 use Rattle.jc_world.specs.declared.event.Shown.{Shown}
 use Rattle.jc_world.specs.declared.event.WorldEvent.{WorldEvent}
 use Rattle.jc_world.specs.declared.event.WorldEvent.TheVariants as event
-use Rattle.jc_world.specs.Calls.{CallState, open_keys, sweep_of}
+use Rattle.jc_world.specs.Calls.{CallState, new_call, open_keys, sweep_of}
 use Rattle.jc_world.specs.declared.command.Command.{Command}
+use Rattle.jc_world.specs.declared.command.Command.TheVariants.{Single}
+use Rattle.jc_model.specs.declared.event.Op.{Op}
 use Rattle.jc_world.specs.World.{WorldState, open_call}
 use Rattle.jc_world.specs.Fits.{fits, is_free}
 use Rattle.jc_world.specs.Events.{AllFit, Run}
@@ -43,6 +45,14 @@ pub record BeginFits (w : WorldState) : Type 0 where
       (key : Bytes) → fits w (event.Call call session command) ≡ true
       → Run w (opening_events call session command w.config.stripes) seen begun
       → is_free begun call key ≡ true
+  -- so a call of one key may make its first phase
+  pub single : (call session : ℕ) (op : Op) (key : Bytes)
+      → fits w (event.Call call session (Single op key)) ≡ true
+      → AllFit w (event.Call call session (Single op key) ∷ event.Start call key ∷ [])
+  pub underway : (call session : ℕ) (op : Op) (key : Bytes) (seen : List Shown) (begun : WorldState)
+      → fits w (event.Call call session (Single op key)) ≡ true
+      → Run w (event.Call call session (Single op key) ∷ []) seen begun
+      → open_call begun call ≡ Some (new_call call session (Single op key))
 
 -- 2. What follows at keys that differ.
 

@@ -17,10 +17,10 @@
 --     waits_for_report                the writer was asked, and hasn't returned
 --     is_answered                     all that was asked is answered
 --     is_unasked                      nobody was asked yet by the reservation's ticket
---     is_untouched                    nothing was said outside for the key, and nothing done
+--     is_untouched                    nothing was answered outside for the key, and nothing done
 --     has_changed                     the writer has changed the store
 --     writer_change_in, writer_change     what the writer is asked for, if it is
---     out_in, out_of                  what was said outside
+--     out_in, out_of                  the outside answers
 --     is_join                         a join is of this call and this key
 --     join_of                         a call's join of a key, if it has one
 --     is_joined                       a call has joined a load of a key, and hasn't its answer
@@ -67,7 +67,7 @@ pub record WorldState : Type 0 where
   pub calls : List CallState  -- the calls under way, in the order in which they began
   pub parts : Parts
   pub joins : List JoinClaim  -- the calls that have joined a load and haven't its answer, in this order
-  pub premises : Premises  -- what has held so far of those outside
+  pub premises : Premises  -- what has held so far of loaders, writers and others
   pub ends : EndsState  -- what calls of many keys have met, and the last one that is over
 
 -- 1. Stripes.
@@ -186,7 +186,7 @@ is_unasked Processing = true
 is_unasked (Processed loaded process) = false
 is_unasked (WritingEffect loaded process is_changed report) = false
 
--- nothing was said outside, and nothing done
+-- nothing was answered outside, and nothing done
 abbrev pub is_untouched : Progress → Bool
 is_untouched (Loading answer) = not (is_load_given answer)
 is_untouched (Writing is_changed report) = not is_changed && not (is_write_given report)
@@ -213,7 +213,7 @@ writer_change_in first (WritingEffect loaded process is_changed report) = effect
 abbrev pub writer_change : Part → Option Change
 writer_change part = writer_change_in part.reservation.first part.progress
 
--- what was said outside
+-- the outside answers
 abbrev pub out_in : Progress → Out
 out_in (Loading answer) = load_only answer
 out_in (Writing is_changed report) = write_only report

@@ -9,7 +9,7 @@ use jc_stripe::Stripe;
 use jc_types::{Key, Value};
 use std::alloc::{AllocError, Global};
 
-/// What an audit shows. Entries and keys stand in the byte order of the keys.
+/// What an audit shows. Entries and keys are in the byte order of the keys.
 #[derive(Drop)]
 pub struct Audit {
     /// What is cached, over all stripes.

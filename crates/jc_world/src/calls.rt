@@ -4,16 +4,15 @@ ghost use Rattle.std.specs.List.{list_any};
 ghost use Rattle.jc_world.specs.Calls.{has_number, has_too_many_keys, is_of_session, drop_call, look, new_call, opened, puts_off};
 ghost use Rattle.jc_world.specs.Calls.{settle};
 ghost use Rattle.jc_world.specs.OpenCalls.{TakesKeys};
-ghost use Rattle.jc_world.specs.Calls.{CallState};
-ghost use Rattle.jc_world.specs.declared.command.Sweep.{Sweep};
-ghost use Rattle.jc_world.specs.Fits.{is_single, is_playable, is_session, is_new};
+ghost use Rattle.jc_world.specs.Calls.{CallState, SweepState};
+ghost use Rattle.jc_world.specs.Fits.{is_single, is_playable, is_new};
 ghost use Rattle.jc_world.specs.declared.event.Shown.TheVariants as shown;
 
 use crate::command::{CallKind, Command};
 use crate::event::Shown;
 use crate::open_call::OpenCall;
 use jc_model::Op;
-use jc_types::{Caller, Key, Refusal, SESSIONS_MAX, Value};
+use jc_types::{Caller, Key, Refusal, Value};
 use std::alloc::{AllocError, Global};
 
 /// Whether an operation is a call by itself.
@@ -56,13 +55,6 @@ pub(crate) fn is_playable(command: &Command) -> bool
     }
 }
 
-/// Whether this is the number of a session.
-pub(crate) fn is_known(session: u32) -> bool
-    ensures { result ≡ is_session session }
-{
-    1 <= session && session <= SESSIONS_MAX
-}
-
 /// Whether a call's number is above all before it.
 pub(crate) fn is_above(last: Option<u64>, call: u64) -> bool
     ensures { result ≡ is_new last call }
@@ -87,7 +79,7 @@ pub(crate) fn find_call(calls: &[OpenCall], call: u64) -> Option<&OpenCall>
     calls.iter().find(|u| u.caller().call == call)
 }
 
-/// Where the call with this number stands.
+/// The place of the call with this number in the list.
 fn place_of(calls: &[OpenCall], call: u64) -> Option<usize>
     ensures { result ≡ position (has_number call) calls.now }
 {
@@ -106,8 +98,7 @@ pub(crate) fn begin(
         calls.new.items ≡ calls.old.items ++ opened (new_call caller.call caller.session command.now)) }
     ensures err { OnErr result (calls.new.items ≡ calls.old.items) }
 {
-    // Names the types of the values that a generic call moves here: the prover looks for their models in the types that a function
-    // names.
+    // Names the types that the prover looks for: see docs/CONTRIBUTING.md, "Idioms that the prover asks for".
     let _types: Option<(Op, Value)> = None;
     if command.has_too_many_keys() {
         return Ok(true);
@@ -155,25 +146,26 @@ pub(crate) fn settle(calls: &mut Vec<OpenCall>, call: u64, key: &Key)
     calls.retain_mut(|u| u.settle(call, key));
 }
 
-/// A call takes these keys, at the stripe at which it looks next. It is taken out if it is over with that. An `Err` says that an
-/// allocation failed, and then nothing has changed.
+/// A call takes these keys, which are those of a stripe, one of so many. It is taken out if it is over with that. An `Err` says that
+/// an allocation failed, and then nothing has changed.
 pub(crate) fn look(
     calls: &mut Vec<OpenCall>,
     call: u64,
-    keys: &[Key],
     stripes: usize,
+    stripe: usize,
+    keys: &[Key],
 ) -> Result<(), AllocError>
-    requires { IsSomeAnd (find (has_number call) calls.old.items) (TakesKeys stripes keys.now) }
-    ensures ok { OnOk result ((u : CallState) × (sweep : Sweep)
+    requires { IsSomeAnd (find (has_number call) calls.old.items) (TakesKeys keys.now) }
+    ensures ok { OnOk result ((u : CallState) × (sweep : SweepState)
         × (find (has_number call) calls.old.items ≡ Some u) × (u.sweep ≡ Some sweep)
-        × (calls.new.items ≡ look call stripes keys.now sweep calls.old.items)) }
+        × (calls.new.items ≡ look call stripes stripe keys.now sweep calls.old.items)) }
     ensures err { OnErr result (calls.new.items ≡ calls.old.items) }
 {
     let Some(place) = place_of(calls, call) else {
         unreachable!()
     };
     let u = &mut calls[place];
-    u.look(keys, stripes)?;
+    u.look(stripes, stripe, keys)?;
     if !u.is_going() {
         let _over = calls.remove(place);
     }

@@ -1,10 +1,12 @@
 //! What calls do.
-ghost use Rattle.std.specs.Prelude.{◌≡◌, ◌<◌, is_some, length};
-ghost use Rattle.jc_world.specs.Calls.{kind_of, sweep_of, next_sweep, takes_turns, puts_off, tasks, has_too_many};
+ghost use Rattle.std.specs.Prelude.{◌≡◌, is_some, length};
+ghost use Rattle.jc_world.specs.Calls.{kind_of, sweep_of, takes_turns, puts_off, tasks, has_too_many};
 
+use crate::sweep::Sweep;
 use indexmap::{IndexMap, IndexSet};
 use jc_model::Op;
 use jc_types::{BULK_KEYS_MAX, Key, Refusal, Value};
+use std::alloc::Global;
 
 /// What a call does: one operation on one key, or one operation on each of many keys, in their order.
 #[derive(Drop)]
@@ -69,19 +71,13 @@ impl Command {
         }
     }
 
-    /// How far its sweep of the stripes is before its first look, if it takes the keys that are cached.
-    pub(crate) fn sweep(&self) -> Option<Sweep>
+    /// Its sweep of the stripes before its first look, if it takes the keys that are cached.
+    pub(crate) fn sweep(&self, alloc: Global) -> Option<Sweep>
         ensures { result ≡ sweep_of self.now }
     {
         match self {
-            Command::RemoveEvery => Some(Sweep {
-                op: Op::Remove,
-                stripe: 0,
-            }),
-            Command::Clear => Some(Sweep {
-                op: Op::Clear,
-                stripe: 0,
-            }),
+            Command::RemoveEvery => Some(Sweep::new(alloc, Op::Remove)),
+            Command::Clear => Some(Sweep::new(alloc, Op::Clear)),
             Command::Single { op: _, key: _ }
             | Command::GetAll { keys: _ }
             | Command::PutAll { entries: _ }
@@ -98,7 +94,18 @@ impl Command {
     pub fn is_sweep(&self) -> bool
         ensures { result ≡ is_some (sweep_of self.now) }
     {
-        self.sweep().is_some()
+        match self {
+            Command::RemoveEvery | Command::Clear => true,
+            Command::Single { op: _, key: _ }
+            | Command::GetAll { keys: _ }
+            | Command::PutAll { entries: _ }
+            | Command::RemoveAll { keys: _ }
+            | Command::LoadAll {
+                replace: _,
+                keys: _,
+            }
+            | Command::InvokeAll { keys: _ } => false,
+        }
     }
 
     /// How many keys the command names. `removeAll()` and `clear` name none: theirs are those that are cached.
@@ -121,33 +128,6 @@ impl Command {
         ensures { result ≡ has_too_many (tasks self.now) }
     {
         self.keys_len() > BULK_KEYS_MAX
-    }
-}
-
-/// How far a call is that takes the keys that are cached: it looks at one stripe after the other, at each once.
-#[derive(Clone, Copy, Debug, PartialEq, Eq)]
-pub struct Sweep {
-    /// What the call does at each key that it finds.
-    pub op: Op,
-    /// The number of the stripe at which it looks next, which is how many stripes it has looked at.
-    pub stripe: usize,
-}
-
-impl Sweep {
-    /// The sweep behind one look more, at as many stripes: none behind the last.
-    pub(crate) fn next(&self, stripes: usize) -> Option<Sweep>
-        requires { self.now.stripe < stripes }
-        ensures { result ≡ next_sweep stripes self.now }
-    {
-        let stripe = self.stripe + 1;
-        if stripe < stripes {
-            Some(Sweep {
-                op: self.op,
-                stripe,
-            })
-        } else {
-            None
-        }
     }
 }
 

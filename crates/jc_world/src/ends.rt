@@ -90,7 +90,26 @@ fn first_met(seen: &Shown, was: Option<Refusal>) -> Option<Refusal>
 {
     match seen {
         Shown::Begun => None,
-        _ => match was {
+        Shown::Looked
+        | Shown::Stepped(_)
+        | Shown::Loads
+        | Shown::Asks(_)
+        | Shown::Processes(_)
+        | Shown::Joins
+        | Shown::Refused(_)
+        | Shown::PutOff(_)
+        | Shown::Reads(_)
+        | Shown::Says(_)
+        | Shown::Processed(_)
+        | Shown::Changed
+        | Shown::Reported(_)
+        | Shown::Withdrawn
+        | Shown::Left
+        | Shown::PickedUp(_)
+        | Shown::Waits
+        | Shown::Again
+        | Shown::Written
+        | Shown::Unfit => match was {
             Some(refusal) => Some(refusal),
             None => met(seen),
         },
@@ -111,7 +130,29 @@ fn cause_after(kind: CallKind, seen: &Shown, was: Option<Refusal>) -> Option<Ref
 pub(crate) fn is_given_up(seen: &Shown) -> bool
     ensures { result ≡ is_given_up seen.now }
 {
-    matches!(seen, Shown::Left | Shown::Refused(Refusal::TooManyKeys))
+    match seen {
+        Shown::Left => true,
+        Shown::Refused(refusal) => matches!(refusal, Refusal::TooManyKeys),
+        Shown::Begun
+        | Shown::Looked
+        | Shown::Stepped(_)
+        | Shown::Loads
+        | Shown::Asks(_)
+        | Shown::Processes(_)
+        | Shown::Joins
+        | Shown::PutOff(_)
+        | Shown::Reads(_)
+        | Shown::Says(_)
+        | Shown::Processed(_)
+        | Shown::Changed
+        | Shown::Reported(_)
+        | Shown::Withdrawn
+        | Shown::PickedUp(_)
+        | Shown::Waits
+        | Shown::Again
+        | Shown::Written
+        | Shown::Unfit => false,
+    }
 }
 
 /// By session, what its last call of many keys has met first; and the last call of many keys that is over.

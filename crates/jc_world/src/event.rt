@@ -32,8 +32,8 @@ pub enum WorldEvent {
         command: Command,
     },
     /// A call that takes the keys that are cached, as `clear` does, takes those of one stripe, in byte order: they are then keys of
-    /// the call, behind those that it has, also those that are gone before their first phase. It looks at each stripe once, in their
-    /// order: it fits at the stripe behind the last one at which the call has looked.
+    /// the call, behind those that it has, also those that are gone before their first phase. It looks at each stripe once, in any
+    /// order: it fits at a stripe of the world at which the call hasn't looked yet.
     ///
     /// Such a call is over once it has looked at each stripe, and each key has its reply or last refusal: with its last look, if
     /// there is no key then. It may have any number of keys.
@@ -80,13 +80,14 @@ pub enum WorldEvent {
     /// The writer returns, for all keys of the call that it was asked for and hasn't returned for, whether it has changed the store
     /// for them or not. It fits if there is one. In an `invokeAll` there is never more than one, that at which the call works.
     ///
-    /// A single-key write is committed if the writer reports no fault. In a call of many keys exactly the keys outside `left` are
-    /// committed, also after a fault. A key that is left fails, with the fault's code or, after a normal return, with 0.
+    /// In a call of one key, and in an `invokeAll`, the write is committed if the writer reports no fault. In the other calls of
+    /// many keys exactly the keys outside `left` are committed, also after a fault. A key that is left fails, with the fault's
+    /// code or, after a normal return, with 0.
     Report {
         /// The number of the call that has the writer asked.
         call: u64,
         /// The keys that the writer's collection still holds. Keys that it wasn't asked for count for nothing, and in a call of one
-        /// key no key counts.
+        /// key and an `invokeAll` no key counts.
         left: LeftKeys,
         /// The code with which the writer failed, or none if it returned normally.
         fault: Option<u32>,
@@ -113,7 +114,7 @@ pub enum WorldEvent {
         /// The key that the call has reserved.
         key: Key,
     },
-    /// The reservation of the call's key is given back. It fits if nothing was said outside for it and nothing done.
+    /// The reservation of the call's key is given back. It fits if nothing was answered outside for it, and nothing done.
     Withdraw {
         /// The call's number.
         call: u64,
@@ -343,7 +344,7 @@ impl Progress {
         }
     }
 
-    /// Whether nothing was said outside for the key, and nothing done.
+    /// Whether nothing was answered outside for the key, and nothing done.
     pub(crate) fn is_untouched(&self) -> bool
         ensures { result ≡ is_untouched self.now }
     {
@@ -368,7 +369,7 @@ impl Progress {
     }
 }
 
-/// What has held so far of those outside.
+/// What has held so far of loaders, writers and other programs.
 #[derive(Clone, Copy, Debug, PartialEq, Eq)]
 pub struct Premises {
     /// Honest writers: for each key each report said that it was written exactly if the writer had changed the store.

@@ -7,7 +7,7 @@ use jc_stripe::phase_laws::{keeps_reserved, stays_reached};
 /// of all events is one legal history over all stripes, each stripe's history is its part of it, and what each stripe
 /// caches is what its part leaves.
 ///
-/// That a reply and a place that are shown are those of a step of that history stands in the clause of `World::play`.
+/// That a reply and a place that are shown are those of a step of that history is said by the clause of `World::play`.
 pub fn stays_legal()
     ensures { StaysLegal }
 {
@@ -15,8 +15,8 @@ pub fn stays_legal()
     keeps_reserved();
 }
 
-/// After every list of events, on such a world: where write-through is on, nobody else has written the store, each writer has
-/// reported success exactly where it had changed the store, and each loader has answered what the store held or failed, each
+/// After every list of events, on such a world: if write-through is on, nobody else has written the store, each writer has
+/// reported success exactly if it had changed the store, and each loader has answered what the store held or failed, then each
 /// cached value is the store's, but for keys whose writer has changed the store and whose call isn't committed.
 pub fn stays_coherent()
     ensures { StaysCoherent }
@@ -38,7 +38,7 @@ pub fn stays_coherent_from()
 /// After every list of events, on such a world, for each key: the answers that loaders gave for it are as many as the steps of the
 /// order that had the loader asked and aren't shared, and the answer that is kept for a commit, if there is one, together.
 ///
-/// It is a count, and doesn't say which answer stands in which step.
+/// It is a count, and doesn't say which answer is in which step.
 pub fn counts_loads()
     ensures { CountsLoads }
 {

@@ -23,7 +23,7 @@ pub(crate) fn has_joined(joins: &[Join], call: u64, key: &Key) -> bool
     place_of(joins, call, key).is_some()
 }
 
-/// Takes a call's join of a key out, and says where it stood.
+/// Takes a call's join of a key out, and says where it was.
 pub(crate) fn take_join(joins: &mut Vec<Join>, call: u64, key: &Key) -> (Join, usize)
     requires there { list_any (is_join call key.now) joins.old.items ≡ true }
     requires once { is_joined_once joins.old.items ≡ true }
@@ -39,7 +39,7 @@ pub(crate) fn take_join(joins: &mut Vec<Join>, call: u64, key: &Key) -> (Join, u
     }
 }
 
-/// Puts a join back where it stood.
+/// Puts a join back where it was.
 pub(crate) fn put_back(joins: &mut Vec<Join>, join: Join, place: usize)
     requires place { place ≤ vec_len joins.old }
     requires room { vec_len joins.old < vec_capacity joins.old }

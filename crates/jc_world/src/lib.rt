@@ -22,11 +22,12 @@ pub mod reports;
 pub mod reserved;
 mod run;
 mod stripes;
+mod sweep;
 mod tasks;
 pub mod world;
 
 pub use audit::Audit;
-pub use command::{CallKind, Command, Sweep};
+pub use command::{CallKind, Command};
 pub use ends::Over;
 pub use event::{Part, PickedUp, Premises, Progress, Shown, Stepped, WorldEvent};
 pub use open_call::OpenCall;

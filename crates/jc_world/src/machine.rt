@@ -322,8 +322,7 @@ impl Machine {
         ensures ok { OnOk result (Happens self.old (event.Start call key.now) seen.new self.new) }
         ensures err { OnErr result (self.new ≡ self.old) }
     {
-        // Names the types of the values that a generic call moves here: the prover looks for their models in the types that a
-        // function names.
+        // Names the types that the prover looks for: see docs/CONTRIBUTING.md, "Idioms that the prover asks for".
         let _types: Option<Change> = None;
         make_room(&mut self.held)?;
         self.joins.try_reserve(1)?;

@@ -4,17 +4,17 @@ ghost use Rattle.std.specs.Prelude.{OnErr, OnOk, IfOk};
 ghost use Rattle.std.specs.List.{list_all, list_any, IsDistinct};
 ghost use Rattle.std.specs.Cmp.Lexicographic.{pointwise};
 ghost use Rattle.jc_world.specs.Calls.{op_at, open_keys, current_key, keys_at_work, may_work};
-ghost use Rattle.jc_world.specs.Calls.{is_turn, is_going, new_call, next_stripe, settled, with_found};
+ghost use Rattle.jc_world.specs.Calls.{is_turn, is_going, new_call, settled, with_found, SweepState};
 ghost use Rattle.jc_world.specs.OpenCalls.{TakesKeys};
-ghost use Rattle.jc_world.specs.declared.command.Sweep.{Sweep};
 ghost use Rattle.jc_world.specs.World.{is_free_of};
-ghost use Rattle.jc_world.specs.Fits.{is_next, waits_in};
+ghost use Rattle.jc_world.specs.Fits.{is_to_look, waits_in};
 ghost use Rattle.jc_world.specs.Events.{reported_keys};
 ghost use Rattle.jc_world.specs.Held.{parts_of};
 
-use crate::command::{CallKind, Command, Sweep};
+use crate::command::{CallKind, Command};
 use crate::held_keys::{HeldKeys, waits_for_report};
 use crate::reports::ReportedKey;
+use crate::sweep::Sweep;
 use crate::tasks::{
     Tasks, are_free, are_open, first_key, is_free_at, names_each_once, none_waits, op_among,
     push_each, push_reported, put_if_open, put_open_among, settle_at, take_keys, tasks_for,
@@ -51,7 +51,7 @@ impl OpenCall {
         ensures { IfOk result (λ u. u ≡ new_call caller.call caller.session command.now) }
     {
         let kind = command.kind();
-        let sweep = command.sweep();
+        let sweep = command.sweep(alloc);
         let tasks = tasks_for(alloc, command)?;
         Ok(OpenCall {
             caller,
@@ -128,23 +128,12 @@ impl OpenCall {
         }
     }
 
-    /// The number of the stripe at which the call looks next, if it takes the keys that are cached: none once it has looked at
-    /// each, and none of another call.
-    pub fn next_stripe(&self) -> Option<usize>
-        ensures { result ≡ next_stripe self.now }
+    /// Whether the call takes the keys that are cached, and hasn't looked at the stripe of its world with this number yet.
+    pub fn is_to_look(&self, stripe: usize) -> bool
+        ensures { result ≡ is_to_look stripe self.now.sweep }
     {
         match &self.sweep {
-            Some(sweep) => Some(sweep.stripe),
-            None => None,
-        }
-    }
-
-    /// Whether this is the stripe at which the call looks next.
-    pub(crate) fn looks_next(&self, stripe: usize) -> bool
-        ensures { result ≡ is_next stripe self.now.sweep }
-    {
-        match &self.sweep {
-            Some(sweep) => sweep.stripe == stripe,
+            Some(sweep) => !sweep.has_looked(stripe),
             None => false,
         }
     }
@@ -228,19 +217,25 @@ impl OpenCall {
         Ok(reported)
     }
 
-    /// Takes these keys at the stripe at which the call looks next. An `Err` says that an allocation failed, and then nothing has
+    /// Takes these keys, which are those of a stripe, one of so many. An `Err` says that an allocation failed, and then nothing has
     /// changed.
-    pub(crate) fn look(&mut self, keys: &[Key], stripes: usize) -> Result<(), AllocError>
-        requires { TakesKeys stripes keys.now self.old }
-        ensures ok { OnOk result ((sweep : Sweep) × (self.old.sweep ≡ Some sweep)
-            × (self.new ≡ with_found stripes keys.now sweep self.old)) }
+    pub(crate) fn look(
+        &mut self,
+        stripes: usize,
+        stripe: usize,
+        keys: &[Key],
+    ) -> Result<(), AllocError>
+        requires { TakesKeys keys.now self.old }
+        ensures ok { OnOk result ((sweep : SweepState) × (self.old.sweep ≡ Some sweep)
+            × (self.new ≡ with_found stripes stripe keys.now sweep self.old)) }
         ensures err { OnErr result (self.new ≡ self.old) }
     {
-        let Some(sweep) = self.sweep else {
+        let Some(sweep) = &self.sweep else {
             unreachable!()
         };
-        take_keys(&mut self.tasks, keys, &sweep.op)?;
-        self.sweep = sweep.next(stripes);
+        let next = sweep.next(stripes, stripe)?;
+        take_keys(&mut self.tasks, keys, sweep.op())?;
+        self.sweep = next;
         Ok(())
     }
 

@@ -62,8 +62,9 @@ impl LeftKeys {
     }
 }
 
-/// What the return of a writer says for a key of a call that takes its keys so. In a call of one key that is the writer's fault or
-/// none, whatever is left. In a call of many keys each one that is left failed, and each other one was written.
+/// What the return of a writer says for a key of a call that takes its keys so. In a call that takes one key after
+/// the other that is the writer's fault or none, whatever is left. In a batch each key that is left failed, and each other one was
+/// written.
 pub(crate) fn report_for(
     kind: CallKind,
     left: &LeftKeys,
@@ -73,8 +74,8 @@ pub(crate) fn report_for(
     ensures { result ≡ report_for kind left.now fault key.now }
 {
     match kind {
-        CallKind::Single => report_with(fault),
-        CallKind::KeyByKey | CallKind::Batch => batch_answer(left.is_left(key), fault),
+        CallKind::Single | CallKind::KeyByKey => report_with(fault),
+        CallKind::Batch => batch_answer(left.is_left(key), fault),
     }
 }
 

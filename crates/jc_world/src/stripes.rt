@@ -140,7 +140,7 @@ impl Stripes {
         &self.items
     }
 
-    /// The stripes, for one who ends them.
+    /// The stripes, for anyone who ends them.
     pub(crate) fn into_items(self) -> Vec<Stripe>
         ensures { result.items ≡ self.stripes }
     {
@@ -187,8 +187,7 @@ fn merge(alloc: Global, stripes: &[Stripe], turns: &[u8]) -> Result<Vec<Event>, 
     requires count { length stripes.now ≤ STRIPES_MAX }
     ensures { IfOk result (λ order. order.items ≡ merge (history_at stripes.now) turns.now) }
 {
-    // Names the types of the values that a generic call moves here: the prover looks for their models in the types that a
-    // function names.
+    // Names the types that the prover looks for: see docs/CONTRIBUTING.md, "Idioms that the prover asks for".
     let _types: Option<
         (
             Op,

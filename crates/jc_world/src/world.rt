@@ -49,7 +49,7 @@ impl Model for World {
 impl World {
     /// An empty cache of this shape beside an empty store, and no call.
     ///
-    /// A shape that `Config::check` refuses is refused with its `BadConfig`, and lack of memory with `OutOfMemory`.
+    /// A shape that `Config::check` refuses is refused with its `BadConfig`, and a failed allocation with `OutOfMemory`.
     pub fn new(alloc: Global, config: &Config) -> Result<World, Refusal>
         ensures made { IfOk result (λ w. w ≡ record { world = start config.now; taken = 0 }) }
         ensures ok { IsOk result → check config.now ≡ Ok tt }
@@ -77,7 +77,7 @@ impl World {
 
     /// Plays events in their order, and appends what each shows to `shown`.
     ///
-    /// An event that doesn't fit is shown as `Unfit` and changes nothing. After an error of memory exactly the first `played`
+    /// An event that doesn't fit is shown as `Unfit` and changes nothing. After a failed allocation exactly the first `played`
     /// events were taken, what they show is appended, and nothing of the others.
     pub fn play(&mut self, events: &[WorldEvent], shown: &mut Vec<Shown>) -> Result<(), AllocError>
         ensures run { OnOk result (
@@ -87,8 +87,7 @@ impl World {
             × RunAppending self.old.world (take self.new.taken events.now)
             shown.old.items shown.new.items self.new.world) }
     {
-        // Names the types of the values that a generic call moves here: the prover looks for their models in the types that a
-        // function names.
+        // Names the types that the prover looks for: see docs/CONTRIBUTING.md, "Idioms that the prover asks for".
         let _types: Option<
             (
                 Reply,
@@ -232,7 +231,7 @@ impl World {
     }
 
     /// Events of one call at keys that differ, each of which fits now, fit one after the other: what happens at one key of a call
-    /// takes nothing from its others. So does the writer's return behind its changes of the store, and a call's leaving behind the
+    /// takes nothing from its others. So does the writer's return after its changes of the store, and a call's leaving after the
     /// withdrawals of all that it has reserved. This does nothing: what it says is its contract.
     pub fn lets_keys_go_together(&self)
         ensures { FitTogether self.now.world }
@@ -242,8 +241,8 @@ impl World {
         let _ = &self.machine;
     }
 
-    /// If a call fits, so do its looks at the stripes directly after it, and then it has reserved no key and joined no load. This
-    /// does nothing: what it says is its contract.
+    /// If a call fits, so do its looks at the stripes directly after it, and then it has reserved no key and joined no load. A call
+    /// of one key is then under way, and its first phase fits. This does nothing: what it says is its contract.
     pub fn lets_calls_begin(&self)
         ensures { BeginFits self.now.world }
     {
@@ -252,9 +251,9 @@ impl World {
 
     /// What there is to see of the world.
     ///
-    /// Where write-through is on, nobody else wrote the store, each writer reported success exactly where it had changed the store,
-    /// and each loader answered what the store held or failed, no key differs: each cached value is the store's, but for keys whose
-    /// writer has changed the store and whose call isn't committed. It looks at all entries.
+    /// If write-through is on, nobody else wrote the store, each writer reported success exactly if it had changed the store,
+    /// and each loader answered what the store held or failed, then no key differs: each cached value is the store's, but for
+    /// keys whose writer has changed the store and whose call isn't committed. It looks at all entries.
     pub fn audit(&self, alloc: Global) -> Result<Audit, AllocError>
         ensures audit { IfOk result (λ a.
             IsAudit self.now.world a.cache.items a.store.items a.differing.items a.events a.is_legal) }

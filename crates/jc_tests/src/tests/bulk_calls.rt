@@ -540,7 +540,7 @@ fn are_given_up(rt: HostRuntime) {
     all_hold(&rt, rt.alloc(), GIVEN_UP);
 }
 
-/// What is played of a call at so many keys, each with this text behind it, and of a call that its session begins then.
+/// What is played of a call at so many keys, each with this text after it, and of a call that its session begins then.
 fn played_at_many(
     rt: &impl Abort,
     alloc: Global,

@@ -4,12 +4,13 @@ mod faults;
 
 use super::{is, played};
 use jc_script::noted::Noted;
-use jc_script::run::{RunEnd, RunFault, SCRIPT_MAX, run};
+use jc_script::run::{RunEnd, RunFault, run};
+use jc_types::SCRIPT_MAX;
 use std::alloc::Global;
 use std::io;
 use std::process::Abort;
 
-// The lines of a text that parts them by `; `, each with a line feed.
+// The lines of a text that separates them by `; `, each with a line feed.
 fn lines(rt: &impl Abort, alloc: Global, text: &str) -> Vec<u8> {
     let mut all = Vec::new(alloc);
     for line in text.split("; ") {
@@ -36,7 +37,7 @@ fn end_with_fault(rt: &impl Abort, alloc: Global, part: &str) {
     }
 }
 
-// Plays scripts in parts that `==` parts.
+// Plays scripts in parts that `==` separates.
 fn all_end_with_faults(rt: &impl Abort, alloc: Global, parts: &str) {
     for part in parts.split("==\n") {
         end_with_fault(rt, alloc, part);

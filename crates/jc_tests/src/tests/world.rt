@@ -140,7 +140,7 @@ fn plays_a_list_in_its_order(rt: HostRuntime) {
 
 // 3. A put whose writer has changed the store and hasn't returned.
 
-/// Up to that change, behind which session 2 gets the old value.
+/// Up to that change, after which session 2 gets the old value.
 const PUT_CHANGED: &str = "\
 get 1 a: begun; start leave
 start 1 a: loads; read say withdraw

@@ -27,7 +27,7 @@ impl Machine {
         ensures { (part : Part) × (part_of self.old call key.now ≡ Some part)
             × (self.new ≡ after_answer self.old key.now part answer) }
     {
-        // Copied first: a value counts as moved by the call that takes it.
+        // Copied first: see docs/CONTRIBUTING.md, "Idioms that the prover asks for".
         let kept = answer;
         let honest = is_honest_load(answer, self.stored(key));
         loader_answers(&mut self.held, key, kept);
@@ -41,7 +41,7 @@ impl Machine {
         ensures { Happens self.old (event.Read call key.now) seen.new self.new }
     {
         let answer = answer_of(self.stored(key));
-        // Copied first: a value counts as moved by the call that takes it.
+        // Copied first: see docs/CONTRIBUTING.md, "Idioms that the prover asks for".
         let kept = answer;
         self.loader_answers(call, key, answer);
         *seen = Shown::Reads(kept);
@@ -53,7 +53,7 @@ impl Machine {
         requires { fits self.old (event.Say call key.now answer) ≡ true }
         ensures { Happens self.old (event.Say call key.now answer) seen.new self.new }
     {
-        // Copied first: a value counts as moved by the call that takes it.
+        // Copied first: see docs/CONTRIBUTING.md, "Idioms that the prover asks for".
         let kept = answer;
         self.loader_answers(call, key, answer);
         *seen = Shown::Says(kept);
@@ -83,7 +83,7 @@ impl Machine {
         ensures { (part : Part) × (part_of self.old call key.now ≡ Some part)
             × (self.new ≡ after_report self.old key.now part answer) }
     {
-        // Copied first: a value counts as moved by the call that takes it.
+        // Copied first: see docs/CONTRIBUTING.md, "Idioms that the prover asks for".
         let kept = answer;
         let is_changed = report(&mut self.held, key, answer);
         let honest = is_honest_report(&kept, is_changed);

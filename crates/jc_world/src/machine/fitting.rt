@@ -2,15 +2,16 @@
 ghost use Rattle.std.specs.Prelude.{◌≡◌, ◌&&◌, not, true, false, None, Some};
 ghost use Rattle.jc_world.specs.declared.event.WorldEvent.TheVariants as event;
 ghost use Rattle.jc_world.specs.World.{has_progress, is_busy, is_joined, open_call, part_of, waits_for_load, waits_for_process};
-ghost use Rattle.jc_world.specs.Fits.{is_playable, is_session, is_new, may_start, may_leave, is_free, may_report, waits_at, fits};
+ghost use Rattle.jc_types.specs.Limits.{is_session};
+ghost use Rattle.jc_world.specs.Fits.{is_playable, is_new, may_start, may_leave, is_free, may_report, waits_at, fits};
 ghost use Rattle.jc_world.specs.Fits.{is_single, may_look};
 
-use crate::calls::{is_known, is_playable};
+use crate::calls::is_playable;
 use crate::command::Command;
 use crate::event::WorldEvent;
 use crate::held_keys::waits_for_report;
 use crate::machine::Machine;
-use jc_types::Key;
+use jc_types::{Key, is_session};
 
 impl Machine {
     /// Whether the event fits.
@@ -85,14 +86,14 @@ impl Machine {
             && is_new self.now.last call && not (is_busy self.now session)) }
     {
         let busy = self.is_busy(session);
-        is_playable(command) && is_known(session) && self.is_new(call) && !busy
+        is_playable(command) && is_session(session) && self.is_new(call) && !busy
     }
 
     fn may_look(&self, call: u64, stripe: usize) -> bool
-        ensures { result ≡ may_look stripe (open_call self.now call) }
+        ensures { result ≡ may_look self.now.config.stripes stripe (open_call self.now call) }
     {
         match self.open_call(call) {
-            Some(u) => u.looks_next(stripe),
+            Some(u) => stripe < self.config.stripes && u.is_to_look(stripe),
             None => false,
         }
     }

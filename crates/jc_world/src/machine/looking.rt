@@ -16,7 +16,7 @@ use jc_types::Key;
 use std::alloc::AllocError;
 
 impl Machine {
-    /// A call takes the keys of the stripe at which it looks next.
+    /// A call takes the keys of a stripe at which it hasn't looked yet.
     #[inline(never)]
     pub(super) fn look(
         &mut self,
@@ -30,7 +30,7 @@ impl Machine {
         ensures err { OnErr result (self.new ≡ self.old) }
     {
         let keys = self.keys_at(stripe)?;
-        look(&mut self.calls, call, &keys, self.config.stripes)?;
+        look(&mut self.calls, call, self.config.stripes, stripe, &keys)?;
         *seen = Shown::Looked;
         Ok(())
     }

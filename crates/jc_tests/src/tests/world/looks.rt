@@ -1,6 +1,6 @@
-//! A call that takes the keys that are cached, event by event: one look after the other, at each stripe once.
+//! A call that takes the keys that are cached, event by event: a look at each stripe, in any order.
 use super::courses::{plays, shows};
-use super::{config, is_in_order, opened_world};
+use super::{config, is_in_order, opened_world, put_key};
 use jc_types::Config;
 use jc_world::command::Command;
 use jc_world::ends::Over;
@@ -31,12 +31,23 @@ fn looks(rt: &impl Abort, alloc: Global, world: &mut World, stripe: usize, word:
     );
 }
 
-/// The stripe at which call 9 looks next.
-fn next_stripe(rt: &impl Abort, world: &World) -> Option<usize> {
+/// Whether call 9 is still to look at a stripe.
+fn is_to_look(rt: &impl Abort, world: &World, stripe: usize) -> bool {
     world
         .open_call(9)
         .expect(rt, "the call is under way")
-        .next_stripe()
+        .is_to_look(stripe)
+}
+
+/// The open keys of call 9 are these, in this order, each with a space after it.
+fn has_keys(rt: &impl Abort, alloc: Global, world: &World, names: &str) {
+    let (mut keys, mut listed) = (Vec::new(alloc), Vec::new(alloc));
+    let u = world.open_call(9).expect(rt, "the call is under way");
+    u.put_open_keys(&mut keys).expect(rt, "memory");
+    for key in &keys {
+        put_key(rt, &mut listed, key);
+    }
+    assert!(rt; listed.as_slice() == names.as_bytes(), "its keys");
 }
 
 /// Call 9 is over by its keys, and has met nothing.
@@ -77,7 +88,7 @@ start 9 d: unfit; leave
 start 9 b: stepped; leave
 ";
 
-/// Behind the last look the other key is, and the call is over with it.
+/// After the last look the other key is, and the call is over with it.
 const SECOND_LOOK: &str = "\
 start 9 a: unfit; leave
 start 9 c: stepped; none
@@ -90,17 +101,42 @@ fn looks_at_each_stripe_once(rt: HostRuntime) {
     plays(&rt, alloc, &mut world, ENTRIES);
     looks(&rt, alloc, &mut world, 0, "unfit");
     clears(&rt, alloc, &mut world);
-    looks(&rt, alloc, &mut world, 1, "unfit");
+    looks(&rt, alloc, &mut world, 2, "unfit");
     looks(&rt, alloc, &mut world, 0, "looked");
     looks(&rt, alloc, &mut world, 0, "unfit");
-    assert!(rt; next_stripe(&rt, &world) == Some(1), "the second stripe");
+    assert!(rt; !is_to_look(&rt, &world, 0), "the first stripe");
+    assert!(rt; is_to_look(&rt, &world, 1), "the second stripe");
     plays(&rt, alloc, &mut world, FIRST_LOOK);
     looks(&rt, alloc, &mut world, 1, "looked");
-    assert!(rt; next_stripe(&rt, &world).is_none(), "no stripe is left");
+    assert!(rt; !is_to_look(&rt, &world, 1), "no stripe is left");
     looks(&rt, alloc, &mut world, 1, "unfit");
     plays(&rt, alloc, &mut world, SECOND_LOOK);
     is_over(&rt, &world);
     is_in_order(&rt, alloc, &world, "d c b d b c ");
+    world.close();
+}
+
+/// The keys of the stripe at which it has looked first are then before the others.
+const ALL_KEYS: &str = "\
+start 9 d: stepped; leave
+start 9 c: stepped; leave
+start 9 b: stepped; none
+";
+
+#[test]
+fn looks_in_any_order(rt: HostRuntime) {
+    let alloc = rt.alloc();
+    let mut world = two_stripes(&rt, alloc);
+    plays(&rt, alloc, &mut world, ENTRIES);
+    clears(&rt, alloc, &mut world);
+    looks(&rt, alloc, &mut world, 1, "looked");
+    looks(&rt, alloc, &mut world, 1, "unfit");
+    assert!(rt; is_to_look(&rt, &world, 0), "the first stripe is left");
+    looks(&rt, alloc, &mut world, 0, "looked");
+    looks(&rt, alloc, &mut world, 0, "unfit");
+    has_keys(&rt, alloc, &world, "c b d ");
+    plays(&rt, alloc, &mut world, ALL_KEYS);
+    is_over(&rt, &world);
     world.close();
 }
 

@@ -1,6 +1,6 @@
 //! Calls of many keys, event by event: a processor at one key after the other, and a batch that fails in part.
 use super::courses::{plays, shows};
-use super::{is_in_order, key_of, opened_world, value_of};
+use super::{differs, is_in_order, key_of, opened_world, value_of};
 use indexmap::IndexSet;
 use jc_model::EntryCall;
 use jc_types::{BULK_KEYS_MAX, Key, Refusal};
@@ -75,13 +75,25 @@ start 1 a: unfit; leave
 start 1 b: processes; withdraw
 ";
 
-/// The second key's write fails to change the store; then the call is over.
+/// The second key is committed, and the call is over.
 const SECOND_OVER: &str = "\
-report 1 b: undone; commit
+report 1 b: unfit; commit
 commit 1 b: stepped; none
 start 1 b: unfit; none
 ";
 
+/// The writer returns normally for call 1. It hasn't changed the store, and its collection still holds a key.
+fn leaves(rt: &impl Abort, alloc: Global, world: &mut World, name: &str) {
+    let left = LeftKeys::one(alloc, &key_of(rt, name)).expect(rt, "memory");
+    let report = WorldEvent::Report {
+        call: 1,
+        left,
+        fault: None,
+    };
+    shows(rt, alloc, world, report, "undone", "the report");
+}
+
+/// The writer was asked for one key, so its return without a fault says that this was written, whatever is left: it is cached then.
 #[test]
 fn takes_one_key_after_the_other(rt: HostRuntime) {
     let alloc = rt.alloc();
@@ -94,9 +106,11 @@ fn takes_one_key_after_the_other(rt: HostRuntime) {
     processes(&rt, alloc, &mut world, "a", "processed");
     plays(&rt, alloc, &mut world, SECOND_STARTED);
     processes(&rt, alloc, &mut world, "b", "processed");
+    leaves(&rt, alloc, &mut world, "b");
     plays(&rt, alloc, &mut world, SECOND_OVER);
     assert!(rt; !world.is_busy(1), "the call is over");
     is_in_order(&rt, alloc, &world, "a b ");
+    differs(&rt, alloc, &world, "b ");
     world.close();
 }
 
@@ -130,10 +144,7 @@ fn commits_what_the_writer_did_not_leave(rt: HostRuntime) {
     };
     shows(&rt, alloc, &mut world, begin, "begun", "the call");
     plays(&rt, alloc, &mut world, BATCH_CHANGED);
-    let fault = None;
-    let left = LeftKeys::one(alloc, &key_of(&rt, "b")).expect(&rt, "memory");
-    let report = WorldEvent::Report { call, left, fault };
-    shows(&rt, alloc, &mut world, report, "undone", "the report");
+    leaves(&rt, alloc, &mut world, "b");
     plays(&rt, alloc, &mut world, BATCH_COMMITTED);
     let cause = Some(Refusal::WriterFailed(0));
     assert!(rt; world.over() == Some(Over { call, cause }), "its cause");

@@ -1,4 +1,4 @@
-//! Long runs of events drawn by lot, compared with a plain reading of their order.
+//! Long runs of random events with a fixed seed, compared with a plain reading of their order.
 use super::{config, key_at, key_of, value_of};
 use jc_model::{Event, LoadAnswer, Op, Reply, legal};
 use jc_types::{Config, Key, Value, stripe_of};
@@ -9,17 +9,17 @@ use jc_world::world::World;
 use std::alloc::Global;
 use std::process::Abort;
 
-// 1. What is drawn.
+// 1. Random values.
 
 /// A linear congruential generator.
 #[derive(Drop)]
-struct Lot {
+struct Rng {
     state: u64,
 }
 
-impl Lot {
+impl Rng {
     /// A number below `bound`.
-    fn draw(&mut self, bound: u8) -> u8 {
+    fn next(&mut self, bound: u8) -> u8 {
         let next = self.state.wrapping_mul(6364136223846793005);
         self.state = next.wrapping_add(1442695040888963407);
         let drawn = (self.state >> 56) as u8;
@@ -27,7 +27,7 @@ impl Lot {
     }
 
     fn key(&mut self, rt: &impl Abort) -> Key {
-        let name = match self.draw(4) {
+        let name = match self.next(4) {
             0 => "a",
             1 => "b",
             2 => "c",
@@ -37,7 +37,7 @@ impl Lot {
     }
 
     fn value(&mut self, rt: &impl Abort) -> Value {
-        let name = match self.draw(2) {
+        let name = match self.next(2) {
             0 => "0",
             _ => "1",
         };
@@ -46,7 +46,7 @@ impl Lot {
 
     fn op(&mut self, rt: &impl Abort) -> Op {
         let (first, second) = (self.value(rt), self.value(rt));
-        match self.draw(18) {
+        match self.next(18) {
             0 => Op::ContainsKey,
             1 | 2 => Op::Put(first),
             3 => Op::GetAndPut(first),
@@ -66,7 +66,7 @@ impl Lot {
 
     /// Something that may happen to a call, whether it fits or not.
     fn event(&mut self, rt: &impl Abort, alloc: Global, call: u64, key: Key) -> WorldEvent {
-        match self.draw(17) {
+        match self.next(17) {
             0 | 1 => WorldEvent::Read { call, key },
             2 => {
                 let answer = LoadAnswer::Found(self.value(rt));
@@ -97,7 +97,7 @@ impl Lot {
     }
 }
 
-// 2. A plain reading of what was put down.
+// 2. A plain reading of what was appended.
 
 /// What a step does to the entry of its key.
 #[derive(Drop)]
@@ -110,7 +110,7 @@ enum Use {
     Nothing,
 }
 
-/// What a step does that was told this at an entry with this value.
+/// What a step with this reply does to an entry with this value.
 fn use_of(op: &Op, reply: &Reply, was: Option<Value>) -> Use {
     let stays = match was {
         Some(value) => Use::Front(value),
@@ -129,7 +129,7 @@ fn use_of(op: &Op, reply: &Reply, was: Option<Value>) -> Use {
     }
 }
 
-/// Entries of all stripes in order of use, the most recently used first, behind so many events.
+/// Entries of all stripes in order of use, the most recently used first, after so many events.
 #[derive(Drop)]
 struct Shelf {
     stripes: usize,
@@ -219,7 +219,7 @@ impl Shelf {
         }
     }
 
-    /// Reads what one event of the world put down, before which these keys were reserved.
+    /// Reads what one event of the world appended, before which these keys were reserved.
     fn reads_phase(&mut self, rt: &impl Abort, events: &[Event], pinned: &[Key]) {
         for (k, event) in events.iter().skip(self.read).enumerate() {
             if let Event::Evict { key, .. } = event {
@@ -270,7 +270,7 @@ fn kind(shown: &Shown) -> usize {
 /// fitted.
 #[derive(Drop)]
 struct Run {
-    lot: Lot,
+    rng: Rng,
     calls: Vec<(u64, Key)>,
     shelf: Shelf,
     shown: [u32; KINDS],
@@ -289,7 +289,7 @@ impl Run {
         keys
     }
 
-    /// Plays one event, reads what it put down, and counts what it shows.
+    /// Plays one event, reads what it appended, and counts what it shows.
     fn plays(
         &mut self,
         rt: &impl Abort,
@@ -317,19 +317,19 @@ impl Run {
 
     /// The next event of a session: of its call, or a call with this number and its first phase.
     fn goes_on(&mut self, rt: &impl Abort, alloc: Global, world: &mut World, number: u64) {
-        let place = self.lot.draw(5);
+        let place = self.rng.next(5);
         let session = place as u32 + 1;
         let slot = self.calls.get_mut(place as usize).expect(rt, "a session");
         if world.is_busy(session) {
             let (call, key) = *slot;
-            let event = self.lot.event(rt, alloc, call, key);
+            let event = self.rng.event(rt, alloc, call, key);
             self.plays(rt, alloc, world, event);
             return;
         }
-        let key = self.lot.key(rt);
+        let key = self.rng.key(rt);
         *slot = (number, key);
         let command = Command::Single {
-            op: self.lot.op(rt),
+            op: self.rng.op(rt),
             key,
         };
         let call = WorldEvent::Call {
@@ -368,10 +368,10 @@ impl Run {
     }
 }
 
-fn runs_by_lot(rt: &impl Abort, alloc: Global, config: &Config) {
+fn runs_at_random(rt: &impl Abort, alloc: Global, config: &Config) {
     let mut world = World::new(alloc, config).expect(rt, "a world");
     let mut run = Run {
-        lot: Lot { state: 5 },
+        rng: Rng { state: 5 },
         calls: vec![in alloc; (0, key_of(rt, "a")); 5].expect(rt, "memory"),
         shelf: Shelf {
             stripes: config.stripes,
@@ -394,10 +394,10 @@ fn runs_by_lot(rt: &impl Abort, alloc: Global, config: &Config) {
 
 #[test]
 fn stays_legal_over_a_long_run(rt: HostRuntime) {
-    runs_by_lot(&rt, rt.alloc(), &config(1, 2, 16384));
+    runs_at_random(&rt, rt.alloc(), &config(1, 2, 16384));
 }
 
 #[test]
 fn stays_legal_over_a_long_run_of_two_stripes(rt: HostRuntime) {
-    runs_by_lot(&rt, rt.alloc(), &config(2, 1, 16384));
+    runs_at_random(&rt, rt.alloc(), &config(2, 1, 16384));
 }

@@ -8,7 +8,7 @@ use Rattle.jc_world.specs.Sound.{is_joined_once}
 use Rattle.jc_world.proofs.Joiners.{Stands, stands_at, any_position, put_back_at}
 use Rattle.jc_world.proofs.joining.take_join.Goals as goal
 
--- what is read at the place is what stands there
+-- what is read at the place is what is there
 read_at : (call : ℕ) (key : Bytes) (js : List JoinClaim) (place : ℕ) (join : JoinClaim) → position (is_join call key) js ≡ Some place → is_joined_once js ≡ true → join ≡ get_or js place join → (s : Stands call key js place) × (join ≡ s.join)
 read_at call key js place join at once is =
     let s = stands_at call key js place at once in

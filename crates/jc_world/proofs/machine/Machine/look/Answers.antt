@@ -1,23 +1,21 @@
-use Rattle.std.proofs.Common.{◌≡◌, ◌∙◌, Some, IsSomeAnd, List, refl, slice_get, ap, sym, subst}
-use Rattle.jc_model.specs.Cache.{Bytes}
+use Rattle.std.proofs.Common.{◌≡◌, Some, IsSomeAnd, refl, slice_get, sym, subst}
 use Rattle.jc_stripe.specs.Keys.{AreKeys}
 use Rattle.jc_world.specs.declared.event.Shown.TheVariants as shown
 use Rattle.jc_world.specs.declared.event.WorldEvent.TheVariants as event
-use Rattle.jc_world.specs.Calls.{look}
 use Rattle.jc_world.specs.World.{WorldState, open_call}
 use Rattle.jc_world.specs.Events.{Happens}
 use Rattle.jc_world.specs.OpenCalls.{TakesKeys}
 use Rattle.jc_world.specs.Inside.{world_of}
-use Rattle.jc_world.proofs.StripeKeys.{look_within, look_takes}
+use Rattle.jc_world.proofs.StripeKeys.{look_found, look_takes}
 use Rattle.jc_world.proofs.machine.Machine.look.Goals as goal
 
 pub keys_at-requires-clause-there : goal.keys_at-requires-clause-there
-keys_at-requires-clause-there c = look_within c.args.self.now c.args.call c.args.stripe c.requires.fits c.requires.sound
+keys_at-requires-clause-there c = (look_found c.args.self.now c.args.call c.args.stripe c.requires.fits).5
 
 pub look-requires : goal.look-requires
 look-requires c =
     let h = c.in_ok-keys.ensures in
-    let P : WorldState → Type 0 = λ w. IsSomeAnd (open_call w c.args.call) (TakesKeys w.config.stripes c.deref.result.now) in
+    let P : WorldState → Type 0 = λ w. IsSomeAnd (open_call w c.args.call) (TakesKeys c.deref.result.now) in
     subst P (sym c.self.view_is)
     (look_takes c.args.self.now c.args.call c.args.stripe h.0 c.deref.result.now c.requires.fits c.requires.sound h.1 (subst (AreKeys h.0) (sym c.deref.ensures.value) h.2))
 

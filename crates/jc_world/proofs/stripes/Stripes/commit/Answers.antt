@@ -4,8 +4,7 @@ use Rattle.jc_stripe.specs.Phases.{Commits}
 use Rattle.jc_outside.specs.declared.done.Origin.TheVariants.{Played}
 use Rattle.jc_world.specs.World.{out_of}
 use Rattle.jc_world.specs.Sound.{is_due}
-use Rattle.jc_world.specs.Turns.{AreTurns}
-use Rattle.jc_world.specs.Turns.{OrderedStripes}
+use Rattle.jc_world.specs.Turns.{AreTurns, OrderedStripes}
 use Rattle.jc_world.proofs.Lengths.{ended_length, has_room}
 use Rattle.jc_world.proofs.Merging.{is_at, phase_made, grows_turns}
 use Rattle.jc_world.proofs.Shares.{length-slice_set}
