@@ -1,13 +1,13 @@
 -- What is read may be begun: a call's operation is a call by itself, and its session is one of the 32.
 use Rattle.std.proofs.Common.{◌≡◌, ℕ, List, true, Option, None, Some, refl, IfOk, IfSome}
-use Rattle.std.proofs.lemmas.Bool.{and_from, le-leb}
+use Rattle.std.proofs.lemmas.Bool.{and_from}
 use Rattle.jc_model.specs.declared.event.Op.{Op}
 use Rattle.jc_model.specs.declared.event.Op.TheVariants as op
-use Rattle.jc_world.specs.Fits.{is_single, is_session}
+use Rattle.jc_world.specs.Fits.{is_single}
 use Rattle.jc_script.specs.declared.line.Line.{Line}
 use Rattle.jc_script.specs.declared.line.Line.TheVariants.{Open, Set, Begin, BeginBulk, OfCall, Foreign, Audit}
 use Rattle.jc_script.specs.Lines.{read_line, is_callable}
-use Rattle.jc_script.specs.Spelled.{IsSession, IsOperation, SaysWords}
+use Rattle.jc_script.specs.Spelled.{IsOperation, SaysWords}
 use Rattle.jc_script.proofs.Given.{ok_weaker}
 use Rattle.jc_script.proofs.ReadLines.{SaysText, text_read}
 
@@ -28,15 +28,12 @@ operation_single op.Clear known = absurd known
 operation_single (op.LoadAll replace) known = absurd known
 operation_single op.Invoke known = refl
 
-session_known : (session : ℕ) → IsSession session → is_session session ≡ true
-session_known session known = and_from _ _ (le-leb _ _ known.0) (le-leb _ _ known.1)
-
 -- what a script can say may be begun
 line_callable : (line : Line) → SaysWords line → is_callable line ≡ true
 line_callable (Open config) known = refl
 line_callable (Set key value) known = refl
-line_callable (Begin call session command) known = and_from _ _ (operation_single command.op known.2) (session_known session known.1)
-line_callable (BeginBulk call session bulk) known = session_known session known.1
+line_callable (Begin call session command) known = and_from _ _ (operation_single command.op known.2) known.1
+line_callable (BeginBulk call session bulk) known = known.1
 line_callable (OfCall call act) known = refl
 line_callable (Foreign key value) known = refl
 line_callable Audit known = refl

@@ -14,7 +14,6 @@ use Rattle.jc_model.specs.Cache.{Bytes}
 use Rattle.jc_model.specs.Table.{is_load_given}
 use Rattle.jc_world.specs.declared.event.Part.{Part}
 use Rattle.jc_world.specs.Calls.{CallState, keys_at_work, may_work, open_keys, takes_turns}
-use Rattle.jc_world.specs.declared.event.WorldEvent.{WorldEvent}
 use Rattle.jc_world.specs.declared.event.WorldEvent.TheVariants as event
 use Rattle.jc_world.specs.World.{WorldState, is_joined, open_call, part_of}
 use Rattle.jc_world.specs.Fits.{fits, is_free, may_report, may_start}
@@ -22,7 +21,7 @@ use Rattle.jc_world.specs.Events.{AllFit}
 use Rattle.jc_world.specs.Together.{at_call, key_at, looks, AreAt, FitTogether}
 use Rattle.jc_script.specs.declared.line.Act.{Act}
 use Rattle.jc_script.specs.declared.line.Act.TheVariants.{Read, ReadFail, Say, Apply, ApplyFail, ApplyLie, End, Drop, More, Take, Process}
-use Rattle.jc_script.specs.Words.{said, said_after}
+use Rattle.jc_script.specs.Words.{said_after}
 use Rattle.jc_script.specs.LineEvents.{event_at, events_of, is_asked, is_meant, is_started, is_time, key_events, keys_of_act, leaves, left_keys}
 
 -- ---- a call under way
@@ -54,7 +53,7 @@ kept_differ p (key ∷ keys) d =
           | false ↦ kept ks all.1
         ]
 
--- the same test, before and behind
+-- the same test, before and after
 all_mapped : {X Y : Type 0} (f : X → Y) (q : Y → Bool) (xs : List X) → list_all q (map f xs) ≡ list_all (λ x. q (f x)) xs
 all_mapped f q [] = refl
 all_mapped f q (x ∷ xs) = ap (λ b. q (f x) && b) (all_mapped f q xs)
@@ -94,12 +93,12 @@ keys_fit w together call act keys differ fit =
     together.events call (filter (is_meant w call act) keys) (key_events w call act keys) (are_at call act (filter (is_meant w call act) keys))
     (kept_differ (is_meant w call act) keys differ) fit
 
--- and nothing behind them
+-- and nothing after them
 alone_fit : (w : WorldState) → FitTogether w → (call : ℕ) (act : Act) (keys : List Bytes) → IsDistinct (pointwise ◌==◌) keys → list_all (fits w) (key_events w call act keys) ≡ true
     → AllFit w (key_events w call act keys ++ [])
 alone_fit w together call act keys differ fit = subst (AllFit w) (sym (append-nil (key_events w call act keys))) (keys_fit w together call act keys differ fit)
 
--- a key at work is open, so the writer may return where it was asked for one
+-- a key at work is open, so the writer may return if it was asked for one
 asked_open : (p : Bytes → Bool) (u : CallState) → list_any p (keys_at_work u) ≡ true → list_any p (open_keys u) ≡ true
 asked_open p u = go (takes_turns u.kind) (open_keys u)
   where
@@ -192,11 +191,6 @@ left_before p keys i key differ lt is = kept (take i keys) (not_before keys i ke
 -- the keys that are kept, with one key more
 pub left_more : (p : Bytes → Bool) (keys : List Bytes) (i : ℕ) (key : Bytes) → i < length keys → key ≡ get_or keys i key → filter p (take (i + 1) keys) ≡ filter p (take i keys) ++ filter p (key ∷ [])
 left_more p keys i key lt is = ap (filter p) (take_more keys i key lt ∙ ap (λ k. take i keys ++ k ∷ []) (sym is)) ∙ filter-append p (take i keys) (key ∷ [])
-
--- no event at all
-pub none_fit : (w : WorldState) → AllFit w []
-none_fit w [] new run = refl
-none_fit w (s ∷ seen) new run = absurd run
 
 -- one look more
 pub looks-more : (call from count : ℕ) → looks call from (suc count) ≡ looks call from count ++ event.Look call (from + count) ∷ []

@@ -5,7 +5,7 @@ use Rattle.std.proofs.lemmas.Slice.Eq.{bytes_eq-Decides}
 use Rattle.jc_script.specs.declared.fault.Fault.{Fault}
 use Rattle.jc_script.specs.Words.{◌>>=◌}
 
--- goes on through a step that may fail
+-- continues through a step that may fail
 pub ok_bind : {A B : Type 0} (r : Result A Fault) (f : A → Result B Fault) (P : B → Type 0) → ((x : A) → IfOk (f x) P) → IfOk (r >>= f) P
 ok_bind (Ok x) f P h = h x
 ok_bind (Err e) f P h = tt

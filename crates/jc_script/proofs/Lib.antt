@@ -13,3 +13,4 @@ pub mod ReadProcess
 pub mod ReadLines
 pub mod Callable
 pub mod Fitting
+pub mod SingleCalls

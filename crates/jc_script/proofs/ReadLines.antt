@@ -161,7 +161,7 @@ valued_read o (k ∷ v ∷ []) =
     ok_then (key_of k) _ (SaysKey k) P (key_read k) (λ key a. ok_then (value_of v) _ (SaysValue v) P (value_read v) (λ value b. rw (a.1, b.1) (valued_says o key value a.0 b.0)))
 valued_read o (k ∷ v ∷ x ∷ more) = tt
 
--- the begin of a call, from its number, its session and what stands behind them
+-- the begin of a call, from its number, its session and what follows them
 abbrev SaysBegin : ℕ → ℕ → Form → List (List ℕ) → Line → Type 0
 SaysBegin call session form words line =
     SaysWords line × (codes "begin" ∷ decimal call ∷ session_text session ∷ form_word form ∷ words ≡ line_words line)
@@ -172,7 +172,7 @@ operation_read call session form words (Err e) n s h = tt
 operation_read call session form words (Ok command) n s h =
     ((n, s, h.operation, h.key), ap (λ behind. codes "begin" ∷ decimal call ∷ session_text session ∷ behind) h.spelled)
 
--- a call of many keys, from its name and what stands behind it
+-- a call of many keys, from its name and what follows it
 abbrev SaysBulk : BulkName → List (List ℕ) → BulkCall → Type 0
 SaysBulk n words bulk = HasKeys bulk × (form_word (form.Bulk n) ∷ words ≡ bulk_words bulk)
 

@@ -1,5 +1,5 @@
 -- The words of a `process` line that are read are spelled as what they say.
---     SaysSource, source_read     how the loader answers, and the words behind it
+--     SaysSource, source_read     how the loader answers, and the words after it
 --     SaysCalls, calls_read       the calls, and the code
 use Rattle.std.proofs.Common.{◌≡◌, ◌∙◌, ℕ, Bool, true, false, cond, List, [], ◌∷◌, ◌++◌, length, map, take, drop, None, Some, Result, Ok, Err, refl, sym, ap, append_assoc, IfOk}
 use Rattle.std.specs.Prelude.{codes, ◌||◌}
@@ -20,7 +20,7 @@ use Rattle.jc_script.specs.Spelled.{IsSource, IsEntryCall, IsCode}
 use Rattle.jc_script.proofs.Given.{ok_then, ok_weaker}
 use Rattle.jc_script.proofs.ReadWords.{SaysNumber, number_read, SaysValue, value_read, SaysValueOrNone, value_or_none_read}
 
--- a word that begins with a text is that text and what stands behind it
+-- a word that begins with a text is that text and what follows it
 begun_word : (text w : List ℕ) → begins_with text w ≡ true → w ≡ text ++ drop (length text) w
 begun_word text w e = sym (take-append-drop (length text) w) ∙ ap (λ front. front ++ drop (length text) w) ((bytes_eq-Decides (take (length text) w) text).0 e)
 
@@ -68,7 +68,7 @@ call_read w e =
 abbrev SaysMore : List EntryCall → List (List ℕ) → Calls → Type 0
 SaysMore before ws all = (calls : List EntryCall) × All IsEntryCall calls × (all.0 ≡ before ++ calls) × IsCode all.1 × (ws ≡ map call_text calls ++ fail_words all.1)
 
--- nothing stands behind the code
+-- nothing follows the code
 last_word : (ws : List (List ℕ)) → are_calls_from true ws ≡ true → ws ≡ []
 last_word [] e = refl
 last_word (w ∷ ws) e = cc

@@ -10,7 +10,8 @@ use Rattle.std.proofs.Math.Seq.{drop-cons}
 use Rattle.std.proofs.lemmas.Grind.{common_steps}
 use Rattle.std.proofs.lemmas.Fmt.{decimal-digits_value}
 use Rattle.std.proofs.lemmas.Str.Parse.{IsNumeralModel, numerals_by_fold}
-use Rattle.jc_types.specs.declared.limits.TheConstants.{SESSIONS_MAX, KEY_MAX, VALUE_MAX}
+use Rattle.jc_types.specs.declared.limits.TheConstants.{KEY_MAX, VALUE_MAX}
+use Rattle.jc_types.specs.Limits.{is_session}
 use Rattle.jc_model.specs.Cache.{Bytes}
 use Rattle.jc_script.specs.declared.fault.Fault.{Fault}
 use Rattle.jc_script.specs.declared.fault.Fault.TheVariants.{BadNumber, BadCaller, BadKey, BadValue}
@@ -22,7 +23,7 @@ use Rattle.jc_script.proofs.SpelledWords.{text_shown, pair_parts}
 
 -- 1. Numbers.
 
--- the number that digits spell, behind the digits of another
+-- the number that digits spell, after the digits of another
 value_from : ℕ → List ℕ → ℕ
 value_from n [] = n
 value_from n (b ∷ bs) = value_from (n * 10 + (b - 48)) bs
@@ -77,9 +78,7 @@ session_read [] = tt
 session_read (b ∷ bs) = ok_if (b == 115) (caller_if (number_of bs)) BadCaller (SaysSession (b ∷ bs)) (λ e. spelled (number_of bs) (eqb-true b 115 e) (number_read bs))
   where
     spelled : (r : Result ℕ Fault) → b ≡ 115 → IfOk r (SaysNumber bs) → IfOk (caller_if r) (SaysSession (b ∷ bs))
-    spelled (Ok n) s h = ok_if (nat_le 1 n && nat_le n SESSIONS_MAX) (Ok n) BadCaller (SaysSession (b ∷ bs)) (λ e.
-        let limits = and_parts (nat_le 1 n) (nat_le n SESSIONS_MAX) e in
-        ((leb-true 1 n limits.0, leb-true n SESSIONS_MAX limits.1), rw (s, h.1) refl))
+    spelled (Ok n) s h = ok_if (is_session n) (Ok n) BadCaller (SaysSession (b ∷ bs)) (λ e. (e, rw (s, h.1) refl))
     spelled (Err e) s h = tt
 
 abbrev pub SaysKey : List ℕ → Bytes → Type 0
@@ -112,7 +111,7 @@ value_or_none_read w = ok_named w (codes "-") None (some_value (value_of w)) (Sa
 
 -- 3. Pairs.
 
--- a word with an equals sign is what stands before the first one, that sign, and what stands behind it
+-- a word with an equals sign is what is before the first one, that sign, and what follows it
 cut_at_sign : (w : List ℕ) (at : ℕ) → equals_at w ≡ Some at → w ≡ take at w ++ (61 ∷ drop (at + 1) w)
 cut_at_sign w at e =
     let found = position-Some (λ b. b == 61) w at 0 e in

@@ -100,7 +100,7 @@ begin_asks : (call session : ℕ) (name : List ℕ) (words : List (List ℕ)) (f
     → takes_words form (length words) ≡ true → command_of call session form words ≡ Ok line → begin_of (decimal call ∷ session_text session ∷ name ∷ words) ≡ Ok line
 unfolding begin_of
 begin_asks call session name words form line n s named shaped asks =
-    rw named (rw shaped (rw (number_back call n, caller_back session s.0 s.1) asks))
+    rw named (rw shaped (rw (number_back call n, caller_back session s) asks))
 
 begin_back : (call session : ℕ) (o : Op) (key : Bytes) → IsNumber call → IsSession session → IsOperation o → IsKey key
     → begin_of (decimal call ∷ session_text session ∷ operation_words o key) ≡ Ok (Begin call session (record { op = o; key = key }))

@@ -19,7 +19,7 @@ use Rattle.jc_script.proofs.SpelledWords.{AreWords, pair_word, pair_parts}
 no_equals : (b : ℕ) → is_letter b ≡ true → (b == 61) ≡ false
 no_equals b e = grind (arith, common_steps)
 
--- the first equals sign is the one behind the key
+-- the first equals sign is the one after the key
 sign_after : (key rest : List ℕ) → list_all is_letter key ≡ true → position_or_len (λ b. b == 61) (key ++ (61 ∷ rest)) ≡ length key
 sign_after [] rest e = refl
 sign_after (b ∷ bs) rest e =
@@ -37,7 +37,7 @@ sign_at key rest known =
 behind : (key rest : List ℕ) → drop (length key + 1) (key ++ (61 ∷ rest)) ≡ rest
 behind key rest = drop-append-add key (61 ∷ rest) 1
 
--- its key is what stands before that sign, and its value what stands behind it
+-- its key is what is before that sign, and its value what follows it
 abbrev pub HasParts : List ℕ → Bytes × Bytes → Type 0
 HasParts word pair = (key_of (key_part (equals_at word) word) ≡ Ok pair.0) × (value_part (equals_at word) word ≡ Ok pair.1)
 

@@ -22,7 +22,7 @@ use Rattle.jc_script.proofs.Spelling.{number_back, value_back}
 use Rattle.jc_script.proofs.SpelledValues.{value_or_none_back}
 use Rattle.jc_script.proofs.SpelledWords.{AreWords, is_mark, is_word, word_marks, number_word, value_word, value_or_none_word}
 
--- the words behind the one for the loader
+-- the words after the one for the loader
 abbrev rest_words : List EntryCall → Option ℕ → List (List ℕ)
 rest_words calls fail = map call_text calls ++ fail_words fail
 

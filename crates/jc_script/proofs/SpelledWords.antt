@@ -14,8 +14,9 @@ use Rattle.jc_script.specs.Words.{◌>>=◌, words_of, is_letter, is_text}
 use Rattle.jc_script.specs.Lines.{are_words, line_named, line_of, parsed, is_plain, is_comment, some_line, read_line}
 use Rattle.jc_script.specs.Printing.{value_text, value_or_none_text}
 use Rattle.jc_script.specs.Spelled.{IsNumber, IsSession, IsValue, IsValueOrNone, IsPair, session_text, pair_text}
+use Rattle.jc_script.proofs.Spelling.{few_sessions}
 
--- 1. Bytes that may stand in a word, and words of them.
+-- 1. Bytes that may be in a word, and words of them.
 
 -- a byte after the space
 abbrev pub is_mark : ℕ → Bool
@@ -62,7 +63,8 @@ number_word n most =
 
 pub session_word : (n : ℕ) → IsSession n → is_word (session_text n) ≡ true
 session_word n known =
-    let wide : n < 2 ^ 64 = omega (arith, known.1) in
+    let few = few_sessions n known in
+    let wide : n < 2 ^ 64 = omega (arith, few) in
     and_from _ _ (grind (arith, common_steps)) (decimal_marks n wide)
 
 pub text_word : (most : ℕ) (w : List ℕ) → is_text most w ≡ true → is_word w ≡ true
@@ -117,7 +119,7 @@ words_back w (v ∷ vs) e =
     let both = and_parts (is_word w) (list_all is_word (v ∷ vs)) e in
     slice_split_at (λ b. b == 32) w 32 (joined (v ∷ vs)) (no_space w both.0) refl ∙ ap (λ rest. w ∷ rest) (words_back v vs both.1)
 
--- each byte may stand in a line
+-- each byte may be in a line
 plain_word : (w : List ℕ) → is_word w ≡ true → list_all is_plain w ≡ true
 plain_word w e = weaker is_mark is_plain mark_is_plain w (word_marks w e)
 

@@ -3,13 +3,14 @@ use Rattle.std.proofs.Common.{◌≡◌, ◌∙◌, ◌==◌, ℕ, zero, suc, �
 use Rattle.std.specs.Prelude.{decimal, codes, ◌&&◌, nat_le, nat_lt, ◌⊎◌}
 use Rattle.std.specs.List.{list_all}
 use Rattle.std.specs.Str.{bytes_eq}
-use Rattle.std.proofs.lemmas.Bool.{and_from}
+use Rattle.std.proofs.lemmas.Bool.{and_from, and_parts, leb-true}
 use Rattle.std.proofs.lemmas.Grind.{common_steps}
 use Rattle.std.proofs.lemmas.Fmt.{decimal_by_steps, decimal_digit, decimal_nonempty, first_decimal}
 use Rattle.jc_script.specs.declared.fault.Fault.{Fault}
-use Rattle.jc_script.specs.declared.fault.Fault.TheVariants.{BadNumber}
+use Rattle.jc_script.specs.declared.fault.Fault.TheVariants.{BadNumber, BadCaller}
 use Rattle.jc_types.specs.declared.limits.TheConstants.{SESSIONS_MAX, VALUE_MAX}
-use Rattle.jc_script.specs.Words.{◌>>=◌, digits_from, number_of, caller_of, caller_if, is_digit, is_letter, value_of, is_text}
+use Rattle.jc_types.specs.Limits.{is_session}
+use Rattle.jc_script.specs.Words.{◌>>=◌, digits_from, number_of, caller_of, is_digit, is_letter, value_of, is_text}
 use Rattle.jc_script.specs.Printing.{value_text}
 
 -- ---- numbers
@@ -66,11 +67,13 @@ number_back n fits =
 
 -- ---- callers
 
-is_session : (n : ℕ) → 1 ≤ n → n ≤ SESSIONS_MAX → caller_if (Ok n) ≡ Ok n
-is_session n least most = grind (arith, common_steps)
+pub few_sessions : (n : ℕ) → is_session n ≡ true → n ≤ SESSIONS_MAX
+few_sessions n known = leb-true n SESSIONS_MAX (and_parts (nat_le 1 n) (nat_le n SESSIONS_MAX) known).1
 
-pub caller_back : (n : ℕ) → 1 ≤ n → n ≤ SESSIONS_MAX → caller_of (115 ∷ decimal n) ≡ Ok n
-caller_back n least most = rw (number_back n (omega arith)) (is_session n least most)
+pub caller_back : (n : ℕ) → is_session n ≡ true → caller_of (115 ∷ decimal n) ≡ Ok n
+caller_back n known =
+    let few = few_sessions n known in
+    rw (number_back n (omega (arith, few))) (ap (λ b. cond b (Ok n) (Err BadCaller)) known)
 
 -- ---- values
 

@@ -6,7 +6,7 @@
 --                     open ones
 --     is_asked        the writer was asked for a key by a call, and hasn't returned
 --     is_started      a call has reserved a key
---     is_listed       a key is among those that stand behind `but`, if `but` is there
+--     is_listed       a key is among those after `but`, if `but` is there
 --     is_left_failing     a writer that fails leaves a key: one that is listed, and every key if there is no list
 --     leaves          an act says that the writer leaves a key
 --     is_changed      the writer was asked for a key, and the act says that it changes the store there
@@ -16,18 +16,19 @@
 --     start_events    the first phases of a call that has just begun, unless it is over: as `more` starts keys
 --     is_left         the writer was asked for a key, and the act says that it leaves it
 --     left_keys       the keys that the writer was asked for and leaves, as an act says
---     end_of_act      the event of the whole call that comes behind them: the writer's return, or the call's leaving
+--     end_of_act      the event of the whole call that comes after them: the writer's return, or the call's leaving
 --     events_of       the events that an act stands for
 --     is_about_one    there is an event at a key
 --     is_time         whether it is the time for an act, by the call's keys and the events at those that it is about. The writer returns
 --                     if some key is asked of it and not reported. Any other act but a call's leaving is about some key. Each key
---                     that ends is answered, and each that begins again is neither reserved nor joined. Who picks up has reserved
---                     no key. A call that leaves has joined no load, and nothing was said outside for the keys it has reserved
+--                     that ends is answered, and each that retries is neither reserved nor joined. A call that picks up has
+--                     reserved no key. A call that leaves has joined no load, and nothing was answered outside for the keys
+--                     that it has reserved
 --     is_time_for     the same, of an act of a call under way
 --     has_but         an act names keys that the writer leaves
 --     allows_but      a call whose writer may leave some of its keys and not others: one that takes its keys all at once
 --     load_fault      the code with which an act says that the loader fails
-use Rattle.std.specs.Prelude.{◌≡◌, ◌&&◌, ℕ, List, [], ◌∷◌, ◌++◌, filter, length, map, nat_lt, slice_get, Bool, true, false, not, Option, None, Some, is_some, option_to_list, if◌then◌else◌}
+use Rattle.std.specs.Prelude.{◌&&◌, ℕ, List, [], ◌∷◌, ◌++◌, filter, map, Bool, true, false, not, Option, None, Some, is_some, if◌then◌else◌}
 use Rattle.std.specs.List.{list_all, list_any}
 use Rattle.jc_model.specs.Cache.{Bytes}
 use Rattle.jc_model.specs.declared.event.LoadAnswer.TheVariants.{Failed}

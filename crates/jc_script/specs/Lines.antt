@@ -1,33 +1,33 @@
 -- The kinds of line: first the shape of the whole line, then its words from the left. A definition whose name ends in `_of` takes
--- the words that stand after a first word or a name, and gives what they ask for or their fault.
---     Gives                         what a function returned is what the definition says, unless memory ran out
+-- the words that follow a first word or a name, and gives what they ask for or their fault.
+--     Gives                         what a function returned is what the definition says, unless an allocation failed
 --     with_value                    the same of a function that leaves its value in a place: the result with that value
---     with_line                     the same of a line, where a flag says whether the line asks for anything
+--     with_line                     the same of a line: a flag says whether the line asks for anything
 --     bulk_named, form_named        the call of many keys that a word names; the operation
 --     act_named                     the kind of line of a call, that a first word names
 --     line_named                    the kind of line that a first word names
 --     flags_of                      what of read-through and write-through is on
---     bulk_takes, takes_words       so many words stand after the name of a call of many keys, and after an operation's name
+--     bulk_takes, takes_words       so many words follow the name of a call of many keys, and an operation's name
 --     bare_op, valued_op            the operation of a name with no value, and of a name with one
 --     bare_of, valued_of, replace_if_of      an operation with its key and no value, with one value, with an old and a new one
---     value_alone_of                one value, and no word behind it
+--     value_alone_of                one value, and no word after it
 --     open_of, set_of, begin_of     what the words after `open`, `set` and `begin` ask for
 --     begin_with                    the begin of a call with an operation
 --     bulk_alone, bulk_of           a call of many keys that names none, and one with its keys or its pairs
 --     bulk_with                     the begin of a call of many keys
---     command_of                    the begin of a call, by what stands after the session
---     number_alone                  one number, and no word behind it
+--     command_of                    the begin of a call, by what follows the session
+--     number_alone                  one number, and no word after it
 --     lone_act, lone_of             the act of a line with a call's number alone, and what its words ask for
 --     coded_act, coded_of           the act of a line with a call's number and a code, and what its words ask for
---     has_but_shape                 nothing stands behind what the writer does, or `but` and at least so many words
---     left_of                       the keys that the writer leaves, if `but` stands
+--     has_but_shape                 nothing follows what the writer does, or `but` and at least so many words
+--     left_of                       the keys that the writer leaves, if `but` is there
 --     apply_of, apply_fail_of       what the words after `apply` and `applyfail` ask for
 --     process_of                    what the words after `process` ask for
 --     say_of, foreign_of, audit_of      what the words after `say`, `foreign` and `audit` ask for
 --     line_of                       what the words after the first ask for, by the kind of line
---     are_words                     no two spaces stand together, and none at either end: no word is empty
+--     are_words                     no two spaces are next to each other, and none at either end: no word is empty
 --     parsed                        what the words of a line ask for
---     is_plain                      a byte may stand in a line: a space up to a tilde
+--     is_plain                      a byte may be in a line: a space up to a tilde
 --     is_comment                    a line that asks for nothing: an empty one, and one that begins with #
 --     some_line                     a line that asks for something, or its fault
 --     read_line                     what the bytes of a line ask for: nothing, for a comment
@@ -40,7 +40,9 @@ use Rattle.jc_model.specs.Cache.{Bytes}
 use Rattle.jc_model.specs.declared.event.Op.{Op}
 use Rattle.jc_model.specs.declared.event.Op.TheVariants as op
 use Rattle.jc_script.specs.declared.line.Operation.{Operation}
-use Rattle.jc_world.specs.Fits.{is_single, is_session}
+use Rattle.jc_types.specs.declared.limits.TheConstants.{LINE_MAX}
+use Rattle.jc_types.specs.Limits.{is_session}
+use Rattle.jc_world.specs.Fits.{is_single}
 use Rattle.jc_script.specs.declared.fault.Fault.{Fault}
 use Rattle.jc_script.specs.declared.fault.Fault.TheVariants.{LineTooLong, BadByte, BadLine}
 use Rattle.jc_script.specs.declared.fault.ReadError.{ReadError}
@@ -78,7 +80,7 @@ abbrev pub with_value : {X E : Type 0} → X → Result (Unit {0}) E → Result 
 with_value x (Ok u) = Ok x
 with_value x (Err e) = Err e
 
--- the same of a line, where a flag says whether the line asks for anything
+-- the same of a line: a flag says whether the line asks for anything
 abbrev pub with_line : {E : Type 0} → Line → Result Bool E → Result (Option Line) E
 with_line l (Ok true) = Ok (Some l)
 with_line l (Ok false) = Ok None
@@ -149,7 +151,7 @@ flags_of (a ∷ b ∷ c ∷ more) = Err BadLine
 
 -- 2. Operations.
 
--- how many words stand after the name of a call of many keys: a key or more, or none
+-- how many words follow the name of a call of many keys: a key or more, or none
 abbrev pub bulk_takes : BulkName → ℕ → Bool
 bulk_takes name.GetAll count = nat_lt 0 count
 bulk_takes name.PutAll count = nat_lt 0 count
@@ -158,7 +160,7 @@ bulk_takes name.RemoveEvery count = count == 0
 bulk_takes name.Clear count = count == 0
 bulk_takes name.InvokeAll count = nat_lt 0 count
 
--- how many words stand after an operation's name
+-- how many words follow an operation's name
 abbrev pub takes_words : Form → ℕ → Bool
 takes_words (form.Bare b) count = count == 1
 takes_words (form.Valued v) count = count == 2
@@ -398,7 +400,7 @@ some_line (Err f) = Err f
 
 unfoldable pub read_line : List ℕ → Result (Option Line) Fault
 read_line text =
-    if nat_lt 65536 (length text) then Err LineTooLong else
+    if nat_lt LINE_MAX (length text) then Err LineTooLong else
     if not (list_all is_plain text) then Err BadByte else
     if is_comment text then Ok None else
     some_line (parsed (words_of text))

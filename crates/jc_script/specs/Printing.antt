@@ -1,7 +1,7 @@
 -- What is printed, as bytes. A name that ends in `_line` is of one whole line, and one that ends in `_text` of a part of a line, or
 -- of a line or more or none.
 --     value_text, value_or_none_text      a value, with a tilde for the empty one; the same, with a dash for none
---     coded_text, refusal_text       a fault's name and code; a refusal's name, with the code where it has one
+--     coded_text, refusal_text       a fault's name and code; a refusal's name, with the code if it has one
 --     flag_text, reply_text          a yes or no; a reply
 --     place_text                     a stripe, and a place in its history
 --     subject                        how a line of a call's key begins: the call's number and the key
@@ -14,7 +14,7 @@
 --     loads_line, write_line, delete_line, asks_text      that the loader is asked; that the writer is asked to write, and to
 --                                    delete; either of these two
 --     process_line                   that the processor is asked, on this entry
---     joined_line, waits_line, again_line      that a call has joined, that its load isn't over, that it is to begin again
+--     joined_line, waits_line, again_line      that a call has joined, that its load isn't over, that it is told to retry
 --     dropped_line, refused_line, put_off_line     that a call has left; that it was refused; that a key is to be tried again
 --     refused_whole_line             that a call was refused whole
 --     cause_text                     the first fault or last refusal that a call has met, or that it has met none
@@ -37,7 +37,7 @@
 --     texts                          the same of events one after another
 --     entry_text, entries_line, key_text      an entry, a line of entries, and a key, in an audit
 --     differs_line, coherence_text      the keys that differ; the same, or that there is none
---     legal_name, history_line       whether the history is legal; the same behind the number of its events
+--     legal_name, history_line       whether the history is legal; the same after the number of its events
 --     audit_text                     what is printed of an audit
 --     fault_line                     the line that ends a transcript
 use Rattle.std.specs.Prelude.{◌==◌, ℕ, ◌-◌, List, [], ◌∷◌, ◌++◌, length, codes, decimal, Bool, true, false, Option, None, Some, if◌then◌else◌}
@@ -132,7 +132,7 @@ abbrev pub victim_text : Option Bytes → ℕ → ℕ → List ℕ
 victim_text None stripe place = []
 victim_text (Some victim) stripe place = evict_line victim Full stripe (place - 1)
 
--- the eviction of a step's own key behind it, at its own place
+-- the eviction of a step's own key after it, at its own place
 abbrev pub evicted_text : Bytes → Option Eviction → ℕ → List ℕ
 evicted_text key None stripe = []
 evicted_text key (Some gone) stripe = evict_line key gone.cause stripe gone.place
@@ -223,7 +223,7 @@ fails_text call (Some code) = fails_line call code
 unfoldable pub reported_line : ℕ → ReportedKey → List ℕ
 reported_line call one = subject call one.key ++ change_name one.change one.is_changed
 
--- each key that the writer was asked for, and behind them its fault
+-- each key that the writer was asked for, and after them its fault
 abbrev pub reported_text : ℕ → Reported → List ℕ
 reported_text call seen = flat_map (reported_line call) seen.keys ++ fails_text call seen.fault
 
@@ -242,7 +242,7 @@ load_verb Store = codes " reads "
 load_verb (Stated value) = codes " says "
 load_verb (Failing code) = codes " says "
 
--- the first `getValue` asks the loader, so its load stands before the first value; one that fails is printed where it is
+-- the first `getValue` asks the loader, so its load comes before the first value; one that fails is printed where it is
 abbrev pub answers_text : ℕ → List ℕ → List EntryAnswer → List ℕ
 answers_text call loaded [] = []
 answers_text call loaded (entry.Value value ∷ answers) = loaded ++ got_line call value ++ answers_text call [] answers

@@ -1,11 +1,11 @@
--- The words of a `process` line, behind the call's number: how the loader answers, the processor's calls, and a code.
+-- The words of a `process` line, after the call's number: how the loader answers, the processor's calls, and a code.
 --     Calls                     the calls of a processor so far, and the code with which it fails, if the line has one
 --     begins_with               a word begins with this text
 --     is_load, is_call, is_fail     a word says how the loader answers; it is a call on the entry; it says that the processor fails
---     are_calls_from, are_calls     no word but calls, and at the end a failure; the same, where the end has come or not
---     without_load              the words behind the one for the loader, if there is one
+--     are_calls_from, are_calls     no word but calls, and at the end a failure; the same, whether the end has come or not
+--     without_load              the words after the one for the loader, if there is one
 --     has_process_shape         the words have this shape
---     source_of                 how the loader answers: as the store has it, where no word says it
+--     source_of                 how the loader answers: as the store has it, if no word says it
 --     call_of                   a call on the entry
 --     with_word, calls_from     the calls so far and one word more, and several
 --     calls_of                  the calls of these words, and the code

@@ -5,7 +5,7 @@
 use Rattle.std.specs.Prelude.{◌≤◌, ℕ, List, take, length, Option}
 use Rattle.std.specs.Io.KnownBytes.{Appends, Consumes, IsAtEnd}
 use Rattle.jc_script.specs.declared.run.RunEnd.{RunEnd}
-use Rattle.jc_script.specs.declared.run.TheConstants.{SCRIPT_MAX}
+use Rattle.jc_types.specs.declared.limits.TheConstants.{SCRIPT_MAX}
 use Rattle.jc_script.specs.Transcript.{IsTranscript}
 
 pub record ReadsAll (before after : Option (List ℕ)) (input : List ℕ) : Type 0 where

@@ -1,6 +1,6 @@
 -- How a script says numbers, keys, values and lines, and that each is read as what it says. A definition whose name ends in
 -- `_words` gives words of a line, and one whose name ends in `_text` one word or a part of it.
---     IsNumber, IsSession, IsKey, IsValue      what a word can say: a number up to 999999999; a session from 1 to 32; a key of
+--     IsNumber, IsSession, IsKey, IsValue      what a word can say: a number up to NUMBER_MAX; a session from 1 to 32; a key of
 --                                              letters; a value of letters, or the empty value
 --     IsValueOrNone, IsPair      the same of a value, or none; of a key with its value
 --     NumbersReadBack, CallersReadBack, KeysReadBack, ValuesReadBack      each of these is read from its word: a number from its
@@ -9,7 +9,7 @@
 --     flag_words                 the words for read-through and write-through, of what is on
 --     operation_words            an operation's name, its key and its values; nothing, if it has no name
 --     bulk_words                 the name of a call of many keys, and its keys or its pairs
---     left_words                 the keys that the writer leaves, behind `but`; nothing, if that doesn't stand
+--     left_words                 the keys that the writer leaves, after `but`; nothing, if that isn't there
 --     act_words                  what happens next to a call
 --     line_words                 the words of what a line asks for
 --     spelling                   the line itself: its words, separated by single spaces
@@ -26,8 +26,8 @@
 use Rattle.std.specs.Prelude.{◌≡◌, ◌==◌, ◌⊎◌, ◌≤◌, ℕ, List, [], ◌∷◌, ◌++◌, map, length, codes, Bool, true, false, Option, None, Some, Ok, decimal}
 use Rattle.std.specs.List.{All, IsDistinct, join_with_byte}
 use Rattle.std.specs.Cmp.Lexicographic.{pointwise}
-use Rattle.jc_types.specs.declared.limits.TheConstants.{SESSIONS_MAX, KEY_MAX}
-use Rattle.jc_types.specs.declared.limits.TheConstants.{SESSIONS_MAX, VALUE_MAX}
+use Rattle.jc_types.specs.declared.limits.TheConstants.{KEY_MAX, LINE_MAX, NUMBER_MAX, VALUE_MAX}
+use Rattle.jc_types.specs.Limits.{is_session}
 use Rattle.jc_model.specs.Cache.{Bytes}
 use Rattle.jc_model.specs.declared.event.Op.{Op}
 use Rattle.jc_model.specs.declared.event.Op.TheVariants as op
@@ -49,10 +49,10 @@ use Rattle.jc_script.specs.Printing.{value_text, value_or_none_text}
 -- 1. Words.
 
 abbrev pub IsNumber : ℕ → Type 0
-IsNumber n = n ≤ 999999999
+IsNumber n = n ≤ NUMBER_MAX
 
 abbrev pub IsSession : ℕ → Type 0
-IsSession session = (1 ≤ session) × (session ≤ SESSIONS_MAX)
+IsSession session = is_session session ≡ true
 
 abbrev pub IsKey : Bytes → Type 0
 IsKey key = is_text KEY_MAX key ≡ true
@@ -229,7 +229,7 @@ SaysWords Audit = Unit {0}
 
 -- that, in a line that isn't too long
 abbrev pub IsSpellable : Line → Type 0
-IsSpellable line = SaysWords line × (length (spelling line) ≤ 65536)
+IsSpellable line = SaysWords line × (length (spelling line) ≤ LINE_MAX)
 
 abbrev pub LinesReadBack : Type 0
 LinesReadBack = (line : Line) → IsSpellable line → read_line (spelling line) ≡ Ok (Some line)

@@ -3,18 +3,18 @@
 --     state_of                 the same, from what a `World` is to its callers
 --     end_text                 that a call of many keys is over, and with which cause, if it is the last one that is over
 --     PlaysEvents              the world may take these events, each of them fits when it comes, and this is printed of them
---     PlaysCall                the same of the events of a call, with what its line says behind them: a fault, and the call's end
+--     PlaysCall                the same of the events of a call, with what its line says after them: a fault, and the call's end
 --     PlaysBegin               the same of a call that begins: its begin, with its looks at the stripes, and then its first phases
 --     PlaysBulk                the same of a call of many keys, by what its line says
 --     PlaysAct                 the same of the events of an act, if its call is under way
 --     PlaysForeign             the same of a foreign write
 --     Audited                  what is printed of an audit
---     Plays                    a line with no fault: what it prints and leaves. ⊥ stands where no such line is played
---     PlaysLine                a line that was read is played, or its fault is told: what is printed, then, and what is left
+--     Plays                    a line with no fault: what it prints and leaves. ⊥ if no such line is played
+--     PlaysLine                a line that was read is played, or its fault is printed: what is printed, then, and what is left
 --     PlaysRead, Prints        the same from what was read of a line, and from its bytes; a comment prints nothing and changes
 --                              nothing
 --     fault_read, fault_of     the fault of a line, if it has one, from what was read of it, and from its bytes
---     pieces_of                what stands between the line feeds; the last piece has none after it
+--     pieces_of                what is between the line feeds; the last piece has none after it
 --     Ends                     what the last piece prints, and how the script ends: a piece with bytes is a cut line
 --     Transcript               from a state and a line on, the pieces print this and end so
 --     IsTranscript             the same of a whole script
@@ -67,7 +67,7 @@ pub record PlaysEvents (w : WorldState) (events : List WorldEvent) (text : List 
   pub fit : all_fit seen ≡ true
   pub text_is : text ≡ texts events seen
 
--- behind what its events show a line says its fault, and that the call is over
+-- after what its events show a line says its fault, and that the call is over
 pub record PlaysCall (w : WorldState) (number : ℕ) (events : List WorldEvent) (fault : Option ℕ) (text : List ℕ) (new : State) : Type 0 where
   pub shown : List ℕ
   pub after : WorldState
@@ -129,13 +129,13 @@ Plays None (Foreign key value) text new = ⊥
 Plays None Audit text new = ⊥
 Plays (Some w) (Open config) text new = ⊥
 
--- printed at the end of what stands already
+-- printed at the end of what is there already
 abbrev pub PlaysLine : State → Line → Option Fault → List ℕ → List ℕ → State → Type 0
 PlaysLine old line None before after new =
     (state_fault old line ≡ None) × ((text : List ℕ) × Plays old line text new × (after ≡ before ++ text))
 PlaysLine old line (Some fault) before after new = (state_fault old line ≡ Some fault) × (after ≡ before)
 
--- a comment prints nothing and changes nothing; other lines are played where they have no fault
+-- a comment prints nothing and changes nothing; other lines are played if they have no fault
 abbrev pub PlaysRead : State → Result (Option Line) Fault → List ℕ → State → Type 0
 PlaysRead old (Ok None) text new = (text ≡ []) × (new ≡ old)
 PlaysRead old (Ok (Some line)) text new = (state_fault old line ≡ None) × Plays old line text new

@@ -1,19 +1,19 @@
 -- The kinds of word of a line. Each is a function from the word to its value or its fault.
---     ◌>>=◌                    what a step that may fail goes on with
---     words_of                 the words of a line, parted by single spaces
---     is_digit, is_letter      a byte is a digit; a letter, a digit, a low line or a dot
---     digits_from              a number that goes on with these digits
---     number_of                a number, up to 999999999, with no leading zero but 0 itself
+--     ◌>>=◌                    what a step that may fail continues with
+--     words_of                 the words of a line, separated by single spaces
+--     is_digit, is_letter      a byte is a digit; a letter, a digit, an underscore or a dot
+--     digits_from              a number that continues with these digits
+--     number_of                a number, up to NUMBER_MAX, with no leading zero but 0 itself
 --     caller_if                the session with a number, 1 to 32
 --     caller_of                a session, s1 to s32
 --     is_text                  at least one of the letters, and at most so many
---     key_of                   a key: letters, digits, low lines and dots
+--     key_of                   a key: letters, digits, underscores and dots
 --     value_of                 a value: the same letters, or a tilde for the empty one
 --     some_value               a value that is there, or its fault
 --     value_or_none_of         a value, or a dash for none
 --     Pairs                    keys with their values, in the order of a line
---     equals_at                where the first equals sign of a word stands, if it has one
---     key_part, value_part     what stands before that sign, and the value behind it
+--     equals_at                the place of the first equals sign of a word, if it has one
+--     key_part, value_part     what is before that sign, and the value after it
 --     names_key                a pair has the key
 --     pair_onto                the pairs so far, with one more: the key is judged before the value
 --     pairs_from, pairs_of     the pairs so far with those of more words, and the pairs of some words
@@ -30,8 +30,8 @@ use Rattle.std.specs.Str.{bytes_eq}
 use Rattle.std.specs.List.{list_all}
 use Rattle.std.specs.List.{slice_split, position}
 use Rattle.std.specs.Cmp.Lexicographic.{pointwise}
-use Rattle.jc_types.specs.declared.limits.TheConstants.{SESSIONS_MAX, KEY_MAX}
-use Rattle.jc_types.specs.declared.limits.TheConstants.{SESSIONS_MAX, VALUE_MAX}
+use Rattle.jc_types.specs.declared.limits.TheConstants.{KEY_MAX, NUMBER_MAX, VALUE_MAX}
+use Rattle.jc_types.specs.Limits.{is_session}
 use Rattle.jc_model.specs.Cache.{Bytes}
 use Rattle.jc_model.specs.Batches.{is_among}
 use Rattle.jc_model.specs.declared.event.LoadAnswer.{LoadAnswer}
@@ -39,7 +39,7 @@ use Rattle.jc_model.specs.declared.event.LoadAnswer.TheVariants.{Found, Nothing}
 use Rattle.jc_script.specs.declared.fault.Fault.{Fault}
 use Rattle.jc_script.specs.declared.fault.Fault.TheVariants.{BadNumber, BadCaller, BadKey, BadValue, RepeatedKey}
 
--- what a step that may fail goes on with
+-- what a step that may fail continues with
 infixl 10 ◌>>=◌
 abbrev pub ◌>>=◌ : {A B : Type 0} → Result A Fault → (A → Result B Fault) → Result B Fault
 (Ok x) >>= f = f x
@@ -54,10 +54,10 @@ is_digit b = nat_le 48 b && nat_le b 57
 abbrev pub is_letter : ℕ → Bool
 is_letter b = (nat_le 65 b && nat_le b 90) || (nat_le 97 b && nat_le b 122) || is_digit b || (b == 95) || (b == 46)
 
--- a number that goes on with these digits
+-- a number that continues with these digits
 abbrev pub digits_from : ℕ → List ℕ → Result ℕ Fault
 digits_from n [] = Ok n
-digits_from n (b ∷ bs) = if is_digit b && nat_le (n * 10 + (b - 48)) 999999999 then digits_from (n * 10 + (b - 48)) bs else Err BadNumber
+digits_from n (b ∷ bs) = if is_digit b && nat_le (n * 10 + (b - 48)) NUMBER_MAX then digits_from (n * 10 + (b - 48)) bs else Err BadNumber
 
 -- no leading zero but 0 itself
 abbrev pub number_of : List ℕ → Result ℕ Fault
@@ -65,7 +65,7 @@ number_of [] = Err BadNumber
 number_of (b ∷ bs) = if (b == 48) && nat_lt 0 (length bs) then Err BadNumber else digits_from 0 (b ∷ bs)
 
 abbrev pub caller_if : Result ℕ Fault → Result ℕ Fault
-caller_if (Ok n) = if nat_le 1 n && nat_le n SESSIONS_MAX then Ok n else Err BadCaller
+caller_if (Ok n) = if is_session n then Ok n else Err BadCaller
 caller_if (Err e) = Err BadCaller
 
 abbrev pub caller_of : List ℕ → Result ℕ Fault
@@ -123,7 +123,7 @@ pairs_from pairs (word ∷ words) = pair_onto pairs word >>= λ more. pairs_from
 abbrev pub pairs_of : List (List ℕ) → Result Pairs Fault
 pairs_of words = pairs_from [] words
 
--- the same, where each key may come but once: a key that has a pair already is judged before its second value
+-- the same, if each key may come but once: a key that has a pair already is judged before its second value
 unfoldable pub distinct_pair_onto : Pairs → List ℕ → Result Pairs Fault
 distinct_pair_onto pairs word = do
   key ← key_of (key_part (equals_at word) word)

@@ -1,4 +1,4 @@
-//! Operations as words: their names, and what stands after a name.
+//! Operations as words: their names, and what follows a name.
 ghost use Rattle.std.specs.Prelude.{◌≡◌, map, length};
 ghost use Rattle.jc_script.specs.Lines.{Gives, with_value, form_named, bulk_named, takes_words, bare_op, valued_op, bare_of, valued_of};
 ghost use Rattle.jc_script.specs.Lines.{value_alone_of, replace_if_of, command_of, begin_with, bulk_takes, bulk_alone, bulk_of, bulk_with};
@@ -42,7 +42,7 @@ pub enum BulkName {
     InvokeAll,
 }
 
-/// What stands after an operation's name: its key, and as many values; or keys.
+/// What follows an operation's name: its key, and as many values; or keys.
 #[derive(Clone, Copy)]
 pub enum Form {
     Bare(Bare),
@@ -132,7 +132,7 @@ fn bulk_takes(name: BulkName, count: usize) -> bool
     }
 }
 
-/// Whether so many words stand after an operation's name: its key, and the values that it takes; or keys.
+/// Whether so many words follow an operation's name: its key, and the values that it takes; or keys.
 pub fn has_shape(form: Form, count: usize) -> bool
     ensures { result ≡ takes_words form count }
 {

@@ -21,7 +21,7 @@ pub enum Fault {
     BadCaller,
     BadKey,
     BadValue,
-    /// The line names a key twice where each is to stand once.
+    /// The line names a key twice, where once is allowed.
     RepeatedKey,
     /// No world was opened yet.
     NotOpen,
@@ -71,7 +71,7 @@ pub fn text(fault: Fault) -> &'static str
 /// Why a line was not read.
 #[derive(Clone, Copy, Debug)]
 pub enum ReadError {
-    /// There is no memory for it.
+    /// An allocation failed.
     Memory,
     /// It has this fault.
     Fault(Fault),

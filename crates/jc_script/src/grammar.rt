@@ -12,7 +12,7 @@ use crate::keys::Keys;
 use crate::line::{Act, Line};
 use crate::process_words::{has_process_shape, read_calls, read_source, without_load};
 use crate::words::{caller, is, key, keys, number, pairs, split, value, value_or_none};
-use jc_types::Config;
+use jc_types::{Config, LINE_MAX};
 use std::alloc::Global;
 
 /// What happens next to a call, with no other word than its number.
@@ -247,7 +247,7 @@ fn coded_line(coded: Coded, words: &[&[u8]], line: &mut Line) -> Result<(), Faul
     }
 }
 
-/// Whether nothing stands behind what the writer does, or `but` and at least so many words.
+/// Whether nothing follows what the writer does, or `but` and at least so many words.
 fn has_but_shape(least: usize, words: &[&[u8]]) -> bool
     ensures { result ≡ has_but_shape least (map (λ w. w.now) words.now) }
 {
@@ -257,7 +257,7 @@ fn has_but_shape(least: usize, words: &[&[u8]]) -> bool
     }
 }
 
-/// The keys that the writer leaves, if `but` stands.
+/// The keys that the writer leaves, if `but` is there.
 fn left(alloc: Global, words: &[&[u8]]) -> Result<Option<Keys>, ReadError>
     ensures { Gives result (left_of (map (λ w. w.now) words.now)) }
 {
@@ -419,14 +419,14 @@ fn parse(alloc: Global, words: &[&[u8]], line: &mut Line) -> Result<(), ReadErro
     }
 }
 
-/// Whether a byte may stand in a line: a space up to a tilde.
+/// Whether a byte may be in a line: a space up to a tilde.
 fn is_plain(b: u8) -> bool
     ensures { result ≡ is_plain b }
 {
     b' ' <= b && b <= b'~'
 }
 
-/// Whether each byte may stand in a line.
+/// Whether each byte may be in a line.
 fn all_plain(text: &[u8]) -> bool
     ensures { result ≡ list_all is_plain text.now }
 {
@@ -461,7 +461,7 @@ pub fn read<'a>(
 ) -> Result<bool, ReadError>
     ensures { Gives (with_line line.new result) (read_line text.now) }
 {
-    if 65536 < text.len() {
+    if LINE_MAX < text.len() {
         return Err(ReadError::Fault(Fault::LineTooLong));
     }
     if !all_plain(text) {

@@ -5,7 +5,7 @@ ghost use Rattle.std.specs.Io.KnownBytes.{Appends, Consumes, IsAtEnd};
 ghost use Rattle.jc_script.specs.Running.{ReadsAll};
 
 use crate::noted::Noted;
-use crate::run::SCRIPT_MAX;
+use jc_types::SCRIPT_MAX;
 use std::alloc::Global;
 use std::io::{Read, Write};
 

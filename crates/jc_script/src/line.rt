@@ -34,7 +34,7 @@ pub enum Act {
     End,
     /// The call gives up, and its reservation is given back.
     Drop,
-    /// The call begins again.
+    /// The call retries.
     More,
     /// The call asks for the answer of the load that it has joined.
     Take,

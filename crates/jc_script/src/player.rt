@@ -63,7 +63,7 @@ impl<'a> Player<'a> {
         }
     }
 
-    /// One line: what it prints goes to the end of `out`, or its fault is told and nothing done.
+    /// One line: what it prints goes to the end of `out`, or its fault is returned and nothing is done.
     pub fn play(
         &mut self,
         alloc: Global,
@@ -229,7 +229,7 @@ impl LineBuffers {
         Ok(())
     }
 
-    /// Plays the events of a call, and prints behind what the world shows of them the line's fault, and that the call is over.
+    /// Plays the events of a call, and prints what the world shows of them, then the line's fault, and that the call is over.
     fn play_call(
         &mut self,
         world: &mut World,

@@ -1,4 +1,4 @@
-//! What is printed, as bytes at the end of what stands already.
+//! What is printed, as bytes at the end of what is there.
 ghost use Rattle.std.specs.Prelude.{◌≡◌, ◌++◌, OnOk, decimal, codes, List, ℕ};
 ghost use Rattle.jc_types.specs.Refusals.{refusal_name};
 ghost use Rattle.jc_script.specs.Printing.{value_text, value_or_none_text, coded_text, refusal_text, flag_text, reply_text};
@@ -35,7 +35,7 @@ pub fn put_key(out: &mut Vec<u8>, key: &Key) -> Result<(), AllocError>
     Ok(())
 }
 
-/// A value, where a tilde is the empty one.
+/// A value: a tilde for the empty one.
 pub fn put_value(out: &mut Vec<u8>, value: &Value) -> Result<(), AllocError>
     ensures { OnOk result (out.new.items ≡ out.old.items ++ value_text value.now) }
 {
@@ -47,7 +47,7 @@ pub fn put_value(out: &mut Vec<u8>, value: &Value) -> Result<(), AllocError>
     Ok(())
 }
 
-/// A value, where a dash is none.
+/// A value: a dash for none.
 pub fn put_value_or_none(out: &mut Vec<u8>, value: &Option<Value>) -> Result<(), AllocError>
     ensures { OnOk result (out.new.items ≡ out.old.items ++ value_or_none_text value.now) }
 {

@@ -1,4 +1,4 @@
-//! The words of a `process` line behind the call's number: how the loader answers, the processor's calls, and a code.
+//! The words of a `process` line after the call's number: how the loader answers, the processor's calls, and a code.
 ghost use Rattle.std.specs.Prelude.{◌≡◌, ◌&&◌, ◌||◌, drop, map, not};
 ghost use Rattle.jc_script.specs.Lines.{Gives, with_value};
 ghost use Rattle.jc_script.specs.ProcessWords.{begins_with, is_load, is_call, is_fail, are_calls, without_load};
@@ -37,7 +37,7 @@ fn is_fail(word: &[u8]) -> bool
     begins_with("fail=", word)
 }
 
-/// Whether a call or a failure may stand here: the failure hasn't come yet.
+/// Whether a call or a failure may come here: the failure hasn't come yet.
 fn may_follow(ended: bool, word: &[u8]) -> bool
     ensures { result ≡ (not ended && (is_call word.now || is_fail word.now)) }
 {
@@ -58,7 +58,7 @@ fn are_calls(words: &[&[u8]]) -> bool
     true
 }
 
-/// The words behind the one for the loader, if there is one.
+/// The words after the one for the loader, if there is one.
 pub fn without_load<'a, 'b>(words: &'a [&'b [u8]]) -> &'a [&'b [u8]]
     ensures { map (λ w. w.now) result.now ≡ without_load (map (λ w. w.now) words.now) }
 {
@@ -68,7 +68,7 @@ pub fn without_load<'a, 'b>(words: &'a [&'b [u8]]) -> &'a [&'b [u8]]
     }
 }
 
-/// Whether the words have the shape of those behind a call's number.
+/// Whether the words have the shape of those after a call's number.
 pub fn has_process_shape(words: &[&[u8]]) -> bool
     ensures { result ≡ has_process_shape (map (λ w. w.now) words.now) }
 {
@@ -93,7 +93,7 @@ pub fn read_source(words: &[&[u8]]) -> Result<LoadSource, Fault>
     }
 }
 
-/// What stands behind so many bytes of a word.
+/// What follows so many bytes of a word.
 fn behind(count: usize, word: &[u8]) -> &[u8]
     ensures { result.now ≡ drop count word.now }
 {

@@ -9,13 +9,11 @@ use crate::input::{InputFault, read_all, write_out};
 use crate::noted::Noted;
 use crate::player::Player;
 use crate::printing::put_fault;
+use jc_types::SCRIPT_MAX;
 use memchr::memchr;
 use std::alloc::{AllocError, Global};
 use std::io::{Read, Write};
 use thiserror::Error;
-
-/// The most bytes that a script has.
-pub const SCRIPT_MAX: usize = 4_194_304;
 
 /// How a run ended.
 #[derive(Clone, Copy, Debug, PartialEq, Eq)]
@@ -43,7 +41,7 @@ pub enum RunFault {
     Write,
 }
 
-/// Where the first line feed stands.
+/// The place of the first line feed.
 fn line_feed(bytes: &[u8]) -> Option<usize>
     ensures { result ≡ position (λ b. b == 10) bytes.now }
 {

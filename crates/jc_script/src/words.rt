@@ -12,7 +12,7 @@ use crate::distinct_pairs::DistinctPairs;
 use crate::fault::{Fault, ReadError};
 use crate::keys::Keys;
 use crate::pairs::Pairs;
-use jc_types::{KEY_MAX, Key, SESSIONS_MAX, VALUE_MAX, Value};
+use jc_types::{KEY_MAX, Key, NUMBER_MAX, VALUE_MAX, Value, is_session};
 use std::alloc::{AllocError, Global};
 
 /// Whether a word is this text.
@@ -22,8 +22,8 @@ pub fn is(word: &[u8], text: &str) -> bool
     word == text.as_bytes()
 }
 
-/// The words of a line, which spaces part: two spaces together have an empty word between them. They take the place of what the
-/// list held.
+/// The words of a line, which spaces separate: two spaces together have an empty word between them. They take the place of what
+/// the list held.
 pub fn split<'a>(line: &'a [u8], words: &mut Vec<&'a [u8]>) -> Result<(), AllocError>
     ensures { OnOk result (map (λ w. w.now) words.new.items ≡ words_of line.now) }
 {
@@ -32,14 +32,14 @@ pub fn split<'a>(line: &'a [u8], words: &mut Vec<&'a [u8]>) -> Result<(), AllocE
     Ok(())
 }
 
-/// Whether a byte may stand in a key or a value: A to Z, a to z, 0 to 9, a low line, a dot.
+/// Whether a byte may be in a key or a value: A to Z, a to z, 0 to 9, an underscore, a dot.
 fn letter(b: u8) -> bool
     ensures { result ≡ is_letter b }
 {
     matches!(b, b'A'..=b'Z' | b'a'..=b'z' | b'0'..=b'9' | b'_' | b'.')
 }
 
-/// The number that digits spell, up to 999999999.
+/// The number that digits spell, up to [`NUMBER_MAX`].
 fn digits(word: &[u8]) -> Result<u32, Fault>
     ensures { result ≡ digits_from 0 word.now }
 {
@@ -50,7 +50,7 @@ fn digits(word: &[u8]) -> Result<u32, Fault>
             return Err(Fault::BadNumber);
         }
         let next = n as u64 * 10 + (b - b'0') as u64;
-        if 999_999_999 < next {
+        if NUMBER_MAX < next {
             return Err(Fault::BadNumber);
         }
         n = next as u32;
@@ -73,7 +73,7 @@ pub fn number(word: &[u8]) -> Result<u32, Fault>
     }
 }
 
-/// The session that a word says: an s, and its number, from 1 to [`SESSIONS_MAX`].
+/// The session that a word says: an s, and its number, from 1 to [`SESSIONS_MAX`](jc_types::SESSIONS_MAX).
 pub fn caller(word: &[u8]) -> Result<u32, Fault>
     ensures { result ≡ caller_of word.now }
 {
@@ -84,7 +84,7 @@ pub fn caller(word: &[u8]) -> Result<u32, Fault>
                 return Err(Fault::BadCaller);
             }
             match number(rest) {
-                Ok(n) if 1 <= n && n <= SESSIONS_MAX => Ok(n),
+                Ok(n) if is_session(n) => Ok(n),
                 _ => Err(Fault::BadCaller),
             }
         }
@@ -138,7 +138,7 @@ pub fn value(word: &[u8]) -> Result<Value, Fault>
     value_new(word)
 }
 
-/// The value that a word says, where a dash says none.
+/// The value that a word says: a dash says none.
 pub fn value_or_none(word: &[u8]) -> Result<Option<Value>, Fault>
     ensures { result ≡ value_or_none_of word.now }
 {
@@ -151,7 +151,7 @@ pub fn value_or_none(word: &[u8]) -> Result<Option<Value>, Fault>
     }
 }
 
-/// Where the first equals sign stands.
+/// The place of the first equals sign.
 fn equals_sign(word: &[u8]) -> Option<usize>
     ensures place { result ≡ equals_at word.now }
     ensures within { IfSome result (λ at. at < length word.now) }

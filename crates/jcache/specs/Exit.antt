@@ -1,7 +1,9 @@
 -- What the program answers, by its words and its streams.
 --     ExitOfPlay        the script was played, and this status says how that ended
---     ExitOfFault       what these words with an error of this kind are told: a text that they asked for on standard output, or what is wrong with them on standard error
---     Exit              right words are played; wrong ones are told so, and nothing is read; or an allocation failed, and nothing was read or written
+--     ExitOfFault       what is written for these words with an error of this kind: a text that they asked for on standard
+--                       output, or what is wrong with them on standard error
+--     Exit              right words are played; wrong ones are reported, and nothing is read; or an allocation failed, and
+--                       nothing was read or written
 --     FailsByStreams    status 3 comes if a stream failed, and only then or if the script is too long; after a failed read nothing is on standard output
 use Rattle.std.specs.Prelude.{◌≡◌, ◌⊎◌, ◌<◌, ℕ, List, [], Bool, true, Option, IfSome, length}
 use Rattle.clap.specs.Words.{IsAmong, Kinds}
@@ -9,7 +11,7 @@ use Rattle.clap.specs.declared.error.kind.ErrorKind.{ErrorKind}
 use Rattle.clap.specs.declared.error.kind.ErrorKind.TheVariants as kind
 use Rattle.jc_script.specs.Running.{Broke, Ran}
 use Rattle.jc_script.specs.declared.run.RunEnd.TheVariants.{Clean, LineFault}
-use Rattle.jc_script.specs.declared.run.TheConstants.{SCRIPT_MAX}
+use Rattle.jc_types.specs.declared.limits.TheConstants.{SCRIPT_MAX}
 
 -- before and after: what the reader has left; old and new: what standard output holds; silent: that nothing was written to it
 abbrev pub ExitOfPlay : (status : ℕ) (before after old new : Option (List ℕ)) (silent : Type 0) → Type 0

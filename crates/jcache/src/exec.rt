@@ -22,7 +22,7 @@ const STREAMS: u8 = 3;
 /// An allocation failed.
 const MEMORY: u8 = 4;
 
-/// Says what failed. Nobody is left to hear of it where that fails, too.
+/// Says what failed. Nobody is left to hear of it if that fails, too.
 fn complain<E: Write>(err: &mut E, text: &str) {
     let _ = err.write_all(text.as_bytes());
 }
@@ -78,7 +78,7 @@ fn show<W: Write, E: Write>(text: &str, out: &mut Noted<W>, err: &mut E) -> u8
 
 /// Does what the words of a command line ask for, and answers the status: 0 if the script was played to its end, or if a
 /// text was asked for and shown, as by `--help` and `--version`; 1 if the transcript ends with a line's fault; 2 if the words
-/// are none of this program's, which `err` is told; 3 if the input or output failed, or the input is too long; 4 if an
+/// are none of this program's, which is written to `err`; 3 if the input or output failed, or the input is too long; 4 if an
 /// allocation failed.
 pub fn exec<R: Read, W: Write, E: Write>(
     alloc: Global,
@@ -87,7 +87,8 @@ pub fn exec<R: Read, W: Write, E: Write>(
     out: &mut Noted<W>,
     err: &mut E,
 ) -> u8
-    // Right words are played. Others are told so, or the text that they ask for; then nothing is read.
+    // Right words are played. For others, that they are wrong is said, or the text that they ask for is shown; then nothing is
+    // read.
     ensures answered { Exit (faults_at (map string_bytes words.now)) result
         (ExitOfPlay result (R.remaining reader.old.inner) (R.remaining reader.new.inner) (W.contents out.old.inner)
         (W.contents out.new.inner) (out.new ≡ out.old))

@@ -228,7 +228,7 @@ fn leaves(act: &Act, key: &Key) -> bool
     }
 }
 
-/// Whether a key is among those that stand behind `but`.
+/// Whether a key is among the keys after `but`.
 fn is_listed(left: &Option<Keys>, key: &Key) -> bool
     ensures { result ≡ is_listed left.now key.now }
 {
@@ -308,7 +308,7 @@ fn put_process(
     Ok(())
 }
 
-/// What an act does to the call as a whole, behind what it does at its keys.
+/// What an act does to the call as a whole, after what it does at its keys.
 fn put_end_of_act(
     alloc: Global,
     world: &World,

@@ -1,5 +1,5 @@
 //! The lines that begin a call.
-ghost use Rattle.std.specs.Prelude.{◌≡◌, ◌++◌, List, ℕ, Some, None, true, OnOk, IfOk};
+ghost use Rattle.std.specs.Prelude.{◌≡◌, ◌++◌, ◌∷◌, [], List, ℕ, Some, None, true, OnOk, IfOk};
 ghost use Rattle.jc_model.specs.Cache.{Bytes};
 ghost use Rattle.jc_world.specs.declared.event.WorldEvent.TheVariants as event;
 ghost use Rattle.jc_world.specs.World.{open_call};
@@ -40,15 +40,7 @@ pub(super) fn play_begin(
     if let Some(fault) = fault_of_begin(world, number, session) {
         return Ok(Some(fault));
     }
-    begin(
-        alloc,
-        world,
-        number,
-        session,
-        single(operation),
-        buffers,
-        out,
-    )?;
+    begin_single(world, number, session, operation, buffers, out)?;
     Ok(None)
 }
 
@@ -70,7 +62,7 @@ pub(super) fn play_bulk(
         return Ok(Some(fault));
     }
     let command = command_of(call)?;
-    begin(alloc, world, number, session, command, buffers, out)?;
+    begin_bulk(alloc, world, number, session, command, buffers, out)?;
     Ok(None)
 }
 
@@ -112,8 +104,55 @@ fn command_of(call: &BulkCall) -> Result<Command, AllocError>
     }
 }
 
-/// A call begins, looks at the stripes if it takes the keys that are cached, and starts the keys at which it works then.
-fn begin(
+/// A call of one key begins, and makes its first phase. Both are known beforehand, so they are played as one list.
+fn begin_single(
+    world: &mut World,
+    number: u32,
+    session: u32,
+    operation: &Operation,
+    buffers: &mut LineBuffers,
+    out: &mut Vec<u8>,
+) -> Result<(), AllocError>
+    requires { fits world.old.world (event.Call number session (single operation.now)) ≡ true }
+    ensures { OnOk result ((text : List ℕ)
+        × PlaysBegin world.old.world number session (single operation.now) text (Some world.new.world)
+        × (out.new.items ≡ out.old.items ++ text)) }
+{
+    let call = number as u64;
+    put_single(&mut buffers.events, call, session, operation)?;
+    world.lets_calls_begin();
+    buffers.play(world, out)?;
+    put_end(out, call, &world.over())?;
+    Ok(())
+}
+
+/// The begin of a call of one key, and its first phase.
+fn put_single(
+    events: &mut Vec<WorldEvent>,
+    call: u64,
+    session: u32,
+    operation: &Operation,
+) -> Result<(), AllocError>
+    ensures { OnOk result (events.new.items
+        ≡ event.Call call session (single operation.now) ∷ event.Start call operation.now.key ∷ []) }
+{
+    let _types: Option<(Op, Value, LoadAnswer)> = None;
+    events.clear();
+    events.push(WorldEvent::Call {
+        call,
+        session,
+        command: single(operation),
+    })?;
+    events.push(WorldEvent::Start {
+        call,
+        key: operation.key,
+    })?;
+    Ok(())
+}
+
+/// A call of many keys begins, looks at the stripes if it takes the keys that are cached, and starts the keys at which it works
+/// then.
+fn begin_bulk(
     alloc: Global,
     world: &mut World,
     number: u32,

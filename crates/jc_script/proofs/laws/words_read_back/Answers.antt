@@ -5,7 +5,7 @@ pub returns-clause-numbers : goal.returns-clause-numbers
 returns-clause-numbers c = number_back
 
 pub returns-clause-callers : goal.returns-clause-callers
-returns-clause-callers c = λ session known. caller_back session known.0 known.1
+returns-clause-callers c = caller_back
 
 pub returns-clause-values : goal.returns-clause-values
 returns-clause-values c = value_back

@@ -1,4 +1,4 @@
-use Rattle.std.proofs.Common.{◌≡◌, ◌∙◌, ap, refl, append_assoc, List, ℕ, ◌++◌, Option}
+use Rattle.std.proofs.Common.{◌∙◌, ap, refl, append_assoc, List, ℕ, ◌++◌, Option}
 use Rattle.jc_world.specs.declared.ends.Over.{Over}
 use Rattle.jc_script.specs.Printing.{fails_text}
 use Rattle.jc_script.specs.Transcript.{end_text}

@@ -1,4 +1,4 @@
-use Rattle.std.proofs.Common.{◌≡◌, ◌∙◌, Option, Some, ap, option_copied, subst, sym}
+use Rattle.std.proofs.Common.{◌∙◌, Option, ap, option_copied, subst, sym}
 use Rattle.jc_world.specs.Calls.{CallState}
 use Rattle.jc_world.specs.Events.{AllFit}
 use Rattle.jc_script.specs.LineEvents.{start_events}

@@ -1,10 +1,10 @@
-use Rattle.std.proofs.Common.{◌≡◌, ◌∙◌, ◌++◌, ℕ, List, Option, ap, refl, subst, sym, append_assoc}
+use Rattle.std.proofs.Common.{◌∙◌, ◌++◌, ℕ, List, Option, ap, refl, subst, sym, append_assoc}
 use Rattle.jc_world.specs.declared.ends.Over.{Over}
 use Rattle.jc_world.specs.declared.event.WorldEvent.{WorldEvent}
 use Rattle.jc_world.specs.Events.{AllFit, Run}
 use Rattle.jc_world.specs.Together.{opening_events}
 use Rattle.jc_script.specs.Transcript.{end_text, PlaysEvents}
-use Rattle.jc_script.proofs.player.beginning.begin.Goals as goal
+use Rattle.jc_script.proofs.player.beginning.begin_bulk.Goals as goal
 
 pub play-requires : goal.play-requires
 play-requires c =
