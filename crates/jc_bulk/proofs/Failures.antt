@@ -1,16 +1,17 @@
 -- The first failure that a `getAll` meets.
 --     failures_stay    what has failed stays among the failures
 --     cause_stays      so does the cause
---     cause_noted      a cause that was noted
 --     failure_there    a key that failed, at its place
 --     failures_more    the failures, by one key more
 --     none_failed      and if it hasn't failed
-use Rattle.std.proofs.Common.{◌≡◌, ◌<◌, ◌+◌, ◌++◌, ◌⊎◌, inl, inr, ℕ, zero, suc, List, [], ◌∷◌, length, get_or, take, true, Option, None, Some, is_some, Result, IfSome, sym, ap, ◌∙◌, arith}
+use Rattle.std.proofs.Common.{◌≡◌, ◌<◌, ◌+◌, ◌++◌, ◌⊎◌, inl, inr, ℕ, zero, suc, List, [], ◌∷◌, length, get_or, take, Option, None, Some, Result, IfSome, slice_get, refl, sym, ap, ◌∙◌, arith}
 use Rattle.std.proofs.lemmas.List.{take_more}
 use Rattle.std.proofs.lemmas.List.Elements.{filter_map-append}
 use Rattle.std.specs.List.{IsAmong, cons_option}
 use Rattle.jc_types.specs.declared.refusal.Refusal.{Refusal}
 use Rattle.jc_model.specs.declared.event.Reply.{Reply}
+use Rattle.jc_bulk.specs.declared.round.Progress.{Progress}
+use Rattle.jc_bulk.specs.declared.round.Progress.TheVariants as progress
 use Rattle.jc_bulk.specs.Ends.{refusal_in}
 use Rattle.jc_bulk.specs.GetRounds.{StayEnded, IsCauseIn, failures, failure_at}
 
@@ -32,34 +33,42 @@ among_none r h = omega (arith, h.1.0)
 
 -- 2. What has failed stays so.
 
-pub failures_stay : (ends later : List (Option (Result Reply Refusal))) (r : Refusal) → StayEnded ends later → IsAmong (failures ends) r → IsAmong (failures later) r
-failures_stay [] later r stay h = absurd (among_none r h)
-failures_stay (e ∷ ends) [] r stay h = absurd stay
-failures_stay (None ∷ ends) (l ∷ later) r stay h = cons_among (failure_at l) (failures later) r (inr (failures_stay ends later r stay h))
-failures_stay (Some x ∷ ends) (l ∷ later) r stay h = by (among_cons (refusal_in x) (failures ends) r h) (failures_stay ends later r stay.1)
+-- the place of a key that has failed
+ended_there : (ps : List Progress) (r : Refusal) → IsAmong (failures ps) r → (place : ℕ) × (e : Result Reply Refusal) × (slice_get ps place ≡ Some (progress.Ended e)) × (refusal_in e ≡ Some r)
+ended_there [] r h = absurd (among_none r h)
+ended_there (p ∷ ps) r h = by p (among_cons (failure_at p) (failures ps) r h) (ended_there ps r)
   where
-    by : (refusal_in x ≡ Some r) ⊎ IsAmong (failures ends) r → (IsAmong (failures ends) r → IsAmong (failures later) r) → IsAmong (cons_option (failure_at l) (failures later)) r
-    by (inl e) rest = cons_among (failure_at l) (failures later) r (inl (ap failure_at stay.0 ∙ e))
-    by (inr g) rest = cons_among (failure_at l) (failures later) r (inr (rest g))
+    by : (p : Progress) → (failure_at p ≡ Some r) ⊎ IsAmong (failures ps) r → (IsAmong (failures ps) r → (place : ℕ) × (e : Result Reply Refusal) × (slice_get ps place ≡ Some (progress.Ended e)) × (refusal_in e ≡ Some r))
+        → (place : ℕ) × (e : Result Reply Refusal) × (slice_get (p ∷ ps) place ≡ Some (progress.Ended e)) × (refusal_in e ≡ Some r)
+    by p (inr later) rest = let found = rest later in (suc found.0, found.1, found.2, found.3)
+    by progress.Waiting (inl is) rest = let no : None ≡ Some r = is in cc
+    by progress.Reserved (inl is) rest = let no : None ≡ Some r = is in cc
+    by (progress.Ended e) (inl is) rest = (0, e, refl, is)
 
-pub cause_stays : (cause : Option Refusal) (ends later : List (Option (Result Reply Refusal))) → StayEnded ends later → IsCauseIn cause (failures ends) → IfSome cause (λ r. IsAmong (failures later) r)
-cause_stays None ends later stay h = tt
-cause_stays (Some r) ends later stay h = failures_stay ends later r stay h
+failed_there : (ps : List Progress) (place : ℕ) (e : Result Reply Refusal) (r : Refusal) → slice_get ps place ≡ Some (progress.Ended e) → refusal_in e ≡ Some r → IsAmong (failures ps) r
+failed_there [] place e r at is = cc
+failed_there (p ∷ ps) zero e r at is = let same : p ≡ progress.Ended e = cc in cons_among (failure_at p) (failures ps) r (inl (ap failure_at same ∙ is))
+failed_there (p ∷ ps) (suc place) e r at is = cons_among (failure_at p) (failures ps) r (inr (failed_there ps place e r at is))
 
-pub cause_noted : (cause : Option Refusal) (rs : List Refusal) → is_some cause ≡ true → IfSome cause (λ r. IsAmong rs r) → IsCauseIn cause rs
-cause_noted None rs some h = cc
-cause_noted (Some r) rs some h = h
+pub failures_stay : (ps later : List Progress) (r : Refusal) → StayEnded ps later → IsAmong (failures ps) r → IsAmong (failures later) r
+failures_stay ps later r stay h =
+    let found = ended_there ps r h in
+    failed_there later found.0 found.1 r (stay.ended found.0 found.1 found.2) found.3
+
+pub cause_stays : (cause : Option Refusal) (ps later : List Progress) → StayEnded ps later → IsCauseIn cause (failures ps) → IfSome cause (λ r. IsAmong (failures later) r)
+cause_stays None ps later stay h = tt
+cause_stays (Some r) ps later stay h = failures_stay ps later r stay h
 
 -- 3. The first one.
 
-pub failure_there : (ends : List (Option (Result Reply Refusal))) (i : ℕ) (d : Option (Result Reply Refusal)) (r : Refusal) → i < length ends → failure_at (get_or ends i d) ≡ Some r → IsAmong (failures ends) r
+pub failure_there : (ps : List Progress) (i : ℕ) (d : Progress) (r : Refusal) → i < length ps → failure_at (get_or ps i d) ≡ Some r → IsAmong (failures ps) r
 failure_there [] i d r near is = absurd (omega (arith, near))
-failure_there (e ∷ ends) zero d r near is = cons_among (failure_at e) (failures ends) r (inl is)
-failure_there (e ∷ ends) (suc i) d r near is = cons_among (failure_at e) (failures ends) r (inr (failure_there ends i d r (omega (arith, near)) is))
+failure_there (e ∷ ps) zero d r near is = cons_among (failure_at e) (failures ps) r (inl is)
+failure_there (e ∷ ps) (suc i) d r near is = cons_among (failure_at e) (failures ps) r (inr (failure_there ps i d r (omega (arith, near)) is))
 
-pub none_failed : (ends : List (Option (Result Reply Refusal))) (i : ℕ) (d : Option (Result Reply Refusal)) → i < length ends → failure_at (get_or ends i d) ≡ None → failures (take i ends) ≡ [] → failures (take (i + 1) ends) ≡ []
-none_failed ends i d near is none =
-    ap failures (take_more ends i d near)
-    ∙ filter_map-append failure_at (take i ends) (get_or ends i d ∷ [])
-    ∙ ap (λ rs. rs ++ failures (get_or ends i d ∷ [])) none
+pub none_failed : (ps : List Progress) (i : ℕ) (d : Progress) → i < length ps → failure_at (get_or ps i d) ≡ None → failures (take i ps) ≡ [] → failures (take (i + 1) ps) ≡ []
+none_failed ps i d near is none =
+    ap failures (take_more ps i d near)
+    ∙ filter_map-append failure_at (take i ps) (get_or ps i d ∷ [])
+    ∙ ap (λ rs. rs ++ failures (get_or ps i d ∷ [])) none
     ∙ ap (λ o. cons_option o []) is

@@ -14,9 +14,10 @@ use Rattle.std.specs.List.{list_any, cons_option, IsAmong}
 use Rattle.std.specs.Map.{keys_of}
 use Rattle.std.specs.Cmp.Lexicographic.{pointwise}
 use Rattle.jc_types.specs.declared.refusal.Refusal.{Refusal}
-use Rattle.jc_model.specs.declared.event.Reply.{Reply}
 use Rattle.jc_model.specs.Batches.{is_among}
 use Rattle.jc_model.specs.Cache.{Bytes}
+use Rattle.jc_bulk.specs.declared.round.Progress.{Progress}
+use Rattle.jc_bulk.specs.declared.round.Progress.TheVariants as progress
 use Rattle.jc_bulk.specs.Bulk.{CauseAmong, HasNoCause}
 use Rattle.jc_bulk.specs.Ends.{KeyEnd, refusal_in, reply_value, failed_entries, found_entries}
 use Rattle.jc_bulk.specs.GetRounds.{IsCauseIn, failures}
@@ -25,21 +26,21 @@ use Rattle.jc_bulk.proofs.Under.{no_more}
 
 -- 1. One key more.
 
-ends_push : (keys : List Bytes) (ends : List (Option (Result Reply Refusal))) (key : Bytes) (end : Option (Result Reply Refusal)) → length ends ≡ length keys
-    → get_ends (keys ++ key ∷ []) (ends ++ end ∷ []) ≡ get_ends keys ends ++ get_end key end
-ends_push [] [] key end many = no_more (get_end key end)
-ends_push [] (e ∷ ends) key end many = cc
-ends_push (k ∷ keys) [] key end many = cc
-ends_push (k ∷ keys) (e ∷ ends) key end many =
-    let fewer : length ends ≡ length keys = cc in
-    ap (λ es. get_end k e ++ es) (ends_push keys ends key end fewer) ∙ sym (append_assoc (get_end k e) (get_ends keys ends) (get_end key end))
+ends_push : (keys : List Bytes) (ps : List Progress) (key : Bytes) (p : Progress) → length ps ≡ length keys
+    → get_ends (keys ++ key ∷ []) (ps ++ p ∷ []) ≡ get_ends keys ps ++ get_end key p
+ends_push [] [] key p many = no_more (get_end key p)
+ends_push [] (e ∷ ps) key p many = cc
+ends_push (k ∷ keys) [] key p many = cc
+ends_push (k ∷ keys) (e ∷ ps) key p many =
+    let fewer : length ps ≡ length keys = cc in
+    ap (λ es. get_end k e ++ es) (ends_push keys ps key p fewer) ∙ sym (append_assoc (get_end k e) (get_ends keys ps) (get_end key p))
 
-pub get_ends_push : (keys : List Bytes) (ends : List (Option (Result Reply Refusal))) (i : ℕ) (key : Bytes) (end : Option (Result Reply Refusal)) → length ends ≡ length keys → i < length keys
-    → get_ends (take (i + 1) keys) (take (i + 1) ends) ≡ get_ends (take i keys) (take i ends) ++ get_end (get_or keys i key) (get_or ends i end)
-get_ends_push keys ends i key end many near =
-    let same : length (take i ends) ≡ length (take i keys) = length-take i ends ∙ ap (min i) many ∙ sym (length-take i keys) in
-    (λ j. get_ends (take_more keys i key near j) (take_more ends i end (omega (arith, many, near)) j))
-    ∙ ends_push (take i keys) (take i ends) (get_or keys i key) (get_or ends i end) same
+pub get_ends_push : (keys : List Bytes) (ps : List Progress) (i : ℕ) (key : Bytes) (p : Progress) → length ps ≡ length keys → i < length keys
+    → get_ends (take (i + 1) keys) (take (i + 1) ps) ≡ get_ends (take i keys) (take i ps) ++ get_end (get_or keys i key) (get_or ps i p)
+get_ends_push keys ps i key p many near =
+    let same : length (take i ps) ≡ length (take i keys) = length-take i ps ∙ ap (min i) many ∙ sym (length-take i keys) in
+    (λ j. get_ends (take_more keys i key near j) (take_more ps i p (omega (arith, many, near)) j))
+    ∙ ends_push (take i keys) (take i ps) (get_or keys i key) (get_or ps i p) same
 
 pub failed_push : (failed : List (Bytes × Refusal)) (ends more : List KeyEnd) → failed ≡ failed_entries ends → failed ++ failed_entries more ≡ failed_entries (ends ++ more)
 failed_push failed ends more is = ap (λ es. es ++ failed_entries more) is ∙ sym (filter_map-append (λ (e : KeyEnd). option_map (λ r. (e.key, r)) (refusal_in e.ended)) ends more)
@@ -54,21 +55,23 @@ told_absent : {V : Type 0} (o : Option V) (k q : Bytes) (entries : List (Bytes �
 told_absent None k q entries apart none = none
 told_absent (Some v) k q entries apart none = ap (λ b. b || list_any (pointwise ◌==◌ q) (keys_of entries)) apart ∙ none
 
-pub failed_absent : (keys : List Bytes) (ends : List (Option (Result Reply Refusal))) (q : Bytes) → is_among keys q ≡ false → list_any (pointwise ◌==◌ q) (keys_of (failed_entries (get_ends keys ends))) ≡ false
-failed_absent [] ends q away = refl
+pub failed_absent : (keys : List Bytes) (ps : List Progress) (q : Bytes) → is_among keys q ≡ false → list_any (pointwise ◌==◌ q) (keys_of (failed_entries (get_ends keys ps))) ≡ false
+failed_absent [] ps q away = refl
 failed_absent (k ∷ keys) [] q away = refl
-failed_absent (k ∷ keys) (None ∷ ends) q away = failed_absent keys ends q (or_parts (pointwise ◌==◌ q k) (is_among keys q) away).1
-failed_absent (k ∷ keys) (Some x ∷ ends) q away =
+failed_absent (k ∷ keys) (progress.Waiting ∷ ps) q away = failed_absent keys ps q (or_parts (pointwise ◌==◌ q k) (is_among keys q) away).1
+failed_absent (k ∷ keys) (progress.Reserved ∷ ps) q away = failed_absent keys ps q (or_parts (pointwise ◌==◌ q k) (is_among keys q) away).1
+failed_absent (k ∷ keys) (progress.Ended x ∷ ps) q away =
     let parts = or_parts (pointwise ◌==◌ q k) (is_among keys q) away in
-    told_absent (refusal_in x) k q (failed_entries (get_ends keys ends)) parts.0 (failed_absent keys ends q parts.1)
+    told_absent (refusal_in x) k q (failed_entries (get_ends keys ps)) parts.0 (failed_absent keys ps q parts.1)
 
-pub found_absent : (keys : List Bytes) (ends : List (Option (Result Reply Refusal))) (q : Bytes) → is_among keys q ≡ false → list_any (pointwise ◌==◌ q) (keys_of (found_entries (get_ends keys ends))) ≡ false
-found_absent [] ends q away = refl
+pub found_absent : (keys : List Bytes) (ps : List Progress) (q : Bytes) → is_among keys q ≡ false → list_any (pointwise ◌==◌ q) (keys_of (found_entries (get_ends keys ps))) ≡ false
+found_absent [] ps q away = refl
 found_absent (k ∷ keys) [] q away = refl
-found_absent (k ∷ keys) (None ∷ ends) q away = found_absent keys ends q (or_parts (pointwise ◌==◌ q k) (is_among keys q) away).1
-found_absent (k ∷ keys) (Some x ∷ ends) q away =
+found_absent (k ∷ keys) (progress.Waiting ∷ ps) q away = found_absent keys ps q (or_parts (pointwise ◌==◌ q k) (is_among keys q) away).1
+found_absent (k ∷ keys) (progress.Reserved ∷ ps) q away = found_absent keys ps q (or_parts (pointwise ◌==◌ q k) (is_among keys q) away).1
+found_absent (k ∷ keys) (progress.Ended x ∷ ps) q away =
     let parts = or_parts (pointwise ◌==◌ q k) (is_among keys q) away in
-    told_absent (reply_value x) k q (found_entries (get_ends keys ends)) parts.0 (found_absent keys ends q parts.1)
+    told_absent (reply_value x) k q (found_entries (get_ends keys ps)) parts.0 (found_absent keys ps q parts.1)
 
 -- 3. The cause.
 
@@ -76,24 +79,25 @@ told_map : (o : Option Refusal) (k : Bytes) (entries : List (Bytes × Refusal)) 
 told_map None k entries = refl
 told_map (Some r) k entries = refl
 
-pub failures_are : (keys : List Bytes) (ends : List (Option (Result Reply Refusal))) → length ends ≡ length keys → map (λ (e : Bytes × Refusal). e.1) (failed_entries (get_ends keys ends)) ≡ failures ends
+pub failures_are : (keys : List Bytes) (ps : List Progress) → length ps ≡ length keys → map (λ (e : Bytes × Refusal). e.1) (failed_entries (get_ends keys ps)) ≡ failures ps
 failures_are [] [] many = refl
-failures_are [] (e ∷ ends) many = cc
+failures_are [] (e ∷ ps) many = cc
 failures_are (k ∷ keys) [] many = cc
-failures_are (k ∷ keys) (None ∷ ends) many = let fewer : length ends ≡ length keys = cc in failures_are keys ends fewer
-failures_are (k ∷ keys) (Some x ∷ ends) many =
-    let fewer : length ends ≡ length keys = cc in
-    told_map (refusal_in x) k (failed_entries (get_ends keys ends)) ∙ ap (cons_option (refusal_in x)) (failures_are keys ends fewer)
+failures_are (k ∷ keys) (progress.Waiting ∷ ps) many = let fewer : length ps ≡ length keys = cc in failures_are keys ps fewer
+failures_are (k ∷ keys) (progress.Reserved ∷ ps) many = let fewer : length ps ≡ length keys = cc in failures_are keys ps fewer
+failures_are (k ∷ keys) (progress.Ended x ∷ ps) many =
+    let fewer : length ps ≡ length keys = cc in
+    told_map (refusal_in x) k (failed_entries (get_ends keys ps)) ∙ ap (cons_option (refusal_in x)) (failures_are keys ps fewer)
 
-pub cause_among : (keys : List Bytes) (ends : List (Option (Result Reply Refusal))) (cause : Refusal) → length ends ≡ length keys → IsCauseIn (Some cause) (failures ends) → CauseAmong (get_ends keys ends) [] cause
-cause_among keys ends cause many is = inl (subst (λ rs. IsAmong rs cause) (sym (failures_are keys ends many)) is)
+pub cause_among : (keys : List Bytes) (ps : List Progress) (cause : Refusal) → length ps ≡ length keys → IsCauseIn (Some cause) (failures ps) → CauseAmong (get_ends keys ps) [] cause
+cause_among keys ps cause many is = inl (subst (λ rs. IsAmong rs cause) (sym (failures_are keys ps many)) is)
 
 pub none_mapped : (entries : List (Bytes × Refusal)) → map (λ (e : Bytes × Refusal). e.1) entries ≡ [] → entries ≡ []
 none_mapped [] none = refl
 none_mapped (e ∷ entries) none = cc
 
-pub no_failure : (keys : List Bytes) (ends : List (Option (Result Reply Refusal))) → length ends ≡ length keys → IsCauseIn None (failures ends) → HasNoCause (get_ends keys ends) []
-no_failure keys ends many none = (none_mapped (failed_entries (get_ends keys ends)) (failures_are keys ends many ∙ none), refl)
+pub no_failure : (keys : List Bytes) (ps : List Progress) → length ps ≡ length keys → IsCauseIn None (failures ps) → HasNoCause (get_ends keys ps) []
+no_failure keys ps many none = (none_mapped (failed_entries (get_ends keys ps)) (failures_are keys ps many ∙ none), refl)
 
 pub any_err : {T E : Type 0} {P : E → Type 0} (r : Result T E) → ((e : E) → P e) → IfErr r P
 any_err (Ok x) f = tt

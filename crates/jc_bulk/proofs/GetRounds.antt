@@ -1,197 +1,130 @@
 -- A `getAll` in its rounds: what the phases of one round leave of the account.
---     none_of              a key that isn't among the first ones is none of those that are
+--     said_none            the loader has said nothing of a key that it wasn't asked for
 --     begun_in_rounds      the account after a key has begun
---     refused_in_rounds    and after one is refused since a later round has no memory
---     stay_push, stay_set, stay_both, stay_same    keys that have ended stay so: as one more has its turn, as one ends, after both, and after nothing
+--     refused_in_rounds    and after those that wait are refused since a later round has no memory
 --     one_loaded           the first of the calls that were answered
---     own_set              what the session counts, once a key that was reserved has ended
---     none_there           a key that has not ended, at its place
---     open_some, all_over  a key that is reserved is open; if all have ended, none is
-use Rattle.std.proofs.Common.{◌≡◌, ◌==◌, ◌&&◌, ◌||◌, ◌<◌, ◌+◌, ◌-◌, ◌++◌, ℕ, zero, suc, List, [], ◌∷◌, length, get_or, take, set, Bool, true, false, not, true≢false, Option, None, Some, is_some, Result, Ok, Err, slice_get, refl, sym, ap, ◌∙◌, subst, arith}
-use Rattle.std.proofs.lemmas.Bool.{and_parts}
-use Rattle.std.proofs.lemmas.Cmp.{nat_list_eq_equiv}
+--     committed_counted    what the session counts, once a key that was reserved has ended
+--     stripe_full, no_room, none_held, held_crowded    why a key can't be begun
+--     open_some, none_left    a key that is reserved is open; if none is, no call is out
+use Rattle.std.proofs.Common.{◌≡◌, ◌==◌, ◌&&◌, ◌<◌, ◌≤◌, ◌-◌, ◌++◌, inr, ℕ, zero, suc, List, [], ◌∷◌, length, map, drop, set, cond, true, false, not, Some, Ok, slice_get, refl, sym, ap, ◌∙◌, subst, arith}
+use Rattle.std.proofs.lemmas.Bool.{or_parts}
+use Rattle.std.proofs.lemmas.List.{length-map}
 use Rattle.std.proofs.lemmas.List.Folds.{list_any-append, list_all-append}
-use Rattle.std.proofs.lemmas.Map.Steps.{list_any_congr}
-use Rattle.std.proofs.lemmas.Option.{slice_get-get_or}
-use Rattle.std.specs.List.{list_all, cons_option}
+use Rattle.std.specs.List.{list_all, cons_option, IsDistinct}
 use Rattle.std.specs.Cmp.Lexicographic.{pointwise}
 use Rattle.jc_types.specs.declared.caller.Caller.{Caller}
-use Rattle.jc_types.specs.declared.limits.TheConstants.{RESERVATIONS_MAX}
-use Rattle.jc_types.specs.declared.refusal.Refusal.{Refusal}
-use Rattle.jc_types.specs.declared.refusal.Refusal.TheVariants.{OutOfMemory}
+use Rattle.jc_types.specs.declared.config.Config.{Config}
 use Rattle.jc_model.specs.declared.event.LoadAnswer.{LoadAnswer}
+use Rattle.jc_model.specs.declared.event.LoadAnswer.TheVariants.{NotAsked}
+use Rattle.jc_model.specs.declared.event.Op.{Op}
 use Rattle.jc_model.specs.declared.event.Op.TheVariants.{Get}
 use Rattle.jc_model.specs.declared.event.Reply.{Reply}
 use Rattle.jc_model.specs.Batches.{is_among}
 use Rattle.jc_model.specs.Cache.{Bytes}
 use Rattle.jc_stripe.specs.State.{State}
 use Rattle.jc_batch.specs.Batch.{BatchState}
-use Rattle.jc_session.specs.Counting.{one_more, counts_ended}
+use Rattle.jc_session.specs.Counting.{counts_ended}
 use Rattle.jc_session.specs.declared.counts.Counts.{Counts}
 use Rattle.jc_cache.specs.Caches.{CacheState, IsStripeOf}
 use Rattle.jc_cache.specs.Outstanding.{ReservedState, AnsweredState}
 use Rattle.jc_cache.specs.OutstandingAll.{reserved_keys, with_answers}
-use Rattle.jc_bulk.specs.declared.round.Start.{Start}
-use Rattle.jc_bulk.specs.GetRounds.{IsGettingInRounds, AreLoadedIn, StayEnded}
-use Rattle.jc_bulk.specs.Gets.{Turn, IsLoadedIn, AreCounted, turn_ends, open_keys, key_if_open, end_started, own_after_ends}
+use Rattle.jc_bulk.specs.declared.round.Progress.{Progress}
+use Rattle.jc_bulk.specs.declared.round.Progress.TheVariants as progress
+use Rattle.jc_bulk.specs.GetRounds.{IsGettingInRounds, AreLoadedIn, StillWaits, IsRoomFor, IsHeldBack, is_closed, refused_if_waiting}
+use Rattle.jc_bulk.specs.Gets.{Turn, IsGetting, IsLoadedIn, AreCounted, turn_keys, turn_progress, open_keys, key_if_open}
 use Rattle.jc_bulk.specs.Phased.{AddsSteps}
-use Rattle.jc_bulk.specs.Rounds.{LoadRound, keys_in, said_in_loads}
+use Rattle.jc_bulk.specs.Rounds.{IsCrowded, LoadRound, IsStripeFull, keys_in, said_in_loads}
 use Rattle.jc_bulk.specs.Starting.{steps_started, reservations_in}
 use Rattle.jc_bulk.specs.StartingLoads.{StartsFor, StartsLoad}
 use Rattle.jc_bulk.specs.Underway.{IsUnderway}
-use Rattle.jc_bulk.proofs.Gets.{begun_getting, refused_getting, one_longer, open_after}
+use Rattle.jc_bulk.proofs.Crowded.{config_there, crowded, held_none}
+use Rattle.jc_bulk.proofs.Gets.{begun_getting, refused_getting, open_after, own_set}
+use Rattle.jc_bulk.proofs.Places.{stay_set, stay_refused, all_closed, none_open}
+use Rattle.jc_bulk.proofs.Starting.{keys_same}
 use Rattle.jc_bulk.proofs.Under.{no_more}
 
 -- 1. Keys among others.
 
-differs : (early : List Bytes) (x key : Bytes) → is_among early x ≡ true → is_among early key ≡ false → pointwise ◌==◌ key x ≡ false
-differs early x key there away = by (pointwise ◌==◌ key x) refl
-  where
-    by : (b : Bool) → pointwise ◌==◌ key x ≡ b → b ≡ false
-    by true e = absurd (true≢false (sym there ∙ sym (list_any_congr nat_list_eq_equiv key x early e) ∙ away))
-    by false e = refl
-
-pub none_of : (early xs : List Bytes) (key : Bytes) → list_all (is_among early) xs ≡ true → is_among early key ≡ false → is_among xs key ≡ false
-none_of early [] key all away = refl
-none_of early (x ∷ xs) key all away =
-    let parts = and_parts (is_among early x) (list_all (is_among early) xs) all in
-    ap (λ b. b || is_among xs key) (differs early x key parts.0 away) ∙ none_of early xs key parts.1 away
-
-among_more : (early more : List Bytes) (x : Bytes) → is_among early x ≡ true → is_among (early ++ more) x ≡ true
-among_more early more x h = list_any-append (pointwise ◌==◌ x) early more ∙ ap (λ b. b || is_among more x) h
-
-asked_more : (early more xs : List Bytes) → list_all (is_among early) xs ≡ true → list_all (is_among (early ++ more)) xs ≡ true
-asked_more early more [] h = refl
-asked_more early more (x ∷ xs) h =
-    let parts = and_parts (is_among early x) (list_all (is_among early) xs) h in
-    ap (λ b. b && list_all (is_among (early ++ more)) xs) (among_more early more x parts.0) ∙ asked_more early more xs parts.1
-
-pub fresh_push : (asked ks : List Bytes) (key : Bytes) (e : Option (Result Reply Refusal)) → list_all (λ k. not (is_among asked k)) ks ≡ true → is_among asked key ≡ false
-    → list_all (λ k. not (is_among asked k)) (ks ++ cons_option (key_if_open key e) []) ≡ true
-fresh_push asked ks key None h away =
+pub fresh_push : (asked ks : List Bytes) (key : Bytes) (p : Progress) → list_all (λ k. not (is_among asked k)) ks ≡ true → is_among asked key ≡ false
+    → list_all (λ k. not (is_among asked k)) (ks ++ cons_option (key_if_open key p) []) ≡ true
+fresh_push asked ks key progress.Waiting h away = ap (list_all (λ k. not (is_among asked k))) (no_more ks) ∙ h
+fresh_push asked ks key progress.Reserved h away =
     list_all-append (λ k. not (is_among asked k)) ks (key ∷ [])
     ∙ ap (λ b. b && list_all (λ k. not (is_among asked k)) (key ∷ [])) h
     ∙ ap (λ b. not b && true) away
-fresh_push asked ks key (Some e) h away = ap (list_all (λ k. not (is_among asked k))) (no_more ks) ∙ h
+fresh_push asked ks key (progress.Ended e) h away = ap (list_all (λ k. not (is_among asked k))) (no_more ks) ∙ h
 
--- 2. A key that begins, and one that is refused since a later round has no memory.
+pub said_none : (rounds : List LoadRound) (key : Bytes) → is_among (keys_in rounds) key ≡ false → said_in_loads rounds key ≡ NotAsked
+said_none [] key away = refl
+said_none (r ∷ rounds) key away =
+    let parts = or_parts (is_among r.keys key) (is_among (keys_in rounds) key) (sym (list_any-append (pointwise ◌==◌ key) r.keys (keys_in rounds)) ∙ away) in
+    ap (λ b. cond b (r.said key) (said_in_loads rounds key)) parts.0 ∙ said_none rounds key parts.1
 
-pub asked_one : (n : ℕ) (m : ℕ) (keys xs : List Bytes) (key : Bytes) → m ≡ n + 1 → take (n + 1) keys ≡ take n keys ++ key ∷ [] → list_all (is_among (take n keys)) xs ≡ true → list_all (is_among (take m keys)) xs ≡ true
-asked_one n m keys xs key is more h =
-    ap (λ i. list_all (is_among (take i keys)) xs) is ∙ ap (λ ks. list_all (is_among ks) xs) more ∙ asked_more (take n keys) (key ∷ []) xs h
+-- 2. A key that begins, and those that are refused since a later round has no memory.
 
-pub begun_in_rounds : (rounds : List LoadRound) (keys : List Bytes) (old new : CacheState) (caller : Caller) (ends : List (Option (Result Reply Refusal))) (calls calls' : BatchState ReservedState) (key : Bytes) (x : Start) (s : State)
-    → IsGettingInRounds rounds keys old caller ends calls.items → is_among (take (length ends) keys) key ≡ false → take (length ends + 1) keys ≡ take (length ends) keys ++ key ∷ [] → length calls.items < RESERVATIONS_MAX
+pub begun_in_rounds : (rounds : List LoadRound) (keys : List Bytes) (old new : CacheState) (caller : Caller) (ps : List Progress) (calls calls' : BatchState ReservedState) (place : ℕ) (key : Bytes) (x : Progress) (s : State)
+    → IsGettingInRounds rounds keys old caller ps calls.items → IsDistinct (pointwise ◌==◌) keys → slice_get keys place ≡ Some key → slice_get ps place ≡ Some progress.Waiting → list_all is_closed (drop place ps) ≡ true
     → IsStripeOf old key s → StartsFor s caller (reservations_in calls.items) key Get x → StartsLoad old.mark caller key x calls calls' → IsUnderway new caller (reservations_in calls'.items)
-    → AddsSteps caller (steps_started caller key Get x) old new → IsGettingInRounds rounds keys new caller (ends ++ end_started x ∷ []) calls'.items
-begun_in_rounds rounds keys old new caller ends calls calls' key x s was fresh more few is why starts under adds =
-    let away : is_among (keys_in rounds) key ≡ false = none_of (take (length ends) keys) (keys_in rounds) key was.asked fresh in
+    → AddsSteps caller (steps_started caller key Get x) old new → IsGettingInRounds rounds keys new caller (set ps place x) calls'.items
+begun_in_rounds rounds keys old new caller ps calls calls' place key x s was d there waits behind is why starts under adds =
+    let away : is_among (keys_in rounds) key ≡ false = was.unasked place key there waits in
+    let stay = stay_set ps place progress.Waiting x waits tt in
     record {
-      gets = begun_getting (said_in_loads rounds) keys old new caller ends calls calls' key x s was.gets fresh more few is why starts under adds;
-      asked = asked_one (length ends) (length (ends ++ end_started x ∷ [])) keys (keys_in rounds) key (one_longer ends (end_started x)) more was.asked;
+      gets = begun_getting (said_in_loads rounds) keys old new caller ps calls calls' place key x s was.gets d there waits behind (said_none rounds key away) is why starts under adds;
+      asked = was.asked;
       once = was.once;
       called = was.called;
-      fresh = ap (list_all (λ k. not (is_among (keys_in rounds) k))) (open_after old.mark s caller key x calls calls' few why starts)
-          ∙ fresh_push (keys_in rounds) (reserved_keys calls.items) key (end_started x) was.fresh away;
+      fresh = ap (list_all (λ k. not (is_among (keys_in rounds) k))) (open_after old.mark caller key x calls calls' starts)
+          ∙ fresh_push (keys_in rounds) (reserved_keys calls.items) key x was.fresh away;
+      unasked = λ i q at still. was.unasked i q at (stay.waited i still);
     }
 
-pub refused_in_rounds : (rounds : List LoadRound) (keys : List Bytes) (cache : CacheState) (caller : Caller) (ends : List (Option (Result Reply Refusal))) (calls : List ReservedState) (key : Bytes)
-    → IsGettingInRounds rounds keys cache caller ends calls → is_among (take (length ends) keys) key ≡ false → take (length ends + 1) keys ≡ take (length ends) keys ++ key ∷ [] → RESERVATIONS_MAX < length keys
-    → IsGettingInRounds rounds keys cache caller (ends ++ Some (Err OutOfMemory) ∷ []) calls
-refused_in_rounds rounds keys cache caller ends calls key was fresh more many =
-    let end : Option (Result Reply Refusal) = Some (Err OutOfMemory) in
-    record {
-      gets = refused_getting (said_in_loads rounds) keys cache caller ends calls key was.gets fresh more many;
-      asked = asked_one (length ends) (length (ends ++ end ∷ [])) keys (keys_in rounds) key (one_longer ends end) more was.asked;
-      once = was.once;
-      called = was.called;
-      fresh = was.fresh;
-    }
+pub refused_in_rounds : (rounds : List LoadRound) (keys : List Bytes) (cache : CacheState) (caller : Caller) (ps : List Progress) (calls : List ReservedState)
+    → IsGettingInRounds rounds keys cache caller ps calls → IsCrowded cache.config keys → IsGettingInRounds rounds keys cache caller (map refused_if_waiting ps) calls
+refused_in_rounds rounds keys cache caller ps calls was many = record {
+  gets = refused_getting (said_in_loads rounds) keys cache caller ps calls was.gets many (λ i q at waits. said_none rounds q (was.unasked i q at waits));
+  asked = was.asked;
+  once = was.once;
+  called = was.called;
+  fresh = was.fresh;
+  unasked = λ i q at still. was.unasked i q at ((stay_refused ps).waited i still);
+}
 
--- 3. Keys that have ended.
+-- 3. The calls that were answered.
 
-pub stay_push : (ends : List (Option (Result Reply Refusal))) (e : Option (Result Reply Refusal)) → StayEnded ends (ends ++ e ∷ [])
-stay_push [] e = tt
-stay_push (None ∷ ends) e = stay_push ends e
-stay_push (Some x ∷ ends) e = (refl, stay_push ends e)
-
-pub stay_same : (ends : List (Option (Result Reply Refusal))) → StayEnded ends ends
-stay_same [] = tt
-stay_same (None ∷ ends) = stay_same ends
-stay_same (Some x ∷ ends) = (refl, stay_same ends)
-
-pub stay_set : (ends : List (Option (Result Reply Refusal))) (place : ℕ) (e : Option (Result Reply Refusal)) → slice_get ends place ≡ Some None → StayEnded ends (set ends place e)
-stay_set [] place e at = cc
-stay_set (None ∷ ends) zero e at = stay_same ends
-stay_set (Some x ∷ ends) zero e at = cc
-stay_set (None ∷ ends) (suc place) e at = stay_set ends place e at
-stay_set (Some x ∷ ends) (suc place) e at = (refl, stay_set ends place e at)
-
-pub stay_both : (a b c : List (Option (Result Reply Refusal))) → StayEnded a b → StayEnded b c → StayEnded a c
-stay_both [] b c h g = tt
-stay_both (x ∷ a) [] c h g = absurd h
-stay_both (x ∷ a) (y ∷ b) [] h g = absurd g
-stay_both (None ∷ a) (None ∷ b) (z ∷ c) h g = stay_both a b c h g
-stay_both (None ∷ a) (Some y ∷ b) (z ∷ c) h g = stay_both a b c h g.1
-stay_both (Some x ∷ a) (None ∷ b) (z ∷ c) h g = let no : None ≡ Some x = h.0 in cc
-stay_both (Some x ∷ a) (Some y ∷ b) (z ∷ c) h g = (g.0 ∙ h.0, stay_both a b c h.1 g.1)
-
--- 4. The calls that were answered.
-
-pub one_loaded : (said : Bytes → LoadAnswer) (keys : List Bytes) (cache : CacheState) (caller : Caller) (ends : List (Option (Result Reply Refusal))) (calls later : List (AnsweredState LoadAnswer)) (call : AnsweredState LoadAnswer) (out : List ReservedState)
-    → AreLoadedIn said keys cache caller ends calls out → calls ≡ call ∷ later → (rest : List ReservedState) × IsLoadedIn said keys cache caller ends call rest × (later ≡ with_answers said rest)
-one_loaded said keys cache caller ends calls later call [] all is = let none : [] ≡ call ∷ later = sym all.answers ∙ is in cc
-one_loaded said keys cache caller ends calls later call (c ∷ out) all is =
+pub one_loaded : (said : Bytes → LoadAnswer) (keys : List Bytes) (cache : CacheState) (caller : Caller) (ps : List Progress) (calls later : List (AnsweredState LoadAnswer)) (call : AnsweredState LoadAnswer) (out : List ReservedState)
+    → AreLoadedIn said keys cache caller ps calls out → calls ≡ call ∷ later → (rest : List ReservedState) × IsLoadedIn said keys cache caller ps call rest × (later ≡ with_answers said rest)
+one_loaded said keys cache caller ps calls later call [] all is = let none : [] ≡ call ∷ later = sym all.answers ∙ is in cc
+one_loaded said keys cache caller ps calls later call (c ∷ out) all is =
     let first : AnsweredState LoadAnswer = record { cache = c.cache; reservation = c.reservation; answer = said c.reservation.key } in
     let same : first ∷ with_answers said out ≡ call ∷ later = sym all.answers ∙ is in
     let head : first ≡ call = cc in
     let rest : later ≡ with_answers said out = cc in
-    (out, subst (λ a. IsLoadedIn said keys cache caller ends a out) head (record { distinct = all.distinct; answer = refl; gets = all.gets }), rest)
-
-own_one : (own : ℕ) (ends : List (Option (Result Reply Refusal))) → own_after_ends (one_more own) ends ≡ one_more (own_after_ends own ends)
-own_one own [] = refl
-own_one own (None ∷ ends) = own_one own ends
-own_one own (Some (Ok reply) ∷ ends) = own_one (one_more own) ends
-own_one own (Some (Err refusal) ∷ ends) = own_one own ends
-
-pub own_set : (own : ℕ) (ends : List (Option (Result Reply Refusal))) (place : ℕ) (reply : Reply) → slice_get ends place ≡ Some None → own_after_ends own (set ends place (Some (Ok reply))) ≡ one_more (own_after_ends own ends)
-own_set own [] place reply at = cc
-own_set own (None ∷ ends) zero reply at = own_one own ends
-own_set own (Some x ∷ ends) zero reply at = cc
-own_set own (None ∷ ends) (suc place) reply at = own_set own ends place reply at
-own_set own (Some (Ok r) ∷ ends) (suc place) reply at = own_set (one_more own) ends place reply at
-own_set own (Some (Err r) ∷ ends) (suc place) reply at = own_set own ends place reply at
+    (out, subst (λ a. IsLoadedIn said keys cache caller ps a out) head (record { distinct = all.distinct; answer = refl; gets = all.gets }), rest)
 
 one_less : {A : Type 0} (x : A) (xs ys : List A) → ys ≡ x ∷ xs → length ys - 1 ≡ length xs
 one_less x xs ys is = omega (arith, ap length is)
 
-pub committed_counted : {A : Type 0} (first counts : Counts) (ends : List (Option (Result Reply Refusal))) (place : ℕ) (reply : Reply) (call : A) (calls later : List A)
-    → slice_get ends place ≡ Some None → calls ≡ call ∷ later → AreCounted first ends (length calls) counts → AreCounted first (set ends place (Some (Ok reply))) (length later) (counts_ended counts)
-committed_counted first counts ends place reply call calls later at is counted =
-    let own = own_set first.own ends place reply at in
+pub committed_counted : {A : Type 0} (first counts : Counts) (ps : List Progress) (place : ℕ) (reply : Reply) (call : A) (calls later : List A)
+    → slice_get ps place ≡ Some progress.Reserved → calls ≡ call ∷ later → AreCounted first ps (length calls) counts → AreCounted first (set ps place (progress.Ended (Ok reply))) (length later) (counts_ended counts)
+committed_counted first counts ps place reply call calls later at is counted =
+    let own = own_set first.own ps place progress.Reserved (progress.Ended (Ok reply)) at tt in
     ap counts_ended counted ∙ (λ i. record first { own = sym own i; reservations = one_less call later calls is i })
 
-pub open_some : (turns : List Turn) (place : ℕ) → slice_get (turn_ends turns) place ≡ Some None → open_keys turns ≡ [] → ⊥
+pub open_some : (turns : List Turn) (place : ℕ) → slice_get (turn_progress turns) place ≡ Some progress.Reserved → open_keys turns ≡ [] → ⊥
 open_some [] place at none = cc
-open_some (t ∷ turns) zero at none = by t.ended at none
+open_some (t ∷ turns) zero at none = by t.progress at none
   where
-    by : (e : Option (Result Reply Refusal)) → Some e ≡ Some None → cons_option (key_if_open t.key e) (open_keys turns) ≡ [] → ⊥
-    by None h empty = cc
-    by (Some x) h empty = cc
-open_some (t ∷ turns) (suc place) at none = by t.ended none (open_some turns place at)
+    by : (p : Progress) → Some p ≡ Some progress.Reserved → cons_option (key_if_open t.key p) (open_keys turns) ≡ [] → ⊥
+    by progress.Waiting h empty = cc
+    by progress.Reserved h empty = cc
+    by (progress.Ended x) h empty = cc
+open_some (t ∷ turns) (suc place) at none = by t.progress none (open_some turns place at)
   where
-    by : (e : Option (Result Reply Refusal)) → cons_option (key_if_open t.key e) (open_keys turns) ≡ [] → (open_keys turns ≡ [] → ⊥) → ⊥
-    by None empty later = cc
-    by (Some x) empty later = later empty
-
-pub all_over : (turns : List Turn) → list_all is_some (turn_ends turns) ≡ true → open_keys turns ≡ []
-all_over [] all = refl
-all_over (t ∷ turns) all = by t.ended all (all_over turns)
-  where
-    by : (e : Option (Result Reply Refusal)) → (is_some e && list_all is_some (turn_ends turns)) ≡ true → (list_all is_some (turn_ends turns) ≡ true → open_keys turns ≡ [])
-        → cons_option (key_if_open t.key e) (open_keys turns) ≡ []
-    by None h later = cc
-    by (Some x) h later = later h
+    by : (p : Progress) → cons_option (key_if_open t.key p) (open_keys turns) ≡ [] → (open_keys turns ≡ [] → ⊥) → ⊥
+    by progress.Waiting empty later = later empty
+    by progress.Reserved empty later = cc
+    by (progress.Ended x) empty later = later empty
 
 pub no_keys : (calls : List ReservedState) → reserved_keys calls ≡ [] → calls ≡ []
 no_keys [] none = refl
@@ -202,22 +135,54 @@ no_answers said [] none = refl
 no_answers said (c ∷ calls) none = cc
 
 -- while a key is reserved, a call is out
-pub some_left : (said : Bytes → LoadAnswer) (keys : List Bytes) (cache : CacheState) (caller : Caller) (ends : List (Option (Result Reply Refusal))) (place : ℕ) (calls : List (AnsweredState LoadAnswer)) (out : List ReservedState)
-    → AreLoadedIn said keys cache caller ends calls out → slice_get ends place ≡ Some None → calls ≡ [] → ⊥
-some_left said keys cache caller ends place calls out all at none =
+pub some_left : (said : Bytes → LoadAnswer) (keys : List Bytes) (cache : CacheState) (caller : Caller) (ps : List Progress) (place : ℕ) (calls : List (AnsweredState LoadAnswer)) (out : List ReservedState)
+    → AreLoadedIn said keys cache caller ps calls out → slice_get ps place ≡ Some progress.Reserved → calls ≡ [] → ⊥
+some_left said keys cache caller ps place calls out all at none =
     let empty : out ≡ [] = no_answers said out (sym all.answers ∙ none) in
-    open_some all.gets.turns place (ap (λ es. slice_get es place) all.gets.ends_are ∙ at) (sym all.gets.keys_open ∙ ap reserved_keys empty)
+    open_some all.gets.turns place (ap (λ qs. slice_get qs place) all.gets.progress_are ∙ at) (sym all.gets.keys_open ∙ ap reserved_keys empty)
 
--- once all have ended, none is
-pub none_left : (said : Bytes → LoadAnswer) (keys : List Bytes) (cache : CacheState) (caller : Caller) (ends : List (Option (Result Reply Refusal))) (calls : List (AnsweredState LoadAnswer)) (out : List ReservedState)
-    → AreLoadedIn said keys cache caller ends calls out → list_all is_some ends ≡ true → (out ≡ []) × (calls ≡ [])
-none_left said keys cache caller ends calls out all over =
-    let empty : out ≡ [] = no_keys out (all.gets.keys_open ∙ all_over all.gets.turns (ap (list_all is_some) all.gets.ends_are ∙ over)) in
+-- once no key is reserved, none is
+pub none_left : (said : Bytes → LoadAnswer) (keys : List Bytes) (cache : CacheState) (caller : Caller) (ps : List Progress) (calls : List (AnsweredState LoadAnswer)) (out : List ReservedState)
+    → AreLoadedIn said keys cache caller ps calls out → list_all is_closed ps ≡ true → (out ≡ []) × (calls ≡ [])
+none_left said keys cache caller ps calls out all over =
+    let empty : out ≡ [] = no_keys out (all.gets.keys_open ∙ all_closed all.gets.turns (ap (list_all is_closed) all.gets.progress_are ∙ over)) in
     (empty, all.answers ∙ ap (with_answers said) empty)
 
-none_from : {X : Type 0} (o : Option X) → is_some o ≡ false → o ≡ None
-none_from None e = refl
-none_from (Some x) e = cc
+-- 4. How many calls are out.
 
-pub none_there : (ends : List (Option (Result Reply Refusal))) (place : ℕ) (d : Option (Result Reply Refusal)) → place < length ends → is_some (get_or ends place d) ≡ false → slice_get ends place ≡ Some None
-none_there ends place d near none = slice_get-get_or ends place d near ∙ ap Some (none_from (get_or ends place d) none)
+pub many_keys : (said : Bytes → LoadAnswer) (keys : List Bytes) (cache : CacheState) (caller : Caller) (ps : List Progress) (calls : List ReservedState) → IsGetting said keys cache caller ps calls → length ps ≡ length keys
+many_keys said keys cache caller ps calls gets =
+    let progress_many : length (turn_progress gets.turns) ≡ length gets.turns = length-map gets.turns (λ (t : Turn). t.progress) in
+    let keys_many : length (turn_keys gets.turns) ≡ length gets.turns = length-map gets.turns (λ (t : Turn). t.key) in
+    sym (ap length gets.progress_are) ∙ progress_many ∙ sym keys_many ∙ ap length gets.keys_are
+
+-- with none out, no key is reserved
+pub closed_now : (said : Bytes → LoadAnswer) (keys : List Bytes) (cache : CacheState) (caller : Caller) (ps : List Progress) → IsGetting said keys cache caller ps [] → list_all is_closed ps ≡ true
+closed_now said keys cache caller ps gets = ap (list_all is_closed) (sym gets.progress_are) ∙ none_open gets.turns (sym gets.keys_open)
+
+-- why a key can't be begun: it was put off, or no room is left
+pub stripe_full : (cache : CacheState) (caller : Caller) (calls : List ReservedState) (s : State) (key : Bytes) (op : Op) (x : Progress) → IsUnderway cache caller (reservations_in calls) → IsStripeOf cache key s
+    → StartsFor s caller (reservations_in calls) key op x → x ≡ progress.Waiting → IsStripeFull cache.config (reserved_keys calls) key
+stripe_full cache caller calls s key op x under there why is =
+    let waits = subst (StartsFor s caller (reservations_in calls) key op) is why in
+    subst (λ (config : Config). IsStripeFull config (reserved_keys calls) key) (config_there cache caller (reservations_in calls) key s under there)
+    (subst (λ ks. IsStripeFull s.config ks key) (keys_same calls) waits.1)
+
+pub no_room : (config : Config) (calls : List ReservedState) (key : Bytes) (most : ℕ) → most ≤ length calls → IsHeldBack config most (reserved_keys calls) key
+no_room config calls key most full = inr (omega (arith, full, length-map calls (λ (c : ReservedState). c.reservation.key)))
+
+pub none_by_length : {A : Type 0} (xs : List A) → length xs ≡ 0 → xs ≡ []
+none_by_length [] none = refl
+none_by_length (x ∷ xs) none = cc
+
+-- with none out, each can be begun
+pub none_held : (config : Config) (calls : List ReservedState) (key : Bytes) (most keys : ℕ) → 0 < keys → IsRoomFor config.stripes most keys → length calls ≡ 0 → IsHeldBack config most (reserved_keys calls) key → ⊥
+none_held config calls key most keys some room none held =
+    held_none config most keys key some room (subst (λ cs. IsHeldBack config most (reserved_keys cs) key) (none_by_length calls none) held)
+
+-- if one can't, some stripe has more of the keys than may be reserved there
+pub held_crowded : (said : Bytes → LoadAnswer) (keys : List Bytes) (cache : CacheState) (caller : Caller) (ps : List Progress) (calls : List ReservedState) (place : ℕ) (key : Bytes) (most : ℕ) (config : Config) → IsGetting said keys cache caller ps calls
+    → slice_get keys place ≡ Some key → StillWaits ps place → IsRoomFor config.stripes most (length keys) → IsHeldBack config most (reserved_keys calls) key → IsCrowded config keys
+held_crowded said keys cache caller ps calls place key most config gets there waits room held =
+    crowded config most gets.turns keys place key gets.keys_are (ap (λ ks. slice_get ks place) gets.keys_are ∙ there) (ap (λ qs. slice_get qs place) gets.progress_are ∙ waits) room
+    (subst (λ ks. IsHeldBack config most ks key) gets.keys_open held)

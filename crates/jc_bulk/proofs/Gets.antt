@@ -1,31 +1,30 @@
 -- A `getAll` between its phases: what one phase of a key leaves of the others' turns, and of its own.
 --     near_later, ended_later    a stripe stays near full, and a key may have ended so, also later
 --     one_state                  the stripe of a key has one state
---     turn_kept, turns_kept      a turn at another key stays
+--     turn_kept                  a turn at another key stays
 --     own_step                   a step of a call at a key is one of the call's steps there
 --     no_step                    and not at another key
---     turn_begun, others_kept    the turn of a key that begins, and the keys whose turn hasn't come
---     not_open                   such a key isn't reserved
+--     turn_begun, others_kept    the turn of a key that begins, and the keys that aren't of the call
+--     not_open, waits_closed     such a key isn't reserved, and neither is one that waits
+--     waiting_away, waiting_none      a key that waits has neither a reservation nor a step
 --     begun_getting, begun_counted    the account of the call, and what its session counts, after a key has begun
+--     own_set                    how many steps the session has made, as a key ends
 --     both_after_all, both_leave, both_counted    two phases, one after the other
 --     same_after_all             none
---     refused_getting, refused_counted    the account of the call, and what its session counts, after a key is refused
+--     refused_getting, refused_counted    the account of the call, and what its session counts, after those that wait are refused
 --     absent, key_there          a key isn't among those before it, and is at its place
-use Rattle.std.proofs.Common.{◌≡◌, ◌==◌, ◌≤◌, ◌<◌, ◌+◌, ◌*◌, ◌&&◌, ◌||◌, inl, inr, ℕ, zero, suc, List, [], ◌∷◌, ◌++◌, length, length-append, append_assoc, take, get_or, cond, Bool, true, false, not, Option, None, Some, Result, Ok, Err, nat_le, nat_lt, slice_get, refl, sym, ap, ◌∙◌, subst, arith}
+use Rattle.std.proofs.Common.{◌≡◌, ◌==◌, ◌≤◌, ◌<◌, ◌+◌, ◌*◌, ◌&&◌, ◌||◌, inl, inr, ℕ, zero, suc, List, [], ◌∷◌, ◌++◌, length, length-append, append_assoc, map, take, drop, set, get_or, cond, Bool, true, false, not, None, Some, Ok, Err, nat_le, nat_lt, slice_get, refl, sym, ap, ◌∙◌, subst, arith}
 use Rattle.std.proofs.lemmas.Bool.{or_parts}
 use Rattle.std.proofs.lemmas.Bool.Decides.{nat_tests}
 use Rattle.std.proofs.lemmas.Cmp.{nat_list_eq_equiv}
 use Rattle.std.proofs.lemmas.List.{map-append, length-map}
-use Rattle.std.proofs.lemmas.List.Elements.{filter_map-append}
-use Rattle.std.proofs.lemmas.List.Folds.{list_any-append}
 use Rattle.std.proofs.lemmas.Map.Keys.{IsDistinct-head, IsDistinct-tail}
 use Rattle.std.proofs.lemmas.Option.{slice_get-get_or}
-use Rattle.std.specs.List.{AllByRecursion, IsDistinct, cons_option}
+use Rattle.std.specs.List.{AllByRecursion, IsDistinct, list_all, cons_option}
 use Rattle.std.specs.Cmp.Lexicographic.{pointwise}
 use Rattle.jc_types.specs.declared.caller.Caller.{Caller}
 use Rattle.jc_types.specs.declared.limits.TheConstants.{STEP_PLACES, RESERVATIONS_MAX}
 use Rattle.jc_types.specs.declared.refusal.Refusal.{Refusal}
-use Rattle.jc_types.specs.declared.refusal.Refusal.TheVariants.{OutOfMemory}
 use Rattle.jc_types.specs.declared.config.Config.{Config}
 use Rattle.jc_model.specs.declared.event.Event.{Event}
 use Rattle.jc_model.specs.declared.event.Event.TheVariants.{Step}
@@ -49,15 +48,19 @@ use Rattle.jc_cache.specs.Caches.{CacheState, IsStripeOf}
 use Rattle.jc_cache.specs.Outstanding.{ReservedState}
 use Rattle.jc_cache.specs.OutstandingAll.{reserved_keys}
 use Rattle.jc_cache.specs.Whole.{own_after}
-use Rattle.jc_bulk.specs.declared.round.Start.{Start}
-use Rattle.jc_bulk.specs.declared.round.Start.TheVariants as start
+use Rattle.jc_bulk.specs.declared.round.Progress.{Progress}
+use Rattle.jc_bulk.specs.declared.round.Progress.TheVariants as progress
 use Rattle.jc_bulk.specs.Ends.{is_near_full, MayRefuse}
-use Rattle.jc_bulk.specs.Gets.{Turn, IsTurn, AreTurns, IsGetCall, IsGetting, AreCounted, turn_keys, open_keys, key_if_open, end_started, step_ended, own_after_ends, MayHaveEnded, ComesAfterAll}
+use Rattle.jc_bulk.specs.GetRounds.{is_closed, refused_if_waiting}
+use Rattle.jc_bulk.specs.Gets.{Turn, IsTurn, AreTurns, IsGetCall, IsGetting, AreCounted, turn_keys, turn_progress, open_keys, key_if_open, step_ended, own_after_ends, MayHaveEnded, ComesAfterAll}
 use Rattle.jc_bulk.specs.Phased.{ComesAfter, AddsSteps, LeavesCalls, counts_started}
 use Rattle.jc_bulk.specs.Recorded.{steps_of}
 use Rattle.jc_bulk.specs.Starting.{steps_started, reservations_in}
 use Rattle.jc_bulk.specs.StartingLoads.{StartsFor, StartsLoad}
 use Rattle.jc_bulk.specs.Underway.{IsUnderway}
+use Rattle.jc_bulk.specs.Rounds.{IsCrowded}
+use Rattle.jc_bulk.proofs.Crowded.{config_there}
+use Rattle.jc_bulk.proofs.Places.{turn_set, keys_set, progress_set, turn_there, turns_set, key_apart, all_apart, apart_all, open_begun}
 use Rattle.jc_bulk.proofs.Steps.{next_number}
 use Rattle.jc_stripe.specs.declared.ticket.Reservation.{Reservation}
 use Rattle.jc_bulk.proofs.Under.{no_more, same_number}
@@ -95,14 +98,15 @@ near_later s t call after near =
     (less_before last_number s.next t.next after.next)
     near
 
-may_later : (s t : State) (call keys : ℕ) (r : Refusal) → ComesAfter s t → MayRefuse s call keys r → MayRefuse t call keys r
+may_later : (s t : State) (call : ℕ) (keys : List Bytes) (r : Refusal) → ComesAfter s t → MayRefuse s call keys r → MayRefuse t call keys r
 may_later s t call keys r after (inl full) = inl (full.0, near_later s t call after full.1)
-may_later s t call keys r after (inr memory) = inr memory
+may_later s t call keys r after (inr memory) = inr (memory.0, subst (λ (config : Config). IsCrowded config keys) (sym after.extends.same.config) memory.1)
 
-pub ended_later : (s t : State) (call keys : ℕ) (said : LoadAnswer) (ended : Option (Result Reply Refusal)) → ComesAfter s t → MayHaveEnded s call keys said ended → MayHaveEnded t call keys said ended
-ended_later s t call keys said None after h = tt
-ended_later s t call keys said (Some (Ok reply)) after h = tt
-ended_later s t call keys said (Some (Err refusal)) after h = (h.0, may_later s t call keys refusal after h.1)
+pub ended_later : (s t : State) (call : ℕ) (keys : List Bytes) (said : LoadAnswer) (p : Progress) → ComesAfter s t → MayHaveEnded s call keys said p → MayHaveEnded t call keys said p
+ended_later s t call keys said progress.Waiting after h = tt
+ended_later s t call keys said progress.Reserved after h = tt
+ended_later s t call keys said (progress.Ended (Ok reply)) after h = tt
+ended_later s t call keys said (progress.Ended (Err refusal)) after h = (h.0, may_later s t call keys refusal after h.1)
 
 some_state : (s t : State) → Some (Some s) ≡ Some (Some t) → s ≡ t
 some_state s t e = cc
@@ -110,28 +114,19 @@ some_state s t e = cc
 pub one_state : (cache : CacheState) (key : Bytes) (s t : State) → IsStripeOf cache key s → IsStripeOf cache key t → s ≡ t
 one_state cache key s t is also = some_state s t (sym is ∙ also)
 
-pub turn_kept : (caller : Caller) (keys : ℕ) (said : LoadAnswer) (events : List Event) (old new : CacheState) (t : Turn) → AddsSteps caller events old new → steps_of caller t.key events ≡ []
+pub turn_kept : (caller : Caller) (keys : List Bytes) (said : LoadAnswer) (events : List Event) (old new : CacheState) (t : Turn) → AddsSteps caller events old new → steps_of caller t.key events ≡ []
     → ((state : State) → IsStripeOf old t.key state → IsTurn caller keys said t state) → (state : State) → IsStripeOf new t.key state → IsTurn caller keys said t state
 turn_kept caller keys said events old new t adds none was state is =
     let b = adds.stripes t.key state is in
     let turn = was b.0 b.1 in
     record {
       steps = b.3 ∙ ap (λ xs. steps_of caller t.key b.0.history ++ xs) none ∙ no_more (steps_of caller t.key b.0.history) ∙ turn.steps;
-      may = ended_later b.0 state caller.call keys said t.ended b.2 turn.may;
+      may = ended_later b.0 state caller.call keys said t.progress b.2 turn.may;
     }
 
 -- a phase of another key
 abbrev pub IsAway : Caller → Bytes → List Event → Type 0
 IsAway caller key events = (q : Bytes) → pointwise ◌==◌ q key ≡ false → steps_of caller q events ≡ []
-
-pub turns_kept : (caller : Caller) (keys : ℕ) (said : Bytes → LoadAnswer) (events : List Event) (old new : CacheState) (key : Bytes) (turns : List Turn) → AddsSteps caller events old new → IsAway caller key events
-    → is_among (turn_keys turns) key ≡ false → AreTurns old caller keys said turns → AreTurns new caller keys said turns
-turns_kept caller keys said events old new key [] adds away none all = tt
-turns_kept caller keys said events old new key (t ∷ turns) adds away none all =
-    let parts = or_parts (pointwise ◌==◌ key t.key) (is_among (turn_keys turns) key) none in (
-      turn_kept caller keys (said t.key) events old new t adds (away t.key (nat_list_eq_equiv.symm t.key key ∙ parts.0)) all.0,
-      turns_kept caller keys said events old new key turns adds away parts.1 all.1,
-    )
 
 -- 2. The steps of a phase.
 
@@ -153,30 +148,30 @@ no_step caller key op out reply q apart =
     ap (λ b. cond b (Step caller op key out None reply ∷ []) [])
     (is_not (caller.session == caller.session) (caller.call == caller.call) (pointwise ◌==◌ key q) (nat_list_eq_equiv.symm key q ∙ apart))
 
-pub started_away : (caller : Caller) (key : Bytes) (s : Start) → IsAway caller key (steps_started caller key Get s)
-started_away caller key (start.Ended (Ok reply)) = no_step caller key Get nothing_said reply
-started_away caller key (start.Ended (Err refusal)) = λ q apart. refl
-started_away caller key start.Reserved = λ q apart. refl
-started_away caller key start.PutOff = λ q apart. refl
+pub started_away : (caller : Caller) (key : Bytes) (s : Progress) → IsAway caller key (steps_started caller key Get s)
+started_away caller key (progress.Ended (Ok reply)) = no_step caller key Get nothing_said reply
+started_away caller key (progress.Ended (Err refusal)) = λ q apart. refl
+started_away caller key progress.Reserved = λ q apart. refl
+started_away caller key progress.Waiting = λ q apart. refl
 
-pub started_steps : (caller : Caller) (key : Bytes) (said : LoadAnswer) (s : Start) → said ≡ NotAsked → steps_of caller key (steps_started caller key Get s) ≡ step_ended caller key said (end_started s)
-started_steps caller key said (start.Ended (Ok reply)) none = own_step caller key Get nothing_said reply ∙ ap (λ a. Step caller Get key (load_only a) None reply ∷ []) (sym none)
-started_steps caller key said (start.Ended (Err refusal)) none = refl
-started_steps caller key said start.Reserved none = refl
-started_steps caller key said start.PutOff none = refl
+pub started_steps : (caller : Caller) (key : Bytes) (said : LoadAnswer) (s : Progress) → said ≡ NotAsked → steps_of caller key (steps_started caller key Get s) ≡ step_ended caller key said s
+started_steps caller key said (progress.Ended (Ok reply)) none = own_step caller key Get nothing_said reply ∙ ap (λ a. Step caller Get key (load_only a) None reply ∷ []) (sym none)
+started_steps caller key said (progress.Ended (Err refusal)) none = refl
+started_steps caller key said progress.Reserved none = refl
+started_steps caller key said progress.Waiting none = refl
 
 -- 3. A key that begins.
 
-started_may : (s t : State) (caller : Caller) (out : List Reservation) (key : Bytes) (keys : ℕ) (said : LoadAnswer) (x : Start) → said ≡ NotAsked → ComesAfter s t → StartsFor s caller out key Get x
-    → MayHaveEnded t caller.call keys said (end_started x)
-started_may s t caller out key keys said (start.Ended (Ok reply)) none after why = tt
-started_may s t caller out key keys said (start.Ended (Err refusal)) none after why = (none, inl (why.1, near_later s t caller.call after why.2))
-started_may s t caller out key keys said start.Reserved none after why = tt
-started_may s t caller out key keys said start.PutOff none after why = tt
+started_may : (s t : State) (caller : Caller) (out : List Reservation) (key : Bytes) (keys : List Bytes) (said : LoadAnswer) (x : Progress) → said ≡ NotAsked → ComesAfter s t → StartsFor s caller out key Get x
+    → MayHaveEnded t caller.call keys said x
+started_may s t caller out key keys said (progress.Ended (Ok reply)) none after why = tt
+started_may s t caller out key keys said (progress.Ended (Err refusal)) none after why = (none, inl (why.1, near_later s t caller.call after why.2))
+started_may s t caller out key keys said progress.Reserved none after why = tt
+started_may s t caller out key keys said progress.Waiting none after why = tt
 
-pub turn_begun : (caller : Caller) (keys : ℕ) (said : LoadAnswer) (old new : CacheState) (key : Bytes) (out : List Reservation) (x : Start) (s : State)
+pub turn_begun : (caller : Caller) (keys : List Bytes) (said : LoadAnswer) (old new : CacheState) (key : Bytes) (out : List Reservation) (x : Progress) (s : State)
     → ((state : State) → IsStripeOf old key state → steps_of caller key state.history ≡ []) → said ≡ NotAsked → IsStripeOf old key s → StartsFor s caller out key Get x → AddsSteps caller (steps_started caller key Get x) old new
-    → (state : State) → IsStripeOf new key state → IsTurn caller keys said (record { key = key; ended = end_started x }) state
+    → (state : State) → IsStripeOf new key state → IsTurn caller keys said (record { key = key; progress = x }) state
 turn_begun caller keys said old new key out x s none unasked is why adds state now =
     let b = adds.stripes key state now in
     record {
@@ -187,12 +182,6 @@ turn_begun caller keys said old new key out x s none unasked is why adds state n
 pub all_push : {A : Type 0} (P : A → Type 0) (xs : List A) (x : A) → AllByRecursion P xs → P x → AllByRecursion P (xs ++ x ∷ [])
 all_push P [] x all p = (p, tt)
 all_push P (y ∷ xs) x all p = (all.0, all_push P xs x all.1 p)
-
--- a key that isn't among the keys and one more
-pub not_pushed : (keys : List Bytes) (key q : Bytes) → is_among (keys ++ key ∷ []) q ≡ false → (is_among keys q ≡ false) × (pointwise ◌==◌ q key ≡ false)
-not_pushed keys key q away =
-    let parts = or_parts (is_among keys q) (is_among (key ∷ []) q) (sym (list_any-append (pointwise ◌==◌ q) keys (key ∷ [])) ∙ away) in
-    (parts.0, (or_parts (pointwise ◌==◌ q key) false parts.1).0)
 
 pub others_kept : (caller : Caller) (events : List Event) (old new : CacheState) (q : Bytes) → AddsSteps caller events old new → steps_of caller q events ≡ []
     → ((state : State) → IsStripeOf old q state → steps_of caller q state.history ≡ []) → (state : State) → IsStripeOf new q state → steps_of caller q state.history ≡ []
@@ -210,78 +199,123 @@ after_all caller events old new adds = record {
 
 -- 4. The account of a key that begins.
 
-pub one_longer : {A : Type 0} (xs : List A) (x : A) → length (xs ++ x ∷ []) ≡ length xs + 1
-one_longer xs x = omega (arith, length-append xs (x ∷ []))
+not_here : (key k : Bytes) (p : Progress) (rest : List Bytes) → pointwise ◌==◌ key k ≡ false → is_among rest key ≡ false → is_among (cons_option (key_if_open k p) rest) key ≡ false
+not_here key k progress.Waiting rest apart none = none
+not_here key k progress.Reserved rest apart none = ap (λ b. b || is_among rest key) apart ∙ none
+not_here key k (progress.Ended e) rest apart none = none
 
-not_here : (key k : Bytes) (ended : Option (Result Reply Refusal)) (rest : List Bytes) → pointwise ◌==◌ key k ≡ false → is_among rest key ≡ false → is_among (cons_option (key_if_open k ended) rest) key ≡ false
-not_here key k None rest apart none = ap (λ b. b || is_among rest key) apart ∙ none
-not_here key k (Some ended) rest apart none = none
-
--- a key whose turn hasn't come isn't reserved
+-- a key that isn't the call's isn't reserved
 pub not_open : (turns : List Turn) (key : Bytes) → is_among (turn_keys turns) key ≡ false → is_among (open_keys turns) key ≡ false
 not_open [] key none = refl
 not_open (t ∷ turns) key none =
     let parts = or_parts (pointwise ◌==◌ key t.key) (is_among (turn_keys turns) key) none in
-    not_here key t.key t.ended (open_keys turns) parts.0 (not_open turns key parts.1)
+    not_here key t.key t.progress (open_keys turns) parts.0 (not_open turns key parts.1)
 
-pub too_many : (calls : List ReservedState) → length calls < RESERVATIONS_MAX → RESERVATIONS_MAX ≤ length (reservations_in calls) → ⊥
-too_many calls few many = omega (arith, few, many, length-map calls (λ (c : ReservedState). c.reservation))
+-- and neither is one that waits
+pub waits_closed : (turns : List Turn) (place : ℕ) (key : Bytes) → IsDistinct (pointwise ◌==◌) (turn_keys turns) → slice_get (turn_keys turns) place ≡ Some key → slice_get (turn_progress turns) place ≡ Some progress.Waiting
+    → is_among (open_keys turns) key ≡ false
+waits_closed [] place key d at is = refl
+waits_closed (t ∷ turns) zero key d at is =
+    let same : t.key ≡ key = cc in
+    let was : t.progress ≡ progress.Waiting = cc in
+    ap (λ p. is_among (cons_option (key_if_open t.key p) (open_keys turns)) key) was
+    ∙ ap (is_among (open_keys turns)) (sym same)
+    ∙ not_open turns t.key (apart_all t.key (turn_keys turns) (IsDistinct-head (pointwise ◌==◌) t.key (turn_keys turns) d))
+waits_closed (t ∷ turns) (suc place) key d at is =
+    not_here key t.key t.progress (open_keys turns)
+    (nat_list_eq_equiv.symm key t.key ∙ key_apart (λ y. pointwise ◌==◌ t.key y ≡ false) (turn_keys turns) place key (IsDistinct-head (pointwise ◌==◌) t.key (turn_keys turns) d) at)
+    (waits_closed turns place key (IsDistinct-tail (pointwise ◌==◌) t.key (turn_keys turns) d) at is)
 
-calls_after : (mark : Mark) (caller : Caller) (key : Bytes) (x : Start) (old new : BatchState ReservedState) → StartsLoad mark caller key x old new → AllByRecursion (IsGetCall mark caller) old.items → AllByRecursion (IsGetCall mark caller) new.items
-calls_after mark caller key (start.Ended ended) old new h all = subst (λ (b : BatchState ReservedState). AllByRecursion (IsGetCall mark caller) b.items) (sym h) all
-calls_after mark caller key start.Reserved old new h all =
+calls_after : (mark : Mark) (caller : Caller) (key : Bytes) (x : Progress) (old new : BatchState ReservedState) → StartsLoad mark caller key x old new → AllByRecursion (IsGetCall mark caller) old.items → AllByRecursion (IsGetCall mark caller) new.items
+calls_after mark caller key (progress.Ended ended) old new h all = subst (λ (b : BatchState ReservedState). AllByRecursion (IsGetCall mark caller) b.items) (sym h) all
+calls_after mark caller key progress.Reserved old new h all =
     let one : IsGetCall mark caller h.0 = record { call_is = record { caller_is = h.1.caller_is; key_is = refl; op_is = h.1.op_is }; cache_is = h.2 } in
     subst (λ (b : BatchState ReservedState). AllByRecursion (IsGetCall mark caller) b.items) (sym h.3) (all_push (IsGetCall mark caller) old.items h.0 all one)
-calls_after mark caller key start.PutOff old new h all = subst (λ (b : BatchState ReservedState). AllByRecursion (IsGetCall mark caller) b.items) (sym h) all
+calls_after mark caller key progress.Waiting old new h all = subst (λ (b : BatchState ReservedState). AllByRecursion (IsGetCall mark caller) b.items) (sym h) all
 
-pub open_after : (mark : Mark) (s : State) (caller : Caller) (key : Bytes) (x : Start) (old new : BatchState ReservedState) → length old.items < RESERVATIONS_MAX → StartsFor s caller (reservations_in old.items) key Get x
-    → StartsLoad mark caller key x old new → reserved_keys new.items ≡ reserved_keys old.items ++ cons_option (key_if_open key (end_started x)) []
-open_after mark s caller key (start.Ended ended) old new few why h = ap (λ (b : BatchState ReservedState). reserved_keys b.items) h ∙ sym (no_more (reserved_keys old.items))
-open_after mark s caller key start.Reserved old new few why h =
+pub open_after : (mark : Mark) (caller : Caller) (key : Bytes) (x : Progress) (old new : BatchState ReservedState) → StartsLoad mark caller key x old new
+    → reserved_keys new.items ≡ reserved_keys old.items ++ cons_option (key_if_open key x) []
+open_after mark caller key (progress.Ended ended) old new h = ap (λ (b : BatchState ReservedState). reserved_keys b.items) h ∙ sym (no_more (reserved_keys old.items))
+open_after mark caller key progress.Reserved old new h =
     ap (λ (b : BatchState ReservedState). reserved_keys b.items) h.3
     ∙ map-append (λ (c : ReservedState). c.reservation.key) old.items (h.0 ∷ [])
     ∙ ap (λ k. reserved_keys old.items ++ k ∷ []) h.1.key_is
-open_after mark s caller key start.PutOff old new few why h = absurd (too_many old.items few why.1)
+open_after mark caller key progress.Waiting old new h = ap (λ (b : BatchState ReservedState). reserved_keys b.items) h ∙ sym (no_more (reserved_keys old.items))
 
-pub begun_getting : (said : Bytes → LoadAnswer) (keys : List Bytes) (old new : CacheState) (caller : Caller) (ends : List (Option (Result Reply Refusal))) (calls calls' : BatchState ReservedState) (key : Bytes) (x : Start) (s : State)
-    → IsGetting said keys old caller ends calls.items → is_among (take (length ends) keys) key ≡ false → take (length ends + 1) keys ≡ take (length ends) keys ++ key ∷ [] → length calls.items < RESERVATIONS_MAX
+-- a key that waits has neither a reservation nor a step of the call
+pub waiting_away : (said : Bytes → LoadAnswer) (keys : List Bytes) (cache : CacheState) (caller : Caller) (ps : List Progress) (calls : List ReservedState) (place : ℕ) (key : Bytes)
+    → IsGetting said keys cache caller ps calls → IsDistinct (pointwise ◌==◌) keys → slice_get keys place ≡ Some key → slice_get ps place ≡ Some progress.Waiting → is_among (reserved_keys calls) key ≡ false
+waiting_away said keys cache caller ps calls place key gets d there waits =
+    ap (λ ks. is_among ks key) gets.keys_open
+    ∙ waits_closed gets.turns place key (subst (IsDistinct (pointwise ◌==◌)) (sym gets.keys_are) d) (ap (λ ks. slice_get ks place) gets.keys_are ∙ there) (ap (λ qs. slice_get qs place) gets.progress_are ∙ waits)
+
+pub waiting_none : (said : Bytes → LoadAnswer) (keys : List Bytes) (cache : CacheState) (caller : Caller) (ps : List Progress) (calls : List ReservedState) (place : ℕ) (key : Bytes)
+    → IsGetting said keys cache caller ps calls → slice_get keys place ≡ Some key → slice_get ps place ≡ Some progress.Waiting → (state : State) → IsStripeOf cache key state → steps_of caller key state.history ≡ []
+waiting_none said keys cache caller ps calls place key gets there waits state is =
+    (turn_there (λ t. (s : State) → IsStripeOf cache t.key s → IsTurn caller keys (said t.key) t s) gets.turns place key progress.Waiting gets.each
+    (ap (λ ks. slice_get ks place) gets.keys_are ∙ there) (ap (λ qs. slice_get qs place) gets.progress_are ∙ waits) state is).steps
+
+pub begun_getting : (said : Bytes → LoadAnswer) (keys : List Bytes) (old new : CacheState) (caller : Caller) (ps : List Progress) (calls calls' : BatchState ReservedState) (place : ℕ) (key : Bytes) (x : Progress) (s : State)
+    → IsGetting said keys old caller ps calls.items → IsDistinct (pointwise ◌==◌) keys → slice_get keys place ≡ Some key → slice_get ps place ≡ Some progress.Waiting → list_all is_closed (drop place ps) ≡ true → said key ≡ NotAsked
     → IsStripeOf old key s → StartsFor s caller (reservations_in calls.items) key Get x → StartsLoad old.mark caller key x calls calls' → IsUnderway new caller (reservations_in calls'.items)
-    → AddsSteps caller (steps_started caller key Get x) old new → IsGetting said keys new caller (ends ++ end_started x ∷ []) calls'.items
-begun_getting said keys old new caller ends calls calls' key x s gets fresh more few is why starts under adds =
-    let t : Turn = record { key = key; ended = end_started x } in
+    → AddsSteps caller (steps_started caller key Get x) old new → IsGetting said keys new caller (set ps place x) calls'.items
+begun_getting said keys old new caller ps calls calls' place key x s gets d there waits behind unasked is why starts under adds =
     let turns = gets.turns in
-    let none : is_among (turn_keys turns) key ≡ false = ap (λ ks. is_among ks key) gets.keys_are ∙ fresh in
     let events = steps_started caller key Get x in
-    let pushed : turn_keys (turns ++ t ∷ []) ≡ turn_keys turns ++ key ∷ [] = map-append (λ (u : Turn). u.key) turns (t ∷ []) in
+    let at : slice_get (turn_keys turns) place ≡ Some key = ap (λ ks. slice_get ks place) gets.keys_are ∙ there in
+    let was : slice_get (turn_progress turns) place ≡ Some progress.Waiting = ap (λ qs. slice_get qs place) gets.progress_are ∙ waits in
+    let old_turn : Turn → Type 0 = λ t. (state : State) → IsStripeOf old t.key state → IsTurn caller keys (said t.key) t state in
+    let new_turn : Turn → Type 0 = λ t. (state : State) → IsStripeOf new t.key state → IsTurn caller keys (said t.key) t state in
+    let here = turn_there old_turn turns place key progress.Waiting gets.each at was in
     record {
-      turns = turns ++ t ∷ [];
-      keys_are = pushed ∙ ap (λ ks. ks ++ key ∷ []) gets.keys_are ∙ sym more ∙ ap (λ n. take n keys) (sym (one_longer ends (end_started x)));
-      ends_are = map-append (λ (u : Turn). u.ended) turns (t ∷ []) ∙ ap (λ es. es ++ end_started x ∷ []) gets.ends_are;
+      turns = turn_set turns place x;
+      keys_are = keys_set turns place x ∙ gets.keys_are;
+      progress_are = progress_set turns place x ∙ ap (λ qs. set qs place x) gets.progress_are;
       underway = under;
-      each = all_push (λ (u : Turn). (state : State) → IsStripeOf new u.key state → IsTurn caller (length keys) (said u.key) u state) turns t
-          (turns_kept caller (length keys) said events old new key turns adds (started_away caller key x) none gets.each)
-          (turn_begun caller (length keys) (said key) old new key (reservations_in calls.items) x s (λ state at. gets.others key state none at) (gets.unasked key none) is why adds);
-      others = λ q state no at.
-          let parts = not_pushed (turn_keys turns) key q (ap (λ ks. is_among ks q) (sym pushed) ∙ no) in
-          others_kept caller events old new q adds (started_away caller key x q parts.1) (λ st was. gets.others q st parts.0 was) state at;
-      unasked = λ q no.
-          let parts = not_pushed (turn_keys turns) key q (ap (λ ks. is_among ks q) (sym pushed) ∙ no) in
-          gets.unasked q parts.0;
+      each = turns_set old_turn new_turn turns place key x (subst (IsDistinct (pointwise ◌==◌)) (sym gets.keys_are) d) at gets.each
+          (λ t apart kept. turn_kept caller keys (said t.key) events old new t adds (started_away caller key x t.key apart) kept)
+          (turn_begun caller keys (said key) old new key (reservations_in calls.items) x s (λ state now. (here state now).steps) unasked is why adds);
+      others = λ q state no now. others_kept caller events old new q adds (started_away caller key x q (key_apart (λ k. pointwise ◌==◌ q k ≡ false) keys place key (all_apart q keys no) there))
+          (λ st before. gets.others q st no before) state now;
       calls_are = subst (λ mark. AllByRecursion (IsGetCall mark caller) calls'.items) (sym adds.mark) (calls_after old.mark caller key x calls calls' starts gets.calls_are);
-      keys_open = open_after old.mark s caller key x calls calls' few why starts
-          ∙ ap (λ ks. ks ++ cons_option (key_if_open key (end_started x)) []) gets.keys_open
-          ∙ sym (filter_map-append (λ (u : Turn). key_if_open u.key u.ended) turns (t ∷ []));
+      keys_open = open_after old.mark caller key x calls calls' starts
+          ∙ ap (λ ks. ks ++ cons_option (key_if_open key x) []) gets.keys_open
+          ∙ sym (open_begun turns place key x at was (ap (λ qs. list_all is_closed (drop place qs)) gets.progress_are ∙ behind));
     }
 
 -- 5. What the session counts.
 
-own_push : (own : ℕ) (ends : List (Option (Result Reply Refusal))) (e : Option (Result Reply Refusal)) → own_after_ends own (ends ++ e ∷ []) ≡ own_after_ends (own_after_ends own ends) (e ∷ [])
-own_push own [] e = refl
-own_push own (None ∷ ends) e = own_push own ends e
-own_push own (Some ended ∷ ends) e = own_push (own_after own ended) ends e
+own_one : (own : ℕ) (ps : List Progress) → own_after_ends (one_more own) ps ≡ one_more (own_after_ends own ps)
+own_one own [] = refl
+own_one own (progress.Waiting ∷ ps) = own_one own ps
+own_one own (progress.Reserved ∷ ps) = own_one own ps
+own_one own (progress.Ended (Ok reply) ∷ ps) = own_one (one_more own) ps
+own_one own (progress.Ended (Err refusal) ∷ ps) = own_one own ps
 
-fewer : (n : ℕ) → n < RESERVATIONS_MAX → n < last_number
-fewer n few = omega (arith, few)
+abbrev pub IsNotOver : Progress → Type 0
+IsNotOver progress.Waiting = Unit {0}
+IsNotOver progress.Reserved = Unit {0}
+IsNotOver (progress.Ended e) = ⊥
+
+own_first : (own : ℕ) (ps : List Progress) (x : Progress) → own_after_ends own (x ∷ ps) ≡ own_after_ends (own_after_ends own ps) (x ∷ [])
+own_first own ps progress.Waiting = refl
+own_first own ps progress.Reserved = refl
+own_first own ps (progress.Ended (Ok reply)) = own_one own ps
+own_first own ps (progress.Ended (Err refusal)) = refl
+
+pub own_set : (own : ℕ) (ps : List Progress) (place : ℕ) (was x : Progress) → slice_get ps place ≡ Some was → IsNotOver was → own_after_ends own (set ps place x) ≡ own_after_ends (own_after_ends own ps) (x ∷ [])
+own_set own [] place was x at not_over = cc
+own_set own (p ∷ ps) zero was x at not_over =
+    let same : p ≡ was = cc in
+    by p (subst IsNotOver (sym same) not_over)
+  where
+    by : (p : Progress) → IsNotOver p → own_after_ends own (x ∷ ps) ≡ own_after_ends (own_after_ends own (p ∷ ps)) (x ∷ [])
+    by progress.Waiting h = own_first own ps x
+    by progress.Reserved h = own_first own ps x
+    by (progress.Ended e) h = absurd h
+own_set own (progress.Waiting ∷ ps) (suc place) was x at not_over = own_set own ps place was x at not_over
+own_set own (progress.Reserved ∷ ps) (suc place) was x at not_over = own_set own ps place was x at not_over
+own_set own (progress.Ended e ∷ ps) (suc place) was x at not_over = own_set (own_after own e) ps place was x at not_over
 
 as_many : (calls calls' : List ReservedState) (ks : List Bytes) → reserved_keys calls' ≡ reserved_keys calls ++ ks → length calls' ≡ length calls + length ks
 as_many calls calls' ks is =
@@ -290,25 +324,28 @@ as_many calls calls' ks is =
 same_many : (calls calls' : List ReservedState) → reserved_keys calls' ≡ reserved_keys calls ++ [] → length calls ≡ length calls'
 same_many calls calls' is = omega (arith, as_many calls calls' [] is)
 
-one_many : (calls calls' : List ReservedState) (key : Bytes) → length calls < RESERVATIONS_MAX → reserved_keys calls' ≡ reserved_keys calls ++ key ∷ [] → one_more (length calls) ≡ length calls'
-one_many calls calls' key few is = next_number (length calls) (fewer (length calls) few) ∙ sym (as_many calls calls' (key ∷ []) is)
+one_many : (calls calls' : List ReservedState) (key : Bytes) → length calls < last_number → reserved_keys calls' ≡ reserved_keys calls ++ key ∷ [] → one_more (length calls) ≡ length calls'
+one_many calls calls' key few is = next_number (length calls) few ∙ sym (as_many calls calls' (key ∷ []) is)
 
-pub begun_counted : (s : State) (caller : Caller) (key : Bytes) (op : Op) (first counts : Counts) (ends : List (Option (Result Reply Refusal))) (calls calls' : List ReservedState) (x : Start)
-    → length calls < RESERVATIONS_MAX → StartsFor s caller (reservations_in calls) key op x → reserved_keys calls' ≡ reserved_keys calls ++ cons_option (key_if_open key (end_started x)) []
-    → AreCounted first ends (length calls) counts → AreCounted first (ends ++ end_started x ∷ []) (length calls') (counts_started counts x)
-begun_counted s caller key op first counts ends calls calls' (start.Ended (Ok reply)) few why is counted =
-    let own = own_push first.own ends (Some (Ok reply)) in
+pub begun_counted : (key : Bytes) (first counts : Counts) (ps : List Progress) (calls calls' : List ReservedState) (place : ℕ) (x : Progress)
+    → length calls < last_number → slice_get ps place ≡ Some progress.Waiting → reserved_keys calls' ≡ reserved_keys calls ++ cons_option (key_if_open key x) []
+    → AreCounted first ps (length calls) counts → AreCounted first (set ps place x) (length calls') (counts_started counts x)
+begun_counted key first counts ps calls calls' place (progress.Ended (Ok reply)) few at is counted =
+    let own = own_set first.own ps place progress.Waiting (progress.Ended (Ok reply)) at tt in
     let many = same_many calls calls' is in
     ap (λ (c : Counts). record c { own = one_more c.own }) counted ∙ (λ i. record first { own = sym own i; reservations = many i })
-begun_counted s caller key op first counts ends calls calls' (start.Ended (Err refusal)) few why is counted =
-    let own = own_push first.own ends (Some (Err refusal)) in
+begun_counted key first counts ps calls calls' place (progress.Ended (Err refusal)) few at is counted =
+    let own = own_set first.own ps place progress.Waiting (progress.Ended (Err refusal)) at tt in
     let many = same_many calls calls' is in
     counted ∙ (λ i. record first { own = sym own i; reservations = many i })
-begun_counted s caller key op first counts ends calls calls' start.Reserved few why is counted =
-    let own = own_push first.own ends None in
+begun_counted key first counts ps calls calls' place progress.Reserved few at is counted =
+    let own = own_set first.own ps place progress.Waiting progress.Reserved at tt in
     let many = one_many calls calls' key few is in
     ap (λ (c : Counts). record c { reservations = one_more c.reservations }) counted ∙ (λ i. record first { own = sym own i; reservations = many i })
-begun_counted s caller key op first counts ends calls calls' start.PutOff few why is counted = absurd (too_many calls few why.1)
+begun_counted key first counts ps calls calls' place progress.Waiting few at is counted =
+    let own = own_set first.own ps place progress.Waiting progress.Waiting at tt in
+    let many = same_many calls calls' is in
+    counted ∙ (λ i. record first { own = sym own i; reservations = many i })
 
 -- 6. The keys in order.
 
@@ -325,6 +362,9 @@ absent (x ∷ keys) zero key d at = refl
 absent (x ∷ keys) (suc i) key d at =
     let no : pointwise ◌==◌ x key ≡ false = at_place (λ y. pointwise ◌==◌ x y ≡ false) keys i key (IsDistinct-head (pointwise ◌==◌) x keys d) at in
     ap (λ b. b || is_among (take i keys) key) (nat_list_eq_equiv.symm key x ∙ no) ∙ absent keys i key (IsDistinct-tail (pointwise ◌==◌) x keys d) at
+
+pub same_some : {X : Type 0} (x y : X) → Some x ≡ Some y → x ≡ y
+same_some x y e = cc
 
 pub key_there : (keys : List Bytes) (i : ℕ) (key : Bytes) → i < length keys → key ≡ get_or keys i key → slice_get keys i ≡ Some key
 key_there keys i key lt is = slice_get-get_or keys i key lt ∙ ap Some (sym is)
@@ -382,29 +422,63 @@ same_after_all a = record {
 pub both_counted : {I J : Type 0} {D : I → Type 0} {E : J → Type 0} (a b c : Session I J D E) → b ≡ record a { counts = b.counts } → c ≡ record b { counts = c.counts } → c ≡ record a { counts = c.counts }
 both_counted {I} {J} {D} {E} a b c first second = second ∙ ap (λ (s : Session I J D E). record s { counts = c.counts }) first
 
--- 8. A key that is refused since a later round has no memory.
+-- 8. Keys that are refused since a later round has no memory.
 
-pub refused_getting : (said : Bytes → LoadAnswer) (keys : List Bytes) (cache : CacheState) (caller : Caller) (ends : List (Option (Result Reply Refusal))) (calls : List ReservedState) (key : Bytes)
-    → IsGetting said keys cache caller ends calls → is_among (take (length ends) keys) key ≡ false → take (length ends + 1) keys ≡ take (length ends) keys ++ key ∷ [] → RESERVATIONS_MAX < length keys
-    → IsGetting said keys cache caller (ends ++ Some (Err OutOfMemory) ∷ []) calls
-refused_getting said keys cache caller ends calls key gets fresh more many =
-    let end : Option (Result Reply Refusal) = Some (Err OutOfMemory) in
-    let t : Turn = record { key = key; ended = end } in
+abbrev pub refused_turn : Turn → Turn
+refused_turn t = record { key = t.key; progress = refused_if_waiting t.progress }
+
+pub refused_keys : (turns : List Turn) → turn_keys (map refused_turn turns) ≡ turn_keys turns
+refused_keys [] = refl
+refused_keys (t ∷ turns) = ap (λ ks. t.key ∷ ks) (refused_keys turns)
+
+pub refused_progress : (turns : List Turn) → turn_progress (map refused_turn turns) ≡ map refused_if_waiting (turn_progress turns)
+refused_progress [] = refl
+refused_progress (t ∷ turns) = ap (λ ps. refused_if_waiting t.progress ∷ ps) (refused_progress turns)
+
+pub refused_open : (turns : List Turn) → open_keys (map refused_turn turns) ≡ open_keys turns
+refused_open [] = refl
+refused_open (t ∷ turns) = by t.progress (refused_open turns)
+  where
+    by : (p : Progress) → open_keys (map refused_turn turns) ≡ open_keys turns → cons_option (key_if_open t.key (refused_if_waiting p)) (open_keys (map refused_turn turns)) ≡ cons_option (key_if_open t.key p) (open_keys turns)
+    by progress.Waiting rest = rest
+    by progress.Reserved rest = ap (λ ks. t.key ∷ ks) rest
+    by (progress.Ended e) rest = rest
+
+refused_turns : (cache : CacheState) (caller : Caller) (n : List Bytes) (said : Bytes → LoadAnswer) (turns : List Turn) → ((key : Bytes) (state : State) → IsStripeOf cache key state → IsCrowded state.config n)
+    → ((place : ℕ) (key : Bytes) → slice_get (turn_keys turns) place ≡ Some key → slice_get (turn_progress turns) place ≡ Some progress.Waiting → said key ≡ NotAsked)
+    → AreTurns cache caller n said turns → AreTurns cache caller n said (map refused_turn turns)
+refused_turns cache caller n said [] many unasked all = tt
+refused_turns cache caller n said (t ∷ turns) many unasked all =
+    (λ state is. by state (many t.key state is) t.progress (unasked 0 t.key refl) (all.0 state is), refused_turns cache caller n said turns many (λ place key. unasked (suc place) key) all.1)
+  where
+    by : (state : State) → IsCrowded state.config n → (p : Progress) → (Some p ≡ Some progress.Waiting → said t.key ≡ NotAsked) → IsTurn caller n (said t.key) (record { key = t.key; progress = p }) state
+        → IsTurn caller n (said t.key) (record { key = t.key; progress = refused_if_waiting p }) state
+    by state crowd progress.Waiting none turn = record { steps = turn.steps; may = (none refl, inr (refl, crowd)) }
+    by state crowd progress.Reserved none turn = turn
+    by state crowd (progress.Ended e) none turn = turn
+
+pub refused_getting : (said : Bytes → LoadAnswer) (keys : List Bytes) (cache : CacheState) (caller : Caller) (ps : List Progress) (calls : List ReservedState)
+    → IsGetting said keys cache caller ps calls → IsCrowded cache.config keys → ((place : ℕ) (key : Bytes) → slice_get keys place ≡ Some key → slice_get ps place ≡ Some progress.Waiting → said key ≡ NotAsked)
+    → IsGetting said keys cache caller (map refused_if_waiting ps) calls
+refused_getting said keys cache caller ps calls gets many unasked =
     let turns = gets.turns in
-    let none : is_among (turn_keys turns) key ≡ false = ap (λ ks. is_among ks key) gets.keys_are ∙ fresh in
-    let pushed : turn_keys (turns ++ t ∷ []) ≡ turn_keys turns ++ key ∷ [] = map-append (λ (u : Turn). u.key) turns (t ∷ []) in
     record {
-      turns = turns ++ t ∷ [];
-      keys_are = pushed ∙ ap (λ ks. ks ++ key ∷ []) gets.keys_are ∙ sym more ∙ ap (λ n. take n keys) (sym (one_longer ends end));
-      ends_are = map-append (λ (u : Turn). u.ended) turns (t ∷ []) ∙ ap (λ es. es ++ end ∷ []) gets.ends_are;
+      turns = map refused_turn turns;
+      keys_are = refused_keys turns ∙ gets.keys_are;
+      progress_are = refused_progress turns ∙ ap (map refused_if_waiting) gets.progress_are;
       underway = gets.underway;
-      each = all_push (λ (u : Turn). (state : State) → IsStripeOf cache u.key state → IsTurn caller (length keys) (said u.key) u state) turns t gets.each
-          (λ state at. record { steps = gets.others key state none at; may = (gets.unasked key none, inr (refl, many)) });
-      others = λ q state no at. gets.others q state (not_pushed (turn_keys turns) key q (ap (λ ks. is_among ks q) (sym pushed) ∙ no)).0 at;
-      unasked = λ q no. gets.unasked q (not_pushed (turn_keys turns) key q (ap (λ ks. is_among ks q) (sym pushed) ∙ no)).0;
+      each = refused_turns cache caller keys said turns (λ key state is. subst (λ (config : Config). IsCrowded config keys) (sym (config_there cache caller (reservations_in calls) key state gets.underway is)) many)
+          (λ place key at is. unasked place key (ap (λ ks. slice_get ks place) (sym gets.keys_are) ∙ at) (ap (λ qs. slice_get qs place) (sym gets.progress_are) ∙ is)) gets.each;
+      others = gets.others;
       calls_are = gets.calls_are;
-      keys_open = gets.keys_open ∙ sym (filter_map-append (λ (u : Turn). key_if_open u.key u.ended) turns (t ∷ []) ∙ no_more (open_keys turns));
+      keys_open = gets.keys_open ∙ sym (refused_open turns);
     }
 
-pub refused_counted : (first counts : Counts) (ends : List (Option (Result Reply Refusal))) (out : ℕ) (r : Refusal) → AreCounted first ends out counts → AreCounted first (ends ++ Some (Err r) ∷ []) out counts
-refused_counted first counts ends out r counted = counted ∙ (λ i. record first { own = sym (own_push first.own ends (Some (Err r))) i; reservations = out })
+own_refused : (own : ℕ) (ps : List Progress) → own_after_ends own (map refused_if_waiting ps) ≡ own_after_ends own ps
+own_refused own [] = refl
+own_refused own (progress.Waiting ∷ ps) = own_refused own ps
+own_refused own (progress.Reserved ∷ ps) = own_refused own ps
+own_refused own (progress.Ended e ∷ ps) = own_refused (own_after own e) ps
+
+pub refused_counted : (first counts : Counts) (ps : List Progress) (out : ℕ) → AreCounted first ps out counts → AreCounted first (map refused_if_waiting ps) out counts
+refused_counted first counts ps out counted = counted ∙ (λ i. record first { own = sym (own_refused first.own ps) i; reservations = out })

@@ -5,13 +5,13 @@
 --     got_all         after the last one: the call is carried out
 --     leaves_under    each other session that might begin its next call still may
 --     may_call_next, may_call    and so may the session
-use Rattle.std.proofs.Common.{◌≡◌, ◌==◌, ◌&&◌, ◌||◌, ◌≤◌, ◌++◌, ℕ, zero, suc, List, [], ◌∷◌, All, length, take, cond, Bool, true, false, not, Option, None, Some, is_some, Result, Ok, Err, nat_lt, refl, sym, ap, ◌∙◌, subst, arith}
+use Rattle.std.proofs.Common.{◌≡◌, ◌==◌, ◌&&◌, ◌||◌, ◌≤◌, ◌++◌, ℕ, zero, suc, List, [], ◌∷◌, All, length, cond, Bool, true, false, not, Result, Ok, Err, nat_lt, refl, sym, ap, ◌∙◌, subst, arith}
 use Rattle.std.proofs.lemmas.Bool.{and_parts, eqb-true}
 use Rattle.std.proofs.lemmas.Bool.Decides.{nat_tests}
-use Rattle.std.proofs.lemmas.List.{length-map, take_all}
+use Rattle.std.proofs.lemmas.List.{length-map}
 use Rattle.std.proofs.lemmas.List.Elements.{All-nil, All-cons, All-from_recursion}
-use Rattle.std.proofs.lemmas.Map.Keys.{apart_from_distinct}
-use Rattle.std.specs.List.{list_all, cons_option, IsAmong, IsDistinct}
+use Rattle.std.proofs.lemmas.Map.Keys.{apart_from_distinct, IsDistinct-from_apart}
+use Rattle.std.specs.List.{list_all, AllByRecursion, IsAmong, IsDistinct}
 use Rattle.std.specs.Map.{keys_of}
 use Rattle.std.specs.Cmp.Lexicographic.{pointwise}
 use Rattle.jc_types.specs.declared.caller.Caller.{Caller}
@@ -19,6 +19,7 @@ use Rattle.jc_types.specs.declared.config.Config.{Config}
 use Rattle.jc_types.specs.declared.refusal.Refusal.{Refusal}
 use Rattle.jc_model.specs.declared.event.Event.{Event}
 use Rattle.jc_model.specs.declared.event.Event.TheVariants.{Step, Evict}
+use Rattle.jc_model.specs.declared.event.LoadAnswer.TheVariants.{NotAsked}
 use Rattle.jc_model.specs.declared.event.Op.{Op}
 use Rattle.jc_model.specs.declared.event.Op.TheVariants.{Get}
 use Rattle.jc_model.specs.declared.event.Reply.{Reply}
@@ -40,16 +41,18 @@ use Rattle.jc_cache.specs.Whole.{own_after}
 use Rattle.jc_cache.proofs.CallerLemmas.{at_key}
 use Rattle.jc_bulk.specs.Bulk.{GrowsTo, own_after_all, said_to_loads, get_ops}
 use Rattle.jc_bulk.specs.Ends.{KeyEnd, key_ops, key_ends, EndsAt}
-use Rattle.jc_bulk.specs.GetRounds.{IsGettingInRounds, RunsRounds}
-use Rattle.jc_bulk.specs.Gets.{Turn, IsTurn, AreTurns, AreCounted, ComesAfterAll, turn_keys, turn_ends, open_keys, key_if_open, own_after_ends}
+use Rattle.jc_bulk.specs.declared.round.Progress.{Progress}
+use Rattle.jc_bulk.specs.declared.round.Progress.TheVariants as progress
+use Rattle.jc_bulk.specs.GetRounds.{IsGettingInRounds, RunsRounds, StillWaits, all_waiting}
+use Rattle.jc_bulk.specs.Gets.{Turn, IsTurn, AreTurns, AreCounted, ComesAfterAll, turn_keys, turn_progress, own_after_ends}
 use Rattle.jc_bulk.specs.Getting.{GetsAll, get_end, get_ends}
 use Rattle.jc_bulk.specs.Laws.{StaysUnderway}
 use Rattle.jc_bulk.specs.Phased.{LeavesCalls}
 use Rattle.jc_bulk.specs.Recorded.{steps_of}
 use Rattle.jc_bulk.specs.Rounds.{LoadRound, AreOnce, keys_in, said_in_loads}
 use Rattle.jc_bulk.specs.Underway.{IsUnderway}
-use Rattle.jc_bulk.proofs.GetCommits.{distinct_take}
 use Rattle.jc_bulk.proofs.Gets.{one_state}
+use Rattle.jc_bulk.proofs.Places.{IsOver, new_turns, new_keys, new_progress, new_open, each_new, many_waiting, all_over}
 
 -- 1. Before the first round.
 
@@ -70,66 +73,70 @@ no_steps caller key (Step who op k out shared reply ∷ events) before =
     (before_no (who.session == caller.session) (nat_lt who.call caller.call) (who.call == caller.call) (pointwise ◌==◌ k key) (less_differs who.call caller.call) parts.0)
     ∙ no_steps caller key events parts.1
 
-pub begun_rounds : (keys : List Bytes) (cache : CacheState) (caller : Caller) → StaysUnderway → IsDistinct (pointwise ◌==◌) keys → EachStripe (IsPlaced cache.config) cache.stripes → IsIdleCache cache
-    → HasNoCallsFrom cache caller.session caller.call → IsGettingInRounds [] keys cache caller [] []
-begun_rounds keys cache caller law distinct placed idle none = record {
-  gets = record {
-    turns = [];
-    keys_are = refl;
-    ends_are = refl;
-    underway = law.opens cache caller placed idle none;
-    each = tt;
-    others = λ key state away is. no_steps caller key state.history (at_key (λ i s. HasNoCallFrom s caller.session caller.call) cache key state none is).steps;
-    unasked = λ key away. refl;
-    calls_are = tt;
-    keys_open = refl;
-  };
-  asked = refl;
-  once = distinct_take 0 keys distinct;
-  called = tt;
-  fresh = refl;
-}
+pub begun_rounds : (keys : List Bytes) (cache : CacheState) (caller : Caller) → StaysUnderway → EachStripe (IsPlaced cache.config) cache.stripes → IsIdleCache cache
+    → HasNoCallsFrom cache caller.session caller.call → IsGettingInRounds [] keys cache caller (all_waiting (length keys)) []
+begun_rounds keys cache caller law placed idle none =
+    let no_step : (key : Bytes) (state : State) → IsStripeOf cache key state → steps_of caller key state.history ≡ [] =
+    λ key state is. no_steps caller key state.history (at_key (λ i s. HasNoCallFrom s caller.session caller.call) cache key state none is).steps in
+    record {
+      gets = record {
+        turns = new_turns keys;
+        keys_are = new_keys keys;
+        progress_are = new_progress keys;
+        underway = law.opens cache caller placed idle none;
+        each = each_new (λ t. (state : State) → IsStripeOf cache t.key state → IsTurn caller keys NotAsked t state) keys (λ key state is. record { steps = no_step key state is; may = tt });
+        others = λ key state away is. no_step key state is;
+        calls_are = tt;
+        keys_open = sym (new_open keys);
+      };
+      asked = refl;
+      once = IsDistinct-from_apart (pointwise ◌==◌) [] (λ i j x lt near. absurd (omega (arith, near)));
+      called = tt;
+      fresh = refl;
+      unasked = λ place key at waits. refl;
+    }
 
 -- 2. How the keys ended.
 
-pub none_open : (turns : List Turn) → open_keys turns ≡ [] → list_all is_some (turn_ends turns) ≡ true
-none_open [] none = refl
-none_open (t ∷ turns) none = by t.ended none (none_open turns)
-  where
-    by : (e : Option (Result Reply Refusal)) → cons_option (key_if_open t.key e) (open_keys turns) ≡ [] → (open_keys turns ≡ [] → list_all is_some (turn_ends turns) ≡ true)
-        → (is_some e && list_all is_some (turn_ends turns)) ≡ true
-    by None empty rest = cc
-    by (Some x) empty rest = rest empty
-
-pub ops_ended : (targets : List (Bytes × Op)) (ends : List (Option (Result Reply Refusal))) → length ends ≡ length targets → list_all is_some ends ≡ true → key_ops (key_ends targets ends) ≡ targets
-ops_ended [] ends many all = refl
+pub ops_ended : (targets : List (Bytes × Op)) (ps : List Progress) → length ps ≡ length targets → AllByRecursion IsOver ps → key_ops (key_ends targets ps) ≡ targets
+ops_ended [] ps many all = refl
 ops_ended (t ∷ targets) [] many all = cc
-ops_ended (t ∷ targets) (None ∷ ends) many all = cc
-ops_ended (t ∷ targets) (Some x ∷ ends) many all = let fewer : length ends ≡ length targets = cc in ap (λ os. t ∷ os) (ops_ended targets ends fewer all)
+ops_ended (t ∷ targets) (progress.Waiting ∷ ps) many all = absurd all.0
+ops_ended (t ∷ targets) (progress.Reserved ∷ ps) many all = absurd all.0
+ops_ended (t ∷ targets) (progress.Ended x ∷ ps) many all = let fewer : length ps ≡ length targets = cc in ap (λ os. t ∷ os) (ops_ended targets ps fewer all.1)
 
-pub own_ended : (own : ℕ) (targets : List (Bytes × Op)) (ends : List (Option (Result Reply Refusal))) → length ends ≡ length targets → own_after_ends own ends ≡ own_after_all own (key_ends targets ends)
+pub own_ended : (own : ℕ) (targets : List (Bytes × Op)) (ps : List Progress) → length ps ≡ length targets → own_after_ends own ps ≡ own_after_all own (key_ends targets ps)
 own_ended own [] [] many = refl
-own_ended own [] (e ∷ ends) many = cc
+own_ended own [] (p ∷ ps) many = cc
 own_ended own (t ∷ targets) [] many = cc
-own_ended own (t ∷ targets) (None ∷ ends) many = let fewer : length ends ≡ length targets = cc in own_ended own targets ends fewer
-own_ended own (t ∷ targets) (Some x ∷ ends) many = let fewer : length ends ≡ length targets = cc in own_ended (own_after own x) targets ends fewer
+own_ended own (t ∷ targets) (progress.Waiting ∷ ps) many = let fewer : length ps ≡ length targets = cc in own_ended own targets ps fewer
+own_ended own (t ∷ targets) (progress.Reserved ∷ ps) many = let fewer : length ps ≡ length targets = cc in own_ended own targets ps fewer
+own_ended own (t ∷ targets) (progress.Ended x ∷ ps) many = let fewer : length ps ≡ length targets = cc in own_ended (own_after own x) targets ps fewer
 
-end_got : (state : State) (caller : Caller) (n : ℕ) (rounds : List LoadRound) (key : Bytes) (ended : Result Reply Refusal) → IsTurn caller n (said_in_loads rounds key) (record { key = key; ended = Some ended }) state
+own_waiting : (own n : ℕ) → own_after_ends own (all_waiting n) ≡ own
+own_waiting own zero = refl
+own_waiting own (suc n) = own_waiting own n
+
+pub none_counted : (counts : Counts) (n : ℕ) → counts.reservations ≡ 0 → AreCounted counts (all_waiting n) 0 counts
+none_counted counts n none = λ i. record counts { own = sym (own_waiting counts.own n) i; reservations = none i }
+
+end_got : (state : State) (caller : Caller) (n : List Bytes) (rounds : List LoadRound) (key : Bytes) (ended : Result Reply Refusal) → IsTurn caller n (said_in_loads rounds key) (record { key = key; progress = progress.Ended ended }) state
     → EndsAt state caller n (said_to_loads rounds) key Get ended
 end_got state caller n rounds key (Ok reply) turn = turn.steps
 end_got state caller n rounds key (Err refusal) turn = (turn.steps, ap load_only turn.may.0, turn.may.1)
 
-each_got : (cache : CacheState) (caller : Caller) (n : ℕ) (rounds : List LoadRound) (turns : List Turn) → AreTurns cache caller n (said_in_loads rounds) turns → (state : State)
-    → All (λ (e : KeyEnd). IsStripeOf cache e.key state → EndsAt state caller n (said_to_loads rounds) e.key e.op e.ended) (get_ends (turn_keys turns) (turn_ends turns))
+each_got : (cache : CacheState) (caller : Caller) (n : List Bytes) (rounds : List LoadRound) (turns : List Turn) → AreTurns cache caller n (said_in_loads rounds) turns → (state : State)
+    → All (λ (e : KeyEnd). IsStripeOf cache e.key state → EndsAt state caller n (said_to_loads rounds) e.key e.op e.ended) (get_ends (turn_keys turns) (turn_progress turns))
 each_got cache caller n rounds [] all state = All-nil _
-each_got cache caller n rounds (t ∷ turns) all state = by t.ended (all.0 state) (each_got cache caller n rounds turns all.1 state)
+each_got cache caller n rounds (t ∷ turns) all state = by t.progress (all.0 state) (each_got cache caller n rounds turns all.1 state)
   where
-    by : (e : Option (Result Reply Refusal)) → (IsStripeOf cache t.key state → IsTurn caller n (said_in_loads rounds t.key) (record { key = t.key; ended = e }) state)
-        → All (λ (e : KeyEnd). IsStripeOf cache e.key state → EndsAt state caller n (said_to_loads rounds) e.key e.op e.ended) (get_ends (turn_keys turns) (turn_ends turns))
-        → All (λ (e : KeyEnd). IsStripeOf cache e.key state → EndsAt state caller n (said_to_loads rounds) e.key e.op e.ended) (get_end t.key e ++ get_ends (turn_keys turns) (turn_ends turns))
-    by None turn rest = rest
-    by (Some x) turn rest =
-        All-cons (λ (e : KeyEnd). IsStripeOf cache e.key state → EndsAt state caller n (said_to_loads rounds) e.key e.op e.ended) (record { key = t.key; op = Get; ended = x }) (get_ends (turn_keys turns) (turn_ends turns))
+    by : (p : Progress) → (IsStripeOf cache t.key state → IsTurn caller n (said_in_loads rounds t.key) (record { key = t.key; progress = p }) state)
+        → All (λ (e : KeyEnd). IsStripeOf cache e.key state → EndsAt state caller n (said_to_loads rounds) e.key e.op e.ended) (get_ends (turn_keys turns) (turn_progress turns))
+        → All (λ (e : KeyEnd). IsStripeOf cache e.key state → EndsAt state caller n (said_to_loads rounds) e.key e.op e.ended) (get_end t.key p ++ get_ends (turn_keys turns) (turn_progress turns))
+    by progress.Waiting turn rest = rest
+    by progress.Reserved turn rest = rest
+    by (progress.Ended x) turn rest =
+        All-cons (λ (e : KeyEnd). IsStripeOf cache e.key state → EndsAt state caller n (said_to_loads rounds) e.key e.op e.ended) (record { key = t.key; op = Get; ended = x }) (get_ends (turn_keys turns) (turn_progress turns))
         (λ is. end_got state caller n rounds t.key x (turn is)) rest
 
 -- 3. The cache and the loader.
@@ -192,69 +199,72 @@ module _ {I J : Type 0} {D : I → Type 0} {E : J → Type 0} where
     idle = (law.closes new caller under).0;
   }
 
-  pub may_call_next : (law : StaysUnderway) (cache new : CacheState) (session after : Session I J D E) (ends : List (Option (Result Reply Refusal))) → MayCall cache session → IsOf new after
+  pub may_call_next : (law : StaysUnderway) (cache new : CacheState) (session after : Session I J D E) (n : ℕ) (ps : List Progress) → MayCall cache session → IsOf new after
       → after ≡ record (next_call session) { counts = after.counts; hands = after.hands } → IsUnderway new (next_call session).caller []
-      → (AreCounted session.counts [] 0 session.counts → AreCounted session.counts ends 0 after.counts) → MayCall new after
-  may_call_next law cache new session after ends may own left under counts =
+      → (AreCounted session.counts (all_waiting n) 0 session.counts → AreCounted session.counts ps 0 after.counts) → MayCall new after
+  may_call_next law cache new session after n ps may own left under counts =
       let who : after.caller ≡ (next_call session).caller = ap (λ (s : Session I J D E). s.caller) left in
       let closed = law.closes new (next_call session).caller under in
-      let counted = counts (λ i. record session.counts { reservations = may.reservations i }) in
+      let counted = counts (none_counted session.counts n may.reservations) in
       record {
         own = own;
-        reservations = ap (λ (n : Counts). n.reservations) counted;
-        joins = ap (λ (n : Counts). n.joins) counted ∙ may.joins;
+        reservations = ap (λ (c : Counts). c.reservations) counted;
+        joins = ap (λ (c : Counts). c.joins) counted ∙ may.joins;
         numbers = subst (λ (w : Caller). HasNoCallsFrom new w.session (one_more w.call)) (sym who) closed.1;
         idle = closed.0;
       }
 
 module _ {I J : Type 0} {D : I → Type 0} {E : J → Type 0} (loads_all : LoadAllRelation ((i : I) × D i)) (load_state : (i : I) × D i → List ℕ) where
-  pub runs_from : (cache new : CacheState) (session mid after : Session I J D E) (keys : List Bytes) (was ends : List (Option (Result Reply Refusal))) → mid ≡ next_call session → was ≡ []
-      → RunsRounds loads_all load_state keys cache mid was new after ends → RunsRounds loads_all load_state keys cache (next_call session) [] new after ends
-  runs_from cache new session mid after keys was ends next none runs =
-      subst (λ es. RunsRounds loads_all load_state keys cache (next_call session) es new after ends) none (subst (λ s. RunsRounds loads_all load_state keys cache s was new after ends) next runs)
+  pub runs_from : (cache new : CacheState) (session mid after : Session I J D E) (keys : List Bytes) (was ps : List Progress) → mid ≡ next_call session → was ≡ all_waiting (length keys)
+      → RunsRounds loads_all load_state keys cache mid was new after ps → RunsRounds loads_all load_state keys cache (next_call session) (all_waiting (length keys)) new after ps
+  runs_from cache new session mid after keys was ps next new_keys runs =
+      subst (λ qs. RunsRounds loads_all load_state keys cache (next_call session) qs new after ps) new_keys (subst (λ s. RunsRounds loads_all load_state keys cache s was new after ps) next runs)
 
-  pub may_call : (law : StaysUnderway) (cache new : CacheState) (session after : Session I J D E) (keys : List Bytes) (ends : List (Option (Result Reply Refusal))) → MayCall cache session → IsOf new after
-      → RunsRounds loads_all load_state keys cache (next_call session) [] new after ends → IsGettingInRounds [] keys cache (next_call session).caller [] [] → MayCall new after
-  may_call law cache new session after keys ends may own runs first = may_call_next law cache new session after ends may own runs.left (runs.gets [] first).2.gets.underway (runs.counts session.counts)
+  pub may_call : (law : StaysUnderway) (cache new : CacheState) (session after : Session I J D E) (keys : List Bytes) (ps : List Progress) → MayCall cache session → IsOf new after
+      → RunsRounds loads_all load_state keys cache (next_call session) (all_waiting (length keys)) new after ps → IsGettingInRounds [] keys cache (next_call session).caller (all_waiting (length keys)) [] → MayCall new after
+  may_call law cache new session after keys ps may own runs first =
+      may_call_next law cache new session after (length keys) ps may own runs.left (runs.gets [] first).3.gets.underway (runs.counts session.counts)
 
-  pub got_all : (law : StaysUnderway) (cache new : CacheState) (session after : Session I J D E) (keys : List Bytes) (ends : List (Option (Result Reply Refusal))) → MayCall cache session → length ends ≡ length keys
-      → RunsRounds loads_all load_state keys cache (next_call session) [] new after ends → IsGettingInRounds [] keys cache (next_call session).caller [] []
-      → (rounds : List LoadRound) × GetsAll loads_all load_state cache session keys (get_ends keys ends) rounds new after
-  got_all law cache new session after keys ends may whole runs first =
+  pub got_all : (law : StaysUnderway) (cache new : CacheState) (session after : Session I J D E) (keys : List Bytes) (ps : List Progress) → IsDistinct (pointwise ◌==◌) keys → MayCall cache session
+      → ((place : ℕ) → StillWaits ps place → ⊥)
+      → RunsRounds loads_all load_state keys cache (next_call session) (all_waiting (length keys)) new after ps → IsGettingInRounds [] keys cache (next_call session).caller (all_waiting (length keys)) []
+      → (rounds : List LoadRound) × GetsAll loads_all load_state cache session keys (get_ends keys ps) rounds new after
+  got_all law cache new session after keys ps distinct may none_waits runs first =
       let caller = (next_call session).caller in
       let all = runs.gets [] first in
       let rounds = all.0 in
-      let gets = all.2.gets in
+      let gets = all.3.gets in
       let turns = gets.turns in
-      let taken : take (length ends) keys ≡ keys = take_all (length ends) keys (omega (arith, whole)) in
-      let keys_are : turn_keys turns ≡ keys = gets.keys_are ∙ taken in
-      let over : list_all is_some ends ≡ true = ap (list_all is_some) (sym gets.ends_are) ∙ none_open turns (sym gets.keys_open) in
-      let same : get_ends (turn_keys turns) (turn_ends turns) ≡ get_ends keys ends = (λ i. get_ends (keys_are i) (gets.ends_are i)) in
+      let whole : length ps ≡ length keys = runs.stay.many ∙ many_waiting (length keys) in
+      let over : AllByRecursion IsOver ps =
+      subst (AllByRecursion IsOver) gets.progress_are (all_over turns (sym gets.keys_open) (λ place waits. none_waits place (subst (λ qs. StillWaits qs place) gets.progress_are waits))) in
+      let same : get_ends (turn_keys turns) (turn_progress turns) ≡ get_ends keys ps = (λ i. get_ends (gets.keys_are i) (gets.progress_are i)) in
       let many : length keys ≡ length (get_ops keys) = sym (length-map keys (λ (key : Bytes). (key, Get))) in
-      let counted = runs.counts session.counts (λ i. record session.counts { reservations = may.reservations i }) in
-      let counts : after.counts ≡ record session.counts { own = own_after_all session.counts.own (get_ends keys ends) } =
-      counted ∙ (λ i. record session.counts { own = own_ended session.counts.own (get_ops keys) ends (whole ∙ many) i; reservations = sym may.reservations i }) in (
+      let counted = runs.counts session.counts (none_counted session.counts (length keys) may.reservations) in
+      let counts : after.counts ≡ record session.counts { own = own_after_all session.counts.own (get_ends keys ps) } =
+      counted ∙ (λ i. record session.counts { own = own_ended session.counts.own (get_ops keys) ps (whole ∙ many) i; reservations = sym may.reservations i }) in (
         rounds,
         record {
           carried = record {
             caller = caller;
             caller_is = refl;
-            ops_are = ops_ended (get_ops keys) ends (whole ∙ many) over;
+            ops_are = ops_ended (get_ops keys) ps (whole ∙ many) over;
             each = λ state.
-                subst (λ n. All (λ (e : KeyEnd). IsStripeOf new e.key state → EndsAt state caller n (said_to_loads rounds) e.key e.op e.ended) (get_ends keys ends)) many
-                (subst (All (λ (e : KeyEnd). IsStripeOf new e.key state → EndsAt state caller (length keys) (said_to_loads rounds) e.key e.op e.ended)) same
-                (each_got new caller (length keys) rounds turns gets.each state));
-            others = λ key state away is. gets.others key state (ap (λ ks. is_among ks key) (keys_are ∙ sym (got_keys keys)) ∙ away) is;
+                subst (λ n. All (λ (e : KeyEnd). IsStripeOf new e.key state → EndsAt state caller n (said_to_loads rounds) e.key e.op e.ended) (get_ends keys ps)) (sym (got_keys keys))
+                (subst (All (λ (e : KeyEnd). IsStripeOf new e.key state → EndsAt state caller keys (said_to_loads rounds) e.key e.op e.ended)) same
+                (each_got new caller keys rounds turns gets.each state));
+            others = λ key state away is. gets.others key state (ap (λ ks. is_among ks key) (sym (got_keys keys)) ∙ away) is;
             grows = grows_to cache new runs.grows;
             left = runs.left ∙ ap (λ (n : Counts). record session { caller = caller; counts = n; hands = after.hands }) counts;
             sessions = leaves_under law cache new session caller refl gets.underway runs.grows runs.others;
           };
           asked = record {
             loader = all.1;
-            each = all_keys keys (keys_in rounds) (ap (λ ks. list_all (is_among ks) (keys_in rounds)) (sym taken) ∙ all.2.asked);
-            once = once_only (keys_in rounds) all.2.once;
-            called = All-from_recursion (λ (r : LoadRound). r.keys ≡ [] → ⊥) rounds all.2.called;
+            each = all_keys keys (keys_in rounds) all.3.asked;
+            once = once_only (keys_in rounds) all.3.once;
+            called = All-from_recursion (λ (r : LoadRound). r.keys ≡ [] → ⊥) rounds all.3.called;
             writer = runs.writer;
           };
+          one = all.2;
         },
       )

@@ -9,10 +9,11 @@ mod OnePhase
 mod KeyEnds
 mod ClearingKeys
 mod LookingAtAll
+pub mod Places
+pub mod Crowded
 pub mod Gets
 pub mod GetCommits
 pub mod GetRounds
-pub mod Refused
 pub mod GetAsks
 pub mod Failures
 pub mod GotAll

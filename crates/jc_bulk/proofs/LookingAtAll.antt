@@ -1,90 +1,36 @@
 -- The keys of all stripes, as one stripe after the other is looked at.
---     once_here         the keys of a stripe differ
---     all_here          and belong to it
+--     all_here          the keys of a stripe belong to it
 --     looked_push       a look at one stripe more
 --     apart_push        the keys still differ
 --     below_push        and belong to the stripes that were looked at
 --     looked_at         a look at a stripe that is reached
---     none_twice        no key of an empty list stands twice
 --     first_there, nothing_there    a list by its first place
-use Rattle.std.proofs.Common.{◌≡◌, ◌==◌, ◌&&◌, ◌||◌, ◌+◌, ℕ, List, [], ◌∷◌, ◌++◌, take, Bool, true, false, not, cond, Option, None, Some, is_none, nat_lt, slice_get, refl, sym, ap, ◌∙◌, subst, arith}
-use Rattle.std.specs.Ordering.{eq_by_cmp}
-use Rattle.std.specs.List.{list_any, list_all, IsDistinct, AllByRecursion}
-use Rattle.std.specs.Map.{keys_of}
-use Rattle.std.specs.FinMap.{find}
-use Rattle.std.specs.Cmp.Lexicographic.{pointwise, texts_ties, same_text}
-use Rattle.std.proofs.lemmas.Bool.{and_parts, or_parts}
+use Rattle.std.proofs.Common.{◌≡◌, ◌==◌, ◌&&◌, ◌+◌, ℕ, List, [], ◌∷◌, ◌++◌, take, Bool, true, false, Option, None, Some, nat_lt, slice_get, refl, sym, ap, ◌∙◌, subst, arith}
+use Rattle.std.specs.List.{list_all, IsDistinct, AllByRecursion}
+use Rattle.std.specs.Cmp.Lexicographic.{pointwise, same_text}
+use Rattle.std.proofs.lemmas.Bool.{and_parts}
 use Rattle.std.proofs.lemmas.Bool.Decides.{nat_tests}
-use Rattle.std.proofs.lemmas.Cmp.{nat_list_eq_equiv}
 use Rattle.std.proofs.lemmas.List.{append-nil, append_assoc, take_more}
 use Rattle.std.proofs.lemmas.List.Folds.{list_all-append}
-use Rattle.std.proofs.lemmas.List.Sorted.{list_any-IsPermutation}
-use Rattle.std.proofs.lemmas.Map.Keys.{IsDistinct-IsPermutation, IsDistinct-cons, IsDistinct-head, IsDistinct-tail}
+use Rattle.std.proofs.lemmas.Map.Keys.{IsDistinct-cons, IsDistinct-head, IsDistinct-tail}
 use Rattle.std.proofs.lemmas.Option.{slice_get_within, get_or_from_slice_get}
 use Rattle.jc_types.proofs.CallerLemmas.{all_imply}
 use Rattle.jc_types.specs.declared.config.Config.{Config}
 use Rattle.jc_types.specs.Stripes.{stripe_of}
-use Rattle.jc_model.specs.Cache.{Bytes, key_cmp}
-use Rattle.jc_model.specs.Listed.{has_distinct_keys}
+use Rattle.jc_model.specs.Cache.{Bytes}
 use Rattle.jc_stripe.specs.Keys.{AreKeys, Looks}
-use Rattle.jc_stripe.specs.OrderOfUse.{by_use}
+use Rattle.jc_stripe.proofs.CallerLemmas.{keys_own}
 use Rattle.jc_stripe.specs.Reached.{IsReached}
-use Rattle.jc_stripe.specs.State.{State, is_of}
+use Rattle.jc_stripe.specs.State.{State}
 use Rattle.jc_cache.specs.CacheInside.{IsPlaced}
 use Rattle.jc_bulk.specs.Bulk.{AreLooked}
 
--- 1. The keys of one stripe differ.
-
-none_there : (q : Bytes) (entries : List (Bytes × Bytes)) → is_none (find key_cmp q entries) ≡ true → AllByRecursion (λ k. pointwise ◌==◌ q k ≡ false) (keys_of entries)
-none_there q [] h = tt
-none_there q (e ∷ es) h = by (eq_by_cmp key_cmp q e.0) refl h (none_there q es)
-  where
-    by : (b : Bool) → eq_by_cmp key_cmp q e.0 ≡ b → is_none (cond b (Some e.1) (find key_cmp q es)) ≡ true
-        → (is_none (find key_cmp q es) ≡ true → AllByRecursion (λ k. pointwise ◌==◌ q k ≡ false) (keys_of es)) → AllByRecursion (λ k. pointwise ◌==◌ q k ≡ false) (keys_of (e ∷ es))
-    by true is none rest = cc
-    by false is none rest = (texts_ties q e.0 ∙ is, rest none)
-
-pub none_twice : IsDistinct (pointwise ◌==◌) []
-unfolding IsDistinct
-none_twice = tt
-
-once : (entries : List (Bytes × Bytes)) → has_distinct_keys entries ≡ true → IsDistinct (pointwise ◌==◌) (keys_of entries)
-once [] h = none_twice
-once (e ∷ es) h =
-    let parts = and_parts (is_none (find key_cmp e.0 es)) (has_distinct_keys es) h in
-    IsDistinct-cons (pointwise ◌==◌) e.0 (keys_of es) (none_there e.0 es parts.0) (once es parts.1)
-
-pub once_here : (s : State) (found : List Bytes) → IsReached s → AreKeys s found → IsDistinct (pointwise ◌==◌) found
-once_here s found reached are =
-    IsDistinct-IsPermutation (pointwise ◌==◌) nat_list_eq_equiv.symm (keys_of (by_use s.opening s.history)) found are.each (once (by_use s.opening s.history) reached.used.once)
-
--- 2. They belong to it.
-
-none_other : (p : Bytes → Bool) (xs : List Bytes) → list_all p xs ≡ true → list_any (λ x. not (p x)) xs ≡ false
-none_other p [] h = refl
-none_other p (x ∷ xs) h = let parts = and_parts (p x) (list_all p xs) h in (λ i. not (parts.0 i) || none_other p xs parts.1 i)
-
-turned : (b : Bool) → not b ≡ false → b ≡ true
-turned true h = refl
-turned false h = cc
-
-all_pass : (p : Bytes → Bool) (xs : List Bytes) → list_any (λ x. not (p x)) xs ≡ false → list_all p xs ≡ true
-all_pass p [] h = refl
-all_pass p (x ∷ xs) h = let parts = or_parts (not (p x)) (list_any (λ y. not (p y)) xs) h in (λ i. turned (p x) parts.0 i && all_pass p xs parts.1 i)
-
-of_keys : (p : Bytes → Bool) (entries : List (Bytes × Bytes)) → list_all p (keys_of entries) ≡ list_all (λ (e : Bytes × Bytes). p e.0) entries
-of_keys p [] = refl
-of_keys p (e ∷ es) = ap (λ b. p e.0 && b) (of_keys p es)
+-- 1. The keys of one stripe belong to it.
 
 pub all_here : (config : Config) (i : ℕ) (s : State) (found : List Bytes) → IsPlaced config i s → IsReached s → AreKeys s found → list_all (λ k. stripe_of k config.stripes == i) found ≡ true
-all_here config i s found placed reached are =
-    let keys : List Bytes = keys_of (by_use s.opening s.history) in
-    let own : list_all (is_of s) keys ≡ true = of_keys (is_of s) (by_use s.opening s.history) ∙ reached.used.own in
-    let here : list_all (is_of s) found ≡ true =
-    all_pass (is_of s) found (sym (list_any-IsPermutation (λ k. not (is_of s k)) keys found are.each) ∙ none_other (is_of s) keys own) in
-    sym (λ j. list_all (λ k. stripe_of k (placed.config_is j).stripes == placed.stripe_is j) found) ∙ here
+all_here config i s found placed reached are = sym (λ j. list_all (λ k. stripe_of k (placed.config_is j).stripes == placed.stripe_is j) found) ∙ keys_own s found reached are
 
--- 3. One stripe more.
+-- 2. One stripe more.
 
 looked_more : (stripes : List (Option State)) (keys found : List Bytes) (s : State) → AreLooked stripes keys → AreKeys s found → AreLooked (stripes ++ Some s ∷ []) (keys ++ found)
 looked_more [] keys found s looked are = (s, found, [], refl, are, ap (λ ks. ks ++ found) looked ∙ sym (append-nil found), refl)
@@ -147,7 +93,7 @@ pub looked_at : (stripes : List (Option State)) (i : ℕ) (a b : State) (was mid
 looked_at stripes i a b was mid now at reached there same looks =
     (b, there, subst IsReached (same_state a b (sym at ∙ there)) reached, (looks.0, looks.1 ∙ ap (λ ks. ks ++ looks.0) same, looks.2))
 
--- 4. The first of a list.
+-- 3. The first of a list.
 
 pub first_there : {X : Type 0} (xs : List X) (x : X) → slice_get xs 0 ≡ Some x → (rest : List X) × (xs ≡ x ∷ rest)
 first_there [] x at = cc

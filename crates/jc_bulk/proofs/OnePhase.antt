@@ -11,6 +11,7 @@ use Rattle.std.specs.List.{list_all, cons_option}
 use Rattle.jc_types.specs.Stripes.{stripe_of}
 use Rattle.jc_types.specs.Refusals.{is_put_off}
 use Rattle.jc_types.specs.declared.caller.Caller.{Caller}
+use Rattle.jc_types.specs.declared.config.Config.{Config}
 use Rattle.jc_types.specs.declared.refusal.Refusal.{Refusal}
 use Rattle.jc_model.specs.Batches.{is_among}
 use Rattle.jc_model.specs.Cache.{Bytes}
@@ -29,10 +30,11 @@ use Rattle.jc_cache.specs.Caches.{CacheState, IsStripeOf}
 use Rattle.jc_cache.specs.Outstanding.{ReservedState}
 use Rattle.jc_cache.specs.OutstandingAll.{reserved_keys}
 use Rattle.jc_cache.proofs.CallerLemmas.{at_key}
-use Rattle.jc_bulk.specs.declared.round.Start.TheVariants as start
-use Rattle.jc_bulk.specs.Laws.{StaysUnderway, Records, events_begun, out_after, reservation_begun}
+use Rattle.jc_bulk.specs.declared.round.Progress.TheVariants as progress
+use Rattle.jc_bulk.specs.Laws.{StaysUnderway, Records, events_begun, keys_out, out_after, reservation_begun}
 use Rattle.jc_bulk.specs.Phased.{AddsSteps}
 use Rattle.jc_bulk.specs.Recorded.{is_by}
+use Rattle.jc_bulk.specs.Rounds.{IsStripeFull}
 use Rattle.jc_bulk.specs.Starting.{reservations_in}
 use Rattle.jc_bulk.specs.StartingLoads.{StartsFor}
 use Rattle.jc_bulk.specs.Underway.{IsUnder, IsUnderway}
@@ -69,7 +71,7 @@ begun_adds grows records old new caller key op b made =
 
 pub put_off_for : (old new : CacheState) (caller : Caller) (calls : List ReservedState) (key : Bytes) (op : Op) (r : Refusal) → IsUnderway old caller (reservations_in calls) → is_among (reserved_keys calls) key ≡ false
     → MakesPhaseAt key caller.session old new (λ a c. Begins a caller key op (begun.Refused r) c) → is_put_off r ≡ true
-    → (s : State) × IsStripeOf old key s × StartsFor s caller (reservations_in calls) key op start.PutOff
+    → (s : State) × IsStripeOf old key s × StartsFor s caller (reservations_in calls) key op progress.Waiting
 put_off_for old new caller calls key op r under away made later =
     let out = reservations_in calls in
     let here = at_key (IsUnder old.config caller out) old key made.before under.stripes made.at.was in (
@@ -77,13 +79,14 @@ put_off_for old new caller calls key op r under away made later =
       made.at.was,
       (
         (r, made.made.0, later),
-        put_off_out old.config caller out (stripe_of key old.config.stripes) made.before key op r here (ap (λ ks. is_among ks key) (keys_same calls) ∙ away) made.made.0 later,
+        subst (λ (config : Config). IsStripeFull config (keys_out out) key) (sym here.config_is)
+            (put_off_out old.config caller out (stripe_of key old.config.stripes) made.before key op r here (ap (λ ks. is_among ks key) (keys_same calls) ∙ away) made.made.0 later),
       ),
     )
 
 pub refused_for : (old new : CacheState) (caller : Caller) (calls : List ReservedState) (key : Bytes) (op : Op) (r : Refusal) → IsUnderway old caller (reservations_in calls)
     → MakesPhaseAt key caller.session old new (λ a c. Begins a caller key op (begun.Refused r) c) → is_put_off r ≡ false
-    → (s : State) × IsStripeOf old key s × StartsFor s caller (reservations_in calls) key op (start.Ended (Err r))
+    → (s : State) × IsStripeOf old key s × StartsFor s caller (reservations_in calls) key op (progress.Ended (Err r))
 refused_for old new caller calls key op r under made good =
     let out = reservations_in calls in
     let here = at_key (IsUnder old.config caller out) old key made.before under.stripes made.at.was in

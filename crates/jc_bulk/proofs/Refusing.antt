@@ -1,7 +1,7 @@
 -- Why a key of a bulk call is refused, while good other session has anything out.
 --     refused_full     for good: its stripe is near full
---     put_off_out      put off: as many keys of the call are out as may be
-use Rattle.std.proofs.Common.{◌≡◌, ◌≤◌, ◌+◌, ◌*◌, ◌&&◌, ℕ, List, [], ◌∷◌, filter, length, count_by, cond, Bool, true, false, not, None, Some, is_some, nat_le, nat_lt, refl, sym, ap, ◌∙◌, subst, arith, true≢false}
+--     put_off_out      put off: as many keys of the call are out in its stripe as may be
+use Rattle.std.proofs.Common.{◌≡◌, ◌≤◌, ◌+◌, ◌*◌, ◌&&◌, ℕ, suc, List, [], ◌∷◌, filter, length, count_by, cond, Bool, true, false, not, None, Some, is_some, nat_le, nat_lt, refl, sym, ap, ◌∙◌, subst, arith, true≢false}
 use Rattle.std.proofs.lemmas.Bool.{and_parts}
 use Rattle.std.proofs.lemmas.Bool.Decides.{nat_tests}
 use Rattle.jc_types.specs.declared.caller.Caller.{Caller}
@@ -19,6 +19,7 @@ use Rattle.jc_stripe.specs.Reached.{IsReached}
 use Rattle.jc_stripe.specs.State.{State, is_reserved, promised, waits}
 use Rattle.jc_bulk.specs.Ends.{is_near_full}
 use Rattle.jc_bulk.specs.Laws.{keys_out}
+use Rattle.jc_bulk.specs.Rounds.{in_stripe}
 use Rattle.jc_bulk.specs.Underway.{at_stripe, IsUnder}
 use Rattle.jc_bulk.proofs.Phases.{no_load}
 use Rattle.jc_bulk.proofs.Under.{is_free}
@@ -93,24 +94,21 @@ refused_full config caller out i s key op r under reached first good =
 
 -- 3. Put off.
 
-few_filtered : {A : Type 0} (p : A → Bool) (xs : List A) → length (filter p xs) ≤ length xs
-few_filtered p [] = omega arith
-few_filtered {A} p (x ∷ xs) =
-    let few = few_filtered p xs in
-    elim (p x) as (λ b. length (cond b (x ∷ filter p xs) (filter p xs)) ≤ length (x ∷ xs)) [
-      | true ↦ omega arith
-      | false ↦ omega arith
+as_many_there : (config : Config) (i : ℕ) (out : List Reservation) → length (filter (at_stripe config i) out) ≡ length (in_stripe config i (keys_out out))
+as_many_there config i [] = refl
+as_many_there config i (r ∷ out) =
+    let rest = as_many_there config i out in
+    elim (at_stripe config i r) as (λ b. length (cond b (r ∷ filter (at_stripe config i) out) (filter (at_stripe config i) out)) ≡ length (cond b (r.key ∷ in_stripe config i (keys_out out)) (in_stripe config i (keys_out out)))) [
+      | true ↦ ap suc rest
+      | false ↦ rest
     ]
 
-at_most_all : (m a b : ℕ) → m ≤ a → a ≤ b → m ≤ b
-at_most_all m a b h g = omega arith
-
 pub put_off_out : (config : Config) (caller : Caller) (out : List Reservation) (i : ℕ) (s : State) (key : Bytes) (op : Op) (r : Refusal) → IsUnder config caller out i s → is_among (keys_out out) key ≡ false
-    → first_refusal s caller key op ≡ Some r → is_put_off r ≡ true → RESERVATIONS_MAX ≤ length out
+    → first_refusal s caller key op ≡ Some r → is_put_off r ≡ true → RESERVATIONS_MAX ≤ length (in_stripe config i (keys_out out))
 put_off_out config caller out i s key op r under away first later =
     let free : is_reserved s key ≡ false = is_free config caller out i s key under away in
     let many = for_now (has_room s caller.call (places_needed (needs_free_key s key op))) (is_reserved s key && needs_free_key s key op)
     (needs_reservation s key op && nat_le RESERVATIONS_MAX (length s.reservations)) (is_some (load_joined s key op) && nat_le JOINERS_MAX (length s.joiners)) r first later
     (ap (λ b. b && needs_free_key s key op) free) (ap (λ l. is_some l && nat_le JOINERS_MAX (length s.joiners)) (no_load s key op free)) in
     let full = le_true RESERVATIONS_MAX (length s.reservations) (and_parts (needs_reservation s key op) (nat_le RESERVATIONS_MAX (length s.reservations)) many).1 in
-    at_most_all RESERVATIONS_MAX (length s.reservations) (length out) full (subst (λ rs. length rs ≤ length out) (sym under.reservations) (few_filtered (at_stripe config i) out))
+    subst (λ n. RESERVATIONS_MAX ≤ n) (ap length under.reservations ∙ as_many_there config i out) full

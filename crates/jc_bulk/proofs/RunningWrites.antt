@@ -4,22 +4,19 @@
 --     fault_stays        the first fault that was noted stays
 --     writes_run_both    rounds, and then more of them
 --     writes_run_one     one round: its first phases, and what follows of them
---     writes_refused     in place of a round, the keys that are left are refused
---     few_write_turns    no more keys have had their turn than there are
---     later_write_round  a later round comes only if there are more keys than may be reserved
-use Rattle.std.proofs.Common.{◌≡◌, ◌==◌, ◌≤◌, ◌<◌, ◌++◌, ◌⊎◌, inl, inr, ℕ, zero, suc, List, [], ◌∷◌, length, take, min, Option, None, Some, IfSome, Result, append_assoc, refl, sym, ap, ◌∙◌, subst, arith}
-use Rattle.std.proofs.lemmas.Bool.{cases_eq}
-use Rattle.std.proofs.lemmas.List.{length-map, length-take}
+--     writes_refused     in place of a round, the keys that wait are refused
+--     later_writes       a later round comes only if some stripe has more of the keys than may be reserved there
+use Rattle.std.proofs.Common.{◌≡◌, ◌==◌, ◌<◌, ◌≤◌, ◌++◌, ◌⊎◌, inl, inr, ℕ, zero, suc, List, [], ◌∷◌, length, get_or, slice_get, Option, None, Some, IfSome, append_assoc, refl, sym, ap, ◌∙◌, subst, arith}
 use Rattle.std.proofs.lemmas.List.Elements.{filter_map-append}
+use Rattle.std.proofs.lemmas.Option.{slice_get-get_or, slice_get_within}
 use Rattle.std.specs.List.{cons_option, IsAmong, IsDistinct}
 use Rattle.std.specs.Map.{keys_of}
 use Rattle.std.specs.Option.{option_or}
 use Rattle.std.specs.Cmp.Lexicographic.{pointwise}
 use Rattle.jc_types.specs.declared.caller.Caller.{Caller}
-use Rattle.jc_types.specs.declared.limits.TheConstants.{RESERVATIONS_MAX}
+use Rattle.jc_types.specs.declared.config.Config.{Config}
 use Rattle.jc_types.specs.declared.refusal.Refusal.{Refusal}
 use Rattle.jc_model.specs.declared.event.Op.{Op}
-use Rattle.jc_model.specs.declared.event.Reply.{Reply}
 use Rattle.jc_model.specs.declared.event.WriteAnswer.{WriteAnswer}
 use Rattle.jc_model.specs.Cache.{Bytes}
 use Rattle.jc_outside.specs.CallingAll.{WriteAllRelation, DeleteAllRelation}
@@ -28,18 +25,21 @@ use Rattle.jc_session.specs.declared.counts.Counts.{Counts}
 use Rattle.jc_session.specs.declared.session.Session.{Session}
 use Rattle.jc_cache.specs.Caches.{CacheState}
 use Rattle.jc_cache.specs.Outstanding.{ReservedState}
-use Rattle.jc_bulk.specs.GetRounds.{StayEnded, IsCauseIn, failures}
-use Rattle.jc_bulk.specs.Gets.{Turn, AreCounted, ComesAfterAll, turn_keys, turn_ends, open_keys}
+use Rattle.jc_cache.specs.OutstandingAll.{reserved_keys}
+use Rattle.jc_bulk.specs.declared.round.Progress.{Progress}
+use Rattle.jc_bulk.specs.declared.round.Progress.TheVariants.{Waiting}
+use Rattle.jc_bulk.specs.GetRounds.{StayEnded, StillWaits, IsRoomFor, IsHeldBack, IsCauseIn, failures}
+use Rattle.jc_bulk.specs.Gets.{AreCounted, ComesAfterAll}
 use Rattle.jc_bulk.specs.Phased.{LeavesCalls}
-use Rattle.jc_bulk.specs.Rounds.{WriteRound, WritesInRounds, writer_cause, writer_causes}
+use Rattle.jc_bulk.specs.Rounds.{IsCrowded, WriteRound, WritesInRounds, writer_cause, writer_causes}
 use Rattle.jc_bulk.specs.WriteRounds.{IsWritingInRounds, RunsWriteRounds, IsCauseOf}
 use Rattle.jc_bulk.specs.Writing.{IsWriting}
 use Rattle.jc_bulk.proofs.Failures.{failures_stay}
-use Rattle.jc_bulk.proofs.GetRounds.{stay_both}
+use Rattle.jc_bulk.proofs.Places.{stay_both}
 use Rattle.jc_bulk.proofs.Gets.{both_after_all, both_leave, same_after_all}
-use Rattle.jc_bulk.proofs.RunningRounds.{few_open}
 use Rattle.jc_bulk.proofs.Under.{no_more}
 use Rattle.jc_bulk.proofs.WriteAsks.{writes_both}
+use Rattle.jc_bulk.proofs.WriteRounds.{as_many_places, written_crowded}
 use Rattle.jc_bulk.proofs.Writes.{as_many_keys}
 
 -- 1. The faults that the writer returns.
@@ -61,11 +61,11 @@ fault_both rounds more fault returned is h =
 
 -- 2. The cause.
 
-pub write_cause_stays : (cause fault later_fault : Option Refusal) (ends later : List (Option (Result Reply Refusal))) → StayEnded ends later → ((f : Refusal) → fault ≡ Some f → later_fault ≡ Some f) → IsCauseOf cause (failures ends) fault
+pub write_cause_stays : (cause fault later_fault : Option Refusal) (ps later : List Progress) → StayEnded ps later → ((f : Refusal) → fault ≡ Some f → later_fault ≡ Some f) → IsCauseOf cause (failures ps) fault
     → IfSome cause (λ r. IsAmong (failures later) r ⊎ (later_fault ≡ Some r))
-write_cause_stays None fault later_fault ends later stay same h = tt
-write_cause_stays (Some r) fault later_fault ends later stay same (inl among) = inl (failures_stay ends later r stay among)
-write_cause_stays (Some r) fault later_fault ends later stay same (inr is) = inr (same r is)
+write_cause_stays None fault later_fault ps later stay same h = tt
+write_cause_stays (Some r) fault later_fault ps later stay same (inl among) = inl (failures_stay ps later r stay among)
+write_cause_stays (Some r) fault later_fault ps later stay same (inr is) = inr (same r is)
 
 pub fault_stays : (fault returned : Option Refusal) (f : Refusal) → fault ≡ Some f → option_or fault returned ≡ Some f
 fault_stays fault returned f is = ap (λ o. option_or o returned) is
@@ -73,9 +73,9 @@ fault_stays fault returned f is = ap (λ o. option_or o returned) is
 -- 3. Rounds.
 
 module _ {I J : Type 0} {D : I → Type 0} {E : J → Type 0} (writes_all : WriteAllRelation ((j : J) × E j)) (deletes_all : DeleteAllRelation ((j : J) × E j)) (write_state : (j : J) × E j → List ℕ) where
-  pub writes_run_both : (targets : List (Bytes × Op)) (a b c : CacheState) (s t u : Session I J D E) (es fs gs : List (Option (Result Reply Refusal))) (x y z : Option Refusal)
-      → RunsWriteRounds writes_all deletes_all write_state targets a s es x b t fs y → RunsWriteRounds writes_all deletes_all write_state targets b t fs y c u gs z → RunsWriteRounds writes_all deletes_all write_state targets a s es x c u gs z
-  writes_run_both targets a b c s t u es fs gs x y z first second =
+  pub writes_run_both : (targets : List (Bytes × Op)) (a b c : CacheState) (s t u : Session I J D E) (es fs gs : List Progress) (x y z : Option Refusal)
+      → RunsWriteRounds writes_all deletes_all write_state targets a s es x b t fs y → RunsWriteRounds writes_all deletes_all write_state targets b t fs y c u gs z → IsCrowded a.config (keys_of targets) → RunsWriteRounds writes_all deletes_all write_state targets a s es x c u gs z
+  writes_run_both targets a b c s t u es fs gs x y z first second crowd =
       let who : t.caller ≡ s.caller = ap (λ (v : Session I J D E). v.caller) first.left in
       record {
         left = second.left ∙ ap (λ (v : Session I J D E). record v { counts = u.counts; hands = u.hands }) first.left;
@@ -83,19 +83,20 @@ module _ {I J : Type 0} {D : I → Type 0} {E : J → Type 0} (writes_all : Writ
         counts = λ begun counted. second.counts begun (first.counts begun counted);
         writes = λ rounds was.
             let one = first.writes rounds was in
-            let two = second.writes (rounds ++ one.0) (subst (λ w. IsWritingInRounds (rounds ++ one.0) targets b w fs []) (sym who) one.2) in (
+            let two = second.writes (rounds ++ one.0) (subst (λ w. IsWritingInRounds (rounds ++ one.0) targets b w fs []) (sym who) one.3) in (
               one.0 ++ two.0,
               writes_both (boxed writes_all) (boxed deletes_all) (boxed write_state) s.hands.outside.writer t.hands.outside.writer u.hands.outside.writer one.0 two.0 one.1 two.1,
-              subst (λ rs. IsWritingInRounds rs targets c s.caller gs []) (append_assoc rounds one.0 two.0) (subst (λ w. IsWritingInRounds ((rounds ++ one.0) ++ two.0) targets c w gs []) who two.2),
-              λ cause. subst (λ rs. IsCauseIn z (writer_causes rs)) (append_assoc rounds one.0 two.0) (two.3 (one.3 cause)),
+              λ few. absurd (crowd few),
+              subst (λ rs. IsWritingInRounds rs targets c s.caller gs []) (append_assoc rounds one.0 two.0) (subst (λ w. IsWritingInRounds ((rounds ++ one.0) ++ two.0) targets c w gs []) who two.3),
+              λ cause. subst (λ rs. IsCauseIn z (writer_causes rs)) (append_assoc rounds one.0 two.0) (two.4 (one.4 cause)),
             );
         stay = stay_both es fs gs first.stay second.stay;
         grows = both_after_all a b c first.grows second.grows;
         others = both_leave s.caller.session a b c first.others (subst (λ (w : Caller). LeavesCalls w.session b c) who second.others);
       }
 
-  pub writes_refused : (targets : List (Bytes × Op)) (a : CacheState) (s : Session I J D E) (es fs : List (Option (Result Reply Refusal))) (x : Option Refusal)
-      → ((rounds : List WriteRound) (cache : CacheState) (caller : Caller) (calls : List ReservedState) → IsWritingInRounds rounds targets cache caller es calls → IsWritingInRounds rounds targets cache caller fs calls)
+  pub writes_refused : (targets : List (Bytes × Op)) (a : CacheState) (s : Session I J D E) (es fs : List Progress) (x : Option Refusal)
+      → ((rounds : List WriteRound) → IsWritingInRounds rounds targets a s.caller es [] → IsWritingInRounds rounds targets a s.caller fs [])
       → ((first counts : Counts) (out : ℕ) → AreCounted first es out counts → AreCounted first fs out counts) → StayEnded es fs → RunsWriteRounds writes_all deletes_all write_state targets a s es x a s fs x
   writes_refused targets a s es fs x writes counted stay = record {
     left = refl;
@@ -104,7 +105,8 @@ module _ {I J : Type 0} {D : I → Type 0} {E : J → Type 0} (writes_all : Writ
     writes = λ rounds was. (
       [],
       refl,
-      subst (λ rs. IsWritingInRounds rs targets a s.caller fs []) (sym (no_more rounds)) (writes rounds a s.caller [] was),
+      λ few. omega arith,
+      subst (λ rs. IsWritingInRounds rs targets a s.caller fs []) (sym (no_more rounds)) (writes rounds was),
       λ cause. subst (λ rs. IsCauseIn x (writer_causes rs)) (sym (no_more rounds)) cause,
     );
     stay = stay;
@@ -114,57 +116,41 @@ module _ {I J : Type 0} {D : I → Type 0} {E : J → Type 0} (writes_all : Writ
 
 -- first phases, whose session is `t` and whose calls are `calls` afterwards, and then what follows of them
 module _ {I J : Type 0} {D : I → Type 0} {E : J → Type 0} (writes_all : WriteAllRelation ((j : J) × E j)) (deletes_all : DeleteAllRelation ((j : J) × E j)) (write_state : (j : J) × E j → List ℕ) where
-  pub writes_run_one : (targets : List (Bytes × Op)) (a b c : CacheState) (s t u : Session I J D E) (es fs fs' gs hs : List (Option (Result Reply Refusal))) (x y returned : Option Refusal) (calls : List ReservedState) → IsDistinct (pointwise ◌==◌) (keys_of targets)
-      → fs' ≡ fs → hs ≡ gs → y ≡ option_or x returned → t ≡ record s { counts = t.counts } → u ≡ record t { counts = u.counts; hands = u.hands } → u.hands.outside.loader ≡ t.hands.outside.loader
-      → ((first : Counts) → AreCounted first es 0 s.counts → AreCounted first fs (length calls) t.counts) → ((first : Counts) → AreCounted first fs' (length calls) t.counts → AreCounted first gs 0 u.counts)
+  pub writes_run_one : (targets : List (Bytes × Op)) (a b c : CacheState) (s t u : Session I J D E) (es fs gs : List Progress) (x y returned : Option Refusal) (calls : List ReservedState) → IsDistinct (pointwise ◌==◌) (keys_of targets)
+      → y ≡ option_or x returned → t ≡ record s { counts = t.counts } → u ≡ record t { counts = u.counts; hands = u.hands } → u.hands.outside.loader ≡ t.hands.outside.loader
+      → ((first : Counts) → AreCounted first es 0 s.counts → AreCounted first fs (length calls) t.counts) → ((first : Counts) → AreCounted first fs (length calls) t.counts → AreCounted first gs 0 u.counts)
       → ((rounds : List WriteRound) → IsWritingInRounds rounds targets a s.caller es [] → IsWritingInRounds rounds targets b s.caller fs calls)
-      → ((rounds : List WriteRound) (ts : List (Bytes × Op)) → IsDistinct (pointwise ◌==◌) (keys_of ts) → IsWritingInRounds rounds ts b t.caller fs' calls
-      → (more : List WriteRound) × WritesInRounds (boxed writes_all) (boxed deletes_all) (boxed write_state) t.hands.outside.writer more u.hands.outside.writer
+      → ((rounds : List WriteRound) (ts : List (Bytes × Op)) → IsDistinct (pointwise ◌==◌) (keys_of ts) → IsWritingInRounds rounds ts b t.caller fs calls
+      → (more : List WriteRound) × WritesInRounds (boxed writes_all) (boxed deletes_all) (boxed write_state) t.hands.outside.writer more u.hands.outside.writer × (length more ≤ 1)
       × (writer_causes more ≡ cons_option returned []) × IsWritingInRounds (rounds ++ more) ts c t.caller gs [])
-      → StayEnded es fs → StayEnded fs' gs → ComesAfterAll a b → ComesAfterAll b c → LeavesCalls s.caller.session a b → LeavesCalls t.caller.session b c
-      → RunsWriteRounds writes_all deletes_all write_state targets a s es x c u hs y
-  writes_run_one targets a b c s t u es fs fs' gs hs x y returned calls d lent back faults begun rest loader counted_first counted_then writes_first writes_then stay_first stay_then grows_first grows_then others_first others_then =
+      → StayEnded es fs → StayEnded fs gs → ComesAfterAll a b → ComesAfterAll b c → LeavesCalls s.caller.session a b → LeavesCalls t.caller.session b c
+      → RunsWriteRounds writes_all deletes_all write_state targets a s es x c u gs y
+  writes_run_one targets a b c s t u es fs gs x y returned calls d faults begun rest loader counted_first counted_then writes_first writes_then stay_first stay_then grows_first grows_then others_first others_then =
       let who : t.caller ≡ s.caller = ap (λ (v : Session I J D E). v.caller) begun in
-      subst (λ ends. RunsWriteRounds writes_all deletes_all write_state targets a s es x c u ends y) (sym back) (record {
+      record {
         left = rest ∙ ap (λ (v : Session I J D E). record v { counts = u.counts; hands = u.hands }) begun;
         loader = loader ∙ ap (λ (v : Session I J D E). v.hands.outside.loader) begun;
-        counts = λ first counted. counted_then first (subst (λ xs. AreCounted first xs (length calls) t.counts) (sym lent) (counted_first first counted));
+        counts = λ first counted. counted_then first (counted_first first counted);
         writes = λ rounds was.
-            let two = writes_then rounds targets d (subst (λ xs. IsWritingInRounds rounds targets b t.caller xs calls) (sym lent) (subst (λ w. IsWritingInRounds rounds targets b w fs calls) (sym who) (writes_first rounds was))) in (
+            let two = writes_then rounds targets d (subst (λ w. IsWritingInRounds rounds targets b w fs calls) (sym who) (writes_first rounds was)) in (
               two.0,
               subst (λ (v : Session I J D E). WritesInRounds (boxed writes_all) (boxed deletes_all) (boxed write_state) v.hands.outside.writer two.0 u.hands.outside.writer) begun two.1,
-              subst (λ w. IsWritingInRounds (rounds ++ two.0) targets c w gs []) who two.3,
-              λ cause. subst (λ o. IsCauseIn o (writer_causes (rounds ++ two.0))) (sym faults) (fault_both rounds two.0 x returned two.2 cause),
+              λ few. two.2,
+              subst (λ w. IsWritingInRounds (rounds ++ two.0) targets c w gs []) who two.4,
+              λ cause. subst (λ o. IsCauseIn o (writer_causes (rounds ++ two.0))) (sym faults) (fault_both rounds two.0 x returned two.3 cause),
             );
-        stay = stay_both es fs gs stay_first (subst (λ xs. StayEnded xs gs) lent stay_then);
+        stay = stay_both es fs gs stay_first stay_then;
         grows = both_after_all a b c grows_first grows_then;
         others = both_leave s.caller.session a b c others_first (subst (λ (w : Caller). LeavesCalls w.session b c) who others_then);
-      })
+      }
 
--- 4. How many keys are reserved.
-
-few_written : (said : Bytes → WriteAnswer) (targets : List (Bytes × Op)) (cache : CacheState) (caller : Caller) (ends : List (Option (Result Reply Refusal))) (calls : List ReservedState) → IsWriting said targets cache caller ends calls → length calls ≤ length ends
-few_written said targets cache caller ends calls was =
-    let same : length calls ≡ length (open_keys was.turns) = sym (length-map calls (λ (c : ReservedState). c.reservation.key)) ∙ ap length was.keys_open in
-    let less = few_open was.turns in
-    let ended : length (turn_ends was.turns) ≡ length ends = ap length was.ends_are in
-    omega (arith, same, less, ended)
-
-pub few_write_turns : (said : Bytes → WriteAnswer) (targets : List (Bytes × Op)) (cache : CacheState) (caller : Caller) (ends : List (Option (Result Reply Refusal))) (calls : List ReservedState) → IsWriting said targets cache caller ends calls → length ends ≤ length targets
-few_write_turns said targets cache caller ends calls was =
-    let keys = keys_of targets in
-    let turns : length (turn_ends was.turns) ≡ length was.turns = length-map was.turns (λ (t : Turn). t.ended) in
-    let keyed : length (turn_keys was.turns) ≡ length was.turns = length-map was.turns (λ (t : Turn). t.key) in
-    let ended : length (turn_ends was.turns) ≡ length ends = ap length was.ends_are in
-    let taken : length (turn_keys was.turns) ≡ length (take (length ends) keys) = ap length was.keys_are in
-    let least : length (take (length ends) keys) ≡ min (length ends) (length keys) = length-take (length ends) keys in
-    omega (arith, turns, keyed, ended, taken, least, as_many_keys targets)
-
-pub later_write_round : (said : Bytes → WriteAnswer) (targets : List (Bytes × Op)) (cache : CacheState) (caller : Caller) (ends : List (Option (Result Reply Refusal))) (calls : List ReservedState) → IsWriting said targets cache caller ends calls
-    → (length ends ≡ length targets) ⊎ (length calls ≡ RESERVATIONS_MAX) → (length ends ≡ length targets) ⊎ (RESERVATIONS_MAX < length targets)
-later_write_round said targets cache caller ends calls was (inl all) = inl all
-later_write_round said targets cache caller ends calls was (inr many) = by (cases_eq (length ends) (length targets))
-  where
-    by : (length ends ≡ length targets) ⊎ (length ends ≡ length targets → ⊥) → (length ends ≡ length targets) ⊎ (RESERVATIONS_MAX < length targets)
-    by (inl same) = inl same
-    by (inr differ) = inr (omega (arith, differ, many, few_written said targets cache caller ends calls was, few_write_turns said targets cache caller ends calls was))
+-- a later round comes only if some stripe has more of the keys than may be reserved there
+pub later_writes : (said : Bytes → WriteAnswer) (targets : List (Bytes × Op)) (cache : CacheState) (caller : Caller) (ps later : List Progress) (calls : List ReservedState) (most : ℕ) (config : Config) → IsWriting said targets cache caller ps calls
+    → StayEnded ps later → IsRoomFor config.stripes most (length targets)
+    → ((place : ℕ) (key : Bytes) → slice_get (keys_of targets) place ≡ Some key → StillWaits ps place → IsHeldBack config most (reserved_keys calls) key) → (place : ℕ) → StillWaits later place → IsCrowded config (keys_of targets)
+later_writes said targets cache caller ps later calls most config was stay room held place waits =
+    let waited = stay.waited place waits in
+    let near : place < length (keys_of targets) = omega (arith, slice_get_within ps place Waiting waited, as_many_places said targets cache caller ps calls was, as_many_keys targets) in
+    let key = get_or (keys_of targets) place [] in
+    let there = slice_get-get_or (keys_of targets) place [] near in
+    written_crowded said targets cache caller ps calls place key most config was there waited room (held place key there waited)

@@ -7,7 +7,7 @@
 --     nothing_written          the account after a round that asked for nothing
 --     writes_both              rounds, and then more of them
 --     is_through               if a call is out, write-through is on
-use Rattle.std.proofs.Common.{◌≡◌, ◌==◌, ◌&&◌, ◌++◌, ◌⊎◌, inl, inr, ℕ, zero, suc, List, [], ◌∷◌, length, map, take, cond, true, false, not, Option, None, Some, Result, slice_get, refl, sym, ap, ◌∙◌, subst, arith}
+use Rattle.std.proofs.Common.{◌≡◌, ◌==◌, ◌&&◌, ◌++◌, ◌⊎◌, inl, inr, ℕ, zero, suc, List, [], ◌∷◌, length, map, cond, true, false, not, Option, Some, slice_get, refl, sym, ap, ◌∙◌, subst, arith}
 use Rattle.std.proofs.lemmas.Bool.{and_parts, or_parts}
 use Rattle.std.proofs.lemmas.Grind.{flat_map-append}
 use Rattle.std.proofs.lemmas.List.Folds.{list_any-append, list_all-append}
@@ -15,10 +15,8 @@ use Rattle.std.specs.List.{list_all, AllByRecursion, IsAmong, IsDistinct}
 use Rattle.std.specs.Map.{keys_of}
 use Rattle.std.specs.Cmp.Lexicographic.{pointwise}
 use Rattle.jc_types.specs.declared.caller.Caller.{Caller}
-use Rattle.jc_types.specs.declared.refusal.Refusal.{Refusal}
 use Rattle.jc_model.specs.declared.event.Change.{Change}
 use Rattle.jc_model.specs.declared.event.Op.{Op}
-use Rattle.jc_model.specs.declared.event.Reply.{Reply}
 use Rattle.jc_model.specs.declared.event.WriteAnswer.{WriteAnswer}
 use Rattle.jc_model.specs.declared.event.WriteAnswer.TheVariants.{NotAsked}
 use Rattle.jc_model.specs.Batches.{is_among}
@@ -31,14 +29,15 @@ use Rattle.jc_session.specs.declared.mark.Mark.{Mark}
 use Rattle.jc_cache.specs.Caches.{CacheState}
 use Rattle.jc_cache.specs.Outstanding.{ReservedState, AnsweredState}
 use Rattle.jc_cache.specs.OutstandingAll.{reserved_keys, with_answers, wanted_changes}
+use Rattle.jc_bulk.specs.declared.round.Progress.{Progress}
+use Rattle.jc_bulk.specs.declared.round.Progress.TheVariants.{Waiting, Reserved, Ended}
+use Rattle.jc_bulk.specs.GetRounds.{StayEnded, AreUnasked}
 use Rattle.jc_bulk.specs.Gets.{Turn, open_keys}
 use Rattle.jc_bulk.specs.Rounds.{WriteRound, WritesInRounds, round_keys, changes_in, said_in_writes}
 use Rattle.jc_bulk.specs.Starting.{change_wanted}
 use Rattle.jc_bulk.specs.WriteRounds.{IsWritingInRounds, keys_written, changes_wanted}
 use Rattle.jc_bulk.specs.Writing.{HasEndedAt, IsWriteCall, AreWriteTurns, IsWriting, AreWrittenIn}
-use Rattle.jc_bulk.proofs.GetAsks.{IsAwayIfEnded, away_all, among_self, is_new, all_both, distinct_both, open_among, open_distinct, answers_same}
-use Rattle.jc_bulk.proofs.GetCommits.{distinct_take}
-use Rattle.jc_bulk.proofs.Gets.{not_open}
+use Rattle.jc_bulk.proofs.GetAsks.{IsAwayIfEnded, away_all, among_self, is_new, all_both, distinct_both, open_among, open_distinct, unasked_after, answers_same}
 use Rattle.jc_bulk.proofs.Under.{no_more}
 use Rattle.jc_bulk.proofs.Writes.{same_target}
 
@@ -78,17 +77,18 @@ calls_wanted mark caller targets (c ∷ calls) all = (
 -- 3. The turns.
 
 turns_written : (cache : CacheState) (caller : Caller) (targets : List (Bytes × Op)) (said said' : Bytes → WriteAnswer) (asked : List Bytes) (turns : List Turn) → ((k : Bytes) → is_among asked k ≡ false → said' k ≡ said k)
-    → AllByRecursion (λ (t : Turn). IsAwayIfEnded asked t.key t.ended) turns → AreWriteTurns cache caller targets said turns → AreWriteTurns cache caller targets said' turns
+    → AllByRecursion (λ (t : Turn). IsAwayIfEnded asked t.key t.progress) turns → AreWriteTurns cache caller targets said turns → AreWriteTurns cache caller targets said' turns
 turns_written cache caller targets said said' asked [] same away all = tt
-turns_written cache caller targets said said' asked (t ∷ turns) same away all = (λ op state target is. by op state t.ended away.0 (all.0 op state target is), turns_written cache caller targets said said' asked turns same away.1 all.1)
+turns_written cache caller targets said said' asked (t ∷ turns) same away all = (λ op state target is. by op state t.progress away.0 (all.0 op state target is), turns_written cache caller targets said said' asked turns same away.1 all.1)
   where
-    by : (op : Op) (state : State) (e : Option (Result Reply Refusal)) → IsAwayIfEnded asked t.key e → HasEndedAt state caller (length targets) (said t.key) t.key op e → HasEndedAt state caller (length targets) (said' t.key) t.key op e
-    by op state None h turn = turn
-    by op state (Some x) h turn = subst (λ a. HasEndedAt state caller (length targets) a t.key op (Some x)) (sym (same t.key h)) turn
+    by : (op : Op) (state : State) (p : Progress) → IsAwayIfEnded asked t.key p → HasEndedAt state caller (keys_of targets) (said t.key) t.key op p → HasEndedAt state caller (keys_of targets) (said' t.key) t.key op p
+    by op state Waiting h turn = turn
+    by op state Reserved h turn = turn
+    by op state (Ended x) h turn = subst (λ a. HasEndedAt state caller (keys_of targets) a t.key op (Ended x)) (sym (same t.key h)) turn
 
-asked_writing : (rounds : List WriteRound) (r : WriteRound) (targets : List (Bytes × Op)) (cache : CacheState) (caller : Caller) (ends : List (Option (Result Reply Refusal))) (calls : List ReservedState) → IsDistinct (pointwise ◌==◌) (keys_of targets)
-    → round_keys r ≡ reserved_keys calls → IsWritingInRounds rounds targets cache caller ends calls → IsWriting (said_in_writes (rounds ++ r ∷ [])) targets cache caller ends calls
-asked_writing rounds r targets cache caller ends calls d asks was =
+asked_writing : (rounds : List WriteRound) (r : WriteRound) (targets : List (Bytes × Op)) (cache : CacheState) (caller : Caller) (ps : List Progress) (calls : List ReservedState) → IsDistinct (pointwise ◌==◌) (keys_of targets)
+    → round_keys r ≡ reserved_keys calls → IsWritingInRounds rounds targets cache caller ps calls → IsWriting (said_in_writes (rounds ++ r ∷ [])) targets cache caller ps calls
+asked_writing rounds r targets cache caller ps calls d asks was =
     let writes = was.writes in
     let turns = writes.turns in
     let asked : round_keys r ≡ open_keys turns = asks ∙ writes.keys_open in
@@ -97,12 +97,11 @@ asked_writing rounds r targets cache caller ends calls d asks was =
     record {
       turns = turns;
       keys_are = writes.keys_are;
-      ends_are = writes.ends_are;
+      progress_are = writes.progress_are;
       underway = writes.underway;
       each = turns_written cache caller targets (said_in_writes rounds) (said_in_writes (rounds ++ r ∷ [])) (open_keys turns) turns same
-          (away_all turns (subst (IsDistinct (pointwise ◌==◌)) (sym writes.keys_are) (distinct_take (length ends) (keys_of targets) d))) writes.each;
+          (away_all turns (subst (IsDistinct (pointwise ◌==◌)) (sym writes.keys_are) d)) writes.each;
       others = writes.others;
-      unasked = λ k no. same k (not_open turns k no) ∙ writes.unasked k no;
       calls_are = writes.calls_are;
       keys_open = writes.keys_open;
     }
@@ -117,12 +116,12 @@ each_written rounds r all (k ∷ ks) is fresh among =
     let a = and_parts (is_among all k) (list_all (is_among all) ks) among in
     (written_now rounds r k (is_new (is_among (keys_written rounds) k) f.0) (ap (λ xs. is_among xs k) is ∙ a.0), each_written rounds r all ks is f.1 a.1)
 
-pub asked_written : (rounds : List WriteRound) (r : WriteRound) (targets : List (Bytes × Op)) (cache : CacheState) (caller : Caller) (ends : List (Option (Result Reply Refusal))) (calls : List ReservedState) (written : List (AnsweredState WriteAnswer)) → IsDistinct (pointwise ◌==◌) (keys_of targets)
-    → round_keys r ≡ reserved_keys calls → written ≡ with_answers r.said calls → IsWritingInRounds rounds targets cache caller ends calls → AreWrittenIn (said_in_writes (rounds ++ r ∷ [])) targets cache caller ends written calls
-asked_written rounds r targets cache caller ends calls written d asks is was = record {
+pub asked_written : (rounds : List WriteRound) (r : WriteRound) (targets : List (Bytes × Op)) (cache : CacheState) (caller : Caller) (ps : List Progress) (calls : List ReservedState) (written : List (AnsweredState WriteAnswer)) → IsDistinct (pointwise ◌==◌) (keys_of targets)
+    → round_keys r ≡ reserved_keys calls → written ≡ with_answers r.said calls → IsWritingInRounds rounds targets cache caller ps calls → AreWrittenIn (said_in_writes (rounds ++ r ∷ [])) targets cache caller ps written calls
+asked_written rounds r targets cache caller ps calls written d asks is was = record {
   distinct = d;
   answers = is ∙ answers_same r.said (said_in_writes (rounds ++ r ∷ [])) calls (each_written rounds r (reserved_keys calls) (reserved_keys calls) asks was.fresh (among_self (reserved_keys calls)));
-  writes = asked_writing rounds r targets cache caller ends calls d asks was;
+  writes = asked_writing rounds r targets cache caller ps calls d asks was;
 }
 
 -- 5. The account after the round.
@@ -131,13 +130,12 @@ no_changes : (calls : List ReservedState) → wanted_changes calls ≡ [] → le
 no_changes [] none = refl
 no_changes (c ∷ calls) none = cc
 
-pub written_in_rounds : (rounds : List WriteRound) (r : WriteRound) (targets : List (Bytes × Op)) (old new : CacheState) (caller : Caller) (ends later : List (Option (Result Reply Refusal))) (calls : List ReservedState) → IsDistinct (pointwise ◌==◌) (keys_of targets)
-    → changes_of r.batch ≡ wanted_changes calls → (length calls ≡ 0 → ⊥) → length later ≡ length ends → IsWritingInRounds rounds targets old caller ends calls → IsWriting (said_in_writes (rounds ++ r ∷ [])) targets new caller later []
+pub written_in_rounds : (rounds : List WriteRound) (r : WriteRound) (targets : List (Bytes × Op)) (old new : CacheState) (caller : Caller) (ps later : List Progress) (calls : List ReservedState) → IsDistinct (pointwise ◌==◌) (keys_of targets)
+    → changes_of r.batch ≡ wanted_changes calls → (length calls ≡ 0 → ⊥) → StayEnded ps later → IsWritingInRounds rounds targets old caller ps calls → IsWriting (said_in_writes (rounds ++ r ∷ [])) targets new caller later []
     → IsWritingInRounds (rounds ++ r ∷ []) targets new caller later []
-written_in_rounds rounds r targets old new caller ends later calls d changes some many was writes =
+written_in_rounds rounds r targets old new caller ps later calls d changes some stay was writes =
     let turns = was.writes.turns in
     let keys = keys_of targets in
-    let early = take (length ends) keys in
     let asks : round_keys r ≡ reserved_keys calls = keys_asked r.batch calls changes in
     let asked : reserved_keys calls ≡ open_keys turns = was.writes.keys_open in
     let more : keys_written (rounds ++ r ∷ []) ≡ keys_written rounds ++ open_keys turns =
@@ -146,27 +144,26 @@ written_in_rounds rounds r targets old new caller ends later calls d changes som
     flat_map-append (λ (x : WriteRound). changes_of x.batch) rounds (r ∷ []) ∙ ap (λ cs. changes_in rounds ++ cs) (no_more (changes_of r.batch) ∙ changes) in
     record {
       writes = writes;
-      asked = ap (λ n. list_all (is_among (take n keys)) (keys_written (rounds ++ r ∷ []))) many
-          ∙ ap (list_all (is_among early)) more
-          ∙ list_all-append (is_among early) (keys_written rounds) (open_keys turns)
-          ∙ ap (λ b. b && list_all (is_among early) (open_keys turns)) was.asked
+      asked = ap (list_all (is_among keys)) more
+          ∙ list_all-append (is_among keys) (keys_written rounds) (open_keys turns)
+          ∙ ap (λ b. b && list_all (is_among keys) (open_keys turns)) was.asked
           ∙ ap (λ ks. list_all (is_among ks) (open_keys turns)) (sym was.writes.keys_are)
           ∙ open_among turns;
       once = subst (IsDistinct (pointwise ◌==◌)) (sym more)
-          (distinct_both (keys_written rounds) (open_keys turns) was.once
-          (open_distinct turns (subst (IsDistinct (pointwise ◌==◌)) (sym was.writes.keys_are) (distinct_take (length ends) keys d)))
+          (distinct_both (keys_written rounds) (open_keys turns) was.once (open_distinct turns (subst (IsDistinct (pointwise ◌==◌)) (sym was.writes.keys_are) d))
           (ap (list_all (λ k. not (is_among (keys_written rounds) k))) (sym asked) ∙ was.fresh));
       fresh = refl;
+      unasked = subst (AreUnasked keys later) (sym more) (unasked_after (keys_written rounds) keys turns ps later d was.writes.keys_are was.writes.progress_are stay was.unasked);
       wanted = subst (AllByRecursion (IsAmong (changes_wanted targets))) (sym changed)
           (all_both (IsAmong (changes_wanted targets)) (changes_in rounds) (wanted_changes calls) was.wanted (calls_wanted old.mark caller targets calls was.writes.calls_are));
       called = all_both (λ (x : WriteRound). changes_of x.batch ≡ [] → ⊥) rounds (r ∷ []) was.called (λ none. some (no_changes calls (sym changes ∙ none)), tt);
       through = inl refl;
     }
 
-pub nothing_written : (rounds : List WriteRound) (targets : List (Bytes × Op)) (cache : CacheState) (caller : Caller) (ends : List (Option (Result Reply Refusal))) (calls : List ReservedState) → calls ≡ []
-    → IsWritingInRounds rounds targets cache caller ends calls → IsWritingInRounds (rounds ++ []) targets cache caller ends []
-nothing_written rounds targets cache caller ends calls none was =
-    subst (λ rs. IsWritingInRounds rs targets cache caller ends []) (sym (no_more rounds)) (subst (IsWritingInRounds rounds targets cache caller ends) none was)
+pub nothing_written : (rounds : List WriteRound) (targets : List (Bytes × Op)) (cache : CacheState) (caller : Caller) (ps : List Progress) (calls : List ReservedState) → calls ≡ []
+    → IsWritingInRounds rounds targets cache caller ps calls → IsWritingInRounds (rounds ++ []) targets cache caller ps []
+nothing_written rounds targets cache caller ps calls none was =
+    subst (λ rs. IsWritingInRounds rs targets cache caller ps []) (sym (no_more rounds)) (subst (IsWritingInRounds rounds targets cache caller ps) none was)
 
 -- 6. The writer.
 
@@ -179,6 +176,6 @@ no_calls : (on : Type 0) (calls : List ReservedState) → (length calls ≡ 0 �
 no_calls on calls some (inl none) = absurd (some (ap length none))
 no_calls on calls some (inr is) = is
 
-pub is_through : (rounds : List WriteRound) (targets : List (Bytes × Op)) (cache : CacheState) (caller : Caller) (ends : List (Option (Result Reply Refusal))) (calls : List ReservedState) → IsWritingInRounds rounds targets cache caller ends calls
+pub is_through : (rounds : List WriteRound) (targets : List (Bytes × Op)) (cache : CacheState) (caller : Caller) (ps : List Progress) (calls : List ReservedState) → IsWritingInRounds rounds targets cache caller ps calls
     → (length calls ≡ 0 → ⊥) → cache.config.write_through ≡ true
-is_through rounds targets cache caller ends calls was some = no_calls (cache.config.write_through ≡ true) calls some was.through
+is_through rounds targets cache caller ps calls was some = no_calls (cache.config.write_through ≡ true) calls some was.through

@@ -5,7 +5,7 @@
 --     put_push, remove_push        the targets of the first keys, and one more
 --     failed_more, failed_new, failed_whole    the entries that failed: of one key more, none of the next key, and of all
 --     wrote_of, failed_of, every_failed    what is said of a call, by the targets that were made of its keys
-use Rattle.std.proofs.Common.{◌≡◌, ◌==◌, ◌≤◌, ◌<◌, ◌+◌, ◌++◌, ◌⊎◌, inl, inr, ℕ, zero, suc, List, [], ◌∷◌, length, take, get_or, true, false, Option, None, Some, IfOk, Result, slice_get, refl, sym, ap, ◌∙◌, subst, arith}
+use Rattle.std.proofs.Common.{◌≡◌, ◌==◌, ◌≤◌, ◌<◌, ◌+◌, ◌++◌, ◌⊎◌, inl, inr, ℕ, zero, suc, List, [], ◌∷◌, length, take, get_or, true, false, Option, Some, IfOk, Result, slice_get, refl, sym, ap, ◌∙◌, subst, arith}
 use Rattle.std.proofs.lemmas.List.{map-append, take_all, take_more}
 use Rattle.std.proofs.lemmas.Option.{slice_get_within, get_or_from_slice_get}
 use Rattle.std.specs.List.{list_any, IsDistinct}
@@ -16,11 +16,12 @@ use Rattle.jc_model.specs.declared.event.Change.{Change}
 use Rattle.jc_model.specs.declared.event.Change.TheVariants as change
 use Rattle.jc_model.specs.declared.event.Op.{Op}
 use Rattle.jc_model.specs.declared.event.Op.TheVariants as op
-use Rattle.jc_model.specs.declared.event.Reply.{Reply}
 use Rattle.jc_model.specs.Cache.{Bytes}
 use Rattle.jc_outside.specs.CallingAll.{WriteAllRelation, DeleteAllRelation}
 use Rattle.jc_session.specs.declared.session.Session.{Session}
 use Rattle.jc_cache.specs.Caches.{CacheState}
+use Rattle.jc_bulk.specs.declared.round.Progress.{Progress}
+use Rattle.jc_bulk.specs.declared.round.Progress.TheVariants.{Waiting, Reserved, Ended}
 use Rattle.jc_bulk.specs.Bulk.{AreLooked, IsRefusedWhole, put_ops, put_changes, remove_ops, remove_changes}
 use Rattle.jc_bulk.specs.Clearing.{IsOutOfMemory}
 use Rattle.jc_bulk.specs.Ends.{failed_entries, key_end, key_ends}
@@ -29,7 +30,7 @@ use Rattle.jc_bulk.specs.WriteRounds.{changes_wanted}
 use Rattle.jc_bulk.specs.Writing.{AllWriteAs}
 use Rattle.jc_bulk.specs.WritingAll.{WritesWithoutFault, FailsToWrite}
 use Rattle.jc_bulk.proofs.GetResults.{get_ends_push, failed_push, failed_absent}
-use Rattle.jc_bulk.proofs.WriteRounds.{new_key}
+use Rattle.jc_bulk.proofs.Gets.{absent}
 use Rattle.jc_bulk.proofs.Writes.{as_many_keys, key_of_target, same_target}
 use Rattle.jc_bulk.proofs.WrittenAll.{failed_written}
 
@@ -76,33 +77,34 @@ remove_push keys i key items near at is =
 
 -- 3. What failed.
 
-one_failed : (o : Bytes × Op) (end : Option (Result Reply Refusal)) → failed_entries (key_end o end) ≡ failed_entries (get_end o.0 end)
-one_failed o None = refl
-one_failed o (Some x) = refl
+one_failed : (o : Bytes × Op) (p : Progress) → failed_entries (key_end o p) ≡ failed_entries (get_end o.0 p)
+one_failed o Waiting = refl
+one_failed o Reserved = refl
+one_failed o (Ended x) = refl
 
-pub failed_more : (targets : List (Bytes × Op)) (ends : List (Option (Result Reply Refusal))) (i : ℕ) (o : Bytes × Op) (end : Option (Result Reply Refusal)) (failed : List (Bytes × Refusal))
-    → length ends ≡ length targets → i < length targets → o ≡ get_or targets i o → end ≡ get_or ends i end → failed ≡ failed_entries (get_ends (take i (keys_of targets)) (take i ends))
-    → failed ++ failed_entries (key_end o end) ≡ failed_entries (get_ends (take (i + 1) (keys_of targets)) (take (i + 1) ends))
-failed_more targets ends i o end failed many near at is so_far =
+pub failed_more : (targets : List (Bytes × Op)) (ps : List Progress) (i : ℕ) (o : Bytes × Op) (p : Progress) (failed : List (Bytes × Refusal))
+    → length ps ≡ length targets → i < length targets → o ≡ get_or targets i o → p ≡ get_or ps i p → failed ≡ failed_entries (get_ends (take i (keys_of targets)) (take i ps))
+    → failed ++ failed_entries (key_end o p) ≡ failed_entries (get_ends (take (i + 1) (keys_of targets)) (take (i + 1) ps))
+failed_more targets ps i o p failed many near at is so_far =
     let keys = keys_of targets in
     let here : get_or keys i o.0 ≡ o.0 = get_or_from_slice_get keys i o.0 o.0 (key_of_target targets i o near at) in
-    let early = get_ends (take i keys) (take i ends) in
-    let more : get_ends (take (i + 1) keys) (take (i + 1) ends) ≡ early ++ get_end o.0 end =
-    get_ends_push keys ends i o.0 end (many ∙ sym (as_many_keys targets)) (omega (arith, near, as_many_keys targets)) ∙ (λ j. early ++ get_end (here j) (sym is j)) in
-    ap (λ es. failed ++ es) (one_failed o end) ∙ failed_push failed early (get_end o.0 end) so_far ∙ ap failed_entries (sym more)
+    let early = get_ends (take i keys) (take i ps) in
+    let more : get_ends (take (i + 1) keys) (take (i + 1) ps) ≡ early ++ get_end o.0 p =
+    get_ends_push keys ps i o.0 p (many ∙ sym (as_many_keys targets)) (omega (arith, near, as_many_keys targets)) ∙ (λ j. early ++ get_end (here j) (sym is j)) in
+    ap (λ es. failed ++ es) (one_failed o p) ∙ failed_push failed early (get_end o.0 p) so_far ∙ ap failed_entries (sym more)
 
-pub failed_new : (targets : List (Bytes × Op)) (ends : List (Option (Result Reply Refusal))) (i : ℕ) (o : Bytes × Op) (failed : List (Bytes × Refusal))
-    → IsDistinct (pointwise ◌==◌) (keys_of targets) → i < length targets → o ≡ get_or targets i o → failed ≡ failed_entries (get_ends (take i (keys_of targets)) (take i ends))
+pub failed_new : (targets : List (Bytes × Op)) (ps : List Progress) (i : ℕ) (o : Bytes × Op) (failed : List (Bytes × Refusal))
+    → IsDistinct (pointwise ◌==◌) (keys_of targets) → i < length targets → o ≡ get_or targets i o → failed ≡ failed_entries (get_ends (take i (keys_of targets)) (take i ps))
     → list_any (pointwise ◌==◌ o.0) (keys_of failed) ≡ false
-failed_new targets ends i o failed d near at so_far =
-    ap (λ es. list_any (pointwise ◌==◌ o.0) (keys_of es)) so_far ∙ failed_absent (take i (keys_of targets)) (take i ends) o.0 (new_key targets i o d near at)
+failed_new targets ps i o failed d near at so_far =
+    ap (λ es. list_any (pointwise ◌==◌ o.0) (keys_of es)) so_far ∙ failed_absent (take i (keys_of targets)) (take i ps) o.0 (absent (keys_of targets) i o.0 d (key_of_target targets i o near at))
 
-pub failed_whole : (targets : List (Bytes × Op)) (ends : List (Option (Result Reply Refusal))) (i : ℕ) (failed : List (Bytes × Refusal)) → length ends ≡ length targets → length targets ≤ i
-    → failed ≡ failed_entries (get_ends (take i (keys_of targets)) (take i ends)) → failed ≡ failed_entries (key_ends targets ends)
-failed_whole targets ends i failed many past so_far =
+pub failed_whole : (targets : List (Bytes × Op)) (ps : List Progress) (i : ℕ) (failed : List (Bytes × Refusal)) → length ps ≡ length targets → length targets ≤ i
+    → failed ≡ failed_entries (get_ends (take i (keys_of targets)) (take i ps)) → failed ≡ failed_entries (key_ends targets ps)
+failed_whole targets ps i failed many past so_far =
     so_far
-    ∙ (λ j. failed_entries (get_ends (take_all i (keys_of targets) (omega (arith, past, as_many_keys targets)) j) (take_all i ends (omega (arith, past, many)) j)))
-    ∙ sym (failed_written targets ends)
+    ∙ (λ j. failed_entries (get_ends (take_all i (keys_of targets) (omega (arith, past, as_many_keys targets)) j) (take_all i ps (omega (arith, past, many)) j)))
+    ∙ sym (failed_written targets ps)
 
 -- 4. What the call returns.
 

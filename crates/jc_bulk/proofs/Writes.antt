@@ -1,26 +1,22 @@
 -- A `putAll` or a `removeAll` between its phases: what one phase of a key leaves of the others' turns, and of its own.
 --     target_there         the target at a place
 --     one_op               a key of the call has one operation
---     write_turns_kept     turns at other keys stay
+--     write_turn_kept      a turn at another key stays
 --     op_away              a first phase adds no step at another key
 --     begun_writing        the account of the call after a key has begun
 --     write_open_after     the keys that are reserved after a key has begun
---     refused_writing      the account of the call after a key is refused
+--     refused_writing      the account of the call after each key that waits is refused
 --     committed_writing    the account after the last phase at the first of its keys that is reserved
-use Rattle.std.proofs.Common.{◌≡◌, ◌==◌, ◌<◌, ◌+◌, ◌++◌, inl, inr, ℕ, zero, suc, List, [], ◌∷◌, length, get_or, take, set, length-set, true, false, true≢false, Option, None, Some, is_some, Result, Ok, Err, slice_get, refl, sym, ap, ◌∙◌, subst}
-use Rattle.std.proofs.lemmas.Bool.{or_parts}
+use Rattle.std.proofs.Common.{◌≡◌, ◌==◌, ◌<◌, ◌++◌, inl, inr, ℕ, zero, suc, List, [], ◌∷◌, length, map, get_or, take, drop, set, true, false, true≢false, None, Some, Ok, Err, slice_get, refl, sym, ap, ◌∙◌, subst}
 use Rattle.std.proofs.lemmas.Cmp.{nat_list_eq_equiv}
 use Rattle.std.proofs.lemmas.List.{map-append}
-use Rattle.std.proofs.lemmas.List.Elements.{filter_map-append}
 use Rattle.std.proofs.lemmas.Map.Keys.{IsDistinct-head, IsDistinct-tail}
 use Rattle.std.proofs.lemmas.Option.{slice_get-get_or}
 use Rattle.std.specs.List.{AllByRecursion, IsDistinct, list_all, cons_option}
 use Rattle.std.specs.Map.{keys_of}
 use Rattle.std.specs.Cmp.Lexicographic.{pointwise}
 use Rattle.jc_types.specs.declared.caller.Caller.{Caller}
-use Rattle.jc_types.specs.declared.limits.TheConstants.{RESERVATIONS_MAX}
-use Rattle.jc_types.specs.declared.refusal.Refusal.{Refusal}
-use Rattle.jc_types.specs.declared.refusal.Refusal.TheVariants.{OutOfMemory}
+use Rattle.jc_types.specs.declared.config.Config.{Config}
 use Rattle.jc_model.specs.declared.event.Event.{Event}
 use Rattle.jc_model.specs.declared.event.Event.TheVariants.{Step}
 use Rattle.jc_model.specs.declared.event.LoadAnswer.TheVariants as load
@@ -37,17 +33,20 @@ use Rattle.jc_session.specs.declared.mark.Mark.{Mark}
 use Rattle.jc_cache.specs.Caches.{CacheState, IsStripeOf}
 use Rattle.jc_cache.specs.Outstanding.{ReservedState}
 use Rattle.jc_cache.specs.OutstandingAll.{WriteCallsState, reserved_keys}
-use Rattle.jc_bulk.specs.declared.round.Start.{Start}
-use Rattle.jc_bulk.specs.declared.round.Start.TheVariants as start
-use Rattle.jc_bulk.specs.Gets.{Turn, turn_keys, open_keys, key_if_open, end_started}
+use Rattle.jc_bulk.specs.declared.round.Progress.{Progress}
+use Rattle.jc_bulk.specs.declared.round.Progress.TheVariants.{Waiting, Reserved, Ended}
+use Rattle.jc_bulk.specs.GetRounds.{StillWaits, is_closed, refused_if_waiting}
+use Rattle.jc_bulk.specs.Gets.{Turn, turn_keys, turn_progress, open_keys, key_if_open}
 use Rattle.jc_bulk.specs.Phased.{ComesAfter, AddsSteps}
 use Rattle.jc_bulk.specs.Recorded.{steps_of}
 use Rattle.jc_bulk.specs.Starting.{StartsWrite, steps_started, reservations_in, change_wanted}
 use Rattle.jc_bulk.specs.StartingLoads.{StartsFor}
 use Rattle.jc_bulk.specs.Underway.{IsUnderway}
 use Rattle.jc_bulk.specs.Writing.{IsTarget, HasEndedAt, IsWriteCall, AreWriteTurns, IsWriting}
-use Rattle.jc_bulk.proofs.GetCommits.{end_one, end_first, apart_all, all_apart, distinct_take, same_keys, first_so, open_rest, ends_set}
-use Rattle.jc_bulk.proofs.Gets.{IsAway, at_place, too_many, near_later, ended_later, one_state, own_step, no_step, all_push, not_pushed, others_kept, one_longer}
+use Rattle.jc_bulk.specs.Rounds.{IsCrowded}
+use Rattle.jc_bulk.proofs.Crowded.{config_there}
+use Rattle.jc_bulk.proofs.Gets.{IsAway, at_place, near_later, ended_later, one_state, own_step, no_step, all_push, others_kept, refused_turn, refused_keys, refused_progress, refused_open}
+use Rattle.jc_bulk.proofs.Places.{turn_set, keys_set, progress_set, turn_there, key_apart, all_apart, turns_set, open_begun, first_open, open_ended}
 use Rattle.jc_bulk.proofs.Under.{no_more}
 
 -- 1. The keys of the call, with their operations.
@@ -55,7 +54,7 @@ use Rattle.jc_bulk.proofs.Under.{no_more}
 pub same_target : (t u : Bytes × Op) → Some t ≡ Some u → t ≡ u
 same_target t u e = cc
 
-key_at : (targets : List (Bytes × Op)) (i : ℕ) (key : Bytes) (op : Op) → slice_get targets i ≡ Some (key, op) → slice_get (keys_of targets) i ≡ Some key
+pub key_at : (targets : List (Bytes × Op)) (i : ℕ) (key : Bytes) (op : Op) → slice_get targets i ≡ Some (key, op) → slice_get (keys_of targets) i ≡ Some key
 key_at [] i key op at = cc
 key_at (t ∷ targets) zero key op at = ap Some (ap (λ (u : Bytes × Op). u.0) (same_target t (key, op) at))
 key_at (t ∷ targets) (suc i) key op at = key_at targets i key op at
@@ -89,57 +88,57 @@ as_many_keys (t ∷ targets) = ap suc (as_many_keys targets)
 
 -- 2. Turns at other keys.
 
-ends_kept : (s t : State) (caller : Caller) (keys : ℕ) (said : WriteAnswer) (key : Bytes) (op : Op) (ended : Option (Result Reply Refusal)) → ComesAfter s t → steps_of caller key t.history ≡ steps_of caller key s.history
-    → HasEndedAt s caller keys said key op ended → HasEndedAt t caller keys said key op ended
-ends_kept s t caller keys said key op None after same h = same ∙ h
-ends_kept s t caller keys said key op (Some (Ok reply)) after same h = same ∙ h
-ends_kept s t caller keys said key op (Some (Err refusal)) after same h = (same ∙ h.0, h.1, (ended_later s t caller.call keys load.NotAsked (Some (Err refusal)) after (refl, h.2)).1)
+ends_kept : (s t : State) (caller : Caller) (keys : List Bytes) (said : WriteAnswer) (key : Bytes) (op : Op) (p : Progress) → ComesAfter s t → steps_of caller key t.history ≡ steps_of caller key s.history
+    → HasEndedAt s caller keys said key op p → HasEndedAt t caller keys said key op p
+ends_kept s t caller keys said key op Waiting after same h = same ∙ h
+ends_kept s t caller keys said key op Reserved after same h = same ∙ h
+ends_kept s t caller keys said key op (Ended (Ok reply)) after same h = same ∙ h
+ends_kept s t caller keys said key op (Ended (Err refusal)) after same h = (same ∙ h.0, h.1, (ended_later s t caller.call keys load.NotAsked (Ended (Err refusal)) after (refl, h.2)).1)
 
-write_turn_kept : (caller : Caller) (targets : List (Bytes × Op)) (said : WriteAnswer) (events : List Event) (old new : CacheState) (key : Bytes) (ended : Option (Result Reply Refusal)) → AddsSteps caller events old new
-    → steps_of caller key events ≡ [] → ((op : Op) (state : State) → IsTarget targets key op → IsStripeOf old key state → HasEndedAt state caller (length targets) said key op ended)
-    → (op : Op) (state : State) → IsTarget targets key op → IsStripeOf new key state → HasEndedAt state caller (length targets) said key op ended
-write_turn_kept caller targets said events old new key ended adds none was op state target is =
+pub write_turn_kept : (caller : Caller) (targets : List (Bytes × Op)) (said : WriteAnswer) (events : List Event) (old new : CacheState) (key : Bytes) (p : Progress) → AddsSteps caller events old new
+    → steps_of caller key events ≡ [] → ((op : Op) (state : State) → IsTarget targets key op → IsStripeOf old key state → HasEndedAt state caller (keys_of targets) said key op p)
+    → (op : Op) (state : State) → IsTarget targets key op → IsStripeOf new key state → HasEndedAt state caller (keys_of targets) said key op p
+write_turn_kept caller targets said events old new key p adds none was op state target is =
     let b = adds.stripes key state is in
-    ends_kept b.0 state caller (length targets) said key op ended b.2 (b.3 ∙ ap (λ xs. steps_of caller key b.0.history ++ xs) none ∙ no_more (steps_of caller key b.0.history)) (was op b.0 target b.1)
+    ends_kept b.0 state caller (keys_of targets) said key op p b.2 (b.3 ∙ ap (λ xs. steps_of caller key b.0.history ++ xs) none ∙ no_more (steps_of caller key b.0.history)) (was op b.0 target b.1)
 
-pub write_turns_kept : (caller : Caller) (targets : List (Bytes × Op)) (said : Bytes → WriteAnswer) (events : List Event) (old new : CacheState) (key : Bytes) (turns : List Turn) → AddsSteps caller events old new → IsAway caller key events
-    → is_among (turn_keys turns) key ≡ false → AreWriteTurns old caller targets said turns → AreWriteTurns new caller targets said turns
-write_turns_kept caller targets said events old new key [] adds away none all = tt
-write_turns_kept caller targets said events old new key (t ∷ turns) adds away none all =
-    let parts = or_parts (pointwise ◌==◌ key t.key) (is_among (turn_keys turns) key) none in (
-      write_turn_kept caller targets (said t.key) events old new t.key t.ended adds (away t.key (nat_list_eq_equiv.symm t.key key ∙ parts.0)) all.0,
-      write_turns_kept caller targets said events old new key turns adds away parts.1 all.1,
-    )
+-- a key that is none of the call's differs from each of them
+pub apart_from : (targets : List (Bytes × Op)) (place : ℕ) (key q : Bytes) → slice_get (keys_of targets) place ≡ Some key → is_among (keys_of targets) q ≡ false → pointwise ◌==◌ q key ≡ false
+apart_from targets place key q at none = key_apart (λ y. pointwise ◌==◌ q y ≡ false) (keys_of targets) place key (all_apart q (keys_of targets) none) at
 
 -- 3. A key that begins.
 
-pub op_away : (caller : Caller) (key : Bytes) (op : Op) (s : Start) → IsAway caller key (steps_started caller key op s)
-op_away caller key op (start.Ended (Ok reply)) = no_step caller key op nothing_said reply
-op_away caller key op (start.Ended (Err refusal)) = λ q apart. refl
-op_away caller key op start.Reserved = λ q apart. refl
-op_away caller key op start.PutOff = λ q apart. refl
+pub op_away : (caller : Caller) (key : Bytes) (op : Op) (s : Progress) → IsAway caller key (steps_started caller key op s)
+op_away caller key op (Ended (Ok reply)) = no_step caller key op nothing_said reply
+op_away caller key op (Ended (Err refusal)) = λ q apart. refl
+op_away caller key op Reserved = λ q apart. refl
+op_away caller key op Waiting = λ q apart. refl
 
-started_ended : (s t : State) (caller : Caller) (out : List Reservation) (key : Bytes) (op : Op) (keys : ℕ) (said : WriteAnswer) (x : Start) → said ≡ NotAsked → ComesAfter s t → StartsFor s caller out key op x
-    → steps_of caller key t.history ≡ steps_of caller key (steps_started caller key op x) → HasEndedAt t caller keys said key op (end_started x)
-started_ended s t caller out key op keys said (start.Ended (Ok reply)) none after why is =
+started_ended : (s t : State) (caller : Caller) (out : List Reservation) (key : Bytes) (op : Op) (keys : List Bytes) (said : WriteAnswer) (x : Progress) → said ≡ NotAsked → ComesAfter s t → StartsFor s caller out key op x
+    → steps_of caller key t.history ≡ steps_of caller key (steps_started caller key op x) → HasEndedAt t caller keys said key op x
+started_ended s t caller out key op keys said (Ended (Ok reply)) none after why is =
     is ∙ own_step caller key op nothing_said reply ∙ ap (λ a. Step caller op key (write_only a) None reply ∷ []) (sym none)
-started_ended s t caller out key op keys said (start.Ended (Err refusal)) none after why is = (is, ap write_only none, inl (why.1, near_later s t caller.call after why.2))
-started_ended s t caller out key op keys said start.Reserved none after why is = is
-started_ended s t caller out key op keys said start.PutOff none after why is = is
+started_ended s t caller out key op keys said (Ended (Err refusal)) none after why is = (is, ap write_only none, inl (why.1, near_later s t caller.call after why.2))
+started_ended s t caller out key op keys said Reserved none after why is = is
+started_ended s t caller out key op keys said Waiting none after why is = is
 
-begun_turn : (caller : Caller) (targets : List (Bytes × Op)) (said : WriteAnswer) (old new : CacheState) (key : Bytes) (op : Op) (out : List Reservation) (x : Start) (s : State) → IsDistinct (pointwise ◌==◌) (keys_of targets) → IsTarget targets key op
+-- what is so of one turn
+abbrev pub IsWriteTurn : CacheState → Caller → List (Bytes × Op) → (Bytes → WriteAnswer) → Turn → Type 0
+IsWriteTurn cache caller targets said t = (op : Op) (state : State) → IsTarget targets t.key op → IsStripeOf cache t.key state → HasEndedAt state caller (keys_of targets) (said t.key) t.key op t.progress
+
+begun_turn : (caller : Caller) (targets : List (Bytes × Op)) (said : WriteAnswer) (old new : CacheState) (key : Bytes) (op : Op) (out : List Reservation) (x : Progress) (s : State) → IsDistinct (pointwise ◌==◌) (keys_of targets) → IsTarget targets key op
     → ((state : State) → IsStripeOf old key state → steps_of caller key state.history ≡ []) → said ≡ NotAsked → IsStripeOf old key s → StartsFor s caller out key op x → AddsSteps caller (steps_started caller key op x) old new
-    → (o : Op) (state : State) → IsTarget targets key o → IsStripeOf new key state → HasEndedAt state caller (length targets) said key o (end_started x)
+    → (o : Op) (state : State) → IsTarget targets key o → IsStripeOf new key state → HasEndedAt state caller (keys_of targets) said key o x
 begun_turn caller targets said old new key op out x s d target none unasked is why adds o state other now =
     let b = adds.stripes key state now in
-    subst (λ p. HasEndedAt state caller (length targets) said key p (end_started x)) (one_op targets key op o d target other)
-    (started_ended s state caller out key op (length targets) said x unasked (subst (λ y. ComesAfter y state) (one_state old key b.0 s b.1 is) b.2) why
+    subst (λ p. HasEndedAt state caller (keys_of targets) said key p x) (one_op targets key op o d target other)
+    (started_ended s state caller out key op (keys_of targets) said x unasked (subst (λ y. ComesAfter y state) (one_state old key b.0 s b.1 is) b.2) why
     (b.3 ∙ ap (λ xs. xs ++ steps_of caller key (steps_started caller key op x)) (none b.0 b.1)))
 
-write_calls_after : (mark : Mark) (caller : Caller) (targets : List (Bytes × Op)) (key : Bytes) (op : Op) (x : Start) (old new : WriteCallsState) → IsTarget targets key op → StartsWrite mark caller key op x old new
+write_calls_after : (mark : Mark) (caller : Caller) (targets : List (Bytes × Op)) (key : Bytes) (op : Op) (x : Progress) (old new : WriteCallsState) → IsTarget targets key op → StartsWrite mark caller key op x old new
     → AllByRecursion (IsWriteCall mark caller targets) old.items → AllByRecursion (IsWriteCall mark caller targets) new.items
-write_calls_after mark caller targets key op (start.Ended ended) old new target h all = subst (λ (b : WriteCallsState). AllByRecursion (IsWriteCall mark caller targets) b.items) (sym h) all
-write_calls_after mark caller targets key op start.Reserved old new target h all =
+write_calls_after mark caller targets key op (Ended ended) old new target h all = subst (λ (b : WriteCallsState). AllByRecursion (IsWriteCall mark caller targets) b.items) (sym h) all
+write_calls_after mark caller targets key op Reserved old new target h all =
     let call = h.0 in
     let asks = h.1 in
     let one : IsWriteCall mark caller targets call = record {
@@ -149,138 +148,114 @@ write_calls_after mark caller targets key op start.Reserved old new target h all
       change_is = asks.2 ∙ ap change_wanted (sym asks.0.op_is);
     } in
     subst (λ (b : WriteCallsState). AllByRecursion (IsWriteCall mark caller targets) b.items) (sym h.2) (all_push (IsWriteCall mark caller targets) old.items call all one)
-write_calls_after mark caller targets key op start.PutOff old new target h all = subst (λ (b : WriteCallsState). AllByRecursion (IsWriteCall mark caller targets) b.items) (sym h) all
+write_calls_after mark caller targets key op Waiting old new target h all = subst (λ (b : WriteCallsState). AllByRecursion (IsWriteCall mark caller targets) b.items) (sym h) all
 
-pub write_open_after : (mark : Mark) (s : State) (caller : Caller) (key : Bytes) (op : Op) (x : Start) (old new : WriteCallsState) → length old.items < RESERVATIONS_MAX → StartsFor s caller (reservations_in old.items) key op x
-    → StartsWrite mark caller key op x old new → reserved_keys new.items ≡ reserved_keys old.items ++ cons_option (key_if_open key (end_started x)) []
-write_open_after mark s caller key op (start.Ended ended) old new few why h = ap (λ (b : WriteCallsState). reserved_keys b.items) h ∙ sym (no_more (reserved_keys old.items))
-write_open_after mark s caller key op start.Reserved old new few why h =
+pub write_open_after : (mark : Mark) (caller : Caller) (key : Bytes) (op : Op) (x : Progress) (old new : WriteCallsState) → StartsWrite mark caller key op x old new
+    → reserved_keys new.items ≡ reserved_keys old.items ++ cons_option (key_if_open key x) []
+write_open_after mark caller key op (Ended ended) old new h = ap (λ (b : WriteCallsState). reserved_keys b.items) h ∙ sym (no_more (reserved_keys old.items))
+write_open_after mark caller key op Reserved old new h =
     ap (λ (b : WriteCallsState). reserved_keys b.items) h.2
     ∙ map-append (λ (c : ReservedState). c.reservation.key) old.items (h.0 ∷ [])
     ∙ ap (λ k. reserved_keys old.items ++ k ∷ []) h.1.0.key_is
-write_open_after mark s caller key op start.PutOff old new few why h = absurd (too_many old.items few why.1)
+write_open_after mark caller key op Waiting old new h = ap (λ (b : WriteCallsState). reserved_keys b.items) h ∙ sym (no_more (reserved_keys old.items))
 
-pub begun_writing : (said : Bytes → WriteAnswer) (targets : List (Bytes × Op)) (old new : CacheState) (caller : Caller) (ends : List (Option (Result Reply Refusal))) (calls calls' : WriteCallsState) (key : Bytes) (op : Op) (x : Start) (s : State)
-    → IsWriting said targets old caller ends calls.items → IsDistinct (pointwise ◌==◌) (keys_of targets) → IsTarget targets key op → is_among (take (length ends) (keys_of targets)) key ≡ false
-    → take (length ends + 1) (keys_of targets) ≡ take (length ends) (keys_of targets) ++ key ∷ [] → length calls.items < RESERVATIONS_MAX
-    → IsStripeOf old key s → StartsFor s caller (reservations_in calls.items) key op x → StartsWrite old.mark caller key op x calls calls' → IsUnderway new caller (reservations_in calls'.items)
-    → AddsSteps caller (steps_started caller key op x) old new → IsWriting said targets new caller (ends ++ end_started x ∷ []) calls'.items
-begun_writing said targets old new caller ends calls calls' key op x s was d target fresh more few is why starts under adds =
-    let keys = keys_of targets in
-    let t : Turn = record { key = key; ended = end_started x } in
+pub begun_writing : (said : Bytes → WriteAnswer) (targets : List (Bytes × Op)) (old new : CacheState) (caller : Caller) (progress : List Progress) (calls calls' : WriteCallsState) (place : ℕ) (key : Bytes) (op : Op) (x : Progress) (s : State)
+    → IsWriting said targets old caller progress calls.items → IsDistinct (pointwise ◌==◌) (keys_of targets) → slice_get targets place ≡ Some (key, op) → StillWaits progress place → list_all is_closed (drop place progress) ≡ true
+    → said key ≡ NotAsked → IsStripeOf old key s → StartsFor s caller (reservations_in calls.items) key op x → StartsWrite old.mark caller key op x calls calls' → IsUnderway new caller (reservations_in calls'.items)
+    → AddsSteps caller (steps_started caller key op x) old new → IsWriting said targets new caller (set progress place x) calls'.items
+begun_writing said targets old new caller progress calls calls' place key op x s was d there waits behind unasked is why starts under adds =
     let turns = was.turns in
-    let none : is_among (turn_keys turns) key ≡ false = ap (λ ks. is_among ks key) was.keys_are ∙ fresh in
     let events = steps_started caller key op x in
-    let pushed : turn_keys (turns ++ t ∷ []) ≡ turn_keys turns ++ key ∷ [] = map-append (λ (u : Turn). u.key) turns (t ∷ []) in
+    let target : IsTarget targets key op = (place, there) in
+    let key_is : slice_get (keys_of targets) place ≡ Some key = key_at targets place key op there in
+    let at : slice_get (turn_keys turns) place ≡ Some key = ap (λ ks. slice_get ks place) was.keys_are ∙ key_is in
+    let waiting : slice_get (turn_progress turns) place ≡ Some Waiting = ap (λ ps. slice_get ps place) was.progress_are ∙ waits in
     record {
-      turns = turns ++ t ∷ [];
-      keys_are = pushed ∙ ap (λ ks. ks ++ key ∷ []) was.keys_are ∙ sym more ∙ ap (λ n. take n keys) (sym (one_longer ends (end_started x)));
-      ends_are = map-append (λ (u : Turn). u.ended) turns (t ∷ []) ∙ ap (λ es. es ++ end_started x ∷ []) was.ends_are;
+      turns = turn_set turns place x;
+      keys_are = keys_set turns place x ∙ was.keys_are;
+      progress_are = progress_set turns place x ∙ ap (λ ps. set ps place x) was.progress_are;
       underway = under;
-      each = all_push (λ (u : Turn). (o : Op) (state : State) → IsTarget targets u.key o → IsStripeOf new u.key state → HasEndedAt state caller (length targets) (said u.key) u.key o u.ended) turns t
-          (write_turns_kept caller targets said events old new key turns adds (op_away caller key op x) none was.each)
-          (begun_turn caller targets (said key) old new key op (reservations_in calls.items) x s d target (λ state at. was.others key state none at) (was.unasked key none) is why adds);
-      others = λ q state no at.
-          let parts = not_pushed (turn_keys turns) key q (ap (λ ks. is_among ks q) (sym pushed) ∙ no) in
-          others_kept caller events old new q adds (op_away caller key op x q parts.1) (λ st before. was.others q st parts.0 before) state at;
-      unasked = λ q no.
-          let parts = not_pushed (turn_keys turns) key q (ap (λ ks. is_among ks q) (sym pushed) ∙ no) in
-          was.unasked q parts.0;
+      each = turns_set (IsWriteTurn old caller targets said) (IsWriteTurn new caller targets said) turns place key x (subst (IsDistinct (pointwise ◌==◌)) (sym was.keys_are) d) at was.each
+          (λ t apart h. write_turn_kept caller targets (said t.key) events old new t.key t.progress adds (op_away caller key op x t.key apart) h)
+          (begun_turn caller targets (said key) old new key op (reservations_in calls.items) x s d target
+          (λ state prior. turn_there (IsWriteTurn old caller targets said) turns place key Waiting was.each at waiting op state target prior) unasked is why adds);
+      others = λ q state no now.
+          others_kept caller events old new q adds (op_away caller key op x q (apart_from targets place key q key_is no)) (λ st prior. was.others q st no prior) state now;
       calls_are = subst (λ mark. AllByRecursion (IsWriteCall mark caller targets) calls'.items) (sym adds.mark) (write_calls_after old.mark caller targets key op x calls calls' target starts was.calls_are);
-      keys_open = write_open_after old.mark s caller key op x calls calls' few why starts
-          ∙ ap (λ ks. ks ++ cons_option (key_if_open key (end_started x)) []) was.keys_open
-          ∙ sym (filter_map-append (λ (u : Turn). key_if_open u.key u.ended) turns (t ∷ []));
+      keys_open = write_open_after old.mark caller key op x calls calls' starts
+          ∙ ap (λ ks. ks ++ cons_option (key_if_open key x) []) was.keys_open
+          ∙ sym (open_begun turns place key x at waiting (ap (λ ps. list_all is_closed (drop place ps)) was.progress_are ∙ behind));
     }
 
--- 4. A key that is refused since a later round has no memory.
+-- 4. Keys that are refused since a later round has no memory.
 
-pub refused_writing : (said : Bytes → WriteAnswer) (targets : List (Bytes × Op)) (cache : CacheState) (caller : Caller) (ends : List (Option (Result Reply Refusal))) (calls : List ReservedState) (key : Bytes)
-    → IsWriting said targets cache caller ends calls → is_among (take (length ends) (keys_of targets)) key ≡ false → take (length ends + 1) (keys_of targets) ≡ take (length ends) (keys_of targets) ++ key ∷ []
-    → RESERVATIONS_MAX < length targets → IsWriting said targets cache caller (ends ++ Some (Err OutOfMemory) ∷ []) calls
-refused_writing said targets cache caller ends calls key was fresh more many =
-    let keys = keys_of targets in
-    let end : Option (Result Reply Refusal) = Some (Err OutOfMemory) in
-    let t : Turn = record { key = key; ended = end } in
+refused_write_turns : (cache : CacheState) (caller : Caller) (targets : List (Bytes × Op)) (said : Bytes → WriteAnswer) (turns : List Turn) → ((key : Bytes) (state : State) → IsStripeOf cache key state → IsCrowded state.config (keys_of targets))
+    → ((place : ℕ) (key : Bytes) → slice_get (turn_keys turns) place ≡ Some key → slice_get (turn_progress turns) place ≡ Some Waiting → said key ≡ NotAsked)
+    → AreWriteTurns cache caller targets said turns → AreWriteTurns cache caller targets said (map refused_turn turns)
+refused_write_turns cache caller targets said [] many unasked all = tt
+refused_write_turns cache caller targets said (t ∷ turns) many unasked all =
+    (λ op state target is. by op state (many t.key state is) t.progress (unasked 0 t.key refl) (all.0 op state target is), refused_write_turns cache caller targets said turns many (λ place key. unasked (suc place) key) all.1)
+  where
+    by : (op : Op) (state : State) → IsCrowded state.config (keys_of targets) → (p : Progress) → (Some p ≡ Some Waiting → said t.key ≡ NotAsked) → HasEndedAt state caller (keys_of targets) (said t.key) t.key op p
+        → HasEndedAt state caller (keys_of targets) (said t.key) t.key op (refused_if_waiting p)
+    by op state crowd Waiting none turn = (turn, ap write_only (none refl), inr (refl, crowd))
+    by op state crowd Reserved none turn = turn
+    by op state crowd (Ended e) none turn = turn
+
+pub refused_writing : (said : Bytes → WriteAnswer) (targets : List (Bytes × Op)) (cache : CacheState) (caller : Caller) (progress : List Progress) (calls : List ReservedState)
+    → IsWriting said targets cache caller progress calls → IsCrowded cache.config (keys_of targets) → ((place : ℕ) (key : Bytes) → slice_get (keys_of targets) place ≡ Some key → StillWaits progress place → said key ≡ NotAsked)
+    → IsWriting said targets cache caller (map refused_if_waiting progress) calls
+refused_writing said targets cache caller progress calls was many unasked =
     let turns = was.turns in
-    let none : is_among (turn_keys turns) key ≡ false = ap (λ ks. is_among ks key) was.keys_are ∙ fresh in
-    let pushed : turn_keys (turns ++ t ∷ []) ≡ turn_keys turns ++ key ∷ [] = map-append (λ (u : Turn). u.key) turns (t ∷ []) in
     record {
-      turns = turns ++ t ∷ [];
-      keys_are = pushed ∙ ap (λ ks. ks ++ key ∷ []) was.keys_are ∙ sym more ∙ ap (λ n. take n keys) (sym (one_longer ends end));
-      ends_are = map-append (λ (u : Turn). u.ended) turns (t ∷ []) ∙ ap (λ es. es ++ end ∷ []) was.ends_are;
+      turns = map refused_turn turns;
+      keys_are = refused_keys turns ∙ was.keys_are;
+      progress_are = refused_progress turns ∙ ap (map refused_if_waiting) was.progress_are;
       underway = was.underway;
-      each = all_push (λ (u : Turn). (o : Op) (state : State) → IsTarget targets u.key o → IsStripeOf cache u.key state → HasEndedAt state caller (length targets) (said u.key) u.key o u.ended) turns t was.each
-          (λ o state target at. (was.others key state none at, ap write_only (was.unasked key none), inr (refl, many)));
-      others = λ q state no at. was.others q state (not_pushed (turn_keys turns) key q (ap (λ ks. is_among ks q) (sym pushed) ∙ no)).0 at;
-      unasked = λ q no. was.unasked q (not_pushed (turn_keys turns) key q (ap (λ ks. is_among ks q) (sym pushed) ∙ no)).0;
+      each = refused_write_turns cache caller targets said turns
+          (λ key state is. subst (λ (config : Config). IsCrowded config (keys_of targets)) (sym (config_there cache caller (reservations_in calls) key state was.underway is)) many)
+          (λ place key at is. unasked place key (ap (λ ks. slice_get ks place) (sym was.keys_are) ∙ at) (ap (λ ps. slice_get ps place) (sym was.progress_are) ∙ is)) was.each;
+      others = was.others;
       calls_are = was.calls_are;
-      keys_open = was.keys_open ∙ sym (filter_map-append (λ (u : Turn). key_if_open u.key u.ended) turns (t ∷ []) ∙ no_more (open_keys turns));
+      keys_open = was.keys_open ∙ sym (refused_open turns);
     }
 
 -- 5. A key that is committed.
 
 turn_written : (caller : Caller) (targets : List (Bytes × Op)) (said : WriteAnswer) (old new : CacheState) (key : Bytes) (op : Op) (reply : Reply) → IsDistinct (pointwise ◌==◌) (keys_of targets) → IsTarget targets key op
     → AddsSteps caller (Step caller op key (write_only said) None reply ∷ []) old new
-    → ((o : Op) (state : State) → IsTarget targets key o → IsStripeOf old key state → HasEndedAt state caller (length targets) said key o None)
-    → (o : Op) (state : State) → IsTarget targets key o → IsStripeOf new key state → HasEndedAt state caller (length targets) said key o (Some (Ok reply))
+    → ((o : Op) (state : State) → IsTarget targets key o → IsStripeOf old key state → HasEndedAt state caller (keys_of targets) said key o Reserved)
+    → (o : Op) (state : State) → IsTarget targets key o → IsStripeOf new key state → HasEndedAt state caller (keys_of targets) said key o (Ended (Ok reply))
 turn_written caller targets said old new key op reply d target adds was o state other is =
     let b = adds.stripes key state is in
-    subst (λ p. HasEndedAt state caller (length targets) said key p (Some (Ok reply))) (one_op targets key op o d target other)
+    subst (λ p. HasEndedAt state caller (keys_of targets) said key p (Ended (Ok reply))) (one_op targets key op o d target other)
     (b.3 ∙ ap (λ xs. xs ++ steps_of caller key (Step caller op key (write_only said) None reply ∷ [])) (was op b.0 target b.1) ∙ own_step caller key op (write_only said) reply)
 
-turns_written : (caller : Caller) (targets : List (Bytes × Op)) (said : Bytes → WriteAnswer) (old new : CacheState) (key : Bytes) (op : Op) (reply : Reply) (ks : List Bytes) (turns : List Turn) → IsDistinct (pointwise ◌==◌) (keys_of targets) → IsTarget targets key op
-    → AddsSteps caller (Step caller op key (write_only (said key)) None reply ∷ []) old new → IsDistinct (pointwise ◌==◌) (turn_keys turns) → open_keys turns ≡ key ∷ ks
-    → AreWriteTurns old caller targets said turns → AreWriteTurns new caller targets said (end_first (Ok reply) turns)
-turns_written caller targets said old new key op reply ks [] dt target adds d is all = cc
-turns_written caller targets said old new key op reply ks (t ∷ turns) dt target adds d is all =
-    by t.ended is all.0 (λ h. turns_written caller targets said old new key op reply ks turns dt target adds (IsDistinct-tail (pointwise ◌==◌) t.key (turn_keys turns) d) h all.1)
-  where
-    apart : AllByRecursion (λ y. pointwise ◌==◌ t.key y ≡ false) (turn_keys turns)
-    apart = IsDistinct-head (pointwise ◌==◌) t.key (turn_keys turns) d
-
-    by : (was : Option (Result Reply Refusal)) → cons_option (key_if_open t.key was) (open_keys turns) ≡ key ∷ ks
-        → ((o : Op) (state : State) → IsTarget targets t.key o → IsStripeOf old t.key state → HasEndedAt state caller (length targets) (said t.key) t.key o was)
-        → (open_keys turns ≡ key ∷ ks → AreWriteTurns new caller targets said (end_first (Ok reply) turns))
-        → AreWriteTurns new caller targets said (end_one t.key was (Ok reply) turns (end_first (Ok reply) turns))
-    by None h was later =
-        let same : t.key ≡ key = cc in (
-          subst (λ q. (o : Op) (state : State) → IsTarget targets q o → IsStripeOf new q state → HasEndedAt state caller (length targets) (said q) q o (Some (Ok reply))) (sym same)
-              (turn_written caller targets (said key) old new key op reply dt target adds
-              (subst (λ q. (o : Op) (state : State) → IsTarget targets q o → IsStripeOf old q state → HasEndedAt state caller (length targets) (said q) q o None) same was)),
-          write_turns_kept caller targets said (Step caller op key (write_only (said key)) None reply ∷ []) old new key turns adds (no_step caller key op (write_only (said key)) reply)
-              (ap (is_among (turn_keys turns)) (sym same) ∙ apart_all t.key (turn_keys turns) apart) all.1,
-        )
-    by (Some x) h was later = (
-      write_turn_kept caller targets (said t.key) (Step caller op key (write_only (said key)) None reply ∷ []) old new t.key (Some x) adds
-          (no_step caller key op (write_only (said key)) reply t.key (first_so (λ y. pointwise ◌==◌ t.key y ≡ false) turns key ks h apart)) was,
-      later h,
-    )
-
-pub committed_writing : (said : Bytes → WriteAnswer) (targets : List (Bytes × Op)) (old new : CacheState) (caller : Caller) (ends : List (Option (Result Reply Refusal))) (c : ReservedState) (rest : List ReservedState) (place : ℕ) (reply : Reply)
-    → IsDistinct (pointwise ◌==◌) (keys_of targets) → IsWriting said targets old caller ends (c ∷ rest) → list_all is_some (take place ends) ≡ true → slice_get ends place ≡ Some None
+pub committed_writing : (said : Bytes → WriteAnswer) (targets : List (Bytes × Op)) (old new : CacheState) (caller : Caller) (progress : List Progress) (c : ReservedState) (rest : List ReservedState) (place : ℕ) (reply : Reply)
+    → IsDistinct (pointwise ◌==◌) (keys_of targets) → IsWriting said targets old caller progress (c ∷ rest) → list_all is_closed (take place progress) ≡ true → slice_get progress place ≡ Some Reserved
     → AddsSteps caller (Step caller c.reservation.op c.reservation.key (write_only (said c.reservation.key)) None reply ∷ []) old new → IsUnderway new caller (reservations_in rest)
-    → IsWriting said targets new caller (set ends place (Some (Ok reply))) rest
-committed_writing said targets old new caller ends c rest place reply d was before at adds under =
+    → IsWriting said targets new caller (set progress place (Ended (Ok reply))) rest
+committed_writing said targets old new caller progress c rest place reply d was before at adds under =
     let turns = was.turns in
     let key = c.reservation.key in
     let op = c.reservation.op in
     let events = Step caller op key (write_only (said key)) None reply ∷ [] in
-    let same : turn_keys (end_first (Ok reply) turns) ≡ turn_keys turns = same_keys (Ok reply) turns in
+    let e : Progress = Ended (Ok reply) in
+    let closed : list_all is_closed (take place (turn_progress turns)) ≡ true = ap (λ ps. list_all is_closed (take place ps)) was.progress_are ∙ before in
+    let reserved : slice_get (turn_progress turns) place ≡ Some Reserved = ap (λ ps. slice_get ps place) was.progress_are ∙ at in
     let first : open_keys turns ≡ key ∷ reserved_keys rest = sym was.keys_open in
-    let e : Option (Result Reply Refusal) = Some (Ok reply) in
+    let there : slice_get (turn_keys turns) place ≡ Some key = first_open turns place key (reserved_keys rest) closed reserved first in
+    let key_is : slice_get (keys_of targets) place ≡ Some key = sym (ap (λ ks. slice_get ks place) was.keys_are) ∙ there in
     record {
-      turns = end_first (Ok reply) turns;
-      keys_are = same ∙ was.keys_are ∙ ap (λ n. take n (keys_of targets)) (sym (length-set ends place e));
-      ends_are = ends_set (Ok reply) turns place (ap (λ es. list_all is_some (take place es)) was.ends_are ∙ before) (ap (λ es. slice_get es place) was.ends_are ∙ at)
-          ∙ ap (λ es. set es place e) was.ends_are;
+      turns = turn_set turns place e;
+      keys_are = keys_set turns place e ∙ was.keys_are;
+      progress_are = progress_set turns place e ∙ ap (λ ps. set ps place e) was.progress_are;
       underway = under;
-      each = turns_written caller targets said old new key op reply (reserved_keys rest) turns d was.calls_are.0.target adds
-          (subst (IsDistinct (pointwise ◌==◌)) (sym was.keys_are) (distinct_take (length ends) (keys_of targets) d)) first was.each;
+      each = turns_set (IsWriteTurn old caller targets said) (IsWriteTurn new caller targets said) turns place key e (subst (IsDistinct (pointwise ◌==◌)) (sym was.keys_are) d) there was.each
+          (λ t apart h. write_turn_kept caller targets (said t.key) events old new t.key t.progress adds (no_step caller key op (write_only (said key)) reply t.key apart) h)
+          (turn_written caller targets (said key) old new key op reply d was.calls_are.0.target adds (turn_there (IsWriteTurn old caller targets said) turns place key Reserved was.each there reserved));
       others = λ q state no now.
-          let none : is_among (turn_keys turns) q ≡ false = ap (λ ks. is_among ks q) (sym same) ∙ no in
-          let apart = first_so (λ y. pointwise ◌==◌ q y ≡ false) turns key (reserved_keys rest) first (all_apart q (turn_keys turns) none) in
-          others_kept caller events old new q adds (no_step caller key op (write_only (said key)) reply q apart) (λ st prior. was.others q st none prior) state now;
-      unasked = λ q no. was.unasked q (ap (λ ks. is_among ks q) (sym same) ∙ no);
+          others_kept caller events old new q adds (no_step caller key op (write_only (said key)) reply q (apart_from targets place key q key_is no)) (λ st prior. was.others q st no prior) state now;
       calls_are = subst (λ mark. AllByRecursion (IsWriteCall mark caller targets) rest) (sym adds.mark) was.calls_are.1;
-      keys_open = sym (open_rest (Ok reply) turns key (reserved_keys rest) first);
+      keys_open = sym (open_ended turns place (Ok reply) key (reserved_keys rest) closed reserved first);
     }

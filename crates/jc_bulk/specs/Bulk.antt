@@ -13,7 +13,7 @@
 --     put_ops, get_ops, remove_ops, clear_ops    the keys of a call, with their operations
 --     put_changes, remove_changes                what they want of the writer, with write-through on
 --     AreLooked       the keys of a look at each stripe, once, in the order of the stripes
-use Rattle.std.specs.Prelude.{◌≡◌, ◌<◌, ◌⊎◌, ◌++◌, ℕ, List, [], ◌∷◌, length, map, false, All, Option, Some}
+use Rattle.std.specs.Prelude.{◌≡◌, ◌<◌, ◌⊎◌, ◌++◌, ℕ, List, [], ◌∷◌, map, false, All, Option, Some}
 use Rattle.std.specs.List.{IsAmong}
 use Rattle.std.specs.Map.{keys_of}
 use Rattle.jc_types.specs.declared.caller.Caller.{Caller}
@@ -61,7 +61,7 @@ pub record CarriesOut
   pub caller : Caller
   pub caller_is : caller ≡ record session.caller { call = one_more session.caller.call }
   pub ops_are : key_ops ends ≡ ops
-  pub each : (state : State) → All (λ (e : KeyEnd). IsStripeOf cache' e.key state → EndsAt state caller (length ops) said e.key e.op e.ended) ends
+  pub each : (state : State) → All (λ (e : KeyEnd). IsStripeOf cache' e.key state → EndsAt state caller (keys_of ops) said e.key e.op e.ended) ends
   pub others : (key : Bytes) (state : State) → is_among (keys_of ops) key ≡ false → IsStripeOf cache' key state → steps_of caller key state.history ≡ []
   pub grows : GrowsTo cache cache'
   pub left : session' ≡ record session { caller = caller; counts = record session.counts { own = own_after_all session.counts.own ends }; hands = session'.hands }

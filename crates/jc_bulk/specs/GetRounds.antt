@@ -1,18 +1,31 @@
 -- A `getAll` in its rounds.
---     IsGettingInRounds    the call is so far, by what the loader has said in these rounds: it was asked only for keys that have had their
---                          turn, for none of them twice, and for none of those that are reserved; no round is empty
+--     IsGettingInRounds    the call is so far, by what the loader has said in these rounds: it was asked only for keys of the call, for
+--                          none of them twice, and for none of those that are reserved or still wait; no round is empty
 --     RunsRounds           rounds have been run: the account says what more the loader was asked for and has said, and of the session only
---                          its counts and its loader have changed; and the cache, and the calls of others, are as they may be later
+--                          its counts and its loader have changed; and the cache, and the calls of others, are as they may be later. There
+--                          is at most one, unless some stripe has more of the keys than may be reserved there
 --     AreLoadedIn          the call is so far, where each call that is out has been answered: with what the loader said of its key
+--     is_closed            a key isn't reserved
+--     is_waiting           a key waits
+--     waiting              how many keys wait
+--     StillWaits           the key at this place waits
+--     IsFirstWaiting       it does, and no key before it waits
+--     all_waiting          so many keys, before the first round
+--     AreUnasked           each key that waits isn't among these
+--     IsRoomFor            room for so many calls is room for all of the keys, or for as many as may be reserved in all stripes
+--     IsHeldBack           a key can't be begun while these are out: they are as many of its stripe as may be reserved there, or as many as
+--                          there is room for
+--     StayEnded            there are as many keys later; those that are over stay so, and those that wait have waited before
+--     refused_if_waiting   a key that waits is refused, since the allocation of a later round failed; any other is as it was
 --     failure_at           the fault or the refusal that a key has ended in, if it has
---     failures             these, of all keys that have had their turn
---     StayEnded            keys that have ended stay so, also later, when more of them may have had their turn
---     RefusesRest          keys that hadn't had their turn are refused, since the allocation of a later round failed
+--     failures             these, of all keys
 --     IsCauseIn            there is a cause exactly if there are failures, and it is one of them
-use Rattle.std.specs.Prelude.{◌≡◌, ◌==◌, ◌++◌, ℕ, List, [], ◌∷◌, length, take, true, not, Option, None, Some, Result, Err}
+use Rattle.std.specs.Prelude.{◌≡◌, ◌==◌, ◌++◌, ◌≤◌, ◌<◌, ◌*◌, ◌⊎◌, ℕ, zero, suc, List, [], ◌∷◌, length, Bool, true, false, not, Option, None, Some, Result, Err, slice_get}
 use Rattle.std.specs.List.{filter_map, list_all, AllByRecursion, IsAmong, IsDistinct}
 use Rattle.std.specs.Cmp.Lexicographic.{pointwise}
 use Rattle.jc_types.specs.declared.caller.Caller.{Caller}
+use Rattle.jc_types.specs.declared.config.Config.{Config}
+use Rattle.jc_types.specs.declared.limits.TheConstants.{RESERVATIONS_MAX}
 use Rattle.jc_types.specs.declared.refusal.Refusal.{Refusal}
 use Rattle.jc_types.specs.declared.refusal.Refusal.TheVariants.{OutOfMemory}
 use Rattle.jc_model.specs.declared.event.LoadAnswer.{LoadAnswer}
@@ -26,61 +39,101 @@ use Rattle.jc_session.specs.declared.session.Session.{Session}
 use Rattle.jc_cache.specs.Caches.{CacheState}
 use Rattle.jc_cache.specs.Outstanding.{ReservedState, AnsweredState}
 use Rattle.jc_cache.specs.OutstandingAll.{reserved_keys, with_answers}
+use Rattle.jc_bulk.specs.declared.round.Progress.{Progress}
+use Rattle.jc_bulk.specs.declared.round.Progress.TheVariants.{Waiting, Reserved, Ended}
 use Rattle.jc_bulk.specs.Ends.{refusal_in}
 use Rattle.jc_bulk.specs.Gets.{IsGetting, AreCounted, ComesAfterAll}
 use Rattle.jc_bulk.specs.Phased.{LeavesCalls}
-use Rattle.jc_bulk.specs.Rounds.{LoadRound, LoadsInRounds, keys_in, said_in_loads}
+use Rattle.jc_bulk.specs.Rounds.{LoadRound, LoadsInRounds, IsStripeFull, AreFewEach, keys_in, said_in_loads}
 
--- 1. The rounds.
+-- 1. How far keys are.
+
+abbrev pub is_closed : Progress → Bool
+is_closed Waiting = true
+is_closed Reserved = false
+is_closed (Ended ended) = true
+
+abbrev pub is_waiting : Progress → Bool
+is_waiting Waiting = true
+is_waiting Reserved = false
+is_waiting (Ended ended) = false
+
+abbrev pub waiting : List Progress → ℕ
+waiting [] = 0
+waiting (Waiting ∷ progress) = suc (waiting progress)
+waiting (Reserved ∷ progress) = waiting progress
+waiting (Ended ended ∷ progress) = waiting progress
+
+abbrev pub StillWaits : List Progress → ℕ → Type 0
+StillWaits progress place = slice_get progress place ≡ Some Waiting
+
+abbrev pub IsFirstWaiting : List Progress → ℕ → Type 0
+IsFirstWaiting progress place = StillWaits progress place × ((earlier : ℕ) → earlier < place → StillWaits progress earlier → ⊥)
+
+abbrev pub all_waiting : ℕ → List Progress
+all_waiting zero = []
+all_waiting (suc n) = Waiting ∷ all_waiting n
+
+abbrev pub AreUnasked : List Bytes → List Progress → List Bytes → Type 0
+AreUnasked keys progress asked = (place : ℕ) (key : Bytes) → slice_get keys place ≡ Some key → StillWaits progress place → is_among asked key ≡ false
+
+abbrev pub IsRoomFor : ℕ → ℕ → ℕ → Type 0
+IsRoomFor stripes most keys = (keys ≤ most) ⊎ ((0 < stripes) × (RESERVATIONS_MAX * stripes ≤ most))
+
+abbrev pub IsHeldBack : Config → ℕ → List Bytes → Bytes → Type 0
+IsHeldBack config most out key = IsStripeFull config out key ⊎ (most ≤ length out)
+
+pub record StayEnded (progress later : List Progress) : Type 0 where
+  pub many : length later ≡ length progress
+  pub ended : (place : ℕ) (e : Result Reply Refusal) → slice_get progress place ≡ Some (Ended e) → slice_get later place ≡ Some (Ended e)
+  pub waited : (place : ℕ) → StillWaits later place → StillWaits progress place
+
+abbrev pub refused_if_waiting : Progress → Progress
+refused_if_waiting Waiting = Ended (Err OutOfMemory)
+refused_if_waiting Reserved = Reserved
+refused_if_waiting (Ended ended) = Ended ended
+
+-- 2. The rounds.
 
 -- `calls` are those that are out
-pub record IsGettingInRounds (rounds : List LoadRound) (keys : List Bytes) (cache : CacheState) (caller : Caller) (ends : List (Option (Result Reply Refusal))) (calls : List ReservedState) : Type 0 where
-  pub gets : IsGetting (said_in_loads rounds) keys cache caller ends calls
-  pub asked : list_all (is_among (take (length ends) keys)) (keys_in rounds) ≡ true
+pub record IsGettingInRounds (rounds : List LoadRound) (keys : List Bytes) (cache : CacheState) (caller : Caller) (progress : List Progress) (calls : List ReservedState) : Type 0 where
+  pub gets : IsGetting (said_in_loads rounds) keys cache caller progress calls
+  pub asked : list_all (is_among keys) (keys_in rounds) ≡ true
   pub once : IsDistinct (pointwise ◌==◌) (keys_in rounds)
   pub called : AllByRecursion (λ (r : LoadRound). r.keys ≡ [] → ⊥) rounds
   pub fresh : list_all (λ key. not (is_among (keys_in rounds) key)) (reserved_keys calls) ≡ true
+  pub unasked : AreUnasked keys progress (keys_in rounds)
 
-pub record AreLoadedIn (said : Bytes → LoadAnswer) (keys : List Bytes) (cache : CacheState) (caller : Caller) (ends : List (Option (Result Reply Refusal))) (calls : List (AnsweredState LoadAnswer)) (out : List ReservedState) : Type 0 where
+pub record AreLoadedIn (said : Bytes → LoadAnswer) (keys : List Bytes) (cache : CacheState) (caller : Caller) (progress : List Progress) (calls : List (AnsweredState LoadAnswer)) (out : List ReservedState) : Type 0 where
   pub distinct : IsDistinct (pointwise ◌==◌) keys
   pub answers : calls ≡ with_answers said out
-  pub gets : IsGetting said keys cache caller ends out
-
--- 2. Keys that have ended.
-
-abbrev pub StayEnded : List (Option (Result Reply Refusal)) → List (Option (Result Reply Refusal)) → Type 0
-StayEnded [] later = Unit {0}
-StayEnded (end ∷ ends) [] = ⊥
-StayEnded (None ∷ ends) (end ∷ later) = StayEnded ends later
-StayEnded (Some ended ∷ ends) (end ∷ later) = (end ≡ Some ended) × StayEnded ends later
-
-abbrev pub RefusesRest : List (Option (Result Reply Refusal)) → List (Option (Result Reply Refusal)) → Type 0
-RefusesRest ends ends' = (rest : List (Option (Result Reply Refusal))) × (ends' ≡ ends ++ rest) × AllByRecursion (λ (end : Option (Result Reply Refusal)). end ≡ Some (Err OutOfMemory)) rest
+  pub gets : IsGetting said keys cache caller progress out
 
 -- no call is out before the rounds, and after them
 pub record RunsRounds
     {I J : Type 0} {D : I → Type 0} {E : J → Type 0}
     (loads_all : LoadAllRelation ((i : I) × D i)) (load_state : (i : I) × D i → List ℕ)
-    (keys : List Bytes) (cache : CacheState) (session : Session I J D E) (ends : List (Option (Result Reply Refusal)))
-    (cache' : CacheState) (session' : Session I J D E) (ends' : List (Option (Result Reply Refusal))) : Type 0 where
+    (keys : List Bytes) (cache : CacheState) (session : Session I J D E) (progress : List Progress)
+    (cache' : CacheState) (session' : Session I J D E) (progress' : List Progress) : Type 0 where
   pub left : session' ≡ record session { counts = session'.counts; hands = session'.hands }
   pub writer : session'.hands.outside.writer ≡ session.hands.outside.writer
-  pub counts : (first : Counts) → AreCounted first ends 0 session.counts → AreCounted first ends' 0 session'.counts
-  pub gets : (rounds : List LoadRound) → IsGettingInRounds rounds keys cache session.caller ends []
+  pub counts : (first : Counts) → AreCounted first progress 0 session.counts → AreCounted first progress' 0 session'.counts
+  pub gets : (rounds : List LoadRound) → IsGettingInRounds rounds keys cache session.caller progress []
       → (more : List LoadRound) × LoadsInRounds (boxed loads_all) (boxed load_state) session.hands.outside.loader more session'.hands.outside.loader
-      × IsGettingInRounds (rounds ++ more) keys cache' session.caller ends' []
-  pub stay : StayEnded ends ends'
+      × (AreFewEach cache.config keys → length more ≤ 1) × IsGettingInRounds (rounds ++ more) keys cache' session.caller progress' []
+  pub stay : StayEnded progress progress'
   pub grows : ComesAfterAll cache cache'
   pub others : LeavesCalls session.caller.session cache cache'
 
 -- 3. What failed.
 
-abbrev pub failure_at : Option (Result Reply Refusal) → Option Refusal
-failure_at None = None
-failure_at (Some ended) = refusal_in ended
+abbrev pub failure_at : Progress → Option Refusal
+failure_at Waiting = None
+failure_at Reserved = None
+failure_at (Ended ended) = refusal_in ended
 
-abbrev pub failures : List (Option (Result Reply Refusal)) → List Refusal
-failures ends = filter_map failure_at ends
+abbrev pub failures : List Progress → List Refusal
+failures progress = filter_map failure_at progress
 
 abbrev pub IsCauseIn : Option Refusal → List Refusal → Type 0
 IsCauseIn None refusals = refusals ≡ []

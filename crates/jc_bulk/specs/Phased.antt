@@ -14,14 +14,14 @@ use Rattle.jc_session.specs.Counting.{one_more}
 use Rattle.jc_session.specs.declared.counts.Counts.{Counts}
 use Rattle.jc_cache.specs.Caches.{CacheState, HasNoCallsFrom, IsStripeOf}
 use Rattle.jc_bulk.specs.Recorded.{steps_of}
-use Rattle.jc_bulk.specs.declared.round.Start.{Start}
-use Rattle.jc_bulk.specs.declared.round.Start.TheVariants.{Ended, Reserved, PutOff}
+use Rattle.jc_bulk.specs.declared.round.Progress.{Progress}
+use Rattle.jc_bulk.specs.declared.round.Progress.TheVariants.{Waiting, Reserved, Ended}
 
-abbrev pub counts_started : Counts → Start → Counts
+abbrev pub counts_started : Counts → Progress → Counts
 counts_started counts (Ended (Ok reply)) = record counts { own = one_more counts.own }
 counts_started counts (Ended (Err refusal)) = counts
 counts_started counts Reserved = record counts { reservations = one_more counts.reservations }
-counts_started counts PutOff = counts
+counts_started counts Waiting = counts
 
 abbrev pub LeavesCalls : ℕ → CacheState → CacheState → Type 0
 LeavesCalls session old new = (other call : ℕ) → (other == session) ≡ false → HasNoCallsFrom old other call → HasNoCallsFrom new other call

@@ -11,11 +11,18 @@
 --     keys_in           all keys that the loader was asked for
 --     said_in_loads     what the loader said of a key: in the first round that asked for it, or nothing
 --     AreOnce           no key stands twice
-use Rattle.std.specs.Prelude.{◌≡◌, ◌==◌, ℕ, List, [], ◌∷◌, map, false, Option, None, Some, Result, Ok, Err, AllPairs, if◌then◌else◌}
+--     in_stripe         those of these keys that are of the stripe with this number
+--     IsStripeFull      as many of these keys are of this key's stripe as may be reserved there
+--     AreFewEach        each stripe has at most as many of these keys as may be reserved there
+--     IsCrowded         some stripe has more
+use Rattle.std.specs.Prelude.{◌≡◌, ◌==◌, ◌≤◌, ℕ, List, [], ◌∷◌, filter, length, map, false, Option, None, Some, Result, Ok, Err, AllPairs, if◌then◌else◌}
 use Rattle.std.specs.Cmp.Lexicographic.{pointwise}
 use Rattle.std.specs.List.{filter_map, flat_map}
+use Rattle.jc_types.specs.declared.config.Config.{Config}
+use Rattle.jc_types.specs.declared.limits.TheConstants.{RESERVATIONS_MAX}
 use Rattle.jc_types.specs.declared.refusal.Refusal.{Refusal}
 use Rattle.jc_types.specs.declared.refusal.Refusal.TheVariants.{WriterFailed}
+use Rattle.jc_types.specs.Stripes.{stripe_of}
 use Rattle.jc_model.specs.declared.event.Change.{Change}
 use Rattle.jc_model.specs.declared.event.LoadAnswer.{LoadAnswer}
 use Rattle.jc_model.specs.declared.event.LoadAnswer.TheVariants as load
@@ -77,3 +84,15 @@ said_in_loads (r ∷ rs) key = if is_among r.keys key then r.said key else said_
 
 abbrev pub AreOnce : List Bytes → Type 0
 AreOnce keys = AllPairs (λ key later. pointwise ◌==◌ key later ≡ false) keys
+
+abbrev pub in_stripe : Config → ℕ → List Bytes → List Bytes
+in_stripe config i keys = filter (λ (key : Bytes). stripe_of key config.stripes == i) keys
+
+abbrev pub IsStripeFull : Config → List Bytes → Bytes → Type 0
+IsStripeFull config out key = RESERVATIONS_MAX ≤ length (in_stripe config (stripe_of key config.stripes) out)
+
+abbrev pub AreFewEach : Config → List Bytes → Type 0
+AreFewEach config keys = (i : ℕ) → length (in_stripe config i keys) ≤ RESERVATIONS_MAX
+
+abbrev pub IsCrowded : Config → List Bytes → Type 0
+IsCrowded config keys = AreFewEach config keys → ⊥

@@ -28,20 +28,20 @@ use Rattle.jc_stripe.specs.Tickets.{change_asked}
 use Rattle.jc_session.specs.declared.mark.Mark.{Mark}
 use Rattle.jc_cache.specs.Outstanding.{ReservedState}
 use Rattle.jc_cache.specs.OutstandingAll.{WriteCallsState, with_write_call}
-use Rattle.jc_bulk.specs.declared.round.Start.{Start}
-use Rattle.jc_bulk.specs.declared.round.Start.TheVariants.{Ended, Reserved, PutOff}
+use Rattle.jc_bulk.specs.declared.round.Progress.{Progress}
+use Rattle.jc_bulk.specs.declared.round.Progress.TheVariants.{Waiting, Reserved, Ended}
 
-abbrev pub steps_started : Caller → Bytes → Op → Start → List Event
+abbrev pub steps_started : Caller → Bytes → Op → Progress → List Event
 steps_started caller key op (Ended (Ok reply)) = Step caller op key nothing_said None reply ∷ []
 steps_started caller key op (Ended (Err refusal)) = []
 steps_started caller key op Reserved = []
-steps_started caller key op PutOff = []
+steps_started caller key op Waiting = []
 
-abbrev pub HasReason : State → Caller → Bytes → Op → Start → Type 0
+abbrev pub HasReason : State → Caller → Bytes → Op → Progress → Type 0
 HasReason state caller key op (Ended (Ok reply)) = first_refusal state caller key op ≡ None
 HasReason state caller key op (Ended (Err refusal)) = (first_refusal state caller key op ≡ Some refusal) × (is_put_off refusal ≡ false)
 HasReason state caller key op Reserved = first_refusal state caller key op ≡ None
-HasReason state caller key op PutOff = (refusal : Refusal) × (first_refusal state caller key op ≡ Some refusal) × (is_put_off refusal ≡ true)
+HasReason state caller key op Waiting = (refusal : Refusal) × (first_refusal state caller key op ≡ Some refusal) × (is_put_off refusal ≡ true)
 
 abbrev pub reservations_in : List ReservedState → List Reservation
 reservations_in calls = map (λ (c : ReservedState). c.reservation) calls
@@ -60,7 +60,7 @@ change_wanted op = write_ask op None process.NotAsked
 abbrev pub AsksFor : Mark → Caller → Bytes → Op → ReservedState → Type 0
 AsksFor mark caller key op call = IsCallOf caller key op call × (call.cache ≡ mark) × (change_asked call.reservation.first ≡ change_wanted op)
 
-abbrev pub StartsWrite : Mark → Caller → Bytes → Op → Start → WriteCallsState → WriteCallsState → Type 0
+abbrev pub StartsWrite : Mark → Caller → Bytes → Op → Progress → WriteCallsState → WriteCallsState → Type 0
 StartsWrite mark caller key op (Ended ended) old new = new ≡ old
 StartsWrite mark caller key op Reserved old new = (call : ReservedState) × AsksFor mark caller key op call × (new ≡ with_write_call old call)
-StartsWrite mark caller key op PutOff old new = new ≡ old
+StartsWrite mark caller key op Waiting old new = new ≡ old

@@ -1,23 +1,21 @@
 -- A `putAll` or a `removeAll` between its phases, key by key.
 --     IsTarget        a key is one of the call's, with this operation
 --     AllWriteAs      the keys of the call are all to be written, or all to be deleted
---     HasEndedAt      a key has ended so at its stripe, by what the writer has said of it; or it has no step of the call, while it is reserved
---     AreWriteTurns   that is so of each key whose turn has come
+--     HasEndedAt      a key has ended so at its stripe, by what the writer has said of it; or it has no step of the call, while it waits or is
+--                     reserved
+--     AreWriteTurns   that is so of each of these turns
 --     IsWriteCall     a call that has reserved its key is of this cache and this caller, has the operation of its key, and asks for its change
---     IsWriting       the first of the keys have had their turn, and ended so; the call is under way, with those out that are reserved;
---                     each turn is so in the cache, and no other key has a step of the call, or was asked for
+--     IsWriting       the keys are so far; the call is under way, with those out that are reserved, in the order of the keys; each
+--                     turn is so in the cache, and no other key has a step of the call
 --     IsWrittenIn     the same, where the writer has said what becomes of the first call that is out, and these are the rest
 --     AreWrittenIn    the same, where it has said so of each call that is out
-use Rattle.std.specs.Prelude.{◌≡◌, ◌==◌, ℕ, List, [], ◌∷◌, length, take, Bool, false, Option, None, Some, Result, slice_get}
+use Rattle.std.specs.Prelude.{◌≡◌, ◌==◌, ℕ, List, [], ◌∷◌, Bool, false, Some, slice_get}
 use Rattle.std.specs.List.{AllByRecursion, IsDistinct}
 use Rattle.std.specs.Map.{keys_of}
 use Rattle.std.specs.Cmp.Lexicographic.{pointwise}
 use Rattle.jc_types.specs.declared.caller.Caller.{Caller}
-use Rattle.jc_types.specs.declared.refusal.Refusal.{Refusal}
 use Rattle.jc_model.specs.declared.event.Op.{Op}
-use Rattle.jc_model.specs.declared.event.Reply.{Reply}
 use Rattle.jc_model.specs.declared.event.WriteAnswer.{WriteAnswer}
-use Rattle.jc_model.specs.declared.event.WriteAnswer.TheVariants.{NotAsked}
 use Rattle.jc_model.specs.Batches.{is_among}
 use Rattle.jc_model.specs.Cache.{Bytes}
 use Rattle.jc_model.specs.Group.{write_only}
@@ -27,8 +25,10 @@ use Rattle.jc_session.specs.declared.mark.Mark.{Mark}
 use Rattle.jc_cache.specs.Caches.{CacheState, IsStripeOf}
 use Rattle.jc_cache.specs.Outstanding.{ReservedState, AnsweredState}
 use Rattle.jc_cache.specs.OutstandingAll.{reserved_keys, with_answers}
+use Rattle.jc_bulk.specs.declared.round.Progress.{Progress}
+use Rattle.jc_bulk.specs.declared.round.Progress.TheVariants.{Waiting, Reserved, Ended}
 use Rattle.jc_bulk.specs.Ends.{EndsAt}
-use Rattle.jc_bulk.specs.Gets.{Turn, turn_keys, turn_ends, open_keys}
+use Rattle.jc_bulk.specs.Gets.{Turn, turn_keys, turn_progress, open_keys}
 use Rattle.jc_bulk.specs.Recorded.{steps_of}
 use Rattle.jc_bulk.specs.Starting.{reservations_in, change_wanted, WritesAs}
 use Rattle.jc_bulk.specs.Underway.{IsUnderway}
@@ -41,10 +41,11 @@ IsTarget targets key op = (place : ℕ) × (slice_get targets place ≡ Some (ke
 abbrev pub AllWriteAs : Bool → List (Bytes × Op) → Type 0
 AllWriteAs deletes targets = (place : ℕ) (o : Bytes × Op) → slice_get targets place ≡ Some o → WritesAs deletes o.1
 
--- `keys` is how many keys the call has
-abbrev pub HasEndedAt : State → Caller → ℕ → WriteAnswer → Bytes → Op → Option (Result Reply Refusal) → Type 0
-HasEndedAt state caller keys said key op None = steps_of caller key state.history ≡ []
-HasEndedAt state caller keys said key op (Some ended) = EndsAt state caller keys (λ k. write_only said) key op ended
+-- `keys` are those of the call
+abbrev pub HasEndedAt : State → Caller → List Bytes → WriteAnswer → Bytes → Op → Progress → Type 0
+HasEndedAt state caller keys said key op Waiting = steps_of caller key state.history ≡ []
+HasEndedAt state caller keys said key op Reserved = steps_of caller key state.history ≡ []
+HasEndedAt state caller keys said key op (Ended ended) = EndsAt state caller keys (λ k. write_only said) key op ended
 
 pub record IsWriteCall (mark : Mark) (caller : Caller) (targets : List (Bytes × Op)) (call : ReservedState) : Type 0 where
   pub target : IsTarget targets call.reservation.key call.reservation.op
@@ -56,26 +57,25 @@ pub record IsWriteCall (mark : Mark) (caller : Caller) (targets : List (Bytes ×
 
 abbrev pub AreWriteTurns : CacheState → Caller → List (Bytes × Op) → (Bytes → WriteAnswer) → List Turn → Type 0
 AreWriteTurns cache caller targets said turns =
-    AllByRecursion (λ (t : Turn). (op : Op) (state : State) → IsTarget targets t.key op → IsStripeOf cache t.key state → HasEndedAt state caller (length targets) (said t.key) t.key op t.ended) turns
+    AllByRecursion (λ (t : Turn). (op : Op) (state : State) → IsTarget targets t.key op → IsStripeOf cache t.key state → HasEndedAt state caller (keys_of targets) (said t.key) t.key op t.progress) turns
 
 -- `said` is what the writer has said of each key
-pub record IsWriting (said : Bytes → WriteAnswer) (targets : List (Bytes × Op)) (cache : CacheState) (caller : Caller) (ends : List (Option (Result Reply Refusal))) (calls : List ReservedState) : Type 0 where
+pub record IsWriting (said : Bytes → WriteAnswer) (targets : List (Bytes × Op)) (cache : CacheState) (caller : Caller) (progress : List Progress) (calls : List ReservedState) : Type 0 where
   pub turns : List Turn
-  pub keys_are : turn_keys turns ≡ take (length ends) (keys_of targets)
-  pub ends_are : turn_ends turns ≡ ends
+  pub keys_are : turn_keys turns ≡ keys_of targets
+  pub progress_are : turn_progress turns ≡ progress
   pub underway : IsUnderway cache caller (reservations_in calls)
   pub each : AreWriteTurns cache caller targets said turns
-  pub others : (key : Bytes) (state : State) → is_among (turn_keys turns) key ≡ false → IsStripeOf cache key state → steps_of caller key state.history ≡ []
-  pub unasked : (key : Bytes) → is_among (turn_keys turns) key ≡ false → said key ≡ NotAsked
+  pub others : (key : Bytes) (state : State) → is_among (keys_of targets) key ≡ false → IsStripeOf cache key state → steps_of caller key state.history ≡ []
   pub calls_are : AllByRecursion (IsWriteCall cache.mark caller targets) calls
   pub keys_open : reserved_keys calls ≡ open_keys turns
 
-pub record IsWrittenIn (said : Bytes → WriteAnswer) (targets : List (Bytes × Op)) (cache : CacheState) (caller : Caller) (ends : List (Option (Result Reply Refusal))) (call : AnsweredState WriteAnswer) (rest : List ReservedState) : Type 0 where
+pub record IsWrittenIn (said : Bytes → WriteAnswer) (targets : List (Bytes × Op)) (cache : CacheState) (caller : Caller) (progress : List Progress) (call : AnsweredState WriteAnswer) (rest : List ReservedState) : Type 0 where
   pub distinct : IsDistinct (pointwise ◌==◌) (keys_of targets)
   pub answer : call.answer ≡ said call.reservation.key
-  pub writes : IsWriting said targets cache caller ends (record { cache = call.cache; reservation = call.reservation } ∷ rest)
+  pub writes : IsWriting said targets cache caller progress (record { cache = call.cache; reservation = call.reservation } ∷ rest)
 
-pub record AreWrittenIn (said : Bytes → WriteAnswer) (targets : List (Bytes × Op)) (cache : CacheState) (caller : Caller) (ends : List (Option (Result Reply Refusal))) (calls : List (AnsweredState WriteAnswer)) (out : List ReservedState) : Type 0 where
+pub record AreWrittenIn (said : Bytes → WriteAnswer) (targets : List (Bytes × Op)) (cache : CacheState) (caller : Caller) (progress : List Progress) (calls : List (AnsweredState WriteAnswer)) (out : List ReservedState) : Type 0 where
   pub distinct : IsDistinct (pointwise ◌==◌) (keys_of targets)
   pub answers : calls ≡ with_answers said out
-  pub writes : IsWriting said targets cache caller ends out
+  pub writes : IsWriting said targets cache caller progress out

@@ -1,37 +1,38 @@
 //! `getAll`: the values of many keys.
-ghost use Rattle.std.specs.Prelude.{◌≡◌, ◌==◌, ◌≤◌, ◌<◌, ◌+◌, ◌⊎◌, ◌++◌, List, [], length, false, IfOk, IfErr, vec_capacity};
+ghost use Rattle.std.specs.Prelude.{◌≡◌, ◌==◌, ◌≤◌, ◌<◌, ◌+◌, ◌⊎◌, ◌++◌, List, [], length, false, IfOk, IfErr};
 ghost use Rattle.std.specs.List.{IsDistinct, list_any};
 ghost use Rattle.std.specs.Map.{keys_of};
 ghost use Rattle.std.specs.Cmp.Lexicographic.{pointwise};
 ghost use Rattle.indexmap.specs.IndexMap.{spare};
-ghost use Rattle.jc_types.specs.declared.limits.TheConstants.{BULK_KEYS_MAX, RESERVATIONS_MAX};
+ghost use Rattle.jc_types.specs.declared.limits.TheConstants.{BULK_KEYS_MAX};
 ghost use Rattle.jc_types.specs.declared.refusal.Refusal.TheVariants.{TooManyKeys};
 ghost use Rattle.jc_batch.specs.Batch.{empty_batch};
 ghost use Rattle.jc_cache.specs.Sessions.{MayCall, LeavesSessions};
 ghost use Rattle.jc_bulk.specs.Bulk.{HasNoCause, IsRefusedWhole};
 ghost use Rattle.jc_bulk.specs.Ends.{KeyEnd, failed_entries, found_entries};
-ghost use Rattle.jc_bulk.specs.GetRounds.{IsCauseIn, failures};
+ghost use Rattle.jc_bulk.specs.GetRounds.{IsCauseIn, IsRoomFor, all_waiting, failures};
 ghost use Rattle.jc_bulk.specs.Getting.{GetsAll, FailsToGet, NamesNoKey, get_end, get_ends};
 ghost use Rattle.jc_bulk.specs.Rounds.{LoadRound};
 
 use crate::fault::BulkFault;
 use crate::get_rounds::run_rounds;
 use crate::laws::stays_underway;
-use crate::results::{insert_failed, insert_found};
+use crate::results::{all_waiting, insert_failed, insert_found};
+use crate::round::{Progress, most_calls};
 use indexmap::{IndexMap, IndexSet};
 use jc_cache::{Cache, LoadCalls, Session};
 use jc_model::Reply;
-use jc_types::{BULK_KEYS_MAX, Key, RESERVATIONS_MAX, Refusal, Value};
+use jc_types::{BULK_KEYS_MAX, Key, Refusal, Value};
 use std::alloc::{AllocError, Global};
 use std::sync::Wait;
 
 /// Gets the values of many keys, as the session's next call (JSR 107, `javax.cache.Cache.getAll`). The map that it returns has each
 /// key that has a value, in the order of the keys.
 ///
-/// The call works in rounds. A round begins keys, in their order, until none is left or as many are reserved as may be. A key that
-/// has an entry is over at once, and so is a missing one without read-through. The loader is then called once, for all keys that
-/// are to be loaded. Each key is one step of its stripe, with the number of this one call, and no key is asked for twice. With at
-/// most [`RESERVATIONS_MAX`] keys to load there is one round.
+/// The call works in rounds. A round begins every key that isn't over, in their order. A key that has an entry is over at once, and so
+/// is a missing one without read-through. A key whose stripe has as many reservations as may be is put off to the next round. The
+/// loader is then called once, for all keys that are to be loaded. Each key is one step of its stripe, with the number of this one
+/// call, and no key is asked for twice. With at most [`RESERVATIONS_MAX`](jc_types::RESERVATIONS_MAX) of the keys in each stripe there is one round.
 ///
 /// An `Err` names each key that failed, with its fault (`LoaderFailed`) or its refusal, and has the values of all others. A key is
 /// refused with `HistoryFull` if its stripe is near full or a number is at its end, and with `OutOfMemory` if the memory of a later
@@ -63,38 +64,42 @@ pub fn get_all<R: Wait>(
     if keys.len() > BULK_KEYS_MAX {
         return Err(BulkFault::of_whole_call(alloc, Refusal::TooManyKeys));
     }
-    match GetRoom::new(alloc, keys.len()) {
+    match GetRoom::new(alloc, keys.len(), cache.config().stripes) {
         Err(_failed) => Err(BulkFault::of_whole_call(alloc, Refusal::OutOfMemory)),
         Ok(room) => get_keys(alloc, rt, cache, session, keys.as_slice(), room),
     }
 }
 
-/// What a `getAll` takes in memory before its first phase: room for how each key ended, for the results, and for the calls of the
-/// first round.
+/// What a `getAll` takes in memory before its first phase: how far each key is, and room for the results and for the calls of the first
+/// round.
 struct GetRoom {
-    ends: Vec<Option<Result<Reply, Refusal>>>,
+    progress: Vec<Progress>,
     failed: IndexMap<Key, Refusal>,
     found: IndexMap<Key, Value>,
     calls: LoadCalls,
+    most: usize,
 }
 
 impl GetRoom {
-    /// Room for as many keys.
-    fn new(alloc: Global, keys: usize) -> Result<GetRoom, AllocError>
-        ensures ends { IfOk result (λ room. (room.ends.items ≡ []) × (keys ≤ vec_capacity room.ends)) }
+    /// Room for as many keys, in a cache of so many stripes.
+    fn new(alloc: Global, keys: usize, stripes: usize) -> Result<GetRoom, AllocError>
+        ensures progress { IfOk result (λ room. room.progress.items ≡ all_waiting keys) }
         ensures failed { IfOk result (λ room. (room.failed.entries ≡ []) × (keys ≤ spare room.failed)) }
         ensures found { IfOk result (λ room. (room.found.entries ≡ []) × (keys ≤ spare room.found)) }
-        ensures calls { IfOk result (λ room. room.calls ≡ empty_batch RESERVATIONS_MAX) }
+        ensures calls { IfOk result (λ room. room.calls ≡ empty_batch room.most) }
+        ensures most { IfOk result (λ room. IsRoomFor stripes room.most keys) }
     {
-        let ends = Vec::with_capacity(alloc, keys)?;
+        let progress = all_waiting(alloc, keys)?;
         let failed = IndexMap::with_capacity(alloc, keys)?;
         let found = IndexMap::with_capacity(alloc, keys)?;
-        let calls = LoadCalls::with_capacity(alloc, RESERVATIONS_MAX)?;
+        let most = most_calls(keys, stripes);
+        let calls = LoadCalls::with_capacity(alloc, most)?;
         Ok(GetRoom {
-            ends,
+            progress,
             failed,
             found,
             calls,
+            most,
         })
     }
 }
@@ -110,10 +115,11 @@ fn get_keys<R: Wait>(
 ) -> Result<IndexMap<Key, Value>, BulkFault>
     requires may { MayCall cache.old session.old }
     requires distinct { IsDistinct (pointwise ◌==◌) keys.now }
-    requires ends { (room.ends.items ≡ []) × (length keys.now ≤ vec_capacity room.ends) }
+    requires progress { room.progress.items ≡ all_waiting (length keys.now) }
     requires failed { (room.failed.entries ≡ []) × (length keys.now ≤ spare room.failed) }
     requires found { (room.found.entries ≡ []) × (length keys.now ≤ spare room.found) }
-    requires calls { room.calls ≡ empty_batch RESERVATIONS_MAX }
+    requires calls { room.calls ≡ empty_batch room.most }
+    requires most { IsRoomFor cache.old.config.stripes room.most (length keys.now) }
     ensures may { MayCall cache.new session.new }
     ensures ok { IfOk result (λ found. (ends : List KeyEnd) × (rounds : List LoadRound)
         × GetsAll loads_all load_state cache.old session.old keys.now ends rounds cache.new session.new
@@ -124,16 +130,26 @@ fn get_keys<R: Wait>(
 {
     let _types: Option<(Reply, Value)> = None;
     let GetRoom {
-        ends,
+        progress,
         failed,
         found,
         calls,
+        most,
     } = room;
-    let mut ends = ends;
+    let mut progress = progress;
     let mut failed = failed;
     let mut found = found;
-    let cause = get_each(alloc, rt, cache, session, keys, &mut ends, calls);
-    add_ends(keys, ends.as_slice(), &mut failed, &mut found);
+    let cause = get_each(
+        alloc,
+        rt,
+        cache,
+        session,
+        keys,
+        progress.as_mut_slice(),
+        calls,
+        most,
+    );
+    add_ends(keys, progress.as_slice(), &mut failed, &mut found);
     match cause {
         None => Ok(found),
         Some(cause) => Err(BulkFault {
@@ -144,7 +160,7 @@ fn get_keys<R: Wait>(
     }
 }
 
-/// Begins the session's next call, and carries it out: `ends` says how each key ended. It returns the first fault or refusal that
+/// Begins the session's next call, and carries it out: `progress` says how each key ended. It returns the first fault or refusal that
 /// the call has met, if it met one.
 fn get_each<R: Wait>(
     alloc: Global,
@@ -152,63 +168,67 @@ fn get_each<R: Wait>(
     cache: &mut Cache,
     session: &mut Session,
     keys: &[Key],
-    ends: &mut Vec<Option<Result<Reply, Refusal>>>,
+    progress: &mut [Progress],
     calls: LoadCalls,
+    most: usize,
 ) -> Option<Refusal>
     requires may { MayCall cache.old session.old }
     requires distinct { IsDistinct (pointwise ◌==◌) keys.now }
-    requires none { ends.old.items ≡ [] }
-    requires room { length keys.now ≤ vec_capacity ends.old }
-    requires calls { calls ≡ empty_batch RESERVATIONS_MAX }
+    requires new { progress.old ≡ all_waiting (length keys.now) }
+    requires calls { calls ≡ empty_batch most }
+    requires most { IsRoomFor cache.old.config.stripes most (length keys.now) }
     ensures may { MayCall cache.new session.new }
     ensures gets { (rounds : List LoadRound) × GetsAll loads_all load_state
-        cache.old session.old keys.now (get_ends keys.now ends.new.items) rounds cache.new session.new }
-    ensures cause { IsCauseIn result (failures ends.new.items) }
-    ensures whole { length ends.new.items ≡ length keys.now }
+        cache.old session.old keys.now (get_ends keys.now progress.new) rounds cache.new session.new }
+    ensures cause { IsCauseIn result (failures progress.new) }
+    ensures whole { length progress.new ≡ length keys.now }
 {
     let _types: Option<(Reply, Value)> = None;
     stays_underway();
     let _stripes = cache.config().stripes;
     cache.begin_call(session);
-    run_rounds(alloc, rt, cache, session, keys, ends, calls)
+    run_rounds(alloc, rt, cache, session, keys, progress, calls, most)
 }
 
 /// Adds each key that failed, and each that has a value, in the order of the keys. It takes no memory.
 fn add_ends(
     keys: &[Key],
-    ends: &[Option<Result<Reply, Refusal>>],
+    progress: &[Progress],
     failed: &mut IndexMap<Key, Refusal>,
     found: &mut IndexMap<Key, Value>,
 )
     requires distinct { IsDistinct (pointwise ◌==◌) keys.now }
-    requires many { length ends.now ≡ length keys.now }
+    requires many { length progress.now ≡ length keys.now }
     requires failed { (failed.old.entries ≡ []) × (length keys.now ≤ spare failed.old) }
     requires found { (found.old.entries ≡ []) × (length keys.now ≤ spare found.old) }
-    ensures failed { failed.new.entries ≡ failed_entries (get_ends keys.now ends.now) }
-    ensures found { found.new.entries ≡ found_entries (get_ends keys.now ends.now) }
+    ensures failed { failed.new.entries ≡ failed_entries (get_ends keys.now progress.now) }
+    ensures found { found.new.entries ≡ found_entries (get_ends keys.now progress.now) }
 {
     for place in 0..keys.len() {
-        add_end(&keys[place], &ends[place], failed, found);
+        add_end(&keys[place], &progress[place], failed, found);
     }
 }
 
 /// Adds a key that failed, or has a value.
 fn add_end(
     key: &Key,
-    end: &Option<Result<Reply, Refusal>>,
+    progress: &Progress,
     failed: &mut IndexMap<Key, Refusal>,
     found: &mut IndexMap<Key, Value>,
 )
     requires new_failed { list_any (pointwise ◌==◌ key.now) (keys_of failed.old.entries) ≡ false }
     requires new_found { list_any (pointwise ◌==◌ key.now) (keys_of found.old.entries) ≡ false }
     requires room { (0 < spare failed.old) × (0 < spare found.old) }
-    ensures failed { failed.new.entries ≡ failed.old.entries ++ failed_entries (get_end key.now end.now) }
-    ensures found { found.new.entries ≡ found.old.entries ++ found_entries (get_end key.now end.now) }
+    ensures failed { failed.new.entries ≡ failed.old.entries ++ failed_entries (get_end key.now progress.now) }
+    ensures found { found.new.entries ≡ found.old.entries ++ found_entries (get_end key.now progress.now) }
     ensures room { (spare failed.old ≤ spare failed.new + 1) × (spare found.old ≤ spare found.new + 1) }
 {
-    match end {
-        Some(Ok(Reply::Fault(refusal)) | Err(refusal)) => insert_failed(failed, key, *refusal),
-        Some(Ok(Reply::Value(Some(value)))) => insert_found(found, key, *value),
-        Some(Ok(Reply::Value(None) | Reply::Flag(_) | Reply::Unit)) | None => {}
+    match progress {
+        Progress::Waiting | Progress::Reserved => {}
+        Progress::Ended(Ok(Reply::Fault(refusal)) | Err(refusal)) => {
+            insert_failed(failed, key, *refusal)
+        }
+        Progress::Ended(Ok(Reply::Value(Some(value)))) => insert_found(found, key, *value),
+        Progress::Ended(Ok(Reply::Value(None) | Reply::Flag(_) | Reply::Unit)) => {}
     }
 }

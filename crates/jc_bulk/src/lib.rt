@@ -16,5 +16,5 @@ pub use clear_all::clear;
 pub use fault::BulkFault;
 pub use getting::get_all;
 pub use loads::{commit_first_load, start_get};
-pub use round::{Start, commit_first, start_write};
+pub use round::{Progress, commit_first, start_write};
 pub use writing::{put_all, remove_all, remove_every};

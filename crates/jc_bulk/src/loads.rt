@@ -18,7 +18,7 @@ ghost use Rattle.jc_bulk.specs.StartingLoads.{StartsLoad, StartsFor};
 ghost use Rattle.jc_bulk.specs.Underway.{IsUnderway};
 
 use crate::laws::{records, stays_underway};
-use crate::round::Start;
+use crate::round::Progress;
 use jc_cache::{Cache, LoadCalls, LoadedCall, Session, Started};
 use jc_model::{Op, Reply};
 use jc_stripe::phase_laws::grows;
@@ -27,8 +27,8 @@ use jc_types::Key;
 /// The first phase of a `getAll` at one of its keys. A key that has an entry is over with the entry's value, and so is, without
 /// one, a missing key if read-through is off. A missing key that has to be loaded is reserved, and is among `calls` from then on.
 ///
-/// A key is put off if it is refused as a later round may find it free (`TooManyInFlight`), and is over if it is refused for good
-/// (`HistoryFull`). Nothing is recorded of a key that is refused.
+/// It returns how far the call is at the key then. A key that is refused as a later round may find it free (`TooManyInFlight`) is put
+/// off, and waits; one that is refused for good (`HistoryFull`) is over. Nothing is recorded of a key that is refused.
 ///
 /// Conditions: the session is of this cache, and its current call, a bulk call, is under way, with the reservations of `calls`
 /// out. The key has no step of it, and isn't among those of `calls`, which have room.
@@ -37,7 +37,7 @@ pub fn start_get(
     session: &mut Session,
     key: &Key,
     calls: &mut LoadCalls,
-) -> Start
+) -> Progress
     requires own { IsOf cache.old session.old }
     requires underway { IsUnderway cache.old session.old.caller (reservations_in calls.old.items) }
     requires room { 0 < calls.old.room }
@@ -56,16 +56,16 @@ pub fn start_get(
     records();
     grows();
     match cache.start(session, key, &Op::Get) {
-        Started::Done(step) => Start::Ended(Ok(step.reply)),
+        Started::Done(step) => Progress::Ended(Ok(step.reply)),
         Started::Load(call) => {
             calls.push(call);
-            Start::Reserved
+            Progress::Reserved
         }
         Started::Refused(refusal) => {
             if refusal.is_put_off() {
-                Start::PutOff
+                Progress::Waiting
             } else {
-                Start::Ended(Err(refusal))
+                Progress::Ended(Err(refusal))
             }
         }
         Started::Write(_call) => unreachable!(),

@@ -1,15 +1,18 @@
 //! How the keys of a bulk call end, and what it returns of them.
-ghost use Rattle.std.specs.Prelude.{◌≡◌, ◌==◌, ◌≤◌, ◌<◌, ◌+◌, ◌++◌, ◌∷◌, [], length, false, option_map, vec_capacity};
-ghost use Rattle.std.specs.List.{list_any, cons_option};
+ghost use Rattle.std.specs.Prelude.{◌≡◌, ◌==◌, ◌≤◌, ◌<◌, ◌+◌, ◌++◌, ◌∷◌, [], ℕ, not, false, option_map, map, IfNone, IfSome, IfOk};
+ghost use Rattle.std.specs.List.{IsAmong, list_any, cons_option};
 ghost use Rattle.std.specs.Map.{keys_of};
 ghost use Rattle.std.specs.Cmp.Lexicographic.{pointwise};
 ghost use Rattle.indexmap.specs.IndexMap.{spare};
 ghost use Rattle.jc_bulk.specs.Ends.{refusal_in};
-ghost use Rattle.jc_bulk.specs.GetRounds.{RefusesRest};
+ghost use Rattle.jc_bulk.specs.GetRounds.{IsFirstWaiting, StillWaits, IsCauseIn, is_closed, is_waiting, all_waiting};
+ghost use Rattle.jc_bulk.specs.GetRounds.{refused_if_waiting, failure_at, failures};
 
+use crate::round::Progress;
 use indexmap::IndexMap;
 use jc_model::Reply;
 use jc_types::{Key, Refusal, Value};
+use std::alloc::{AllocError, Global};
 
 /// The fault or the refusal that a key ended in, if it did.
 pub(crate) fn refusal_of(ended: &Result<Reply, Refusal>) -> Option<Refusal>
@@ -24,16 +27,99 @@ pub(crate) fn refusal_of(ended: &Result<Reply, Refusal>) -> Option<Refusal>
     }
 }
 
-/// Ends each of so many keys that hasn't had its turn: it is refused, since the allocation of a later round failed. Nothing was asked
-/// for it.
-pub(crate) fn refuse_rest(keys: usize, ends: &mut Vec<Option<Result<Reply, Refusal>>>)
-    requires begun { length ends.old.items ≤ keys }
-    requires room { keys ≤ vec_capacity ends.old }
-    ensures rest { RefusesRest ends.old.items ends.new.items }
-    ensures whole { length ends.new.items ≡ keys }
+/// A key waits for a round.
+pub(crate) fn is_waiting(progress: &Progress) -> bool
+    ensures { result ≡ is_waiting progress.now }
 {
-    for place in ends.len()..keys {
-        ends.push_reserved(Some(Err(Refusal::OutOfMemory)));
+    match progress {
+        Progress::Waiting => true,
+        Progress::Reserved | Progress::Ended(_) => false,
+    }
+}
+
+/// A key is reserved.
+pub(crate) fn is_reserved(progress: &Progress) -> bool
+    ensures { result ≡ not (is_closed progress.now) }
+{
+    match progress {
+        Progress::Reserved => true,
+        Progress::Waiting | Progress::Ended(_) => false,
+    }
+}
+
+/// The place of the first key that waits, if one does.
+pub(crate) fn first_waiting(progress: &[Progress]) -> Option<usize>
+    ensures none { IfNone result ((place : ℕ) → StillWaits progress.now place → ⊥) }
+    ensures first { IfSome result (λ place. IsFirstWaiting progress.now place) }
+{
+    for place in 0..progress.len() {
+        if is_waiting(&progress[place]) {
+            return Some(place);
+        }
+    }
+    None
+}
+
+/// So many keys that wait, before the first round.
+pub(crate) fn all_waiting(alloc: Global, keys: usize) -> Result<Vec<Progress>, AllocError>
+    ensures { IfOk result (λ progress. progress.items ≡ all_waiting keys) }
+{
+    let _types: Option<(Reply, Refusal, Value)> = None;
+    let mut progress = Vec::with_capacity(alloc, keys)?;
+    for place in 0..keys {
+        progress.push_reserved(Progress::Waiting);
+    }
+    Ok(progress)
+}
+
+/// Ends each key that waits: it is refused, since the allocation of a later round failed. Nothing was asked for it.
+pub(crate) fn refuse_rest(progress: &mut [Progress])
+    ensures { progress.new ≡ map refused_if_waiting progress.old }
+{
+    for place in 0..progress.len() {
+        refuse_if_waiting(&mut progress[place]);
+    }
+}
+
+/// Refuses the key if it waits.
+fn refuse_if_waiting(progress: &mut Progress)
+    ensures { progress.new ≡ refused_if_waiting progress.old }
+{
+    match progress {
+        Progress::Waiting => *progress = Progress::Ended(Err(Refusal::OutOfMemory)),
+        Progress::Reserved | Progress::Ended(_) => {}
+    }
+}
+
+/// Notes the first of the faults and refusals that keys have ended in, unless one was noted before.
+pub(crate) fn note_first(cause: &mut Option<Refusal>, progress: &[Progress])
+    requires { IfSome cause.old (λ refusal. IsAmong (failures progress.now) refusal) }
+    ensures { IsCauseIn cause.new (failures progress.now) }
+{
+    if cause.is_none() {
+        *cause = first_failure(progress);
+    }
+}
+
+/// The first of the faults and refusals that keys have ended in, if there is one.
+pub(crate) fn first_failure(progress: &[Progress]) -> Option<Refusal>
+    ensures { IsCauseIn result (failures progress.now) }
+{
+    for one in progress {
+        if let Some(refusal) = failure_of(one) {
+            return Some(refusal);
+        }
+    }
+    None
+}
+
+/// The fault or the refusal that a key has ended in, if it has.
+fn failure_of(progress: &Progress) -> Option<Refusal>
+    ensures { result ≡ failure_at progress.now }
+{
+    match progress {
+        Progress::Waiting | Progress::Reserved => None,
+        Progress::Ended(ended) => refusal_of(ended),
     }
 }
 

@@ -9,8 +9,8 @@ ghost use Rattle.jc_session.specs.Counting.{counts_ended};
 ghost use Rattle.jc_cache.specs.Caches.{IsStripeOf};
 ghost use Rattle.jc_cache.specs.OutstandingAll.{reserved_keys};
 ghost use Rattle.jc_cache.specs.Sessions.{IsOf};
-ghost use Rattle.jc_bulk.specs.declared.round.Start.TheVariants.{PutOff, Reserved};
-ghost use Rattle.jc_bulk.specs.Gets.{end_started};
+ghost use Rattle.jc_bulk.specs.declared.round.Progress.TheVariants.{Reserved};
+ghost use Rattle.jc_bulk.specs.GetRounds.{IsRoomFor};
 ghost use Rattle.jc_bulk.specs.Laws.{keys_out};
 ghost use Rattle.jc_bulk.specs.Phased.{counts_started, LeavesCalls, AddsSteps};
 ghost use Rattle.jc_bulk.specs.Recorded.{steps_of};
@@ -22,38 +22,35 @@ use crate::laws::{records, stays_underway};
 use jc_cache::{Cache, Session, Started, WriteCalls, WrittenCall};
 use jc_model::{Op, Reply};
 use jc_stripe::phase_laws::grows;
-use jc_types::{Key, Refusal};
+use jc_types::{Key, RESERVATIONS_MAX, Refusal};
 
-/// What the first phase of one key of a bulk call has given.
+/// How far a bulk call is at one of its keys.
 #[derive(Clone, Copy)]
-pub enum Start {
+pub enum Progress {
+    /// The key waits for a round: its first phase hasn't been made yet, or has put it off.
+    Waiting,
+    /// The key is reserved, and the loader or the writer is to be asked, or has been.
+    Reserved,
     /// The key is over: its step was made, or it is refused for good.
     Ended(Result<Reply, Refusal>),
-    /// The key is reserved, and the loader or the writer is to be asked.
-    Reserved,
-    /// The key is put off to the next round.
-    PutOff,
 }
 
-impl Start {
-    /// How the first phase has ended its key, or none if it has reserved it.
-    pub(crate) fn end(self) -> Option<Result<Reply, Refusal>>
-        requires { self ≡ PutOff → ⊥ }
-        ensures { result ≡ end_started self }
-    {
-        match self {
-            Start::Ended(ended) => Some(ended),
-            Start::Reserved => None,
-            Start::PutOff => unreachable!(),
-        }
+/// How many calls may be out at once in a call of so many keys: one for each key, but no more than may be reserved in all stripes.
+pub(crate) fn most_calls(keys: usize, stripes: usize) -> usize
+    ensures { IsRoomFor stripes result keys }
+{
+    if stripes == 0 || keys / RESERVATIONS_MAX < stripes {
+        keys
+    } else {
+        RESERVATIONS_MAX * stripes
     }
 }
 
 /// The first phase of a `putAll` or a `removeAll` at one of its keys: a `Put` if `calls` write, and a `Remove` if they delete. A key
 /// that has to be written is reserved, and is among `calls` from then on; without write-through its step is made at once.
 ///
-/// A key is put off if it is refused as a later round may find it free (`TooManyInFlight`), and is over if it is refused for good
-/// (`HistoryFull`). Nothing is recorded of a key that is refused.
+/// It returns how far the call is at the key then. A key that is refused as a later round may find it free (`TooManyInFlight`) is put
+/// off, and waits; one that is refused for good (`HistoryFull`) is over. Nothing is recorded of a key that is refused.
 ///
 /// Conditions: the session is of this cache, and its current call, a bulk call, is under way, with the reservations of `calls`
 /// out. The key has no step of it, and isn't among those of `calls`, which have room.
@@ -63,13 +60,14 @@ pub fn start_write(
     key: &Key,
     op: &Op,
     calls: &mut WriteCalls,
-) -> Start
+) -> Progress
     requires own { IsOf cache.old session.old }
     requires underway { IsUnderway cache.old session.old.caller (reservations_in calls.old.items) }
     requires room { 0 < calls.old.room }
     requires kind { WritesAs calls.old.deletes op.now }
     requires away { is_among (reserved_keys calls.old.items) key.now ≡ false }
-    requires none { (s : State) → IsStripeOf cache.old key.now s → steps_of session.old.caller key.now s.history ≡ [] }
+    requires none { (s : State) → IsStripeOf cache.old key.now s
+        → steps_of session.old.caller key.now s.history ≡ [] }
     ensures own { IsOf cache.new session.new }
     ensures session { session.new ≡ record session.old { counts = counts_started session.old.counts result } }
     ensures why { (s : State) × IsStripeOf cache.old key.now s
@@ -84,16 +82,16 @@ pub fn start_write(
     records();
     grows();
     match cache.start(session, key, op) {
-        Started::Done(step) => Start::Ended(Ok(step.reply)),
+        Started::Done(step) => Progress::Ended(Ok(step.reply)),
         Started::Write(call) => {
             calls.push(call);
-            Start::Reserved
+            Progress::Reserved
         }
         Started::Refused(refusal) => {
             if refusal.is_put_off() {
-                Start::PutOff
+                Progress::Waiting
             } else {
-                Start::Ended(Err(refusal))
+                Progress::Ended(Err(refusal))
             }
         }
         Started::Load(_call) => unreachable!(),

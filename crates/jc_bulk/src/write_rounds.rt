@@ -1,112 +1,167 @@
 //! The rounds of a `putAll` or a `removeAll` (JSR 107, `javax.cache.Cache`).
-ghost use Rattle.std.specs.Prelude.{◌≡◌, ◌==◌, ◌<◌, ◌≤◌, ◌+◌, ◌⊎◌, ◌++◌, [], true, Option, None, Some, Ok, is_some, IfOk, IfSome};
-ghost use Rattle.std.specs.Prelude.{List, length, take, slice_get, slice_set, vec_capacity};
+ghost use Rattle.std.specs.Prelude.{◌≡◌, ◌==◌, ◌<◌, ◌≤◌, ◌+◌, ◌⊎◌, ◌++◌, [], true, Option, None, Some, Ok, IfOk, IfSome};
+ghost use Rattle.std.specs.Prelude.{List, ℕ, length, take, drop, slice_get, slice_set};
 ghost use Rattle.std.specs.List.{IsAmong, IsDistinct, list_all, cons_option};
 ghost use Rattle.std.specs.Map.{keys_of};
 ghost use Rattle.std.specs.Option.{option_or};
 ghost use Rattle.std.specs.Cmp.Lexicographic.{pointwise};
-ghost use Rattle.jc_types.specs.declared.limits.TheConstants.{RESERVATIONS_MAX};
 ghost use Rattle.jc_model.specs.Cache.{Bytes};
 ghost use Rattle.jc_model.specs.declared.event.Op.{Op as OpData};
 ghost use Rattle.jc_model.specs.declared.event.Reply.{Reply};
 ghost use Rattle.jc_model.specs.declared.event.WriteAnswer.{WriteAnswer};
+ghost use Rattle.jc_stripe.specs.Refusals.{last_number};
 ghost use Rattle.jc_session.specs.Boxed.{boxed};
 ghost use Rattle.jc_session.specs.Counting.{counts_ended};
 ghost use Rattle.jc_session.specs.declared.counts.Counts.{Counts};
 ghost use Rattle.jc_cache.specs.Outstanding.{ReservedState};
+ghost use Rattle.jc_cache.specs.OutstandingAll.{reserved_keys};
 ghost use Rattle.jc_cache.specs.Sessions.{IsOf};
-ghost use Rattle.jc_bulk.specs.GetRounds.{StayEnded, failures};
+ghost use Rattle.jc_bulk.specs.declared.round.Progress.{Progress as ProgressData};
+ghost use Rattle.jc_bulk.specs.declared.round.Progress.TheVariants.{Reserved, Ended};
+ghost use Rattle.jc_bulk.specs.GetRounds.{StayEnded, StillWaits, IsFirstWaiting, IsRoomFor, IsHeldBack};
+ghost use Rattle.jc_bulk.specs.GetRounds.{is_closed, all_waiting, failures};
 ghost use Rattle.jc_bulk.specs.Gets.{AreCounted, ComesAfterAll};
 ghost use Rattle.jc_bulk.specs.Phased.{LeavesCalls};
-ghost use Rattle.jc_bulk.specs.Rounds.{WriteRound, WritesInRounds, writer_cause, writer_causes};
+ghost use Rattle.jc_bulk.specs.Rounds.{IsCrowded, WriteRound, WritesInRounds, IsStripeFull, writer_cause, writer_causes};
 ghost use Rattle.jc_bulk.specs.WriteRounds.{IsWritingInRounds, RunsWriteRounds, IsCauseOf};
 ghost use Rattle.jc_bulk.specs.Writing.{AllWriteAs, IsWriting, IsWrittenIn, AreWrittenIn};
 
-use crate::get_rounds::first_failure;
-use crate::results::refuse_rest;
-use crate::round::{commit_first, start_write};
+use crate::results::{first_failure, first_waiting, is_reserved, is_waiting, refuse_rest};
+use crate::round::{Progress, commit_first, start_write};
 use jc_cache::{Cache, Session, WriteCalls, WrittenCall, WrittenCalls};
 use jc_model::{Op, Reply};
-use jc_types::{Key, RESERVATIONS_MAX, Refusal, Value};
+use jc_types::{Key, Refusal, Value};
 use std::alloc::{AllocError, Global};
 use std::sync::Wait;
 
-/// Begins the next of the keys: those before it have had their turn, and `ends` says how each ended, or none while it is reserved.
+/// The first phase at the key of this place, which waits.
 fn begin_next(
     cache: &mut Cache,
     session: &mut Session,
     targets: &[(Key, Op)],
-    ends: &mut Vec<Option<Result<Reply, Refusal>>>,
+    progress: &mut [Progress],
+    place: usize,
     calls: &mut WriteCalls,
 )
     requires own { IsOf cache.old session.old }
     requires distinct { IsDistinct (pointwise ◌==◌) (keys_of targets.now) }
-    requires more { length ends.old.items < length targets.now }
-    requires room { length targets.now ≤ vec_capacity ends.old }
-    requires few { length calls.old.items < RESERVATIONS_MAX }
+    requires place { place < length targets.now }
+    requires there { StillWaits progress.old place }
+    requires many { length progress.old ≡ length targets.now }
+    requires behind { list_all is_closed (drop place progress.old) ≡ true }
     requires kind { AllWriteAs calls.old.deletes targets.now }
-    requires space { length calls.old.items + calls.old.room ≡ RESERVATIONS_MAX }
+    requires room { 0 < calls.old.room }
+    requires few { length calls.old.items < last_number }
     requires writes { (rounds : List WriteRound)
-        × IsWritingInRounds rounds targets.now cache.old session.old.caller ends.old.items calls.old.items }
+        × IsWritingInRounds rounds targets.now cache.old session.old.caller progress.old calls.old.items }
     ensures own { IsOf cache.new session.new }
     ensures session { session.new ≡ record session.old { counts = session.new.counts } }
-    ensures counts { (first : Counts) → AreCounted first ends.old.items (length calls.old.items) session.old.counts
-        → AreCounted first ends.new.items (length calls.new.items) session.new.counts }
+    ensures counts { (first : Counts)
+        → AreCounted first progress.old (length calls.old.items) session.old.counts
+        → AreCounted first progress.new (length calls.new.items) session.new.counts }
     ensures writes { (rounds : List WriteRound)
-        → IsWritingInRounds rounds targets.now cache.old session.old.caller ends.old.items calls.old.items
-        → IsWritingInRounds rounds targets.now cache.new session.old.caller ends.new.items calls.new.items }
-    ensures ends { StayEnded ends.old.items ends.new.items }
-    ensures one { length ends.new.items ≡ length ends.old.items + 1 }
-    ensures room { vec_capacity ends.new ≡ vec_capacity ends.old }
+        → IsWritingInRounds rounds targets.now cache.old session.old.caller progress.old calls.old.items
+        → IsWritingInRounds rounds targets.now cache.new session.old.caller progress.new calls.new.items }
+    ensures progress { (p : ProgressData) × (progress.new ≡ slice_set progress.old place p) }
+    ensures waits { (key : Bytes) → slice_get (keys_of targets.now) place ≡ Some key
+        → StillWaits progress.new place
+        → IsStripeFull cache.old.config (reserved_keys calls.old.items) key }
+    ensures more { (added : List Bytes)
+        × (reserved_keys calls.new.items ≡ reserved_keys calls.old.items ++ added) }
     ensures kind { calls.new.deletes ≡ calls.old.deletes }
-    ensures space { length calls.new.items + calls.new.room ≡ RESERVATIONS_MAX }
+    ensures space { length calls.new.items + calls.new.room ≡ length calls.old.items + calls.old.room }
     ensures grows { ComesAfterAll cache.old cache.new }
     ensures others { LeavesCalls session.old.caller.session cache.old cache.new }
 {
     let _types: Option<(Reply, Value)> = None;
-    let (key, op) = &targets[ends.len()];
-    let started = start_write(cache, session, key, op, calls);
-    ends.push_reserved(started.end());
+    let (key, op) = &targets[place];
+    progress[place] = start_write(cache, session, key, op, calls);
 }
 
-/// Begins keys in their order, from the first one that hasn't had its turn, until none is left, or as many are reserved as may be.
+/// The first phase at the key of this place, if it waits for one and there is room for one call more.
+fn begin_at(
+    cache: &mut Cache,
+    session: &mut Session,
+    targets: &[(Key, Op)],
+    progress: &mut [Progress],
+    place: usize,
+    calls: &mut WriteCalls,
+    most: usize,
+)
+    requires own { IsOf cache.old session.old }
+    requires distinct { IsDistinct (pointwise ◌==◌) (keys_of targets.now) }
+    requires place { place < length progress.old }
+    requires behind { list_all is_closed (drop place progress.old) ≡ true }
+    requires kind { AllWriteAs calls.old.deletes targets.now }
+    requires most { IsRoomFor cache.old.config.stripes most (length targets.now) }
+    requires space { length calls.old.items + calls.old.room ≡ most }
+    requires writes { (rounds : List WriteRound)
+        × IsWritingInRounds rounds targets.now cache.old session.old.caller progress.old calls.old.items }
+    ensures own { IsOf cache.new session.new }
+    ensures session { session.new ≡ record session.old { counts = session.new.counts } }
+    ensures counts { (first : Counts)
+        → AreCounted first progress.old (length calls.old.items) session.old.counts
+        → AreCounted first progress.new (length calls.new.items) session.new.counts }
+    ensures writes { (rounds : List WriteRound)
+        → IsWritingInRounds rounds targets.now cache.old session.old.caller progress.old calls.old.items
+        → IsWritingInRounds rounds targets.now cache.new session.old.caller progress.new calls.new.items }
+    ensures stay { StayEnded progress.old progress.new }
+    ensures behind { list_all is_closed (drop (place + 1) progress.new) ≡ true }
+    ensures first { length calls.old.items ≡ 0 → StillWaits progress.new place → ⊥ }
+    ensures waits { (key : Bytes) → slice_get (keys_of targets.now) place ≡ Some key
+        → StillWaits progress.new place
+        → IsHeldBack cache.old.config most (reserved_keys calls.old.items) key }
+    ensures more { (added : List Bytes)
+        × (reserved_keys calls.new.items ≡ reserved_keys calls.old.items ++ added) }
+    ensures kind { calls.new.deletes ≡ calls.old.deletes }
+    ensures space { length calls.new.items + calls.new.room ≡ most }
+    ensures grows { ComesAfterAll cache.old cache.new }
+    ensures others { LeavesCalls session.old.caller.session cache.old cache.new }
+{
+    let _types: Option<(Reply, Value)> = None;
+    if is_waiting(&progress[place]) && calls.len() < most {
+        begin_next(cache, session, targets, progress, place, calls);
+    }
+}
+
+/// The first phases of a round: at each key that waits, in their order, from this place on.
 fn begin_round(
     cache: &mut Cache,
     session: &mut Session,
     targets: &[(Key, Op)],
-    ends: &mut Vec<Option<Result<Reply, Refusal>>>,
+    progress: &mut [Progress],
+    from: usize,
     calls: &mut WriteCalls,
+    most: usize,
 )
     requires own { IsOf cache.old session.old }
     requires distinct { IsDistinct (pointwise ◌==◌) (keys_of targets.now) }
-    requires more { length ends.old.items < length targets.now }
-    requires room { length targets.now ≤ vec_capacity ends.old }
-    requires few { length calls.old.items < RESERVATIONS_MAX }
     requires kind { AllWriteAs calls.old.deletes targets.now }
-    requires space { length calls.old.items + calls.old.room ≡ RESERVATIONS_MAX }
+    requires before { (place : ℕ) → place < from → StillWaits progress.old place → ⊥ }
+    requires most { IsRoomFor cache.old.config.stripes most (length targets.now) }
+    requires none { calls.old.items ≡ [] }
+    requires space { calls.old.room ≡ most }
     requires writes { (rounds : List WriteRound)
-        × IsWritingInRounds rounds targets.now cache.old session.old.caller ends.old.items calls.old.items }
+        × IsWritingInRounds rounds targets.now cache.old session.old.caller progress.old calls.old.items }
     ensures own { IsOf cache.new session.new }
     ensures session { session.new ≡ record session.old { counts = session.new.counts } }
-    ensures counts { (first : Counts) → AreCounted first ends.old.items (length calls.old.items) session.old.counts
-        → AreCounted first ends.new.items (length calls.new.items) session.new.counts }
+    ensures counts { (first : Counts)
+        → AreCounted first progress.old (length calls.old.items) session.old.counts
+        → AreCounted first progress.new (length calls.new.items) session.new.counts }
     ensures writes { (rounds : List WriteRound)
-        → IsWritingInRounds rounds targets.now cache.old session.old.caller ends.old.items calls.old.items
-        → IsWritingInRounds rounds targets.now cache.new session.old.caller ends.new.items calls.new.items }
-    ensures ends { StayEnded ends.old.items ends.new.items }
-    ensures more { length ends.old.items < length ends.new.items }
-    ensures room { vec_capacity ends.new ≡ vec_capacity ends.old }
-    ensures whole { (length ends.new.items ≡ length targets.now) ⊎ (length calls.new.items ≡ RESERVATIONS_MAX) }
+        → IsWritingInRounds rounds targets.now cache.old session.old.caller progress.old calls.old.items
+        → IsWritingInRounds rounds targets.now cache.new session.old.caller progress.new calls.new.items }
+    ensures stay { StayEnded progress.old progress.new }
+    ensures first { from < length progress.old → StillWaits progress.new from → ⊥ }
+    ensures waits { (place : ℕ) (key : Bytes) → slice_get (keys_of targets.now) place ≡ Some key
+        → StillWaits progress.new place
+        → IsHeldBack cache.old.config most (reserved_keys calls.new.items) key }
     ensures grows { ComesAfterAll cache.old cache.new }
     ensures others { LeavesCalls session.old.caller.session cache.old cache.new }
 {
     let _types: Option<(Reply, Value)> = None;
-    begin_next(cache, session, targets, ends, calls);
-    for place in ends.len()..targets.len() {
-        if calls.len() == RESERVATIONS_MAX {
-            return;
-        }
-        begin_next(cache, session, targets, ends, calls);
+    for place in from..progress.len() {
+        begin_at(cache, session, targets, progress, place, calls, most);
     }
 }
 
@@ -114,59 +169,64 @@ fn begin_round(
 fn commit_next(
     cache: &mut Cache,
     session: &mut Session,
-    ends: &mut [Option<Result<Reply, Refusal>>],
+    progress: &mut [Progress],
     place: usize,
     call: WrittenCall,
 )
     requires own { IsOf cache.old session.old }
-    requires before { list_all is_some (take place ends.old) ≡ true }
-    requires there { slice_get ends.old place ≡ Some None }
-    requires writes { (said : Bytes → WriteAnswer) × (targets : List (Bytes × OpData)) × (rest : List ReservedState)
-        × IsWrittenIn said targets cache.old session.old.caller ends.old call rest }
+    requires place { place < length progress.old }
+    requires before { list_all is_closed (take place progress.old) ≡ true }
+    requires there { slice_get progress.old place ≡ Some Reserved }
+    requires writes { (said : Bytes → WriteAnswer) × (targets : List (Bytes × OpData))
+        × (rest : List ReservedState)
+        × IsWrittenIn said targets cache.old session.old.caller progress.old call rest }
     ensures own { IsOf cache.new session.new }
     ensures session { session.new ≡ record session.old { counts = counts_ended session.old.counts } }
-    ensures ends { (reply : Reply) × (ends.new ≡ slice_set ends.old place (Some (Ok reply))) }
+    ensures progress { (reply : Reply)
+        × (progress.new ≡ slice_set progress.old place (Ended (Ok reply))) }
     ensures writes { (said : Bytes → WriteAnswer) (targets : List (Bytes × OpData)) (rest : List ReservedState)
-        → IsWrittenIn said targets cache.old session.old.caller ends.old call rest
-        → IsWriting said targets cache.new session.old.caller ends.new rest }
+        → IsWrittenIn said targets cache.old session.old.caller progress.old call rest
+        → IsWriting said targets cache.new session.old.caller progress.new rest }
     ensures grows { ComesAfterAll cache.old cache.new }
     ensures others { LeavesCalls session.old.caller.session cache.old cache.new }
 {
     let _types: Option<(Reply, Value)> = None;
     let reply = commit_first(cache, session, call);
-    ends[place] = Some(Ok(reply));
+    progress[place] = Progress::Ended(Ok(reply));
 }
 
 /// The last phase at the key of this place, if it is still reserved: then it is the first one that is, and the first of the calls.
 fn commit_at(
     cache: &mut Cache,
     session: &mut Session,
-    ends: &mut [Option<Result<Reply, Refusal>>],
+    progress: &mut [Progress],
     place: usize,
     calls: &mut WrittenCalls,
 )
     requires own { IsOf cache.old session.old }
-    requires place { place < length ends.old }
-    requires before { list_all is_some (take place ends.old) ≡ true }
-    requires writes { (said : Bytes → WriteAnswer) × (targets : List (Bytes × OpData)) × (out : List ReservedState)
-        × AreWrittenIn said targets cache.old session.old.caller ends.old calls.old out }
+    requires place { place < length progress.old }
+    requires before { list_all is_closed (take place progress.old) ≡ true }
+    requires writes { (said : Bytes → WriteAnswer) × (targets : List (Bytes × OpData))
+        × (out : List ReservedState)
+        × AreWrittenIn said targets cache.old session.old.caller progress.old calls.old out }
     ensures own { IsOf cache.new session.new }
     ensures session { session.new ≡ record session.old { counts = session.new.counts } }
-    ensures counts { (first : Counts) → AreCounted first ends.old (length calls.old) session.old.counts
-        → AreCounted first ends.new (length calls.new) session.new.counts }
+    ensures counts { (first : Counts)
+        → AreCounted first progress.old (length calls.old) session.old.counts
+        → AreCounted first progress.new (length calls.new) session.new.counts }
     ensures writes { (said : Bytes → WriteAnswer) (targets : List (Bytes × OpData)) (out : List ReservedState)
-        → AreWrittenIn said targets cache.old session.old.caller ends.old calls.old out
-        → (rest : List ReservedState) × AreWrittenIn said targets cache.new session.old.caller ends.new calls.new rest }
-    ensures before { list_all is_some (take (place + 1) ends.new) ≡ true }
-    ensures ends { StayEnded ends.old ends.new }
-    ensures many { length ends.new ≡ length ends.old }
+        → AreWrittenIn said targets cache.old session.old.caller progress.old calls.old out
+        → (rest : List ReservedState)
+        × AreWrittenIn said targets cache.new session.old.caller progress.new calls.new rest }
+    ensures before { list_all is_closed (take (place + 1) progress.new) ≡ true }
+    ensures stay { StayEnded progress.old progress.new }
     ensures grows { ComesAfterAll cache.old cache.new }
     ensures others { LeavesCalls session.old.caller.session cache.old cache.new }
 {
     let _types: Option<(Reply, Value)> = None;
-    if ends[place].is_none() {
+    if is_reserved(&progress[place]) {
         match calls.pop_front() {
-            Some(call) => commit_next(cache, session, ends, place, call),
+            Some(call) => commit_next(cache, session, progress, place, call),
             None => unreachable!(),
         }
     }
@@ -176,28 +236,29 @@ fn commit_at(
 fn commit_round(
     cache: &mut Cache,
     session: &mut Session,
-    ends: &mut [Option<Result<Reply, Refusal>>],
+    progress: &mut [Progress],
     calls: WrittenCalls,
 )
     requires own { IsOf cache.old session.old }
-    requires writes { (said : Bytes → WriteAnswer) × (targets : List (Bytes × OpData)) × (out : List ReservedState)
-        × AreWrittenIn said targets cache.old session.old.caller ends.old calls out }
+    requires writes { (said : Bytes → WriteAnswer) × (targets : List (Bytes × OpData))
+        × (out : List ReservedState)
+        × AreWrittenIn said targets cache.old session.old.caller progress.old calls out }
     ensures own { IsOf cache.new session.new }
     ensures session { session.new ≡ record session.old { counts = session.new.counts } }
-    ensures counts { (first : Counts) → AreCounted first ends.old (length calls) session.old.counts
-        → AreCounted first ends.new 0 session.new.counts }
+    ensures counts { (first : Counts)
+        → AreCounted first progress.old (length calls) session.old.counts
+        → AreCounted first progress.new 0 session.new.counts }
     ensures writes { (said : Bytes → WriteAnswer) (targets : List (Bytes × OpData)) (out : List ReservedState)
-        → AreWrittenIn said targets cache.old session.old.caller ends.old calls out
-        → IsWriting said targets cache.new session.old.caller ends.new [] }
-    ensures ends { StayEnded ends.old ends.new }
-    ensures many { length ends.new ≡ length ends.old }
+        → AreWrittenIn said targets cache.old session.old.caller progress.old calls out
+        → IsWriting said targets cache.new session.old.caller progress.new [] }
+    ensures stay { StayEnded progress.old progress.new }
     ensures grows { ComesAfterAll cache.old cache.new }
     ensures others { LeavesCalls session.old.caller.session cache.old cache.new }
 {
     let _types: Option<(Reply, Value)> = None;
     let mut calls = calls;
-    for place in 0..ends.len() {
-        commit_at(cache, session, ends, place, &mut calls);
+    for place in 0..progress.len() {
+        commit_at(cache, session, progress, place, &mut calls);
     }
     calls.end();
 }
@@ -208,25 +269,28 @@ fn end_round<R: Wait>(
     rt: &R,
     cache: &mut Cache,
     session: &mut Session,
-    ends: &mut [Option<Result<Reply, Refusal>>],
+    progress: &mut [Progress],
     calls: WriteCalls,
 ) -> Option<Refusal>
     requires own { IsOf cache.old session.old }
-    requires writes { (rounds : List WriteRound) × (targets : List (Bytes × OpData)) × IsDistinct (pointwise ◌==◌) (keys_of targets)
-        × IsWritingInRounds rounds targets cache.old session.old.caller ends.old calls.items }
+    requires writes { (rounds : List WriteRound) × (targets : List (Bytes × OpData))
+        × IsDistinct (pointwise ◌==◌) (keys_of targets)
+        × IsWritingInRounds rounds targets cache.old session.old.caller progress.old calls.items }
     ensures own { IsOf cache.new session.new }
     ensures session { session.new ≡ record session.old { counts = session.new.counts; hands = session.new.hands } }
     ensures loader { session.new.hands.outside.loader ≡ session.old.hands.outside.loader }
-    ensures counts { (first : Counts) → AreCounted first ends.old (length calls.items) session.old.counts
-        → AreCounted first ends.new 0 session.new.counts }
-    ensures writes { (rounds : List WriteRound) (targets : List (Bytes × OpData)) → IsDistinct (pointwise ◌==◌) (keys_of targets)
-        → IsWritingInRounds rounds targets cache.old session.old.caller ends.old calls.items
-        → (more : List WriteRound) × WritesInRounds (boxed writes_all) (boxed deletes_all) (boxed write_state)
-        session.old.hands.outside.writer more session.new.hands.outside.writer
+    ensures counts { (first : Counts)
+        → AreCounted first progress.old (length calls.items) session.old.counts
+        → AreCounted first progress.new 0 session.new.counts }
+    ensures writes { (rounds : List WriteRound) (targets : List (Bytes × OpData))
+        → IsDistinct (pointwise ◌==◌) (keys_of targets)
+        → IsWritingInRounds rounds targets cache.old session.old.caller progress.old calls.items
+        → (more : List WriteRound)
+        × WritesInRounds (boxed writes_all) (boxed deletes_all) (boxed write_state)
+        session.old.hands.outside.writer more session.new.hands.outside.writer × (length more ≤ 1)
         × (writer_causes more ≡ cons_option result [])
-        × IsWritingInRounds (rounds ++ more) targets cache.new session.old.caller ends.new [] }
-    ensures ends { StayEnded ends.old ends.new }
-    ensures many { length ends.new ≡ length ends.old }
+        × IsWritingInRounds (rounds ++ more) targets cache.new session.old.caller progress.new [] }
+    ensures stay { StayEnded progress.old progress.new }
     ensures grows { ComesAfterAll cache.old cache.new }
     ensures others { LeavesCalls session.old.caller.session cache.old cache.new }
 {
@@ -236,7 +300,7 @@ fn end_round<R: Wait>(
         None
     } else {
         let (written, returned) = calls.ask(rt, session);
-        commit_round(cache, session, ends, written);
+        commit_round(cache, session, progress, written);
         writer_fault(returned)
     }
 }
@@ -251,46 +315,48 @@ fn writer_fault(returned: Result<(), u32>) -> Option<Refusal>
     }
 }
 
-/// One round: the first phases of the keys that haven't had their turn, as many as may be, and what follows of them. The first
-/// fault that the writer returns is noted, and the first fault or refusal of the call, as soon as it is met.
+/// One round, from the first key that waits on: each key that can is begun, and what follows of them. The first fault that the writer
+/// returns is noted, and the first fault or refusal of the call, as soon as it is met.
 fn run_round<R: Wait>(
     rt: &R,
     cache: &mut Cache,
     session: &mut Session,
     targets: &[(Key, Op)],
-    ends: &mut Vec<Option<Result<Reply, Refusal>>>,
+    progress: &mut [Progress],
+    from: usize,
     calls: WriteCalls,
+    most: usize,
     fault: &mut Option<Refusal>,
     cause: &mut Option<Refusal>,
 )
     requires own { IsOf cache.old session.old }
     requires distinct { IsDistinct (pointwise ◌==◌) (keys_of targets.now) }
-    requires more { length ends.old.items < length targets.now }
-    requires room { length targets.now ≤ vec_capacity ends.old }
     requires kind { AllWriteAs calls.deletes targets.now }
+    requires before { (place : ℕ) → place < from → StillWaits progress.old place → ⊥ }
+    requires most { IsRoomFor cache.old.config.stripes most (length targets.now) }
     requires none { calls.items ≡ [] }
-    requires space { calls.room ≡ RESERVATIONS_MAX }
+    requires space { calls.room ≡ most }
     requires writes { (rounds : List WriteRound)
-        × IsWritingInRounds rounds targets.now cache.old session.old.caller ends.old.items [] }
-    requires cause { IsCauseOf cause.old (failures ends.old.items) fault.old }
+        × IsWritingInRounds rounds targets.now cache.old session.old.caller progress.old [] }
+    requires cause { IsCauseOf cause.old (failures progress.old) fault.old }
     ensures own { IsOf cache.new session.new }
     ensures runs { RunsWriteRounds writes_all deletes_all write_state
-        targets.now cache.old session.old ends.old.items fault.old cache.new session.new ends.new.items fault.new }
-    ensures cause { IsCauseOf cause.new (failures ends.new.items) fault.new }
-    ensures more { length ends.old.items < length ends.new.items }
-    ensures room { length targets.now ≤ vec_capacity ends.new }
-    ensures whole { (length ends.new.items ≡ length targets.now) ⊎ (RESERVATIONS_MAX < length targets.now) }
+        targets.now cache.old session.old progress.old fault.old cache.new session.new progress.new fault.new }
+    ensures cause { IsCauseOf cause.new (failures progress.new) fault.new }
+    ensures first { from < length progress.old → StillWaits progress.new from → ⊥ }
+    ensures waits { (place : ℕ) → StillWaits progress.new place
+        → IsCrowded cache.old.config (keys_of targets.now) }
 {
     let _types: Option<(Reply, Value)> = None;
     let mut calls = calls;
-    begin_round(cache, session, targets, ends, &mut calls);
-    note_cause(cause, fault, ends.as_slice());
-    let returned = end_round(rt, cache, session, ends.as_mut_slice(), calls);
+    begin_round(cache, session, targets, progress, from, &mut calls, most);
+    note_cause(cause, fault, progress);
+    let returned = end_round(rt, cache, session, progress, calls);
     note_fault(fault, returned);
-    note_cause(cause, fault, ends.as_slice());
+    note_cause(cause, fault, progress);
 }
 
-/// A later round. If there is no memory for it, each key that is left is refused.
+/// A later round. If there is no memory for it, each key that waits is refused.
 fn run_later_round<R: Wait>(
     alloc: Global,
     rt: &R,
@@ -298,44 +364,47 @@ fn run_later_round<R: Wait>(
     session: &mut Session,
     targets: &[(Key, Op)],
     deletes: bool,
-    ends: &mut Vec<Option<Result<Reply, Refusal>>>,
+    progress: &mut [Progress],
+    from: usize,
+    most: usize,
     fault: &mut Option<Refusal>,
     cause: &mut Option<Refusal>,
 )
     requires own { IsOf cache.old session.old }
     requires distinct { IsDistinct (pointwise ◌==◌) (keys_of targets.now) }
     requires kind { AllWriteAs deletes targets.now }
-    requires many { RESERVATIONS_MAX < length targets.now }
-    requires more { length ends.old.items < length targets.now }
-    requires room { length targets.now ≤ vec_capacity ends.old }
+    requires from { IsFirstWaiting progress.old from }
+    requires most { IsRoomFor cache.old.config.stripes most (length targets.now) }
+    requires many { IsCrowded cache.old.config (keys_of targets.now) }
     requires writes { (rounds : List WriteRound)
-        × IsWritingInRounds rounds targets.now cache.old session.old.caller ends.old.items [] }
-    requires cause { IsCauseOf cause.old (failures ends.old.items) fault.old }
+        × IsWritingInRounds rounds targets.now cache.old session.old.caller progress.old [] }
+    requires cause { IsCauseOf cause.old (failures progress.old) fault.old }
     ensures own { IsOf cache.new session.new }
     ensures runs { RunsWriteRounds writes_all deletes_all write_state
-        targets.now cache.old session.old ends.old.items fault.old cache.new session.new ends.new.items fault.new }
-    ensures cause { IsCauseOf cause.new (failures ends.new.items) fault.new }
-    ensures more { length ends.old.items < length ends.new.items }
-    ensures room { length targets.now ≤ vec_capacity ends.new }
+        targets.now cache.old session.old progress.old fault.old cache.new session.new progress.new fault.new }
+    ensures cause { IsCauseOf cause.new (failures progress.new) fault.new }
+    ensures first { StillWaits progress.new from → ⊥ }
 {
     let _types: Option<(Reply, Value)> = None;
-    match no_calls(alloc, deletes) {
-        Ok(calls) => run_round(rt, cache, session, targets, ends, calls, fault, cause),
+    match no_calls(alloc, deletes, most) {
+        Ok(calls) => run_round(
+            rt, cache, session, targets, progress, from, calls, most, fault, cause,
+        ),
         Err(_failed) => {
-            refuse_rest(targets.len(), ends);
-            note_cause(cause, fault, ends.as_slice());
+            refuse_rest(progress);
+            note_cause(cause, fault, progress);
         }
     }
 }
 
-/// No calls, with room for as many as may be reserved, that delete or that write. An `Err` says that an allocation failed.
-pub(crate) fn no_calls(alloc: Global, deletes: bool) -> Result<WriteCalls, AllocError>
-    ensures { IfOk result (λ calls. calls ≡ record { deletes = deletes; items = []; room = RESERVATIONS_MAX }) }
+/// No calls, with room for so many, that delete or that write. An `Err` says that an allocation failed.
+pub(crate) fn no_calls(alloc: Global, deletes: bool, most: usize) -> Result<WriteCalls, AllocError>
+    ensures { IfOk result (λ calls. calls ≡ record { deletes = deletes; items = []; room = most }) }
 {
     if deletes {
-        WriteCalls::deletes(alloc, RESERVATIONS_MAX)
+        WriteCalls::deletes(alloc, most)
     } else {
-        WriteCalls::writes(alloc, RESERVATIONS_MAX)
+        WriteCalls::writes(alloc, most)
     }
 }
 
@@ -349,34 +418,33 @@ pub(crate) fn run_rounds<R: Wait>(
     session: &mut Session,
     targets: &[(Key, Op)],
     deletes: bool,
-    ends: &mut Vec<Option<Result<Reply, Refusal>>>,
+    progress: &mut [Progress],
     calls: WriteCalls,
+    most: usize,
     fault: &mut Option<Refusal>,
 ) -> Option<Refusal>
     requires own { IsOf cache.old session.old }
     requires distinct { IsDistinct (pointwise ◌==◌) (keys_of targets.now) }
     requires kind { AllWriteAs deletes targets.now }
-    requires none { ends.old.items ≡ [] }
-    requires room { length targets.now ≤ vec_capacity ends.old }
-    requires calls { calls ≡ record { deletes = deletes; items = []; room = RESERVATIONS_MAX } }
+    requires most { IsRoomFor cache.old.config.stripes most (length targets.now) }
+    requires calls { calls ≡ record { deletes = deletes; items = []; room = most } }
+    requires new { progress.old ≡ all_waiting (length targets.now) }
     requires fault { fault.old ≡ None }
-    requires writes { IsWritingInRounds [] targets.now cache.old session.old.caller ends.old.items [] }
+    requires writes { IsWritingInRounds [] targets.now cache.old session.old.caller progress.old [] }
     ensures own { IsOf cache.new session.new }
     ensures runs { RunsWriteRounds writes_all deletes_all write_state
-        targets.now cache.old session.old ends.old.items fault.old cache.new session.new ends.new.items fault.new }
-    ensures cause { IsCauseOf result (failures ends.new.items) fault.new }
-    ensures whole { length ends.new.items ≡ length targets.now }
+        targets.now cache.old session.old progress.old fault.old cache.new session.new progress.new fault.new }
+    ensures cause { IsCauseOf result (failures progress.new) fault.new }
+    ensures over { (place : ℕ) → StillWaits progress.new place → ⊥ }
 {
     let _types: Option<(Reply, Value)> = None;
-    if targets.is_empty() {
-        calls.end();
-        return None;
-    }
     let mut cause = None;
-    run_round(rt, cache, session, targets, ends, calls, fault, &mut cause);
-    while ends.len() < targets.len() {
+    run_round(
+        rt, cache, session, targets, progress, 0, calls, most, fault, &mut cause,
+    );
+    while let Some(from) = first_waiting(progress) {
         run_later_round(
-            alloc, rt, cache, session, targets, deletes, ends, fault, &mut cause,
+            alloc, rt, cache, session, targets, deletes, progress, from, most, fault, &mut cause,
         );
     }
     cause
@@ -393,25 +461,22 @@ fn note_fault(fault: &mut Option<Refusal>, returned: Option<Refusal>)
 
 /// Notes the fault that the writer has returned, or else the first of the faults and refusals that keys have ended in, unless a
 /// cause was noted before.
-fn note_cause(
-    cause: &mut Option<Refusal>,
-    fault: &Option<Refusal>,
-    ends: &[Option<Result<Reply, Refusal>>],
-)
-    requires { IfSome cause.old (λ refusal. IsAmong (failures ends.now) refusal ⊎ (fault.now ≡ Some refusal)) }
-    ensures { IsCauseOf cause.new (failures ends.now) fault.now }
+fn note_cause(cause: &mut Option<Refusal>, fault: &Option<Refusal>, progress: &[Progress])
+    requires { IfSome cause.old (λ refusal. IsAmong (failures progress.now) refusal
+        ⊎ (fault.now ≡ Some refusal)) }
+    ensures { IsCauseOf cause.new (failures progress.now) fault.now }
 {
     if cause.is_none() {
-        *cause = first_cause(fault, ends);
+        *cause = first_cause(fault, progress);
     }
 }
 
 /// The fault that the writer has returned, or else the first of the faults and refusals that keys have ended in.
-fn first_cause(fault: &Option<Refusal>, ends: &[Option<Result<Reply, Refusal>>]) -> Option<Refusal>
-    ensures { IsCauseOf result (failures ends.now) fault.now }
+fn first_cause(fault: &Option<Refusal>, progress: &[Progress]) -> Option<Refusal>
+    ensures { IsCauseOf result (failures progress.now) fault.now }
 {
     match fault {
         Some(fault) => Some(*fault),
-        None => first_failure(ends),
+        None => first_failure(progress),
     }
 }

@@ -39,7 +39,7 @@ not_false : (b : Bool) → not b ≡ false → b ≡ true
 not_false true h = refl
 not_false false h = cc
 
--- who is of this session is not of the other
+-- a caller of this session is not one of the other
 is_not_other : (session other : ℕ) (c : Caller) → (other == session) ≡ false → is_of_others session c ≡ false → not (c.session == other) ≡ true
 is_not_other session other c apart h =
     let is : c.session ≡ session = eqb-true c.session session (not_false _ h) in

@@ -1,6 +1,6 @@
 -- The stripes of a cache, one of which changes.
 --     all_at, is_there             what is true of each stripe, at one place
---     each_then, each_set          it stays true where more follows, and where one stripe changes
+--     each_then, each_set          it stays true if more follows, and if one stripe changes
 --     each_push                    one stripe more
 --     new_placed, new_unused, new_idle     what is true of a new stripe
 --     is_at                        the stripe of a key changes, and all else stays

@@ -6,7 +6,7 @@
 --     Returns     a session's next call, whole, and what it returns by how it ended
 --     ClearsAt    a session's current call, whole, at a key that it clears: neither the loader nor the writer is asked, and nothing of the
 --                 session changes but how many steps it has made
---     InvokesAt   a session's current call, whole, at a key, where it runs a processor
+--     InvokesAt   a session's current call, whole, at one of its keys: it runs a processor there
 --     Invoked     the same of a session's next call, which has this key alone
 --     value_in, flag_in, unit_in    what a call returns that replies with a value, with yes or no, or with nothing: a fault is an error
 use Rattle.std.specs.Prelude.{◌≡◌, ℕ, List, Bool, false, Option, None, Result, Ok, Err}

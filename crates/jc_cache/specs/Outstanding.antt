@@ -2,8 +2,8 @@
 --     ReservedState   a call that has reserved its key: the cache's mark, and the reservation
 --     AnsweredState   such a call, with what the loader or the writer answered; of a call that runs a processor, with all that was
 --                     answered for it
---     is_reported_if_due    the writer was asked exactly where a processor's net effect is due to be written: with write-through on, if neither
---                     the loader nor the processor failed, and the processor set or removed the entry
+--     is_reported_if_due    the writer was asked exactly if a processor's net effect is due to be written: with write-through on,
+--                     if neither the loader nor the processor failed, and the processor set or removed the entry
 --     JoinedState     a call that has joined a load: the cache's mark, and the join
 use Rattle.std.specs.Prelude.{Bool, ◌&&◌, is_some}
 use Rattle.std.specs.Bool.{beq}

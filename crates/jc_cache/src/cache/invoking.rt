@@ -49,7 +49,7 @@ impl Cache {
         session.next_call();
     }
 
-    /// The session's current call, whole, at one of its keys, where it runs a processor. It gives what [`Cache::invoke`] gives,
+    /// The session's current call, whole, at one of its keys: it runs a processor there. It gives what [`Cache::invoke`] gives,
     /// waits as that does, and leaves the call at its other keys as it was.
     ///
     /// Condition: the call may begin at the key.

@@ -5,7 +5,8 @@ use Rattle.jc_types.specs.Stripes.{stripe_of}
 use Rattle.jc_model.specs.Cache.{Bytes}
 use Rattle.jc_cache.specs.CacheInside.{IsPlaced}
 use Rattle.jc_bulk.specs.Bulk.{AreLooked}
-use Rattle.jc_bulk.proofs.LookingAtAll.{once_here, all_here, looked_push, apart_push, below_push, none_twice}
+use Rattle.jc_bulk.proofs.LookingAtAll.{all_here, looked_push, apart_push, below_push}
+use Rattle.jc_stripe.proofs.CallerLemmas.{keys_once, none_twice}
 use Rattle.jc_bulk.proofs.clear_all.look_at_all.Goals as goal
 
 pub loop-number-init : goal.loop-number-init
@@ -28,6 +29,6 @@ loop-number-preserved c =
     let here = all_here config i s found placed look.2 look.3.2 in
     record {
       looked = subst (AreLooked (take (i + 1) c.args.cache.now.stripes)) (sym look.3.1) (looked_push c.args.cache.now.stripes i keys found s look.1 old.looked look.3.2);
-      apart = subst (IsDistinct (pointwise ◌==◌)) (sym look.3.1) (apart_push config.stripes i keys found old.below here old.apart (once_here s found look.2 look.3.2));
+      apart = subst (IsDistinct (pointwise ◌==◌)) (sym look.3.1) (apart_push config.stripes i keys found old.below here old.apart (keys_once s found look.2 look.3.2));
       below = ap (list_all (λ (k : Bytes). nat_lt (stripe_of k config.stripes) (i + 1))) look.3.1 ∙ below_push config.stripes i keys found old.below here;
     }

@@ -8,7 +8,7 @@ use Rattle.jc_model.specs.Group.{load_only}
 use Rattle.jc_cache.specs.OutstandingAll.{reserved_keys}
 use Rattle.jc_bulk.specs.Phased.{AddsSteps}
 use Rattle.jc_bulk.specs.Starting.{reservations_in}
-use Rattle.jc_bulk.proofs.GetCommits.{committed_getting, distinct_take, open_once}
+use Rattle.jc_bulk.proofs.GetCommits.{committed_getting, open_once}
 use Rattle.jc_bulk.proofs.Gets.{after_all}
 use Rattle.jc_bulk.proofs.Starting.{keys_same}
 use Rattle.jc_bulk.proofs.get_rounds.commit_next.Goals as goal
@@ -24,7 +24,7 @@ commit_first_load-reply-requires-clause-underway g c =
       reservations_in rest,
       all.gets.underway,
       ap (λ ks. is_among ks key) (keys_same rest) ∙ open_once all.gets.turns key (reserved_keys rest)
-          (subst (IsDistinct (pointwise ◌==◌)) (sym all.gets.keys_are) (distinct_take _ c.requires.gets.1 all.distinct)) (sym all.gets.keys_open),
+          (subst (IsDistinct (pointwise ◌==◌)) (sym all.gets.keys_are) all.distinct) (sym all.gets.keys_open),
     )
 
 pub returns-clause-gets : goal.returns-clause-gets
@@ -34,12 +34,12 @@ returns-clause-gets g c said keys rest all =
     let who = c.args.session.now.caller in
     let done = c.commit_first_load-reply in
     let once : is_among (reserved_keys rest) key ≡ false = open_once all.gets.turns key (reserved_keys rest)
-    (subst (IsDistinct (pointwise ◌==◌)) (sym all.gets.keys_are) (distinct_take _ keys all.distinct)) (sym all.gets.keys_open) in
+    (subst (IsDistinct (pointwise ◌==◌)) (sym all.gets.keys_are) all.distinct) (sym all.gets.keys_open) in
     let get : AddsSteps who (Step who op.Get key (load_only call.answer) None done.result ∷ []) c.args.cache.now done.new.cache =
     subst (λ o. AddsSteps who (Step who o key (load_only call.answer) None done.result ∷ []) c.args.cache.now done.new.cache) all.gets.calls_are.0.call_is.op_is done.ensures.adds in
     let adds : AddsSteps who (Step who op.Get key (load_only (said key)) None done.result ∷ []) c.args.cache.now done.new.cache =
     subst (λ a. AddsSteps who (Step who op.Get key (load_only a) None done.result ∷ []) c.args.cache.now done.new.cache) all.answer get in
-    committed_getting said keys c.args.cache.now done.new.cache who c.args.ends.now (record { cache = call.cache; reservation = call.reservation }) rest c.args.place done.result
+    committed_getting said keys c.args.cache.now done.new.cache who c.args.progress.now (record { cache = call.cache; reservation = call.reservation }) rest c.args.place done.result
     all.distinct all.gets c.requires.before c.requires.there adds
     (done.ensures.underway (reservations_in rest) all.gets.underway (ap (λ ks. is_among ks key) (keys_same rest) ∙ once))
 

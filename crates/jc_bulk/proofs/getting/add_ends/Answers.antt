@@ -14,7 +14,7 @@ add_end-requires-clause-new_failed c =
     let i = c.loop-place.place in
     let key = c.index-keys-place.result in
     ap (λ es. list_any (pointwise ◌==◌ key) (keys_of es)) c.loop-place.invariant.failed
-    ∙ failed_absent (take i keys) (take i c.args.ends.now) key (absent keys i key c.requires.distinct (key_there keys i key c.loop-place-test.true c.index-keys-place.is))
+    ∙ failed_absent (take i keys) (take i c.args.progress.now) key (absent keys i key c.requires.distinct (key_there keys i key c.loop-place-test.true c.index-keys-place.is))
 
 pub add_end-requires-clause-new_found : goal.add_end-requires-clause-new_found
 add_end-requires-clause-new_found c =
@@ -22,19 +22,19 @@ add_end-requires-clause-new_found c =
     let i = c.loop-place.place in
     let key = c.index-keys-place.result in
     ap (λ es. list_any (pointwise ◌==◌ key) (keys_of es)) c.loop-place.invariant.found
-    ∙ found_absent (take i keys) (take i c.args.ends.now) key (absent keys i key c.requires.distinct (key_there keys i key c.loop-place-test.true c.index-keys-place.is))
+    ∙ found_absent (take i keys) (take i c.args.progress.now) key (absent keys i key c.requires.distinct (key_there keys i key c.loop-place-test.true c.index-keys-place.is))
 
 pub loop-place-preserved : goal.loop-place-preserved
 loop-place-preserved c =
     let keys = c.args.keys.now in
-    let ends = c.args.ends.now in
+    let ends = c.args.progress.now in
     let i = c.loop-place.place in
     let key = c.index-keys-place.result in
-    let end = c.index-ends-place.result in
+    let end = c.index-progress-place.result in
     let old = c.loop-place.invariant in
     let so_far = get_ends (take i keys) (take i ends) in
     let more : get_ends (take (i + 1) keys) (take (i + 1) ends) ≡ so_far ++ get_end key end =
-    get_ends_push keys ends i key end c.requires.many c.loop-place-test.true ∙ (λ j. so_far ++ get_end (sym c.index-keys-place.is j) (sym c.index-ends-place.is j)) in
+    get_ends_push keys ends i key end c.requires.many c.loop-place-test.true ∙ (λ j. so_far ++ get_end (sym c.index-keys-place.is j) (sym c.index-progress-place.is j)) in
     record {
       failed = c.add_end.ensures.failed ∙ failed_push c.loop-place.failed.entries so_far (get_end key end) old.failed ∙ ap failed_entries (sym more);
       found = c.add_end.ensures.found ∙ found_push c.loop-place.found.entries so_far (get_end key end) old.found ∙ ap found_entries (sym more);

@@ -7,7 +7,7 @@ use Rattle.jc_bulk.proofs.getting.add_ends.Given as goal
 -- the keys before this place were added
 abbrev pub invariant-loop-place : goal.invariant-loop-place
 invariant-loop-place l = record {
-  failed : l.failed.entries ≡ failed_entries (get_ends (take l.place l.keys) (take l.place l.ends));
-  found : l.found.entries ≡ found_entries (get_ends (take l.place l.keys) (take l.place l.ends));
+  failed : l.failed.entries ≡ failed_entries (get_ends (take l.place l.keys) (take l.place l.progress));
+  found : l.found.entries ≡ found_entries (get_ends (take l.place l.keys) (take l.place l.progress));
   room : (length l.keys ≤ spare l.failed + l.place) × (length l.keys ≤ spare l.found + l.place);
 }

@@ -1,11 +1,7 @@
-use Rattle.std.proofs.Common.{◌≡◌, ◌≤◌, length, vec_capacity}
-use Rattle.jc_bulk.specs.GetRounds.{RefusesRest}
+use Rattle.std.proofs.Common.{◌≡◌, ◌++◌, map, take, drop}
+use Rattle.jc_bulk.specs.GetRounds.{refused_if_waiting}
 use Rattle.jc_bulk.proofs.results.refuse_rest.Given as goal
 
--- the keys before this place have had their turn
+-- the keys before this place are refused if they waited
 abbrev pub invariant-loop-place : goal.invariant-loop-place
-invariant-loop-place l = record {
-  rest : RefusesRest l.initial.ends.items l.ends.items;
-  begun : length l.ends.items ≡ l.place;
-  room : l.keys ≤ vec_capacity l.ends;
-}
+invariant-loop-place l = l.progress ≡ map refused_if_waiting (take l.place l.initial.progress) ++ drop l.place l.initial.progress

@@ -1,6 +1,5 @@
 use Rattle.std.proofs.Common.{◌≡◌, ◌==◌, [], ◌∷◌, None, false, sym, ap, ◌∙◌, subst}
 use Rattle.std.specs.List.{IsDistinct}
-use Rattle.std.specs.Map.{keys_of}
 use Rattle.std.specs.Cmp.Lexicographic.{pointwise}
 use Rattle.jc_model.specs.declared.event.Event.TheVariants.{Step}
 use Rattle.jc_model.specs.Batches.{is_among}
@@ -8,7 +7,7 @@ use Rattle.jc_model.specs.Group.{write_only}
 use Rattle.jc_cache.specs.OutstandingAll.{reserved_keys}
 use Rattle.jc_bulk.specs.Phased.{AddsSteps}
 use Rattle.jc_bulk.specs.Starting.{reservations_in}
-use Rattle.jc_bulk.proofs.GetCommits.{distinct_take, open_once}
+use Rattle.jc_bulk.proofs.GetCommits.{open_once}
 use Rattle.jc_bulk.proofs.Gets.{after_all}
 use Rattle.jc_bulk.proofs.Starting.{keys_same}
 use Rattle.jc_bulk.proofs.Writes.{committed_writing}
@@ -25,7 +24,7 @@ commit_first-reply-requires-clause-underway g c =
       reservations_in rest,
       all.writes.underway,
       ap (λ ks. is_among ks key) (keys_same rest) ∙ open_once all.writes.turns key (reserved_keys rest)
-          (subst (IsDistinct (pointwise ◌==◌)) (sym all.writes.keys_are) (distinct_take _ (keys_of c.requires.writes.1) all.distinct)) (sym all.writes.keys_open),
+          (subst (IsDistinct (pointwise ◌==◌)) (sym all.writes.keys_are) all.distinct) (sym all.writes.keys_open),
     )
 
 pub returns-clause-writes : goal.returns-clause-writes
@@ -36,10 +35,10 @@ returns-clause-writes g c said targets rest all =
     let who = c.args.session.now.caller in
     let done = c.commit_first-reply in
     let once : is_among (reserved_keys rest) key ≡ false = open_once all.writes.turns key (reserved_keys rest)
-    (subst (IsDistinct (pointwise ◌==◌)) (sym all.writes.keys_are) (distinct_take _ (keys_of targets) all.distinct)) (sym all.writes.keys_open) in
+    (subst (IsDistinct (pointwise ◌==◌)) (sym all.writes.keys_are) all.distinct) (sym all.writes.keys_open) in
     let adds : AddsSteps who (Step who op key (write_only (said key)) None done.result ∷ []) c.args.cache.now done.new.cache =
     subst (λ a. AddsSteps who (Step who op key (write_only a) None done.result ∷ []) c.args.cache.now done.new.cache) all.answer done.ensures.adds in
-    committed_writing said targets c.args.cache.now done.new.cache who c.args.ends.now (record { cache = call.cache; reservation = call.reservation }) rest c.args.place done.result
+    committed_writing said targets c.args.cache.now done.new.cache who c.args.progress.now (record { cache = call.cache; reservation = call.reservation }) rest c.args.place done.result
     all.distinct all.writes c.requires.before c.requires.there adds
     (done.ensures.underway (reservations_in rest) all.writes.underway (ap (λ ks. is_among ks key) (keys_same rest) ∙ once))
 

@@ -1,13 +1,13 @@
-use Rattle.std.proofs.Common.{◌≡◌, refl, sym, ap, ◌∙◌, subst, true, is_some, length, arith}
+use Rattle.std.proofs.Common.{◌≡◌, refl, sym, ap, ◌∙◌, subst, true, length, arith}
 use Rattle.std.proofs.lemmas.List.{take_all}
 use Rattle.std.specs.List.{list_all}
-use Rattle.jc_bulk.specs.Writing.{AreWrittenIn}
+use Rattle.jc_bulk.specs.GetRounds.{is_closed}
 use Rattle.jc_bulk.specs.Gets.{AreCounted}
-use Rattle.jc_bulk.specs.Writing.{IsWriting}
+use Rattle.jc_bulk.specs.Writing.{AreWrittenIn, IsWriting}
 use Rattle.jc_bulk.specs.Phased.{LeavesCalls}
 use Rattle.jc_bulk.proofs.Gets.{both_after_all, both_leave, both_counted, same_after_all}
-use Rattle.jc_bulk.proofs.GetRounds.{stay_both, stay_same}
 use Rattle.jc_bulk.proofs.WriteRounds.{none_unwritten}
+use Rattle.jc_bulk.proofs.Places.{stay_both, stay_same}
 use Rattle.jc_bulk.proofs.write_rounds.commit_round.Goals as goal
 
 pub loop-place-init : goal.loop-place-init
@@ -18,8 +18,7 @@ loop-place-init g c = record {
   some = c.requires.writes;
   writes = λ said targets out was. (out, was);
   before = refl;
-  ends = stay_same c.args.ends.now;
-  many = refl;
+  stay = stay_same c.args.progress.now;
   grows = same_after_all c.args.cache.now;
   others = λ other call differs none. none;
 }
@@ -36,15 +35,14 @@ loop-place-preserved g c =
       counts = λ first counted. one.ensures.counts first (old.counts first counted);
       some =
           let s = old.some in
-          let next = one.ensures.writes s.0 s.1 s.2 (subst (λ w. AreWrittenIn s.0 s.1 c.loop-place.cache w c.loop-place.ends c.loop-place.calls s.2) (sym who) s.3) in
-          (s.0, s.1, next.0, subst (λ w. AreWrittenIn s.0 s.1 one.new.cache w one.new.ends one.new.calls next.0) who next.1);
+          let next = one.ensures.writes s.0 s.1 s.2 (subst (λ w. AreWrittenIn s.0 s.1 c.loop-place.cache w c.loop-place.progress c.loop-place.calls s.2) (sym who) s.3) in
+          (s.0, s.1, next.0, subst (λ w. AreWrittenIn s.0 s.1 one.new.cache w one.new.progress one.new.calls next.0) who next.1);
       writes = λ said targets out was.
           let s = old.writes said targets out was in
-          let next = one.ensures.writes said targets s.0 (subst (λ w. AreWrittenIn said targets c.loop-place.cache w c.loop-place.ends c.loop-place.calls s.0) (sym who) s.1) in
-          (next.0, subst (λ w. AreWrittenIn said targets one.new.cache w one.new.ends one.new.calls next.0) who next.1);
+          let next = one.ensures.writes said targets s.0 (subst (λ w. AreWrittenIn said targets c.loop-place.cache w c.loop-place.progress c.loop-place.calls s.0) (sym who) s.1) in
+          (next.0, subst (λ w. AreWrittenIn said targets one.new.cache w one.new.progress one.new.calls next.0) who next.1);
       before = one.ensures.before;
-      ends = stay_both start.ends.now c.loop-place.ends one.new.ends old.ends one.ensures.ends;
-      many = one.ensures.many ∙ old.many;
+      stay = stay_both start.progress.now c.loop-place.progress one.new.progress old.stay one.ensures.stay;
       grows = both_after_all start.cache.now c.loop-place.cache one.new.cache old.grows one.ensures.grows;
       others = both_leave start.session.now.caller.session start.cache.now c.loop-place.cache one.new.cache old.others
           (subst (λ w. LeavesCalls w.session c.loop-place.cache one.new.cache) who one.ensures.others);
@@ -54,24 +52,24 @@ pub end-requires : goal.end-requires
 end-requires g c =
     let old = c.loop-place.invariant in
     let s = old.some in
-    let over : list_all is_some c.loop-place.ends ≡ true =
-    ap (list_all is_some) (sym (take_all c.loop-place.place c.loop-place.ends (omega (arith, c.loop-place-test.false, old.many)))) ∙ old.before in
-    (none_unwritten s.0 s.1 c.loop-place.cache c.args.session.now.caller c.loop-place.ends c.loop-place.calls s.2 s.3 over).1
+    let over : list_all is_closed c.loop-place.progress ≡ true =
+    ap (list_all is_closed) (sym (take_all c.loop-place.place c.loop-place.progress (omega (arith, c.loop-place-test.false, old.stay.many)))) ∙ old.before in
+    (none_unwritten s.0 s.1 c.loop-place.cache c.args.session.now.caller c.loop-place.progress c.loop-place.calls s.2 s.3 over).1
 
 pub returns-clause-counts : goal.returns-clause-counts
 returns-clause-counts g c first counted =
     let old = c.loop-place.invariant in
     let s = old.some in
-    let over : list_all is_some c.loop-place.ends ≡ true =
-    ap (list_all is_some) (sym (take_all c.loop-place.place c.loop-place.ends (omega (arith, c.loop-place-test.false, old.many)))) ∙ old.before in
-    let none = (none_unwritten s.0 s.1 c.loop-place.cache c.args.session.now.caller c.loop-place.ends c.loop-place.calls s.2 s.3 over).1 in
-    subst (λ n. AreCounted first c.loop-place.ends n c.loop-place.session.counts) (ap length none) (old.counts first counted)
+    let over : list_all is_closed c.loop-place.progress ≡ true =
+    ap (list_all is_closed) (sym (take_all c.loop-place.place c.loop-place.progress (omega (arith, c.loop-place-test.false, old.stay.many)))) ∙ old.before in
+    let none = (none_unwritten s.0 s.1 c.loop-place.cache c.args.session.now.caller c.loop-place.progress c.loop-place.calls s.2 s.3 over).1 in
+    subst (λ n. AreCounted first c.loop-place.progress n c.loop-place.session.counts) (ap length none) (old.counts first counted)
 
 pub returns-clause-writes : goal.returns-clause-writes
 returns-clause-writes g c said targets out was =
     let old = c.loop-place.invariant in
-    let over : list_all is_some c.loop-place.ends ≡ true =
-    ap (list_all is_some) (sym (take_all c.loop-place.place c.loop-place.ends (omega (arith, c.loop-place-test.false, old.many)))) ∙ old.before in
+    let over : list_all is_closed c.loop-place.progress ≡ true =
+    ap (list_all is_closed) (sym (take_all c.loop-place.place c.loop-place.progress (omega (arith, c.loop-place-test.false, old.stay.many)))) ∙ old.before in
     let next = old.writes said targets out was in
-    let none = none_unwritten said targets c.loop-place.cache c.args.session.now.caller c.loop-place.ends c.loop-place.calls next.0 next.1 over in
-    subst (λ o. IsWriting said targets c.loop-place.cache c.args.session.now.caller c.loop-place.ends o) none.0 next.1.writes
+    let none = none_unwritten said targets c.loop-place.cache c.args.session.now.caller c.loop-place.progress c.loop-place.calls next.0 next.1 over in
+    subst (λ o. IsWriting said targets c.loop-place.cache c.args.session.now.caller c.loop-place.progress o) none.0 next.1.writes

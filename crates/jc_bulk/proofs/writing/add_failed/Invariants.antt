@@ -8,6 +8,6 @@ use Rattle.jc_bulk.proofs.writing.add_failed.Given as goal
 -- the keys before this place were added
 abbrev pub invariant-loop-place : goal.invariant-loop-place
 invariant-loop-place l = record {
-  failed : l.failed.entries ≡ failed_entries (get_ends (take l.place (keys_of l.targets)) (take l.place l.ends));
+  failed : l.failed.entries ≡ failed_entries (get_ends (take l.place (keys_of l.targets)) (take l.place l.progress));
   room : length l.targets ≤ spare l.failed + l.place;
 }
