@@ -13,15 +13,15 @@ mod bulk;
 mod bulk_lines;
 mod bytes;
 mod calls;
-mod clearing;
-mod getting_all;
 mod histories;
 mod invoking;
 mod invoking_all;
 mod limits;
 mod many;
+mod many_rounds;
 mod outside;
 mod scripted;
+mod scripted_writer;
 mod stores;
 mod writing_all;
 

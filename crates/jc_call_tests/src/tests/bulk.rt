@@ -1,4 +1,5 @@
 //! Bulk calls one after the other on one cache, before a store whose calls are counted.
+use super::asking::Counting;
 use super::bulk_lines::plays_on;
 use super::*;
 
@@ -39,6 +40,11 @@ putall a=5 = ok | 3 2 2
 get a = 5 | 1 0 0
 stored a=5
 own 21
+# One call loads the keys that aren't cached. What is found is in the order of the call.
+clear = ok | 3 2 2
+put b 2 = ok | 1 1 0
+getall b c a = ok: b=2 a=5 | 4 2 2
+own 26
 ";
 
 #[test]
@@ -52,4 +58,53 @@ fn calls_one_after_the_other(rt: HostRuntime) {
         ..config(100, true, true)
     };
     plays_on(&rt, alloc, &config, &desk, loader, writer, ALL_CALLS);
+}
+
+/// The loader counts the keys that it is asked for. It fails at `!`, with that count as its code, and finds it at each other key.
+const FAILED_LOADS: &str = "\
+# The loader's call fails for each key that it was asked for. What is cached is found all the same.
+get a = \x01 | 1 0 0
+getall ! a b = LoaderFailed 2; ! LoaderFailed 2; b LoaderFailed 2: a=\x01 | 1 0 0
+cached a=\x01
+own 4
+# Of 16 places, stripe 0 has 2 left, and a load needs three. Its key is refused before the loader is called: that is the cause.
+putall d=1 f=1 h=1 j=1 l=1 n=1 p=1 r=1 t=1 v=1 x=1 z=1 = ok | 1 0 0
+put d 2 = ok | 1 0 0
+getall ! b = HistoryFull; ! LoaderFailed 3; b HistoryFull | 2 0 0
+own 18
+";
+
+#[test]
+fn names_the_keys_that_failed(rt: HostRuntime) {
+    let alloc = rt.alloc();
+    let desk = Desk::new(&rt, alloc);
+    let failing = desk.counts.counting(rt, Counting { calls: 0 });
+    let failing = failing.expect(&rt, "memory");
+    let loader: Loader = Some(Box::new(alloc, failing).ok().expect(&rt, "memory"));
+    let config = Config {
+        stripes: 2,
+        capacity: 16,
+        ..config(16, true, false)
+    };
+    plays_on(&rt, alloc, &config, &desk, loader, None, FAILED_LOADS);
+}
+
+const FULL_STRIPE: &str = "\
+# Of 16 places, stripe 1 has 2 left, and a removal needs three. Its key is named, and the key of the other stripe is cleared.
+putall a=1 b=1 = ok | 0 0 0
+getall a c e g i k m o q s u w y = ok: a=1 | 0 0 0
+clear = HistoryFull; a HistoryFull | 0 0 0
+cached a=1
+own 16
+";
+
+#[test]
+fn clears_what_has_room(rt: HostRuntime) {
+    let alloc = rt.alloc();
+    let desk = Desk::new(&rt, alloc);
+    let config = Config {
+        stripes: 2,
+        ..config(16, false, false)
+    };
+    plays_on(&rt, alloc, &config, &desk, None, None, FULL_STRIPE);
 }

@@ -1,7 +1,12 @@
 //! Calls for many keys, as lines of text: the call; its cause if it failed, or `ok`; each key that failed, with its fault or its
 //! refusal; after a colon the entries that it found; and how often, by then, the loader was called for many keys, and the writer
 //! to write and to delete. Between such lines are those of calls for one key, and lines that say what there is by then: what is
-//! cached, what is in the store, how many entries both have, and how many steps the session has made.
+//! cached, what is in the store, how many entries both have, and how many steps the session has made. A line that begins with `# `
+//! is a comment.
+//!
+//! Before a [`ScriptedWriter`](super::scripted_writer::ScriptedWriter) a call that the writer is asked by also says what the writer
+//! does at each of its calls, between commas: the keys that it leaves, or `-` for none; after `+` what it adds to them; and its
+//! code, if it fails.
 //!
 //!     putall a=2 b=2 #0..9=2 = WriterFailed 0; b WriterFailed 0; #7 WriterFailed 0 | 0 1 0
 //!     getall a b c = ok: a=2 b=1 | 1 1 0
@@ -9,6 +14,7 @@
 //!     stored a=2 b=1
 //!     count 2 2
 //!     own 14
+//!     putall a=3 b=3 leaving b + z=3 fails 4 = WriterFailed 4; b WriterFailed 4 | 1 2 0
 ghost use Rattle.jc_cache.specs.Sessions.{MayCall};
 
 use super::answers::{answer_of, first_word};
@@ -16,6 +22,9 @@ use super::many::{entries_of, key_of, keys_of};
 use super::*;
 use indexmap::IndexMap;
 use jc_bulk::{BulkFault, clear, get_all, put_all, remove_all, remove_every};
+
+/// What comes between a call and what the writer does.
+pub const REPORTS: &str = " leaving ";
 
 /// How a call for many keys ended.
 #[derive(Drop)]
@@ -87,16 +96,13 @@ pub fn are_failed(rt: &impl Abort, failed: &IndexMap<Key, Refusal>, text: &str) 
 /// The entries are those that a text says, in this order.
 fn are_entries(rt: &impl Abort, entries: &IndexMap<Key, Value>, text: &str) {
     let mut wanted = text.split_whitespace();
-    for (key, value) in entries {
+    for (key, found) in entries {
         let (k, v) = wanted
             .next()
             .and_then(|p| p.split_once('='))
             .expect(rt, "a pair");
-        is(
-            rt,
-            (key.bytes(), value.bytes()),
-            (k.as_bytes(), v.as_bytes()),
-        );
+        is(rt, *key, key_of(rt, k));
+        is(rt, *found, value(rt, v));
     }
     is(rt, wanted.next(), None);
 }
@@ -200,6 +206,7 @@ impl Desk {
     {
         let (call, counts) = line.split_once(" | ").expect(rt, "a call and counts");
         let (call, end) = call.split_once(" = ").expect(rt, "a call and its end");
+        let (call, _reports) = call.split_once(REPORTS).unwrap_or((call, ""));
         let ended = ended(rt, alloc, cache, session, call);
         ended.expect(rt, "a call").is(rt, end);
         self.counted_all(rt, counts);
@@ -219,6 +226,7 @@ impl Desk {
     {
         let (word, rest) = first_word(line);
         match word {
+            "#" => {}
             "cached" => is_cached(rt, alloc, cache, rest),
             "stored" => self.holds(rt, alloc, rest),
             "count" => self.counts_entries(rt, alloc, cache, rest),

@@ -158,7 +158,8 @@ fn asks_nobody_for_a_processor(rt: HostRuntime) {
     desk.holds(&rt, alloc, "a=1");
 }
 
-/// A processor that goes on after a failed load: the loader isn't called again, nothing is written, and its failure is the answer.
+/// A processor that continues after a failed load: the loader isn't called again, nothing is written, and its failure is the
+/// answer.
 #[test]
 fn goes_on_after_a_failed_load(rt: HostRuntime) {
     let alloc = rt.alloc();

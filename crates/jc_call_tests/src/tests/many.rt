@@ -1,8 +1,7 @@
-//! Many keys, with their values, and what a call of many keys answers of them.
+//! Many keys, with their values.
 use super::answers::{key, value};
 use super::*;
 use indexmap::{IndexMap, IndexSet};
-use jc_bulk::BulkFault;
 
 /// The key that a word names: its bytes, or those of a number, as in `#7`.
 pub fn key_of(rt: &impl Abort, word: &str) -> Key {
@@ -78,31 +77,4 @@ pub fn many_keys(rt: &impl Abort, alloc: Global, count: usize) -> IndexSet<Key> 
     let mut keys = IndexSet::new(alloc);
     add_numbered(rt, &mut keys, 0, count);
     keys
-}
-
-/// What became of a call that failed.
-pub fn failed(rt: &impl Abort, done: Result<(), BulkFault>) -> BulkFault {
-    done.err().expect(rt, "a fault")
-}
-
-impl Desk {
-    /// The loader was called so often for many keys, and the writer to write and to delete.
-    pub(super) fn counted_batches<R: Abort + Wait>(
-        &self,
-        rt: &R,
-        loads: u64,
-        writes: u64,
-        deletes: u64,
-    ) {
-        let counted = self.counts.now(rt);
-        is(
-            rt,
-            [
-                counted.load_batches,
-                counted.write_batches,
-                counted.delete_batches,
-            ],
-            [loads, writes, deletes],
-        );
-    }
 }
