@@ -4,9 +4,11 @@ ghost use Rattle.std.specs.Prelude.{◌≡◌, []};
 use indexmap::IndexMap;
 use jc_types::{Key, Refusal, Value};
 use std::alloc::Global;
+use thiserror::Error;
 
-/// What became of a bulk call of which a key failed, or that was refused whole.
-#[derive(Drop)]
+/// What became of a bulk call of which a key failed, or that was refused whole. Its text is that of its cause.
+#[derive(Debug, Drop, Error)]
+#[error("{cause}")]
 pub struct BulkFault {
     /// The first fault, or refusal that isn't put off, that the call met. A call that is refused whole has `TooManyKeys`, if it
     /// names more than [`BULK_KEYS_MAX`](jc_types::BULK_KEYS_MAX) keys, or `OutOfMemory`.

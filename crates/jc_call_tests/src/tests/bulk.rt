@@ -1,9 +1,11 @@
 //! Bulk calls one after the other on one cache, before a store whose calls are counted.
 use super::asking::Counting;
 use super::bulk_lines::plays_on;
+use super::many::keys_of;
 use super::*;
+use jc_bulk::get_all;
 
-/// Each of the six calls, twice, and calls for one key between them.
+/// Each of the five calls, twice, and calls for one key between them.
 const ALL_CALLS: &str = "\
 getall a b c = ok: a=1 | 1 0 0
 cached a=1
@@ -107,4 +109,17 @@ fn clears_what_has_room(rt: HostRuntime) {
         ..config(16, false, false)
     };
     plays_on(&rt, alloc, &config, &desk, None, None, FULL_STRIPE);
+}
+
+/// A call that failed says what its cause says.
+#[test]
+fn says_its_cause(rt: HostRuntime) {
+    let alloc = rt.alloc();
+    let mut cache = opened(&rt, alloc, &config(16, false, false));
+    let mut session = started(&rt, &mut cache, None, None);
+    let keys = keys_of(&rt, alloc, "#0..1025");
+    let got = get_all(alloc, &rt, &mut cache, &mut session, &keys);
+    let fault = got.err().expect(&rt, "a fault");
+    let text = format!(in alloc; "{fault}").expect(&rt, "memory");
+    is(&rt, text.as_str(), "the bulk call names too many keys");
 }
