@@ -1,6 +1,9 @@
 //! Joiners of two loads, answered and told to retry, and a table that is full. No test is given an allocator.
+ghost use Rattle.std.specs.Prelude.{◌≡◌};
+ghost use Rattle.jc_inflight.specs.Joining.{has_joined};
+
 use super::is;
-use jc_inflight::{JoinState, Joiners};
+use jc_inflight::{JoinState, Joiner, Joiners};
 use jc_types::{Caller, Key};
 use std::process::Abort;
 use std::test::Fail;
@@ -9,8 +12,15 @@ fn caller(session: u32, call: u64) -> Caller {
     Caller { session, call }
 }
 
+/// Whether a call has joined a load of the key and hasn't taken its answer.
+fn has_joined(joiners: &[Joiner], caller: Caller, key: &Key) -> bool
+    ensures { result ≡ has_joined caller key.now joiners.now }
+{
+    joiners.iter().any(|j| j.belongs_to(caller, key))
+}
+
 fn join(rt: &impl Abort, joiners: &mut Joiners, caller: Caller, key: &Key, load: u64) -> bool {
-    let joined = joiners.list().iter().any(|j| j.belongs_to(caller, key));
+    let joined = has_joined(joiners.list(), caller, key);
     assert!(rt; !joined, "no call joins twice");
     joiners.join(caller, key, load)
 }
