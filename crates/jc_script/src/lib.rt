@@ -22,3 +22,6 @@ mod printing;
 mod process_words;
 pub mod run;
 mod words;
+
+pub use noted::Noted;
+pub use run::{RunEnd, RunFault};

@@ -21,8 +21,8 @@ mod withdrawals;
 mod world;
 mod writing;
 
-use jc_script::noted::Noted;
-use jc_script::run::{RunEnd, run};
+use jc_script::run::run;
+use jc_script::{Noted, RunEnd};
 use std::alloc::Global;
 use std::fmt::Debug;
 use std::process::Abort;

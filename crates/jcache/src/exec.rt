@@ -6,8 +6,8 @@ ghost use Rattle.jcache.specs.Exit.{Exit, ExitOfPlay, FailsByStreams};
 
 use crate::commands::{Task, read_task};
 use clap::error::ErrorKind;
-use jc_script::noted::Noted;
-use jc_script::run::{RunEnd, RunFault, run};
+use jc_script::run::run;
+use jc_script::{Noted, RunEnd, RunFault};
 use std::alloc::Global;
 use std::io::{Read, Write};
 

@@ -4,7 +4,7 @@
 mod commands;
 mod exec;
 
-use jc_script::noted::Noted;
+use jc_script::Noted;
 use std::io;
 use std::process::ExitCode;
 

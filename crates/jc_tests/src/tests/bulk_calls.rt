@@ -1,6 +1,6 @@
 //! Bulk calls: their keys in rounds, calls that ask nobody, what finds no room, calls that are given up, and the most keys.
 use super::{all_hold, is, played};
-use jc_script::run::RunEnd;
+use jc_script::RunEnd;
 use jc_types::BULK_KEYS_MAX;
 use std::alloc::Global;
 use std::process::Abort;

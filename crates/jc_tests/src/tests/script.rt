@@ -3,8 +3,8 @@
 mod faults;
 
 use super::{is, played};
-use jc_script::noted::Noted;
-use jc_script::run::{RunEnd, RunFault, run};
+use jc_script::run::run;
+use jc_script::{Noted, RunEnd, RunFault};
 use jc_types::SCRIPT_MAX;
 use std::alloc::Global;
 use std::io;
