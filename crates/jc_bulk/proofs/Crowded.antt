@@ -21,8 +21,8 @@ use Rattle.jc_cache.specs.Caches.{CacheState, IsStripeOf}
 use Rattle.jc_cache.proofs.CallerLemmas.{at_key}
 use Rattle.jc_bulk.specs.declared.round.Progress.{Progress}
 use Rattle.jc_bulk.specs.declared.round.Progress.TheVariants.{Waiting, Reserved, Ended}
-use Rattle.jc_bulk.specs.GetRounds.{IsRoomFor, IsHeldBack}
-use Rattle.jc_bulk.specs.Gets.{Turn, turn_keys, turn_progress, open_keys, key_if_open}
+use Rattle.jc_bulk.specs.KeyProgress.{IsRoomFor, IsHeldBack}
+use Rattle.jc_bulk.specs.Turns.{Turn, turn_keys, turn_progress, open_keys, key_if_open}
 use Rattle.jc_bulk.specs.Rounds.{IsCrowded, AreFewEach, in_stripe}
 use Rattle.jc_bulk.specs.Underway.{IsUnder, IsUnderway}
 use Rattle.jc_bulk.proofs.Places.{fewer_open}

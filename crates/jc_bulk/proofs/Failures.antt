@@ -1,10 +1,9 @@
--- The first failure that a `getAll` meets.
+-- The first failure that a bulk call meets.
 --     failures_stay    what has failed stays among the failures
---     cause_stays      so does the cause
 --     failure_there    a key that failed, at its place
 --     failures_more    the failures, by one key more
 --     none_failed      and if it hasn't failed
-use Rattle.std.proofs.Common.{◌≡◌, ◌<◌, ◌+◌, ◌++◌, ◌⊎◌, inl, inr, ℕ, zero, suc, List, [], ◌∷◌, length, get_or, take, Option, None, Some, Result, IfSome, slice_get, refl, sym, ap, ◌∙◌, arith}
+use Rattle.std.proofs.Common.{◌≡◌, ◌<◌, ◌+◌, ◌++◌, ◌⊎◌, inl, inr, ℕ, zero, suc, List, [], ◌∷◌, length, get_or, take, Option, None, Some, Result, slice_get, refl, sym, ap, ◌∙◌, arith}
 use Rattle.std.proofs.lemmas.List.{take_more}
 use Rattle.std.proofs.lemmas.List.Elements.{filter_map-append}
 use Rattle.std.specs.List.{IsAmong, cons_option}
@@ -13,7 +12,7 @@ use Rattle.jc_model.specs.declared.event.Reply.{Reply}
 use Rattle.jc_bulk.specs.declared.round.Progress.{Progress}
 use Rattle.jc_bulk.specs.declared.round.Progress.TheVariants as progress
 use Rattle.jc_bulk.specs.Ends.{refusal_in}
-use Rattle.jc_bulk.specs.GetRounds.{StayEnded, IsCauseIn, failures, failure_at}
+use Rattle.jc_bulk.specs.KeyProgress.{StayEnded, failures, failure_at}
 
 -- 1. One more.
 
@@ -54,10 +53,6 @@ pub failures_stay : (ps later : List Progress) (r : Refusal) → StayEnded ps la
 failures_stay ps later r stay h =
     let found = ended_there ps r h in
     failed_there later found.0 found.1 r (stay.ended found.0 found.1 found.2) found.3
-
-pub cause_stays : (cause : Option Refusal) (ps later : List Progress) → StayEnded ps later → IsCauseIn cause (failures ps) → IfSome cause (λ r. IsAmong (failures later) r)
-cause_stays None ps later stay h = tt
-cause_stays (Some r) ps later stay h = failures_stay ps later r stay h
 
 -- 3. The first one.
 

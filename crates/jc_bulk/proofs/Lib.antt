@@ -9,20 +9,18 @@ mod OnePhase
 mod KeyEnds
 mod ClearingKeys
 mod LookingAtAll
+mod Asking
 pub mod Places
 pub mod Crowded
-pub mod Gets
-pub mod GetCommits
-pub mod GetRounds
-pub mod GetAsks
+pub mod Turns
+pub mod SoFar
+pub mod InRounds
+pub mod AskedKeys
+pub mod RoundCalls
 pub mod Failures
-pub mod GotAll
-pub mod GetResults
 pub mod RunningRounds
-mod WrittenThrough
-pub mod Writes
-pub mod WriteRounds
-pub mod WriteAsks
-pub mod RunningWrites
+pub mod CarriedOut
+pub mod KeyResults
+pub mod GotAll
 pub mod WrittenAll
 pub mod WriteTargets

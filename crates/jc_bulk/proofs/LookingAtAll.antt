@@ -4,8 +4,8 @@
 --     apart_push        the keys still differ
 --     below_push        and belong to the stripes that were looked at
 --     looked_at         a look at a stripe that is reached
---     first_there, nothing_there    a list by its first place
-use Rattle.std.proofs.Common.{◌≡◌, ◌==◌, ◌&&◌, ◌+◌, ℕ, List, [], ◌∷◌, ◌++◌, take, Bool, true, false, Option, None, Some, nat_lt, slice_get, refl, sym, ap, ◌∙◌, subst, arith}
+--     first_there       a list by its first place
+use Rattle.std.proofs.Common.{◌≡◌, ◌==◌, ◌&&◌, ◌+◌, ℕ, List, [], ◌∷◌, ◌++◌, take, Bool, true, false, Option, Some, nat_lt, slice_get, refl, sym, ap, ◌∙◌, subst, arith}
 use Rattle.std.specs.List.{list_all, IsDistinct, AllByRecursion}
 use Rattle.std.specs.Cmp.Lexicographic.{pointwise, same_text}
 use Rattle.std.proofs.lemmas.Bool.{and_parts}
@@ -98,7 +98,3 @@ looked_at stripes i a b was mid now at reached there same looks =
 pub first_there : {X : Type 0} (xs : List X) (x : X) → slice_get xs 0 ≡ Some x → (rest : List X) × (xs ≡ x ∷ rest)
 first_there [] x at = cc
 first_there (y ∷ ys) x at = (ys, let same : y ≡ x = cc in ap (λ z. z ∷ ys) same)
-
-pub nothing_there : {X : Type 0} (xs : List X) → slice_get xs 0 ≡ None → xs ≡ []
-nothing_there [] at = refl
-nothing_there (y ∷ ys) at = cc

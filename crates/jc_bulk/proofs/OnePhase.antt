@@ -36,7 +36,7 @@ use Rattle.jc_bulk.specs.Phased.{AddsSteps}
 use Rattle.jc_bulk.specs.Recorded.{is_by}
 use Rattle.jc_bulk.specs.Rounds.{IsStripeFull}
 use Rattle.jc_bulk.specs.Starting.{reservations_in}
-use Rattle.jc_bulk.specs.StartingLoads.{StartsFor}
+use Rattle.jc_bulk.specs.Starting.{StartsFor}
 use Rattle.jc_bulk.specs.Underway.{IsUnder, IsUnderway}
 use Rattle.jc_bulk.proofs.Phased.{begins_after, commits_after, adds_at}
 use Rattle.jc_bulk.proofs.Phases.{is_caller}

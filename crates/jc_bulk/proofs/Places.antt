@@ -5,7 +5,7 @@
 --     waits_at, not_waits_at, reserved_at    what a test says of a place
 --     set_there                         a place that waits after it was set was set so
 --     fewer_wait                        fewer keys wait, once one of them doesn't
---     first_of_all, none_failed_yet     before the first round the first key is the first that waits, and none has failed
+--     none_failed_yet                   before the first round no key has failed
 --     turn_set, keys_set, progress_set  the turns, as one place changes
 --     turn_there                        what is so of each turn is so of that at a place
 --     turns_set                         what is so of each turn, as one place changes
@@ -16,7 +16,6 @@
 --     all_over                          each key is over, if none waits and none is reserved
 use Rattle.std.proofs.Common.{◌≡◌, ◌==◌, ◌<◌, ◌≤◌, ◌+◌, ◌&&◌, ◌||◌, ◌++◌, ◌⊎◌, inl, inr, ℕ, zero, suc, List, [], ◌∷◌, length, length-set, map, take, drop, set, get_or, true, false, not, true≢false, Option, None, Some, Result, slice_get, refl, sym, ap, ◌∙◌, subst, arith}
 use Rattle.std.proofs.lemmas.Bool.{and_parts, or_parts, cases_eq}
-use Rattle.std.proofs.lemmas.Bool.Decides.{nat_tests}
 use Rattle.std.proofs.lemmas.Cmp.{nat_list_eq_equiv}
 use Rattle.std.proofs.lemmas.Map.Keys.{IsDistinct-head, IsDistinct-tail}
 use Rattle.std.proofs.lemmas.Option.{slice_get-get_or, get_or_from_slice_get}
@@ -28,8 +27,8 @@ use Rattle.jc_model.specs.Batches.{is_among}
 use Rattle.jc_model.specs.Cache.{Bytes}
 use Rattle.jc_bulk.specs.declared.round.Progress.{Progress}
 use Rattle.jc_bulk.specs.declared.round.Progress.TheVariants.{Waiting, Reserved, Ended}
-use Rattle.jc_bulk.specs.GetRounds.{StayEnded, StillWaits, IsFirstWaiting, is_closed, is_waiting, waiting, all_waiting, refused_if_waiting, failures}
-use Rattle.jc_bulk.specs.Gets.{Turn, turn_keys, turn_progress, open_keys, key_if_open}
+use Rattle.jc_bulk.specs.KeyProgress.{StayEnded, StillWaits, is_closed, is_waiting, waiting, all_waiting, refused_if_waiting, failures}
+use Rattle.jc_bulk.specs.Turns.{Turn, turn_keys, turn_progress, open_keys, key_if_open}
 
 -- 1. What a key may become.
 
@@ -136,13 +135,6 @@ fewer_of (x ∷ old) (y ∷ new) (suc from) many waited was not_now =
 
 pub fewer_wait : (old new : List Progress) (from : ℕ) → StayEnded old new → StillWaits old from → (StillWaits new from → ⊥) → waiting new < waiting old
 fewer_wait old new from stay was not_now = fewer_of old new from stay.many stay.waited was not_now
-
-pub some_keys : (n : ℕ) → (n == 0) ≡ false → 0 < n
-some_keys n some = grind (arith, nat_tests)
-
-pub first_of_all : (n : ℕ) → 0 < n → IsFirstWaiting (all_waiting n) 0
-first_of_all zero some = absurd (omega (arith, some))
-first_of_all (suc n) some = (refl, λ earlier before at. omega (arith, before))
 
 pub none_failed_yet : (n : ℕ) → failures (all_waiting n) ≡ []
 none_failed_yet zero = refl

@@ -6,11 +6,12 @@ pub mod Underway
 pub mod Laws
 pub mod Starting
 pub mod Phased
-pub mod StartingLoads
 pub mod Clearing
-pub mod Gets
-pub mod GetRounds
+pub mod Turns
+pub mod KeyProgress
+pub mod RoundCalls
+pub mod SoFar
+pub mod InRounds
+pub mod Carrying
 pub mod Getting
-pub mod Writing
-pub mod WriteRounds
 pub mod WritingAll

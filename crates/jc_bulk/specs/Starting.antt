@@ -5,12 +5,16 @@
 --     IsCallOf          a call that has reserved this key, of this caller and operation
 --     WritesAs          the operation of calls that write is a `Put`, and of calls that delete a `Remove`
 --     change_wanted     what an operation asks the writer for at a key without an entry: a `Put` and a `Remove` ask for that at every key
---     AsksFor           a call on this cache that has reserved this key, and asks the writer for its operation's change
---     StartsWrite       what a first phase of the key makes of the calls whose writer is to be asked: one more of this key if it has
---                       reserved it, and else the same
-use Rattle.std.specs.Prelude.{◌≡◌, ◌⊎◌, List, [], ◌∷◌, map, Bool, true, false, Option, None, Some, Ok, Err}
+--     AsksFor           a call on this cache that has reserved this key, and asks the writer for its operation's change, if it has one
+--     StartsCall        what a first phase of the key makes of the calls that are out: one more of this key if it has reserved it, and
+--                       else the same
+--     StartsFor         why a first phase of the key is done, reserves it, refuses it for good or puts it off; it refuses it for good only
+--                       with `HistoryFull` where the stripe is near full, and puts it off only where as many keys of the call are out in
+--                       its stripe as may be
+use Rattle.std.specs.Prelude.{◌≡◌, ◌⊎◌, ◌++◌, List, [], ◌∷◌, map, Bool, true, false, Option, None, Some, Ok, Err}
 use Rattle.jc_types.specs.Refusals.{is_put_off}
 use Rattle.jc_types.specs.declared.refusal.Refusal.{Refusal}
+use Rattle.jc_types.specs.declared.refusal.Refusal.TheVariants.{HistoryFull}
 use Rattle.jc_types.specs.declared.caller.Caller.{Caller}
 use Rattle.jc_model.specs.declared.event.Change.{Change}
 use Rattle.jc_model.specs.declared.event.Event.{Event}
@@ -27,7 +31,9 @@ use Rattle.jc_stripe.specs.State.{State}
 use Rattle.jc_stripe.specs.Tickets.{change_asked}
 use Rattle.jc_session.specs.declared.mark.Mark.{Mark}
 use Rattle.jc_cache.specs.Outstanding.{ReservedState}
-use Rattle.jc_cache.specs.OutstandingAll.{WriteCallsState, with_write_call}
+use Rattle.jc_bulk.specs.Ends.{is_near_full}
+use Rattle.jc_bulk.specs.Laws.{keys_out}
+use Rattle.jc_bulk.specs.Rounds.{IsStripeFull}
 use Rattle.jc_bulk.specs.declared.round.Progress.{Progress}
 use Rattle.jc_bulk.specs.declared.round.Progress.TheVariants.{Waiting, Reserved, Ended}
 
@@ -60,7 +66,13 @@ change_wanted op = write_ask op None process.NotAsked
 abbrev pub AsksFor : Mark → Caller → Bytes → Op → ReservedState → Type 0
 AsksFor mark caller key op call = IsCallOf caller key op call × (call.cache ≡ mark) × (change_asked call.reservation.first ≡ change_wanted op)
 
-abbrev pub StartsWrite : Mark → Caller → Bytes → Op → Progress → WriteCallsState → WriteCallsState → Type 0
-StartsWrite mark caller key op (Ended ended) old new = new ≡ old
-StartsWrite mark caller key op Reserved old new = (call : ReservedState) × AsksFor mark caller key op call × (new ≡ with_write_call old call)
-StartsWrite mark caller key op Waiting old new = new ≡ old
+abbrev pub StartsCall : Mark → Caller → Bytes → Op → Progress → List ReservedState → List ReservedState → Type 0
+StartsCall mark caller key op (Ended ended) old new = new ≡ old
+StartsCall mark caller key op Reserved old new = (call : ReservedState) × AsksFor mark caller key op call × (new ≡ old ++ call ∷ [])
+StartsCall mark caller key op Waiting old new = new ≡ old
+
+abbrev pub StartsFor : State → Caller → List Reservation → Bytes → Op → Progress → Type 0
+StartsFor state caller out key op (Ended (Ok reply)) = first_refusal state caller key op ≡ None
+StartsFor state caller out key op (Ended (Err refusal)) = HasReason state caller key op (Ended (Err refusal)) × (refusal ≡ HistoryFull) × (is_near_full state caller.call ≡ true)
+StartsFor state caller out key op Reserved = first_refusal state caller key op ≡ None
+StartsFor state caller out key op Waiting = HasReason state caller key op Waiting × IsStripeFull state.config (keys_out out) key

@@ -6,21 +6,21 @@ ghost use Rattle.std.specs.Cmp.Lexicographic.{pointwise};
 ghost use Rattle.indexmap.specs.IndexMap.{spare};
 ghost use Rattle.jc_types.specs.declared.limits.TheConstants.{BULK_KEYS_MAX};
 ghost use Rattle.jc_types.specs.declared.refusal.Refusal.TheVariants.{TooManyKeys};
-ghost use Rattle.jc_batch.specs.Batch.{empty_batch};
 ghost use Rattle.jc_cache.specs.Sessions.{MayCall, LeavesSessions};
-ghost use Rattle.jc_bulk.specs.Bulk.{HasNoCause, IsRefusedWhole};
-ghost use Rattle.jc_bulk.specs.Ends.{KeyEnd, failed_entries, found_entries};
-ghost use Rattle.jc_bulk.specs.GetRounds.{IsCauseIn, IsRoomFor, all_waiting, failures};
+ghost use Rattle.jc_bulk.specs.Bulk.{HasNoCause, IsRefusedWhole, get_ops};
+ghost use Rattle.jc_bulk.specs.Carrying.{IsRoomOf};
+ghost use Rattle.jc_bulk.specs.Ends.{KeyEnd, found_entries};
 ghost use Rattle.jc_bulk.specs.Getting.{GetsAll, FailsToGet, NamesNoKey, get_end, get_ends};
+ghost use Rattle.jc_bulk.specs.RoundCalls.{Load};
 ghost use Rattle.jc_bulk.specs.Rounds.{LoadRound};
 
+use crate::carrying::{CallEnd, Room, carry_out};
 use crate::fault::BulkFault;
-use crate::get_rounds::run_rounds;
-use crate::laws::stays_underway;
-use crate::results::{all_waiting, insert_failed, insert_found};
-use crate::round::{Progress, most_calls};
+use crate::results::insert_found;
+use crate::round::Progress;
+use crate::targets::Targets;
 use indexmap::{IndexMap, IndexSet};
-use jc_cache::{Cache, LoadCalls, Session};
+use jc_cache::{Cache, Session};
 use jc_model::Reply;
 use jc_types::{BULK_KEYS_MAX, Key, Refusal, Value};
 use std::alloc::{AllocError, Global};
@@ -64,44 +64,25 @@ pub fn get_all<R: Wait>(
     if keys.len() > BULK_KEYS_MAX {
         return Err(BulkFault::of_whole_call(alloc, Refusal::TooManyKeys));
     }
-    match GetRoom::new(alloc, keys.len(), cache.config().stripes) {
+    let list = keys.as_slice();
+    match get_room(alloc, list, cache.config().stripes) {
         Err(_failed) => Err(BulkFault::of_whole_call(alloc, Refusal::OutOfMemory)),
-        Ok(room) => get_keys(alloc, rt, cache, session, keys.as_slice(), room),
+        Ok((room, found)) => get_keys(alloc, rt, cache, session, list, room, found),
     }
 }
 
-/// What a `getAll` takes in memory before its first phase: how far each key is, and room for the results and for the calls of the first
-/// round.
-struct GetRoom {
-    progress: Vec<Progress>,
-    failed: IndexMap<Key, Refusal>,
-    found: IndexMap<Key, Value>,
-    calls: LoadCalls,
-    most: usize,
-}
-
-impl GetRoom {
-    /// Room for as many keys, in a cache of so many stripes.
-    fn new(alloc: Global, keys: usize, stripes: usize) -> Result<GetRoom, AllocError>
-        ensures progress { IfOk result (λ room. room.progress.items ≡ all_waiting keys) }
-        ensures failed { IfOk result (λ room. (room.failed.entries ≡ []) × (keys ≤ spare room.failed)) }
-        ensures found { IfOk result (λ room. (room.found.entries ≡ []) × (keys ≤ spare room.found)) }
-        ensures calls { IfOk result (λ room. room.calls ≡ empty_batch room.most) }
-        ensures most { IfOk result (λ room. IsRoomFor stripes room.most keys) }
-    {
-        let progress = all_waiting(alloc, keys)?;
-        let failed = IndexMap::with_capacity(alloc, keys)?;
-        let found = IndexMap::with_capacity(alloc, keys)?;
-        let most = most_calls(keys, stripes);
-        let calls = LoadCalls::with_capacity(alloc, most)?;
-        Ok(GetRoom {
-            progress,
-            failed,
-            found,
-            calls,
-            most,
-        })
-    }
+/// What a `getAll` takes in memory before its first phase, in a cache of so many stripes: room for the call, and for the values.
+fn get_room(
+    alloc: Global,
+    keys: &[Key],
+    stripes: usize,
+) -> Result<(Room, IndexMap<Key, Value>), AllocError>
+    ensures room { IfOk result (λ r. IsRoomOf Load (get_ops keys.now) stripes r.0) }
+    ensures found { IfOk result (λ r. (r.1.entries ≡ []) × (length keys.now ≤ spare r.1)) }
+{
+    let found = IndexMap::with_capacity(alloc, keys.len())?;
+    let room = Room::new(alloc, &Targets::Gets(keys), stripes)?;
+    Ok((room, found))
 }
 
 /// The call, once its memory is taken.
@@ -111,15 +92,13 @@ fn get_keys<R: Wait>(
     cache: &mut Cache,
     session: &mut Session,
     keys: &[Key],
-    room: GetRoom,
+    room: Room,
+    found: IndexMap<Key, Value>,
 ) -> Result<IndexMap<Key, Value>, BulkFault>
     requires may { MayCall cache.old session.old }
     requires distinct { IsDistinct (pointwise ◌==◌) keys.now }
-    requires progress { room.progress.items ≡ all_waiting (length keys.now) }
-    requires failed { (room.failed.entries ≡ []) × (length keys.now ≤ spare room.failed) }
-    requires found { (room.found.entries ≡ []) × (length keys.now ≤ spare room.found) }
-    requires calls { room.calls ≡ empty_batch room.most }
-    requires most { IsRoomFor cache.old.config.stripes room.most (length keys.now) }
+    requires room { IsRoomOf Load (get_ops keys.now) cache.old.config.stripes room }
+    requires found { (found.entries ≡ []) × (length keys.now ≤ spare found) }
     ensures may { MayCall cache.new session.new }
     ensures ok { IfOk result (λ found. (ends : List KeyEnd) × (rounds : List LoadRound)
         × GetsAll loads_all load_state cache.old session.old keys.now ends rounds cache.new session.new
@@ -129,27 +108,14 @@ fn get_keys<R: Wait>(
     ensures sessions { LeavesSessions session.old cache.old cache.new }
 {
     let _types: Option<(Reply, Value)> = None;
-    let GetRoom {
+    let mut found = found;
+    let outcome = carry_out(alloc, rt, cache, session, &Targets::Gets(keys), room);
+    let CallEnd {
+        cause,
         progress,
         failed,
-        found,
-        calls,
-        most,
-    } = room;
-    let mut progress = progress;
-    let mut failed = failed;
-    let mut found = found;
-    let cause = get_each(
-        alloc,
-        rt,
-        cache,
-        session,
-        keys,
-        progress.as_mut_slice(),
-        calls,
-        most,
-    );
-    add_ends(keys, progress.as_slice(), &mut failed, &mut found);
+    } = outcome;
+    add_found(keys, progress.as_slice(), &mut found);
     match cause {
         None => Ok(found),
         Some(cause) => Err(BulkFault {
@@ -160,75 +126,29 @@ fn get_keys<R: Wait>(
     }
 }
 
-/// Begins the session's next call, and carries it out: `progress` says how each key ended. It returns the first fault or refusal that
-/// the call has met, if it met one.
-fn get_each<R: Wait>(
-    alloc: Global,
-    rt: &R,
-    cache: &mut Cache,
-    session: &mut Session,
-    keys: &[Key],
-    progress: &mut [Progress],
-    calls: LoadCalls,
-    most: usize,
-) -> Option<Refusal>
-    requires may { MayCall cache.old session.old }
-    requires distinct { IsDistinct (pointwise ◌==◌) keys.now }
-    requires new { progress.old ≡ all_waiting (length keys.now) }
-    requires calls { calls ≡ empty_batch most }
-    requires most { IsRoomFor cache.old.config.stripes most (length keys.now) }
-    ensures may { MayCall cache.new session.new }
-    ensures gets { (rounds : List LoadRound) × GetsAll loads_all load_state
-        cache.old session.old keys.now (get_ends keys.now progress.new) rounds cache.new session.new }
-    ensures cause { IsCauseIn result (failures progress.new) }
-    ensures whole { length progress.new ≡ length keys.now }
-{
-    let _types: Option<(Reply, Value)> = None;
-    stays_underway();
-    let _stripes = cache.config().stripes;
-    cache.begin_call(session);
-    run_rounds(alloc, rt, cache, session, keys, progress, calls, most)
-}
-
-/// Adds each key that failed, and each that has a value, in the order of the keys. It takes no memory.
-fn add_ends(
-    keys: &[Key],
-    progress: &[Progress],
-    failed: &mut IndexMap<Key, Refusal>,
-    found: &mut IndexMap<Key, Value>,
-)
+/// Adds each key that has a value, in the order of the keys. It takes no memory.
+fn add_found(keys: &[Key], progress: &[Progress], found: &mut IndexMap<Key, Value>)
     requires distinct { IsDistinct (pointwise ◌==◌) keys.now }
     requires many { length progress.now ≡ length keys.now }
-    requires failed { (failed.old.entries ≡ []) × (length keys.now ≤ spare failed.old) }
     requires found { (found.old.entries ≡ []) × (length keys.now ≤ spare found.old) }
-    ensures failed { failed.new.entries ≡ failed_entries (get_ends keys.now progress.now) }
-    ensures found { found.new.entries ≡ found_entries (get_ends keys.now progress.now) }
+    ensures { found.new.entries ≡ found_entries (get_ends keys.now progress.now) }
 {
     for place in 0..keys.len() {
-        add_end(&keys[place], &progress[place], failed, found);
+        add_value(&keys[place], &progress[place], found);
     }
 }
 
-/// Adds a key that failed, or has a value.
-fn add_end(
-    key: &Key,
-    progress: &Progress,
-    failed: &mut IndexMap<Key, Refusal>,
-    found: &mut IndexMap<Key, Value>,
-)
-    requires new_failed { list_any (pointwise ◌==◌ key.now) (keys_of failed.old.entries) ≡ false }
-    requires new_found { list_any (pointwise ◌==◌ key.now) (keys_of found.old.entries) ≡ false }
-    requires room { (0 < spare failed.old) × (0 < spare found.old) }
-    ensures failed { failed.new.entries ≡ failed.old.entries ++ failed_entries (get_end key.now progress.now) }
+/// Adds a key that has a value.
+fn add_value(key: &Key, progress: &Progress, found: &mut IndexMap<Key, Value>)
+    requires new { list_any (pointwise ◌==◌ key.now) (keys_of found.old.entries) ≡ false }
+    requires room { 0 < spare found.old }
     ensures found { found.new.entries ≡ found.old.entries ++ found_entries (get_end key.now progress.now) }
-    ensures room { (spare failed.old ≤ spare failed.new + 1) × (spare found.old ≤ spare found.new + 1) }
+    ensures room { spare found.old ≤ spare found.new + 1 }
 {
     match progress {
-        Progress::Waiting | Progress::Reserved => {}
-        Progress::Ended(Ok(Reply::Fault(refusal)) | Err(refusal)) => {
-            insert_failed(failed, key, *refusal)
-        }
         Progress::Ended(Ok(Reply::Value(Some(value)))) => insert_found(found, key, *value),
         Progress::Ended(Ok(Reply::Value(None) | Reply::Flag(_) | Reply::Unit)) => {}
+        Progress::Ended(Ok(Reply::Fault(_)) | Err(_)) => {}
+        Progress::Waiting | Progress::Reserved => {}
     }
 }

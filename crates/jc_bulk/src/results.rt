@@ -1,12 +1,12 @@
 //! How the keys of a bulk call end, and what it returns of them.
 ghost use Rattle.std.specs.Prelude.{◌≡◌, ◌==◌, ◌≤◌, ◌<◌, ◌+◌, ◌++◌, ◌∷◌, [], ℕ, not, false, option_map, map, IfNone, IfSome, IfOk};
-ghost use Rattle.std.specs.List.{IsAmong, list_any, cons_option};
+ghost use Rattle.std.specs.List.{list_any, cons_option};
 ghost use Rattle.std.specs.Map.{keys_of};
 ghost use Rattle.std.specs.Cmp.Lexicographic.{pointwise};
 ghost use Rattle.indexmap.specs.IndexMap.{spare};
 ghost use Rattle.jc_bulk.specs.Ends.{refusal_in};
-ghost use Rattle.jc_bulk.specs.GetRounds.{IsFirstWaiting, StillWaits, IsCauseIn, is_closed, is_waiting, all_waiting};
-ghost use Rattle.jc_bulk.specs.GetRounds.{refused_if_waiting, failure_at, failures};
+ghost use Rattle.jc_bulk.specs.KeyProgress.{IsFirstWaiting, StillWaits, IsCauseIn, IsFirstCause, is_closed, is_waiting, all_waiting};
+ghost use Rattle.jc_bulk.specs.KeyProgress.{refused_if_waiting, failure_at, failures};
 
 use crate::round::Progress;
 use indexmap::IndexMap;
@@ -93,8 +93,7 @@ fn refuse_if_waiting(progress: &mut Progress)
 
 /// Notes the first of the faults and refusals that keys have ended in, unless one was noted before.
 pub(crate) fn note_first(cause: &mut Option<Refusal>, progress: &[Progress])
-    requires { IfSome cause.old (λ refusal. IsAmong (failures progress.now) refusal) }
-    ensures { IsCauseIn cause.new (failures progress.now) }
+    ensures { IsFirstCause cause.old (failures progress.now) cause.new }
 {
     if cause.is_none() {
         *cause = first_failure(progress);

@@ -1,8 +1,7 @@
-//! One key of a bulk call that writes, in one of its rounds.
-ghost use Rattle.std.specs.Prelude.{◌≡◌, ◌<◌, ◌∷◌, List, [], None, true, false};
+//! One key of a bulk call, in one of its rounds.
+ghost use Rattle.std.specs.Prelude.{◌≡◌, ◌<◌, ◌+◌, ◌∷◌, List, [], length, None, false};
 ghost use Rattle.jc_model.specs.declared.event.Event.TheVariants.{Step};
 ghost use Rattle.jc_model.specs.Batches.{is_among};
-ghost use Rattle.jc_model.specs.Group.{write_only};
 ghost use Rattle.jc_stripe.specs.declared.ticket.Reservation.{Reservation};
 ghost use Rattle.jc_stripe.specs.State.{State};
 ghost use Rattle.jc_session.specs.Counting.{counts_ended};
@@ -10,16 +9,17 @@ ghost use Rattle.jc_cache.specs.Caches.{IsStripeOf};
 ghost use Rattle.jc_cache.specs.OutstandingAll.{reserved_keys};
 ghost use Rattle.jc_cache.specs.Sessions.{IsOf};
 ghost use Rattle.jc_bulk.specs.declared.round.Progress.TheVariants.{Reserved};
-ghost use Rattle.jc_bulk.specs.GetRounds.{IsRoomFor};
+ghost use Rattle.jc_bulk.specs.KeyProgress.{IsRoomFor};
 ghost use Rattle.jc_bulk.specs.Laws.{keys_out};
 ghost use Rattle.jc_bulk.specs.Phased.{counts_started, LeavesCalls, AddsSteps};
 ghost use Rattle.jc_bulk.specs.Recorded.{steps_of};
-ghost use Rattle.jc_bulk.specs.Starting.{steps_started, reservations_in, WritesAs, StartsWrite};
-ghost use Rattle.jc_bulk.specs.StartingLoads.{StartsFor};
+ghost use Rattle.jc_bulk.specs.RoundCalls.{AsksAs, MayAsk, kind_of, items_of, room_of, answered_call};
+ghost use Rattle.jc_bulk.specs.Starting.{steps_started, reservations_in, StartsCall, StartsFor};
 ghost use Rattle.jc_bulk.specs.Underway.{IsUnderway};
 
 use crate::laws::{records, stays_underway};
-use jc_cache::{Cache, Session, Started, WriteCalls, WrittenCall};
+use crate::round_calls::{AnsweredCall, Calls};
+use jc_cache::{Cache, Session, Started};
 use jc_model::{Op, Reply};
 use jc_stripe::phase_laws::grows;
 use jc_types::{Key, RESERVATIONS_MAX, Refusal};
@@ -46,35 +46,39 @@ pub(crate) fn most_calls(keys: usize, stripes: usize) -> usize
     }
 }
 
-/// The first phase of a `putAll` or a `removeAll` at one of its keys: a `Put` if `calls` write, and a `Remove` if they delete. A key
-/// that has to be written is reserved, and is among `calls` from then on; without write-through its step is made at once.
+/// The first phase of a bulk call at one of its keys: a `Get` if `calls` load, a `Put` if they write, and a `Remove` if they delete. A
+/// key that has to be loaded or written is reserved, and is among `calls` from then on; every other one has its step at once.
 ///
 /// It returns how far the call is at the key then. A key that is refused as a later round may find it free (`TooManyInFlight`) is put
 /// off, and waits; one that is refused for good (`HistoryFull`) is over. Nothing is recorded of a key that is refused.
 ///
 /// Conditions: the session is of this cache, and its current call, a bulk call, is under way, with the reservations of `calls`
 /// out. The key has no step of it, and isn't among those of `calls`, which have room.
-pub fn start_write(
+pub fn start_key(
     cache: &mut Cache,
     session: &mut Session,
     key: &Key,
     op: &Op,
-    calls: &mut WriteCalls,
+    calls: &mut Calls,
 ) -> Progress
     requires own { IsOf cache.old session.old }
-    requires underway { IsUnderway cache.old session.old.caller (reservations_in calls.old.items) }
-    requires room { 0 < calls.old.room }
-    requires kind { WritesAs calls.old.deletes op.now }
-    requires away { is_among (reserved_keys calls.old.items) key.now ≡ false }
+    requires underway { IsUnderway cache.old session.old.caller (reservations_in (items_of calls.old)) }
+    requires room { 0 < room_of calls.old }
+    requires kind { AsksAs (kind_of calls.old) op.now }
+    requires away { is_among (reserved_keys (items_of calls.old)) key.now ≡ false }
     requires none { (s : State) → IsStripeOf cache.old key.now s
         → steps_of session.old.caller key.now s.history ≡ [] }
     ensures own { IsOf cache.new session.new }
     ensures session { session.new ≡ record session.old { counts = counts_started session.old.counts result } }
     ensures why { (s : State) × IsStripeOf cache.old key.now s
-        × StartsFor s session.old.caller (reservations_in calls.old.items) key.now op.now result }
-    ensures calls { StartsWrite cache.old.mark session.old.caller key.now op.now result calls.old calls.new }
-    ensures through { result ≡ Reserved → cache.old.config.write_through ≡ true }
-    ensures underway { IsUnderway cache.new session.old.caller (reservations_in calls.new.items) }
+        × StartsFor s session.old.caller (reservations_in (items_of calls.old)) key.now op.now result }
+    ensures calls { StartsCall cache.old.mark session.old.caller key.now op.now result
+        (items_of calls.old) (items_of calls.new) }
+    ensures through { result ≡ Reserved → MayAsk (kind_of calls.old) cache.old.config }
+    ensures kind { kind_of calls.new ≡ kind_of calls.old }
+    ensures space { length (items_of calls.new) + room_of calls.new
+        ≡ length (items_of calls.old) + room_of calls.old }
+    ensures underway { IsUnderway cache.new session.old.caller (reservations_in (items_of calls.new)) }
     ensures adds { AddsSteps session.old.caller (steps_started session.old.caller key.now op.now result) cache.old cache.new }
     ensures others { LeavesCalls session.old.caller.session cache.old cache.new }
 {
@@ -83,8 +87,12 @@ pub fn start_write(
     grows();
     match cache.start(session, key, op) {
         Started::Done(step) => Progress::Ended(Ok(step.reply)),
+        Started::Load(call) => {
+            calls.push_load(call);
+            Progress::Reserved
+        }
         Started::Write(call) => {
-            calls.push(call);
+            calls.push_write(call);
             Progress::Reserved
         }
         Started::Refused(refusal) => {
@@ -94,35 +102,39 @@ pub fn start_write(
                 Progress::Ended(Err(refusal))
             }
         }
-        Started::Load(_call) => unreachable!(),
         Started::Process(_call) => unreachable!(),
         Started::Joined(_call) => unreachable!(),
     }
 }
 
-/// The last phase of a bulk call that writes, at the first of its keys that is out, once the writer has reported. It returns the
-/// key's reply: a fault if the writer left the key.
+/// The last phase of a bulk call at the first of its keys that is out, once the loader has answered or the writer has reported. It
+/// returns the key's reply: of a `getAll` the value that was loaded, if one was found, or a fault if the loader failed; else a fault if
+/// the writer left the key.
 ///
 /// Conditions: the session and the call are of this cache. The session's current call, a bulk call, is under way; this call's
 /// reservation is the first that is out, and no other that is out is of its key.
-pub fn commit_first(cache: &mut Cache, session: &mut Session, call: WrittenCall) -> Reply
+pub fn commit_first(cache: &mut Cache, session: &mut Session, call: AnsweredCall) -> Reply
     requires own { IsOf cache.old session.old }
-    requires mark { call.cache ≡ cache.old.mark }
+    requires mark { (answered_call call).cache ≡ cache.old.mark }
     requires underway { (rest : List Reservation)
-        × IsUnderway cache.old session.old.caller (call.reservation ∷ rest)
-        × (is_among (keys_out rest) call.reservation.key ≡ false) }
+        × IsUnderway cache.old session.old.caller ((answered_call call).reservation ∷ rest)
+        × (is_among (keys_out rest) (answered_call call).reservation.key ≡ false) }
     ensures own { IsOf cache.new session.new }
     ensures session { session.new ≡ record session.old { counts = counts_ended session.old.counts } }
     ensures underway { (rest : List Reservation)
-        → IsUnderway cache.old session.old.caller (call.reservation ∷ rest)
-        → is_among (keys_out rest) call.reservation.key ≡ false
+        → IsUnderway cache.old session.old.caller ((answered_call call).reservation ∷ rest)
+        → is_among (keys_out rest) (answered_call call).reservation.key ≡ false
         → IsUnderway cache.new session.old.caller rest }
-    ensures adds { AddsSteps session.old.caller (Step session.old.caller call.reservation.op call.reservation.key
-        (write_only call.answer) None result ∷ []) cache.old cache.new }
+    ensures adds { let c = answered_call call in
+        AddsSteps session.old.caller (Step session.old.caller c.reservation.op c.reservation.key c.answer None result ∷ [])
+        cache.old cache.new }
     ensures others { LeavesCalls session.old.caller.session cache.old cache.new }
 {
     stays_underway();
     records();
     grows();
-    cache.commit_write(session, call).reply
+    match call {
+        AnsweredCall::Loaded(call) => cache.commit_load(session, call).reply,
+        AnsweredCall::Written(call) => cache.commit_write(session, call).reply,
+    }
 }

@@ -13,7 +13,7 @@ use Rattle.jc_model.specs.declared.event.Op.TheVariants.{Clear}
 use Rattle.jc_model.specs.Cache.{Bytes}
 use Rattle.jc_cache.specs.Sessions.{MayCallAt}
 use Rattle.jc_bulk.specs.Bulk.{clear_ops}
-use Rattle.jc_bulk.proofs.Gets.{absent, key_there}
+use Rattle.jc_bulk.proofs.Turns.{absent, key_there}
 use Rattle.jc_bulk.proofs.ClearingKeys.{still_absent, clears_push, ops_push, failed_push, all_full, leaves_both}
 use Rattle.jc_bulk.proofs.clear_all.clear_each.Goals as goal
 

@@ -1,5 +1,5 @@
 use Rattle.std.proofs.Common.{◌≡◌, ◌≤◌, vec_capacity}
-use Rattle.jc_bulk.specs.GetRounds.{all_waiting}
+use Rattle.jc_bulk.specs.KeyProgress.{all_waiting}
 use Rattle.jc_bulk.proofs.results.all_waiting.Given as goal
 
 abbrev pub invariant-loop-place : goal.invariant-loop-place

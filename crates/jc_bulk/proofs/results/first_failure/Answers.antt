@@ -1,5 +1,5 @@
 use Rattle.std.proofs.Common.{sym, ap, ◌∙◌}
-use Rattle.jc_bulk.specs.GetRounds.{failure_at}
+use Rattle.jc_bulk.specs.KeyProgress.{failure_at}
 use Rattle.jc_bulk.proofs.Failures.{failure_there, none_failed}
 use Rattle.jc_bulk.proofs.results.first_failure.Goals as goal
 

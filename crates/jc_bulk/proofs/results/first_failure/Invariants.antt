@@ -1,5 +1,5 @@
 use Rattle.std.proofs.Common.{◌≡◌, [], take}
-use Rattle.jc_bulk.specs.GetRounds.{failures}
+use Rattle.jc_bulk.specs.KeyProgress.{failures}
 use Rattle.jc_bulk.proofs.results.first_failure.Given as goal
 
 -- none of the keys before this one has failed

@@ -1,5 +1,5 @@
 use Rattle.std.proofs.Common.{◌<◌, ℕ}
-use Rattle.jc_bulk.specs.GetRounds.{StillWaits}
+use Rattle.jc_bulk.specs.KeyProgress.{StillWaits}
 use Rattle.jc_bulk.proofs.results.first_waiting.Given as goal
 
 -- no key before this place waits

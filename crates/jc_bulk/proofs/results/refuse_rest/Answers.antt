@@ -1,5 +1,5 @@
 use Rattle.std.proofs.Common.{set, get_or, ap, ◌∙◌}
-use Rattle.jc_bulk.specs.GetRounds.{refused_if_waiting}
+use Rattle.jc_bulk.specs.KeyProgress.{refused_if_waiting}
 use Rattle.jc_bulk.proofs.Places.{refused_so_far}
 use Rattle.jc_bulk.proofs.results.refuse_rest.Goals as goal
 

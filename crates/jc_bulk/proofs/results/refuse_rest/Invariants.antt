@@ -1,5 +1,5 @@
 use Rattle.std.proofs.Common.{◌≡◌, ◌++◌, map, take, drop}
-use Rattle.jc_bulk.specs.GetRounds.{refused_if_waiting}
+use Rattle.jc_bulk.specs.KeyProgress.{refused_if_waiting}
 use Rattle.jc_bulk.proofs.results.refuse_rest.Given as goal
 
 -- the keys before this place are refused if they waited

@@ -1,39 +1,35 @@
-use Rattle.std.proofs.Common.{◌≡◌, ◌==◌, false, sym, ◌∙◌, subst, arith}
+use Rattle.std.proofs.Common.{◌≡◌, ◌==◌, false, refl, sym, subst, arith}
 use Rattle.std.specs.List.{IsDistinct}
 use Rattle.std.specs.Map.{keys_of}
 use Rattle.std.specs.Cmp.Lexicographic.{pointwise}
 use Rattle.jc_bulk.specs.Bulk.{put_ops, put_changes}
-use Rattle.jc_bulk.specs.Writing.{AllWriteAs}
 use Rattle.jc_bulk.proofs.ClearingKeys.{then_err}
-use Rattle.jc_bulk.proofs.GetResults.{any_err}
-use Rattle.jc_bulk.proofs.WriteTargets.{put_keys, put_wanted, put_kind, wrote_of, failed_of}
+use Rattle.jc_bulk.proofs.KeyResults.{any_err}
+use Rattle.jc_bulk.proofs.WriteTargets.{put_keys, put_wanted, wrote_of, failed_of}
 use Rattle.jc_bulk.proofs.writing.put_all.Goals as goal
 
 pub write_all-requires-clause-distinct : goal.write_all-requires-clause-distinct
 write_all-requires-clause-distinct g c =
     let keys = c.args.entries.now.entries in
-    let made : c.as_slice.result.now ≡ put_ops keys = c.as_slice.ensures.value ∙ c.in-Ok.ensures in
+    let made : put_ops c.args.entries.now.entries ≡ put_ops keys = refl in
     subst (λ ts. IsDistinct (pointwise ◌==◌) (keys_of ts)) (sym made) (subst (IsDistinct (pointwise ◌==◌)) (sym (put_keys keys)) c.len.ensures.unique)
 
 pub write_all-requires-clause-kind : goal.write_all-requires-clause-kind
-write_all-requires-clause-kind g c =
-    let keys = c.args.entries.now.entries in
-    let made : c.as_slice.result.now ≡ put_ops keys = c.as_slice.ensures.value ∙ c.in-Ok.ensures in
-    subst (AllWriteAs false) (sym made) (put_kind keys)
+write_all-requires-clause-kind g c = (false, refl)
 
-pub returns-in-Ok-clause-ok : goal.returns-in-Ok-clause-ok
-returns-in-Ok-clause-ok g c =
+pub returns-clause-ok : goal.returns-clause-ok
+returns-clause-ok g c =
     let keys = c.args.entries.now.entries in
-    let made : c.as_slice.result.now ≡ put_ops keys = c.as_slice.ensures.value ∙ c.in-Ok.ensures in
-    wrote_of _ _ _ c.write_all.result c.args.cache.now c.write_all.new.cache c.args.session.now c.write_all.new.session c.as_slice.result.now (put_ops keys) (put_changes keys) made (put_wanted keys) c.write_all.ensures.ok
+    let made : put_ops c.args.entries.now.entries ≡ put_ops keys = refl in
+    wrote_of _ _ _ c.write_all.result c.args.cache.now c.write_all.new.cache c.args.session.now c.write_all.new.session (put_ops c.args.entries.now.entries) (put_ops keys) (put_changes keys) made (put_wanted keys) c.write_all.ensures.ok
 
-pub returns-in-Ok-clause-err : goal.returns-in-Ok-clause-err
-returns-in-Ok-clause-err g c =
+pub returns-clause-err : goal.returns-clause-err
+returns-clause-err g c =
     let keys = c.args.entries.now.entries in
-    let made : c.as_slice.result.now ≡ put_ops keys = c.as_slice.ensures.value ∙ c.in-Ok.ensures in
+    let made : put_ops c.args.entries.now.entries ≡ put_ops keys = refl in
     then_err c.write_all.result
-    (λ fault failed. failed_of _ _ _ c.args.cache.now c.write_all.new.cache c.args.session.now c.write_all.new.session c.as_slice.result.now (put_ops keys) (put_changes keys) _ fault.cause fault.failed.entries made (put_wanted keys) failed)
+    (λ fault failed. failed_of _ _ _ c.args.cache.now c.write_all.new.cache c.args.session.now c.write_all.new.session (put_ops c.args.entries.now.entries) (put_ops keys) (put_changes keys) _ fault.cause fault.failed.entries made (put_wanted keys) failed)
     c.write_all.ensures.err
 
-pub returns-in-Ok-clause-many : goal.returns-in-Ok-clause-many
-returns-in-Ok-clause-many g c = any_err c.write_all.result (λ fault many. absurd (omega (arith, many, c.if-len-gt-BULK_KEYS_MAX.false, c.len.ensures.len)))
+pub returns-clause-many : goal.returns-clause-many
+returns-clause-many g c = any_err c.write_all.result (λ fault many. absurd (omega (arith, many, c.if-len-gt-BULK_KEYS_MAX.false, c.len.ensures.len)))

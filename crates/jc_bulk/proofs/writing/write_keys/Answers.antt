@@ -1,31 +1,38 @@
-use Rattle.std.proofs.Common.{length, drop, sym, ap, ◌∙◌}
-use Rattle.std.proofs.lemmas.List.{take_at}
-use Rattle.jc_bulk.specs.Ends.{failed_entries, key_ends}
-use Rattle.jc_bulk.proofs.Places.{many_waiting}
-use Rattle.jc_bulk.proofs.WrittenAll.{write_cause_among, no_write_failure}
+use Rattle.std.proofs.Common.{subst, ◌++◌}
+use Rattle.jc_bulk.specs.Ends.{key_ends}
+use Rattle.jc_bulk.specs.KeyProgress.{IsCauseIn, failures}
+use Rattle.jc_bulk.specs.RoundCalls.{kind_for, ops_of, writes_in}
+use Rattle.jc_bulk.specs.Rounds.{writer_causes}
+use Rattle.jc_bulk.proofs.WrittenAll.{write_cause_among, no_write_failure, written_all}
 use Rattle.jc_bulk.proofs.writing.write_keys.Goals as goal
 
 pub returns-in-None-clause-ok : goal.returns-in-None-clause-ok
 returns-in-None-clause-ok g c =
     let targets = c.args.targets.now in
-    let ps = c.write_each-cause.new.progress in
-    let each = c.write_each-cause.ensures in (
-      key_ends targets ps,
-      each.writes.0,
-      each.writes.1,
-      no_write_failure targets ps each.writes.0 c.write_each-cause.new.fault each.whole each.writes.2 c.in-None.ensures.cause,
+    let ops = ops_of targets in
+    let outcome = c.carry_out-outcome in
+    let ps = outcome.result.progress.items in
+    let carried = outcome.ensures.carried in
+    let writes = writes_in carried.0 in
+    let written = written_all _ _ _ _ _ (kind_for targets) c.requires.kind.0 c.args.cache.now outcome.new.cache c.args.session.now outcome.new.session ops carried.0 ps outcome.result.cause c.requires.kind.1 carried.1 in (
+      key_ends ops ps,
+      writes,
+      written.0,
+      no_write_failure ops ps writes outcome.ensures.whole (subst (λ o. IsCauseIn o (failures ps ++ writer_causes writes)) c.in-None.is written.1),
     )
 
 pub returns-clause-err : goal.returns-clause-err
 returns-clause-err g c =
     let targets = c.args.targets.now in
-    let ps = c.write_each-cause.new.progress in
-    let each = c.write_each-cause.ensures in
-    let was = c.args.room.progress in
-    let back = take_at ps (drop (length ps) was.items) was.len (each.whole ∙ sym (many_waiting (length targets)) ∙ sym (ap length c.requires.progress) ∙ sym was.ok.0) in (
-      key_ends targets ps,
-      each.writes.0,
-      each.writes.1,
-      write_cause_among targets ps each.writes.0 c.write_each-cause.new.fault c.in-Some.cause each.whole each.writes.2 c.in-Some.ensures.cause,
-      c.add_failed.ensures ∙ ap (λ qs. failed_entries (key_ends targets qs)) (c.as_slice.ensures.value ∙ back),
+    let ops = ops_of targets in
+    let outcome = c.carry_out-outcome in
+    let ps = outcome.result.progress.items in
+    let carried = outcome.ensures.carried in
+    let writes = writes_in carried.0 in
+    let written = written_all _ _ _ _ _ (kind_for targets) c.requires.kind.0 c.args.cache.now outcome.new.cache c.args.session.now outcome.new.session ops carried.0 ps outcome.result.cause c.requires.kind.1 carried.1 in (
+      key_ends ops ps,
+      writes,
+      written.0,
+      write_cause_among ops ps writes c.in-Some.cause outcome.ensures.whole (subst (λ o. IsCauseIn o (failures ps ++ writer_causes writes)) c.in-Some.is written.1),
+      outcome.ensures.failed,
     )

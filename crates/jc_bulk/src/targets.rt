@@ -1,0 +1,61 @@
+//! The keys of a bulk call that works in rounds, and what it does at each of them.
+ghost use Rattle.std.specs.Prelude.{◌≡◌, ◌<◌, length, slice_get, Some};
+ghost use Rattle.std.specs.Map.{keys_of};
+ghost use Rattle.jc_bulk.specs.RoundCalls.{ops_of};
+
+use indexmap::IndexMap;
+use jc_model::Op;
+use jc_types::{Key, Value};
+
+/// The keys of a bulk call that works in rounds. They all differ.
+#[derive(Drop)]
+pub(crate) enum Targets<'a> {
+    /// Each of them is got.
+    Gets(&'a [Key]),
+    /// Each of them is put, with its value.
+    Puts(&'a IndexMap<Key, Value>),
+    /// Each of them is removed.
+    Removes(&'a [Key]),
+}
+
+impl<'a> Targets<'a> {
+    /// How many keys there are.
+    pub(crate) fn len(&self) -> usize
+        ensures { result ≡ length (ops_of self.now) }
+    {
+        match self {
+            Targets::Gets(keys) => keys.len(),
+            Targets::Puts(entries) => entries.len(),
+            Targets::Removes(keys) => keys.len(),
+        }
+    }
+
+    /// The key of this place.
+    pub(crate) fn key(&self, place: usize) -> Key
+        requires { place < length (ops_of self.now) }
+        ensures { slice_get (keys_of (ops_of self.now)) place ≡ Some result }
+    {
+        self.at(place).0
+    }
+
+    /// The key of this place, with its operation.
+    pub(crate) fn at(&self, place: usize) -> (Key, Op)
+        requires { place < length (ops_of self.now) }
+        ensures { slice_get (ops_of self.now) place ≡ Some result }
+    {
+        match self {
+            Targets::Gets(keys) => match keys.get(place) {
+                Some(key) => (*key, Op::Get),
+                None => unreachable!(),
+            },
+            Targets::Puts(entries) => match entries.get_index(place) {
+                Some((key, value)) => (*key, Op::Put(*value)),
+                None => unreachable!(),
+            },
+            Targets::Removes(keys) => match keys.get(place) {
+                Some(key) => (*key, Op::Remove),
+                None => unreachable!(),
+            },
+        }
+    }
+}
