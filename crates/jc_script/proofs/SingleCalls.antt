@@ -15,15 +15,15 @@ use Rattle.jc_world.specs.Fits.{fits}
 use Rattle.jc_world.specs.Events.{Run, all_fit}
 use Rattle.jc_world.specs.Together.{BeginFits}
 use Rattle.jc_script.specs.LineEvents.{start_events}
-use Rattle.jc_script.specs.Printing.{texts, told}
-use Rattle.jc_script.specs.Transcript.{end_text, PlaysEvents, PlaysBegin}
+use Rattle.jc_script.specs.Printing.{texts, event_text}
+use Rattle.jc_script.specs.Transcript.{PlaysEvents, PlaysBegin}
 
-all_text : (a b end : List ℕ) → (a ++ (b ++ [])) ++ end ≡ ((a ++ []) ++ (b ++ [])) ++ end
-all_text a b end = ap (λ front. (front ++ (b ++ [])) ++ end) (sym (append-nil a))
+all_text : (a b : List ℕ) → a ++ (b ++ []) ≡ (a ++ []) ++ (b ++ [])
+all_text a b = ap (λ front. front ++ (b ++ [])) (sym (append-nil a))
 
 pub begins_single : (w after : WorldState) (call session : ℕ) (op : Op) (key : Bytes) (text : List ℕ) → BeginFits w → fits w (event.Call call session (Single op key)) ≡ true
     → PlaysEvents w (event.Call call session (Single op key) ∷ event.Start call key ∷ []) text after
-    → PlaysBegin w call session (Single op key) (text ++ end_text call after.ends.over) (Some after)
+    → PlaysBegin w call session (Single op key) text (Some after)
 begins_single w after call session op key text lets fit plays = by plays.seen plays.runs plays.fit plays.text_is
   where
     first : WorldEvent
@@ -33,7 +33,7 @@ begins_single w after call session op key text lets fit plays = by plays.seen pl
     next = event.Start call key
 
     by : (seen : List Shown) → Run w (first ∷ next ∷ []) seen after → all_fit seen ≡ true → text ≡ texts (first ∷ next ∷ []) seen
-        → PlaysBegin w call session (Single op key) (text ++ end_text call after.ends.over) (Some after)
+        → PlaysBegin w call session (Single op key) text (Some after)
     by [] run all is = absurd run
     by (s ∷ []) run all is = absurd run.2
     by (s ∷ t ∷ u ∷ ss) run all is = absurd run.2.2
@@ -50,6 +50,6 @@ begins_single w after call session op key text lets fit plays = by plays.seen pl
           opens = record { seen = s ∷ []; runs = (begun, run.1, refl); fit = and_from _ _ parts.0 refl; text_is = refl };
           starts = subst (λ (es : List WorldEvent). PlaysEvents begun es (texts (next ∷ []) (t ∷ [])) after) (sym starts)
               (record { seen = t ∷ []; runs = run.2; fit = parts.1; text_is = refl });
-          text_is = ap (λ front. front ++ end_text call after.ends.over) is ∙ all_text (told first s) (told next t) (end_text call after.ends.over);
+          text_is = is ∙ all_text (event_text first s) (event_text next t);
           new_is = refl;
         }

@@ -28,12 +28,14 @@
 --     load_verb                      the word for a processor's loader
 --     answers_text                   what a processor's calls were answered, with the line of its load before the first value
 --     ready_line, due_text           that a processor has ended and no writer is asked; the same, or what the writer is asked for
---     processed_text, process_text   a processor's run; what is printed of it, from what the world showed
---     shown_text                     what is printed of what the world showed, for a call and a key
+--     processed_text, process_text   a processor's run; what is printed of it, from its outcome
+--     shown_text                     what is printed of an outcome, for a call and a key
 --     begun_text                     what is printed of the beginning of a call: nothing, unless it is refused whole
 --     left_text                      a call that is given up
 --     foreign_line                   a write or a delete of somebody else
---     told                           what is printed of an event, from what the world showed of it
+--     told                           what is printed of an event, from its outcome
+--     end_text                       that a call of many keys is over, and with which cause, if one is
+--     event_text                     what is printed of an event, from what the world showed of it
 --     texts                          the same of events one after another
 --     entry_text, entries_line, key_text      an entry, a line of entries, and a key, in an audit
 --     differs_line, coherence_text      the keys that differ; the same, or that there is none
@@ -58,8 +60,10 @@ use Rattle.jc_model.specs.declared.event.Reply.{Reply}
 use Rattle.jc_model.specs.declared.event.Reply.TheVariants as reply
 use Rattle.jc_world.specs.declared.event.WorldEvent.{WorldEvent}
 use Rattle.jc_world.specs.declared.event.WorldEvent.TheVariants as event
+use Rattle.jc_world.specs.declared.event.Outcome.{Outcome}
+use Rattle.jc_world.specs.declared.event.Outcome.TheVariants as outcome
+use Rattle.jc_world.specs.declared.event.Over.{Over}
 use Rattle.jc_world.specs.declared.event.Shown.{Shown}
-use Rattle.jc_world.specs.declared.event.Shown.TheVariants as shown
 use Rattle.jc_stripe.specs.declared.begun.Eviction.{Eviction}
 use Rattle.jc_world.specs.declared.event.Stepped.{Stepped}
 use Rattle.jc_world.specs.declared.event.PickedUp.{PickedUp}
@@ -227,8 +231,8 @@ reported_line call one = subject call one.key ++ change_name one.change one.is_c
 abbrev pub reported_text : ℕ → Reported → List ℕ
 reported_text call seen = flat_map (reported_line call) seen.keys ++ fails_text call seen.fault
 
-abbrev pub returned_text : ℕ → Shown → List ℕ
-returned_text call (shown.Reported seen) = reported_text call seen
+abbrev pub returned_text : ℕ → Outcome → List ℕ
+returned_text call (outcome.Reported seen) = reported_text call seen
 returned_text call seen = []
 
 unfoldable pub got_line : ℕ → Option Bytes → List ℕ
@@ -261,32 +265,32 @@ unfoldable pub processed_text : ℕ → Bytes → List ℕ → Processed → Lis
 processed_text call key verb seen =
     answers_text call (answer_text call key verb seen.load) seen.answers ++ fails_text call seen.fault ++ due_text call key seen.change
 
-abbrev pub shown_text : ℕ → Bytes → Shown → List ℕ
-shown_text call key shown.Begun = []
-shown_text call key shown.Looked = []
-shown_text call key (shown.Stepped seen) = stepped_text call key seen
-shown_text call key shown.Loads = loads_line call key
-shown_text call key (shown.Asks change) = asks_text call key change
-shown_text call key (shown.Processes entry) = process_line call key entry
-shown_text call key (shown.Processed seen) = []
-shown_text call key shown.Joins = joined_line call key
-shown_text call key (shown.Refused refusal) = refused_line call key refusal
-shown_text call key (shown.PutOff refusal) = put_off_line call key
-shown_text call key (shown.Reads answer) = answer_text call key (codes " reads ") answer
-shown_text call key (shown.Says answer) = answer_text call key (codes " says ") answer
-shown_text call key shown.Changed = []
-shown_text call key (shown.Reported seen) = []
-shown_text call key shown.Withdrawn = []
-shown_text call key shown.Left = []
-shown_text call key (shown.PickedUp seen) = picked_line call key seen
-shown_text call key shown.Waits = waits_line call key
-shown_text call key shown.Again = again_line call key
-shown_text call key shown.Written = []
-shown_text call key shown.Unfit = []
+abbrev pub shown_text : ℕ → Bytes → Outcome → List ℕ
+shown_text call key outcome.Begun = []
+shown_text call key outcome.Looked = []
+shown_text call key (outcome.Stepped seen) = stepped_text call key seen
+shown_text call key outcome.Loads = loads_line call key
+shown_text call key (outcome.Asks change) = asks_text call key change
+shown_text call key (outcome.Processes entry) = process_line call key entry
+shown_text call key (outcome.Processed seen) = []
+shown_text call key outcome.Joins = joined_line call key
+shown_text call key (outcome.Refused refusal) = refused_line call key refusal
+shown_text call key (outcome.PutOff refusal) = put_off_line call key
+shown_text call key (outcome.Reads answer) = answer_text call key (codes " reads ") answer
+shown_text call key (outcome.Says answer) = answer_text call key (codes " says ") answer
+shown_text call key outcome.Changed = []
+shown_text call key (outcome.Reported seen) = []
+shown_text call key outcome.Withdrawn = []
+shown_text call key outcome.Left = []
+shown_text call key (outcome.PickedUp seen) = picked_line call key seen
+shown_text call key outcome.Waits = waits_line call key
+shown_text call key outcome.Again = again_line call key
+shown_text call key outcome.Written = []
+shown_text call key outcome.Unfit = []
 
 -- a run is printed with the word for its loader
-abbrev pub process_text : ℕ → Bytes → LoadSource → Shown → List ℕ
-process_text call key source (shown.Processed seen) = processed_text call key (load_verb source) seen
+abbrev pub process_text : ℕ → Bytes → LoadSource → Outcome → List ℕ
+process_text call key source (outcome.Processed seen) = processed_text call key (load_verb source) seen
 process_text call key source seen = shown_text call key seen
 
 -- 3. What is printed of events.
@@ -295,17 +299,17 @@ unfoldable pub foreign_line : Bytes → Option Bytes → List ℕ
 foreign_line key value = codes "foreign " ++ key ++ codes " " ++ value_or_none_text value ++ codes "\n"
 
 -- a call that is refused whole
-abbrev pub begun_text : ℕ → Shown → List ℕ
-begun_text call (shown.Refused refusal) = refused_whole_line call refusal
+abbrev pub begun_text : ℕ → Outcome → List ℕ
+begun_text call (outcome.Refused refusal) = refused_whole_line call refusal
 begun_text call seen = []
 
 -- a call that is given up
-abbrev pub left_text : ℕ → Shown → List ℕ
-left_text call shown.Left = dropped_line call
+abbrev pub left_text : ℕ → Outcome → List ℕ
+left_text call outcome.Left = dropped_line call
 left_text call seen = []
 
--- of one event
-abbrev pub told : WorldEvent → Shown → List ℕ
+-- of the outcome of one event
+abbrev pub told : WorldEvent → Outcome → List ℕ
 told (event.Call call session command) seen = begun_text call seen
 told (event.Look call stripe) seen = []
 told (event.Start call key) seen = shown_text call key seen
@@ -320,10 +324,19 @@ told (event.Leave call) seen = left_text call seen
 told (event.PickUp call key) seen = shown_text call key seen
 told (event.Foreign key value) seen = foreign_line key value
 
+-- a call that is given up, or refused whole, or has one key, is not said to be over
+abbrev pub end_text : Option Over → List ℕ
+end_text None = []
+end_text (Some over) = over_line over.call over.cause
+
+-- a call is over behind what its last event shows
+abbrev pub event_text : WorldEvent → Shown → List ℕ
+event_text e seen = told e seen.outcome ++ end_text seen.over
+
 abbrev pub texts : List WorldEvent → List Shown → List ℕ
 texts [] seen = []
 texts (e ∷ events) [] = []
-texts (e ∷ events) (s ∷ seen) = told e s ++ texts events seen
+texts (e ∷ events) (s ∷ seen) = event_text e s ++ texts events seen
 
 -- 4. An audit, and the last line.
 

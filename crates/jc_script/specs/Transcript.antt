@@ -1,9 +1,8 @@
 -- The transcript of a script, as a relation, since the world may choose.
 --     State                    a world, once it was opened
 --     state_of                 the same, from what a `World` is to its callers
---     end_text                 that a call of many keys is over, and with which cause, if it is the last one that is over
 --     PlaysEvents              the world may take these events, each of them fits when it comes, and this is printed of them
---     PlaysCall                the same of the events of a call, with what its line says after them: a fault, and the call's end
+--     PlaysCall                the same of the events of a call, with the fault that its line says after them
 --     PlaysBegin               the same of a call that begins: its begin, with its looks at the stripes, and then its first phases
 --     PlaysBulk                the same of a call of many keys, by what its line says
 --     PlaysAct                 the same of the events of an act, if its call is under way
@@ -18,12 +17,11 @@
 --     Ends                     what the last piece prints, and how the script ends: a piece with bytes is a cut line
 --     Transcript               from a state and a line on, the pieces print this and end so
 --     IsTranscript             the same of a whole script
-use Rattle.std.specs.Prelude.{◌≡◌, ◌==◌, ◌⊎◌, ℕ, ◌+◌, List, [], ◌∷◌, ◌++◌, Bool, true, IsTrue, Option, None, Some, Result, Ok, Err, codes, if◌then◌else◌}
+use Rattle.std.specs.Prelude.{◌≡◌, ◌==◌, ◌⊎◌, ℕ, ◌+◌, List, [], ◌∷◌, ◌++◌, Bool, true, IsTrue, Option, None, Some, Result, Ok, Err, codes}
 use Rattle.std.specs.List.{slice_split}
 use Rattle.jc_model.specs.Cache.{Bytes}
 use Rattle.jc_world.specs.Calls.{CallState}
 use Rattle.jc_world.specs.declared.command.Command.{Command}
-use Rattle.jc_world.specs.declared.ends.Over.{Over}
 use Rattle.jc_world.specs.declared.event.Shown.{Shown}
 use Rattle.jc_world.specs.declared.event.WorldEvent.{WorldEvent}
 use Rattle.jc_world.specs.declared.event.WorldEvent.TheVariants as event
@@ -44,7 +42,7 @@ use Rattle.jc_script.specs.declared.run.RunEnd.TheVariants.{Clean, LineFault}
 use Rattle.jc_script.specs.Lines.{read_line}
 use Rattle.jc_script.specs.Faults.{state_fault}
 use Rattle.jc_script.specs.LineEvents.{single, bulk_call, start_events, events_of, keys_of_act, load_fault}
-use Rattle.jc_script.specs.Printing.{texts, fails_text, over_line, audit_text, fault_line}
+use Rattle.jc_script.specs.Printing.{texts, fails_text, audit_text, fault_line}
 
 -- a world, once it was opened
 abbrev pub State : Type 0
@@ -56,23 +54,18 @@ state_of (Some played) = Some played.world
 
 -- 1. What a line prints, and what it leaves.
 
--- a call that is given up, or refused whole, or has one key, is none of those
-abbrev pub end_text : ℕ → Option Over → List ℕ
-end_text call None = []
-end_text call (Some over) = if over.call == call then over_line call over.cause else []
-
 pub record PlaysEvents (w : WorldState) (events : List WorldEvent) (text : List ℕ) (after : WorldState) : Type 0 where
   pub seen : List Shown
   pub runs : Run w events seen after
   pub fit : all_fit seen ≡ true
   pub text_is : text ≡ texts events seen
 
--- after what its events show a line says its fault, and that the call is over
+-- after what its events show a line says its fault
 pub record PlaysCall (w : WorldState) (number : ℕ) (events : List WorldEvent) (fault : Option ℕ) (text : List ℕ) (new : State) : Type 0 where
   pub shown : List ℕ
   pub after : WorldState
   pub plays : PlaysEvents w events shown after
-  pub text_is : text ≡ shown ++ fails_text number fault ++ end_text number after.ends.over
+  pub text_is : text ≡ shown ++ fails_text number fault
   pub new_is : new ≡ Some after
 
 -- which keys a call that takes the cached ones starts depends on what its looks have found
@@ -83,7 +76,7 @@ pub record PlaysBegin (w : WorldState) (number session : ℕ) (command : Command
   pub after : WorldState
   pub opens : PlaysEvents w (opening_events number session command w.config.stripes) opening begun
   pub starts : PlaysEvents begun (start_events begun number (open_call begun number)) started after
-  pub text_is : text ≡ opening ++ started ++ end_text number after.ends.over
+  pub text_is : text ≡ opening ++ started
   pub new_is : new ≡ Some after
 
 abbrev pub PlaysBulk : WorldState → ℕ → ℕ → BulkCall → List ℕ → State → Type 0

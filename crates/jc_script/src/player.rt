@@ -7,7 +7,7 @@ ghost use Rattle.jc_world.specs.Events.{AllFit};
 ghost use Rattle.jc_script.specs.declared.line.Line.TheVariants as lines;
 ghost use Rattle.jc_script.specs.Lines.{is_callable};
 ghost use Rattle.jc_script.specs.Faults.{config_fault};
-ghost use Rattle.jc_script.specs.Transcript.{state_of, end_text, PlaysEvents, PlaysCall, PlaysForeign, Audited, PlaysLine, Prints, fault_of};
+ghost use Rattle.jc_script.specs.Transcript.{state_of, PlaysEvents, PlaysCall, PlaysForeign, Audited, PlaysLine, Prints, fault_of};
 
 mod acting;
 mod beginning;
@@ -18,13 +18,12 @@ use crate::fault::{Fault, ReadError};
 use crate::grammar::read;
 use crate::line::Line;
 use crate::print_audit::put_audit;
-use crate::print_lines::{put_fault_code, put_over};
+use crate::print_lines::put_fault_code;
 use crate::print_shown::put_texts;
 use crate::printing::put;
 use jc_model::{LoadAnswer, Op};
 use jc_types::{Config, Key, Refusal, Value};
 use jc_world::command::Command;
-use jc_world::ends::Over;
 use jc_world::event::{Shown, WorldEvent};
 use jc_world::world::World;
 use std::alloc::{AllocError, Global};
@@ -200,21 +199,6 @@ fn open(
     Ok(None)
 }
 
-/// That a call of many keys is over, if this one is the last that is.
-fn put_end(out: &mut Vec<u8>, call: u64, over: &Option<Over>) -> Result<(), AllocError>
-    ensures { OnOk result (out.new.items ≡ out.old.items ++ end_text call over.now) }
-{
-    match over {
-        None => Ok(()),
-        Some(over) => {
-            if over.call != call {
-                return Ok(());
-            }
-            put_over(out, call, &over.cause)
-        }
-    }
-}
-
 impl LineBuffers {
     /// Plays the events of a line, and prints what the world shows of them.
     fn play(&mut self, world: &mut World, out: &mut Vec<u8>) -> Result<(), AllocError>
@@ -229,7 +213,7 @@ impl LineBuffers {
         Ok(())
     }
 
-    /// Plays the events of a call, and prints what the world shows of them, then the line's fault, and that the call is over.
+    /// Plays the events of a call, and prints what the world shows of them, then the line's fault.
     fn play_call(
         &mut self,
         world: &mut World,
@@ -244,7 +228,6 @@ impl LineBuffers {
     {
         self.play(world, out)?;
         put_fault_code(out, call, fault)?;
-        put_end(out, call, &world.over())?;
         Ok(())
     }
 }

@@ -5,15 +5,17 @@ ghost use Rattle.jc_script.specs.Printing.{process_text, cause_name, evict_line,
 ghost use Rattle.jc_script.specs.Printing.{stepped_text, picked_line, loads_line, joined_line, waits_line, again_line};
 ghost use Rattle.jc_script.specs.Printing.{dropped_line, refused_line, put_off_line, done_name, change_name, reported_line, reported_text};
 ghost use Rattle.jc_script.specs.Printing.{returned_text};
-ghost use Rattle.jc_script.specs.Printing.{shown_text, begun_text, left_text, foreign_line, told, texts};
+ghost use Rattle.jc_script.specs.Printing.{shown_text, begun_text, left_text, foreign_line, told, end_text, event_text, texts};
 
-use crate::print_lines::{put_answer, put_asks, put_fault_code, put_refused_whole, put_subject};
+use crate::print_lines::{
+    put_answer, put_asks, put_fault_code, put_over, put_refused_whole, put_subject,
+};
 use crate::print_process::{put_process, put_processed, verb};
 use crate::printing::{put, put_key, put_number, put_place, put_reply, put_value_or_none};
 use jc_model::{Cause, Change, Reply};
 use jc_stripe::Eviction;
 use jc_types::{Key, Refusal, Value};
-use jc_world::event::{PickedUp, Shown, Stepped, WorldEvent};
+use jc_world::event::{Outcome, Over, PickedUp, Shown, Stepped, WorldEvent};
 use jc_world::process::{LoadSource, Processed};
 use jc_world::reports::{Reported, ReportedKey};
 use std::alloc::AllocError;
@@ -214,42 +216,42 @@ fn put_process_shown(
     call: u64,
     key: &Key,
     source: &LoadSource,
-    seen: &Shown,
+    seen: &Outcome,
 ) -> Result<(), AllocError>
     ensures { OnOk result (out.new.items ≡ out.old.items ++ process_text call key.now source.now seen.now) }
 {
     match seen {
-        Shown::Processed(seen) => put_processed(out, call, key, verb(source), seen),
+        Outcome::Processed(seen) => put_processed(out, call, key, verb(source), seen),
         _ => put_shown(out, call, key, seen),
     }
 }
 
 /// What was shown of an event of a call at a key.
-fn put_shown(out: &mut Vec<u8>, call: u64, key: &Key, seen: &Shown) -> Result<(), AllocError>
+fn put_shown(out: &mut Vec<u8>, call: u64, key: &Key, seen: &Outcome) -> Result<(), AllocError>
     ensures { OnOk result (out.new.items ≡ out.old.items ++ shown_text call key.now seen.now) }
 {
     match seen {
-        Shown::Begun => Ok(()),
-        Shown::Looked => Ok(()),
-        Shown::Stepped(seen) => put_stepped(out, call, key, seen),
-        Shown::Loads => put_loads(out, call, key),
-        Shown::Asks(change) => put_asks(out, call, key, change),
-        Shown::Processes(entry) => put_process(out, call, key, entry),
-        Shown::Processed(_) => Ok(()),
-        Shown::Joins => put_joined(out, call, key),
-        Shown::Refused(refusal) => put_refused(out, call, key, refusal),
-        Shown::PutOff(_) => put_put_off(out, call, key),
-        Shown::Reads(answer) => put_answer(out, call, key, " reads ", answer),
-        Shown::Says(answer) => put_answer(out, call, key, " says ", answer),
-        Shown::Changed => Ok(()),
-        Shown::Reported(_) => Ok(()),
-        Shown::Withdrawn => Ok(()),
-        Shown::Left => Ok(()),
-        Shown::PickedUp(seen) => put_picked(out, call, key, seen),
-        Shown::Waits => put_waits(out, call, key),
-        Shown::Again => put_again(out, call, key),
-        Shown::Written => Ok(()),
-        Shown::Unfit => Ok(()),
+        Outcome::Begun => Ok(()),
+        Outcome::Looked => Ok(()),
+        Outcome::Stepped(seen) => put_stepped(out, call, key, seen),
+        Outcome::Loads => put_loads(out, call, key),
+        Outcome::Asks(change) => put_asks(out, call, key, change),
+        Outcome::Processes(entry) => put_process(out, call, key, entry),
+        Outcome::Processed(_) => Ok(()),
+        Outcome::Joins => put_joined(out, call, key),
+        Outcome::Refused(refusal) => put_refused(out, call, key, refusal),
+        Outcome::PutOff(_) => put_put_off(out, call, key),
+        Outcome::Reads(answer) => put_answer(out, call, key, " reads ", answer),
+        Outcome::Says(answer) => put_answer(out, call, key, " says ", answer),
+        Outcome::Changed => Ok(()),
+        Outcome::Reported(_) => Ok(()),
+        Outcome::Withdrawn => Ok(()),
+        Outcome::Left => Ok(()),
+        Outcome::PickedUp(seen) => put_picked(out, call, key, seen),
+        Outcome::Waits => put_waits(out, call, key),
+        Outcome::Again => put_again(out, call, key),
+        Outcome::Written => Ok(()),
+        Outcome::Unfit => Ok(()),
     }
 }
 
@@ -265,36 +267,37 @@ fn put_foreign(out: &mut Vec<u8>, key: &Key, value: &Option<Value>) -> Result<()
 }
 
 /// What was shown of the beginning of a call.
-fn put_begun(out: &mut Vec<u8>, call: u64, seen: &Shown) -> Result<(), AllocError>
+fn put_begun(out: &mut Vec<u8>, call: u64, seen: &Outcome) -> Result<(), AllocError>
     ensures { OnOk result (out.new.items ≡ out.old.items ++ begun_text call seen.now) }
 {
     match seen {
-        Shown::Refused(refusal) => put_refused_whole(out, call, refusal),
+        Outcome::Refused(refusal) => put_refused_whole(out, call, refusal),
         _ => Ok(()),
     }
 }
 
 /// What was shown of a call's leaving.
-fn put_left(out: &mut Vec<u8>, call: u64, seen: &Shown) -> Result<(), AllocError>
+fn put_left(out: &mut Vec<u8>, call: u64, seen: &Outcome) -> Result<(), AllocError>
     ensures { OnOk result (out.new.items ≡ out.old.items ++ left_text call seen.now) }
 {
     match seen {
-        Shown::Left => put_dropped(out, call),
+        Outcome::Left => put_dropped(out, call),
         _ => Ok(()),
     }
 }
 
 /// What was shown of a writer's return.
-fn put_returned(out: &mut Vec<u8>, call: u64, seen: &Shown) -> Result<(), AllocError>
+fn put_returned(out: &mut Vec<u8>, call: u64, seen: &Outcome) -> Result<(), AllocError>
     ensures { OnOk result (out.new.items ≡ out.old.items ++ returned_text call seen.now) }
 {
     match seen {
-        Shown::Reported(seen) => put_reported(out, call, seen),
+        Outcome::Reported(seen) => put_reported(out, call, seen),
         _ => Ok(()),
     }
 }
 
-fn put_told(out: &mut Vec<u8>, event: &WorldEvent, seen: &Shown) -> Result<(), AllocError>
+/// What was shown of the outcome of an event.
+fn put_told(out: &mut Vec<u8>, event: &WorldEvent, seen: &Outcome) -> Result<(), AllocError>
     ensures { OnOk result (out.new.items ≡ out.old.items ++ told event.now seen.now) }
 {
     match event {
@@ -319,6 +322,24 @@ fn put_told(out: &mut Vec<u8>, event: &WorldEvent, seen: &Shown) -> Result<(), A
     }
 }
 
+/// That a call of many keys is over, if one is.
+fn put_end(out: &mut Vec<u8>, over: &Option<Over>) -> Result<(), AllocError>
+    ensures { OnOk result (out.new.items ≡ out.old.items ++ end_text over.now) }
+{
+    match over {
+        None => Ok(()),
+        Some(over) => put_over(out, over.call, &over.cause),
+    }
+}
+
+/// What was shown of an event.
+fn put_event(out: &mut Vec<u8>, event: &WorldEvent, seen: &Shown) -> Result<(), AllocError>
+    ensures { OnOk result (out.new.items ≡ out.old.items ++ event_text event.now seen.now) }
+{
+    put_told(out, event, &seen.outcome)?;
+    put_end(out, &seen.over)
+}
+
 /// What was shown of events.
 pub fn put_texts(out: &mut Vec<u8>, events: &[WorldEvent], seen: &[Shown]) -> Result<(), AllocError>
     ensures { OnOk result (out.new.items ≡ out.old.items ++ texts events.now seen.now) }
@@ -328,7 +349,7 @@ pub fn put_texts(out: &mut Vec<u8>, events: &[WorldEvent], seen: &[Shown]) -> Re
         match rest {
             [] => return Ok(()),
             [first, more @ ..] => {
-                put_told(out, event, first)?;
+                put_event(out, event, first)?;
                 rest = more;
             }
         }

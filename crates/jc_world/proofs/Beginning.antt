@@ -87,9 +87,9 @@ calls_same w n calls last order served fit =
     calls_all w n calls (λ u h. fits_same w n u last order (λ q op is. served u.caller q) h) fit
 
 -- the store changes
-pub order_stored : (w : WorldState) (store : Cache) (premises : Premises) (fresh : Bool) → IsSoundWorld w → HasOrder (record w { store = store; fresh = fresh; premises = premises })
-order_stored w store premises fresh old =
-    let new : WorldState = record w { store = store; fresh = fresh; premises = premises } in
+pub order_stored : (w : WorldState) (store : Cache) (premises : Premises) → IsSoundWorld w → HasOrder (record w { store = store; premises = premises })
+order_stored w store premises old =
+    let new : WorldState = record w { store = store; premises = premises } in
     record {
       shape = shape_same w new refl refl refl old.shape;
       order = old.order;
@@ -195,7 +195,7 @@ called_parts a b c d h =
 
 -- the world with more calls
 abbrev begun_world : WorldState → ℕ → List CallState → WorldState
-begun_world w call more = record w { last = Some call; fresh = false; calls = w.calls ++ more }
+begun_world w call more = record w { last = Some call; calls = w.calls ++ more }
 
 -- a call fits after a new number
 fits_more : (w : WorldState) (call : ℕ) (more : List CallState) (x : CallState) → is_new w.last call ≡ true → FitsCall w x → FitsCall (begun_world w call more) x
@@ -220,7 +220,7 @@ order_more w call more is fit old =
 
 -- a session begins a call
 pub order_called : (w : WorldState) (call session : ℕ) (command : Command) → fits w (event.Call call session command) ≡ true → IsSoundWorld w
-    → HasOrder (record w { last = Some call; fresh = false; calls = w.calls ++ opened (new_call call session command) })
+    → HasOrder (record w { last = Some call; calls = w.calls ++ opened (new_call call session command) })
 order_called w call session command fit old =
     let u : CallState = new_call call session command in
     let one : WorldState = begun_world w call (u ∷ []) in

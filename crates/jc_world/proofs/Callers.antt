@@ -13,6 +13,7 @@ use Rattle.std.specs.FinMap.{get, insert, remove, get-insert, get-remove, empty,
 use Rattle.jc_world.proofs.Numbered.{some_of}
 use Rattle.jc_types.proofs.CallerLemmas.{all_imply}
 use Rattle.jc_types.specs.declared.caller.Caller.{Caller}
+use Rattle.jc_types.specs.declared.refusal.Refusal.{Refusal}
 use Rattle.jc_types.specs.declared.config.Config.{Config}
 use Rattle.jc_model.specs.declared.event.Op.{Op}
 use Rattle.jc_model.specs.declared.event.Op.TheVariants.{Get}
@@ -45,26 +46,27 @@ use Rattle.jc_world.specs.declared.event.Part.{Part}
 use Rattle.jc_world.specs.declared.event.Progress.{Progress}
 use Rattle.jc_world.specs.declared.event.Premises.{Premises}
 use Rattle.jc_world.specs.declared.event.Shown.{Shown}
-use Rattle.jc_world.specs.declared.event.Shown.TheVariants as shown
-use Rattle.jc_world.specs.Calls.{CallState, SweepState, has_number, open_keys, op_at, op_for, is_turn, settle, going_on, with_found}
+use Rattle.jc_world.specs.declared.event.Outcome.{Outcome}
+use Rattle.jc_world.specs.declared.event.Outcome.TheVariants as outcome
+use Rattle.jc_world.specs.Calls.{CallState, SweepState, has_number, open_keys, op_at, op_for, is_turn, settle, going_on, with_found, with_met, replaced}
 use Rattle.jc_world.specs.declared.event.WorldEvent.{WorldEvent}
 use Rattle.jc_world.specs.declared.event.WorldEvent.TheVariants as event
-use Rattle.jc_world.specs.World.{WorldState, Parts, home, stripe_for, open_call, part_of, is_joined, is_join, join_of, joins_without, out_of, with_stored}
+use Rattle.jc_world.specs.World.{WorldState, Parts, home, stripe_for, open_call, part_of, Joins, is_joined, join_of, out_of, with_stored}
 use Rattle.jc_world.specs.Fits.{is_free, may_leave, fits}
-use Rattle.jc_world.specs.Events.{with_stripe, with_phase, with_settled, without_call, with_look, new_load, new_write, new_part, with_part, without_part, with_join, without_join, step_of, Starts, Ends, Picks, Happens, new_process}
+use Rattle.jc_world.specs.Events.{fault_in, with_met_by, with_stripe, with_phase, with_settled, without_call, with_look, new_load, new_write, new_part, with_part, without_part, with_join, without_join, step_of, Starts, Ends, Picks, Happens, new_process}
 use Rattle.jc_world.specs.Audit.{cache_in, cache_at, IsOrder, HasShares}
-use Rattle.jc_world.specs.Sound.{IsStripe, is_up_to, has_answer, has_parked_answer, is_served_in, is_served, FitsKey, FitsCall, CallsFit, IsCallOf, IsHeld, IsOwned, AllOwned, IsCalled, IsSoundWorld, IsWaitedFor, Each}
+use Rattle.jc_world.specs.Sound.{IsStripe, is_up_to, has_answer, has_parked_answer, is_served_in, is_served, FitsKey, FitsCall, CallsFit, IsCallOf, IsHeld, IsOwned, AllOwned, IsCalled, IsSoundWorld, Each}
 use Rattle.jc_world.proofs.Halves.{HasOrder, order_half, order_half}
 use Rattle.jc_world.proofs.Returns.{IsReport}
 use Rattle.jc_world.proofs.Places.{at_stripe, stripe_put}
 use Rattle.jc_world.proofs.Reservations.{out_reserved, was_free, writer_alone}
 use Rattle.jc_world.proofs.Processors.{processor_free}
-use Rattle.jc_world.proofs.Shares.{is_some_and, set_cases, found_test, added, share_grows, share_stays, shape_same, shape_set, AllBy, by_map, by_group, added_order, numbers_added, comes_behind, comes_added, fact_found, each_kept, each_map, each_pushed}
+use Rattle.jc_world.proofs.Shares.{is_some_and, set_cases, added, share_grows, share_stays, shape_same, shape_set, AllBy, by_map, by_group, added_order, numbers_added, comes_behind, comes_added, fact_found, each_kept, each_map, each_pushed}
 use Rattle.jc_world.proofs.Underway.{found_number, find_over, fits_found, calls_filter, calls_on, each_found, elsewhere_found, all_owned, others_left, same_bytes, of_call-at}
-use Rattle.jc_world.proofs.Looked.{Taken, taken_of, taken_on, calls_replaced, still_replaced}
+use Rattle.jc_world.proofs.Looked.{Taken, taken_of, taken_met, taken_on, calls_replaced, still_replaced}
 use Rattle.jc_world.proofs.Settling.{open_now, Left, done_for, IsTurnOf, still_called, calls_settled}
 use Rattle.jc_world.proofs.LoadKeys.{key_of_load, each_fits}
-use Rattle.jc_world.proofs.Joiners.{joiner_of, unanswered, told_resolved, told_waiting, told_dissolved, told_pushed, find_kept, each_own, each_caller, each_both, join_is, joined_no_part}
+use Rattle.jc_world.proofs.Joiners.{joiner_of, unanswered, told_resolved, told_waiting, told_dissolved, told_pushed, find_kept, each_own, each_caller, each_both, join_at, joined_no_part}
 use Rattle.jc_world.proofs.Beginning.{unless, fits_left, fits_same, fits_taken, calls_same, order_stored, owned_part, order_parted, order_called, MayStart, may_start_at, may_turn, part_turn, not_own, apart_or, unserved, begins_with}
 use Rattle.jc_world.proofs.Facts.{same_found}
 use Rattle.jc_world.proofs.Entries.{tied}
@@ -80,20 +82,20 @@ abbrev IsFound : WorldState → CallState → Type 0
 IsFound w u = find (has_number u.caller.call) w.calls ≡ Some u
 
 -- a reservation of another call, or at another key, keeps its call
-call_kept : (w : WorldState) (call : ℕ) (key : Bytes) (r : Reservation) → (r.caller.call ≡ call → r.key ≡ key → ⊥) → IsTurnOf w.calls call key → IsOwned w r → IsSomeAnd (find (has_number r.caller.call) (settle call key w.calls)) (IsCallOf r.caller.session r.key r.op)
-call_kept w call key r other turn h = still_called call key r.caller.call r.caller.session r.key r.op w.calls other turn h.call
+call_kept : (w : WorldState) (call : ℕ) (key : Bytes) (met : Option Refusal) (r : Reservation) → (r.caller.call ≡ call → r.key ≡ key → ⊥) → IsTurnOf w.calls call key → IsOwned w r → IsSomeAnd (find (has_number r.caller.call) (settle call key met w.calls)) (IsCallOf r.caller.session r.key r.op)
+call_kept w call key met r other turn h = still_called call key met r.caller.call r.caller.session r.key r.op w.calls other turn h.call
 
 -- a first phase was refused, and the key has its last refusal
-order_refused : (w : WorldState) (u : CallState) (key : Bytes) (op : Op) → MayStart w u key op → IsSoundWorld w → HasOrder (with_settled w u.caller.call key)
-order_refused w u key op may old =
-    let new : WorldState = with_settled w u.caller.call key in
+order_refused : (w : WorldState) (u : CallState) (key : Bytes) (op : Op) (met : Option Refusal) → MayStart w u key op → IsSoundWorld w → HasOrder (with_settled w u.caller.call key met)
+order_refused w u key op met may old =
+    let new : WorldState = with_settled w u.caller.call key met in
     record {
       shape = shape_same w new refl refl refl old.shape;
       order = old.order;
       numbers = old.numbers;
-      calls = calls_settled w new u.caller.call key (IsFound w) w.calls (λ x v left found h. fits_left w new u.caller.call key x v left refl refl (λ q o is k. k) h) (each_found w w.calls old.calls) old.calls;
+      calls = calls_settled w new u.caller.call key met (IsFound w) w.calls (λ x v left found h. fits_left w new u.caller.call key x v left refl refl (λ q o is k. k) h) (each_found w w.calls old.calls) old.calls;
       owned = λ n s here. each_map (IsOwned w) (IsOwned new) s.reservations
-          (λ r h. record { part = h.part; call = call_kept w u.caller.call key r (not_own w u.caller.call key r may.none h) (may_turn w u key op may) h })
+          (λ r h. record { part = h.part; call = call_kept w u.caller.call key met r (not_own w u.caller.call key r may.none h) (may_turn w u key op may) h })
           (old.owned n s here);
     }
 
@@ -187,17 +189,17 @@ put_behind w n call key u v q op who k fit found left is free p =
     clash mine caller_is at does (inr served) = let t : true ≡ false = sym served ∙ (λ i. is_served n (caller_is i) (at i)) ∙ free in cc
 
 -- the world with a stripe that has put a step down
-abbrev stepped_world : WorldState → Bytes → State → State → ℕ → Parts → WorldState
-stepped_world w key from to call parts = record w { stripes = slice_set w.stripes (home w key) to; order = w.order ++ added from to; calls = settle call key w.calls; parts = parts }
+abbrev stepped_world : WorldState → Bytes → State → State → ℕ → Option Refusal → Parts → WorldState
+stepped_world w key from to call met parts = record w { stripes = slice_set w.stripes (home w key) to; order = w.order ++ added from to; calls = settle call key met w.calls; parts = parts }
 
 -- the world's order with a step at a key that is settled then
-pub order_stepped : (w : WorldState) (key : Bytes) (from to : State) (call : ℕ) (parts : Parts) → IsSoundWorld w → stripe_for w key ≡ Some from → (g : Extends from to) → IsReached to
-    → AllBy (IsPut w (stepped_world w key from to call parts) call key) g.more
+pub order_stepped : (w : WorldState) (key : Bytes) (from to : State) (call : ℕ) (met : Option Refusal) (parts : Parts) → IsSoundWorld w → stripe_for w key ≡ Some from → (g : Extends from to) → IsReached to
+    → AllBy (IsPut w (stepped_world w key from to call met parts) call key) g.more
     → KeepsParked from to
-    → ((n : ℕ) (s : State) → slice_get (slice_set w.stripes (home w key) to) n ≡ Some s → AllOwned (stepped_world w key from to call parts) s.reservations)
-    → HasOrder (stepped_world w key from to call parts)
-order_stepped w key from to call parts old there g reached put keeps owned =
-    let new : WorldState = stepped_world w key from to call parts in
+    → ((n : ℕ) (s : State) → slice_get (slice_set w.stripes (home w key) to) n ≡ Some s → AllOwned (stepped_world w key from to call met parts) s.reservations)
+    → HasOrder (stepped_world w key from to call met parts)
+order_stepped w key from to call met parts old there g reached put keeps owned =
+    let new : WorldState = stepped_world w key from to call met parts in
     let at = old.shape.each (home w key) from there in
     let put_of = IsPut w new call key in
     let fit : (who : Caller) (k : Bytes) → (p : put_of who k) → FitsCall w p.v = λ who k p. fits_found w (has_number who.call) w.calls p.v p.here old.calls in
@@ -212,7 +214,7 @@ order_stepped w key from to call parts old there g reached put keeps owned =
           (subst F (put_caller w new call key who k p) ((fit who k p).keys k p.op (done_for p.v k p.op p.op_is))).comes p.unserved) put);
       numbers = numbers_added w.last w.order from to g old.numbers
           (by_map put_of (λ who k. is_up_to w.last who.call ≡ true) g.more (λ who k p. ap (is_up_to w.last) (sym (found_number who.call w.calls p.v p.here)) ∙ (fit who k p).number) put);
-      calls = calls_settled w new call key (IsFound w) w.calls
+      calls = calls_settled w new call key met (IsFound w) w.calls
           (λ u v left found h.
           record {
             number = ap (λ (c : Caller). is_up_to w.last c.call) left.caller_is ∙ h.number;
@@ -236,18 +238,18 @@ same_told : (from to : State) → to.joiners ≡ from.joiners → KeepsParked fr
 same_told from to same caller key h = ap (λ js. has_parked_answer (joiner_of caller key js)) same ∙ h
 
 -- the key is settled, with its step
-order_done : StaysReached → (w : WorldState) (u : CallState) (key : Bytes) (op : Op) (from to : State) (done : StepDone) → stripe_for w key ≡ Some from → Begins from u.caller key op (begun.Done done) to
-    → MayStart w u key op → IsSoundWorld w → HasOrder (with_settled (with_phase w key from to) u.caller.call key)
+order_done : StaysReached → (w : WorldState) (u : CallState) (key : Bytes) (op : Op) (met : Option Refusal) (from to : State) (done : StepDone) → stripe_for w key ≡ Some from → Begins from u.caller key op (begun.Done done) to
+    → MayStart w u key op → IsSoundWorld w → HasOrder (with_settled (with_phase w key from to) u.caller.call key met)
 unfolding goes
-order_done stays w u key op from to done there begins may old =
+order_done stays w u key op met from to done there begins may old =
     let call = u.caller.call in
-    let new : WorldState = with_settled (with_phase w key from to) call key in
+    let new : WorldState = with_settled (with_phase w key from to) call key met in
     let at = old.shape.each (home w key) from there in
     let reached = stays.begins from to u.caller key op (begun.Done done) at.reached (begins_with w u key op from old there may) begins in
     let g = goes from from to u.caller key op nothing_said [] done (record { config = refl; stripe = refl; origin = refl; opening = refl }) refl begins.2 in
     let one : IsPut w new call key u.caller key = record { v = u; here = may.here; session_is = refl; op = op; op_is = may.op_is; unserved = unserved w u.caller key may.alone old; over = inl (refl, refl) } in
-    let kept : (rs : List Reservation) → AllOwned w rs → AllOwned new rs = λ rs. each_map (IsOwned w) (IsOwned new) rs (λ r h. record { part = h.part; call = call_kept w call key r (not_own w call key r may.none h) (may_turn w u key op may) h }) in
-    order_stepped w key from to call w.parts old there g reached
+    let kept : (rs : List Reservation) → AllOwned w rs → AllOwned new rs = λ rs. each_map (IsOwned w) (IsOwned new) rs (λ r h. record { part = h.part; call = call_kept w call key met r (not_own w call key r may.none h) (may_turn w u key op may) h }) in
+    order_stepped w key from to call met w.parts old there g reached
     (by_group (IsPut w new call key) (length from.history) (new_group from u.caller key op nothing_said [] begins.2.short) one tt)
     (same_told from to (ap (λ (s : State). s.joiners) begins.2.after))
     (λ n s. set_cases w.stripes (home w key) n to s
@@ -297,7 +299,7 @@ order_reserved w u key op from to p r there free caller_is key_is op_is is reach
     }
 
 -- the stripe is another, whose history and reservations are the same
-order_aside : (w : WorldState) (key : Bytes) (from to : State) (joins : List JoinClaim) → stripe_for w key ≡ Some from → to.config ≡ from.config → to.stripe ≡ from.stripe → to.origin ≡ from.origin
+order_aside : (w : WorldState) (key : Bytes) (from to : State) (joins : Joins) → stripe_for w key ≡ Some from → to.config ≡ from.config → to.stripe ≡ from.stripe → to.origin ≡ from.origin
     → to.history ≡ from.history → to.reservations ≡ from.reservations → IsReached to
     → CallsFit (record w { stripes = slice_set w.stripes (home w key) to; joins = joins }) w.calls
     → IsSoundWorld w → HasOrder (record w { stripes = slice_set w.stripes (home w key) to; joins = joins })
@@ -324,42 +326,42 @@ order_joins w key from to join there is reached old =
     ap (λ (s : State). has_parked_answer (joiner_of caller q s.joiners)) is
     ∙ told_pushed caller q from.joiners (record { caller = join.caller; key = join.key; load = join.load; state = Waiting } ∷ []) h
     in
-    order_aside w key from to (w.joins ++ join ∷ []) there (ap (λ (s : State). s.config) is) (ap (λ (s : State). s.stripe) is) (ap (λ (s : State). s.origin) is) (ap (λ (s : State). s.history) is) (ap (λ (s : State). s.reservations) is) reached
+    order_aside w key from to new.joins there (ap (λ (s : State). s.config) is) (ap (λ (s : State). s.stripe) is) (ap (λ (s : State). s.origin) is) (ap (λ (s : State). s.history) is) (ap (λ (s : State). s.reservations) is) reached
     (calls_same w new w.calls refl refl (served_set w key from to there keeps) old.calls) old
 
 -- 5. The first phase.
 
 -- by what is shown of the first phase
-starts : StaysReached → (w new : WorldState) (u : CallState) (key : Bytes) (op : Op) (from to : State) (seen : Shown) → stripe_for w key ≡ Some from → Starts w u.caller key op from to seen new → MayStart w u key op → IsSoundWorld w → HasOrder new
-starts stays w new u key op from to (shown.Refused refusal) there h may old = subst HasOrder (sym h.1) (order_refused w u key op may old)
-starts stays w new u key op from to (shown.PutOff refusal) there h may old = subst HasOrder (sym h.1) (order_half w old)
-starts stays w new u key op from to (shown.Stepped seen) there h may old = subst HasOrder (sym h.2) (order_done stays w u key op from to (step_of seen) there h.0 may old)
-starts stays w new u key op from to shown.Loads there h may old =
+starts : StaysReached → (w new : WorldState) (u : CallState) (key : Bytes) (op : Op) (from to : State) (seen : Outcome) → stripe_for w key ≡ Some from → Starts w u.caller key op from to seen new → MayStart w u key op → IsSoundWorld w → HasOrder new
+starts stays w new u key op from to (outcome.Refused refusal) there h may old = subst HasOrder (sym h.1) (order_refused w u key op (Some refusal) may old)
+starts stays w new u key op from to (outcome.PutOff refusal) there h may old = subst HasOrder (sym h.1) (order_half w old)
+starts stays w new u key op from to (outcome.Stepped seen) there h may old = subst HasOrder (sym h.2) (order_done stays w u key op (fault_in seen.reply) from to (step_of seen) there h.0 may old)
+starts stays w new u key op from to outcome.Loads there h may old =
     let at = old.shape.each (home w key) from there in
     let reached = stays.begins from to u.caller key op (begun.Load h.0) at.reached (begins_with w u key op from old there may) h.1 in
     let free = was_free from u.caller key op Loader h.1.0 h.1.1 h.1.2 refl in
     subst HasOrder (sym h.2)
     (order_reserved w u key op from to new_load h.0.reservation there free (ap (λ (t : Ticket). t.reservation.caller) h.1.3) (ap (λ (t : Ticket). t.reservation.key) h.1.3) (ap (λ (t : Ticket). t.reservation.op) h.1.3) h.1.4 reached may old)
-starts stays w new u key op from to (shown.Asks change) there h may old =
+starts stays w new u key op from to (outcome.Asks change) there h may old =
     let at = old.shape.each (home w key) from there in
     let reached = stays.begins from to u.caller key op (begun.Write h.0) at.reached (begins_with w u key op from old there may) h.1 in
     let free = was_free from u.caller key op h.0.reservation.first h.1.0 (writer_alone from key op h.0.reservation.first h.1.1 h.1.2) h.1.1 (ap reserves h.2) in
     subst HasOrder (sym h.3)
     (order_reserved w u key op from to new_write h.0.reservation there free (ap (λ (t : Ticket). t.reservation.caller) h.1.3) (ap (λ (t : Ticket). t.reservation.key) h.1.3) (ap (λ (t : Ticket). t.reservation.op) h.1.3) h.1.4 reached may old)
-starts stays w new u key op from to (shown.Processes entry) there h may old =
+starts stays w new u key op from to (outcome.Processes entry) there h may old =
     let at = old.shape.each (home w key) from there in
     let reached = stays.begins from to u.caller key op (begun.Process h.0) at.reached (begins_with w u key op from old there may) h.1 in
     let free = processor_free from to u.caller key op h.0 h.1 in
     subst HasOrder (sym h.3)
     (order_reserved w u key op from to new_process h.0.reservation there free (ap (λ (t : ProcessClaim). t.reservation.caller) h.1.3) (ap (λ (t : ProcessClaim). t.reservation.key) h.1.3) (ap (λ (t : ProcessClaim). t.reservation.op) h.1.3) h.1.4 reached may old)
-starts stays w new u key op from to shown.Joins there h may old =
+starts stays w new u key op from to outcome.Joins there h may old =
     let at = old.shape.each (home w key) from there in
     let reached = stays.begins from to u.caller key op (begun.Joined h.0) at.reached (begins_with w u key op from old there may) h.1 in
     subst HasOrder (sym h.2) (order_joins w key from to h.0 there h.1.3 reached old)
 starts stays w new u key op from to seen there h may old = absurd h
 
 -- a first phase
-pub order_started : StaysReached → (w new : WorldState) (call : ℕ) (key : Bytes) (u : CallState) (op : Op) (from to : State) (seen : Shown) → fits w (event.Start call key) ≡ true → open_call w call ≡ Some u → op_at u key ≡ Some op → stripe_for w key ≡ Some from
+pub order_started : StaysReached → (w new : WorldState) (call : ℕ) (key : Bytes) (u : CallState) (op : Op) (from to : State) (seen : Outcome) → fits w (event.Start call key) ≡ true → open_call w call ≡ Some u → op_at u key ≡ Some op → stripe_for w key ≡ Some from
     → Starts w u.caller key op from to seen new → IsSoundWorld w → HasOrder new
 order_started stays w new call key u op from to seen fit is op_is there h old = starts stays w new u key op from to seen there h (may_start_at w call key u op fit is op_is old) old
 
@@ -391,21 +393,21 @@ owned_left_over w n key from to there left on old m s =
     (λ apart at. on_all s.reservations (other_stripe w key m s s.reservations (old.shape.each m s at) apart (old.shape.each m s at).reached.keys) (old.owned m s at))
 
 -- the world after a commit
-abbrev ended_world : WorldState → Bytes → State → State → ℕ → WorldState
-ended_world w key from to call = without_part (with_settled (with_phase w key from to) call key) key
+abbrev ended_world : WorldState → Bytes → State → State → ℕ → Option Refusal → WorldState
+ended_world w key from to call met = without_part (with_settled (with_phase w key from to) call key met) key
 
 -- how the stripe of a commit continues
-pub record Ending (w : WorldState) (call : ℕ) (key : Bytes) (from to : State) : Type 0 where
+pub record Ending (w : WorldState) (call : ℕ) (key : Bytes) (met : Option Refusal) (from to : State) : Type 0 where
   pub extends : Extends from to
-  pub put : AllBy (IsPut w (ended_world w key from to call) call key) extends.more
+  pub put : AllBy (IsPut w (ended_world w key from to call met) call key) extends.more
   pub keeps : KeepsParked from to
   pub left : to.reservations ≡ without_key key from.reservations
 
 -- each joiner that waits for the load gets its answer
-caller_put : (w : WorldState) (key : Bytes) (from to : State) (call load place : ℕ) (j : Joiner) (k : Bytes) → stripe_for w key ≡ Some from → to.joiners ≡ resolved load place from.joiners
-    → joiner_of j.caller j.key from.joiners ≡ Some j → IsCalled w (home w key) j → j.key ≡ k → waits_for load j ≡ true → IsPut w (ended_world w key from to call) call key j.caller k
-caller_put w key from to call load place j k there joiners own h key_is waits =
-    let n = ended_world w key from to call in
+caller_put : (w : WorldState) (key : Bytes) (from to : State) (met : Option Refusal) (call load place : ℕ) (j : Joiner) (k : Bytes) → stripe_for w key ≡ Some from → to.joiners ≡ resolved load place from.joiners
+    → joiner_of j.caller j.key from.joiners ≡ Some j → IsCalled w (home w key) j → j.key ≡ k → waits_for load j ≡ true → IsPut w (ended_world w key from to call met) call key j.caller k
+caller_put w key from to met call load place j k there joiners own h key_is waits =
+    let n = ended_world w key from to call met in
     let v = some_of (open_call w j.caller.call) (IsCallOf j.caller.session j.key Get) h.call in
     let before : is_served w j.caller j.key ≡ has_parked_answer (Some j) = ap (λ o. is_served_in o j.caller j.key) (ap (slice_get w.stripes) h.home_is ∙ there) ∙ ap has_parked_answer own in
     let after : is_served n j.caller j.key ≡ has_parked_answer (joiner_of j.caller j.key (resolved load place from.joiners)) =
@@ -422,16 +424,16 @@ caller_put w key from to call load place j k there joiners own h key_is waits =
     }
 
 -- by the reservation that is over
-ending : (w : WorldState) (call : ℕ) (key : Bytes) (part : Part) (from to : State) (done : StepDone) → part_of w call key ≡ Some part → part.reservation.caller.call ≡ call → part.reservation.key ≡ key
+ending : (w : WorldState) (call : ℕ) (key : Bytes) (met : Option Refusal) (part : Part) (from to : State) (done : StepDone) → part_of w call key ≡ Some part → part.reservation.caller.call ≡ call → part.reservation.key ≡ key
     → stripe_for w key ≡ Some from → IsOut from part.reservation → Steps (after_commit from part.reservation done.place) part.reservation.caller part.reservation.key part.reservation.op (out_of part) (callers_of part.reservation.number from.joiners) done to
-    → IsOwned w part.reservation → IsSoundWorld w → Ending w call key from to
+    → IsOwned w part.reservation → IsSoundWorld w → Ending w call key met from to
 unfolding goes
-ending w call key part from to done is part_call r_key there out steps owned old =
+ending w call key met part from to done is part_call r_key there out steps owned old =
     let r = part.reservation in
     let u = some_of (open_call w r.caller.call) (IsCallOf r.caller.session r.key r.op) owned.call in
     let mid = after_commit from r done.place in
     let g = goes from mid to r.caller r.key r.op (out_of part) (callers_of r.number from.joiners) done (record { config = refl; stripe = refl; origin = refl; opening = refl }) refl steps in
-    let n = ended_world w key from to call in
+    let n = ended_world w key from to call met in
     let alone : is_joined w r.caller.call r.key ≡ false = (λ i. is_joined w (part_call i) (r_key i)) ∙ false_from_ne_true (is_joined w call key) (λ t. let e : Some part ≡ None = sym is ∙ joined_no_part w call key t old.joins in cc) in
     let one : IsPut w n call key r.caller r.key = record { v = u.0; here = u.1; session_is = u.2.0; op = r.op; op_is = u.2.1; unserved = unserved w r.caller r.key alone old; over = inl (part_call, r_key) } in
     let joiners : to.joiners ≡ resolved r.number done.place from.joiners = ap (λ (s : State). s.joiners) steps.after in
@@ -441,7 +443,7 @@ ending w call key part from to done is part_call r_key there out steps owned old
     let both = each_both (λ (j : Joiner). JoinFits from j j.state) (IsCalled w (home w key)) J from.joiners (λ j f h. (f, h)) (each_fits from from.joiners at.reached.joins) (old.called (home w key) from there) in
     let callers : Each (λ (c : Caller). P c) (callers_of part.reservation.number from.joiners) = each_caller P part.reservation.number from.joiners
     (each_both (λ (j : Joiner). joiner_of j.caller j.key from.joiners ≡ Some j) J (λ (j : Joiner). waits_for part.reservation.number j ≡ true → P j.caller) from.joiners
-    (λ j own h waits. caller_put w key from to call r.number done.place j r.key there joiners own h.1 (key_of_load from r j at.reached out h.0 waits) waits)
+    (λ j own h waits. caller_put w key from to met call r.number done.place j r.key there joiners own h.1 (key_of_load from r j at.reached out h.0 waits) waits)
     (each_own from.joiners at.reached.apart) both)
     in
     record {
@@ -452,33 +454,33 @@ ending w call key part from to done is part_call r_key there out steps owned old
     }
 
 -- by the part of the call
-pub ending_at : (w : WorldState) (call : ℕ) (key : Bytes) (part : Part) (from to : State) (done : StepDone) → part_of w call key ≡ Some part → stripe_for w key ≡ Some from
-    → Commits from part.reservation (out_of part) done to → IsSoundWorld w → Ending w call key from to
-ending_at w call key part from to done is there commits old =
+pub ending_at : (w : WorldState) (call : ℕ) (key : Bytes) (met : Option Refusal) (part : Part) (from to : State) (done : StepDone) → part_of w call key ≡ Some part → stripe_for w key ≡ Some from
+    → Commits from part.reservation (out_of part) done to → IsSoundWorld w → Ending w call key met from to
+ending_at w call key met part from to done is there commits old =
     let at = of_call-at call (get w.parts key) part is in
     let held = some_of (stripe_for w key) (λ s. IsHeld s key part) (old.held key part at.0) in
-    ending w call key part from to done is at.1 held.2.key_is there commits.0 commits.1
+    ending w call key met part from to done is at.1 held.2.key_is there commits.0 commits.1
     (fact_found (IsOwned w) (is_key part.reservation.key) from.reservations part.reservation commits.0 (old.owned (home w key) from there)) old
 
 -- the key of the commit is settled
-order_commit : (w : WorldState) (call : ℕ) (key : Bytes) (from to : State) → IsSoundWorld w → stripe_for w key ≡ Some from → IsTurnOf w.calls call key → (e : Ending w call key from to) → IsReached to → HasOrder (ended_world w key from to call)
-order_commit w call key from to old there turn e reached =
-    let new : WorldState = ended_world w key from to call in
-    order_stepped w key from to call (remove w.parts key) old there e.extends reached e.put e.keeps
+order_commit : (w : WorldState) (call : ℕ) (key : Bytes) (met : Option Refusal) (from to : State) → IsSoundWorld w → stripe_for w key ≡ Some from → IsTurnOf w.calls call key → (e : Ending w call key met from to) → IsReached to → HasOrder (ended_world w key from to call met)
+order_commit w call key met from to old there turn e reached =
+    let new : WorldState = ended_world w key from to call met in
+    order_stepped w key from to call met (remove w.parts key) old there e.extends reached e.put e.keeps
     (owned_left_over w new key from to there e.left
     (λ r apart h. record {
       part = part_kept w key r apart h;
-      call = call_kept w call key r (λ mine at. let t : true ≡ false = sym (ap (pointwise ◌==◌ key) at ∙ nat_list_eq_equiv.refl key) ∙ apart in cc) turn h;
+      call = call_kept w call key met r (λ mine at. let t : true ≡ false = sym (ap (pointwise ◌==◌ key) at ∙ nat_list_eq_equiv.refl key) ∙ apart in cc) turn h;
     }) old)
 
 -- by what is shown of the last phase
-pub order_ended : StaysReached → (w new : WorldState) (call : ℕ) (key : Bytes) (part : Part) (from to : State) (seen : Shown) → part_of w call key ≡ Some part → stripe_for w key ≡ Some from → Ends w call key part from to seen new → IsSoundWorld w → HasOrder new
-order_ended stays w new call key part from to (shown.Stepped seen) is there h old =
+pub order_ended : StaysReached → (w new : WorldState) (call : ℕ) (key : Bytes) (part : Part) (from to : State) (seen : Outcome) → part_of w call key ≡ Some part → stripe_for w key ≡ Some from → Ends w call key part from to seen new → IsSoundWorld w → HasOrder new
+order_ended stays w new call key part from to (outcome.Stepped seen) is there h old =
     let at = old.shape.each (home w key) from there in
-    let e = ending_at w call key part from to (step_of seen) is there h.0 old in
+    let e = ending_at w call key (fault_in seen.reply) part from to (step_of seen) is there h.0 old in
     let reached = stays.commits from to part.reservation (out_of part) (step_of seen) at.reached h.0 in
     let mine = of_call-at call (get w.parts key) part is in
-    subst HasOrder (sym h.2) (order_commit w call key from to old there (part_turn w call key part mine.0 mine.1 old) e reached)
+    subst HasOrder (sym h.2) (order_commit w call key (fault_in seen.reply) from to old there (part_turn w call key part mine.0 mine.1 old) e reached)
 order_ended stays w new call key part from to seen is there h old = absurd h
 
 -- 7. A reservation is given back, and an answer picked up.
@@ -526,9 +528,8 @@ pub record Picking (w : WorldState) (call : ℕ) (key : Bytes) (join : JoinClaim
 
 pub picking : (w : WorldState) (call : ℕ) (key : Bytes) (join : JoinClaim) → join_of w call key ≡ Some join → IsSoundWorld w → Picking w call key join
 picking w call key join there old =
-    let is = join_is call key join (found_test (is_join call key) w.joins join there) in
-    let h = fact_found (IsWaitedFor w) (is_join call key) w.joins join there old.joins in
-    let u = some_of (open_call w join.caller.call) (IsCallOf join.caller.session join.key Get) h.call in
+    let is = join_at w call key join there old.joins in
+    let u = some_of (open_call w join.caller.call) (IsCallOf join.caller.session join.key Get) is.2.call in
     record {
       u = u.0;
       here = ap (open_call w) (sym is.0) ∙ u.1;
@@ -537,7 +538,7 @@ picking w call key join there old =
       turn = ap (is_turn u.0) (sym is.1) ∙ u.2.2;
       call_is = is.0;
       join_key = is.1;
-      none = (λ i. part_of w (sym is.0 i) (sym is.1 i)) ∙ h.no_part;
+      none = (λ i. part_of w (sym is.0 i) (sym is.1 i)) ∙ is.2.no_part;
     }
 
 -- the call may work at the key
@@ -559,19 +560,19 @@ left_keeps w call key from to join caller q there is call_is key_is apart =
     (λ h. h)
 
 -- a call has its answer at a key
-order_picked : StaysReached → (w : WorldState) (call : ℕ) (key : Bytes) (join : JoinClaim) (from to : State) (p : Picked) → join_of w call key ≡ Some join → stripe_for w key ≡ Some from → PicksUp from join p to → to ≡ without_joiner from join → IsSoundWorld w
-    → HasOrder (with_settled (without_join (with_stripe w key to) call key) call key)
-order_picked stays w call key join from to p joined there picks is old =
-    let new : WorldState = with_settled (without_join (with_stripe w key to) call key) call key in
+order_picked : StaysReached → (w : WorldState) (call : ℕ) (key : Bytes) (met : Option Refusal) (join : JoinClaim) (from to : State) (p : Picked) → join_of w call key ≡ Some join → stripe_for w key ≡ Some from → PicksUp from join p to → to ≡ without_joiner from join → IsSoundWorld w
+    → HasOrder (with_settled (without_join (with_stripe w key to) call key) call key met)
+order_picked stays w call key met join from to p joined there picks is old =
+    let new : WorldState = with_settled (without_join (with_stripe w key to) call key) call key met in
     let one = picking w call key join joined old in
     let at = old.shape.each (home w key) from there in
-    let kept : (rs : List Reservation) → AllOwned w rs → AllOwned new rs = λ rs. each_map (IsOwned w) (IsOwned new) rs (λ r h. record { part = h.part; call = call_kept w call key r (not_own w call key r (ap is_none one.none) h) (picking_turn w call key join one) h }) in
+    let kept : (rs : List Reservation) → AllOwned w rs → AllOwned new rs = λ rs. each_map (IsOwned w) (IsOwned new) rs (λ r h. record { part = h.part; call = call_kept w call key met r (not_own w call key r (ap is_none one.none) h) (picking_turn w call key join one) h }) in
     record {
       shape = shape_set w new key from to refl refl old.shape there (ap (λ (s : State). s.config) is) (ap (λ (s : State). s.stripe) is) (ap (λ (s : State). s.origin) is) (stays.picks_up from to join p at.reached picks)
           (at.share ∙ sym (ap (λ (s : State). s.history) is)) (λ n apart. refl);
       order = old.order;
       numbers = old.numbers;
-      calls = calls_settled w new call key (IsFound w) w.calls (λ u v left found h. fits_left w new call key u v left refl refl (λ q op at. left_keeps w call key from to join u.caller q there is one.call_is one.join_key (λ mine same. left.other q op Get at (picked_at w call key join one u found q mine same) mine same)) h) (each_found w w.calls old.calls) old.calls;
+      calls = calls_settled w new call key met (IsFound w) w.calls (λ u v left found h. fits_left w new call key u v left refl refl (λ q op at. left_keeps w call key from to join u.caller q there is one.call_is one.join_key (λ mine same. left.other q op Get at (picked_at w call key join one u found q mine same) mine same)) h) (each_found w w.calls old.calls) old.calls;
       owned = λ n s. set_cases w.stripes (home w key) n to s
           (λ same here. subst (AllOwned new) (sym (ap (λ (s : State). s.reservations) is) ∙ ap (λ (s : State). s.reservations) here) (kept from.reservations (old.owned (home w key) from there)))
           (λ apart here. kept s.reservations (old.owned n s here));
@@ -611,16 +612,16 @@ order_again stays w call key join from to joined there picks old =
     let same : v ≡ one.u = same_found (open_call w call) v one.u (ap (open_call w) (sym mine) ∙ found) one.here in
     let t : true ≡ false = sym h ∙ (λ i. is_served w (same i).caller (at i)) ∙ untold in cc) h
     in
-    order_aside w key from to (joins_without call key w.joins) there (ap (λ (s : State). s.config) is) (ap (λ (s : State). s.stripe) is) (ap (λ (s : State). s.origin) is) (ap (λ (s : State). s.history) is) (ap (λ (s : State). s.reservations) is)
+    order_aside w key from to new.joins there (ap (λ (s : State). s.config) is) (ap (λ (s : State). s.stripe) is) (ap (λ (s : State). s.origin) is) (ap (λ (s : State). s.history) is) (ap (λ (s : State). s.reservations) is)
     (stays.picks_up from to join picked.Again at.reached picks)
     (calls_on w new (IsFound w) w.calls (λ v found h. fits_same w new v refl refl (served v found) h) (each_found w w.calls old.calls) old.calls) old
 
 -- by what is shown of it
-pub order_picks : StaysReached → (w new : WorldState) (call : ℕ) (key : Bytes) (join : JoinClaim) (from to : State) (seen : Shown) → join_of w call key ≡ Some join → stripe_for w key ≡ Some from → Picks w call key join from to seen new → IsSoundWorld w → HasOrder new
-order_picks stays w new call key join from to (shown.PickedUp seen) joined there h old =
-    subst HasOrder (sym h.2) (order_picked stays w call key join from to (picked.Answer seen.reply seen.place seen.shared) joined there h.0 h.0.3 old)
-order_picks stays w new call key join from to shown.Again joined there h old = subst HasOrder (sym h.1) (order_again stays w call key join from to joined there h.0 old)
-order_picks stays w new call key join from to shown.Waits joined there h old = subst HasOrder (sym h.1) (order_half w old)
+pub order_picks : StaysReached → (w new : WorldState) (call : ℕ) (key : Bytes) (join : JoinClaim) (from to : State) (seen : Outcome) → join_of w call key ≡ Some join → stripe_for w key ≡ Some from → Picks w call key join from to seen new → IsSoundWorld w → HasOrder new
+order_picks stays w new call key join from to (outcome.PickedUp seen) joined there h old =
+    subst HasOrder (sym h.2) (order_picked stays w call key (fault_in seen.reply) join from to (picked.Answer seen.reply seen.place seen.shared) joined there h.0 h.0.3 old)
+order_picks stays w new call key join from to outcome.Again joined there h old = subst HasOrder (sym h.1) (order_again stays w call key join from to joined there h.0 old)
+order_picks stays w new call key join from to outcome.Waits joined there h old = subst HasOrder (sym h.1) (order_half w old)
 order_picks stays w new call key join from to seen joined there h old = absurd h
 
 -- a call leaves
@@ -637,11 +638,12 @@ pub looked_called : (w : WorldState) (call stripe : ℕ) (keys : List Bytes) (s 
 looked_called w call stripe keys s u here sweeps number session q op h =
     still_replaced call (λ x. going_on (with_found w.config.stripes stripe keys s x)) u number session q op w.calls here (λ v goes. taken_of w.config.stripes stripe keys s u v sweeps goes) (λ is over. taken_on w.config.stripes stripe keys s u q op is over) h
 
-order_looked : (w : WorldState) (call stripe : ℕ) (keys : List Bytes) (s : SweepState) (u : CallState) → open_call w call ≡ Some u → u.sweep ≡ Some s → IsSoundWorld w → HasOrder (with_look w call stripe keys s)
-order_looked w call stripe keys s u here sweeps old =
-    let new : WorldState = with_look w call stripe keys s in
-    let left : CallState → Option CallState = λ x. going_on (with_found w.config.stripes stripe keys s x) in
-    let taken : (v : CallState) → left u ≡ Some v → Taken u v = λ v goes. taken_of w.config.stripes stripe keys s u v sweeps goes in
+-- a call has taken keys, or has met something
+order_taken : (w : WorldState) (call : ℕ) (left : CallState → Option CallState) (u : CallState) → open_call w call ≡ Some u → ((v : CallState) → left u ≡ Some v → Taken u v)
+    → ((number session : ℕ) (q : Bytes) (op : Op) → IsSomeAnd (open_call w number) (IsCallOf session q op) → IsSomeAnd (find (has_number number) (replaced call left w.calls)) (IsCallOf session q op))
+    → IsSoundWorld w → HasOrder (record w { calls = replaced call left w.calls })
+order_taken w call left u here taken called old =
+    let new : WorldState = record w { calls = replaced call left w.calls } in
     record {
       shape = shape_same w new refl refl refl old.shape;
       order = old.order;
@@ -650,9 +652,22 @@ order_looked w call stripe keys s u here sweeps old =
           (λ x h. fits_same w new x refl refl (λ q op is k. k) h)
           (λ v goes h. fits_taken w new u v (taken v goes) refl refl (λ q op is k. k) h) old.calls;
       owned = λ n s here_s. each_map (IsOwned w) (IsOwned new) s.reservations
-          (λ r h. record { part = h.part; call = looked_called w call stripe keys _ u here sweeps r.caller.call r.caller.session r.key r.op h.call })
+          (λ r h. record { part = h.part; call = called r.caller.call r.caller.session r.key r.op h.call })
           (old.owned n s here_s);
     }
+
+order_looked : (w : WorldState) (call stripe : ℕ) (keys : List Bytes) (s : SweepState) (u : CallState) → open_call w call ≡ Some u → u.sweep ≡ Some s → IsSoundWorld w → HasOrder (with_look w call stripe keys s)
+order_looked w call stripe keys s u here sweeps old =
+    order_taken w call (λ x. going_on (with_found w.config.stripes stripe keys s x)) u here (λ v goes. taken_of w.config.stripes stripe keys s u v sweeps goes)
+    (looked_called w call stripe keys s u here sweeps) old
+
+-- a call that has met something continues at each of its keys
+pub met_called : (w : WorldState) (call : ℕ) (met : Option Refusal) (u : CallState) → open_call w call ≡ Some u → (number session : ℕ) (q : Bytes) (op : Op) → IsSomeAnd (open_call w number) (IsCallOf session q op)
+    → IsSomeAnd (open_call (with_met_by w call met) number) (IsCallOf session q op)
+met_called w call met u here number session q op h = still_replaced call (λ x. Some (with_met met x)) u number session q op w.calls here (λ v goes. taken_met met u v goes) (λ is over. cc) h
+
+pub order_met : (w : WorldState) (call : ℕ) (met : Option Refusal) (u : CallState) → open_call w call ≡ Some u → IsSoundWorld w → HasOrder (with_met_by w call met)
+order_met w call met u here old = order_taken w call (λ x. Some (with_met met x)) u here (λ v goes. taken_met met u v goes) (met_called w call met u here) old
 
 -- 8. An event that fits.
 
@@ -669,21 +684,21 @@ part_key w call key part is old = (some_of (stripe_for w key) (λ s. IsHeld s ke
 pub order_happens : StaysReached → (w new : WorldState) (e : WorldEvent) (seen : Shown) → fits w e ≡ true → Happens w e seen new → (IsReport e → IsSoundWorld new) → IsSoundWorld w → HasOrder new
 order_happens stays w new (event.Call call session command) seen fit h back old = subst HasOrder (sym h.1) (order_called w call session command fit old)
 order_happens stays w new (event.Look call stripe) seen fit h back old = subst HasOrder (sym h.9) (order_looked w call stripe h.6 h.1 h.0 h.2 h.3 old)
-order_happens stays w new (event.Start call key) seen fit h back old = order_started stays w new call key h.0 h.1 h.4 h.6 seen fit h.2 h.3 h.5 h.7 old
+order_happens stays w new (event.Start call key) seen fit h back old = order_started stays w new call key h.0 h.1 h.4 h.6 seen.outcome fit h.2 h.3 h.5 h.7 old
 order_happens stays w new (event.Read call key) seen fit h back old = subst HasOrder (sym h.3) (order_part w call key h.0 _ _ w.store h.1 refl old)
 order_happens stays w new (event.Say call key answer) seen fit h back old = subst HasOrder (sym h.3) (order_part w call key h.0 _ _ w.store h.1 refl old)
 order_happens stays w new (event.Process call key source calls fail) seen fit h back old = subst HasOrder (sym h.3) (order_part w call key h.0 _ _ w.store h.1 refl old)
 order_happens stays w new (event.Change call key) seen fit h back old = subst HasOrder (sym h.5) (order_part w call key h.0 _ w.premises _ h.2 refl old)
 order_happens stays w new (event.Report call left fault) seen fit h back old = order_half new (back tt)
-order_happens stays w new (event.Commit call key) seen fit h back old = order_ended stays w new call key h.0 h.2 h.4 seen h.1 h.3 h.5 old
+order_happens stays w new (event.Commit call key) seen fit h back old = order_ended stays w new call key h.0 h.2 h.4 seen.outcome h.1 h.3 h.5 old
 order_happens stays w new (event.Withdraw call key) seen fit h back old = subst HasOrder (sym h.7) (order_withdrawn stays w key h.0.reservation h.2 h.4 (part_key w call key h.0 h.1 old) h.3 h.5 old)
 order_happens stays w new (event.Leave call) seen fit h back old = subst HasOrder (sym h.1) (order_left w call fit old)
-order_happens stays w new (event.PickUp call key) seen fit h back old = order_picks stays w new call key h.0 h.2 h.4 seen h.1 h.3 h.5 old
-order_happens stays w new (event.Foreign key value) seen fit h back old = subst HasOrder (sym h.1) (order_stored w _ _ false old)
+order_happens stays w new (event.PickUp call key) seen fit h back old = order_picks stays w new call key h.0 h.2 h.4 seen.outcome h.1 h.3 h.5 old
+order_happens stays w new (event.Foreign key value) seen fit h back old = subst HasOrder (sym h.1) (order_stored w _ _ old)
 
 -- an entry that the store has from the start
 pub order_opened : (w : WorldState) (key value : Bytes) → IsSoundWorld w → HasOrder (with_stored w key value)
-order_opened w key value old = order_stored w (with_stored w key value).store w.premises w.fresh old
+order_opened w key value old = order_stored w (with_stored w key value).store w.premises old
 
 -- 9. The whole history.
 

@@ -4,13 +4,13 @@
 --     picked         one join less, once it has its answer
 --     never_waits    if no key is reserved, no joiner waits
 --     held_out, joins_out    what is out in a world that is sound
-use Rattle.std.proofs.Common.{inl, inr, ◌⊎◌, ◌≡◌, ◌==◌, ◌&&◌, ◌||◌, ◌+◌, ℕ, List, [], ◌∷◌, ◌++◌, length, Bool, true, false, cond, not, Option, None, Some, IsSomeAnd, is_some, option_map, slice_get, slice_set, get_or, ◌<◌, arith, refl, sym, ap, ◌∙◌, subst, find as find_in}
-use Rattle.std.specs.List.{list_all, list_any}
+use Rattle.std.proofs.Common.{inl, inr, ◌⊎◌, ◌≡◌, ◌==◌, ◌&&◌, ◌+◌, ℕ, List, [], ◌∷◌, length, Bool, true, false, cond, not, Option, None, Some, IsSomeAnd, is_some, option_map, slice_get, slice_set, get_or, ◌<◌, arith, refl, sym, ap, ◌∙◌, subst, find as find_in}
+use Rattle.std.specs.List.{list_all}
 use Rattle.std.specs.Ordering.{eq_by_cmp}
 use Rattle.std.specs.Cmp.{eq_by_cmp_equiv}
 use Rattle.std.specs.Cmp.Lexicographic.{pointwise, texts_ties}
-use Rattle.std.proofs.lemmas.Bool.{eq-eqb, eqb-true, and_parts, and_from, not-true, false_from_ne_true}
-use Rattle.std.proofs.lemmas.Cmp.{nat_list_cmp_total, nat_list_eq_equiv}
+use Rattle.std.proofs.lemmas.Bool.{eqb-true, and_parts, and_from, not-true, false_from_ne_true}
+use Rattle.std.proofs.lemmas.Cmp.{nat_list_cmp_total}
 use Rattle.std.specs.FinMap.{get, remove, empty, get-remove, get-empty}
 use Rattle.jc_types.proofs.CallerLemmas.{all_filter, all_imply}
 use Rattle.jc_types.specs.declared.config.Config.{Config}
@@ -30,13 +30,14 @@ use Rattle.jc_stripe.specs.Phases.{Commits, Withdraws, PicksUp, without_joiner}
 use Rattle.jc_stripe.specs.Reached.{JoinFits, AllJoin, IsReached}
 use Rattle.jc_stripe.specs.Laws.{StaysReached}
 use Rattle.jc_world.specs.declared.event.Part.{Part}
-use Rattle.jc_world.specs.World.{WorldState, Parts, stripe_for, is_join}
-use Rattle.jc_world.specs.Sound.{IsSoundWorld, IsHeld, AllWaitedFor, is_joined_once, IsOwned}
-use Rattle.jc_world.specs.Ending.{IsLeft, AreLeft, out_at, IsPartOut, HasHeld, IsJoinOut, AllJoinsOut, HasJoins, NoneReserved}
+use Rattle.jc_world.specs.World.{WorldState, Parts, JoinKey, Joins, join_key, stripe_for}
+use Rattle.jc_world.specs.Sound.{IsSoundWorld, IsHeld, IsOwned}
+use Rattle.jc_world.specs.Ending.{IsLeft, AreLeft, out_at, IsPartOut, HasHeld, IsJoinOut, HasJoins, NoneReserved}
 use Rattle.jc_world.proofs.Numbered.{within, at_index, some_of}
 use Rattle.jc_world.proofs.Places.{at_stripe}
 use Rattle.jc_world.proofs.Shares.{set_cases, length-slice_set, each_test}
 use Rattle.jc_world.proofs.Underway.{others_left, same_bytes}
+use Rattle.jc_world.proofs.Maps.{joins_ordered, each_left}
 use Rattle.jc_world.proofs.Reservations.{found_left}
 use Rattle.jc_world.proofs.Joiners.{joiner_of, find_kept, joined_resolved, joined_dissolved}
 
@@ -151,14 +152,11 @@ ended config ss from to parts left key are at is less h =
     }
 
 -- the joins are still out
-pub joins_kept : (config : Config) (ss : List State) (n : ℕ) (from to : State) (js : List JoinClaim) → slice_get ss n ≡ Some from → ((j : JoinClaim) → IsJoined from j → IsJoined to j) → HasJoins config ss js → HasJoins config (slice_set ss n to) js
-joins_kept config ss n from to js at keeps h = record { once_is = h.once_is; out = each js h.out }
-  where
-    each : (js : List JoinClaim) → AllJoinsOut config ss js → AllJoinsOut config (slice_set ss n to) js
-    each [] h = tt
-    each (j ∷ js) h =
-        let F : State → Type 0 = λ s. IsJoined s j in
-        (at_stripe ss n (stripe_of j.key config.stripes) from to (λ o y. IsSomeAnd o F → IsSomeAnd y F) at (keeps j) (λ h. h) h.0, each js h.1)
+pub joins_kept : (config : Config) (ss : List State) (n : ℕ) (from to : State) (joins : Joins) → slice_get ss n ≡ Some from → ((j : JoinClaim) → IsJoined from j → IsJoined to j) → HasJoins config ss joins → HasJoins config (slice_set ss n to) joins
+joins_kept config ss n from to joins at keeps h = λ q j is.
+    let F : State → Type 0 = λ s. IsJoined s j in
+    let o = h q j is in
+    (o.0, at_stripe ss n (stripe_of j.key config.stripes) from to (λ o y. IsSomeAnd o F → IsSomeAnd y F) at (keeps j) (λ h. h) o.1)
 
 -- with nothing held no key is reserved
 pub none_reserved : (config : Config) (ss : List State) (parts : Parts) → parts ≡ empty → HasHeld config ss parts → NoneReserved ss
@@ -170,11 +168,6 @@ none_reserved config ss parts none h = λ n s at. nothing s.reservations (h.back
         let t : is_some {T = Part} None ≡ true = sym (ap is_some (ap (λ (m : Parts). get m r.key) none ∙ get-empty key_cmp r.key)) ∙ (and_parts (is_some (get parts r.key)) _ h).0 in cc
 
 -- 2. A join that has its answer.
-
--- the last join is out, and so are the others
-pub last_join : (config : Config) (ss : List State) (js : List JoinClaim) (join : JoinClaim) → AllJoinsOut config ss (js ++ join ∷ []) → IsJoinOut config ss join
-last_join config ss [] join h = h.0
-last_join config ss (x ∷ xs) join h = last_join config ss xs join h.1
 
 -- if no key is reserved, no joiner waits
 never : (s : State) (p : Joiner → Bool) (js : List Joiner) → s.reservations ≡ [] → AllJoin s js → option_map (λ (j : Joiner). j.state) (find_in p js) ≡ Some Waiting → ⊥
@@ -198,54 +191,36 @@ picked_left from to join picked.Again reached none h = h.2
 picked_left from to join (picked.NotYet back) reached none h = absurd (never_waits from to join back reached none h)
 
 -- a joiner of another call or key stays
-other_joined : (from : State) (join j : JoinClaim) → is_join j.caller.call j.key join ≡ false → IsJoined from j → IsJoined (without_joiner from join) j
+other_joined : (from : State) (join j : JoinClaim) → (join_key j ≡ join_key join → ⊥) → IsJoined from j → IsJoined (without_joiner from join) j
 other_joined from join j apart h =
     let J : Option Joiner → Type 0 = λ o. IsSomeAnd o (λ x. x.load ≡ j.load) in
     subst J (sym (find_kept (is_joiner_of j.caller j.key) (λ x. not (is_joiner_of join.caller join.key x)) from.joiners (λ x t. ap not (false_from_ne_true (is_joiner_of join.caller join.key x) (λ e.
     let mine = parts_of_test j x t in
     let same = parts_of_test join x e in
-    let its : is_join j.caller.call j.key join ≡ true = and_from _ _ (eq-eqb join.caller.call j.caller.call (sym same.0 ∙ mine.0)) (ap (pointwise ◌==◌ j.key) (sym same.1 ∙ mine.1) ∙ nat_list_eq_equiv.refl j.key) in
-    let t : true ≡ false = sym its ∙ apart in cc))))) h
+    apart (λ i. ((sym mine.0 ∙ same.0) i, (sym mine.1 ∙ same.1) i))))))) h
   where
     parts_of_test : (j : JoinClaim) (x : Joiner) → is_joiner_of j.caller j.key x ≡ true → (x.caller.call ≡ j.caller.call) × (x.key ≡ j.key)
     parts_of_test j x t =
         let parts = and_parts ((x.caller.session == j.caller.session) && (x.caller.call == j.caller.call)) (pointwise ◌==◌ j.key x.key) t in
         (eqb-true x.caller.call j.caller.call (and_parts (x.caller.session == j.caller.session) (x.caller.call == j.caller.call) parts.0).1, sym (same_bytes j.key x.key parts.1))
 
--- none of a list passes a test if none of it and of one more does
-none_of : (p : JoinClaim → Bool) (xs : List JoinClaim) (y : JoinClaim) → not (list_any p (xs ++ y ∷ [])) ≡ true → (not (list_any p xs) ≡ true) × (p y ≡ false)
-none_of p [] y h = (refl, elim (p y) as (λ b. not (b || false) ≡ true → b ≡ false) [ true ↦ λ h. cc | false ↦ λ h. refl ] h)
-none_of p (x ∷ xs) y h = elim (p x) as (λ b. not (b || list_any p (xs ++ y ∷ [])) ≡ true → (not (b || list_any p xs) ≡ true) × (p y ≡ false)) [ true ↦ λ h. cc | false ↦ λ h. none_of p xs y h ] h
-
 -- one join less
-pub picked_up : (config : Config) (ss : List State) (from to : State) (js : List JoinClaim) (join : JoinClaim) → slice_get ss (stripe_of join.key config.stripes) ≡ Some from → to ≡ without_joiner from join → HasJoins config ss (js ++ join ∷ [])
-    → HasJoins config (slice_set ss (stripe_of join.key config.stripes) to) js
-picked_up config ss from to js join at is h = record { once_is = singles js h.once_is; out = each js h.once_is h.out }
-  where
-    n : ℕ
-    n = stripe_of join.key config.stripes
-
-    singles : (js : List JoinClaim) → is_joined_once (js ++ join ∷ []) ≡ true → is_joined_once js ≡ true
-    singles [] o = refl
-    singles (x ∷ xs) o =
-        let parts = and_parts (not (list_any (is_join x.caller.call x.key) (xs ++ join ∷ []))) (is_joined_once (xs ++ join ∷ [])) o in
-        and_from _ _ (none_of (is_join x.caller.call x.key) xs join parts.0).0 (singles xs parts.1)
-
-    each : (js : List JoinClaim) → is_joined_once (js ++ join ∷ []) ≡ true → AllJoinsOut config ss (js ++ join ∷ []) → AllJoinsOut config (slice_set ss n to) js
-    each [] o h = tt
-    each (x ∷ xs) o h =
-        let parts = and_parts (not (list_any (is_join x.caller.call x.key) (xs ++ join ∷ []))) (is_joined_once (xs ++ join ∷ [])) o in
-        let F : State → Type 0 = λ s. IsJoined s x in (
-          at_stripe ss n (stripe_of x.key config.stripes) from to (λ o y. IsSomeAnd o F → IsSomeAnd y F) at
-              (λ h. subst F (sym is) (other_joined from join x (none_of (is_join x.caller.call x.key) xs join parts.0).1 h)) (λ h. h) h.0,
-          each xs parts.1 h.1,
-        )
+pub picked_up : (config : Config) (ss : List State) (from to : State) (joins left : Joins) (q : JoinKey) (join : JoinClaim) → slice_get ss (stripe_of join.key config.stripes) ≡ Some from → to ≡ without_joiner from join → get joins q ≡ Some join → left ≡ remove joins q
+    → HasJoins config ss joins → HasJoins config (slice_set ss (stripe_of join.key config.stripes) to) left
+picked_up config ss from to joins left q join at is there less h =
+    let next = slice_set ss (stripe_of join.key config.stripes) to in
+    subst (HasJoins config next) (sym less)
+    (each_left joins_ordered (λ p x. (join_key x ≡ p) × IsJoinOut config next x) joins q (λ p x other x_is.
+    let F : State → Type 0 = λ s. IsJoined s x in
+    let o = h p x x_is in
+    let apart : join_key x ≡ join_key join → ⊥ = λ same. other (sym o.0 ∙ same ∙ (h q join there).0) in
+    (o.0, at_stripe ss (stripe_of join.key config.stripes) (stripe_of x.key config.stripes) from to (λ o y. IsSomeAnd o F → IsSomeAnd y F) at (λ t. subst F (sym is) (other_joined from join x apart t)) (λ t. t) o.1)))
 
 -- and still no key is reserved
 pub none_set : (ss : List State) (n : ℕ) (from to : State) → slice_get ss n ≡ Some from → to.reservations ≡ from.reservations → NoneReserved ss → NoneReserved (slice_set ss n to)
 none_set ss n from to at same none = λ m s. set_cases ss n m to s (λ e is. ap (λ (s : State). s.reservations) (sym is) ∙ same ∙ none n from at) (λ apart here. none m s here)
 
--- 3. The stripe of a held key, and of the last join.
+-- 3. The stripe of a held key, and of a join.
 
 -- what is known of it
 pub record IsHome (config : Config) (ss : List State) (key : Bytes) (from : State) (P : State → Type 0) : Type 0 where
@@ -280,9 +255,9 @@ key_of config ss parts key part there h = named (out_at config ss key) (h.out ke
     named None h = absurd h
     named (Some s) h = h.0
 
--- and of the last join
-pub home_of_join : (config : Config) (ss : List State) (joins xs : List JoinClaim) (join : JoinClaim) (from : State) → joins ≡ xs ++ join ∷ [] → AreLeft config ss → HasJoins config ss joins → IsHome config ss join.key from (λ s. IsJoined s join)
-home_of_join config ss joins xs join from is left h = home_of config ss join.key from _ left (last_join config ss xs join (subst (AllJoinsOut config ss) is h.out))
+-- and of a join
+pub home_of_join : (config : Config) (ss : List State) (joins : Joins) (q : JoinKey) (join : JoinClaim) (from : State) → get joins q ≡ Some join → AreLeft config ss → HasJoins config ss joins → IsHome config ss join.key from (λ s. IsJoined s join)
+home_of_join config ss joins q join from there left h = home_of config ss join.key from _ left (h q join there).1
 
 -- 4. What is out in a world that is sound.
 
@@ -308,8 +283,4 @@ held_out w sound = record {
 
 -- each join is joined
 pub joins_out : (w : WorldState) → IsSoundWorld w → HasJoins w.config w.stripes w.joins
-joins_out w sound = record { once_is = sound.once; out = each w.joins sound.joins }
-  where
-    each : (joins : List JoinClaim) → AllWaitedFor w joins → AllJoinsOut w.config w.stripes joins
-    each [] h = tt
-    each (j ∷ js) h = (h.0.out, each js h.1)
+joins_out w sound = λ q join is. let h = sound.joins q join is in (h.0, h.1.out)

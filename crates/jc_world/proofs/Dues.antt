@@ -3,9 +3,8 @@
 --     due_run                    the progress of a key once its processor has run
 --     dues_reported              the writer has returned for a key
 --     dues_happens               any event that fits
-use Rattle.std.proofs.Common.{◌≡◌, ℕ, true, cond, Option, None, Some, is_none, is_some, refl, sym, ap, ◌∙◌, subst}
-use Rattle.std.specs.FinMap.{get, insert, remove, get-empty, get-insert, get-remove}
-use Rattle.std.proofs.lemmas.Cmp.{nat_list_cmp_total}
+use Rattle.std.proofs.Common.{◌≡◌, ℕ, true, Option, None, Some, is_none, is_some, option_map, refl, sym, ap, ◌∙◌, subst}
+use Rattle.std.specs.FinMap.{get, insert, remove, get-empty}
 use Rattle.jc_types.specs.declared.caller.Caller.{Caller}
 use Rattle.jc_types.specs.declared.config.Config.{Config}
 use Rattle.jc_model.specs.declared.event.Op.{Op}
@@ -17,37 +16,31 @@ use Rattle.jc_stripe.specs.declared.ticket.Reservation.{Reservation}
 use Rattle.jc_stripe.specs.Effects.{change_due}
 use Rattle.jc_stripe.specs.State.{State}
 use Rattle.jc_stripe.specs.Tickets.{JoinClaim}
+use Rattle.jc_types.specs.declared.refusal.Refusal.TheVariants.{WriterFailed}
 use Rattle.jc_world.specs.declared.event.Part.{Part}
 use Rattle.jc_world.specs.declared.event.Progress.{Progress}
 use Rattle.jc_world.specs.declared.event.Progress.TheVariants.{Loading, Writing, Processing, Processed, WritingEffect}
 use Rattle.jc_world.specs.declared.event.Shown.{Shown}
-use Rattle.jc_world.specs.declared.event.Shown.TheVariants as shown
+use Rattle.jc_world.specs.declared.event.Outcome.{Outcome}
+use Rattle.jc_world.specs.declared.event.Outcome.TheVariants as outcome
 use Rattle.jc_world.specs.declared.event.WorldEvent.{WorldEvent}
 use Rattle.jc_world.specs.declared.event.WorldEvent.TheVariants as event
 use Rattle.jc_world.specs.World.{WorldState, Parts, start, part_of}
 use Rattle.jc_world.specs.Calls.{open_keys}
 use Rattle.jc_world.specs.Premises.{load_from, report_for}
-use Rattle.jc_world.specs.Events.{with_change, with_report, new_load, new_write, new_process, new_part, run_result, progress_after, after_report, reported_keys, keys_reported, Starts, Ends, Picks, Happens}
+use Rattle.jc_world.specs.Events.{with_met_by, with_change, with_report, new_load, new_write, new_process, new_part, run_result, progress_after, after_report, reported_keys, keys_reported, Starts, Ends, Picks, Happens}
 use Rattle.jc_world.specs.Sound.{is_due_in, is_due, AllDue}
-use Rattle.jc_world.proofs.Entries.{split}
 use Rattle.jc_world.proofs.Holding.{is_part}
+use Rattle.jc_world.proofs.Maps.{keys_ordered, each_put, each_left}
 use Rattle.jc_world.proofs.Returns.{each_report}
 
 -- 1. One part more, and one less.
 
 dues_insert : (config : Config) (parts : Parts) (key : Bytes) (new : Part) → AllDue config parts → is_due config new ≡ true → AllDue config (insert parts key new)
-dues_insert config parts key new all one q part e =
-    split q key (λ b. cond b (Some new) (get parts q) ≡ Some part → is_due config part ≡ true)
-    (λ same e. let is : new ≡ part = cc in ap (is_due config) (sym is) ∙ one)
-    (λ apart e. all q part e)
-    (sym (get-insert nat_list_cmp_total parts key new q) ∙ e)
+dues_insert config parts key new all one = each_put keys_ordered (λ q part. is_due config part ≡ true) parts key new one all
 
 dues_remove : (config : Config) (parts : Parts) (key : Bytes) → AllDue config parts → AllDue config (remove parts key)
-dues_remove config parts key all q part e =
-    split q key (λ b. cond b None (get parts q) ≡ Some part → is_due config part ≡ true)
-    (λ same e. cc)
-    (λ apart e. all q part e)
-    (sym (get-remove nat_list_cmp_total parts key q) ∙ e)
+dues_remove config parts key all = each_left keys_ordered (λ q part. is_due config part ≡ true) parts key (λ q part apart is. all q part is)
 
 -- 2. A part stays.
 
@@ -80,24 +73,24 @@ AllDueAt w = AllDue w.config w.parts
 due_of : (w : WorldState) (call : ℕ) (key : Bytes) (part : Part) → part_of w call key ≡ Some part → AllDueAt w → is_due w.config part ≡ true
 due_of w call key part is old = old key part (is_part (get w.parts key) call part is)
 
-dues_started : (w new : WorldState) (caller : Caller) (key : Bytes) (op : Op) (from to : State) (seen : Shown) → Starts w caller key op from to seen new → AllDueAt w → AllDueAt new
-dues_started w new caller key op from to (shown.Refused refusal) h old = subst AllDueAt (sym h.1) old
-dues_started w new caller key op from to (shown.PutOff refusal) h old = subst AllDueAt (sym h.1) old
-dues_started w new caller key op from to (shown.Stepped seen) h old = subst AllDueAt (sym h.2) old
-dues_started w new caller key op from to shown.Loads h old = subst AllDueAt (sym h.2) (dues_insert w.config w.parts key (new_part new_load h.0.reservation) old refl)
-dues_started w new caller key op from to (shown.Asks change) h old = subst AllDueAt (sym h.3) (dues_insert w.config w.parts key (new_part new_write h.0.reservation) old refl)
-dues_started w new caller key op from to (shown.Processes entry) h old = subst AllDueAt (sym h.3) (dues_insert w.config w.parts key (new_part new_process h.0.reservation) old refl)
-dues_started w new caller key op from to shown.Joins h old = subst AllDueAt (sym h.2) old
+dues_started : (w new : WorldState) (caller : Caller) (key : Bytes) (op : Op) (from to : State) (seen : Outcome) → Starts w caller key op from to seen new → AllDueAt w → AllDueAt new
+dues_started w new caller key op from to (outcome.Refused refusal) h old = subst AllDueAt (sym h.1) old
+dues_started w new caller key op from to (outcome.PutOff refusal) h old = subst AllDueAt (sym h.1) old
+dues_started w new caller key op from to (outcome.Stepped seen) h old = subst AllDueAt (sym h.2) old
+dues_started w new caller key op from to outcome.Loads h old = subst AllDueAt (sym h.2) (dues_insert w.config w.parts key (new_part new_load h.0.reservation) old refl)
+dues_started w new caller key op from to (outcome.Asks change) h old = subst AllDueAt (sym h.3) (dues_insert w.config w.parts key (new_part new_write h.0.reservation) old refl)
+dues_started w new caller key op from to (outcome.Processes entry) h old = subst AllDueAt (sym h.3) (dues_insert w.config w.parts key (new_part new_process h.0.reservation) old refl)
+dues_started w new caller key op from to outcome.Joins h old = subst AllDueAt (sym h.2) old
 dues_started w new caller key op from to seen h old = absurd h
 
-dues_ended : (w new : WorldState) (call : ℕ) (key : Bytes) (part : Part) (from to : State) (seen : Shown) → Ends w call key part from to seen new → AllDueAt w → AllDueAt new
-dues_ended w new call key part from to (shown.Stepped seen) h old = subst AllDueAt (sym h.2) (dues_remove w.config w.parts key old)
+dues_ended : (w new : WorldState) (call : ℕ) (key : Bytes) (part : Part) (from to : State) (seen : Outcome) → Ends w call key part from to seen new → AllDueAt w → AllDueAt new
+dues_ended w new call key part from to (outcome.Stepped seen) h old = subst AllDueAt (sym h.2) (dues_remove w.config w.parts key old)
 dues_ended w new call key part from to seen h old = absurd h
 
-dues_picks : (w new : WorldState) (call : ℕ) (key : Bytes) (join : JoinClaim) (from to : State) (seen : Shown) → Picks w call key join from to seen new → AllDueAt w → AllDueAt new
-dues_picks w new call key join from to (shown.PickedUp seen) h old = subst AllDueAt (sym h.2) old
-dues_picks w new call key join from to shown.Again h old = subst AllDueAt (sym h.1) old
-dues_picks w new call key join from to shown.Waits h old = subst AllDueAt (sym h.1) old
+dues_picks : (w new : WorldState) (call : ℕ) (key : Bytes) (join : JoinClaim) (from to : State) (seen : Outcome) → Picks w call key join from to seen new → AllDueAt w → AllDueAt new
+dues_picks w new call key join from to (outcome.PickedUp seen) h old = subst AllDueAt (sym h.2) old
+dues_picks w new call key join from to outcome.Again h old = subst AllDueAt (sym h.1) old
+dues_picks w new call key join from to outcome.Waits h old = subst AllDueAt (sym h.1) old
 dues_picks w new call key join from to seen h old = absurd h
 
 -- the writer has returned for a key
@@ -107,7 +100,7 @@ dues_reported w call key part report at old = dues_insert w.config w.parts key _
 pub dues_happens : (w new : WorldState) (e : WorldEvent) (seen : Shown) → Happens w e seen new → AllDueAt w → AllDueAt new
 dues_happens w new (event.Call call session command) seen h old = subst AllDueAt (sym h.1) old
 dues_happens w new (event.Look call stripe) seen h old = subst AllDueAt (sym h.9) old
-dues_happens w new (event.Start call key) seen h old = dues_started w new h.0.caller key h.1 h.4 h.6 seen h.7 old
+dues_happens w new (event.Start call key) seen h old = dues_started w new h.0.caller key h.1 h.4 h.6 seen.outcome h.7 old
 dues_happens w new (event.Read call key) seen h old = subst AllDueAt (sym h.3) (dues_insert w.config w.parts key _ old refl)
 dues_happens w new (event.Say call key answer) seen h old = subst AllDueAt (sym h.3) (dues_insert w.config w.parts key _ old refl)
 dues_happens w new (event.Process call key source calls fail) seen h old =
@@ -117,11 +110,11 @@ dues_happens w new (event.Change call key) seen h old =
     subst AllDueAt (sym h.5) (dues_insert w.config w.parts key _ old (due_change w.config h.0.reservation h.0.progress (due_of w call key h.0 h.2 old)))
 dues_happens w new (event.Report call left fault) seen h old =
     let answer = report_for h.0.kind left fault in
-    subst AllDueAt (sym h.3) (each_report AllDueAt call answer (λ v key part at waits o. dues_reported v call key part (answer key) at o) w (keys_reported (reported_keys w.parts call (open_keys h.0))) old)
-dues_happens w new (event.Commit call key) seen h old = dues_ended w new call key h.0 h.2 h.4 seen h.5 old
+    subst AllDueAt (sym h.3) (each_report AllDueAt call answer (λ v key part at waits o. dues_reported v call key part (answer key) at o) (with_met_by w call (option_map WriterFailed fault)) (keys_reported (reported_keys w.parts call (open_keys h.0))) old)
+dues_happens w new (event.Commit call key) seen h old = dues_ended w new call key h.0 h.2 h.4 seen.outcome h.5 old
 dues_happens w new (event.Withdraw call key) seen h old = subst AllDueAt (sym h.7) (dues_remove w.config w.parts key old)
 dues_happens w new (event.Leave call) seen h old = subst AllDueAt (sym h.1) old
-dues_happens w new (event.PickUp call key) seen h old = dues_picks w new call key h.0 h.2 h.4 seen h.5 old
+dues_happens w new (event.PickUp call key) seen h old = dues_picks w new call key h.0 h.2 h.4 seen.outcome h.5 old
 dues_happens w new (event.Foreign key value) seen h old = subst AllDueAt (sym h.1) old
 
 -- nothing is reserved at the start

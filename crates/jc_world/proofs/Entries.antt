@@ -1,7 +1,6 @@
 -- What a step leaves of each entry, and what of that the store says.
 use Rattle.std.proofs.Common.{◌≡◌, ◌==◌, ◌&&◌, List, Bool, true, false, cond, Option, None, Some, is_some, is_none, refl, sym, ap, ◌∙◌, subst}
 use Rattle.std.specs.Ordering.{eq_by_cmp}
-use Rattle.std.specs.Cmp.{eq_by_cmp_equiv}
 use Rattle.std.proofs.lemmas.Cmp.{nat_list_cmp_total}
 use Rattle.std.specs.FinMap.{remove, len, get-remove}
 use Rattle.std.proofs.lemmas.Bool.{and_parts}
@@ -22,7 +21,7 @@ use Rattle.jc_model.specs.Table.{entry_after, write_ask, holds, entry_without_fa
 use Rattle.jc_model.specs.Group.{nothing_said, without_victim, without_own, write_only, load_only}
 use Rattle.jc_model.specs.Lawful.{loads_whole}
 use Rattle.jc_model.specs.Processor.{found_in}
-use Rattle.jc_model.proofs.CallerLemmas.{none_is, same_key, get-with_entry}
+use Rattle.jc_model.proofs.CallerLemmas.{none_is, get-with_entry}
 use Rattle.jc_stripe.specs.declared.begun.StepDone.{StepDone}
 use Rattle.jc_stripe.specs.State.{State}
 use Rattle.jc_stripe.specs.Refusals.{first_asked, first_by, writer_for}
@@ -31,15 +30,15 @@ use Rattle.jc_stripe.specs.Phases.{Steps, new_group, overflows, victim}
 use Rattle.jc_stripe.specs.declared.ticket.First.TheVariants.{Nobody, Loader, Writer}
 use Rattle.jc_world.specs.Premises.{changed_to}
 use Rattle.jc_world.specs.Sound.{Agrees}
+use Rattle.jc_world.proofs.Maps as map
 
 -- by cases on whether two keys are one
 pub split : (q key : Bytes) (P : Bool → Type 0) → (q ≡ key → P true) → (eq_by_cmp key_cmp q key ≡ false → P false) → P (eq_by_cmp key_cmp q key)
-split q key P here there =
-    elim (eq_by_cmp key_cmp q key) as (λ b. eq_by_cmp key_cmp q key ≡ b → P b) [ true ↦ λ e. here (same_key q key e) | false ↦ λ e. there e ] refl
+split q key P here there = map.split map.keys_ordered q key P here there
 
 -- a key ties with itself
 pub tied : (key : Bytes) → eq_by_cmp key_cmp key key ≡ true
-tied key = (eq_by_cmp_equiv nat_list_cmp_total).refl key
+tied key = map.tied map.keys_ordered key
 
 -- 1. The entries after the group of a step.
 

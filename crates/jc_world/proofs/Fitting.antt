@@ -14,8 +14,12 @@ use Rattle.std.proofs.lemmas.Bool.Decides.{nat_tests}
 use Rattle.std.proofs.lemmas.Cmp.{nat_eq_equiv}
 use Rattle.std.proofs.lemmas.List.Folds.{find-append}
 use Rattle.std.specs.List.{list_any}
+use Rattle.jc_types.specs.declared.caller.Caller.{Caller}
+use Rattle.jc_model.specs.declared.event.Op.{Op}
 use Rattle.jc_model.specs.declared.event.Op.TheVariants.{Get}
 use Rattle.jc_model.specs.Cache.{Bytes}
+use Rattle.jc_stripe.specs.State.{State}
+use Rattle.jc_stripe.specs.Tickets.{JoinClaim}
 use Rattle.jc_world.specs.declared.event.Part.{Part}
 use Rattle.jc_world.specs.declared.event.Progress.{Progress}
 use Rattle.jc_world.specs.declared.event.Progress.TheVariants.{Loading, Writing, Processing, Processed, WritingEffect}
@@ -23,44 +27,53 @@ use Rattle.jc_world.specs.declared.command.Command.{Command}
 use Rattle.jc_world.specs.declared.command.Command.TheVariants as command
 use Rattle.jc_world.specs.Calls.{CallState, SweepState, has_looked, has_looked_at_each, has_number, has_too_many_keys, at_each, is_going, is_open, op_at, opened, new_call, going_on, sweep_of, with_found}
 use Rattle.jc_world.specs.declared.event.Shown.{Shown}
-use Rattle.jc_world.specs.declared.event.Shown.TheVariants as shown
+use Rattle.jc_world.specs.declared.event.Outcome.{Outcome}
+use Rattle.jc_world.specs.declared.event.Outcome.TheVariants as outcome
 use Rattle.jc_world.specs.declared.event.WorldEvent.{WorldEvent}
 use Rattle.jc_world.specs.declared.event.WorldEvent.TheVariants as event
-use Rattle.jc_world.specs.World.{WorldState, open_call, of_call, part_of, waits_for_report, is_join, is_joined, is_untouched, has_progress}
+use Rattle.jc_world.specs.World.{WorldState, open_call, of_call, part_of, waits_for_report, is_joined, is_untouched, has_progress}
 use Rattle.jc_world.specs.Fits.{fits, is_new, is_free, is_to_look, may_look}
-use Rattle.jc_world.specs.Events.{with_look, Happens, Run, with_ends, is_fit, AllFit, with_change}
+use Rattle.jc_world.specs.Events.{with_look, Starts, Ends, Picks, Happens, is_fit, AllFit, with_change}
 use Rattle.jc_world.specs.Together.{looks}
 use Rattle.jc_world.specs.Sound.{is_up_to, IsCallOf, IsSoundWorld}
 use Rattle.jc_world.proofs.Holding.{call_on}
 use Rattle.jc_world.proofs.Looked.{found_replaced}
 use Rattle.jc_world.proofs.Unseen.{missed, unseen, seen_below}
 use Rattle.jc_world.proofs.Underway.{found_number, fits_found, of_call-at}
-use Rattle.jc_world.proofs.Joiners.{join_any, join_is}
+use Rattle.jc_world.proofs.Joiners.{join_there, joined_no_part}
 use Rattle.jc_world.proofs.NewCalls.{begun_cases}
-use Rattle.jc_world.specs.Ends.{EndsState}
-use Rattle.jc_world.proofs.Noting.{noted_as}
 use Rattle.jc_world.proofs.Facts.{missing, same_found}
 
 -- 1. What fits is shown as no fault.
 
--- what happens is no fault
-fit_shown : (old new : WorldState) (e : WorldEvent) (seen : Shown) → Happens old e seen new → is_fit seen ≡ true
-fit_shown old new (event.Call call session command) seen h = ap is_fit h.0 ∙ begun_cases (new_call call session command) (λ s. is_fit s ≡ true) refl refl
-fit_shown old new (event.Look call stripe) seen h = ap is_fit h.8
-fit_shown old new (event.Start call key) shown.Unfit h = absurd h.7
-fit_shown old new (event.Start call key) seen h = refl
-fit_shown old new (event.Read call key) seen h = ap is_fit h.2
-fit_shown old new (event.Say call key answer) seen h = ap is_fit h.2
-fit_shown old new (event.Process call key source calls fail) seen h = ap is_fit h.2
-fit_shown old new (event.Change call key) seen h = ap is_fit h.4
-fit_shown old new (event.Report call left fault) seen h = ap is_fit h.2
-fit_shown old new (event.Commit call key) shown.Unfit h = absurd h.5
-fit_shown old new (event.Commit call key) seen h = refl
-fit_shown old new (event.Withdraw call key) seen h = ap is_fit h.6
-fit_shown old new (event.Leave call) seen h = ap is_fit h.0
-fit_shown old new (event.PickUp call key) shown.Unfit h = absurd h.5
-fit_shown old new (event.PickUp call key) seen h = refl
-fit_shown old new (event.Foreign key value) seen h = ap is_fit h.0
+-- a phase is no fault
+started_fits : (w new : WorldState) (caller : Caller) (key : Bytes) (op : Op) (from to : State) (o : Outcome) → Starts w caller key op from to o new → is_fit o ≡ true
+started_fits w new caller key op from to outcome.Unfit h = absurd h
+started_fits w new caller key op from to o h = refl
+
+ended_fits : (w new : WorldState) (call : ℕ) (key : Bytes) (part : Part) (from to : State) (o : Outcome) → Ends w call key part from to o new → is_fit o ≡ true
+ended_fits w new call key part from to outcome.Unfit h = absurd h
+ended_fits w new call key part from to o h = refl
+
+picked_fits : (w new : WorldState) (call : ℕ) (key : Bytes) (join : JoinClaim) (from to : State) (o : Outcome) → Picks w call key join from to o new → is_fit o ≡ true
+picked_fits w new call key join from to outcome.Unfit h = absurd h
+picked_fits w new call key join from to o h = refl
+
+-- what happens is none
+fit_shown : (old new : WorldState) (e : WorldEvent) (seen : Shown) → Happens old e seen new → is_fit seen.outcome ≡ true
+fit_shown old new (event.Call call session command) seen h = ap (λ (s : Shown). is_fit s.outcome) h.0 ∙ begun_cases (new_call call session command) (λ s. is_fit s.outcome ≡ true) refl refl
+fit_shown old new (event.Look call stripe) seen h = ap (λ (s : Shown). is_fit s.outcome) h.8
+fit_shown old new (event.Start call key) seen h = started_fits old new h.0.caller key h.1 h.4 h.6 seen.outcome h.7
+fit_shown old new (event.Read call key) seen h = ap (λ (s : Shown). is_fit s.outcome) h.2
+fit_shown old new (event.Say call key answer) seen h = ap (λ (s : Shown). is_fit s.outcome) h.2
+fit_shown old new (event.Process call key source calls fail) seen h = ap (λ (s : Shown). is_fit s.outcome) h.2
+fit_shown old new (event.Change call key) seen h = ap (λ (s : Shown). is_fit s.outcome) h.4
+fit_shown old new (event.Report call left fault) seen h = ap (λ (s : Shown). is_fit s.outcome) h.2
+fit_shown old new (event.Commit call key) seen h = ended_fits old new call key h.0 h.2 h.4 seen.outcome h.5
+fit_shown old new (event.Withdraw call key) seen h = ap (λ (s : Shown). is_fit s.outcome) h.6
+fit_shown old new (event.Leave call) seen h = ap (λ (s : Shown). is_fit s.outcome) h.0
+fit_shown old new (event.PickUp call key) seen h = picked_fits old new call key h.0 h.2 h.4 seen.outcome h.5
+fit_shown old new (event.Foreign key value) seen h = ap (λ (s : Shown). is_fit s.outcome) h.0
 
 -- there is nothing that doesn't fit
 pub none_fit : (w : WorldState) → AllFit w []
@@ -68,17 +81,14 @@ none_fit w [] new run = refl
 none_fit w (s ∷ ss) new run = absurd run
 
 -- an event that fits, and others that fit wherever it leads
-pub fits_then : (w : WorldState) (e : WorldEvent) (es : List WorldEvent) → fits w e ≡ true → ((seen : Shown) (mid : WorldState) (ends : EndsState) → Happens w e seen mid → AllFit (with_ends mid ends) es) → AllFit w (e ∷ es)
+pub fits_then : (w : WorldState) (e : WorldEvent) (es : List WorldEvent) → fits w e ≡ true → ((seen : Shown) (mid : WorldState) → Happens w e seen mid → AllFit mid es) → AllFit w (e ∷ es)
 fits_then w e es fit more [] new run = absurd run
-fits_then w e es fit more (s ∷ ss) new (next, inl (fit_now, (mid, happens, is)), run) =
-    let n = noted_as w mid next e s is in
-    let R : WorldState → Type 0 = λ x. Run x es ss new in
-    and_from _ _ (fit_shown w mid e s happens) (more s mid n.ends happens ss new (subst R n.is run))
+fits_then w e es fit more (s ∷ ss) new (next, inl (fit_now, happens), run) = and_from _ _ (fit_shown w next e s happens) (more s next happens ss new run)
 fits_then w e es fit more (s ∷ ss) new (mid, inr (unfit, shows, is), run) = let t : true ≡ false = sym fit ∙ unfit in cc
 
 -- an event that fits, alone
 pub one_fits : (w : WorldState) (e : WorldEvent) → fits w e ≡ true → AllFit w (e ∷ [])
-one_fits w e fit = fits_then w e [] fit (λ seen mid ends happens. none_fit (with_ends mid ends))
+one_fits w e fit = fits_then w e [] fit (λ seen mid happens. none_fit mid)
 
 -- 2. A change of the store.
 
@@ -123,8 +133,8 @@ new_free w call key new old =
     let at = of_call-at call (get w.parts key) part is in
     nobody w call part.reservation.caller.call (λ u. op_at u key ≡ Some part.reservation.op) none at.1 (call_on w key part at.0 old))))
     (ap not (false_from_ne_true (is_joined w call key) (λ joined.
-    let j = join_any w (is_join call key) w.joins joined old.joins in
-    nobody w call j.0.caller.call (IsCallOf j.0.caller.session j.0.key Get) none (join_is call key j.0 j.2).0 j.3.call)))
+    let j = join_there w call key joined old.joins in
+    nobody w call j.0.caller.call (IsCallOf j.0.caller.session j.0.key Get) none j.2 j.4.call)))
 
 -- 4. A call that takes the keys that are cached.
 
@@ -155,10 +165,10 @@ looks_fit call (suc (suc count)) from w u s here sweeps below few =
     let next = seen_below s.looked from below in
     let more = missed (s.looked ++ from ∷ []) (from + 1) w.config.stripes (unseen (s.looked ++ from ∷ []) (from + 1) next) (omega (arith, few)) in
     let rest : (from + 1) + suc count ≤ w.config.stripes = omega (arith, few) in
-    fits_then w (event.Look call from) (looks call (from + 1) (suc count)) (look_now w call from u s here sweeps (omega (arith, few)) (unseen s.looked from below)) (λ seen mid ends h.
+    fits_then w (event.Look call from) (looks call (from + 1) (suc count)) (look_now w call from u s here sweeps (omega (arith, few)) (unseen s.looked from below)) (λ seen mid h.
     let v = looked_next w call from h.6 s u here more in
-    subst (λ m. AllFit (with_ends m ends) (looks call (from + 1) (suc count))) (sym (look_leaves w mid call from u s seen here sweeps h))
-    (looks_fit call (suc count) (from + 1) (with_ends (with_look w call from h.6 s) ends) v.0 (record s { looked = s.looked ++ from ∷ [] }) v.1 v.2 next rest))
+    subst (λ m. AllFit m (looks call (from + 1) (suc count))) (sym (look_leaves w mid call from u s seen here sweeps h))
+    (looks_fit call (suc count) (from + 1) (with_look w call from h.6 s) v.0 (record s { looked = s.looked ++ from ∷ [] }) v.1 v.2 next rest))
 
 -- a call that looks at the stripes names no key, and has looked at none
 sweeping : (call session : ℕ) (c : Command) (s : SweepState) → sweep_of c ≡ Some s → (has_too_many_keys (new_call call session c) ≡ false) × (s.looked ≡ [])
@@ -183,10 +193,10 @@ looks_begun w old call session c s fit sweeps =
     ap (λ more. find (has_number call) (w.calls ++ more)) opens
     ∙ find-append (has_number call) w.calls (u ∷ []) ∙ ap (λ o. option_or o (find (has_number call) (u ∷ []))) (new_under w call new old) ∙ ap (λ b. cond b (Some u) None) (nat_eq_equiv.refl call)
     in
-    let next : WorldState = record w { last = Some call; fresh = false; calls = w.calls ++ opened u } in
-    fits_then w (event.Call call session c) (looks call 0 w.config.stripes) fit (λ seen mid ends happens.
-    subst (λ m. AllFit (with_ends m ends) (looks call 0 w.config.stripes)) (sym happens.1)
-    (looks_fit call w.config.stripes 0 (with_ends next ends) u s here sweeps (none_seen s.looked facts.1) (all_left w.config.stripes)))
+    let next : WorldState = record w { last = Some call; calls = w.calls ++ opened u } in
+    fits_then w (event.Call call session c) (looks call 0 w.config.stripes) fit (λ seen mid happens.
+    subst (λ m. AllFit m (looks call 0 w.config.stripes)) (sym happens.1)
+    (looks_fit call w.config.stripes 0 next u s here sweeps (none_seen s.looked facts.1) (all_left w.config.stripes)))
   where
     none_seen : (looked : List ℕ) → looked ≡ [] → (i : ℕ) → has_looked looked i ≡ true → i < 0
     none_seen looked e i h = let t : false ≡ true = sym (ap (λ ls. has_looked ls i) e) ∙ h in cc
@@ -199,7 +209,4 @@ looks_begun w old call session c s fit sweeps =
 -- a call that has reserved its key has not joined a load of it
 pub unjoined_held : (w : WorldState) (call : ℕ) (key : Bytes) → has_progress is_untouched (part_of w call key) ≡ true → IsSoundWorld w → is_joined w call key ≡ false
 unjoined_held w call key held old = false_from_ne_true (is_joined w call key) (λ joined.
-    let j = join_any w (is_join call key) w.joins joined old.joins in
-    let same = join_is call key j.0 j.2 in
-    let none : part_of w call key ≡ None = subst (λ n. part_of w n key ≡ None) same.0 (subst (λ k. part_of w j.0.caller.call k ≡ None) same.1 j.3.no_part) in
-    let no : true ≡ false = sym held ∙ ap (has_progress is_untouched) none in cc)
+    let no : true ≡ false = sym held ∙ ap (has_progress is_untouched) (joined_no_part w call key joined old.joins) in cc)

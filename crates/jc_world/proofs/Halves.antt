@@ -1,5 +1,5 @@
 -- What is true of a world, in three parts: what its order and its calls say, what its parts and its store say, and what its joins say.
-use Rattle.std.proofs.Common.{◌≡◌, ℕ, [], true, None, Some, IsSomeAnd, slice_get}
+use Rattle.std.proofs.Common.{◌≡◌, ℕ, [], true, None, Some, is_none, IsSomeAnd, slice_get}
 use Rattle.std.specs.List.{list_all}
 use Rattle.std.specs.FinMap.{get}
 use Rattle.jc_model.specs.Cache.{Bytes, entry_at}
@@ -8,7 +8,7 @@ use Rattle.jc_stripe.specs.State.{State}
 use Rattle.jc_world.specs.declared.event.Part.{Part}
 use Rattle.jc_world.specs.World.{WorldState, stripe_for, cached_entry}
 use Rattle.jc_world.specs.Coherent.{all_hold}
-use Rattle.jc_world.specs.Sound.{IsShaped, number_up_to, CallsFit, IsHeld, AllDue, AllOwned, AllWaitedFor, is_joined_once, AllCalled, KeyAgrees, Each, Sweeps, IsSoundWorld}
+use Rattle.jc_world.specs.Sound.{IsShaped, number_up_to, CallsFit, IsHeld, AllDue, AllOwned, AllWaitedFor, AllCalled, KeyAgrees, Each, Sweeps, IsSoundWorld}
 
 pub record HasOrder (w : WorldState) : Type 0 where
   pub shape : IsShaped w
@@ -20,12 +20,11 @@ pub record HasOrder (w : WorldState) : Type 0 where
 pub record HasParts (w : WorldState) : Type 0 where
   pub held : (key : Bytes) (part : Part) → get w.parts key ≡ Some part → IsSomeAnd (stripe_for w key) (λ s. IsHeld s key part)
   pub told : all_hold w ≡ true → (key : Bytes) → KeyAgrees (get w.parts key) (entry_at w.store key) (cached_entry w key)
-  pub fresh : w.fresh ≡ true → (key : Bytes) → cached_entry w key ≡ None
-  pub idle : w.fresh ≡ true → w.calls ≡ []
+  pub cold : is_none w.last ≡ true → (key : Bytes) → cached_entry w key ≡ None
+  pub idle : is_none w.last ≡ true → w.calls ≡ []
 
 pub record HasJoins (w : WorldState) : Type 0 where
   pub joins : AllWaitedFor w w.joins
-  pub once : is_joined_once w.joins ≡ true
   pub called : (number : ℕ) (s : State) → slice_get w.stripes number ≡ Some s → AllCalled w number s.joiners
 
 pub sound : (w : WorldState) → HasOrder w → HasParts w → AllDue w.config w.parts → HasJoins w → Each (Sweeps w.config) w.calls → IsSoundWorld w
@@ -39,10 +38,9 @@ sound w o p d j s = record {
   due = d;
   owned = o.owned;
   joins = j.joins;
-  once = j.once;
   called = j.called;
   told = p.told;
-  fresh = p.fresh;
+  cold = p.cold;
   idle = p.idle;
 }
 
@@ -50,4 +48,4 @@ pub order_half : (w : WorldState) → IsSoundWorld w → HasOrder w
 order_half w h = record { shape = h.shape; order = h.order; numbers = h.numbers; calls = h.calls; owned = h.owned }
 
 pub joins_half : (w : WorldState) → IsSoundWorld w → HasJoins w
-joins_half w h = record { joins = h.joins; once = h.once; called = h.called }
+joins_half w h = record { joins = h.joins; called = h.called }

@@ -3,7 +3,7 @@
 --     TellsIn            a stripe has the joiner of a join, whose state tells that of the load
 --     tells_kept         it does later, if the joiners are the same or more, and the load stays out
 --     tells_committed, tells_withdrawn      it does where any load is over
-use Rattle.std.proofs.Common.{◌≡◌, ◌==◌, ◌<◌, ◌&&◌, ◌||◌, ◌+◌, ℕ, List, [], ◌∷◌, ◌++◌, length, Bool, true, false, cond, Some, IsSomeAnd, find, slice_get, refl, sym, ap, ◌∙◌, subst, arith}
+use Rattle.std.proofs.Common.{◌≡◌, ◌==◌, ◌<◌, ◌&&◌, ◌||◌, ◌+◌, ℕ, List, [], ◌∷◌, ◌++◌, length, Bool, true, false, cond, Option, Some, IsSomeAnd, find, slice_get, refl, sym, ap, ◌∙◌, subst, arith}
 use Rattle.std.specs.List.{list_any}
 use Rattle.std.specs.Cmp.Lexicographic.{pointwise}
 use Rattle.std.proofs.Math.Seq.{take-append_seam}
@@ -25,11 +25,13 @@ use Rattle.jc_stripe.specs.Tickets.{JoinClaim}
 use Rattle.jc_stripe.specs.State.{State, is_key, without_key, IsOut}
 use Rattle.jc_stripe.specs.Reached.{IsReached}
 use Rattle.jc_world.specs.declared.event.Shown.{Shown}
-use Rattle.jc_world.specs.declared.event.Shown.TheVariants as shown
+use Rattle.jc_world.specs.declared.event.Over.{Over}
+use Rattle.jc_world.specs.declared.event.Outcome.{Outcome}
+use Rattle.jc_world.specs.declared.event.Outcome.TheVariants as outcome
 use Rattle.jc_world.specs.declared.event.Stepped.{Stepped}
 use Rattle.jc_world.specs.declared.event.WorldEvent.{WorldEvent}
 use Rattle.jc_world.specs.declared.event.WorldEvent.TheVariants as event
-use Rattle.jc_world.specs.Events.{is_fit}
+use Rattle.jc_world.specs.Events.{is_fit, not_over}
 use Rattle.jc_world.specs.PickUps.{ends_load, IsEnd}
 use Rattle.jc_world.proofs.Underway.{same_bytes}
 use Rattle.jc_world.proofs.Joiners.{joiner_of, joined_front}
@@ -42,12 +44,16 @@ use Rattle.jc_world.proofs.LoadKeys.{same_number}
 abbrev pub Shows : Type 0
 Shows = List (WorldEvent × Shown)
 
+-- a step that was shown, and what was over with it
+abbrev pub step_shown : Stepped → Option Over → Shown
+step_shown step over = record { outcome = outcome.Stepped step; over = over }
+
 -- 1. What the state of a joiner tells.
 
 abbrev pub Tells : ℕ → Shows → State → Reservation → JoinState → Type 0
 Tells number shows s r Waiting = IsOut s r × (list_any (ends_load r) shows ≡ false)
-Tells number shows s r (Answered place shared) = (at : ℕ) × (step : Stepped) × IsEnd shows r at (event.Commit r.caller.call r.key) (shown.Stepped step) × (step.stripe ≡ number) × (step.place ≡ shared)
-Tells number shows s r Again = (at : ℕ) × IsEnd shows r at (event.Withdraw r.caller.call r.key) shown.Withdrawn
+Tells number shows s r (Answered place shared) = (at : ℕ) × (step : Stepped) × IsEnd shows r at (event.Commit r.caller.call r.key) (outcome.Stepped step) × (step.stripe ≡ number) × (step.place ≡ shared)
+Tells number shows s r Again = (at : ℕ) × IsEnd shows r at (event.Withdraw r.caller.call r.key) outcome.Withdrawn
 
 -- of a joiner of this load
 abbrev pub TellsOf : ℕ → Shows → State → Reservation → Joiner → Type 0
@@ -64,18 +70,18 @@ there_last [] x = refl
 there_last (z ∷ zs) x = there_last zs x
 
 -- the end of a load is its end later
-end_more : (shows more : Shows) (r : Reservation) (at : ℕ) (e : WorldEvent) (seen : Shown) → IsEnd shows r at e seen → IsEnd (shows ++ more) r at e seen
-end_more shows more r at e seen h =
-    let within : at < length shows = slice_get_within shows at (e, seen) h.there in
-    record { there = still_at shows more at (e, seen) h.there; first = ap (list_any (ends_load r)) (take-append-le at shows more (omega arith)) ∙ h.first }
+end_more : (shows more : Shows) (r : Reservation) (at : ℕ) (e : WorldEvent) (o : Outcome) → IsEnd shows r at e o → IsEnd (shows ++ more) r at e o
+end_more shows more r at e o h =
+    let within : at < length shows = slice_get_within shows at (e, h.seen) h.there in
+    record { seen = h.seen; there = still_at shows more at (e, h.seen) h.there; outcome_is = h.outcome_is; first = ap (list_any (ends_load r)) (take-append-le at shows more (omega arith)) ∙ h.first }
 
 -- an event is the end of a load that was out before it
-end_last : (shows : Shows) (r : Reservation) (e : WorldEvent) (seen : Shown) → list_any (ends_load r) shows ≡ false → IsEnd (shows ++ (e, seen) ∷ []) r (length shows) e seen
-end_last shows r e seen none = record { there = there_last shows (e, seen); first = ap (list_any (ends_load r)) (take-append_seam shows ((e, seen) ∷ [])) ∙ none }
+end_last : (shows : Shows) (r : Reservation) (e : WorldEvent) (seen : Shown) → list_any (ends_load r) shows ≡ false → IsEnd (shows ++ (e, seen) ∷ []) r (length shows) e seen.outcome
+end_last shows r e seen none = record { seen = seen; there = there_last shows (e, seen); outcome_is = refl; first = ap (list_any (ends_load r)) (take-append_seam shows ((e, seen) ∷ [])) ∙ none }
 
 -- an event of another key ends no load of this one
-pub none_of_key : (r : Reservation) (call : ℕ) (key : Bytes) (seen : Shown) → (r.key ≡ key → ⊥) → ((is_fit seen && (call == r.caller.call)) && pointwise ◌==◌ r.key key) ≡ false
-none_of_key r call key seen apart = false_from_ne_true _ (λ t. apart (same_bytes r.key key (and_parts (is_fit seen && (call == r.caller.call)) (pointwise ◌==◌ r.key key) t).1))
+pub none_of_key : (r : Reservation) (call : ℕ) (key : Bytes) (seen : Shown) → (r.key ≡ key → ⊥) → ((is_fit seen.outcome && (call == r.caller.call)) && pointwise ◌==◌ r.key key) ≡ false
+none_of_key r call key seen apart = false_from_ne_true _ (λ t. apart (same_bytes r.key key (and_parts (is_fit seen.outcome && (call == r.caller.call)) (pointwise ◌==◌ r.key key) t).1))
 
 -- it tells the same later, if a load that is waited for is still out
 pub tells_on : (number : ℕ) (shows more : Shows) (s t : State) (r : Reservation) (state : JoinState) → (is_waiting state ≡ true → IsOut s r → IsOut t r × (list_any (ends_load r) more ≡ false)) → Tells number shows s r state
@@ -173,11 +179,11 @@ load_over number shows p r from j reached over waits (load, told) =
     (same_number (is_key p.key) (is_key r.key) from.reservations p r reached.numbered.numbers over out.0 (sym (eqb-true j.load p.number parts.0) ∙ load), out.1)
 
 -- a load was committed
-pub tells_committed : (number call : ℕ) (key : Bytes) (shows : Shows) (join : JoinClaim) (p r : Reservation) (from to : State) (seen : Stepped) → IsReached from → IsOut from p → p.caller.call ≡ call → p.key ≡ key → (r.key ≡ key → seen.stripe ≡ number)
+pub tells_committed : (number call : ℕ) (key : Bytes) (shows : Shows) (join : JoinClaim) (p r : Reservation) (from to : State) (seen : Stepped) (end : Option Over) → IsReached from → IsOut from p → p.caller.call ≡ call → p.key ≡ key → (r.key ≡ key → seen.stripe ≡ number)
     → to.reservations ≡ without_key p.key from.reservations → to.joiners ≡ after_resolve p.number seen.place from.joiners
-    → TellsIn number shows join r from → TellsIn number (shows ++ (event.Commit call key, shown.Stepped seen) ∷ []) join r to
-tells_committed number call key shows join p r from to seen reached over call_is key_is stripe_is left joiners h =
-    let more : Shows = (event.Commit call key, shown.Stepped seen) ∷ [] in
+    → TellsIn number shows join r from → TellsIn number (shows ++ (event.Commit call key, step_shown seen end) ∷ []) join r to
+tells_committed number call key shows join p r from to seen end reached over call_is key_is stripe_is left joiners h =
+    let more : Shows = (event.Commit call key, step_shown seen end) ∷ [] in
     let Q : Joiner → Type 0 = TellsOf number (shows ++ more) to r in
     let J : List Joiner → Type 0 = λ js. IsSomeAnd (joiner_of join.caller join.key js) Q in
     subst J (sym joiners)
@@ -186,16 +192,16 @@ tells_committed number call key shows join p r from to seen reached over call_is
     let one = load_over number shows p r from j reached over waits k in
     let call_of : call ≡ r.caller.call = sym call_is ∙ ap (λ (x : Reservation). x.caller.call) one.0 in
     let key_of : key ≡ r.key = sym key_is ∙ ap (λ (x : Reservation). x.key) one.0 in
-    let E : WorldEvent → Type 0 = λ e. IsEnd (shows ++ more) r (length shows) e (shown.Stepped seen) in
-    (k.0, (length shows, seen, subst E (λ i. event.Commit (call_of i) (key_of i)) (end_last shows r (event.Commit call key) (shown.Stepped seen) one.1), stripe_is (sym key_of), refl)))
-    (λ j other k. tells_past number shows more p r from to j over left (λ apart. ap (λ b. b || false) (none_of_key r call key (shown.Stepped seen) (λ same. apart (same ∙ sym key_is)))) other k) h)
+    let E : WorldEvent → Type 0 = λ e. IsEnd (shows ++ more) r (length shows) e (outcome.Stepped seen) in
+    (k.0, (length shows, seen, subst E (λ i. event.Commit (call_of i) (key_of i)) (end_last shows r (event.Commit call key) (step_shown seen end) one.1), stripe_is (sym key_of), refl)))
+    (λ j other k. tells_past number shows more p r from to j over left (λ apart. ap (λ b. b || false) (none_of_key r call key (step_shown seen end) (λ same. apart (same ∙ sym key_is)))) other k) h)
 
 -- a load was withdrawn
 pub tells_withdrawn : (number call : ℕ) (key : Bytes) (shows : Shows) (join : JoinClaim) (p r : Reservation) (from to : State) → IsReached from → IsOut from p → p.caller.call ≡ call → p.key ≡ key
     → to.reservations ≡ without_key p.key from.reservations → to.joiners ≡ after_dissolve p.number from.joiners
-    → TellsIn number shows join r from → TellsIn number (shows ++ (event.Withdraw call key, shown.Withdrawn) ∷ []) join r to
+    → TellsIn number shows join r from → TellsIn number (shows ++ (event.Withdraw call key, not_over outcome.Withdrawn) ∷ []) join r to
 tells_withdrawn number call key shows join p r from to reached over call_is key_is left joiners h =
-    let more : Shows = (event.Withdraw call key, shown.Withdrawn) ∷ [] in
+    let more : Shows = (event.Withdraw call key, not_over outcome.Withdrawn) ∷ [] in
     let Q : Joiner → Type 0 = TellsOf number (shows ++ more) to r in
     let J : List Joiner → Type 0 = λ js. IsSomeAnd (joiner_of join.caller join.key js) Q in
     subst J (sym joiners)
@@ -204,6 +210,6 @@ tells_withdrawn number call key shows join p r from to reached over call_is key_
     let one = load_over number shows p r from j reached over waits k in
     let call_of : call ≡ r.caller.call = sym call_is ∙ ap (λ (x : Reservation). x.caller.call) one.0 in
     let key_of : key ≡ r.key = sym key_is ∙ ap (λ (x : Reservation). x.key) one.0 in
-    let E : WorldEvent → Type 0 = λ e. IsEnd (shows ++ more) r (length shows) e shown.Withdrawn in
-    (k.0, (length shows, subst E (λ i. event.Withdraw (call_of i) (key_of i)) (end_last shows r (event.Withdraw call key) shown.Withdrawn one.1))))
-    (λ j other k. tells_past number shows more p r from to j over left (λ apart. ap (λ b. b || false) (none_of_key r call key shown.Withdrawn (λ same. apart (same ∙ sym key_is)))) other k) h)
+    let E : WorldEvent → Type 0 = λ e. IsEnd (shows ++ more) r (length shows) e outcome.Withdrawn in
+    (k.0, (length shows, subst E (λ i. event.Withdraw (call_of i) (key_of i)) (end_last shows r (event.Withdraw call key) (not_over outcome.Withdrawn) one.1))))
+    (λ j other k. tells_past number shows more p r from to j over left (λ apart. ap (λ b. b || false) (none_of_key r call key (not_over outcome.Withdrawn) (λ same. apart (same ∙ sym key_is)))) other k) h)

@@ -1,18 +1,14 @@
 -- The calls that have joined a load, and the joiners that they have.
 --     told_resolved, told_dissolved, told_pushed      what is parked for a call stays parked
 --     told_waiting      a commit parks an answer for each that waits for its load
---     waited_on                 each join in another world
---     once_filter, once_pushed      no two joins are of one call and one key
---     join_any                  a join, with what is true of it
+--     join_at, join_there       a join that is found, and one that is there, with what is true of it
 --     other_key         a call that has not joined the load of a key is at another key, if it has joined there
---     stands_at         where a join is in the list
-use Rattle.std.proofs.Common.{◌≡◌, ◌==◌, ◌&&◌, ◌||◌, ◌+◌, ℕ, zero, suc, List, [], ◌∷◌, ◌++◌, Bool, true, false, cond, not, Option, None, Some, IsSomeAnd, find, filter, map, position, slice_get, refl, sym, ap, ◌∙◌, subst, arith, is_some}
-use Rattle.std.specs.List.{list_all, list_any, position_from, insert as insert_at, remove as remove_at}
-use Rattle.std.proofs.lemmas.Iterator.Adapters.{position_from-zero}
+use Rattle.std.proofs.Common.{◌≡◌, ◌==◌, ◌&&◌, ◌||◌, ◌+◌, ℕ, List, [], ◌∷◌, ◌++◌, Bool, true, false, cond, not, Option, None, Some, IsSomeAnd, find, filter, map, refl, sym, ap, ◌∙◌, subst, is_some}
+use Rattle.std.specs.List.{list_all}
 use Rattle.std.specs.Ordering.{eq_by_cmp}
 use Rattle.std.specs.Cmp.Lexicographic.{pointwise}
 use Rattle.std.specs.FinMap.{get, insert, remove, get-insert, get-remove}
-use Rattle.std.proofs.lemmas.Bool.{eqb-true, and_parts, and_from, or_right, false_from_ne_true}
+use Rattle.std.proofs.lemmas.Bool.{and_parts, and_from, false_from_ne_true}
 use Rattle.std.proofs.lemmas.Cmp.{nat_list_cmp_total, nat_eq_equiv, nat_list_eq_equiv}
 use Rattle.jc_types.specs.declared.caller.Caller.{Caller}
 use Rattle.jc_model.specs.Cache.{Bytes, key_cmp}
@@ -27,10 +23,8 @@ use Rattle.jc_stripe.specs.Tickets.{JoinClaim}
 use Rattle.jc_stripe.specs.Phases.{is_other_join}
 use Rattle.jc_stripe.specs.Reached.{are_apart}
 use Rattle.jc_world.specs.declared.event.Part.{Part}
-use Rattle.jc_world.specs.World.{WorldState, Parts, of_call, part_of, is_join, is_joined, joins_without}
-use Rattle.jc_world.specs.Sound.{has_answer, has_parked_answer, IsWaitedFor, AllWaitedFor, is_joined_once, AllCalled, Each}
-use Rattle.jc_world.proofs.Shares.{each_map}
-use Rattle.jc_world.proofs.Underway.{same_bytes}
+use Rattle.jc_world.specs.World.{WorldState, Parts, JoinKey, of_call, part_of, join_of, is_joined}
+use Rattle.jc_world.specs.Sound.{has_answer, has_parked_answer, IsWaitedFor, AllWaitedFor, AllCalled, Each}
 
 -- the joiner of a caller at a key
 abbrev pub joiner_of : Caller → Bytes → List Joiner → Option Joiner
@@ -109,18 +103,6 @@ find_kept p q (x ∷ xs) f =
     elim (q x) as (λ b. q x ≡ b → find p (cond b (x ∷ filter q xs) (filter q xs)) ≡ cond (p x) (Some x) (find p xs)) [
       | true ↦ λ e. ap (cond (p x) (Some x)) (find_kept p q xs f)
       | false ↦ λ e. find_kept p q xs f ∙ sym (ap (λ b. cond b (Some x) (find p xs)) (false_from_ne_true (p x) (λ t. let u : true ≡ false = sym (f x t) ∙ e in cc)))
-    ] refl
-
--- one is there if one is found
-pub any_kept : {A : Type 0} (p q : A → Bool) (xs : List A) → ((x : A) → p x ≡ true → q x ≡ true) → list_any p xs ≡ true → list_any p (filter q xs) ≡ true
-any_kept p q [] f h = h
-any_kept p q (x ∷ xs) f h =
-    elim (q x) as (λ b. q x ≡ b → list_any p (cond b (x ∷ filter q xs) (filter q xs)) ≡ true) [
-      | true ↦ λ e. elim (p x) as (λ b. (b || list_any p xs) ≡ true → (b || list_any p (filter q xs)) ≡ true) [ true ↦ λ h. refl | false ↦ λ h. any_kept p q xs f h ] h
-      | false ↦ λ e. elim (p x) as (λ b. p x ≡ b → (b || list_any p xs) ≡ true → list_any p (filter q xs) ≡ true) [
-        | true ↦ λ t h. let u : true ≡ false = sym (f x t) ∙ e in cc
-        | false ↦ λ t h. any_kept p q xs f h
-      ] refl h
     ] refl
 
 -- 2. A joiner is found.
@@ -233,90 +215,27 @@ each_both P Q R (x ∷ xs) f h k = (f x h.0 k.0, each_both P Q R xs f h.1 k.1)
 
 -- 5. Each join has its joiner and its call.
 
--- each that passes a test, in another world
-pub waited_on : (w n : WorldState) (p : JoinClaim → Bool) (P : JoinClaim → Type 0) (js : List JoinClaim) → ((j : JoinClaim) → p j ≡ true → P j → IsWaitedFor w j → IsWaitedFor n j) → Each P js → AllWaitedFor w js → AllWaitedFor n (filter p js)
-waited_on w n p P [] f each h = tt
-waited_on w n p P (x ∷ xs) f each h =
-    elim (p x) as (λ b. p x ≡ b → AllWaitedFor n (cond b (x ∷ filter p xs) (filter p xs))) [
-      | true ↦ λ e. (f x e each.0 h.0, waited_on w n p P xs f each.1 h.1)
-      | false ↦ λ e. waited_on w n p P xs f each.1 h.1
-    ] refl
+-- what is found is of its call and its key
+pub join_at : (w : WorldState) (call : ℕ) (key : Bytes) (join : JoinClaim) → join_of w call key ≡ Some join → AllWaitedFor w w.joins → (join.caller.call ≡ call) × (join.key ≡ key) × IsWaitedFor w join
+join_at w call key join is waited = let h = waited (call, key) join is in (ap (λ (at : JoinKey). at.0) h.0, ap (λ (at : JoinKey). at.1) h.0, h.1)
 
--- each join is there, by its call and its key
-pub each_joined : (js : List JoinClaim) → Each (λ (j : JoinClaim). list_any (is_join j.caller.call j.key) js ≡ true) js
-each_joined [] = tt
-each_joined (x ∷ xs) = (
-  ap (λ b. b || list_any (is_join x.caller.call x.key) xs) (and_from _ _ (nat_eq_equiv.refl x.caller.call) (nat_list_eq_equiv.refl x.key)),
-  each_map (λ (j : JoinClaim). list_any (is_join j.caller.call j.key) xs ≡ true) (λ (j : JoinClaim). (is_join j.caller.call j.key x || list_any (is_join j.caller.call j.key) xs) ≡ true) xs
-      (λ j h. or_right (is_join j.caller.call j.key x) (list_any (is_join j.caller.call j.key) xs) h) (each_joined xs),
-)
-
--- one that passes a test, with what is true of it
-pub join_any : (w : WorldState) (p : JoinClaim → Bool) (js : List JoinClaim) → list_any p js ≡ true → AllWaitedFor w js → (j : JoinClaim) × (find p js ≡ Some j) × (p j ≡ true) × IsWaitedFor w j
-join_any w p [] h waited = cc
-join_any w p (x ∷ xs) h waited =
-    elim (p x) as (λ b. p x ≡ b → (b || list_any p xs) ≡ true → (j : JoinClaim) × (cond b (Some x) (find p xs) ≡ Some j) × (p j ≡ true) × IsWaitedFor w j) [
-      | true ↦ λ e h. (x, refl, e, waited.0)
-      | false ↦ λ e h. join_any w p xs h waited.1
-    ] refl h
-
--- a join is of its call and its key
-pub join_is : (call : ℕ) (key : Bytes) (j : JoinClaim) → is_join call key j ≡ true → (j.caller.call ≡ call) × (j.key ≡ key)
-join_is call key j h = let parts = and_parts (j.caller.call == call) (pointwise ◌==◌ key j.key) h in (eqb-true j.caller.call call parts.0, sym (same_bytes key j.key parts.1))
+-- and so is what is there
+pub join_there : (w : WorldState) (call : ℕ) (key : Bytes) → is_joined w call key ≡ true → AllWaitedFor w w.joins → (join : JoinClaim) × (join_of w call key ≡ Some join) × (join.caller.call ≡ call) × (join.key ≡ key) × IsWaitedFor w join
+join_there w call key there waited = go (join_of w call key) refl there
+  where
+    go : (o : Option JoinClaim) → join_of w call key ≡ o → is_some o ≡ true → (join : JoinClaim) × (join_of w call key ≡ Some join) × (join.caller.call ≡ call) × (join.key ≡ key) × IsWaitedFor w join
+    go None is h = cc
+    go (Some join) is h = let j = join_at w call key join is waited in (join, is, j.0, j.1, j.2)
 
 -- if a call has joined, it has no part
 pub joined_no_part : (w : WorldState) (call : ℕ) (key : Bytes) → is_joined w call key ≡ true → AllWaitedFor w w.joins → part_of w call key ≡ None
 joined_no_part w call key h waited =
-    let j = join_any w (is_join call key) w.joins h waited in
-    let is = join_is call key j.0 j.2 in
-    (λ i. part_of w (sym is.0 i) (sym is.1 i)) ∙ j.3.no_part
+    let j = join_there w call key h waited in
+    (λ i. part_of w (sym j.2 i) (sym j.3 i)) ∙ j.4.no_part
 
 -- a call that has not joined the load of a key is at another key, if it has joined there
 pub other_key : (w : WorldState) (call : ℕ) (key : Bytes) (number : ℕ) (q : Bytes) → is_joined w call key ≡ false → is_joined w number q ≡ true → number ≡ call → q ≡ key → ⊥
 other_key w call key number q free joined one same = let t : true ≡ false = sym joined ∙ (λ i. is_joined w (one i) (same i)) ∙ free in cc
-
--- a test that fails of each of a list fails of what is left of it
-none_left : (p q : JoinClaim → Bool) (js : List JoinClaim) → not (list_any p js) ≡ true → not (list_any p (filter q js)) ≡ true
-none_left p q [] h = h
-none_left p q (x ∷ xs) h =
-    elim (p x) as (λ b. p x ≡ b → not (b || list_any p xs) ≡ true → not (list_any p (cond (q x) (x ∷ filter q xs) (filter q xs))) ≡ true) [
-      | true ↦ λ e h. cc
-      | false ↦ λ e h. elim (q x) as (λ b. not (list_any p (cond b (x ∷ filter q xs) (filter q xs))) ≡ true) [
-        | true ↦ ap (λ b. not (b || list_any p (filter q xs))) e ∙ none_left p q xs h
-        | false ↦ none_left p q xs h
-      ]
-    ] refl h
-
--- no two of those that are left are of one call and one key
-pub once_filter : (q : JoinClaim → Bool) (js : List JoinClaim) → is_joined_once js ≡ true → is_joined_once (filter q js) ≡ true
-once_filter q [] h = h
-once_filter q (x ∷ xs) h =
-    let parts = and_parts (not (list_any (is_join x.caller.call x.key) xs)) (is_joined_once xs) h in
-    elim (q x) as (λ b. is_joined_once (cond b (x ∷ filter q xs) (filter q xs)) ≡ true) [
-      | true ↦ and_from _ _ (none_left (is_join x.caller.call x.key) q xs parts.0) (once_filter q xs parts.1)
-      | false ↦ once_filter q xs parts.1
-    ]
-
--- a join of another call or key is no join of this one
-not_joined : (j x : JoinClaim) → is_join j.caller.call j.key x ≡ false → is_join x.caller.call x.key j ≡ false
-not_joined j x h = (λ i. nat_eq_equiv.symm j.caller.call x.caller.call i && turned_key x.key j.key i) ∙ h
-  where
-    turned_key : (a b : Bytes) → pointwise ◌==◌ a b ≡ pointwise ◌==◌ b a
-    turned_key a b = nat_list_eq_equiv.symm a b
-
--- nor with one more, which is of another
-pub once_pushed : (js : List JoinClaim) (j : JoinClaim) → not (list_any (is_join j.caller.call j.key) js) ≡ true → is_joined_once js ≡ true → is_joined_once (js ++ j ∷ []) ≡ true
-once_pushed [] j h o = refl
-once_pushed (x ∷ xs) j h o =
-    let parts = and_parts (not (list_any (is_join x.caller.call x.key) xs)) (is_joined_once xs) o in
-    elim (is_join j.caller.call j.key x) as (λ b. is_join j.caller.call j.key x ≡ b → not (b || list_any (is_join j.caller.call j.key) xs) ≡ true → (not (list_any (is_join x.caller.call x.key) (xs ++ j ∷ [])) && is_joined_once (xs ++ j ∷ [])) ≡ true) [
-      | true ↦ λ e h. cc
-      | false ↦ λ e h. and_from _ _ (none_more (is_join x.caller.call x.key) xs j parts.0 (not_joined j x e)) (once_pushed xs j h parts.1)
-    ] refl h
-  where
-    none_more : (p : JoinClaim → Bool) (ys : List JoinClaim) (y : JoinClaim) → not (list_any p ys) ≡ true → p y ≡ false → not (list_any p (ys ++ y ∷ [])) ≡ true
-    none_more p [] y h e = ap (λ b. not (b || false)) e
-    none_more p (z ∷ zs) y h e = elim (p z) as (λ b. not (b || list_any p zs) ≡ true → not (b || list_any p (zs ++ y ∷ [])) ≡ true) [ true ↦ λ h. cc | false ↦ λ h. none_more p zs y h e ] h
 
 -- 6. The parts of calls that have joined.
 
@@ -341,71 +260,3 @@ part_other (Some p) old call is none =
     let same : p ≡ old = cc in
     let P : Part → Type 0 = λ x. (x.reservation.caller.call == call) ≡ false in
     subst P same (elim (p.reservation.caller.call == call) as (λ b. cond b (Some p) None ≡ None → b ≡ false) [ true ↦ λ h. cc | false ↦ λ h. refl ] none)
-
--- 7. A join in the list.
-
--- where a call's join of a key is: it is the first, and without it all others are left
-pub record Stands (call : ℕ) (key : Bytes) (js : List JoinClaim) (place : ℕ) : Type 0 where
-  pub join : JoinClaim
-  pub here : slice_get js place ≡ Some join
-  pub first : find (is_join call key) js ≡ Some join
-  pub others : remove_at js place ≡ joins_without call key js
-
--- all are kept that are of another call or key
-all_others : (p : JoinClaim → Bool) (js : List JoinClaim) → not (list_any p js) ≡ true → filter (λ j. not (p j)) js ≡ js
-all_others p [] h = refl
-all_others p (x ∷ xs) h = elim (p x) as (λ b. not (b || list_any p xs) ≡ true → cond (not b) (x ∷ filter (λ j. not (p j)) xs) (filter (λ j. not (p j)) xs) ≡ x ∷ xs) [ true ↦ λ h. cc | false ↦ λ h. ap (λ ys. x ∷ ys) (all_others p xs h) ] h
-
--- by the place from a number on
-stands_from : (call : ℕ) (key : Bytes) (js : List JoinClaim) (k i : ℕ) → position_from (is_join call key) k js ≡ Some i → is_joined_once js ≡ true → (j : ℕ) × (i ≡ k + j) × Stands call key js j
-stands_from call key [] k i h o = cc
-stands_from call key (x ∷ xs) k i h o =
-    let p = is_join call key in
-    let parts = and_parts (not (list_any (is_join x.caller.call x.key) xs)) (is_joined_once xs) o in
-    elim (p x) as (λ b. p x ≡ b → cond b (Some k) (position_from p (k + 1) xs) ≡ Some i → (j : ℕ) × (i ≡ k + j) × Stands call key (x ∷ xs) j) [
-      | true ↦ λ e h.
-          let is : k ≡ i = cc in
-          let same = join_is call key x e in
-          let alone : not (list_any p xs) ≡ true = (λ i. not (list_any (is_join (sym same.0 i) (sym same.1 i)) xs)) ∙ parts.0 in (
-            0,
-            omega arith,
-            record {
-              join = x;
-              here = refl;
-              first = ap (λ b. cond b (Some x) (find p xs)) e;
-              others = sym (ap (λ b. cond (not b) (x ∷ joins_without call key xs) (joins_without call key xs)) e ∙ all_others p xs alone);
-            },
-          )
-      | false ↦ λ e h.
-          let rest = stands_from call key xs (k + 1) i h parts.1 in (
-            suc rest.0,
-            omega arith,
-            record {
-              join = rest.2.join;
-              here = rest.2.here;
-              first = ap (λ b. cond b (Some x) (find p xs)) e ∙ rest.2.first;
-              others = ap (λ ys. x ∷ ys) rest.2.others ∙ sym (ap (λ b. cond (not b) (x ∷ joins_without call key xs) (joins_without call key xs)) e);
-            },
-          )
-    ] refl h
-
--- by the place in the whole list
-pub stands_at : (call : ℕ) (key : Bytes) (js : List JoinClaim) (i : ℕ) → position (is_join call key) js ≡ Some i → is_joined_once js ≡ true → Stands call key js i
-stands_at call key js i h o =
-    let found = stands_from call key js 0 i (sym (position_from-zero (is_join call key) js) ∙ h) o in
-    let is : found.0 ≡ i = omega arith in
-    subst (Stands call key js) is found.2
-
--- what is taken out and put back at its place
-pub put_back_at : (js : List JoinClaim) (i : ℕ) (j : JoinClaim) → slice_get js i ≡ Some j → insert_at (remove_at js i) i j ≡ js
-put_back_at [] i j h = cc
-put_back_at (x ∷ xs) zero j h = let is : x ≡ j = cc in ap (λ (y : JoinClaim). y ∷ xs) (sym is)
-put_back_at (x ∷ xs) (suc i) j h = ap (λ ys. x ∷ ys) (put_back_at xs i j h)
-
--- one that passes a test has a place
-any_from : {A : Type 0} (p : A → Bool) (xs : List A) (k : ℕ) → is_some (position_from p k xs) ≡ list_any p xs
-any_from p [] k = refl
-any_from p (x ∷ xs) k = elim (p x) as (λ b. is_some (cond b (Some k) (position_from p (k + 1) xs)) ≡ (b || list_any p xs)) [ true ↦ refl | false ↦ any_from p xs (k + 1) ]
-
-pub any_position : {A : Type 0} (p : A → Bool) (xs : List A) → is_some (position p xs) ≡ list_any p xs
-any_position p xs = ap is_some (position_from-zero p xs) ∙ any_from p xs 0

@@ -1,15 +1,15 @@
 -- Each event keeps what the joins and the joiners of a world say.
 --     joins_called, joins_over, joins_phase, joins_joined, joins_picks, joins_parted, joins_stored     by the kind of the event
 --     joins_start, joins_happens       before anything has happened, and after any event that fits
-use Rattle.std.proofs.Common.{◌≡◌, ◌==◌, ◌&&◌, ◌||◌, ◌+◌, ℕ, List, [], ◌∷◌, ◌++◌, Ok, Bool, true, false, not, Option, None, Some, IsSomeAnd, find, slice_get, slice_set, is_none, refl, sym, ap, ◌∙◌, subst}
-use Rattle.std.specs.List.{list_all, list_any}
+use Rattle.std.proofs.Common.{◌≡◌, ◌==◌, ◌&&◌, ◌+◌, ℕ, List, [], ◌∷◌, ◌++◌, Ok, Bool, true, false, not, Option, None, Some, IsSomeAnd, find, slice_get, slice_set, is_none, is_some, refl, sym, ap, ◌∙◌, subst}
+use Rattle.std.specs.List.{list_all}
 use Rattle.std.specs.Cmp.Lexicographic.{pointwise}
-use Rattle.std.specs.FinMap.{get, insert, remove}
-use Rattle.std.proofs.lemmas.Bool.{eq-eqb, eqb-true, and_parts, and_from, false_from_ne_true, or_left, or_right}
+use Rattle.std.specs.FinMap.{get, insert, remove, get-empty}
+use Rattle.std.proofs.lemmas.Bool.{eq-eqb, eqb-true, and_parts, and_from, false_from_ne_true}
 use Rattle.std.proofs.lemmas.Cmp.{nat_eq_equiv, nat_list_eq_equiv}
-use Rattle.std.proofs.lemmas.List.Folds.{list_any-append}
 use Rattle.jc_world.proofs.Numbered.{some_of}
 use Rattle.jc_types.specs.declared.caller.Caller.{Caller}
+use Rattle.jc_types.specs.declared.refusal.Refusal.{Refusal}
 use Rattle.jc_types.specs.declared.config.Config.{Config}
 use Rattle.jc_types.specs.Limits.{check}
 use Rattle.jc_model.specs.declared.event.Event.{Event}
@@ -30,13 +30,14 @@ use Rattle.jc_world.specs.declared.command.Command.{Command}
 use Rattle.jc_world.specs.declared.event.Part.{Part}
 use Rattle.jc_world.specs.declared.event.Premises.{Premises}
 use Rattle.jc_world.specs.declared.event.Shown.{Shown}
-use Rattle.jc_world.specs.declared.event.Shown.TheVariants as shown
+use Rattle.jc_world.specs.declared.event.Outcome.{Outcome}
+use Rattle.jc_world.specs.declared.event.Outcome.TheVariants as outcome
 use Rattle.jc_world.specs.Calls.{CallState, SweepState, has_number, open_keys, op_at, is_turn, opened, settle, drop_call, new_call}
 use Rattle.jc_world.specs.declared.event.WorldEvent.{WorldEvent}
 use Rattle.jc_world.specs.declared.event.WorldEvent.TheVariants as event
-use Rattle.jc_world.specs.World.{WorldState, Parts, home, stripe_for, start, open_call, of_call, part_of, is_join, join_of, is_joined, joins_without}
+use Rattle.jc_world.specs.World.{WorldState, Parts, home, stripe_for, start, open_call, of_call, part_of, JoinKey, join_cmp, join_key, join_of, is_joined}
 use Rattle.jc_world.specs.Fits.{is_free, may_leave, fits}
-use Rattle.jc_world.specs.Events.{with_stripe, with_phase, with_settled, without_call, with_look, new_load, new_write, new_part, without_part, with_join, Starts, Ends, Picks, Happens, new_process}
+use Rattle.jc_world.specs.Events.{fault_in, with_met_by, with_stripe, with_phase, with_settled, without_call, with_look, new_load, new_write, new_part, without_part, with_join, Starts, Ends, Picks, Happens, new_process}
 use Rattle.jc_world.specs.Sound.{IsWaitedFor, AllWaitedFor, IsCalled, AllCalled, IsSoundWorld, IsCallOf}
 use Rattle.jc_world.proofs.Halves.{HasJoins, joins_half}
 use Rattle.jc_world.proofs.Returns.{IsReport}
@@ -45,9 +46,10 @@ use Rattle.jc_world.proofs.Shares.{is_some_and, set_cases, found_test, fact_foun
 use Rattle.jc_world.proofs.Underway.{find_over, find_pushed, of_call-at, same_bytes}
 use Rattle.jc_world.proofs.Settling.{open_now, still_called, IsTurnOf}
 use Rattle.jc_world.proofs.LoadKeys.{joins_get}
-use Rattle.jc_world.proofs.Joiners.{joiner_of, any_kept, joined_resolved, joined_dissolved, joined_front, joined_last, find_kept, called_resolved, called_dissolved, once_pushed, once_filter, waited_on, each_joined, join_is, joined_no_part, other_key, none_inserted, none_removed, part_other, each_both}
+use Rattle.jc_world.proofs.Joiners.{joiner_of, joined_resolved, joined_dissolved, joined_front, joined_last, find_kept, called_resolved, called_dissolved, joined_no_part, other_key, none_inserted, none_removed, part_other}
+use Rattle.jc_world.proofs.Maps.{joins_ordered, get-here, get-left, still-there, each_put, each_left}
 use Rattle.jc_world.proofs.Beginning.{MayStart, may_start_at, may_turn, part_turn, start_is}
-use Rattle.jc_world.proofs.Callers.{looked_called, Picking, picking, picking_turn}
+use Rattle.jc_world.proofs.Callers.{looked_called, met_called, Picking, picking, picking_turn}
 use Rattle.jc_world.proofs.Facts.{denied, missing}
 
 -- 1. What stays.
@@ -61,7 +63,7 @@ joiner_is caller key j h =
 
 -- each join stays in another world, with the same joins
 pub kept_joins : (w n : WorldState) → ((j : JoinClaim) → is_joined w j.caller.call j.key ≡ true → IsWaitedFor w j → IsWaitedFor n j) → IsSoundWorld w → AllWaitedFor n w.joins
-kept_joins w n f old = each_both (λ (j : JoinClaim). is_joined w j.caller.call j.key ≡ true) (IsWaitedFor w) (IsWaitedFor n) w.joins f (each_joined w.joins) old.joins
+kept_joins w n f old = λ at j is. let h = old.joins at j is in (h.0, f j (ap (λ p. is_some (get w.joins p)) h.0 ∙ ap is_some is) h.1)
 
 -- what is there stays there if the stripe of a key is another
 out_on : (w : WorldState) (key : Bytes) (from to : State) (j : JoinClaim) → stripe_for w key ≡ Some from → (IsJoined from j → IsJoined to j)
@@ -82,13 +84,12 @@ called_set w n key from to there here rest old m s =
 -- 2. What leaves the stripes.
 
 -- the store changes
-pub joins_stored : (w : WorldState) (store : Cache) (premises : Premises) (fresh : Bool) → IsSoundWorld w → HasJoins (record w { store = store; fresh = fresh; premises = premises })
-joins_stored w store premises fresh old =
-    let new : WorldState = record w { store = store; fresh = fresh; premises = premises } in
+pub joins_stored : (w : WorldState) (store : Cache) (premises : Premises) → IsSoundWorld w → HasJoins (record w { store = store; premises = premises })
+joins_stored w store premises old =
+    let new : WorldState = record w { store = store; premises = premises } in
     record {
       joins = kept_joins w new (λ j t h. record { out = h.out; call = h.call; no_part = h.no_part }) old;
       called = λ m s at. each_map (IsCalled w m) (IsCalled new m) s.joiners (λ j h. record { home_is = h.home_is; join = h.join; call = h.call }) (old.called m s at);
-      once = old.once;
     }
 
 -- a key's part stays
@@ -105,44 +106,46 @@ joins_parted w call key was part premises store is same old =
             no_part = none_inserted w.parts key j.key part j.caller.call h.no_part (λ e. ap (λ c. c == j.caller.call) same ∙ part_other (get w.parts key) was j.caller.call there (ap (λ k. of_call j.caller.call (get w.parts k)) (sym e) ∙ h.no_part));
           }) old;
       called = λ m s at. each_map (IsCalled w m) (IsCalled new m) s.joiners (λ j h. record { home_is = h.home_is; join = h.join; call = h.call }) (old.called m s at);
-      once = old.once;
     }
 
 -- a call begins
-joins_called : (w : WorldState) (call session : ℕ) (command : Command) → IsSoundWorld w → HasJoins (record w { last = Some call; fresh = false; calls = w.calls ++ opened (new_call call session command) })
+joins_called : (w : WorldState) (call session : ℕ) (command : Command) → IsSoundWorld w → HasJoins (record w { last = Some call; calls = w.calls ++ opened (new_call call session command) })
 joins_called w call session command old =
     let more : List CallState = opened (new_call call session command) in
-    let new : WorldState = record w { last = Some call; fresh = false; calls = w.calls ++ more } in
+    let new : WorldState = record w { last = Some call; calls = w.calls ++ more } in
     record {
       joins = kept_joins w new (λ j t h. record { out = h.out; call = find_pushed (has_number j.caller.call) w.calls more (IsCallOf j.caller.session j.key Get) h.call; no_part = h.no_part }) old;
       called = λ m s at. each_map (IsCalled w m) (IsCalled new m) s.joiners (λ j h. record { home_is = h.home_is; join = h.join; call = find_pushed (has_number j.caller.call) w.calls more (IsCallOf j.caller.session j.key Get) h.call }) (old.called m s at);
-      once = old.once;
     }
 
--- a call takes the keys of a stripe
-joins_looked : (w : WorldState) (call stripe : ℕ) (keys : List Bytes) (s : SweepState) (u : CallState) → open_call w call ≡ Some u → u.sweep ≡ Some s → IsSoundWorld w → HasJoins (with_look w call stripe keys s)
-joins_looked w call stripe keys s u here sweeps old =
-    let new : WorldState = with_look w call stripe keys s in
-    let still = looked_called w call stripe keys s u here sweeps in
+-- a call has taken keys, or has met something, and each continues at each of its keys
+joins_taken : (w : WorldState) (calls : List CallState)
+    → ((number session : ℕ) (q : Bytes) (op : Op) → IsSomeAnd (open_call w number) (IsCallOf session q op) → IsSomeAnd (find (has_number number) calls) (IsCallOf session q op)) → IsSoundWorld w → HasJoins (record w { calls = calls })
+joins_taken w calls still old =
+    let new : WorldState = record w { calls = calls } in
     record {
       joins = kept_joins w new (λ j t h. record { out = h.out; call = still j.caller.call j.caller.session j.key Get h.call; no_part = h.no_part }) old;
       called = λ m s at. each_map (IsCalled w m) (IsCalled new m) s.joiners (λ j h. record { home_is = h.home_is; join = h.join; call = still j.caller.call j.caller.session j.key Get h.call }) (old.called m s at);
-      once = old.once;
     }
 
+joins_looked : (w : WorldState) (call stripe : ℕ) (keys : List Bytes) (s : SweepState) (u : CallState) → open_call w call ≡ Some u → u.sweep ≡ Some s → IsSoundWorld w → HasJoins (with_look w call stripe keys s)
+joins_looked w call stripe keys s u here sweeps old = joins_taken w (with_look w call stripe keys s).calls (looked_called w call stripe keys s u here sweeps) old
+
+pub joins_met : (w : WorldState) (call : ℕ) (met : Option Refusal) (u : CallState) → open_call w call ≡ Some u → IsSoundWorld w → HasJoins (with_met_by w call met)
+joins_met w call met u here old = joins_taken w (with_met_by w call met).calls (met_called w call met u here) old
+
 -- a call that has joined continues if a key that isn't joined is settled
-still_under : (w : WorldState) (call : ℕ) (key : Bytes) → is_joined w call key ≡ false → IsTurnOf w.calls call key → (number session : ℕ) (q : Bytes) → is_joined w number q ≡ true
-    → IsSomeAnd (open_call w number) (IsCallOf session q Get) → IsSomeAnd (find (has_number number) (settle call key w.calls)) (IsCallOf session q Get)
-still_under w call key free turn number session q joined h = still_called call key number session q Get w.calls (other_key w call key number q free joined) turn h
+still_under : (w : WorldState) (call : ℕ) (key : Bytes) (met : Option Refusal) → is_joined w call key ≡ false → IsTurnOf w.calls call key → (number session : ℕ) (q : Bytes) → is_joined w number q ≡ true
+    → IsSomeAnd (open_call w number) (IsCallOf session q Get) → IsSomeAnd (find (has_number number) (settle call key met w.calls)) (IsCallOf session q Get)
+still_under w call key met free turn number session q joined h = still_called call key met number session q Get w.calls (other_key w call key number q free joined) turn h
 
 -- a first phase was refused, and the key has its last refusal
-joins_refused : (w : WorldState) (call : ℕ) (key : Bytes) → is_joined w call key ≡ false → IsTurnOf w.calls call key → IsSoundWorld w → HasJoins (with_settled w call key)
-joins_refused w call key free turn old =
-    let new = with_settled w call key in
+joins_refused : (w : WorldState) (call : ℕ) (key : Bytes) (met : Option Refusal) → is_joined w call key ≡ false → IsTurnOf w.calls call key → IsSoundWorld w → HasJoins (with_settled w call key met)
+joins_refused w call key met free turn old =
+    let new = with_settled w call key met in
     record {
-      joins = kept_joins w new (λ j t h. record { out = h.out; call = still_under w call key free turn j.caller.call j.caller.session j.key t h.call; no_part = h.no_part }) old;
-      called = λ m s at. each_map (IsCalled w m) (IsCalled new m) s.joiners (λ j h. record { home_is = h.home_is; join = h.join; call = still_under w call key free turn j.caller.call j.caller.session j.key h.join h.call }) (old.called m s at);
-      once = old.once;
+      joins = kept_joins w new (λ j t h. record { out = h.out; call = still_under w call key met free turn j.caller.call j.caller.session j.key t h.call; no_part = h.no_part }) old;
+      called = λ m s at. each_map (IsCalled w m) (IsCalled new m) s.joiners (λ j h. record { home_is = h.home_is; join = h.join; call = still_under w call key met free turn j.caller.call j.caller.session j.key h.join h.call }) (old.called m s at);
     }
 
 -- a call without any join goes
@@ -183,7 +186,6 @@ joins_phase w key from to order calls parts there keeps here still none old =
             no_part = none j.caller.call j.key t h.no_part;
           }) old;
       called = called_set w new key from to there (λ h. here new (each_map (IsCalled w (home w key)) (IsCalled new (home w key)) from.joiners (on (home w key)) h)) (λ m js apart h. each_map (IsCalled w m) (IsCalled new m) js (on m) h) old;
-      once = old.once;
     }
 
 -- joiners that stay
@@ -221,11 +223,11 @@ joins_joined w u key op from to join there join_is to_is get_is may old =
     let session_is : join.caller.session ≡ u.caller.session = ap (λ (j : JoinClaim). j.caller.session) join_is in
     let call_is : join.caller.call ≡ u.caller.call = ap (λ (j : JoinClaim). j.caller.call) join_is in
     let key_is : join.key ≡ key = ap (λ (j : JoinClaim). j.key) join_is in
-    let on : (m : ℕ) (j : Joiner) → IsCalled w m j → IsCalled new m j = λ m j h. record { home_is = h.home_is; join = list_any-append (is_join j.caller.call j.key) w.joins (join ∷ []) ∙ or_left _ _ h.join; call = h.call } in
+    let on : (m : ℕ) (j : Joiner) → IsCalled w m j → IsCalled new m j = λ m j h. record { home_is = h.home_is; join = still-there joins_ordered w.joins (join_key join) join (j.caller.call, j.key) h.join; call = h.call } in
     let its_call : IsSomeAnd (open_call w join.caller.call) (IsCallOf join.caller.session join.key Get) = is_some_and (open_call w join.caller.call) (IsCallOf join.caller.session join.key Get) u (ap (open_call w) call_is ∙ may.here) (sym session_is, ap (op_at u) key_is ∙ may.op_is ∙ ap Some get_is, ap (is_turn u) key_is ∙ may.turn) in
     let one : IsCalled new (home w key) next = record {
       home_is = ap (home w) key_is;
-      join = list_any-append (is_join join.caller.call join.key) w.joins (join ∷ []) ∙ or_right _ _ (ap (λ b. b || false) (and_from _ _ (nat_eq_equiv.refl join.caller.call) (nat_list_eq_equiv.refl join.key)));
+      join = ap is_some (get-here joins_ordered w.joins (join_key join) join);
       call = its_call;
     } in
     let F : State → Type 0 = λ s. IsJoined s join in
@@ -239,41 +241,41 @@ joins_joined w u key op from to join there join_is to_is get_is may old =
       no_part = (λ i. part_of w (call_is i) (key_is i)) ∙ none_is (part_of w u.caller.call key) may.none;
     } in
     record {
-      joins = each_pushed (IsWaitedFor new) w.joins join (kept_joins w new (λ j t h. record { out = out_on w key from to j there (keeps j) h.out; call = h.call; no_part = h.no_part }) old) waits;
+      joins = each_put joins_ordered (λ at j. (join_key j ≡ at) × IsWaitedFor new j) w.joins (join_key join) join (refl, waits)
+          (kept_joins w new (λ j t h. record { out = out_on w key from to j there (keeps j) h.out; call = h.call; no_part = h.no_part }) old);
       called = called_set w new key from to there
           (λ h. subst (AllCalled new (home w key)) (sym joiners) (each_pushed (IsCalled new (home w key)) from.joiners next (each_map (IsCalled w (home w key)) (IsCalled new (home w key)) from.joiners (on (home w key)) h) one))
           (λ m js apart h. each_map (IsCalled w m) (IsCalled new m) js (on m) h) old;
-      once = once_pushed w.joins join (ap not ((λ i. list_any (is_join (call_is i) (key_is i)) w.joins) ∙ may.alone)) old.once;
     }
 
 -- by what is shown of the first phase
-joins_started : (w new : WorldState) (u : CallState) (key : Bytes) (op : Op) (from to : State) (seen : Shown) → stripe_for w key ≡ Some from → Starts w u.caller key op from to seen new → MayStart w u key op → IsSoundWorld w → HasJoins new
-joins_started w new u key op from to (shown.Refused refusal) there h may old = subst HasJoins (sym h.1) (joins_refused w u.caller.call key may.alone (may_turn w u key op may) old)
-joins_started w new u key op from to (shown.PutOff refusal) there h may old = subst HasJoins (sym h.1) (record { joins = old.joins; once = old.once; called = old.called })
-joins_started w new u key op from to (shown.Stepped seen) there h may old =
+joins_started : (w new : WorldState) (u : CallState) (key : Bytes) (op : Op) (from to : State) (seen : Outcome) → stripe_for w key ≡ Some from → Starts w u.caller key op from to seen new → MayStart w u key op → IsSoundWorld w → HasJoins new
+joins_started w new u key op from to (outcome.Refused refusal) there h may old = subst HasJoins (sym h.1) (joins_refused w u.caller.call key (Some refusal) may.alone (may_turn w u key op may) old)
+joins_started w new u key op from to (outcome.PutOff refusal) there h may old = subst HasJoins (sym h.1) (record { joins = old.joins; called = old.called })
+joins_started w new u key op from to (outcome.Stepped seen) there h may old =
     let same : to.joiners ≡ from.joiners = ap (λ (s : State). s.joiners) h.0.2.after in
     subst HasJoins (sym h.2)
-    (joins_phase w key from to (with_phase w key from to).order (settle u.caller.call key w.calls) w.parts there (same_joiners from to same) (same_called (home w key) from to same)
-    (λ number session q t k. still_under w u.caller.call key may.alone (may_turn w u key op may) number session q t k) (λ number q t k. k) old)
-joins_started w new u key op from to shown.Loads there h may old =
+    (joins_phase w key from to (with_phase w key from to).order (settle u.caller.call key (fault_in seen.reply) w.calls) w.parts there (same_joiners from to same) (same_called (home w key) from to same)
+    (λ number session q t k. still_under w u.caller.call key (fault_in seen.reply) may.alone (may_turn w u key op may) number session q t k) (λ number q t k. k) old)
+joins_started w new u key op from to outcome.Loads there h may old =
     let same : to.joiners ≡ from.joiners = ap (λ (s : State). s.joiners) h.1.4 in
     let part = new_part new_load h.0.reservation in
     subst HasJoins (sym h.2)
     (joins_phase w key from to w.order w.calls (insert w.parts key part) there (same_joiners from to same) (same_called (home w key) from to same) (λ number session q t k. k)
     (none_reserved w u.caller.call key part (ap (λ (t : Ticket). t.reservation.caller.call) h.1.3) may.alone) old)
-joins_started w new u key op from to (shown.Asks change) there h may old =
+joins_started w new u key op from to (outcome.Asks change) there h may old =
     let same : to.joiners ≡ from.joiners = ap (λ (s : State). s.joiners) h.1.4 in
     let part = new_part new_write h.0.reservation in
     subst HasJoins (sym h.3)
     (joins_phase w key from to w.order w.calls (insert w.parts key part) there (same_joiners from to same) (same_called (home w key) from to same) (λ number session q t k. k)
     (none_reserved w u.caller.call key part (ap (λ (t : Ticket). t.reservation.caller.call) h.1.3) may.alone) old)
-joins_started w new u key op from to (shown.Processes entry) there h may old =
+joins_started w new u key op from to (outcome.Processes entry) there h may old =
     let same : to.joiners ≡ from.joiners = ap (λ (s : State). s.joiners) h.1.4 in
     let part = new_part new_process h.0.reservation in
     subst HasJoins (sym h.3)
     (joins_phase w key from to w.order w.calls (insert w.parts key part) there (same_joiners from to same) (same_called (home w key) from to same) (λ number session q t k. k)
     (none_reserved w u.caller.call key part (ap (λ (t : ProcessClaim). t.reservation.caller.call) h.1.3) may.alone) old)
-joins_started w new u key op from to shown.Joins there h may old = subst HasJoins (sym h.2) (joins_joined w u key op from to h.0 there h.1.2 h.1.3 (joins_get from key op h.0.load h.1.1) may old)
+joins_started w new u key op from to outcome.Joins there h may old = subst HasJoins (sym h.2) (joins_joined w u key op from to h.0 there h.1.2 h.1.3 (joins_get from key op h.0.load h.1.1) may old)
 joins_started w new u key op from to seen there h may old = absurd h
 
 -- 5. The last phase, and a reservation that is given back.
@@ -283,17 +285,17 @@ unjoined_part : (w : WorldState) (call : ℕ) (key : Bytes) (part : Part) → pa
 unjoined_part w call key part is old = false_from_ne_true (is_joined w call key) (λ t. let e : Some part ≡ None = sym is ∙ joined_no_part w call key t old.joins in cc)
 
 -- by what is shown of the last phase
-joins_ended : (w new : WorldState) (call : ℕ) (key : Bytes) (part : Part) (from to : State) (seen : Shown) → part_of w call key ≡ Some part → stripe_for w key ≡ Some from → Ends w call key part from to seen new → IsSoundWorld w → HasJoins new
-joins_ended w new call key part from to (shown.Stepped seen) is there h old =
+joins_ended : (w new : WorldState) (call : ℕ) (key : Bytes) (part : Part) (from to : State) (seen : Outcome) → part_of w call key ≡ Some part → stripe_for w key ≡ Some from → Ends w call key part from to seen new → IsSoundWorld w → HasJoins new
+joins_ended w new call key part from to (outcome.Stepped seen) is there h old =
     let joiners : to.joiners ≡ resolved part.reservation.number seen.place from.joiners = ap (λ (s : State). s.joiners) h.0.1.after in
     let free = unjoined_part w call key part is old in
     let at = of_call-at call (get w.parts key) part is in
     let turn = part_turn w call key part at.0 at.1 old in
     subst HasJoins (sym h.2)
-    (joins_phase w key from to (with_phase w key from to).order (settle call key w.calls) (remove w.parts key) there
+    (joins_phase w key from to (with_phase w key from to).order (settle call key (fault_in seen.reply) w.calls) (remove w.parts key) there
     (λ j t. let J : List Joiner → Type 0 = λ js. IsSomeAnd (joiner_of j.caller j.key js) (λ x. x.load ≡ j.load) in subst J (sym joiners) (joined_resolved (λ x. x.load ≡ j.load) part.reservation.number seen.place (seen.place + 1) j.caller j.key from.joiners (λ place x k. k) t))
     (λ n t. subst (AllCalled n (home w key)) (sym joiners) (called_resolved n (home w key) part.reservation.number seen.place (seen.place + 1) from.joiners t))
-    (λ number session q t k. still_under w call key free turn number session q t k) (λ number q t k. none_removed w.parts key q number k) old)
+    (λ number session q t k. still_under w call key (fault_in seen.reply) free turn number session q t k) (λ number q t k. none_removed w.parts key q number k) old)
 joins_ended w new call key part from to seen is there h old = absurd h
 
 -- a reservation is given back
@@ -316,8 +318,8 @@ all_go_on : (w : WorldState) (call : ℕ) (key : Bytes) → GoOn w call key w.ca
 all_go_on w call key = record { keeps = λ number session q apart h. h }
 
 -- the others do, if the key is settled
-others_go_on : (w : WorldState) (call : ℕ) (key : Bytes) → IsTurnOf w.calls call key → GoOn w call key (settle call key w.calls)
-others_go_on w call key turn = record { keeps = λ number session q apart h. still_called call key number session q Get w.calls apart turn h }
+others_go_on : (w : WorldState) (call : ℕ) (key : Bytes) (met : Option Refusal) → IsTurnOf w.calls call key → GoOn w call key (settle call key met w.calls)
+others_go_on w call key met turn = record { keeps = λ number session q apart h. still_called call key met number session q Get w.calls apart turn h }
 
 -- a call of the number is of the session of the join
 session_at : (w : WorldState) (call : ℕ) (key : Bytes) (join : JoinClaim) → Picking w call key join → (number session : ℕ) (q : Bytes) → number ≡ call → IsSomeAnd (open_call w number) (IsCallOf session q Get) → session ≡ join.caller.session
@@ -327,55 +329,52 @@ session_at w call key join p number session q same h =
     let is : v.0 ≡ p.u = cc in
     sym v.2.0 ∙ ap (λ (x : CallState). x.caller.session) is ∙ p.session_is
 
--- a test that is passed by what is so
-join_of_is : (call number : ℕ) (key q : Bytes) → q ≡ key → number ≡ call → ((number == call) && pointwise ◌==◌ key q) ≡ true
-join_of_is call number key q e f = and_from _ _ (eq-eqb number call f) (ap (pointwise ◌==◌ key) e ∙ nat_list_eq_equiv.refl key)
-
 -- the join is gone, and its joiner
 joins_picked : (w : WorldState) (call : ℕ) (key : Bytes) (join : JoinClaim) (from to : State) (calls : List CallState) → join_of w call key ≡ Some join → stripe_for w key ≡ Some from → to ≡ without_joiner from join → GoOn w call key calls → IsSoundWorld w
-    → HasJoins (record w { stripes = slice_set w.stripes (home w key) to; joins = joins_without call key w.joins; calls = calls })
+    → HasJoins (record w { stripes = slice_set w.stripes (home w key) to; joins = remove w.joins (call, key); calls = calls })
 joins_picked w call key join from to calls joined there is go old =
-    let new : WorldState = record w { stripes = slice_set w.stripes (home w key) to; joins = joins_without call key w.joins; calls = calls } in
+    let new : WorldState = record w { stripes = slice_set w.stripes (home w key) to; joins = remove w.joins (call, key); calls = calls } in
     let p = picking w call key join joined old in
     let its : Joiner → Bool = is_joiner_of join.caller join.key in
     let joiners : to.joiners ≡ without join.caller join.key from.joiners = ap (λ (s : State). s.joiners) is in
-    let out : (j : JoinClaim) → not (is_join call key j) ≡ true → IsJoined from j → IsJoined to j = λ j other h.
+    let out : (j : JoinClaim) → (j.caller.call ≡ call → j.key ≡ key → ⊥) → IsJoined from j → IsJoined to j = λ j other h.
     let J : Option Joiner → Type 0 = λ o. IsSomeAnd o (λ x. x.load ≡ j.load) in
     subst J (sym (ap (joiner_of j.caller j.key) joiners
     ∙ find_kept (is_joiner_of j.caller j.key) (λ x. not (its x)) from.joiners (λ x t. ap not (false_from_ne_true (its x) (λ e.
     let mine = joiner_is j.caller j.key x t in
     let same = joiner_is join.caller join.key x e in
-    denied (is_join call key j) other (join_of_is call j.caller.call key j.key (sym mine.2 ∙ same.2 ∙ p.join_key) (sym mine.1 ∙ same.1 ∙ p.call_is))))))) h
+    other (sym mine.1 ∙ same.1 ∙ p.call_is) (sym mine.2 ∙ same.2 ∙ p.join_key)))))) h
     in
     let on : (m : ℕ) (j : Joiner) → (j.key ≡ key → j.caller.call ≡ call → j.caller.session ≡ join.caller.session → ⊥) → IsCalled w m j → IsCalled new m j = λ m j other h.
     let apart = λ (mine : j.caller.call ≡ call) (at : j.key ≡ key). other at mine (session_at w call key join p j.caller.call j.caller.session j.key mine h.call) in
     record {
       home_is = h.home_is;
-      join = any_kept (is_join j.caller.call j.key) (λ x. not (is_join call key x)) w.joins (λ x t. ap not (false_from_ne_true (is_join call key x) (λ e.
-          let mine = join_is j.caller.call j.key x t in
-          let same = join_is call key x e in
-          apart (sym mine.0 ∙ same.0) (sym mine.1 ∙ same.1)))) h.join;
+      join = ap is_some (get-left joins_ordered w.joins (call, key) (j.caller.call, j.key) (λ same. apart (ap (λ (p : JoinKey). p.0) same) (ap (λ (p : JoinKey). p.1) same))) ∙ h.join;
       call = go.keeps j.caller.call j.caller.session j.key apart h.call;
     } in
     record {
-      joins = waited_on w new (λ j. not (is_join call key j)) (λ (j : JoinClaim). is_joined w j.caller.call j.key ≡ true) w.joins
-          (λ j other t h. record {
-            out = out_on w key from to j there (out j other) h.out;
-            call = go.keeps j.caller.call j.caller.session j.key (λ f e. denied (is_join call key j) other (join_of_is call j.caller.call key j.key e f)) h.call;
-            no_part = h.no_part;
-          }) (each_joined w.joins) old.joins;
+      joins = each_left joins_ordered (λ at j. (join_key j ≡ at) × IsWaitedFor new j) w.joins (call, key)
+          (λ at j other is.
+          let h = old.joins at j is in
+          let apart = λ (mine : j.caller.call ≡ call) (own : j.key ≡ key). other (sym h.0 ∙ (λ i. (mine i, own i))) in (
+            h.0,
+            record {
+              out = out_on w key from to j there (out j apart) h.1.out;
+              call = go.keeps j.caller.call j.caller.session j.key apart h.1.call;
+              no_part = h.1.no_part;
+            },
+          ));
       called = called_set w new key from to there
           (λ h. subst (AllCalled new (home w key)) (sym joiners) (each_kept (IsCalled w (home w key)) (IsCalled new (home w key)) (λ j. not (its j)) from.joiners
           (λ j other k. on (home w key) j (λ e f g. denied (its j) other (and_from _ _ (and_from _ _ (eq-eqb j.caller.session join.caller.session g) (eq-eqb j.caller.call join.caller.call (f ∙ sym p.call_is))) (ap (pointwise ◌==◌ join.key) (e ∙ sym p.join_key) ∙ nat_list_eq_equiv.refl join.key))) k) h))
           (λ m js apart h. each_map (IsCalled w m) (IsCalled new m) js (λ j k. on m j (λ e f g. apart (ap (home w) (sym e) ∙ k.home_is)) k) h) old;
-      once = once_filter (λ j. not (is_join call key j)) w.joins old.once;
     }
 
 -- by what is shown of a pick-up
-joins_picks : (w new : WorldState) (call : ℕ) (key : Bytes) (join : JoinClaim) (from to : State) (seen : Shown) → join_of w call key ≡ Some join → stripe_for w key ≡ Some from → Picks w call key join from to seen new → IsSoundWorld w → HasJoins new
-joins_picks w new call key join from to (shown.PickedUp seen) joined there h old = subst HasJoins (sym h.2) (joins_picked w call key join from to (settle call key w.calls) joined there h.0.3 (others_go_on w call key (picking_turn w call key join (picking w call key join joined old))) old)
-joins_picks w new call key join from to shown.Again joined there h old = subst HasJoins (sym h.1) (joins_picked w call key join from to w.calls joined there h.0.2 (all_go_on w call key) old)
-joins_picks w new call key join from to shown.Waits joined there h old = subst HasJoins (sym h.1) (record { joins = old.joins; once = old.once; called = old.called })
+joins_picks : (w new : WorldState) (call : ℕ) (key : Bytes) (join : JoinClaim) (from to : State) (seen : Outcome) → join_of w call key ≡ Some join → stripe_for w key ≡ Some from → Picks w call key join from to seen new → IsSoundWorld w → HasJoins new
+joins_picks w new call key join from to (outcome.PickedUp seen) joined there h old = subst HasJoins (sym h.2) (joins_picked w call key join from to (settle call key (fault_in seen.reply) w.calls) joined there h.0.3 (others_go_on w call key (fault_in seen.reply) (picking_turn w call key join (picking w call key join joined old))) old)
+joins_picks w new call key join from to outcome.Again joined there h old = subst HasJoins (sym h.1) (joins_picked w call key join from to w.calls joined there h.0.2 (all_go_on w call key) old)
+joins_picks w new call key join from to outcome.Waits joined there h old = subst HasJoins (sym h.1) (record { joins = old.joins; called = old.called })
 joins_picks w new call key join from to seen joined there h old = absurd h
 
 -- 7. Before anything has happened, and any event that fits.
@@ -383,9 +382,8 @@ joins_picks w new call key join from to seen joined there h old = absurd h
 -- before anything has happened
 pub joins_start : (config : Config) → check config ≡ Ok tt → HasJoins (start config)
 joins_start config fits = record {
-  joins = tt;
+  joins = λ at j is. let t : None ≡ Some j = sym (get-empty join_cmp at) ∙ is in cc;
   called = λ n s here. let P : State → Type 0 = λ s. AllCalled (start config) n s.joiners in subst P (sym (start_is config n s here)) tt;
-  once = refl;
 }
 
 -- a call leaves
@@ -400,21 +398,20 @@ joins_left w call fit old = go (open_call w call) refl
         record {
           joins = kept_joins w new (λ j t h. record { out = h.out; call = still_beside w call u e free j.caller.call j.caller.session j.key t h.call; no_part = h.no_part }) old;
           called = λ m s at. each_map (IsCalled w m) (IsCalled new m) s.joiners (λ j h. record { home_is = h.home_is; join = h.join; call = still_beside w call u e free j.caller.call j.caller.session j.key h.join h.call }) (old.called m s at);
-          once = old.once;
         }
 
 -- by the kind of the event
 pub joins_happens : (w new : WorldState) (e : WorldEvent) (seen : Shown) → fits w e ≡ true → Happens w e seen new → (IsReport e → IsSoundWorld new) → IsSoundWorld w → HasJoins new
 joins_happens w new (event.Call call session command) seen fit h back old = subst HasJoins (sym h.1) (joins_called w call session command old)
 joins_happens w new (event.Look call stripe) seen fit h back old = subst HasJoins (sym h.9) (joins_looked w call stripe h.6 h.1 h.0 h.2 h.3 old)
-joins_happens w new (event.Start call key) seen fit h back old = joins_started w new h.0 key h.1 h.4 h.6 seen h.5 h.7 (may_start_at w call key h.0 h.1 fit h.2 h.3 old) old
+joins_happens w new (event.Start call key) seen fit h back old = joins_started w new h.0 key h.1 h.4 h.6 seen.outcome h.5 h.7 (may_start_at w call key h.0 h.1 fit h.2 h.3 old) old
 joins_happens w new (event.Read call key) seen fit h back old = subst HasJoins (sym h.3) (joins_parted w call key h.0 _ _ w.store h.1 refl old)
 joins_happens w new (event.Say call key answer) seen fit h back old = subst HasJoins (sym h.3) (joins_parted w call key h.0 _ _ w.store h.1 refl old)
 joins_happens w new (event.Process call key source calls fail) seen fit h back old = subst HasJoins (sym h.3) (joins_parted w call key h.0 _ _ w.store h.1 refl old)
 joins_happens w new (event.Change call key) seen fit h back old = subst HasJoins (sym h.5) (joins_parted w call key h.0 _ w.premises _ h.2 refl old)
 joins_happens w new (event.Report call left fault) seen fit h back old = joins_half new (back tt)
-joins_happens w new (event.Commit call key) seen fit h back old = joins_ended w new call key h.0 h.2 h.4 seen h.1 h.3 h.5 old
+joins_happens w new (event.Commit call key) seen fit h back old = joins_ended w new call key h.0 h.2 h.4 seen.outcome h.1 h.3 h.5 old
 joins_happens w new (event.Withdraw call key) seen fit h back old = subst HasJoins (sym h.7) (joins_withdrawn w key h.0.reservation h.2 h.4 h.3 h.5 old)
 joins_happens w new (event.Leave call) seen fit h back old = subst HasJoins (sym h.1) (joins_left w call fit old)
-joins_happens w new (event.PickUp call key) seen fit h back old = joins_picks w new call key h.0 h.2 h.4 seen h.1 h.3 h.5 old
-joins_happens w new (event.Foreign key value) seen fit h back old = subst HasJoins (sym h.1) (joins_stored w _ _ false old)
+joins_happens w new (event.PickUp call key) seen fit h back old = joins_picks w new call key h.0 h.2 h.4 seen.outcome h.1 h.3 h.5 old
+joins_happens w new (event.Foreign key value) seen fit h back old = subst HasJoins (sym h.1) (joins_stored w _ _ old)

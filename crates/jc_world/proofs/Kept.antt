@@ -44,13 +44,13 @@ use Rattle.jc_world.specs.declared.event.Part.{Part}
 use Rattle.jc_world.specs.declared.event.Progress.{Progress}
 use Rattle.jc_world.specs.declared.event.Progress.TheVariants.{Loading, Writing, Processing, Processed, WritingEffect}
 use Rattle.jc_world.specs.declared.event.Premises.{Premises}
-use Rattle.jc_world.specs.declared.event.Shown.{Shown}
-use Rattle.jc_world.specs.declared.event.Shown.TheVariants as shown
+use Rattle.jc_world.specs.declared.event.Outcome.{Outcome}
+use Rattle.jc_world.specs.declared.event.Outcome.TheVariants as outcome
 use Rattle.jc_world.specs.declared.event.WorldEvent.TheVariants as event
-use Rattle.jc_world.specs.World.{WorldState, Parts, home, stripe_for, cached_entry, entry_in, empty_stripes, start, open_call, part_of, waits_for_load, waits_for_report, is_answered, is_untouched, has_changed, out_in, join_of, joins_without, out_of, with_stored, has_progress, waits_for_process, writer_change_in, writer_change}
+use Rattle.jc_world.specs.World.{WorldState, Parts, home, stripe_for, cached_entry, entry_in, empty_stripes, start, open_call, part_of, waits_for_load, waits_for_report, is_answered, is_untouched, has_changed, out_in, Joins, join_key, join_of, out_of, with_stored, has_progress, waits_for_process, writer_change_in, writer_change}
 use Rattle.jc_world.specs.Premises.{changed_to, is_true_load, is_done, is_true_report, with_foreign_write, premises_hold}
 use Rattle.jc_world.specs.Fits.{fits, may_leave}
-use Rattle.jc_world.specs.Events.{run_result, progress_after, after_process, after_answer, after_change, after_report, new_load, new_write, new_process, new_part, with_change, with_report, with_stripe, with_phase, without_call, with_part, without_part, step_of, Starts, Ends, Picks}
+use Rattle.jc_world.specs.Events.{fault_in, run_result, progress_after, after_process, after_answer, after_change, after_report, new_load, new_write, new_process, new_part, with_change, with_report, with_stripe, with_phase, without_call, with_part, without_part, step_of, Starts, Ends, Picks}
 use Rattle.jc_world.specs.Coherent.{Coherent, all_hold}
 use Rattle.jc_world.specs.Sound.{is_due_in, is_asked, IsHeld, Agrees, LoadAgrees, ProgressAgrees, KeyAgrees, IsWrittenFor, IsSoundWorld}
 use Rattle.jc_world.proofs.Holding.{call_on, is_part}
@@ -59,6 +59,7 @@ use Rattle.jc_stripe.proofs.CallerLemmas.{asks_invoking}
 use Rattle.jc_world.proofs.Processors.{processor_free, invoke_is, write_due, agrees_processed, agrees_effect}
 use Rattle.jc_world.proofs.Places.{at_stripe, stripe_put, home_stripe}
 use Rattle.jc_world.proofs.Reservations.{found_more, out_reserved, was_free, writer_alone, new_out, found_left}
+use Rattle.jc_world.proofs.Maps.{keys_ordered, each_put}
 use Rattle.jc_world.proofs.Entries.{split, tied, agrees_stepped, writes, loads_asked, writes_asked, loads, asks_nobody}
 use Rattle.jc_world.proofs.Callers.{picking}
 use Rattle.jc_world.proofs.Facts.{denied, missing}
@@ -186,15 +187,15 @@ unheld w key s at free old = missing (get w.parts key) (λ p e. let t = is_out_r
 none_under : (call : ℕ) (calls : List CallState) (u : CallState) → calls ≡ [] → find (has_number call) calls ≡ Some u → ⊥
 none_under call calls u none h = let e : None ≡ Some u = ap (find (has_number call)) (sym none) ∙ h in cc
 
--- a call is under way, so the world is not fresh
-begun_before : (w : WorldState) (call : ℕ) (u : CallState) → open_call w call ≡ Some u → IsSoundWorld w → w.fresh ≡ true → ⊥
-begun_before w call u is old fresh = none_under call w.calls u (old.idle fresh) is
+-- a call is under way, so one has begun
+begun_before : (w : WorldState) (call : ℕ) (u : CallState) → open_call w call ≡ Some u → IsSoundWorld w → is_none w.last ≡ true → ⊥
+begun_before w call u is old none = none_under call w.calls u (old.idle none) is
 
 -- nor is it if a key has a part
-worn : (w : WorldState) (key : Bytes) (part : Part) → get w.parts key ≡ Some part → IsSoundWorld w → w.fresh ≡ true → ⊥
-worn w key part there old fresh =
+worn : (w : WorldState) (key : Bytes) (part : Part) → get w.parts key ≡ Some part → IsSoundWorld w → is_none w.last ≡ true → ⊥
+worn w key part there old none =
     let on = some_of (open_call w part.reservation.caller.call) (λ u. op_at u key ≡ Some part.reservation.op) (call_on w key part there old) in
-    begun_before w part.reservation.caller.call on.0 on.1 old fresh
+    begun_before w part.reservation.caller.call on.0 on.1 old none
 
 -- all stripes have the configuration of the world
 config_at : (w : WorldState) (number : ℕ) (s : State) → slice_get w.stripes number ≡ Some s → IsSoundWorld w → s.config ≡ w.config
@@ -204,11 +205,7 @@ config_at w number s at old = (old.shape.each number s at).config_is
 
 -- a further part is held, and all the others
 held_insert : (w : WorldState) (parts : Parts) (key : Bytes) (new : Part) → AllHeld w parts → HeldIn (stripe_for w key) key new → AllHeld w (insert parts key new)
-held_insert w parts key new all one q part e =
-    split q key (λ b. cond b (Some new) (get parts q) ≡ Some part → HeldIn (stripe_for w q) q part)
-    (λ same e. let is : new ≡ part = cc in let P : Bytes → Type 0 = λ k. HeldIn (stripe_for w k) k part in let Q : Part → Type 0 = λ p. HeldIn (stripe_for w key) key p in subst P (sym same) (subst Q is one))
-    (λ apart e. all q part e)
-    (sym (get-insert nat_list_cmp_total parts key new q) ∙ e)
+held_insert w parts key new all one = each_put keys_ordered (λ q part. HeldIn (stripe_for w q) q part) parts key new one all
 
 -- what is known of a further part, and of all the others
 told_insert : (w : WorldState) (parts : Parts) (store : Cache) (key : Bytes) (new : Part) → AllTold w parts store → ProgressAgrees new.progress new.reservation.first (entry_at store key) (cached_entry w key) → AllTold w (insert parts key new) store
@@ -305,7 +302,7 @@ parts_progressed w call key part p store premises is asks told old =
       held = held_insert w w.parts key new old.held
           (some_map (stripe_for w key) (λ s. IsHeld s key part) (λ s. IsHeld s key new) (λ s h. record { key_is = h.key_is; out = h.out; asked = asks h.asked }) (old.held key part there));
       told = told;
-      fresh = λ f. absurd (worn w key part there old f);
+      cold = λ f. absurd (worn w key part there old f);
       idle = old.idle;
     }
 
@@ -365,20 +362,20 @@ parts_reported w call key part report is waits old =
     (told_report part.progress part.reservation.first report (entry_at w.store key) (cached_entry w key) due hold.1 one)) old
 
 -- somebody else has written the store
-pub parts_disturbed : (w : WorldState) (store : Cache) → IsSoundWorld w → HasParts (record w { store = store; fresh = false; premises = with_foreign_write w.premises })
+pub parts_disturbed : (w : WorldState) (store : Cache) → IsSoundWorld w → HasParts (record w { store = store; premises = with_foreign_write w.premises })
 parts_disturbed w store old = record {
   held = old.held;
   told = λ h. absurd (undisturbed w.config.write_through w.premises.writers w.premises.loaders h);
-  fresh = λ f. absurd (let t : false ≡ true = f in cc);
-  idle = λ f. absurd (let t : false ≡ true = f in cc);
+  cold = old.cold;
+  idle = old.idle;
 }
 
 -- a value is stored before anything has happened
-pub parts_stored : (w : WorldState) (key value : Bytes) → w.fresh ≡ true → IsSoundWorld w → HasParts (with_stored w key value)
+pub parts_stored : (w : WorldState) (key value : Bytes) → is_none w.last ≡ true → IsSoundWorld w → HasParts (with_stored w key value)
 parts_stored w key value new old = record {
   held = old.held;
-  told = λ h q. told_none (get w.parts q) (entry_at (with_entry w.store key (Some value)) q) (cached_entry w q) (missing (get w.parts q) (λ p there. worn w q p there old new)) (old.fresh new q);
-  fresh = old.fresh;
+  told = λ h q. told_none (get w.parts q) (entry_at (with_entry w.store key (Some value)) q) (cached_entry w q) (missing (get w.parts q) (λ p there. worn w q p there old new)) (old.cold new q);
+  cold = old.cold;
   idle = old.idle;
 }
 
@@ -399,20 +396,20 @@ parts_start config fits =
     record {
       held = λ key part there. absurd (let e : Some part ≡ None = sym there ∙ free key in cc);
       told = λ hold key. told_none (get w.parts key) (entry_at w.store key) (cached_entry w key) (free key) (none key);
-      fresh = λ f key. none key;
+      cold = λ f key. none key;
       idle = λ f. refl;
     }
 
 -- a call has begun
 pub parts_called : (w : WorldState) (call session : ℕ) (command : Command) → fits w (event.Call call session command) ≡ true → IsSoundWorld w
-    → HasParts (record w { last = Some call; fresh = false; calls = w.calls ++ opened (new_call call session command) })
+    → HasParts (record w { last = Some call; calls = w.calls ++ opened (new_call call session command) })
 parts_called w call session command fit old =
     let more : List CallState = opened (new_call call session command) in
-    let n : WorldState = record w { last = Some call; fresh = false; calls = w.calls ++ more } in
+    let n : WorldState = record w { last = Some call; calls = w.calls ++ more } in
     record {
       held = old.held;
       told = old.told;
-      fresh = λ f. absurd (let t : false ≡ true = f in cc);
+      cold = λ f. absurd (let t : false ≡ true = f in cc);
       idle = λ f. absurd (let t : false ≡ true = f in cc);
     }
 
@@ -427,7 +424,7 @@ pub parts_over : (w : WorldState) (call : ℕ) (u : CallState) (calls : List Cal
 parts_over w call u calls is old = record {
   held = old.held;
   told = old.told;
-  fresh = old.fresh;
+  cold = old.cold;
   idle = λ f. absurd (begun_before w call u is old f);
 }
 
@@ -464,7 +461,7 @@ parts_stepped w call u key op from next order calls done is at begins old =
           (told_on (get w.parts q) (entry_at w.store q) (entry_at from.cache q) (entry_at next.cache q) (agrees_begun u.caller key op from next done q (entry_at w.store q) begins on))
           (λ h. h)
           (old.told hold q);
-      fresh = λ f. absurd (begun_before w call u is old f);
+      cold = λ f. absurd (begun_before w call u is old f);
       idle = λ f. absurd (begun_before w call u is old f);
     }
 
@@ -477,7 +474,7 @@ held_reserving from next r q p reservations h =
 -- so there is one part more
 parts_reserving : (w : WorldState) (key : Bytes) (from next : State) (r : Reservation) (part : Part) → stripe_for w key ≡ Some from → is_reserved from key ≡ false
     → next.reservations ≡ from.reservations ++ r ∷ [] → next.cache ≡ from.cache → IsHeld next key part
-    → ((stored entry : Option Bytes) → Agrees entry stored → ProgressAgrees part.progress part.reservation.first stored entry) → (w.fresh ≡ true → ⊥) → IsSoundWorld w
+    → ((stored entry : Option Bytes) → Agrees entry stored → ProgressAgrees part.progress part.reservation.first stored entry) → (is_none w.last ≡ true → ⊥) → IsSoundWorld w
     → HasParts (with_part (with_stripe w key next) key part)
 parts_reserving w key from next r part at free reservations cache one new used old =
     let n = with_part (with_stripe w key next) key part in
@@ -498,7 +495,7 @@ parts_reserving w key from next r part at free reservations cache one new used o
           in
           let N : Option Part → Type 0 = λ o. KeyAgrees o (entry_at w.store key) (cached_entry n key) in
           told_insert n w.parts w.store key part all (new (entry_at w.store key) (cached_entry n key) (subst N (unheld w key from at free old) (all key)));
-      fresh = λ f. absurd (used f);
+      cold = λ f. absurd (used f);
       idle = λ f. absurd (used f);
     }
 
@@ -551,7 +548,7 @@ parts_processes w call u key op from next ticket is at begins old =
     (λ stored entry agrees. agrees) (begun_before w call u is old) old
 
 -- a stripe is another, whose entries and reservations are the same
-parts_aside : (w : WorldState) (key : Bytes) (from next : State) (calls : List CallState) (joins : List JoinClaim) → stripe_for w key ≡ Some from → next.cache ≡ from.cache → next.reservations ≡ from.reservations → (w.fresh ≡ true → ⊥) → IsSoundWorld w
+parts_aside : (w : WorldState) (key : Bytes) (from next : State) (calls : List CallState) (joins : Joins) → stripe_for w key ≡ Some from → next.cache ≡ from.cache → next.reservations ≡ from.reservations → (is_none w.last ≡ true → ⊥) → IsSoundWorld w
     → HasParts (record w { stripes = slice_set w.stripes (home w key) next; calls = calls; joins = joins })
 parts_aside w key from next calls joins at cache reservations used old =
     let n : WorldState = record w { stripes = slice_set w.stripes (home w key) next; calls = calls; joins = joins } in
@@ -566,24 +563,24 @@ parts_aside w key from next calls joins at cache reservations used old =
           (let C : Cache → Type 0 = λ c. KeyAgrees (get w.parts q) (entry_at w.store q) (entry_at c q) in λ h. subst C (sym cache) h)
           (λ h. h)
           (old.told hold q);
-      fresh = λ f. absurd (used f);
+      cold = λ f. absurd (used f);
       idle = λ f. absurd (used f);
     }
 
 -- the first phase of a key
-pub parts_started : (w new : WorldState) (call : ℕ) (key : Bytes) (u : CallState) (op : Op) (from to : State) (seen : Shown) → open_call w call ≡ Some u → stripe_for w key ≡ Some from
+pub parts_started : (w new : WorldState) (call : ℕ) (key : Bytes) (u : CallState) (op : Op) (from to : State) (seen : Outcome) → open_call w call ≡ Some u → stripe_for w key ≡ Some from
     → Starts w u.caller key op from to seen new → IsSoundWorld w → HasParts new
-parts_started w new call key u op from to (shown.Refused refusal) is at (begins, leaves) old = subst HasParts (sym leaves) (parts_over w call u (settle u.caller.call key w.calls) is old)
-parts_started w new call key u op from to (shown.PutOff refusal) is at (begins, leaves) old = subst HasParts (sym leaves) (record { held = old.held; told = old.told; fresh = old.fresh; idle = old.idle })
-parts_started w new call key u op from to (shown.Stepped seen) is at (begins, shows, leaves) old =
-    subst HasParts (sym leaves) (parts_stepped w call u key op from to (with_phase w key from to).order (settle u.caller.call key w.calls) (step_of seen) is at begins old)
-parts_started w new call key u op from to shown.Loads is at (ticket, begins, leaves) old = subst HasParts (sym leaves) (parts_loads w call u key op from to ticket is at begins old)
-parts_started w new call key u op from to (shown.Asks change) is at (ticket, begins, first, leaves) old = subst HasParts (sym leaves) (parts_asks w call u key op from to ticket change is at begins first old)
-parts_started w new call key u op from to (shown.Processes entry) is at (ticket, begins, shows, leaves) old =
+parts_started w new call key u op from to (outcome.Refused refusal) is at (begins, leaves) old = subst HasParts (sym leaves) (parts_over w call u (settle u.caller.call key (Some refusal) w.calls) is old)
+parts_started w new call key u op from to (outcome.PutOff refusal) is at (begins, leaves) old = subst HasParts (sym leaves) (record { held = old.held; told = old.told; cold = old.cold; idle = old.idle })
+parts_started w new call key u op from to (outcome.Stepped seen) is at (begins, shows, leaves) old =
+    subst HasParts (sym leaves) (parts_stepped w call u key op from to (with_phase w key from to).order (settle u.caller.call key (fault_in seen.reply) w.calls) (step_of seen) is at begins old)
+parts_started w new call key u op from to outcome.Loads is at (ticket, begins, leaves) old = subst HasParts (sym leaves) (parts_loads w call u key op from to ticket is at begins old)
+parts_started w new call key u op from to (outcome.Asks change) is at (ticket, begins, first, leaves) old = subst HasParts (sym leaves) (parts_asks w call u key op from to ticket change is at begins first old)
+parts_started w new call key u op from to (outcome.Processes entry) is at (ticket, begins, shows, leaves) old =
     subst HasParts (sym leaves) (parts_processes w call u key op from to ticket is at begins old)
-parts_started w new call key u op from to shown.Joins is at (join, begins, leaves) old =
+parts_started w new call key u op from to outcome.Joins is at (join, begins, leaves) old =
     subst HasParts (sym leaves)
-    (parts_aside w key from to w.calls (w.joins ++ join ∷ []) at (ap (λ (s : State). s.cache) begins.3) (ap (λ (s : State). s.reservations) begins.3) (begun_before w call u is old) old)
+    (parts_aside w key from to w.calls (insert w.joins (join_key join) join) at (ap (λ (s : State). s.cache) begins.3) (ap (λ (s : State). s.reservations) begins.3) (begun_before w call u is old) old)
 parts_started w new call key u op from to seen is at h old = absurd h
 
 -- 7. The last phase.
@@ -668,11 +665,11 @@ agrees_other key part from next done q stored steps apart h =
     (let P : Bool → Type 0 = λ b. Agrees (cond b (entry_after part.reservation.op (entry_at from.cache key) (out_of part)) (entry_at from.cache q)) stored in subst P (sym apart) h)
 
 -- so there is one part less
-parts_committed : (w : WorldState) (call : ℕ) (key : Bytes) (part : Part) (from next : State) (order : List Event) (done : StepDone) → part_of w call key ≡ Some part → has_progress is_answered (part_of w call key) ≡ true → stripe_for w key ≡ Some from
+parts_committed : (w : WorldState) (call : ℕ) (key : Bytes) (part : Part) (from next : State) (order : List Event) (calls : List CallState) (done : StepDone) → part_of w call key ≡ Some part → has_progress is_answered (part_of w call key) ≡ true → stripe_for w key ≡ Some from
     → Commits from part.reservation (out_of part) done next → IsSoundWorld w
-    → HasParts (record w { stripes = slice_set w.stripes (home w key) next; order = order; calls = settle call key w.calls; parts = remove w.parts key })
-parts_committed w call key part from next order done is answered at commits old =
-    let n : WorldState = record w { stripes = slice_set w.stripes (home w key) next; order = order; calls = settle call key w.calls; parts = remove w.parts key } in
+    → HasParts (record w { stripes = slice_set w.stripes (home w key) next; order = order; calls = calls; parts = remove w.parts key })
+parts_committed w call key part from next order calls done is answered at commits old =
+    let n : WorldState = record w { stripes = slice_set w.stripes (home w key) next; order = order; calls = calls; parts = remove w.parts key } in
     let there = is_part (get w.parts key) call part is in
     let one = held_at w key part from there at old in
     let r = part.reservation in
@@ -703,15 +700,15 @@ parts_committed w call key part from next order done is answered at commits old 
           (told_on (get w.parts q) (entry_at w.store q) (entry_at from.cache q) (entry_at next.cache q) (agrees_other key part from next done q (entry_at w.store q) steps apart))
           (λ h. h)
           (all q)));
-      fresh = λ f. absurd (worn w key part there old f);
+      cold = λ f. absurd (worn w key part there old f);
       idle = λ f. absurd (worn w key part there old f);
     }
 
 -- the last phase of a call
-pub parts_ended : (w new : WorldState) (call : ℕ) (key : Bytes) (part : Part) (from to : State) (seen : Shown) → fits w (event.Commit call key) ≡ true → part_of w call key ≡ Some part → stripe_for w key ≡ Some from
+pub parts_ended : (w new : WorldState) (call : ℕ) (key : Bytes) (part : Part) (from to : State) (seen : Outcome) → fits w (event.Commit call key) ≡ true → part_of w call key ≡ Some part → stripe_for w key ≡ Some from
     → Ends w call key part from to seen new → IsSoundWorld w → HasParts new
-parts_ended w new call key part from to (shown.Stepped seen) fit is at (commits, shows, leaves) old =
-    subst HasParts (sym leaves) (parts_committed w call key part from to (with_phase w key from to).order (step_of seen) is fit at commits old)
+parts_ended w new call key part from to (outcome.Stepped seen) fit is at (commits, shows, leaves) old =
+    subst HasParts (sym leaves) (parts_committed w call key part from to (with_phase w key from to).order (settle call key (fault_in seen.reply) w.calls) (step_of seen) is fit at commits old)
 parts_ended w new call key part from to seen fit is at h old = absurd h
 
 -- 8. A reservation is given back, a call leaves, and an answer is picked up.
@@ -749,7 +746,7 @@ parts_withdrawn w call key part from next fit is at withdraws old =
           let T : Option Part → Type 0 = λ o. KeyAgrees o (entry_at w.store q) (cached_entry w q) in
           unwritten_in part.progress part.reservation.first (entry_at w.store q) (cached_entry w q) (unchanged part.progress (sym (ap (has_progress is_untouched) is) ∙ fit)) (subst T (ap (get w.parts) e ∙ there) (old.told hold q)))
           (λ apart. old.told hold q)));
-      fresh = λ f. absurd (worn w key part there old f);
+      cold = λ f. absurd (worn w key part there old f);
       idle = λ f. absurd (worn w key part there old f);
     }
 
@@ -763,21 +760,21 @@ parts_left w call fit old = go (open_call w call) refl
 
 -- the half of a sound world
 pub parts_half : (w : WorldState) → IsSoundWorld w → HasParts w
-parts_half w h = record { held = h.held; told = h.told; fresh = h.fresh; idle = h.idle }
+parts_half w h = record { held = h.held; told = h.told; cold = h.cold; idle = h.idle }
 
 -- by what is shown of a pick-up
-pub parts_picks : (w new : WorldState) (call : ℕ) (key : Bytes) (join : JoinClaim) (from to : State) (seen : Shown) → join_of w call key ≡ Some join → stripe_for w key ≡ Some from → Picks w call key join from to seen new → IsSoundWorld w → HasParts new
-parts_picks w new call key join from to (shown.PickedUp seen) joined at h old =
+pub parts_picks : (w new : WorldState) (call : ℕ) (key : Bytes) (join : JoinClaim) (from to : State) (seen : Outcome) → join_of w call key ≡ Some join → stripe_for w key ≡ Some from → Picks w call key join from to seen new → IsSoundWorld w → HasParts new
+parts_picks w new call key join from to (outcome.PickedUp seen) joined at h old =
     let p = picking w call key join joined old in
     let is = h.0.3 in
     subst HasParts (sym h.2)
-    (parts_aside w key from to (settle call key w.calls) (joins_without call key w.joins) at (ap (λ (s : State). s.cache) is) (ap (λ (s : State). s.reservations) is) (begun_before w call p.u p.here old) old)
-parts_picks w new call key join from to shown.Again joined at h old =
+    (parts_aside w key from to (settle call key (fault_in seen.reply) w.calls) (remove w.joins (call, key)) at (ap (λ (s : State). s.cache) is) (ap (λ (s : State). s.reservations) is) (begun_before w call p.u p.here old) old)
+parts_picks w new call key join from to outcome.Again joined at h old =
     let p = picking w call key join joined old in
     let is = h.0.2 in
     subst HasParts (sym h.1)
-    (parts_aside w key from to w.calls (joins_without call key w.joins) at (ap (λ (s : State). s.cache) is) (ap (λ (s : State). s.reservations) is) (begun_before w call p.u p.here old) old)
-parts_picks w new call key join from to shown.Waits joined at h old = subst HasParts (sym h.1) (parts_half w old)
+    (parts_aside w key from to w.calls (remove w.joins (call, key)) at (ap (λ (s : State). s.cache) is) (ap (λ (s : State). s.reservations) is) (begun_before w call p.u p.here old) old)
+parts_picks w new call key join from to outcome.Waits joined at h old = subst HasParts (sym h.1) (parts_half w old)
 parts_picks w new call key join from to seen joined at h old = absurd h
 
 -- 9. A sound world is coherent, as long as the premises held.

@@ -17,7 +17,6 @@ pub mod LoadKeys
 pub mod Beginning
 pub mod Callers
 pub mod Joins
-pub mod Noting
 pub mod Places
 pub mod Entries
 pub mod Reservations

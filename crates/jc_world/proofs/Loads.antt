@@ -2,7 +2,7 @@
 --     total          how many steps of a key have an answer of their own, and one more if one is kept
 --     total_step     each event raises that by one if it is an answer for the key, and else leaves it
 --     total_run      so a run raises it by its answers
-use Rattle.std.proofs.Common.{inl, inr, ◌≡◌, ◌==◌, ◌&&◌, ◌+◌, ℕ, List, [], ◌∷◌, ◌++◌, length, map, drop, zip, count_by, Bool, true, false, cond, Option, None, Some, refl, sym, ap, ◌∙◌, arith}
+use Rattle.std.proofs.Common.{inl, inr, ◌≡◌, ◌==◌, ◌&&◌, ◌+◌, ℕ, List, [], ◌∷◌, ◌++◌, length, map, drop, zip, count_by, Bool, true, false, cond, Option, None, Some, option_map, refl, sym, ap, ◌∙◌, arith}
 use Rattle.std.specs.Ordering.{eq_by_cmp}
 use Rattle.std.specs.Cmp.Lexicographic.{pointwise, texts_ties}
 use Rattle.std.specs.FinMap.{get, insert, remove, get-empty, get-insert, get-remove}
@@ -29,11 +29,13 @@ use Rattle.jc_stripe.specs.Refusals.{reserves}
 use Rattle.jc_stripe.specs.State.{State}
 use Rattle.jc_stripe.specs.Phases.{Steps, new_group, after_commit}
 use Rattle.jc_world.specs.Calls.{CallState, open_keys}
+use Rattle.jc_types.specs.declared.refusal.Refusal.TheVariants.{WriterFailed}
 use Rattle.jc_world.specs.declared.event.Part.{Part}
 use Rattle.jc_world.specs.declared.event.Progress.{Progress}
 use Rattle.jc_world.specs.declared.event.Progress.TheVariants.{Loading, Writing, Processing, Processed, WritingEffect}
 use Rattle.jc_world.specs.declared.event.Shown.{Shown}
-use Rattle.jc_world.specs.declared.event.Shown.TheVariants as shown
+use Rattle.jc_world.specs.declared.event.Outcome.{Outcome}
+use Rattle.jc_world.specs.declared.event.Outcome.TheVariants as outcome
 use Rattle.jc_world.specs.declared.event.WorldEvent.{WorldEvent}
 use Rattle.jc_world.specs.declared.event.WorldEvent.TheVariants as event
 use Rattle.jc_world.specs.World.{WorldState, Parts, stripe_for, part_of, waits_for_load, waits_for_process, is_untouched, out_in, out_of, has_progress}
@@ -43,7 +45,7 @@ use Rattle.jc_mutentry.specs.Done.{ProcessResult}
 use Rattle.jc_stripe.specs.declared.ticket.Reservation.{Reservation}
 use Rattle.jc_stripe.specs.Effects.{change_due}
 use Rattle.jc_world.specs.Fits.{fits}
-use Rattle.jc_world.specs.Events.{run_result, progress_after, after_process, new_load, new_write, new_process, new_part, with_change, with_report, step_of, reported_keys, keys_reported, Starts, Ends, Picks, Happens, Step, Run}
+use Rattle.jc_world.specs.Events.{with_met_by, run_result, progress_after, after_process, new_load, new_write, new_process, new_part, with_change, with_report, step_of, reported_keys, keys_reported, Starts, Ends, Picks, Happens, Step, Run}
 use Rattle.jc_world.specs.Sound.{IsSoundWorld}
 use Rattle.jc_world.specs.Headline.{start_with, is_answer, is_load, is_loaded}
 use Rattle.jc_world.proofs.Shares.{added}
@@ -52,7 +54,6 @@ use Rattle.jc_world.proofs.Processors.{processor_free}
 use Rattle.jc_world.proofs.Callers.{part_key}
 use Rattle.jc_world.proofs.Entries.{split}
 use Rattle.jc_world.proofs.Kept.{unheld}
-use Rattle.jc_world.proofs.Noting.{noted_as}
 use Rattle.jc_world.proofs.Returns.{each_report}
 use Rattle.jc_world.proofs.Sounding.{Laws, sound_step}
 use Rattle.jc_world.proofs.Holding.{is_part}
@@ -226,10 +227,10 @@ total_processed w call key q part done is waits =
     ∙ ap (λ b. one_if (b && given) + total w q) (sym (texts_ties q key))
 
 -- the first phase
-total_started : (w new : WorldState) (u : CallState) (key : Bytes) (op : Op) (from to : State) (seen : Shown) (q : Bytes) → stripe_for w key ≡ Some from → Starts w u.caller key op from to seen new → IsSoundWorld w → total new q ≡ total w q
-total_started w new u key op from to (shown.Refused refusal) q there h old = ap (λ (x : WorldState). total x q) h.1
-total_started w new u key op from to (shown.PutOff refusal) q there h old = ap (λ (x : WorldState). total x q) h.1
-total_started w new u key op from to (shown.Stepped seen) q there h old =
+total_started : (w new : WorldState) (u : CallState) (key : Bytes) (op : Op) (from to : State) (seen : Outcome) (q : Bytes) → stripe_for w key ≡ Some from → Starts w u.caller key op from to seen new → IsSoundWorld w → total new q ≡ total w q
+total_started w new u key op from to (outcome.Refused refusal) q there h old = ap (λ (x : WorldState). total x q) h.1
+total_started w new u key op from to (outcome.PutOff refusal) q there h old = ap (λ (x : WorldState). total x q) h.1
+total_started w new u key op from to (outcome.Stepped seen) q there h old =
     let steps = h.0.2 in
     let added_is = step_loads from to u.caller key op nothing_said [] (step_of seen) q steps in
     let none : one_if (pointwise ◌==◌ q key && false) ≡ 0 = ap one_if (and_right (pointwise ◌==◌ q key) false refl) in
@@ -237,29 +238,29 @@ total_started w new u key op from to (shown.Stepped seen) q there h old =
     let kept = one_if (is_loaded (get w.parts q)) in
     let grows : count_by (is_load q) (w.order ++ added from to) + kept ≡ count_by (is_load q) w.order + kept = ap (λ n. n + kept) (let e : count_by (is_load q) (w.order ++ added from to) ≡ count_by (is_load q) w.order = omega arith in e) in
     ap (λ (x : WorldState). total x q) h.2 ∙ grows
-total_started w new u key op from to shown.Loads q there h old =
+total_started w new u key op from to outcome.Loads q there h old =
     let part = new_part new_load h.0.reservation in
     let free = was_free from u.caller key op Loader h.1.0 h.1.1 h.1.2 refl in
     let none = unheld w key from there free old in
     ap (λ (x : WorldState). total x q) h.2
     ∙ ap (λ b. count_by (is_load q) w.order + one_if b) (loaded_inserted w.parts key q part (λ same. sym (ap is_loaded (ap (get w.parts) same ∙ none))))
-total_started w new u key op from to (shown.Asks change) q there h old =
+total_started w new u key op from to (outcome.Asks change) q there h old =
     let part = new_part new_write h.0.reservation in
     let free = was_free from u.caller key op h.0.reservation.first h.1.0 (writer_alone from key op h.0.reservation.first h.1.1 h.1.2) h.1.1 (ap reserves h.2) in
     let none = unheld w key from there free old in
     ap (λ (x : WorldState). total x q) h.3
     ∙ ap (λ b. count_by (is_load q) w.order + one_if b) (loaded_inserted w.parts key q part (λ same. sym (ap is_loaded (ap (get w.parts) same ∙ none))))
-total_started w new u key op from to (shown.Processes entry) q there h old =
+total_started w new u key op from to (outcome.Processes entry) q there h old =
     let part = new_part new_process h.0.reservation in
     let none = unheld w key from there (processor_free from to u.caller key op h.0 h.1) old in
     ap (λ (x : WorldState). total x q) h.3
     ∙ ap (λ b. count_by (is_load q) w.order + one_if b) (loaded_inserted w.parts key q part (λ same. sym (ap is_loaded (ap (get w.parts) same ∙ none))))
-total_started w new u key op from to shown.Joins q there h old = ap (λ (x : WorldState). total x q) h.2
+total_started w new u key op from to outcome.Joins q there h old = ap (λ (x : WorldState). total x q) h.2
 total_started w new u key op from to seen q there h old = absurd h
 
 -- the last phase: what was kept is in the step
-total_ended : (w new : WorldState) (call : ℕ) (key : Bytes) (part : Part) (from to : State) (seen : Shown) (q : Bytes) → part_of w call key ≡ Some part → part.reservation.key ≡ key → Ends w call key part from to seen new → total new q ≡ total w q
-total_ended w new call key part from to (shown.Stepped seen) q is key_is h =
+total_ended : (w new : WorldState) (call : ℕ) (key : Bytes) (part : Part) (from to : State) (seen : Outcome) (q : Bytes) → part_of w call key ≡ Some part → part.reservation.key ≡ key → Ends w call key part from to seen new → total new q ≡ total w q
+total_ended w new call key part from to (outcome.Stepped seen) q is key_is h =
     let r = part.reservation in
     let there = is_part (get w.parts key) call part is in
     let mid = after_commit from r seen.place in
@@ -279,29 +280,29 @@ total_ended w new call key part from to (shown.Stepped seen) q is key_is h =
 total_ended w new call key part from to seen q is key_is h = absurd h
 
 -- an answer is picked up
-total_picks : (w new : WorldState) (call : ℕ) (key : Bytes) (join : JoinClaim) (from to : State) (seen : Shown) (q : Bytes) → Picks w call key join from to seen new → total new q ≡ total w q
-total_picks w new call key join from to (shown.PickedUp seen) q h = ap (λ (x : WorldState). total x q) h.2
-total_picks w new call key join from to shown.Again q h = ap (λ (x : WorldState). total x q) h.1
-total_picks w new call key join from to shown.Waits q h = ap (λ (x : WorldState). total x q) h.1
+total_picks : (w new : WorldState) (call : ℕ) (key : Bytes) (join : JoinClaim) (from to : State) (seen : Outcome) (q : Bytes) → Picks w call key join from to seen new → total new q ≡ total w q
+total_picks w new call key join from to (outcome.PickedUp seen) q h = ap (λ (x : WorldState). total x q) h.2
+total_picks w new call key join from to outcome.Again q h = ap (λ (x : WorldState). total x q) h.1
+total_picks w new call key join from to outcome.Waits q h = ap (λ (x : WorldState). total x q) h.1
 total_picks w new call key join from to seen q h = absurd h
 
 -- by the kind of the event
-total_happens : (w new : WorldState) (e : WorldEvent) (seen : Shown) (q : Bytes) → fits w e ≡ true → Happens w e seen new → IsSoundWorld w → total new q ≡ one_if (is_answer q e seen) + total w q
+total_happens : (w new : WorldState) (e : WorldEvent) (seen : Shown) (q : Bytes) → fits w e ≡ true → Happens w e seen new → IsSoundWorld w → total new q ≡ one_if (is_answer q e seen.outcome) + total w q
 total_happens w new (event.Call call session command) seen q fit h old = unanswered false (total new q) (total w q) refl (ap (λ (x : WorldState). total x q) h.1)
 total_happens w new (event.Look call stripe) seen q fit h old = unanswered false (total new q) (total w q) refl (ap (λ (x : WorldState). total x q) h.9)
-total_happens w new (event.Start call key) seen q fit h old = unanswered false (total new q) (total w q) refl (total_started w new h.0 key h.1 h.4 h.6 seen q h.5 h.7 old)
+total_happens w new (event.Start call key) seen q fit h old = unanswered false (total new q) (total w q) refl (total_started w new h.0 key h.1 h.4 h.6 seen.outcome q h.5 h.7 old)
 total_happens w new (event.Read call key) seen q fit h old =
     ap (λ (x : WorldState). total x q) h.3 ∙ total_answered w call key q h.0 (read_answer (entry_at w.store key)) h.1 fit (read_given (entry_at w.store key))
-    ∙ ap (λ s. one_if (is_answer q (event.Read call key) s) + total w q) (sym h.2)
+    ∙ ap (λ (s : Shown). one_if (is_answer q (event.Read call key) s.outcome) + total w q) (sym h.2)
 total_happens w new (event.Say call key answer) seen q fit h old =
     let ok = and_parts (is_load_given answer) (has_progress waits_for_load (part_of w call key)) fit in
     ap (λ (x : WorldState). total x q) h.3 ∙ total_answered w call key q h.0 answer h.1 ok.1 ok.0
-    ∙ ap (λ s. one_if (is_answer q (event.Say call key answer) s) + total w q) (sym h.2)
+    ∙ ap (λ (s : Shown). one_if (is_answer q (event.Say call key answer) s.outcome) + total w q) (sym h.2)
 total_happens w new (event.Process call key source calls fail) seen q fit h old =
     let answer = load_from source (entry_at w.store key) in
     let done = run_result h.0.reservation answer calls fail in
     ap (λ (x : WorldState). total x q) h.3 ∙ total_processed w call key q h.0 done h.1 fit
-    ∙ ap (λ s. one_if (is_answer q (event.Process call key source calls fail) s) + total w q) (sym h.2)
+    ∙ ap (λ (s : Shown). one_if (is_answer q (event.Process call key source calls fail) s.outcome) + total w q) (sym h.2)
 total_happens w new (event.Change call key) seen q fit h old =
     let there = is_part (get w.parts key) call h.0 h.2 in
     unanswered false (total new q) (total w q) refl
@@ -314,34 +315,34 @@ total_happens w new (event.Report call left fault) seen q fit h old =
     let there = is_part (get v.parts key) call part at in
     let report = report_for h.0.kind left fault key in
     ap (λ b. count_by (is_load q) v.order + one_if b) (loaded_inserted v.parts key q (record part { progress = with_report part.progress report }) (λ same. report_loads part.progress report ∙ sym (loaded_at v key q part there same))) ∙ o)
-    w (keys_reported (reported_keys w.parts call (open_keys h.0))) refl)
-total_happens w new (event.Commit call key) seen q fit h old = unanswered false (total new q) (total w q) refl (total_ended w new call key h.0 h.2 h.4 seen q h.1 (part_key w call key h.0 h.1 old) h.5)
+    (with_met_by w call (option_map WriterFailed fault)) (keys_reported (reported_keys w.parts call (open_keys h.0))) refl)
+total_happens w new (event.Commit call key) seen q fit h old = unanswered false (total new q) (total w q) refl (total_ended w new call key h.0 h.2 h.4 seen.outcome q h.1 (part_key w call key h.0 h.1 old) h.5)
 total_happens w new (event.Withdraw call key) seen q fit h old =
     let there = is_part (get w.parts key) call h.0 h.1 in
     unanswered false (total new q) (total w q) refl
     (ap (λ (x : WorldState). total x q) h.7
     ∙ ap (λ b. count_by (is_load q) w.order + one_if b) (loaded_removed w.parts key q (λ same. loaded_at w key q h.0 there same ∙ no_touch (part_of w call key) h.0 h.1 fit)))
 total_happens w new (event.Leave call) seen q fit h old = unanswered false (total new q) (total w q) refl (ap (λ (x : WorldState). total x q) h.1)
-total_happens w new (event.PickUp call key) seen q fit h old = unanswered false (total new q) (total w q) refl (total_picks w new call key h.0 h.2 h.4 seen q h.5)
+total_happens w new (event.PickUp call key) seen q fit h old = unanswered false (total new q) (total w q) refl (total_picks w new call key h.0 h.2 h.4 seen.outcome q h.5)
 total_happens w new (event.Foreign key value) seen q fit h old = unanswered false (total new q) (total w q) refl (ap (λ (x : WorldState). total x q) h.1)
 
 -- what doesn't fit is no answer
-unfit_answer : (q : Bytes) (e : WorldEvent) → is_answer q e shown.Unfit ≡ false
+unfit_answer : (q : Bytes) (e : WorldEvent) → is_answer q e outcome.Unfit ≡ false
 unfit_answer q (event.Read call key) = refl
 unfit_answer q (event.Say call key answer) = refl
 unfit_answer q (event.Process call key source calls fail) = refl
 unfit_answer q e = refl
 
 -- any event, also one that doesn't fit
-total_step : (w new : WorldState) (e : WorldEvent) (seen : Shown) (q : Bytes) → Step w e seen new → IsSoundWorld w → total new q ≡ one_if (is_answer q e seen) + total w q
-total_step w new e seen q (inl (fit, (mid, happens, is))) old = ap (λ (x : WorldState). total x q) (noted_as w mid new e seen is).is ∙ total_happens w mid e seen q fit happens old
-total_step w new e seen q (inr (unfit, shows, is)) old = unanswered (is_answer q e seen) (total new q) (total w q) (ap (is_answer q e) shows ∙ unfit_answer q e) (ap (λ (x : WorldState). total x q) is)
+total_step : (w new : WorldState) (e : WorldEvent) (seen : Shown) (q : Bytes) → Step w e seen new → IsSoundWorld w → total new q ≡ one_if (is_answer q e seen.outcome) + total w q
+total_step w new e seen q (inl (fit, happens)) old = total_happens w new e seen q fit happens old
+total_step w new e seen q (inr (unfit, shows, is)) old = unanswered (is_answer q e seen.outcome) (total new q) (total w q) (ap (λ (s : Shown). is_answer q e s.outcome) shows ∙ unfit_answer q e) (ap (λ (x : WorldState). total x q) is)
 
 -- 4. A run.
 
 -- the answers of a run
 abbrev answers : Bytes → List WorldEvent → List Shown → ℕ
-answers q es ss = count_by (λ (e : WorldEvent × Shown). is_answer q e.0 e.1) (zip es ss)
+answers q es ss = count_by (λ (e : WorldEvent × Shown). is_answer q e.0 e.1.outcome) (zip es ss)
 
 -- and so a run
 pub total_run : Laws → (w new : WorldState) (es : List WorldEvent) (ss : List Shown) (q : Bytes) → Run w es ss new → IsSoundWorld w → total new q ≡ answers q es ss + total w q
@@ -351,7 +352,7 @@ total_run laws w new (e ∷ es) [] q run old = absurd run
 total_run laws w new (e ∷ es) (s ∷ ss) q (mid, step, rest) old =
     let one = total_step w mid e s q step old in
     let more = total_run laws mid new es ss q rest (sound_step laws w e s mid step old) in
-    let split_off : answers q (e ∷ es) (s ∷ ss) ≡ one_if (is_answer q e s) + answers q es ss = sum_by-cons (λ (x : WorldEvent × Shown). cond (is_answer q x.0 x.1) 1 0) (e, s) (zip es ss) in
+    let split_off : answers q (e ∷ es) (s ∷ ss) ≡ one_if (is_answer q e s.outcome) + answers q es ss = sum_by-cons (λ (x : WorldEvent × Shown). cond (is_answer q x.0 x.1.outcome) 1 0) (e, s) (zip es ss) in
     omega arith
 
 -- nothing was counted before anything has happened

@@ -1,14 +1,17 @@
 -- The calls under way, once a call has taken the keys of a stripe.
 --     Taken            what is left of the call: what it does or may still do at a key it did before, and what it did it does
 --     taken_of         so it is
+--     taken_met        and so is what is left of a call that has met something
 --     calls_replaced   the calls fit another world
 --     still_replaced   a call continues at each of its keys
 --     each_replaced    a fact of each call
 --     found_replaced   and the call is found by its number
 --     place_at         where the call is
 --     remove_set       what is put at a place and taken out is taken out
---     look_put, look_out
---                      what is left of the call is put in its place, or taken out
+--     changed_at, ended_at
+--                      a call that has changed is put in its place, or taken out if it is over, and what is said of its end
+--     put_at           one that stays under way is put in its place
+--     none_replaced    where no call has the number, nothing changes
 use Rattle.std.proofs.Common.{◌≡◌, ◌==◌, ◌+◌, ℕ, zero, suc, List, [], ◌∷◌, ◌++◌, Bool, true, false, cond, Option, None, Some, IsSomeAnd, find, position, slice_get, slice_set, refl, sym, ap, ◌∙◌, subst, arith}
 use Rattle.std.specs.List.{list_all, cons_option, position_from, remove}
 use Rattle.std.proofs.lemmas.Iterator.Adapters.{position_from-zero}
@@ -17,9 +20,11 @@ use Rattle.std.specs.Option.{option_or}
 use Rattle.std.specs.Cmp.Lexicographic.{pointwise}
 use Rattle.std.proofs.lemmas.Bool.{and_parts, and_from}
 use Rattle.jc_types.specs.declared.caller.Caller.{Caller}
+use Rattle.jc_types.specs.declared.refusal.Refusal.{Refusal}
 use Rattle.jc_model.specs.declared.event.Op.{Op}
 use Rattle.jc_model.specs.Cache.{Bytes}
-use Rattle.jc_world.specs.Calls.{CallState, SweepState, has_looked_at_each, has_number, at_each, op_at, op_found, op_or_found, op_for, open_keys, open_in, is_at, is_turn, takes_turns, is_going, going_on, next_sweep, with_found, replaced, look}
+use Rattle.jc_world.specs.Calls.{CallState, SweepState, has_looked_at_each, has_number, at_each, op_at, op_found, op_or_found, op_for, open_keys, open_in, is_at, is_turn, takes_turns, is_going, going_on, over_of, next_sweep, with_found, with_met, replaced}
+use Rattle.jc_world.specs.declared.event.Over.{Over}
 use Rattle.jc_world.specs.World.{WorldState}
 use Rattle.jc_world.specs.Sound.{is_apart, FitsCall, CallsFit, IsCallOf, Each}
 use Rattle.jc_world.proofs.Facts.{same_found}
@@ -78,6 +83,12 @@ taken_of stripes stripe keys s u v sweeps h =
       goes = λ q op is. still_done u.tasks (at_each s.op keys) q op is;
       turns = λ q is. found_turns stripes stripe keys s u q is;
     })
+
+-- and so is a call that has met something
+pub taken_met : (met : Option Refusal) (u v : CallState) → Some (with_met met u) ≡ Some v → Taken u v
+taken_met met u v h =
+    let is : with_met met u ≡ v = cc in
+    subst (Taken u) is (record { caller_is = refl; was = λ q op h. h; goes = λ q op h. h; turns = λ q h. h })
 
 -- a call with an open key isn't over by a look
 pub taken_on : (stripes stripe : ℕ) (keys : List Bytes) (s : SweepState) (u : CallState) (q : Bytes) (op : Op) → op_at u q ≡ Some op → going_on (with_found stripes stripe keys s u) ≡ None → ⊥
@@ -227,21 +238,49 @@ remove_set [] i v = refl
 remove_set (x ∷ xs) zero v = refl
 remove_set (x ∷ xs) (suc i) v = ap (λ cs. x ∷ cs) (remove_set xs i v)
 
--- what is left of the call is put in its place, or taken out
-left_is : (call stripes stripe : ℕ) (keys : List Bytes) (s : SweepState) (calls : List CallState) (u x v : CallState) → find (has_number call) calls ≡ Some u → find (has_number call) calls ≡ Some x → v ≡ with_found stripes stripe keys s x → (b : Bool) → is_going v ≡ b
-    → going_on (with_found stripes stripe keys s u) ≡ cond b (Some v) None
-left_is call stripes stripe keys s calls u x v one two is b goes =
-    let same : u ≡ x = same_found (find (has_number call) calls) u x one two in
-    ap (λ (y : CallState). going_on (with_found stripes stripe keys s y)) same ∙ ap going_on (sym is) ∙ ap (λ c. cond c (Some v) None) goes
+-- a call that has changed is put in its place, or taken out if it is over
+left_is : (f : CallState → CallState) (u x v : CallState) → u ≡ x → v ≡ f x → (b : Bool) → is_going v ≡ b → going_on (f u) ≡ cond b (Some v) None
+left_is f u x v same is b goes = ap (λ (y : CallState). going_on (f y)) same ∙ ap going_on (sym is) ∙ ap (λ c. cond c (Some v) None) goes
 
-pub look_put : (call stripes stripe place : ℕ) (keys : List Bytes) (s : SweepState) (x v : CallState) (calls : List CallState) → position (has_number call) calls ≡ Some place → find (has_number call) calls ≡ Some x → v ≡ with_found stripes stripe keys s x → is_going v ≡ true
-    → slice_set calls place v ≡ look call stripes stripe keys s calls
-look_put call stripes stripe place keys s x v calls at found is goes =
-    let p = place_at call (λ u. going_on (with_found stripes stripe keys s u)) calls place at in
-    sym (p.put v (left_is call stripes stripe keys s calls p.u x v p.first found is true goes))
+changed_at : (call place : ℕ) (f : CallState → CallState) (x v : CallState) (calls : List CallState) → position (has_number call) calls ≡ Some place → find (has_number call) calls ≡ Some x → v ≡ f x
+    → cond (is_going v) (slice_set calls place v) (remove (slice_set calls place v) place) ≡ replaced call (λ u. going_on (f u)) calls
+changed_at call place f x v calls at found is =
+    let p = place_at call (λ u. going_on (f u)) calls place at in
+    let same : p.u ≡ x = same_found (find (has_number call) calls) p.u x p.first found in
+    elim (is_going v) as (λ b. is_going v ≡ b → cond b (slice_set calls place v) (remove (slice_set calls place v) place) ≡ replaced call (λ u. going_on (f u)) calls) [
+      | true ↦ λ goes. sym (p.put v (left_is f p.u x v same is true goes))
+      | false ↦ λ goes. remove_set calls place v ∙ sym (p.taken_out (left_is f p.u x v same is false goes))
+    ] refl
 
-pub look_out : (call stripes stripe place : ℕ) (keys : List Bytes) (s : SweepState) (x v : CallState) (calls : List CallState) → position (has_number call) calls ≡ Some place → find (has_number call) calls ≡ Some x → v ≡ with_found stripes stripe keys s x → is_going v ≡ false
-    → remove (slice_set calls place v) place ≡ look call stripes stripe keys s calls
-look_out call stripes stripe place keys s x v calls at found is over =
-    let p = place_at call (λ u. going_on (with_found stripes stripe keys s u)) calls place at in
-    remove_set calls place v ∙ sym (p.taken_out (left_is call stripes stripe keys s calls p.u x v p.first found is false over))
+set_at : (calls : List CallState) (place : ℕ) (x v : CallState) → slice_get calls place ≡ Some x → slice_get (slice_set calls place v) place ≡ Some v
+set_at [] place x v h = cc
+set_at (y ∷ ys) zero x v h = refl
+set_at (y ∷ ys) (suc place) x v h = set_at ys place x v h
+
+-- and what is said of its end is of the call as it is then
+pub ended_at : (call place : ℕ) (f : CallState → CallState) (x v w : CallState) (calls new : List CallState) (over : Option Over) → position (has_number call) calls ≡ Some place → find (has_number call) calls ≡ Some x → v ≡ f x
+    → slice_get (slice_set calls place v) place ≡ Some w → over ≡ over_of w → new ≡ cond (is_going w) (slice_set calls place v) (remove (slice_set calls place v) place)
+    → (over ≡ over_of (f x)) × (new ≡ replaced call (λ u. going_on (f u)) calls)
+ended_at call place f x v w calls new over at found is there over_is new_is =
+    let p = place_at call (λ u. going_on (f u)) calls place at in
+    let same : w ≡ v = let t : Some w ≡ Some v = sym there ∙ set_at calls place p.u v p.here in cc in (
+      over_is ∙ ap over_of (same ∙ is),
+      new_is ∙ ap (λ (y : CallState). cond (is_going y) (slice_set calls place v) (remove (slice_set calls place v) place)) same ∙ changed_at call place f x v calls at found is,
+    )
+
+-- one that stays under way is put in its place
+pub put_at : (call place : ℕ) (f : CallState → CallState) (x v : CallState) (calls : List CallState) → position (has_number call) calls ≡ Some place → find (has_number call) calls ≡ Some x → v ≡ f x
+    → slice_set calls place v ≡ replaced call (λ u. Some (f u)) calls
+put_at call place f x v calls at found is =
+    let p = place_at call (λ u. Some (f u)) calls place at in
+    let same : p.u ≡ x = same_found (find (has_number call) calls) p.u x p.first found in
+    sym (p.put v (ap (λ (y : CallState). Some (f y)) same ∙ ap Some (sym is)))
+
+-- where no call has the number, nothing changes
+pub none_replaced : (call : ℕ) (left : CallState → Option CallState) (calls : List CallState) → find (has_number call) calls ≡ None → replaced call left calls ≡ calls
+none_replaced call left [] none = refl
+none_replaced call left (x ∷ xs) none =
+    elim (has_number call x) as (λ b. cond b (Some x) (find (has_number call) xs) ≡ None → cond b (cons_option (left x) xs) (x ∷ replaced call left xs) ≡ x ∷ xs) [
+      | true ↦ λ none. cc
+      | false ↦ λ none. ap (λ cs. x ∷ cs) (none_replaced call left xs none)
+    ] none

@@ -4,10 +4,10 @@
 --     begun_shown        one that isn't refused whole has begun
 use Rattle.std.proofs.Common.{◌≡◌, List, [], ◌∷◌, true, false, cond, ap}
 use Rattle.jc_types.specs.declared.refusal.Refusal.TheVariants.{TooManyKeys}
-use Rattle.jc_world.specs.Calls.{CallState, has_too_many_keys, is_going, opened}
+use Rattle.jc_world.specs.Calls.{CallState, has_too_many_keys, is_going, opened, over_of}
 use Rattle.jc_world.specs.declared.event.Shown.{Shown}
-use Rattle.jc_world.specs.declared.event.Shown.TheVariants as shown
-use Rattle.jc_world.specs.Events.{shown_begun}
+use Rattle.jc_world.specs.declared.event.Outcome.TheVariants as outcome
+use Rattle.jc_world.specs.Events.{not_over, shown_begun}
 
 pub opened_cases : (u : CallState) (P : List CallState → Type 0) → P (u ∷ []) → P [] → P (opened u)
 opened_cases u P one none =
@@ -16,8 +16,8 @@ opened_cases u P one none =
       | false ↦ elim (is_going u) as (λ b. P (cond b (u ∷ []) [])) [ true ↦ one | false ↦ none ]
     ]
 
-pub begun_cases : (u : CallState) (P : Shown → Type 0) → P shown.Begun → P (shown.Refused TooManyKeys) → P (shown_begun u)
-begun_cases u P begun refused = elim (has_too_many_keys u) as (λ b. P (cond b (shown.Refused TooManyKeys) shown.Begun)) [ true ↦ refused | false ↦ begun ]
+pub begun_cases : (u : CallState) (P : Shown → Type 0) → P (record { outcome = outcome.Begun; over = over_of u }) → P (not_over (outcome.Refused TooManyKeys)) → P (shown_begun u)
+begun_cases u P begun refused = elim (has_too_many_keys u) as (λ b. P (cond b (not_over (outcome.Refused TooManyKeys)) (record { outcome = outcome.Begun; over = over_of u }))) [ true ↦ refused | false ↦ begun ]
 
-pub begun_shown : (u : CallState) → has_too_many_keys u ≡ false → shown_begun u ≡ shown.Begun
-begun_shown u few = ap (λ b. cond b (shown.Refused TooManyKeys) shown.Begun) few
+pub begun_shown : (u : CallState) → has_too_many_keys u ≡ false → (shown_begun u).outcome ≡ outcome.Begun
+begun_shown u few = ap (λ (s : Shown). s.outcome) (ap (λ b. cond b (not_over (outcome.Refused TooManyKeys)) (record { outcome = outcome.Begun; over = over_of u })) few)

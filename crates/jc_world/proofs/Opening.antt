@@ -13,12 +13,11 @@ use Rattle.jc_world.specs.declared.event.WorldEvent.TheVariants as event
 use Rattle.jc_world.specs.Calls.{CallState, has_number, may_work, new_call, sweep_of}
 use Rattle.jc_world.specs.World.{WorldState, is_free_of, open_call}
 use Rattle.jc_world.specs.Fits.{fits, is_new, is_free, may_start}
-use Rattle.jc_world.specs.Events.{AllFit, Run, Step, with_ends}
+use Rattle.jc_world.specs.Events.{AllFit, Run, Step}
 use Rattle.jc_world.specs.Sound.{IsSoundWorld}
 use Rattle.jc_world.specs.Together.{looks, opening_events, BeginFits}
 use Rattle.std.proofs.lemmas.Bool.{and_from, and_parts}
 use Rattle.jc_world.proofs.Fitting.{fits_then, looks_begun, new_free, new_under, one_fits}
-use Rattle.jc_world.proofs.Noting.{noted_as}
 
 opening : (w : WorldState) → IsSoundWorld w → (call session : ℕ) (command : Command) → fits w (event.Call call session command) ≡ true → AllFit w (opening_events call session command w.config.stripes)
 opening w old call session command fit =
@@ -36,15 +35,11 @@ beside_then : (a b c : WorldState) → Beside a b → Beside b c → Beside a c
 beside_then a b c first next = record { parts = next.parts ∙ first.parts; joins = next.joins ∙ first.joins }
 
 beside_call : (w new : WorldState) (call session : ℕ) (command : Command) (seen : Shown) → Step w (event.Call call session command) seen new → Beside w new
-beside_call w new call session command seen (inl (fit, (mid, happens, is))) =
-    let n = noted_as w mid new (event.Call call session command) seen is in
-    record { parts = (λ i. (n.is i).parts) ∙ (λ i. (happens.1 i).parts); joins = (λ i. (n.is i).joins) ∙ (λ i. (happens.1 i).joins) }
+beside_call w new call session command seen (inl (fit, happens)) = record { parts = λ i. (happens.1 i).parts; joins = λ i. (happens.1 i).joins }
 beside_call w new call session command seen (inr (unfit, shows, is)) = record { parts = λ i. (is i).parts; joins = λ i. (is i).joins }
 
 beside_look : (w new : WorldState) (call stripe : ℕ) (seen : Shown) → Step w (event.Look call stripe) seen new → Beside w new
-beside_look w new call stripe seen (inl (fit, (mid, happens, is))) =
-    let n = noted_as w mid new (event.Look call stripe) seen is in
-    record { parts = (λ i. (n.is i).parts) ∙ (λ i. (happens.9 i).parts); joins = (λ i. (n.is i).joins) ∙ (λ i. (happens.9 i).joins) }
+beside_look w new call stripe seen (inl (fit, happens)) = record { parts = λ i. (happens.9 i).parts; joins = λ i. (happens.9 i).joins }
 beside_look w new call stripe seen (inr (unfit, shows, is)) = record { parts = λ i. (is i).parts; joins = λ i. (is i).joins }
 
 beside_looks : (call from count : ℕ) (w new : WorldState) (seen : List Shown) → Run w (looks call from count) seen new → Beside w new
@@ -87,11 +82,11 @@ single : (w : WorldState) → IsSoundWorld w → (call session : ℕ) (op : Op) 
 single w old call session op key fit =
     let u : CallState = new_call call session (command.Single op key) in
     let new : is_new w.last call ≡ true = (and_parts _ _ (and_parts _ _ fit).0).1 in
-    let next : WorldState = record w { last = Some call; fresh = false; calls = w.calls ++ u ∷ [] } in
-    fits_then w (event.Call call session (command.Single op key)) (event.Start call key ∷ []) fit (λ seen mid ends happens.
-    subst (λ m. AllFit (with_ends m ends) (event.Start call key ∷ [])) (sym happens.1)
-    (one_fits (with_ends next ends) (event.Start call key)
-    (ap (may_start (with_ends next ends) call key) (found_new w old call session op key fit)
+    let next : WorldState = record w { last = Some call; calls = w.calls ++ u ∷ [] } in
+    fits_then w (event.Call call session (command.Single op key)) (event.Start call key ∷ []) fit (λ seen mid happens.
+    subst (λ m. AllFit m (event.Start call key ∷ [])) (sym happens.1)
+    (one_fits next (event.Start call key)
+    (ap (may_start next call key) (found_new w old call session op key fit)
     ∙ and_from _ _ (works_at call session op key) (new_free w call key new old))))
 
 underway : (w : WorldState) → IsSoundWorld w → (call session : ℕ) (op : Op) (key : Bytes) (seen : List Shown) (begun : WorldState) → fits w (event.Call call session (command.Single op key)) ≡ true
@@ -102,9 +97,7 @@ underway w old call session op key (s ∷ []) begun fit (next, step, is) =
     ap (λ x. open_call x call) is ∙ by step
   where
     by : Step w (event.Call call session (command.Single op key)) s next → open_call next call ≡ Some (new_call call session (command.Single op key))
-    by (inl (fit_now, (mid, happens, noted))) =
-        let n = noted_as w mid next (event.Call call session (command.Single op key)) s noted in
-        ap (λ x. open_call x call) n.is ∙ ap (λ x. open_call x call) happens.1 ∙ found_new w old call session op key fit
+    by (inl (fit_now, happens)) = ap (λ x. open_call x call) happens.1 ∙ found_new w old call session op key fit
     by (inr (unfit, shows, same)) = let t : true ≡ false = sym fit ∙ unfit in cc
 
 pub begin_fits : (w : WorldState) → IsSoundWorld w → BeginFits w

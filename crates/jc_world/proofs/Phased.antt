@@ -21,26 +21,27 @@ use Rattle.jc_stripe.specs.declared.ticket.First.TheVariants.{Nobody, Loader, Wr
 use Rattle.jc_outside.specs.declared.done.Origin.TheVariants.{Played}
 use Rattle.jc_types.specs.declared.config.Config.{Config}
 use Rattle.jc_types.specs.declared.refusal.Refusal.{Refusal}
-use Rattle.jc_world.specs.Calls.{CallState, op_at, is_turn, puts_off, settle}
+use Rattle.jc_world.specs.Calls.{CallState, op_at, is_turn, over_settled, puts_off, settle}
 use Rattle.jc_world.specs.declared.event.Part.{Part}
 use Rattle.jc_world.specs.declared.event.Progress.{Progress}
 use Rattle.jc_world.specs.declared.event.Stepped.{Stepped}
 use Rattle.jc_world.specs.declared.event.PickedUp.{PickedUp}
 use Rattle.jc_world.specs.declared.event.WorldEvent.TheVariants as event
+use Rattle.jc_world.specs.declared.event.Over.{Over}
 use Rattle.jc_world.specs.declared.event.Shown.{Shown}
-use Rattle.jc_world.specs.declared.event.Shown.TheVariants as shown
-use Rattle.jc_world.specs.World.{WorldState, Parts, home, stripe_for, open_call, part_of, join_of, joins_without, out_of, is_join}
+use Rattle.jc_world.specs.declared.event.Outcome.TheVariants as outcome
+use Rattle.jc_world.specs.World.{WorldState, Parts, home, stripe_for, open_call, part_of, Joins, join_key, join_of, out_of}
 use Rattle.jc_world.specs.Fits.{fits, is_free, may_start}
-use Rattle.jc_world.specs.Events.{Happens, Starts, RefusesAs, step_of, with_new_part, new_load, new_write, new_part, BeginsAs, new_process}
-use Rattle.jc_world.specs.Sound.{IsHeld, IsSoundWorld, IsWaitedFor, is_due}
+use Rattle.jc_world.specs.Events.{fault_in, not_over, over_by, Happens, Starts, RefusesAs, step_of, with_new_part, new_load, new_write, new_part, BeginsAs, new_process}
+use Rattle.jc_world.specs.Sound.{IsHeld, IsSoundWorld, is_due}
 use Rattle.jc_world.specs.Turns.{OrderedStripes, IsPhase, IsQuietPhase}
 use Rattle.jc_world.proofs.Numbered.{some_of}
 use Rattle.jc_world.proofs.Holding.{is_part}
 use Rattle.jc_world.proofs.Reservations.{was_free, writer_alone}
 use Rattle.jc_world.proofs.Processors.{processor_free}
-use Rattle.jc_world.proofs.Joiners.{join_is}
-use Rattle.jc_world.proofs.Shares.{found_test, fact_found}
-use Rattle.jc_world.proofs.Beginning.{begins_at}
+use Rattle.jc_world.proofs.Joiners.{join_at}
+use Rattle.jc_world.proofs.Beginning.{begins_at, may_start_at}
+use Rattle.jc_world.proofs.Facts.{missing}
 use Rattle.jc_world.proofs.Kept.{unheld, stripe_at}
 
 -- 1. Before the first phase.
@@ -86,19 +87,21 @@ here v key number phase stripes order home_is p = let P : ℕ → Type 0 = λ n.
 -- what is left is as the first phase's definition says
 started : (v next : WorldState) (call : ℕ) (key : Bytes) (u : CallState) (op : Op) (number : ℕ) (b : Begun) (seen : Shown) (stripes : List State) (order : List Event) → open_call v call ≡ Some u → op_at u key ≡ Some op → number ≡ home v key
     → Phased v number (BeginsAs u.caller key op b) stripes order
-    → ((q : Phased v (home v key) (BeginsAs u.caller key op b) stripes order) → Starts v u.caller key op q.from q.to seen next × RefusesAs u.kind seen) → Happens v (event.Start call key) seen next
+    → ((q : Phased v (home v key) (BeginsAs u.caller key op b) stripes order) → Starts v u.caller key op q.from q.to seen.outcome next × RefusesAs u.kind seen.outcome × (seen.over ≡ over_by v u.caller.call key seen.outcome)) → Happens v (event.Start call key) seen next
 started v next call key u op number b seen stripes order is op_is home_is p by =
     let q = here v key number (BeginsAs u.caller key op b) stripes order home_is p in
-    let h = by q in (u, op, is, op_is, q.from, q.at, q.to, h.0, h.1)
+    let h = by q in (u, op, is, op_is, q.from, q.at, q.to, h.0, h.1, h.2)
 
-pub started_done : (v next : WorldState) (call : ℕ) (key : Bytes) (u : CallState) (op : Op) (number : ℕ) (done : StepDone) (seen : Stepped) (stripes : List State) (order : List Event) → open_call v call ≡ Some u → op_at u key ≡ Some op → number ≡ home v key
+pub started_done : (v next : WorldState) (call : ℕ) (key : Bytes) (u : CallState) (op : Op) (number : ℕ) (done : StepDone) (seen : Stepped) (met : Option Refusal) (over : Option Over) (stripes : List State) (order : List Event) → open_call v call ≡ Some u → op_at u key ≡ Some op → number ≡ home v key
     → Phased v number (BeginsAs u.caller key op (begun.Done done)) stripes order → step_of seen ≡ done → seen.stripe ≡ number
-    → next ≡ record v { stripes = stripes; order = order; calls = settle u.caller.call key v.calls } → Happens v (event.Start call key) (shown.Stepped seen) next
-started_done v next call key u op number done seen stripes order is op_is home_is p shows stripe_is next_is =
-    started v next call key u op number (begun.Done done) (shown.Stepped seen) stripes order is op_is home_is p (λ q.
+    → met ≡ fault_in done.reply → over ≡ over_settled u.caller.call key met v.calls
+    → next ≡ record v { stripes = stripes; order = order; calls = settle u.caller.call key met v.calls } → Happens v (event.Start call key) (record { outcome = outcome.Stepped seen; over = over }) next
+started_done v next call key u op number done seen met over stripes order is op_is home_is p shows stripe_is met_is over_is next_is =
+    let same : met ≡ fault_in seen.reply = met_is ∙ sym (ap (λ (d : StepDone). fault_in d.reply) shows) in
+    started v next call key u op number (begun.Done done) (record { outcome = outcome.Stepped seen; over = over }) stripes order is op_is home_is p (λ q.
     let B : StepDone → Type 0 = λ d. Begins q.from u.caller key op (begun.Done d) q.to in
-    let left = next_is ∙ (λ i. record v { stripes = q.stripes_are i; order = q.order_is i; calls = settle u.caller.call key v.calls }) in
-    ((subst B (sym shows) q.made, stripe_is ∙ home_is, left), tt))
+    let left = next_is ∙ (λ i. record v { stripes = q.stripes_are i; order = q.order_is i; calls = settle u.caller.call key (same i) v.calls }) in
+    ((subst B (sym shows) q.made, stripe_is ∙ home_is, left), tt, over_is ∙ ap (λ m. over_settled u.caller.call key m v.calls) same))
 
 -- a refused call leaves its stripe
 same_set : (xs : List State) (i : ℕ) (x y : State) → slice_get xs i ≡ Some x → y ≡ x → slice_set xs i y ≡ xs
@@ -114,11 +117,15 @@ none_new order xs ys e = ap (λ zs. order ++ drop (length ys) zs) e ∙ ap (λ z
     gone [] = refl
     gone (z ∷ zs) = gone zs
 
+-- the last refusal of a key, and what is over with it
+abbrev pub refused_with : WorldState → CallState → Bytes → Refusal → Shown
+refused_with v u key refusal = record { outcome = outcome.Refused refusal; over = over_settled u.caller.call key (Some refusal) v.calls }
+
 -- a call was refused at a key, and is to try again there, or has its last refusal
 pub started_refused : (v next : WorldState) (call : ℕ) (key : Bytes) (u : CallState) (op : Op) (number : ℕ) (refusal : Refusal) (seen : Shown) (stripes : List State) (order : List Event) (calls : List CallState) → open_call v call ≡ Some u → op_at u key ≡ Some op → number ≡ home v key
     → Phased v number (BeginsAs u.caller key op (begun.Refused refusal)) stripes order
-    → seen ≡ cond (puts_off u.kind refusal) (shown.PutOff refusal) (shown.Refused refusal)
-    → calls ≡ cond (puts_off u.kind refusal) v.calls (settle u.caller.call key v.calls)
+    → seen ≡ cond (puts_off u.kind refusal) (not_over (outcome.PutOff refusal)) (refused_with v u key refusal)
+    → calls ≡ cond (puts_off u.kind refusal) v.calls (settle u.caller.call key (Some refusal) v.calls)
     → next ≡ record v { stripes = stripes; order = order; calls = calls } → Happens v (event.Start call key) seen next
 started_refused v next call key u op number refusal seen stripes order calls is op_is home_is p shows calls_are next_is =
     started v next call key u op number (begun.Refused refusal) seen stripes order is op_is home_is p (λ q.
@@ -127,10 +134,10 @@ started_refused v next call key u op number refusal seen stripes order calls is 
       order = (q.order_is ∙ none_new v.order q.to.history q.from.history (ap (λ (s : State). s.history) q.made.1)) i;
       calls = e i;
     }) in
-    let Goal : Shown → Type 0 = λ x. Starts v u.caller key op q.from q.to x next × RefusesAs u.kind x in
-    elim (puts_off u.kind refusal) as (λ b. puts_off u.kind refusal ≡ b → seen ≡ cond b (shown.PutOff refusal) (shown.Refused refusal) → calls ≡ cond b v.calls (settle u.caller.call key v.calls) → Goal seen) [
-      | true ↦ λ e s c. subst Goal (sym s) ((q.made, left v.calls c), e)
-      | false ↦ λ e s c. subst Goal (sym s) ((q.made, left (settle u.caller.call key v.calls) c), e)
+    let Goal : Shown → Type 0 = λ x. Starts v u.caller key op q.from q.to x.outcome next × RefusesAs u.kind x.outcome × (x.over ≡ over_by v u.caller.call key x.outcome) in
+    elim (puts_off u.kind refusal) as (λ b. puts_off u.kind refusal ≡ b → seen ≡ cond b (not_over (outcome.PutOff refusal)) (refused_with v u key refusal) → calls ≡ cond b v.calls (settle u.caller.call key (Some refusal) v.calls) → Goal seen) [
+      | true ↦ λ e s c. subst Goal (sym s) ((q.made, left v.calls c), e, refl)
+      | false ↦ λ e s c. subst Goal (sym s) ((q.made, left (settle u.caller.call key (Some refusal) v.calls) c), e, refl)
     ] refl shows calls_are)
 
 -- a key is reserved, and its stripe appends nothing
@@ -141,35 +148,42 @@ reserved v next key phase stripes order parts progress r q same parts_are next_i
 
 pub started_loads : (v next : WorldState) (call : ℕ) (key : Bytes) (u : CallState) (op : Op) (number : ℕ) (ticket : Ticket) (stripes : List State) (order : List Event) (parts : Parts) → open_call v call ≡ Some u → op_at u key ≡ Some op → number ≡ home v key
     → Phased v number (BeginsAs u.caller key op (begun.Load ticket)) stripes order → parts ≡ insert v.parts key (new_part new_load ticket.reservation)
-    → next ≡ record v { stripes = stripes; order = order; parts = parts } → Happens v (event.Start call key) shown.Loads next
+    → next ≡ record v { stripes = stripes; order = order; parts = parts } → Happens v (event.Start call key) (not_over outcome.Loads) next
 started_loads v next call key u op number ticket stripes order parts is op_is home_is p parts_are next_is =
-    started v next call key u op number (begun.Load ticket) shown.Loads stripes order is op_is home_is p (λ q.
-    ((ticket, q.made, reserved v next key _ stripes order parts new_load ticket.reservation q (ap (λ (s : State). s.history) q.made.4) parts_are next_is), tt))
+    started v next call key u op number (begun.Load ticket) (not_over outcome.Loads) stripes order is op_is home_is p (λ q.
+    ((ticket, q.made, reserved v next key _ stripes order parts new_load ticket.reservation q (ap (λ (s : State). s.history) q.made.4) parts_are next_is), tt, refl))
 
 -- a call has joined a load
-pub started_joins : (v next : WorldState) (call : ℕ) (key : Bytes) (u : CallState) (op : Op) (number : ℕ) (join : JoinClaim) (stripes : List State) (order : List Event) (joins : List JoinClaim) → open_call v call ≡ Some u → op_at u key ≡ Some op → number ≡ home v key
-    → Phased v number (BeginsAs u.caller key op (begun.Joined join)) stripes order → joins ≡ v.joins ++ join ∷ []
-    → next ≡ record v { stripes = stripes; order = order; joins = joins } → Happens v (event.Start call key) shown.Joins next
+pub started_joins : (v next : WorldState) (call : ℕ) (key : Bytes) (u : CallState) (op : Op) (number : ℕ) (join : JoinClaim) (stripes : List State) (order : List Event) (joins : Joins) → open_call v call ≡ Some u → op_at u key ≡ Some op → number ≡ home v key
+    → Phased v number (BeginsAs u.caller key op (begun.Joined join)) stripes order → joins ≡ insert v.joins (join_key join) join
+    → next ≡ record v { stripes = stripes; order = order; joins = joins } → Happens v (event.Start call key) (not_over outcome.Joins) next
 started_joins v next call key u op number join stripes order joins is op_is home_is p joins_are next_is =
-    started v next call key u op number (begun.Joined join) shown.Joins stripes order is op_is home_is p (λ q.
+    started v next call key u op number (begun.Joined join) (not_over outcome.Joins) stripes order is op_is home_is p (λ q.
     let quiet = q.order_is ∙ none_new v.order q.to.history q.from.history (ap (λ (s : State). s.history) q.made.3) in
-    ((join, q.made, next_is ∙ (λ i. record v { stripes = q.stripes_are i; order = quiet i; joins = joins_are i })), tt))
+    ((join, q.made, next_is ∙ (λ i. record v { stripes = q.stripes_are i; order = quiet i; joins = joins_are i })), tt, refl))
 
 pub started_asks : (v next : WorldState) (call : ℕ) (key : Bytes) (u : CallState) (op : Op) (number : ℕ) (ticket : Ticket) (change : Change) (stripes : List State) (order : List Event) (parts : Parts) → open_call v call ≡ Some u → op_at u key ≡ Some op → number ≡ home v key
     → Phased v number (BeginsAs u.caller key op (begun.Write ticket)) stripes order → ticket.reservation.first ≡ Writer change → parts ≡ insert v.parts key (new_part new_write ticket.reservation)
-    → next ≡ record v { stripes = stripes; order = order; parts = parts } → Happens v (event.Start call key) (shown.Asks change) next
+    → next ≡ record v { stripes = stripes; order = order; parts = parts } → Happens v (event.Start call key) (not_over (outcome.Asks change)) next
 started_asks v next call key u op number ticket change stripes order parts is op_is home_is p first parts_are next_is =
-    started v next call key u op number (begun.Write ticket) (shown.Asks change) stripes order is op_is home_is p (λ q.
-    ((ticket, q.made, first, reserved v next key _ stripes order parts new_write ticket.reservation q (ap (λ (s : State). s.history) q.made.4) parts_are next_is), tt))
+    started v next call key u op number (begun.Write ticket) (not_over (outcome.Asks change)) stripes order is op_is home_is p (λ q.
+    ((ticket, q.made, first, reserved v next key _ stripes order parts new_write ticket.reservation q (ap (λ (s : State). s.history) q.made.4) parts_are next_is), tt, refl))
 
 pub started_processes : (v next : WorldState) (call : ℕ) (key : Bytes) (u : CallState) (op : Op) (number : ℕ) (ticket : ProcessClaim) (entry : Option Bytes) (stripes : List State) (order : List Event) (parts : Parts) → open_call v call ≡ Some u → op_at u key ≡ Some op → number ≡ home v key
     → Phased v number (BeginsAs u.caller key op (begun.Process ticket)) stripes order → entry ≡ entry_seen ticket.reservation.first → parts ≡ insert v.parts key (new_part new_process ticket.reservation)
-    → next ≡ record v { stripes = stripes; order = order; parts = parts } → Happens v (event.Start call key) (shown.Processes entry) next
+    → next ≡ record v { stripes = stripes; order = order; parts = parts } → Happens v (event.Start call key) (not_over (outcome.Processes entry)) next
 started_processes v next call key u op number ticket entry stripes order parts is op_is home_is p entry_is parts_are next_is =
-    started v next call key u op number (begun.Process ticket) (shown.Processes entry) stripes order is op_is home_is p (λ q.
-    ((ticket, q.made, entry_is, reserved v next key _ stripes order parts new_process ticket.reservation q (ap (λ (s : State). s.history) q.made.4) parts_are next_is), tt))
+    started v next call key u op number (begun.Process ticket) (not_over (outcome.Processes entry)) stripes order is op_is home_is p (λ q.
+    ((ticket, q.made, entry_is, reserved v next key _ stripes order parts new_process ticket.reservation q (ap (λ (s : State). s.history) q.made.4) parts_are next_is), tt, refl))
 
 -- a key for which a ticket is given has no part yet
+-- what has just joined had not joined before
+pub free_join : (v : WorldState) (call : ℕ) (u : CallState) (key : Bytes) (op : Op) (number : ℕ) (join : JoinClaim) (stripes : List State) (order : List Event) → open_call v call ≡ Some u → op_at u key ≡ Some op
+    → Phased v number (BeginsAs u.caller key op (begun.Joined join)) stripes order → fits v (event.Start call key) ≡ true → IsSoundWorld v → get v.joins (join_key join) ≡ None
+free_join v call u key op number join stripes order is op_is p fit sound =
+    ap (get v.joins) (λ i. join_key (p.made.2 i))
+    ∙ missing (join_of v u.caller.call key) (λ other e. let t : true ≡ false = sym (ap is_some e) ∙ (may_start_at v call key u op fit is op_is sound).alone in cc)
+
 pub free_load : (v : WorldState) (u : CallState) (key : Bytes) (op : Op) (number : ℕ) (ticket : Ticket) (stripes : List State) (order : List Event) → number ≡ home v key → Phased v number (BeginsAs u.caller key op (begun.Load ticket)) stripes order → IsSoundWorld v
     → (get v.parts key ≡ None) × (ticket.reservation.key ≡ key) × (ticket.asked ≡ false)
 free_load v u key op number ticket stripes order home_is p sound =
@@ -211,14 +225,16 @@ free_process v u key op number ticket stripes order home_is p sound =
 abbrev pub CommitsAs : Part → StepDone → State → State → Type 0
 CommitsAs part done from to = Commits from part.reservation (out_of part) done to
 
-pub ended : (v next : WorldState) (call : ℕ) (key : Bytes) (part : Part) (number : ℕ) (done : StepDone) (seen : Stepped) (stripes : List State) (order : List Event) (parts : Parts) → part_of v call key ≡ Some part → number ≡ home v key
+pub ended : (v next : WorldState) (call : ℕ) (key : Bytes) (part : Part) (number : ℕ) (done : StepDone) (seen : Stepped) (met : Option Refusal) (over : Option Over) (stripes : List State) (order : List Event) (parts : Parts) → part_of v call key ≡ Some part → number ≡ home v key
     → Phased v number (CommitsAs part done) stripes order → step_of seen ≡ done → seen.stripe ≡ number → parts ≡ remove v.parts key
-    → next ≡ record v { stripes = stripes; order = order; calls = settle call key v.calls; parts = parts } → Happens v (event.Commit call key) (shown.Stepped seen) next
-ended v next call key part number done seen stripes order parts is home_is p shows stripe_is parts_are next_is =
+    → met ≡ fault_in done.reply → over ≡ over_settled call key met v.calls
+    → next ≡ record v { stripes = stripes; order = order; calls = settle call key met v.calls; parts = parts } → Happens v (event.Commit call key) (record { outcome = outcome.Stepped seen; over = over }) next
+ended v next call key part number done seen met over stripes order parts is home_is p shows stripe_is parts_are met_is over_is next_is =
+    let same : met ≡ fault_in seen.reply = met_is ∙ sym (ap (λ (d : StepDone). fault_in d.reply) shows) in
     let q = here v key number (CommitsAs part done) stripes order home_is p in
     let B : StepDone → Type 0 = λ d. Commits q.from part.reservation (out_of part) d q.to in
-    let left = next_is ∙ (λ i. record v { stripes = q.stripes_are i; order = q.order_is i; calls = settle call key v.calls; parts = parts_are i }) in
-    (part, is, q.from, q.at, q.to, (subst B (sym shows) q.made, stripe_is ∙ home_is, left))
+    let left = next_is ∙ (λ i. record v { stripes = q.stripes_are i; order = q.order_is i; calls = settle call key (same i) v.calls; parts = parts_are i }) in
+    (part, is, q.from, q.at, q.to, (subst B (sym shows) q.made, stripe_is ∙ home_is, left), over_is ∙ ap (λ m. over_settled call key m v.calls) same)
 
 -- what a commit needs of the stripe
 pub may_end_at : (v : WorldState) (call : ℕ) (key : Bytes) (part : Part) (number : ℕ) → part_of v call key ≡ Some part → number ≡ home v key → IsSoundWorld v
@@ -270,7 +286,7 @@ may_withdraw_at v call key part number is home_is sound =
 -- the reservation was given back
 pub withdrawn_at : (v next : WorldState) (call : ℕ) (key : Bytes) (part : Part) (number : ℕ) (stripes : List State) (parts : Parts) → part_of v call key ≡ Some part → number ≡ home v key
     → Changed v number (λ from to. Withdraws from part.reservation to) stripes → parts ≡ remove v.parts key
-    → next ≡ record v { stripes = stripes; parts = parts } → Happens v (event.Withdraw call key) shown.Withdrawn next
+    → next ≡ record v { stripes = stripes; parts = parts } → Happens v (event.Withdraw call key) (not_over outcome.Withdrawn) next
 withdrawn_at v next call key part number stripes parts is home_is p parts_are next_is =
     let q = changed_here v key number (λ from to. Withdraws from part.reservation to) stripes home_is p in
     (part, is, q.from, q.at, q.to, q.made, refl, next_is ∙ (λ i. record v { stripes = q.stripes_are i; parts = parts_are i }))
@@ -280,38 +296,38 @@ withdrawn_at v next call key part number stripes parts is home_is p parts_are ne
 -- the joiner of a join is in the stripe of its key
 pub joiner_at : (v : WorldState) (call : ℕ) (key : Bytes) (join : JoinClaim) (number : ℕ) → join_of v call key ≡ Some join → number ≡ home v key → IsSoundWorld v → IsSomeAnd (slice_get v.stripes number) (λ s. IsJoined s join)
 joiner_at v call key join number is home_is sound =
-    let h = fact_found (IsWaitedFor v) (is_join call key) v.joins join is sound.joins in
-    let key_is = (join_is call key join (found_test (is_join call key) v.joins join is)).1 in
+    let h = join_at v call key join is sound.joins in
     let P : ℕ → Type 0 = λ n. IsSomeAnd (slice_get v.stripes n) (λ s. IsJoined s join) in
-    subst P (ap (home v) key_is ∙ sym home_is) h.out
+    subst P (ap (home v) h.1 ∙ sym home_is) h.2.out
 
 -- a pick-up of this join
 abbrev pub PicksAs : JoinClaim → Picked → State → State → Type 0
 PicksAs join p from to = PicksUp from join p to
 
 -- the answer was there
-pub picked_answer : (v next : WorldState) (call : ℕ) (key : Bytes) (join : JoinClaim) (number : ℕ) (seen : PickedUp) (stripes : List State) → join_of v call key ≡ Some join → number ≡ home v key → seen.stripe ≡ number
+pub picked_answer : (v next : WorldState) (call : ℕ) (key : Bytes) (join : JoinClaim) (number : ℕ) (seen : PickedUp) (over : Option Over) (stripes : List State) → join_of v call key ≡ Some join → number ≡ home v key → seen.stripe ≡ number
     → Changed v number (PicksAs join (picked.Answer seen.reply seen.place seen.shared)) stripes
-    → next ≡ record v { stripes = stripes; joins = joins_without call key v.joins; calls = settle call key v.calls } → Happens v (event.PickUp call key) (shown.PickedUp seen) next
-picked_answer v next call key join number seen stripes is home_is stripe_is p next_is =
+    → over ≡ over_settled call key (fault_in seen.reply) v.calls
+    → next ≡ record v { stripes = stripes; joins = remove v.joins (call, key); calls = settle call key (fault_in seen.reply) v.calls } → Happens v (event.PickUp call key) (record { outcome = outcome.PickedUp seen; over = over }) next
+picked_answer v next call key join number seen over stripes is home_is stripe_is p over_is next_is =
     let q = changed_here v key number (PicksAs join (picked.Answer seen.reply seen.place seen.shared)) stripes home_is p in
-    let left = next_is ∙ (λ i. record v { stripes = q.stripes_are i; joins = joins_without call key v.joins; calls = settle call key v.calls }) in
-    (join, is, q.from, q.at, q.to, (q.made, stripe_is ∙ home_is, left))
+    let left = next_is ∙ (λ i. record v { stripes = q.stripes_are i; joins = remove v.joins (call, key); calls = settle call key (fault_in seen.reply) v.calls }) in
+    (join, is, q.from, q.at, q.to, (q.made, stripe_is ∙ home_is, left), over_is)
 
 -- the load was withdrawn
 pub picked_again : (v next : WorldState) (call : ℕ) (key : Bytes) (join : JoinClaim) (number : ℕ) (stripes : List State) → join_of v call key ≡ Some join → number ≡ home v key
     → Changed v number (PicksAs join picked.Again) stripes
-    → next ≡ record v { stripes = stripes; joins = joins_without call key v.joins } → Happens v (event.PickUp call key) shown.Again next
+    → next ≡ record v { stripes = stripes; joins = remove v.joins (call, key) } → Happens v (event.PickUp call key) (not_over outcome.Again) next
 picked_again v next call key join number stripes is home_is p next_is =
     let q = changed_here v key number (PicksAs join picked.Again) stripes home_is p in
-    (join, is, q.from, q.at, q.to, (q.made, next_is ∙ (λ i. record v { stripes = q.stripes_are i; joins = joins_without call key v.joins })))
+    (join, is, q.from, q.at, q.to, (q.made, next_is ∙ (λ i. record v { stripes = q.stripes_are i; joins = remove v.joins (call, key) })), refl)
 
 -- the load isn't over
 pub picked_nothing : (v next : WorldState) (call : ℕ) (key : Bytes) (join back : JoinClaim) (number : ℕ) (stripes : List State) → join_of v call key ≡ Some join → number ≡ home v key
     → Changed v number (PicksAs join (picked.NotYet back)) stripes
-    → next ≡ record v { stripes = stripes } → Happens v (event.PickUp call key) shown.Waits next
+    → next ≡ record v { stripes = stripes } → Happens v (event.PickUp call key) (not_over outcome.Waits) next
 picked_nothing v next call key join back number stripes is home_is p next_is =
     let q = changed_here v key number (PicksAs join (picked.NotYet back)) stripes home_is p in
     let made : PicksUp q.from join (picked.NotYet join) q.to = (q.made.0, q.made.1, refl, q.made.3) in
     let same = q.stripes_are ∙ same_set v.stripes (home v key) q.from q.to q.at q.made.3 in
-    (join, is, q.from, q.at, q.to, (made, next_is ∙ (λ i. record v { stripes = same i })))
+    (join, is, q.from, q.at, q.to, (made, next_is ∙ (λ i. record v { stripes = same i })), refl)

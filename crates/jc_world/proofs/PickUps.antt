@@ -6,9 +6,9 @@
 --     follows_joined     it is so if the call has just joined
 --     resolves           so what a pick-up shows is what has become of the load
 --     answers_joins      the whole, from the join to the pick-up
-use Rattle.std.proofs.Common.{inl, inr, ◌≡◌, ◌==◌, ◌&&◌, ◌||◌, ℕ, List, [], ◌∷◌, ◌++◌, zip, Bool, true, false, cond, not, Option, None, Some, IsSomeAnd, option_map, find, slice_get, slice_set, refl, sym, ap, ◌∙◌, subst, append-nil, append_assoc}
+use Rattle.std.proofs.Common.{inl, inr, ◌≡◌, ◌==◌, ◌&&◌, ◌||◌, ℕ, List, [], ◌∷◌, ◌++◌, zip, Bool, true, false, cond, not, Option, None, Some, IsSomeAnd, option_map, is_some, slice_get, slice_set, refl, sym, ap, ◌∙◌, subst, append-nil, append_assoc}
 use Rattle.std.specs.List.{list_any}
-use Rattle.std.specs.FinMap.{get}
+use Rattle.std.specs.FinMap.{get, remove}
 use Rattle.std.specs.Cmp.Lexicographic.{pointwise}
 use Rattle.std.proofs.lemmas.Bool.{eq-eqb, and_from, or_parts, false_from_ne_true}
 use Rattle.std.proofs.lemmas.Cmp.{nat_eq_equiv, nat_list_eq_equiv}
@@ -29,29 +29,30 @@ use Rattle.jc_stripe.specs.Phases.{with_joiner, without_joiner, told_to}
 use Rattle.jc_world.specs.declared.event.Part.{Part}
 use Rattle.jc_world.specs.Calls.{CallState, op_at}
 use Rattle.jc_world.specs.declared.event.Shown.{Shown}
-use Rattle.jc_world.specs.declared.event.Shown.TheVariants as shown
+use Rattle.jc_world.specs.declared.event.Over.{Over}
+use Rattle.jc_world.specs.declared.event.Outcome.{Outcome}
+use Rattle.jc_world.specs.declared.event.Outcome.TheVariants as outcome
 use Rattle.jc_world.specs.declared.event.WorldEvent.{WorldEvent}
 use Rattle.jc_world.specs.declared.event.WorldEvent.TheVariants as event
-use Rattle.jc_world.specs.World.{WorldState, home, stripe_for, open_call, of_call, part_of, is_join, join_of, is_joined, joins_without}
+use Rattle.jc_world.specs.World.{WorldState, home, stripe_for, open_call, of_call, part_of, JoinKey, Joins, join_key, join_of, has_joined, is_joined}
 use Rattle.jc_world.specs.Fits.{fits}
-use Rattle.jc_world.specs.Events.{with_ends, with_stripe, with_join, Starts, Ends, Picks, Happens, Step, Run}
+use Rattle.jc_world.specs.Events.{not_over, with_stripe, with_join, Starts, Ends, Picks, Happens, Step, Run}
 use Rattle.jc_world.specs.PickUps.{ends_join, is_last_pick_up, ends_load, Resolves}
 use Rattle.jc_world.specs.Sound.{IsHeld, IsSoundWorld, IsOwned}
 use Rattle.jc_world.proofs.Numbered.{some_of}
 use Rattle.jc_world.proofs.Places.{at_stripe_apart, stripe_put}
 use Rattle.jc_world.proofs.Shares.{is_some_and, found_test, fact_found}
 use Rattle.jc_world.proofs.Underway.{found_number, of_call-at, same_bytes}
-use Rattle.jc_world.proofs.Joiners.{joiner_of, find_kept, joined_last, join_is}
-use Rattle.jc_world.proofs.Reservations.{found_more, found_last}
+use Rattle.jc_world.proofs.Joiners.{joiner_of, find_kept, joined_last, join_at}
+use Rattle.jc_world.proofs.Maps.{joins_ordered, get-here, get-beside, get-left}
+use Rattle.jc_world.proofs.Reservations.{found_more}
 use Rattle.jc_world.proofs.Kept.{some_map}
 use Rattle.jc_world.proofs.Beginning.{MayStart, may_start_at}
 use Rattle.jc_world.proofs.Callers.{part_key}
 use Rattle.jc_world.proofs.LoadKeys.{load_there}
 use Rattle.jc_world.proofs.Joins.{no_joiner}
-use Rattle.jc_world.proofs.JoinedLoads.{Shows, Tells, TellsOf, TellsIn, none_of_key, tells_on, tells_kept, tells_committed, tells_withdrawn}
+use Rattle.jc_world.proofs.JoinedLoads.{Shows, step_shown, Tells, TellsOf, TellsIn, none_of_key, tells_on, tells_kept, tells_committed, tells_withdrawn}
 use Rattle.jc_world.proofs.Sounding.{Laws, sound_step, sound_run}
-use Rattle.jc_world.specs.Ends.{EndsState}
-use Rattle.jc_world.proofs.Noting.{noted_as}
 use Rattle.jc_world.proofs.Beside.{beside}
 
 -- 1. From world to world.
@@ -87,7 +88,7 @@ follows_same w n shows more join r h config stripes joins none =
     let S : List State → Type 0 = λ ss. IsSomeAnd (slice_get ss m) (TellsIn m (shows ++ more) join r) in
     record {
       key_is = h.key_is;
-      join_is = ap (find (is_join join.caller.call join.key)) joins ∙ h.join_is;
+      join_is = ap (λ (m : Joins). get m (join_key join)) joins ∙ h.join_is;
       joiner = subst C (sym config) (subst S (sym stripes)
           (some_map (slice_get w.stripes m) (TellsIn m shows join r) (TellsIn m (shows ++ more) join r) (λ s t. tells_kept m shows more join r s s [] (sym (append-nil s.joiners)) none (λ o. o) t) h.joiner));
     }
@@ -100,67 +101,68 @@ follows_beside w n m shows more join r h is config stripes joins none =
     subst P (sym is) (follows_same w m shows more join r h config stripes joins none)
 
 -- the first phase of a call
-follows_started : (w new : WorldState) (caller : Caller) (key : Bytes) (op : Op) (from to : State) (seen : Shown) (shows more : Shows) (join : JoinClaim) (r : Reservation) → stripe_for w key ≡ Some from → Starts w caller key op from to seen new → list_any (ends_load r) more ≡ false
+follows_started : (w new : WorldState) (caller : Caller) (key : Bytes) (op : Op) (from to : State) (seen : Outcome) (shows more : Shows) (join : JoinClaim) (r : Reservation) → stripe_for w key ≡ Some from → Starts w caller key op from to seen new → is_joined w caller.call key ≡ false → list_any (ends_load r) more ≡ false
     → Follows w shows join r → Follows new (shows ++ more) join r
-follows_started w new caller key op from to (shown.Refused refusal) shows more join r there h none f = follows_beside w new _ shows more join r f h.1 refl refl refl none
-follows_started w new caller key op from to (shown.PutOff refusal) shows more join r there h none f = follows_beside w new _ shows more join r f h.1 refl refl refl none
-follows_started w new caller key op from to (shown.Stepped seen) shows more join r there h none f =
+follows_started w new caller key op from to (outcome.Refused refusal) shows more join r there h alone none f = follows_beside w new _ shows more join r f h.1 refl refl refl none
+follows_started w new caller key op from to (outcome.PutOff refusal) shows more join r there h alone none f = follows_beside w new _ shows more join r f h.1 refl refl refl none
+follows_started w new caller key op from to (outcome.Stepped seen) shows more join r there h alone none f =
     let after = h.0.2.after in
     follows_set w new shows more join r key from to f (ap (λ (x : WorldState). x.config) h.2) (ap (λ (x : WorldState). x.stripes) h.2) there
     (ap (λ (x : WorldState). join_of x join.caller.call join.key) h.2 ∙ f.join_is) (λ apart. none)
     (tells_kept (home w join.key) shows more join r from to [] (ap (λ (s : State). s.joiners) after ∙ sym (append-nil from.joiners)) none (λ out. ap (λ (s : State). reservation_of s r.key) after ∙ out))
-follows_started w new caller key op from to shown.Loads shows more join r there h none f =
+follows_started w new caller key op from to outcome.Loads shows more join r there h alone none f =
     let after = h.1.4 in
     follows_set w new shows more join r key from to f (ap (λ (x : WorldState). x.config) h.2) (ap (λ (x : WorldState). x.stripes) h.2) there
     (ap (λ (x : WorldState). join_of x join.caller.call join.key) h.2 ∙ f.join_is) (λ apart. none)
     (tells_kept (home w join.key) shows more join r from to [] (ap (λ (s : State). s.joiners) after ∙ sym (append-nil from.joiners)) none
     (λ out. ap (λ (s : State). reservation_of s r.key) after ∙ found_more (is_key r.key) from.reservations (h.0.reservation ∷ []) r out))
-follows_started w new caller key op from to (shown.Asks change) shows more join r there h none f =
+follows_started w new caller key op from to (outcome.Asks change) shows more join r there h alone none f =
     let after = h.1.4 in
     follows_set w new shows more join r key from to f (ap (λ (x : WorldState). x.config) h.3) (ap (λ (x : WorldState). x.stripes) h.3) there
     (ap (λ (x : WorldState). join_of x join.caller.call join.key) h.3 ∙ f.join_is) (λ apart. none)
     (tells_kept (home w join.key) shows more join r from to [] (ap (λ (s : State). s.joiners) after ∙ sym (append-nil from.joiners)) none
     (λ out. ap (λ (s : State). reservation_of s r.key) after ∙ found_more (is_key r.key) from.reservations (h.0.reservation ∷ []) r out))
-follows_started w new caller key op from to (shown.Processes entry) shows more join r there h none f =
+follows_started w new caller key op from to (outcome.Processes entry) shows more join r there h alone none f =
     let after = h.1.4 in
     follows_set w new shows more join r key from to f (ap (λ (x : WorldState). x.config) h.3) (ap (λ (x : WorldState). x.stripes) h.3) there
     (ap (λ (x : WorldState). join_of x join.caller.call join.key) h.3 ∙ f.join_is) (λ apart. none)
     (tells_kept (home w join.key) shows more join r from to [] (ap (λ (s : State). s.joiners) after ∙ sym (append-nil from.joiners)) none
     (λ out. ap (λ (s : State). reservation_of s r.key) after ∙ found_more (is_key r.key) from.reservations (h.0.reservation ∷ []) r out))
-follows_started w new caller key op from to shown.Joins shows more join r there h none f =
+follows_started w new caller key op from to outcome.Joins shows more join r there h alone none f =
     let after = h.1.3 in
     let other = h.0 in
+    let apart : join_key join ≡ join_key other → ⊥ = λ same.
+    let other_is : join_key other ≡ (caller.call, key) = λ i. join_key (h.1.2 i) in
+    let t : true ≡ false = sym (ap is_some f.join_is) ∙ ap (λ (at : JoinKey). has_joined w.joins at.0 at.1) (same ∙ other_is) ∙ alone in cc
+    in
     follows_set w new shows more join r key from to f (ap (λ (x : WorldState). x.config) h.2) (ap (λ (x : WorldState). x.stripes) h.2) there
-    (ap (λ (x : WorldState). join_of x join.caller.call join.key) h.2 ∙ found_more (is_join join.caller.call join.key) w.joins (other ∷ []) join f.join_is) (λ apart. none)
+    (ap (λ (x : WorldState). join_of x join.caller.call join.key) h.2 ∙ get-beside joins_ordered w.joins (join_key other) other (join_key join) apart ∙ f.join_is) (λ apart. none)
     (tells_kept (home w join.key) shows more join r from to (record { caller = other.caller; key = other.key; load = other.load; state = Waiting } ∷ []) (ap (λ (s : State). s.joiners) after) none (λ out. ap (λ (s : State). reservation_of s r.key) after ∙ out))
-follows_started w new caller key op from to seen shows more join r there h none f = absurd h
+follows_started w new caller key op from to seen shows more join r there h alone none f = absurd h
 
 -- the last phase of a call
-follows_ended : (w new : WorldState) (call : ℕ) (key : Bytes) (part : Part) (from to : State) (seen : Shown) (shows : Shows) (join : JoinClaim) (r : Reservation) → part_of w call key ≡ Some part → stripe_for w key ≡ Some from
-    → Ends w call key part from to seen new → IsSoundWorld w → Follows w shows join r → Follows new (shows ++ (event.Commit call key, seen) ∷ []) join r
-follows_ended w new call key part from to (shown.Stepped seen) shows join r is there h old f =
+follows_ended : (w new : WorldState) (call : ℕ) (key : Bytes) (part : Part) (from to : State) (seen : Outcome) (over : Option Over) (shows : Shows) (join : JoinClaim) (r : Reservation) → part_of w call key ≡ Some part → stripe_for w key ≡ Some from
+    → Ends w call key part from to seen new → IsSoundWorld w → Follows w shows join r → Follows new (shows ++ (event.Commit call key, record { outcome = seen; over = over }) ∷ []) join r
+follows_ended w new call key part from to (outcome.Stepped seen) over shows join r is there h old f =
     let p = part.reservation in
     let after = h.0.1.after in
-    follows_set w new shows ((event.Commit call key, shown.Stepped seen) ∷ []) join r key from to f (ap (λ (x : WorldState). x.config) h.2) (ap (λ (x : WorldState). x.stripes) h.2) there
+    follows_set w new shows ((event.Commit call key, step_shown seen over) ∷ []) join r key from to f (ap (λ (x : WorldState). x.config) h.2) (ap (λ (x : WorldState). x.stripes) h.2) there
     (ap (λ (x : WorldState). join_of x join.caller.call join.key) h.2 ∙ f.join_is)
-    (λ apart. ap (λ b. b || false) (none_of_key r call key (shown.Stepped seen) (λ same. apart (ap (home w) (sym same ∙ f.key_is)))))
-    (tells_committed (home w join.key) call key shows join p r from to seen (old.shape.each (home w key) from there).reached h.0.0
+    (λ apart. ap (λ b. b || false) (none_of_key r call key (step_shown seen over) (λ same. apart (ap (home w) (sym same ∙ f.key_is)))))
+    (tells_committed (home w join.key) call key shows join p r from to seen over (old.shape.each (home w key) from there).reached h.0.0
     (of_call-at call (get w.parts key) part is).1 (part_key w call key part is old) (λ same. h.1 ∙ ap (home w) (sym same ∙ f.key_is))
     (ap (λ (s : State). s.reservations) after) (ap (λ (s : State). s.joiners) after))
-follows_ended w new call key part from to seen shows join r is there h old f = absurd h
+follows_ended w new call key part from to seen over shows join r is there h old f = absurd h
 
 -- a pick-up of another join leaves this one, and its joiner
 follows_others : (w new : WorldState) (call : ℕ) (key : Bytes) (other : JoinClaim) (from to : State) (shows more : Shows) (join : JoinClaim) (r : Reservation) → join_of w call key ≡ Some other → stripe_for w key ≡ Some from → to ≡ without_joiner from other
-    → (call ≡ join.caller.call → key ≡ join.key → ⊥) → new.config ≡ w.config → new.stripes ≡ slice_set w.stripes (home w key) to → new.joins ≡ joins_without call key w.joins
-    → list_any (ends_load r) more ≡ false → Follows w shows join r → Follows new (shows ++ more) join r
-follows_others w new call key other from to shows more join r found there after apart config stripes joins none f =
-    let is = join_is call key other (found_test (is_join call key) w.joins other found) in
+    → (call ≡ join.caller.call → key ≡ join.key → ⊥) → new.config ≡ w.config → new.stripes ≡ slice_set w.stripes (home w key) to → new.joins ≡ remove w.joins (call, key)
+    → list_any (ends_load r) more ≡ false → IsSoundWorld w → Follows w shows join r → Follows new (shows ++ more) join r
+follows_others w new call key other from to shows more join r found there after apart config stripes joins none old f =
+    let is = join_at w call key other found old.joins in
     let left : join_of new join.caller.call join.key ≡ Some join =
-    ap (find (is_join join.caller.call join.key)) joins
-    ∙ find_kept (is_join join.caller.call join.key) (λ x. not (is_join call key x)) w.joins (λ x mine. ap not (false_from_ne_true (is_join call key x) (λ its.
-    let a = join_is join.caller.call join.key x mine in
-    let b = join_is call key x its in
-    apart (sym b.0 ∙ a.0) (sym b.1 ∙ a.1))))
+    ap (λ (m : Joins). get m (join_key join)) joins
+    ∙ get-left joins_ordered w.joins (call, key) (join_key join) (λ same. apart (sym (ap (λ (at : JoinKey). at.0) same)) (sym (ap (λ (at : JoinKey). at.1) same)))
     ∙ f.join_is
     in
     let Q : Joiner → Type 0 = TellsOf (home w join.key) (shows ++ more) to r in
@@ -178,7 +180,7 @@ follows_others w new call key other from to shows more join r found there after 
     (λ j k. (k.0, tells_on (home w join.key) shows more from to r j.state (λ waits out. (ap (λ (s : State). reservation_of s r.key) after ∙ out, none)) k.1)) t))
 
 -- a pick-up that ends a join, and isn't the last of this one, is of another
-of_another : (call mine : ℕ) (key own : Bytes) (seen : Shown) → is_last_pick_up mine own (event.PickUp call key, seen) ≡ false → ends_join seen ≡ true → call ≡ mine → key ≡ own → ⊥
+of_another : (call mine : ℕ) (key own : Bytes) (seen : Outcome) → ((call == mine) && pointwise ◌==◌ own key && ends_join seen) ≡ false → ends_join seen ≡ true → call ≡ mine → key ≡ own → ⊥
 of_another call mine key own seen other ends same_call same_key =
     let t : true ≡ false =
     sym (and_from ((call == mine) && pointwise ◌==◌ own key) (ends_join seen) (and_from (call == mine) (pointwise ◌==◌ own key) (eq-eqb call mine same_call) (ap (pointwise ◌==◌ own) same_key ∙ nat_list_eq_equiv.refl own)) ends) ∙ other
@@ -186,61 +188,53 @@ of_another call mine key own seen other ends same_call same_key =
     cc
 
 -- a pick-up
-follows_picks : (w new : WorldState) (call : ℕ) (key : Bytes) (other : JoinClaim) (from to : State) (seen : Shown) (shows more : Shows) (join : JoinClaim) (r : Reservation) → join_of w call key ≡ Some other → stripe_for w key ≡ Some from
-    → Picks w call key other from to seen new → is_last_pick_up join.caller.call join.key (event.PickUp call key, seen) ≡ false → list_any (ends_load r) more ≡ false
-    → Follows w shows join r → Follows new (shows ++ more) join r
-follows_picks w new call key other from to (shown.PickedUp seen) shows more join r found there h last none f =
-    follows_others w new call key other from to shows more join r found there h.0.3 (of_another call join.caller.call key join.key (shown.PickedUp seen) last refl)
-    (ap (λ (x : WorldState). x.config) h.2) (ap (λ (x : WorldState). x.stripes) h.2) (ap (λ (x : WorldState). x.joins) h.2) none f
-follows_picks w new call key other from to shown.Again shows more join r found there h last none f =
-    follows_others w new call key other from to shows more join r found there h.0.2 (of_another call join.caller.call key join.key shown.Again last refl)
-    (ap (λ (x : WorldState). x.config) h.1) (ap (λ (x : WorldState). x.stripes) h.1) (ap (λ (x : WorldState). x.joins) h.1) none f
-follows_picks w new call key other from to shown.Waits shows more join r found there h last none f = follows_beside w new w shows more join r f h.1 refl refl refl none
-follows_picks w new call key other from to seen shows more join r found there h last none f = absurd h
+follows_picks : (w new : WorldState) (call : ℕ) (key : Bytes) (other : JoinClaim) (from to : State) (seen : Outcome) (shows more : Shows) (join : JoinClaim) (r : Reservation) → join_of w call key ≡ Some other → stripe_for w key ≡ Some from
+    → Picks w call key other from to seen new → ((call == join.caller.call) && pointwise ◌==◌ join.key key && ends_join seen) ≡ false → list_any (ends_load r) more ≡ false
+    → IsSoundWorld w → Follows w shows join r → Follows new (shows ++ more) join r
+follows_picks w new call key other from to (outcome.PickedUp seen) shows more join r found there h last none old f =
+    follows_others w new call key other from to shows more join r found there h.0.3 (of_another call join.caller.call key join.key (outcome.PickedUp seen) last refl)
+    (ap (λ (x : WorldState). x.config) h.2) (ap (λ (x : WorldState). x.stripes) h.2) (ap (λ (x : WorldState). x.joins) h.2) none old f
+follows_picks w new call key other from to outcome.Again shows more join r found there h last none old f =
+    follows_others w new call key other from to shows more join r found there h.0.2 (of_another call join.caller.call key join.key outcome.Again last refl)
+    (ap (λ (x : WorldState). x.config) h.1) (ap (λ (x : WorldState). x.stripes) h.1) (ap (λ (x : WorldState). x.joins) h.1) none old f
+follows_picks w new call key other from to outcome.Waits shows more join r found there h last none old f = follows_beside w new w shows more join r f h.1 refl refl refl none
+follows_picks w new call key other from to seen shows more join r found there h last none old f = absurd h
 
 -- by the kind of the event
-follows_happens : (w new : WorldState) (e : WorldEvent) (seen : Shown) (shows : Shows) (join : JoinClaim) (r : Reservation) → Happens w e seen new → is_last_pick_up join.caller.call join.key (e, seen) ≡ false → IsSoundWorld w → Follows w shows join r
+follows_happens : (w new : WorldState) (e : WorldEvent) (seen : Shown) (shows : Shows) (join : JoinClaim) (r : Reservation) → fits w e ≡ true → Happens w e seen new → is_last_pick_up join.caller.call join.key (e, seen) ≡ false → IsSoundWorld w → Follows w shows join r
     → Follows new (shows ++ (e, seen) ∷ []) join r
-follows_happens w new (event.Call call session command) seen shows join r h last old f = follows_beside w new _ shows _ join r f h.1 refl refl refl refl
-follows_happens w new (event.Look call stripe) seen shows join r h last old f = follows_beside w new _ shows _ join r f h.9 refl refl refl refl
-follows_happens w new (event.Start call key) seen shows join r h last old f = follows_started w new h.0.caller key h.1 h.4 h.6 seen shows _ join r h.5 h.7 refl f
-follows_happens w new (event.Read call key) seen shows join r h last old f = follows_beside w new _ shows _ join r f h.3 refl refl refl refl
-follows_happens w new (event.Say call key answer) seen shows join r h last old f = follows_beside w new _ shows _ join r f h.3 refl refl refl refl
-follows_happens w new (event.Process call key source calls fail) seen shows join r h last old f = follows_beside w new _ shows _ join r f h.3 refl refl refl refl
-follows_happens w new (event.Change call key) seen shows join r h last old f = follows_beside w new _ shows _ join r f h.5 refl refl refl refl
-follows_happens w new (event.Report call left fault) seen shows join r h last old f = follows_beside w new _ shows _ join r f (beside w new call h.0 left fault h.3).is refl refl refl refl
-follows_happens w new (event.Commit call key) seen shows join r h last old f = follows_ended w new call key h.0 h.2 h.4 seen shows join r h.1 h.3 h.5 old f
-follows_happens w new (event.Withdraw call key) seen shows join r h last old f =
+follows_happens w new (event.Call call session command) seen shows join r fit h last old f = follows_beside w new _ shows _ join r f h.1 refl refl refl refl
+follows_happens w new (event.Look call stripe) seen shows join r fit h last old f = follows_beside w new _ shows _ join r f h.9 refl refl refl refl
+follows_happens w new (event.Start call key) seen shows join r fit h last old f = follows_started w new h.0.caller key h.1 h.4 h.6 seen.outcome shows _ join r h.5 h.7 (may_start_at w call key h.0 h.1 fit h.2 h.3 old).alone refl f
+follows_happens w new (event.Read call key) seen shows join r fit h last old f = follows_beside w new _ shows _ join r f h.3 refl refl refl refl
+follows_happens w new (event.Say call key answer) seen shows join r fit h last old f = follows_beside w new _ shows _ join r f h.3 refl refl refl refl
+follows_happens w new (event.Process call key source calls fail) seen shows join r fit h last old f = follows_beside w new _ shows _ join r f h.3 refl refl refl refl
+follows_happens w new (event.Change call key) seen shows join r fit h last old f = follows_beside w new _ shows _ join r f h.5 refl refl refl refl
+follows_happens w new (event.Report call left fault) seen shows join r fit h last old f = follows_beside w new _ shows _ join r f (beside w new call h.0 left fault h.3).is refl refl refl refl
+follows_happens w new (event.Commit call key) seen shows join r fit h last old f = follows_ended w new call key h.0 h.2 h.4 seen.outcome seen.over shows join r h.1 h.3 h.5 old f
+follows_happens w new (event.Withdraw call key) seen shows join r fit h last old f =
     let p = h.0.reservation in
     let S : Shown → Type 0 = λ s. Follows new (shows ++ (event.Withdraw call key, s) ∷ []) join r in
     subst S (sym h.6)
-    (follows_set w new shows ((event.Withdraw call key, shown.Withdrawn) ∷ []) join r key h.2 h.4 f (ap (λ (x : WorldState). x.config) h.7) (ap (λ (x : WorldState). x.stripes) h.7) h.3
+    (follows_set w new shows ((event.Withdraw call key, not_over outcome.Withdrawn) ∷ []) join r key h.2 h.4 f (ap (λ (x : WorldState). x.config) h.7) (ap (λ (x : WorldState). x.stripes) h.7) h.3
     (ap (λ (x : WorldState). join_of x join.caller.call join.key) h.7 ∙ f.join_is)
-    (λ apart. ap (λ b. b || false) (none_of_key r call key shown.Withdrawn (λ same. apart (ap (home w) (sym same ∙ f.key_is)))))
+    (λ apart. ap (λ b. b || false) (none_of_key r call key (not_over outcome.Withdrawn) (λ same. apart (ap (home w) (sym same ∙ f.key_is)))))
     (tells_withdrawn (home w join.key) call key shows join p r h.2 h.4 (old.shape.each (home w key) h.2 h.3).reached h.5.0
     (of_call-at call (get w.parts key) h.0 h.1).1 (part_key w call key h.0 h.1 old)
     (ap (λ (s : State). s.reservations) h.5.1) (ap (λ (s : State). s.joiners) h.5.1)))
-follows_happens w new (event.Leave call) seen shows join r h last old f = follows_beside w new _ shows _ join r f h.1 refl refl refl refl
-follows_happens w new (event.PickUp call key) seen shows join r h last old f = follows_picks w new call key h.0 h.2 h.4 seen shows _ join r h.1 h.3 h.5 last refl f
-follows_happens w new (event.Foreign key value) seen shows join r h last old f = follows_beside w new _ shows _ join r f h.1 refl refl refl refl
+follows_happens w new (event.Leave call) seen shows join r fit h last old f = follows_beside w new _ shows _ join r f h.1 refl refl refl refl
+follows_happens w new (event.PickUp call key) seen shows join r fit h last old f = follows_picks w new call key h.0 h.2 h.4 seen.outcome shows _ join r h.1 h.3 h.5 last refl old f
+follows_happens w new (event.Foreign key value) seen shows join r fit h last old f = follows_beside w new _ shows _ join r f h.1 refl refl refl refl
 
 -- what doesn't fit ends no load
-unfit_ends : (r : Reservation) (e : WorldEvent) → ends_load r (e, shown.Unfit) ≡ false
+unfit_ends : (r : Reservation) (e : WorldEvent) → ends_load r (e, not_over outcome.Unfit) ≡ false
 unfit_ends r (event.Commit call key) = refl
 unfit_ends r (event.Withdraw call key) = refl
 unfit_ends r e = refl
 
--- what is noted is beside it
-follows_noted : (w n : WorldState) (ends : EndsState) (shows : Shows) (join : JoinClaim) (r : Reservation) → n ≡ with_ends w ends → Follows w shows join r → Follows n shows join r
-follows_noted w n ends shows join r is f =
-    let P : WorldState → Type 0 = λ x. Follows x shows join r in
-    subst P (sym is) (record { key_is = f.key_is; join_is = f.join_is; joiner = f.joiner })
-
 follows_step : (w new : WorldState) (e : WorldEvent) (seen : Shown) (shows : Shows) (join : JoinClaim) (r : Reservation) → Step w e seen new → is_last_pick_up join.caller.call join.key (e, seen) ≡ false → IsSoundWorld w → Follows w shows join r
     → Follows new (shows ++ (e, seen) ∷ []) join r
-follows_step w new e seen shows join r (inl (fit, (mid, happens, is))) last old f =
-    let n = noted_as w mid new e seen is in
-    follows_noted mid new n.ends (shows ++ (e, seen) ∷ []) join r n.is (follows_happens w mid e seen shows join r happens last old f)
+follows_step w new e seen shows join r (inl (fit, happens)) last old f = follows_happens w new e seen shows join r fit happens last old f
 follows_step w new e seen shows join r (inr (unfit, shown_is, is)) last old f = follows_beside w new w shows _ join r f is refl refl refl (ap (λ b. b || false) (ap (λ s. ends_load r (e, s)) shown_is ∙ unfit_ends r e))
 
 -- both tests fail, where not one of them holds
@@ -273,11 +267,6 @@ part_of_out w key s r there key_is out old =
 
 -- 3. The join, and the pick-up.
 
--- one is there if one is found
-found_any : {A : Type 0} (p : A → Bool) (xs : List A) (x : A) → find p xs ≡ Some x → list_any p xs ≡ true
-found_any p [] x h = cc
-found_any p (y ∷ ys) x h = elim (p y) as (λ b. cond b (Some y) (find p ys) ≡ Some x → (b || list_any p ys) ≡ true) [ true ↦ λ h. refl | false ↦ λ h. found_any p ys x h ] h
-
 -- a load that is joined on a condition can be joined
 can_join : (b : Bool) (o : Option ℕ) (load : ℕ) → cond b o None ≡ Some load → o ≡ Some load
 can_join true o load h = h
@@ -297,7 +286,7 @@ follows_joined w u key op from to join r there join_is_of to_is r_key r_number o
     let I : State → Type 0 = TellsIn (home w join.key) [] join r in
     record {
       key_is = r_key ∙ sym key_is;
-      join_is = found_last (is_join join.caller.call join.key) w.joins join free (and_from _ _ (nat_eq_equiv.refl join.caller.call) (nat_list_eq_equiv.refl join.key));
+      join_is = get-here joins_ordered w.joins (join_key join) join;
       joiner = is_some_and (stripe_for new join.key) I to (ap (λ k. slice_get new.stripes (home w k)) key_is ∙ stripe_put w.stripes (home w key) from to there)
           (subst J (sym (ap (λ (s : State). s.joiners) to_is))
           (joined_last Q (belongs_to join.caller join.key) from.joiners next (no_joiner w key from join there free old)
@@ -314,13 +303,13 @@ known_at number shows join r s state is h =
     subst (Tells number shows s r) same j.2.1
 
 -- by what is shown of the pick-up
-resolves_picks : (w new : WorldState) (call : ℕ) (key : Bytes) (join : JoinClaim) (from to : State) (seen : Shown) (shows : Shows) (r : Reservation) → stripe_for w key ≡ Some from → r.key ≡ key → TellsIn (home w key) shows join r from → IsSoundWorld w
+resolves_picks : (w new : WorldState) (call : ℕ) (key : Bytes) (join : JoinClaim) (from to : State) (seen : Outcome) (shows : Shows) (r : Reservation) → stripe_for w key ≡ Some from → r.key ≡ key → TellsIn (home w key) shows join r from → IsSoundWorld w
     → Picks w call key join from to seen new → Resolves w shows r seen
-resolves_picks w new call key join from to (shown.PickedUp seen) shows r there key_is told old h =
+resolves_picks w new call key join from to (outcome.PickedUp seen) shows r there key_is told old h =
     let t = known_at (home w key) shows join r from (Answered seen.place seen.shared) h.0.1 told in
     (t.0, t.1, t.2, t.3 ∙ sym h.1, t.4)
-resolves_picks w new call key join from to shown.Again shows r there key_is told old h = known_at (home w key) shows join r from Again h.0.1 told
-resolves_picks w new call key join from to shown.Waits shows r there key_is told old h =
+resolves_picks w new call key join from to outcome.Again shows r there key_is told old h = known_at (home w key) shows join r from Again h.0.1 told
+resolves_picks w new call key join from to outcome.Waits shows r there key_is told old h =
     let out = known_at (home w key) shows join r from Waiting h.0.1 told in
     let part = part_of_out w key from r there key_is out.0 old in
     (part.0, part.1, part.2, out.1)
@@ -328,32 +317,32 @@ resolves_picks w new call key join from to seen shows r there key_is told old h 
 
 -- the pick-up fits, and shows that
 resolves : (w new : WorldState) (call : ℕ) (key : Bytes) (join : JoinClaim) (seen : Shown) (shows : Shows) (r : Reservation) → join.caller.call ≡ call → join.key ≡ key → Follows w shows join r → IsSoundWorld w
-    → Step w (event.PickUp call key) seen new → Resolves w shows r seen
-resolves w new call key join seen shows r call_is key_is f old (inl (fit, (mid, (other, found, from, there, to, picks), is))) =
+    → Step w (event.PickUp call key) seen new → Resolves w shows r seen.outcome
+resolves w new call key join seen shows r call_is key_is f old (inl (fit, (other, found, from, there, to, picks, over))) =
     let e : Some other ≡ Some join = sym found ∙ (λ i. join_of w (sym call_is i) (sym key_is i)) ∙ f.join_is in
     let same : other ≡ join = cc in
     let K : Bytes → Type 0 = λ k. IsSomeAnd (stripe_for w k) (TellsIn (home w k) shows join r) in
     let at = some_of (stripe_for w key) (TellsIn (home w key) shows join r) (subst K key_is f.joiner) in
     let t : Some at.0 ≡ Some from = sym at.1 ∙ there in
     let here : at.0 ≡ from = cc in
-    let P : JoinClaim → Type 0 = λ j. Picks w call key j from to seen mid in
-    resolves_picks w mid call key join from to seen shows r there (f.key_is ∙ key_is) (subst (TellsIn (home w key) shows join r) here at.2) old (subst P same picks)
+    let P : JoinClaim → Type 0 = λ j. Picks w call key j from to seen.outcome new in
+    resolves_picks w new call key join from to seen.outcome shows r there (f.key_is ∙ key_is) (subst (TellsIn (home w key) shows join r) here at.2) old (subst P same picks)
 resolves w new call key join seen shows r call_is key_is f old (inr (unfit, shown_is, is)) =
-    let joined = found_any (is_join call key) w.joins join ((λ i. join_of w (sym call_is i) (sym key_is i)) ∙ f.join_is) in
+    let joined = ap is_some ((λ i. join_of w (sym call_is i) (sym key_is i)) ∙ f.join_is) in
     absurd (let t : true ≡ false = sym joined ∙ unfit in cc)
 
 -- 4. From the join to the pick-up.
 
 -- what is asked of the part of a load that was joined
-abbrev pub IsAnswered : WorldState → WorldState → Bytes → Shows → Shown → Type 0
+abbrev pub IsAnswered : WorldState → WorldState → Bytes → Shows → Outcome → Type 0
 IsAnswered old new key shows seen =
     (load : Part) × (part_of old load.reservation.caller.call key ≡ Some load) × (asks_loader load.reservation.first ≡ true) × (load.reservation.key ≡ key) × Resolves new shows load.reservation seen
 
 -- by what is shown of the first phase
-answers_started : Laws → (old mid joined new newer : WorldState) (ends : EndsState) (call : ℕ) (key : Bytes) (u : CallState) (op : Op) (from to : State) (es : List WorldEvent) (ss : List Shown) (seen : Shown) → open_call old call ≡ Some u → op_at u key ≡ Some op → fits old (event.Start call key) ≡ true
-    → stripe_for old key ≡ Some from → Starts old u.caller key op from to shown.Joins mid → joined ≡ with_ends mid ends → IsSoundWorld old → IsSoundWorld joined → Run joined es ss new → list_any (is_last_pick_up call key) (zip es ss) ≡ false
-    → Step new (event.PickUp call key) seen newer → IsAnswered old new key (zip es ss) seen
-answers_started laws old mid joined new newer ends call key u op from to es ss seen here op_is fit there (join, begins, is) noted_is sound_old sound_joined run none step =
+answers_started : Laws → (old joined new newer : WorldState) (call : ℕ) (key : Bytes) (u : CallState) (op : Op) (from to : State) (es : List WorldEvent) (ss : List Shown) (seen : Shown) → open_call old call ≡ Some u → op_at u key ≡ Some op → fits old (event.Start call key) ≡ true
+    → stripe_for old key ≡ Some from → Starts old u.caller key op from to outcome.Joins joined → IsSoundWorld old → IsSoundWorld joined → Run joined es ss new → list_any (is_last_pick_up call key) (zip es ss) ≡ false
+    → Step new (event.PickUp call key) seen newer → IsAnswered old new key (zip es ss) seen.outcome
+answers_started laws old joined new newer call key u op from to es ss seen here op_is fit there (join, begins, is) sound_old sound_joined run none step =
     let may = may_start_at old call key u op fit here op_is sound_old in
     let load = load_there (reservation_of from key) join.load (can_join _ _ join.load begins.1) in
     let r_key : load.0.key ≡ key = sym (same_bytes key load.0.key (found_test (is_key key) from.reservations load.0 load.1)) in
@@ -363,18 +352,18 @@ answers_started laws old mid joined new newer ends call key u op from to es ss s
     let call_is : join.caller.call ≡ call = ap (λ (j : JoinClaim). j.caller.call) begins.2 ∙ found_number call old.calls u here in
     let key_is : join.key ≡ key = ap (λ (j : JoinClaim). j.key) begins.2 in
     let F : WorldState → Type 0 = λ w. Follows w [] join load.0 in
-    let f = follows_noted mid joined ends [] join load.0 noted_is (subst F (sym is) (follows_joined old u key op from to join load.0 there begins.2 begins.3 r_key load.2 out may sound_old)) in
+    let f = subst F (sym is) (follows_joined old u key op from to join load.0 there begins.2 begins.3 r_key load.2 out may sound_old) in
     let none_of : list_any (is_last_pick_up join.caller.call join.key) (zip es ss) ≡ false = (λ i. list_any (is_last_pick_up (call_is i) (key_is i)) (zip es ss)) ∙ none in
     let g = follows_run laws joined new es ss [] join load.0 run none_of sound_joined f in
     let resolved = resolves new newer call key join seen (zip es ss) load.0 call_is key_is g (sound_run laws joined new es ss run sound_joined) step in
-    let R : Reservation → Type 0 = λ x. (part_of old x.caller.call key ≡ Some part.0) × (asks_loader x.first ≡ true) × (x.key ≡ key) × Resolves new (zip es ss) x seen in
+    let R : Reservation → Type 0 = λ x. (part_of old x.caller.call key ≡ Some part.0) × (asks_loader x.first ≡ true) × (x.key ≡ key) × Resolves new (zip es ss) x seen.outcome in
     let all = subst R (sym part.2) (ap (part_of old load.0.caller.call) (sym r_key) ∙ part.1, load.3, r_key, resolved) in
     (part.0, all.0, all.1, all.2, all.3)
 
-pub answers_joins : Laws → (old joined new newer : WorldState) (call : ℕ) (key : Bytes) (es : List WorldEvent) (ss : List Shown) (seen : Shown) → Step old (event.Start call key) shown.Joins joined → IsSoundWorld old → Run joined es ss new
-    → list_any (is_last_pick_up call key) (zip es ss) ≡ false → Step new (event.PickUp call key) seen newer → IsAnswered old new key (zip es ss) seen
-answers_joins laws old joined new newer call key es ss seen (inl (fit, (mid, (u, op, here, op_is, from, there, to, starts, refuses), is))) sound_old run none step =
-    let n = noted_as old mid joined (event.Start call key) shown.Joins is in
-    answers_started laws old mid joined new newer n.ends call key u op from to es ss seen here op_is fit there starts n.is sound_old
-    (sound_step laws old (event.Start call key) shown.Joins joined (inl (fit, (mid, (u, op, here, op_is, from, there, to, starts, refuses), is))) sound_old) run none step
-answers_joins laws old joined new newer call key es ss seen (inr (unfit, shown_is, is)) sound_old run none step = cc
+pub answers_joins : Laws → (old joined new newer : WorldState) (call : ℕ) (key : Bytes) (es : List WorldEvent) (ss : List Shown) (seen : Shown) → Step old (event.Start call key) (not_over outcome.Joins) joined → IsSoundWorld old → Run joined es ss new
+    → list_any (is_last_pick_up call key) (zip es ss) ≡ false → Step new (event.PickUp call key) seen newer → IsAnswered old new key (zip es ss) seen.outcome
+answers_joins laws old joined new newer call key es ss seen (inl (fit, (u, op, here, op_is, from, there, to, starts, refuses, over))) sound_old run none step =
+    answers_started laws old joined new newer call key u op from to es ss seen here op_is fit there starts sound_old
+    (sound_step laws old (event.Start call key) (not_over outcome.Joins) joined (inl (fit, (u, op, here, op_is, from, there, to, starts, refuses, over))) sound_old) run none step
+answers_joins laws old joined new newer call key es ss seen (inr (unfit, shown_is, is)) sound_old run none step =
+    let t : outcome.Joins ≡ outcome.Unfit = ap (λ (s : Shown). s.outcome) shown_is in cc

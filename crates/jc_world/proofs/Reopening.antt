@@ -19,11 +19,11 @@ parts_reopened w none coherent old = record {
   told = λ hold key.
       let P : Option Part → Type 0 = λ o. KeyAgrees o (entry_at w.store key) (cached_entry w key) in
       subst P (sym (none key)) (coherent key (ap (has_progress has_changed) (none key)));
-  fresh = old.fresh;
+  cold = old.cold;
   idle = old.idle;
 }
 
 pub sound_reopened : (w : WorldState) → ((key : Bytes) → get w.parts key ≡ None) → Coherent w → IsSoundWorld w → IsSoundWorld (with_all_premises w)
 sound_reopened w none coherent old =
     let premises : Premises = (with_all_premises w).premises in
-    sound (with_all_premises w) (order_stored w w.store premises w.fresh old) (parts_reopened w none coherent old) old.due (joins_stored w w.store premises w.fresh old) old.sweeps
+    sound (with_all_premises w) (order_stored w w.store premises old) (parts_reopened w none coherent old) old.due (joins_stored w w.store premises old) old.sweeps

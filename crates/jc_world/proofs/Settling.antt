@@ -7,21 +7,20 @@
 --     still_called           a call continues at each other key
 --     calls_settled          the calls fit another world
 --     each_settled           a fact of each call
---     retained               a walk that keeps what a definition keeps
 use Rattle.std.proofs.Common.{◌≡◌, ◌==◌, ◌&&◌, ◌||◌, ℕ, List, [], ◌∷◌, Bool, true, false, cond, not, Option, None, Some, IsSomeAnd, find, filter, is_some, refl, sym, ap, ◌∙◌, subst}
-use Rattle.std.specs.List.{list_all, list_any, cons_option, filter_map}
-use Rattle.std.specs.List.Retain.{RetainsInTurn}
+use Rattle.std.specs.List.{list_all, list_any, cons_option}
 use Rattle.std.specs.Map.{keys_of, lookup, set_value}
 use Rattle.std.specs.Option.{option_flatten}
 use Rattle.std.specs.Cmp.Lexicographic.{pointwise}
-use Rattle.std.proofs.lemmas.Bool.{eq-eqb, eqb-true, and_parts, and_from, or_right, false_from_ne_true}
+use Rattle.std.proofs.lemmas.Bool.{eq-eqb, eqb-true, and_parts, and_from, or_right, false_from_ne_true, not-true}
 use Rattle.jc_types.specs.declared.caller.Caller.{Caller}
+use Rattle.jc_types.specs.declared.refusal.Refusal.{Refusal}
 use Rattle.jc_model.specs.declared.event.Op.{Op}
 use Rattle.jc_model.specs.Cache.{Bytes}
 use Rattle.jc_world.specs.Calls.{CallState, Task, has_number, op_in, op_at, op_or_found, op_for, is_open, open_in, open_keys, current_key, is_at, is_turn, takes_turns, is_going, going_on, settled, settle}
 use Rattle.jc_world.specs.World.{WorldState}
 use Rattle.jc_world.specs.Sound.{is_apart, FitsCall, CallsFit, IsCallOf, Each}
-use Rattle.jc_world.proofs.Underway.{same_bytes}
+use Rattle.jc_world.proofs.Underway.{same_bytes, calls_on}
 
 -- 1. Open keys.
 
@@ -117,10 +116,6 @@ goes_at u q op at = or_right (is_some u.sweep) (list_any is_open u.tasks) (some_
 pub none_left : (u : CallState) (q : Bytes) (op : Op) → going_on u ≡ None → op_at u q ≡ Some op → ⊥
 none_left u q op h at = let t : Some u ≡ None = ap (λ b. cond b (Some u) None) (sym (goes_at u q op at)) ∙ h in cc
 
--- the tasks that are left
-abbrev tasks_left : ℕ → Bytes → CallState → List Task
-tasks_left call key u = cond (has_number call u) (set_value (pointwise ◌==◌ key) u.tasks None) u.tasks
-
 -- a key that is settled is looked up as such, and another as before
 looked_up : (key q : Bytes) (tasks : List Task) (P : Option (Option Op) → Type 0) → ((one : Option Op) → lookup (pointwise ◌==◌ q) tasks ≡ Some one → P (Some None)) → P (lookup (pointwise ◌==◌ q) tasks)
     → P (lookup (pointwise ◌==◌ q) (set_value (pointwise ◌==◌ key) tasks None))
@@ -137,23 +132,17 @@ looked_up key q (task ∷ tasks) P self same =
       ] self same
     ]
 
-left_was : (call : ℕ) (key : Bytes) (u : CallState) (q : Bytes) (op : Op) → op_or_found u.sweep (lookup (pointwise ◌==◌ q) (tasks_left call key u)) ≡ Some op → op_for u q ≡ Some op
-left_was call key u q op h =
-    elim (has_number call u) as (λ b. op_or_found u.sweep (lookup (pointwise ◌==◌ q) (cond b (set_value (pointwise ◌==◌ key) u.tasks None) u.tasks)) ≡ Some op → op_for u q ≡ Some op) [
-      | true ↦ looked_up key q u.tasks (λ o. op_or_found u.sweep o ≡ Some op → op_for u q ≡ Some op) (λ one is h. cc) (λ h. h)
-      | false ↦ λ h. h
-    ] h
+left_was : (key : Bytes) (u : CallState) (q : Bytes) (op : Op) → op_or_found u.sweep (lookup (pointwise ◌==◌ q) (set_value (pointwise ◌==◌ key) u.tasks None)) ≡ Some op → op_for u q ≡ Some op
+left_was key u q op h = looked_up key q u.tasks (λ o. op_or_found u.sweep o ≡ Some op → op_for u q ≡ Some op) (λ one is h. cc) (λ h. h) h
 
 -- if something is done, a key is looked up
 done_there : (o : Option (Option Op)) (one : Op) → option_flatten o ≡ Some one → (two : Option Op) × (o ≡ Some two)
 done_there None one h = cc
 done_there (Some two) one h = (two, refl)
 
-left_other : (call : ℕ) (key : Bytes) (u : CallState) (q : Bytes) (op one : Op) → op_or_found u.sweep (lookup (pointwise ◌==◌ q) (tasks_left call key u)) ≡ Some op → op_at u q ≡ Some one → u.caller.call ≡ call → q ≡ key → ⊥
-left_other call key u q op one h at mine same =
+left_other : (key : Bytes) (u : CallState) (q : Bytes) (op one : Op) → op_or_found u.sweep (lookup (pointwise ◌==◌ q) (set_value (pointwise ◌==◌ key) u.tasks None)) ≡ Some op → op_at u q ≡ Some one → q ≡ key → ⊥
+left_other key u q op one now at same =
     let there = done_there (lookup (pointwise ◌==◌ q) u.tasks) one at in
-    let now : op_or_found u.sweep (lookup (pointwise ◌==◌ q) (set_value (pointwise ◌==◌ key) u.tasks None)) ≡ Some op =
-    ap (λ b. op_or_found u.sweep (lookup (pointwise ◌==◌ q) (cond b (set_value (pointwise ◌==◌ key) u.tasks None) u.tasks))) (sym (eq-eqb u.caller.call call mine)) ∙ h in
     let none = at_self key q u.tasks same in
     gone (lookup (pointwise ◌==◌ q) (set_value (pointwise ◌==◌ key) u.tasks None)) none (still_there key q u.tasks there.0 there.1) now
   where
@@ -164,32 +153,31 @@ left_other call key u q op one h at mine same =
     still_there : (key q : Bytes) (tasks : List Task) (two : Option Op) → lookup (pointwise ◌==◌ q) tasks ≡ Some two → is_some (lookup (pointwise ◌==◌ q) (set_value (pointwise ◌==◌ key) tasks None)) ≡ true
     still_there key q tasks two at = looked_up key q tasks (λ o. is_some o ≡ true) (λ x is. refl) (ap is_some at)
 
-keys_left : (call : ℕ) (key : Bytes) (u : CallState) → keys_of (tasks_left call key u) ≡ keys_of u.tasks
-keys_left call key u = elim (has_number call u) as (λ b. keys_of (cond b (set_value (pointwise ◌==◌ key) u.tasks None) u.tasks) ≡ keys_of u.tasks) [ true ↦ same u.tasks | false ↦ refl ]
-  where
-    same : (tasks : List Task) → keys_of (set_value (pointwise ◌==◌ key) tasks None) ≡ keys_of tasks
-    same [] = refl
-    same (task ∷ tasks) = elim (pointwise ◌==◌ key task.0) as (λ b. keys_of (cond b ((task.0, None) ∷ tasks) (task ∷ set_value (pointwise ◌==◌ key) tasks None)) ≡ task.0 ∷ keys_of tasks) [ true ↦ refl | false ↦ ap (λ ks. task.0 ∷ ks) (same tasks) ]
+keys_left : (key : Bytes) (tasks : List Task) → keys_of (set_value (pointwise ◌==◌ key) tasks None) ≡ keys_of tasks
+keys_left key [] = refl
+keys_left key (task ∷ tasks) = elim (pointwise ◌==◌ key task.0) as (λ b. keys_of (cond b ((task.0, None) ∷ tasks) (task ∷ set_value (pointwise ◌==◌ key) tasks None)) ≡ task.0 ∷ keys_of tasks) [ true ↦ refl | false ↦ ap (λ ks. task.0 ∷ ks) (keys_left key tasks) ]
 
-left_of : (call : ℕ) (key : Bytes) (u v : CallState) → settled call key u ≡ Some v → Left call key u v
-left_of call key u v is =
-    let v_is = going_is (record u { tasks = tasks_left call key u }) v is in
+left_of : (call : ℕ) (key : Bytes) (met : Option Refusal) (u v : CallState) → going_on (settled key met u) ≡ Some v → Left call key u v
+left_of call key met u v is =
+    let v_is = going_is (settled key met u) v is in
     let back = λ (q : Bytes) (op : Op) (h : op_for v q ≡ Some op). ap (λ (x : CallState). op_for x q) (sym v_is) ∙ h in
     record {
       caller_is = ap (λ (x : CallState). x.caller) v_is;
       sweep_is = ap (λ (x : CallState). x.sweep) v_is;
-      keys_are = ap (λ (x : CallState). keys_of x.tasks) v_is ∙ keys_left call key u;
-      was = λ q op h. left_was call key u q op (back q op h);
-      other = λ q op one h. left_other call key u q op one (back q op h);
+      keys_are = ap (λ (x : CallState). keys_of x.tasks) v_is ∙ keys_left key u.tasks;
+      was = λ q op h. left_was key u q op (back q op h);
+      other = λ q op one h at mine. left_other key u q op one (back q op h) at;
     }
 
--- what is done at another key is done still
-still_open : (call : ℕ) (key : Bytes) (u : CallState) (q : Bytes) (op : Op) → (u.caller.call ≡ call → q ≡ key → ⊥) → op_at u q ≡ Some op → op_in (tasks_left call key u) q ≡ Some op
-still_open call key u q op other h =
-    elim (has_number call u) as (λ b. has_number call u ≡ b → op_in (cond b (set_value (pointwise ◌==◌ key) u.tasks None) u.tasks) q ≡ Some op) [
-      | true ↦ λ e. at_other key q u.tasks (other (eqb-true u.caller.call call e)) ∙ h
-      | false ↦ λ e. h
-    ] refl
+-- a call with another number is left as it is
+left_same : (call : ℕ) (key : Bytes) (u : CallState) → has_number call u ≡ false → Left call key u u
+left_same call key u apart = record {
+  caller_is = refl;
+  sweep_is = refl;
+  keys_are = refl;
+  was = λ q op h. h;
+  other = λ q op one h at mine same. let t : true ≡ false = sym (eq-eqb u.caller.call call mine) ∙ apart in cc;
+}
 
 -- of two keys at which a call may work that takes one after the other, one is the other
 one_turn : (u : CallState) (q key : Bytes) → takes_turns u.kind ≡ true → is_turn u q ≡ true → is_turn u key ≡ true → q ≡ key
@@ -203,12 +191,8 @@ one_turn u q key turns a b = go (current_key u) (at q a) (at key b)
     go (Some own) a b = same_bytes q own a ∙ sym (same_bytes key own b)
 
 -- what a call may still work at, if a key at which it may work is settled
-turn_left : (call : ℕ) (key : Bytes) (u : CallState) (q : Bytes) → (has_number call u ≡ true → is_turn u key ≡ true) → (u.caller.call ≡ call → q ≡ key → ⊥) → is_turn u q ≡ true → is_turn (record u { tasks = tasks_left call key u }) q ≡ true
-turn_left call key u q turn other h =
-    elim (has_number call u) as (λ b. has_number call u ≡ b → is_turn (record u { tasks = cond b (set_value (pointwise ◌==◌ key) u.tasks None) u.tasks }) q ≡ true) [
-      | true ↦ λ e. batch (record u { tasks = set_value (pointwise ◌==◌ key) u.tasks None }) (false_from_ne_true (takes_turns u.kind) (λ t. other (eqb-true u.caller.call call e) (one_turn u q key t h (turn e))))
-      | false ↦ λ e. h
-    ] refl
+turn_left : (key : Bytes) (met : Option Refusal) (u : CallState) (q : Bytes) → is_turn u key ≡ true → (q ≡ key → ⊥) → is_turn u q ≡ true → is_turn (settled key met u) q ≡ true
+turn_left key met u q turn other h = batch (settled key met u) (false_from_ne_true (takes_turns u.kind) (λ t. other (one_turn u q key t h turn)))
   where
     batch : (v : CallState) → takes_turns v.kind ≡ false → is_turn v q ≡ true
     batch v e = ap (λ t. cond t (is_at (current_key v) q) true) e
@@ -231,90 +215,106 @@ pub goes_here : (number session : ℕ) (q : Bytes) (op : Op) (x : CallState) (ca
 goes_here number session q op x calls mine h = let P : Bool → Type 0 = λ b. IsSomeAnd (cond b (Some x) (find (has_number number) calls)) (IsCallOf session q op) in subst P (sym mine) h
 
 -- the call that is looked for, once a key is settled
-goes_settled : (call : ℕ) (key : Bytes) (number session : ℕ) (q : Bytes) (op : Op) (x : CallState) (calls : List CallState) (o : Option CallState) → settled call key x ≡ o → (number ≡ call → q ≡ key → ⊥) → (number ≡ call → is_turn x key ≡ true)
+goes_settled : (key : Bytes) (met : Option Refusal) (number session : ℕ) (q : Bytes) (op : Op) (x : CallState) (calls : List CallState) (o : Option CallState) → going_on (settled key met x) ≡ o → (q ≡ key → ⊥) → is_turn x key ≡ true
     → has_number number x ≡ true → IsCallOf session q op x → Goes number session q op (cons_option o calls)
-goes_settled call key number session q op x calls o is other turn mine h = go o is
+goes_settled key met number session q op x calls o is other turn mine h = go o is
   where
-    goes : op_in (tasks_left call key x) q ≡ Some op
-    goes = still_open call key x q op (λ at. other (sym (eqb-true x.caller.call number mine) ∙ at)) h.1
+    goes : op_at (settled key met x) q ≡ Some op
+    goes = at_other key q x.tasks other ∙ h.1
 
-    go : (o : Option CallState) → settled call key x ≡ o → Goes number session q op (cons_option o calls)
-    go None e = absurd (none_left (record x { tasks = tasks_left call key x }) q op e goes)
+    go : (o : Option CallState) → going_on (settled key met x) ≡ o → Goes number session q op (cons_option o calls)
+    go None e = absurd (none_left (settled key met x) q op e goes)
     go (Some v) e =
-        let v_is = going_is (record x { tasks = tasks_left call key x }) v e in
-        let number_is : x.caller.call ≡ number = eqb-true x.caller.call number mine in
-        let turns = turn_left call key x q (λ e. turn (sym number_is ∙ eqb-true x.caller.call call e)) (λ at. other (sym number_is ∙ at)) h.2 in
+        let v_is = going_is (settled key met x) v e in
         goes_here number session q op v calls (ap (λ (c : CallState). has_number number c) v_is ∙ mine)
-        (ap (λ (c : CallState). c.caller.session) v_is ∙ h.0, ap (λ (c : CallState). op_at c q) v_is ∙ goes, ap (λ (c : CallState). is_turn c q) v_is ∙ turns)
+        (ap (λ (c : CallState). c.caller.session) v_is ∙ h.0, ap (λ (c : CallState). op_at c q) v_is ∙ goes, ap (λ (c : CallState). is_turn c q) v_is ∙ turn_left key met x q turn other h.2)
 
 -- and a call before it
-goes_passed : (call : ℕ) (key : Bytes) (number session : ℕ) (q : Bytes) (op : Op) (x : CallState) (calls : List CallState) (o : Option CallState) → settled call key x ≡ o → has_number number x ≡ false → Goes number session q op calls
-    → Goes number session q op (cons_option o calls)
-goes_passed call key number session q op x calls None e apart h = h
-goes_passed call key number session q op x calls (Some v) e apart h = goes_behind number session q op v calls (ap (λ (c : Caller). c.call == number) (left_of call key x v e).caller_is ∙ apart) h
+goes_passed : (call : ℕ) (key : Bytes) (met : Option Refusal) (number session : ℕ) (q : Bytes) (op : Op) (x : CallState) (calls : List CallState) (o : Option CallState) → going_on (settled key met x) ≡ o → has_number number x ≡ false
+    → Goes number session q op calls → Goes number session q op (cons_option o calls)
+goes_passed call key met number session q op x calls None e apart h = h
+goes_passed call key met number session q op x calls (Some v) e apart h = goes_behind number session q op v calls (ap (λ (c : Caller). c.call == number) (left_of call key met x v e).caller_is ∙ apart) h
 
 -- a call continues at each key but the one that is settled
-goes_on : (call : ℕ) (key : Bytes) (number session : ℕ) (q : Bytes) (op : Op) (calls : List CallState) → (number ≡ call → q ≡ key → ⊥) → (number ≡ call → IsTurnOf calls number key) → IsSomeAnd (find (has_number number) calls) (IsCallOf session q op)
-    → IsSomeAnd (find (has_number number) (settle call key calls)) (IsCallOf session q op)
-goes_on call key number session q op [] other turn h = h
-goes_on call key number session q op (x ∷ xs) other turn h =
-    elim (has_number number x) as (λ c. has_number number x ≡ c → IsSomeAnd (cond c (Some x) (find (has_number number) xs)) (IsCallOf session q op) → Goes number session q op (cons_option (settled call key x) (settle call key xs))) [
-      | true ↦ λ f h. goes_settled call key number session q op x (settle call key xs) (settled call key x) refl other (λ e. turn e x (ap (λ b. cond b (Some x) (find (has_number number) xs)) f)) f h
-      | false ↦ λ f h. goes_passed call key number session q op x (settle call key xs) (settled call key x) refl f (goes_on call key number session q op xs other (λ e u is. turn e u (ap (λ b. cond b (Some x) (find (has_number number) xs)) f ∙ is)) h)
-    ] refl h
+goes_on : (call : ℕ) (key : Bytes) (met : Option Refusal) (number session : ℕ) (q : Bytes) (op : Op) (calls : List CallState) → (number ≡ call → q ≡ key → ⊥) → (number ≡ call → IsTurnOf calls number key) → Goes number session q op calls
+    → Goes number session q op (settle call key met calls)
+goes_on call key met number session q op [] other turn h = h
+goes_on call key met number session q op (x ∷ xs) other turn h =
+    elim (has_number call x) as (λ b. has_number call x ≡ b → Goes number session q op (cond b (cons_option (going_on (settled key met x)) xs) (x ∷ settle call key met xs))) [
+      | true ↦ λ e. elim (has_number number x) as (λ c. has_number number x ≡ c → IsSomeAnd (cond c (Some x) (find (has_number number) xs)) (IsCallOf session q op) → Goes number session q op (cons_option (going_on (settled key met x)) xs)) [
+        | true ↦ λ f h.
+            let same : number ≡ call = sym (eqb-true x.caller.call number f) ∙ eqb-true x.caller.call call e in
+            goes_settled key met number session q op x xs (going_on (settled key met x)) refl (other same) (turn same x (ap (λ b. cond b (Some x) (find (has_number number) xs)) f)) f h
+        | false ↦ λ f h. goes_passed call key met number session q op x xs (going_on (settled key met x)) refl f h
+      ] refl h
+      | false ↦ λ e. elim (has_number number x) as (λ c. has_number number x ≡ c → IsSomeAnd (cond c (Some x) (find (has_number number) xs)) (IsCallOf session q op)
+          → IsSomeAnd (cond c (Some x) (find (has_number number) (settle call key met xs))) (IsCallOf session q op)) [
+            | true ↦ λ f h. h
+            | false ↦ λ f h. goes_on call key met number session q op xs other (λ e u is. turn e u (ap (λ b. cond b (Some x) (find (has_number number) xs)) f ∙ is)) h
+          ] refl h
+    ] refl
 
 -- the settled key is one at which its call may work
-pub still_called : (call : ℕ) (key : Bytes) (number session : ℕ) (q : Bytes) (op : Op) (calls : List CallState) → (number ≡ call → q ≡ key → ⊥) → IsTurnOf calls call key → IsSomeAnd (find (has_number number) calls) (IsCallOf session q op)
-    → IsSomeAnd (find (has_number number) (settle call key calls)) (IsCallOf session q op)
-still_called call key number session q op calls other turn h = goes_on call key number session q op calls other (λ e u is. turn u (ap (λ n. find (has_number n) calls) (sym e) ∙ is)) h
+pub still_called : (call : ℕ) (key : Bytes) (met : Option Refusal) (number session : ℕ) (q : Bytes) (op : Op) (calls : List CallState) → (number ≡ call → q ≡ key → ⊥) → IsTurnOf calls call key → IsSomeAnd (find (has_number number) calls) (IsCallOf session q op)
+    → IsSomeAnd (find (has_number number) (settle call key met calls)) (IsCallOf session q op)
+still_called call key met number session q op calls other turn h = goes_on call key met number session q op calls other (λ e u is. turn u (ap (λ n. find (has_number n) calls) (sym e) ∙ is)) h
 
 -- calls that are apart stay so
 pub apart_of : (x y v : CallState) → v.caller ≡ y.caller → is_apart x y ≡ true → is_apart x v ≡ true
 apart_of x y v same h = ap (λ (c : Caller). not (c.session == x.caller.session) && not (c.call == x.caller.call)) same ∙ h
 
-apart_settled : (call : ℕ) (key : Bytes) (x : CallState) (calls : List CallState) → list_all (is_apart x) calls ≡ true → list_all (is_apart x) (settle call key calls) ≡ true
-apart_settled call key x [] h = refl
-apart_settled call key x (y ∷ ys) h =
+apart_settled : (call : ℕ) (key : Bytes) (met : Option Refusal) (x : CallState) (calls : List CallState) → list_all (is_apart x) calls ≡ true → list_all (is_apart x) (settle call key met calls) ≡ true
+apart_settled call key met x [] h = refl
+apart_settled call key met x (y ∷ ys) h =
     let parts = and_parts (is_apart x y) (list_all (is_apart x) ys) h in
-    go y ys parts.0 (settled call key y) refl (apart_settled call key x ys parts.1)
+    elim (has_number call y) as (λ b. list_all (is_apart x) (cond b (cons_option (going_on (settled key met y)) ys) (y ∷ settle call key met ys)) ≡ true) [
+      | true ↦ go (going_on (settled key met y)) refl parts.0 parts.1
+      | false ↦ and_from _ _ parts.0 (apart_settled call key met x ys parts.1)
+    ]
   where
-    go : (y : CallState) (ys : List CallState) → is_apart x y ≡ true → (o : Option CallState) → settled call key y ≡ o → list_all (is_apart x) (settle call key ys) ≡ true → list_all (is_apart x) (cons_option o (settle call key ys)) ≡ true
-    go y ys apart None e rest = rest
-    go y ys apart (Some v) e rest = and_from _ _ (apart_of x y v (left_of call key y v e).caller_is apart) rest
+    go : (o : Option CallState) → going_on (settled key met y) ≡ o → is_apart x y ≡ true → list_all (is_apart x) ys ≡ true → list_all (is_apart x) (cons_option o ys) ≡ true
+    go None e apart rest = rest
+    go (Some v) e apart rest = and_from _ _ (apart_of x y v (left_of call key met y v e).caller_is apart) rest
 
 -- so they are apart from what is left of a call
 pub apart_from : (x v : CallState) (calls : List CallState) → v.caller ≡ x.caller → list_all (is_apart x) calls ≡ true → list_all (is_apart v) calls ≡ true
 apart_from x v calls same h = ap (λ (c : Caller). list_all (λ (y : CallState). not (y.caller.session == c.session) && not (y.caller.call == c.call)) calls) same ∙ h
 
+-- a call apart from one with this number has another
+other_number : (call : ℕ) (x y : CallState) → has_number call x ≡ true → is_apart x y ≡ true → has_number call y ≡ false
+other_number call x y mine apart =
+    ap (λ n. y.caller.call == n) (sym (eqb-true x.caller.call call mine))
+    ∙ not-true (y.caller.call == x.caller.call) (and_parts (not (y.caller.session == x.caller.session)) (not (y.caller.call == x.caller.call)) apart).1
+
 -- the calls fit another world
-pub calls_settled : (w n : WorldState) (call : ℕ) (key : Bytes) (P : CallState → Type 0) (calls : List CallState) → ((u v : CallState) → Left call key u v → P u → FitsCall w u → FitsCall n v) → Each P calls → CallsFit w calls
-    → CallsFit n (settle call key calls)
-calls_settled w n call key P [] f each fit = tt
-calls_settled w n call key P (x ∷ xs) f each fit = go (settled call key x) refl (calls_settled w n call key P xs f each.1 fit.2)
+pub calls_settled : (w n : WorldState) (call : ℕ) (key : Bytes) (met : Option Refusal) (P : CallState → Type 0) (calls : List CallState) → ((u v : CallState) → Left call key u v → P u → FitsCall w u → FitsCall n v) → Each P calls → CallsFit w calls
+    → CallsFit n (settle call key met calls)
+calls_settled w n call key met P [] f each fit = tt
+calls_settled w n call key met P (x ∷ xs) f each fit =
+    elim (has_number call x) as (λ b. has_number call x ≡ b → CallsFit n (cond b (cons_option (going_on (settled key met x)) xs) (x ∷ settle call key met xs))) [
+      | true ↦ λ e. go (going_on (settled key met x)) refl (calls_on w n (λ y. P y × (has_number call y ≡ false)) xs (λ y h fits. f y y (left_same call key y h.1) h.0 fits) (both e xs each.1 fit.1) fit.2)
+      | false ↦ λ e. (f x x (left_same call key x e) each.0 fit.0, apart_settled call key met x xs fit.1, calls_settled w n call key met P xs f each.1 fit.2)
+    ] refl
   where
-    go : (o : Option CallState) → settled call key x ≡ o → CallsFit n (settle call key xs) → CallsFit n (cons_option o (settle call key xs))
+    both : has_number call x ≡ true → (ys : List CallState) → Each P ys → list_all (is_apart x) ys ≡ true → Each (λ y. P y × (has_number call y ≡ false)) ys
+    both mine [] each apart = tt
+    both mine (y ∷ ys) each apart =
+        let parts = and_parts (is_apart x y) (list_all (is_apart x) ys) apart in
+        ((each.0, other_number call x y mine parts.0), both mine ys each.1 parts.1)
+
+    go : (o : Option CallState) → going_on (settled key met x) ≡ o → CallsFit n xs → CallsFit n (cons_option o xs)
     go None e rest = rest
-    go (Some v) e rest = let left = left_of call key x v e in (f x v left each.0 fit.0, apart_from x v (settle call key xs) left.caller_is (apart_settled call key x xs fit.1), rest)
+    go (Some v) e rest = let left = left_of call key met x v e in (f x v left each.0 fit.0, apart_from x v xs left.caller_is fit.1, rest)
 
 -- a fact of each call holds of what is left
-pub each_settled : (call : ℕ) (key : Bytes) (P : CallState → Type 0) (calls : List CallState) → ((u v : CallState) → Left call key u v → P u → P v) → Each P calls → Each P (settle call key calls)
-each_settled call key P [] f each = tt
-each_settled call key P (x ∷ xs) f each = go (settled call key x) refl (each_settled call key P xs f each.1)
+pub each_settled : (call : ℕ) (key : Bytes) (met : Option Refusal) (P : CallState → Type 0) (calls : List CallState) → ((u v : CallState) → Left call key u v → P u → P v) → Each P calls → Each P (settle call key met calls)
+each_settled call key met P [] f each = tt
+each_settled call key met P (x ∷ xs) f each =
+    elim (has_number call x) as (λ b. Each P (cond b (cons_option (going_on (settled key met x)) xs) (x ∷ settle call key met xs))) [
+      | true ↦ go (going_on (settled key met x)) refl
+      | false ↦ (each.0, each_settled call key met P xs f each.1)
+    ]
   where
-    go : (o : Option CallState) → settled call key x ≡ o → Each P (settle call key xs) → Each P (cons_option o (settle call key xs))
-    go None e rest = rest
-    go (Some v) e rest = (f x v (left_of call key x v e) each.0, rest)
-
--- 5. What the code keeps is what is left.
-module _ {S X : Type 0} (R : S → X → Bool → S → X → Type 0) (f : X → Option X) (s : S)
-    (says : (x : X) (b : Bool) (t : S) (y : X) → R s x b t y → (t ≡ s) × (f x ≡ cond b (Some y) None)) where
-  kept : (b : Bool) (y : X) (o : Option X) (zs : List X) → o ≡ cond b (Some y) None → cond b (y ∷ zs) zs ≡ cons_option o zs
-  kept true y o zs e = ap (λ o. cons_option o zs) (sym e)
-  kept false y o zs e = ap (λ o. cons_option o zs) (sym e)
-
-  pub retained : (xs ys : List X) → RetainsInTurn R s xs ys → ys ≡ filter_map f xs
-  retained [] ys h = h
-  retained (x ∷ xs) ys h =
-      let one = says x h.0 h.1 h.2 h.3 in
-      let rest = retained xs h.4 (subst (λ t. RetainsInTurn R t xs h.4) one.0 h.5) in
-      h.6 ∙ kept h.0 h.2 (f x) h.4 one.1 ∙ ap (cons_option (f x)) rest
+    go : (o : Option CallState) → going_on (settled key met x) ≡ o → Each P (cons_option o xs)
+    go None e = each.1
+    go (Some v) e = (f x v (left_of call key met x v e) each.0, each.1)

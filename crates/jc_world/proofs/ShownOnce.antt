@@ -38,7 +38,8 @@ use Rattle.jc_stripe.proofs.CallerLemmas.{joined_parks, withdrawn_parks, beginne
 use Rattle.jc_stripe.specs.Laws.{Extends, Grows}
 use Rattle.jc_world.specs.declared.event.Part.{Part}
 use Rattle.jc_world.specs.declared.event.Shown.{Shown}
-use Rattle.jc_world.specs.declared.event.Shown.TheVariants as shown
+use Rattle.jc_world.specs.declared.event.Outcome.{Outcome}
+use Rattle.jc_world.specs.declared.event.Outcome.TheVariants as outcome
 use Rattle.jc_world.specs.Calls.{CallState, new_call}
 use Rattle.jc_world.proofs.NewCalls.{begun_cases}
 use Rattle.jc_world.specs.declared.event.WorldEvent.{WorldEvent}
@@ -54,7 +55,6 @@ use Rattle.jc_world.proofs.Places.{stripe_put}
 use Rattle.jc_world.proofs.Merging.{other_set}
 use Rattle.jc_world.proofs.Loads.{one_if}
 use Rattle.jc_world.proofs.Beginning.{begins_at}
-use Rattle.jc_world.proofs.Noting.{noted_as, sound_before}
 use Rattle.jc_world.proofs.Beside.{beside}
 use Rattle.jc_world.proofs.Sounding.{Laws, sound_step}
 use Rattle.jc_world.proofs.Standing.{config_run, config_opened}
@@ -217,91 +217,92 @@ owed_grown w new key from to at number place there old sound config stripes orde
     (λ m apart. ap (of_stripe w.config.stripes m) order ∙ share_stays w n m from to grows (old.shape.each n from there) (sound.shape.each n to placed).reached apart) gives
 
 -- what leaves the stripes and the order answers nothing
-owed_still : (w new : WorldState) (seen : Shown) (number place : ℕ) → is_answer_at number place seen ≡ false → owed new number place ≡ owed w number place → owed new number place ≡ one_if (is_answer_at number place seen) + owed w number place
+owed_still : (w new : WorldState) (seen : Outcome) (number place : ℕ) → is_answer_at number place seen ≡ false → owed new number place ≡ owed w number place → owed new number place ≡ one_if (is_answer_at number place seen) + owed w number place
 owed_still w new seen number place none same = let e : one_if (is_answer_at number place seen) ≡ 0 = ap one_if none in omega arith
 
 -- by what is shown of a first phase
-owed_started : Grows → (w new : WorldState) (u : CallState) (key : Bytes) (op : Op) (from to : State) (seen : Shown) (number place : ℕ) → stripe_for w key ≡ Some from → Starts w u.caller key op from to seen new → MayBegin from u.caller key → IsSoundWorld w → IsSoundWorld new
+owed_started : Grows → (w new : WorldState) (u : CallState) (key : Bytes) (op : Op) (from to : State) (seen : Outcome) (number place : ℕ) → stripe_for w key ≡ Some from → Starts w u.caller key op from to seen new → MayBegin from u.caller key → IsSoundWorld w → IsSoundWorld new
     → owed new number place ≡ one_if (is_answer_at number place seen) + owed w number place
-owed_started grows w new u key op from to (shown.Refused refusal) number place there h may old sound = owed_still w new (shown.Refused refusal) number place refl (ap (λ (x : WorldState). owed x number place) h.1)
-owed_started grows w new u key op from to (shown.PutOff refusal) number place there h may old sound = owed_still w new (shown.PutOff refusal) number place refl (ap (λ (x : WorldState). owed x number place) h.1)
-owed_started grows w new u key op from to (shown.Stepped x) number place there h may old sound =
+owed_started grows w new u key op from to (outcome.Refused refusal) number place there h may old sound = owed_still w new (outcome.Refused refusal) number place refl (ap (λ (x : WorldState). owed x number place) h.1)
+owed_started grows w new u key op from to (outcome.PutOff refusal) number place there h may old sound = owed_still w new (outcome.PutOff refusal) number place refl (ap (λ (x : WorldState). owed x number place) h.1)
+owed_started grows w new u key op from to (outcome.Stepped x) number place there h may old sound =
     owed_grown w new key from to x.place number place there old sound (ap (λ (v : WorldState). v.config) h.2) (ap (λ (v : WorldState). v.stripes) h.2) (ap (λ (v : WorldState). v.order) h.2)
     (grows.begins from to u.caller key op (begun.Done (step_of x)) h.0) (gives_done from to u.caller key op (step_of x) may h.0)
     ∙ ap (λ s. one_if ((s == number) && (x.place == place)) + owed w number place) (sym h.1)
-owed_started grows w new u key op from to shown.Loads number place there h may old sound =
+owed_started grows w new u key op from to outcome.Loads number place there h may old sound =
     owed_quiet w new key from to number place there old sound (ap (λ (v : WorldState). v.config) h.2) (ap (λ (v : WorldState). v.stripes) h.2) (ap (λ (v : WorldState). v.order) h.2)
     (gives_none from to (ap (λ (s : State). s.history) h.1.4) (λ c k. ap (λ (s : State). is_parked s.joiners c k) h.1.4))
-owed_started grows w new u key op from to (shown.Asks change) number place there h may old sound =
+owed_started grows w new u key op from to (outcome.Asks change) number place there h may old sound =
     owed_quiet w new key from to number place there old sound (ap (λ (v : WorldState). v.config) h.3) (ap (λ (v : WorldState). v.stripes) h.3) (ap (λ (v : WorldState). v.order) h.3)
     (gives_none from to (ap (λ (s : State). s.history) h.1.4) (λ c k. ap (λ (s : State). is_parked s.joiners c k) h.1.4))
-owed_started grows w new u key op from to (shown.Processes entry) number place there h may old sound =
+owed_started grows w new u key op from to (outcome.Processes entry) number place there h may old sound =
     owed_quiet w new key from to number place there old sound (ap (λ (v : WorldState). v.config) h.3) (ap (λ (v : WorldState). v.stripes) h.3) (ap (λ (v : WorldState). v.order) h.3)
     (gives_none from to (ap (λ (s : State). s.history) h.1.4) (λ c k. ap (λ (s : State). is_parked s.joiners c k) h.1.4))
-owed_started grows w new u key op from to shown.Joins number place there h may old sound =
+owed_started grows w new u key op from to outcome.Joins number place there h may old sound =
     owed_quiet w new key from to number place there old sound (ap (λ (v : WorldState). v.config) h.2) (ap (λ (v : WorldState). v.stripes) h.2) (ap (λ (v : WorldState). v.order) h.2)
     (gives_none from to (ap (λ (s : State). s.history) h.1.3) (λ c k. ap (λ (s : State). is_parked s.joiners c k) h.1.3 ∙ joined_parks from h.0 c k))
 owed_started grows w new u key op from to seen number place there h may old sound = absurd h
 
 -- of a last phase
-owed_ended : Grows → (w new : WorldState) (call : ℕ) (key : Bytes) (part : Part) (from to : State) (seen : Shown) (number place : ℕ) → stripe_for w key ≡ Some from → Ends w call key part from to seen new → IsSoundWorld w → IsSoundWorld new
+owed_ended : Grows → (w new : WorldState) (call : ℕ) (key : Bytes) (part : Part) (from to : State) (seen : Outcome) (number place : ℕ) → stripe_for w key ≡ Some from → Ends w call key part from to seen new → IsSoundWorld w → IsSoundWorld new
     → owed new number place ≡ one_if (is_answer_at number place seen) + owed w number place
-owed_ended grows w new call key part from to (shown.Stepped x) number place there h old sound =
+owed_ended grows w new call key part from to (outcome.Stepped x) number place there h old sound =
     owed_grown w new key from to x.place number place there old sound (ap (λ (v : WorldState). v.config) h.2) (ap (λ (v : WorldState). v.stripes) h.2) (ap (λ (v : WorldState). v.order) h.2)
     (grows.commits from to part.reservation (out_of part) (step_of x) h.0) (gives_commit from to part.reservation (out_of part) (step_of x) (old.shape.each (home w key) from there).reached h.0)
     ∙ ap (λ s. one_if ((s == number) && (x.place == place)) + owed w number place) (sym h.1)
 owed_ended grows w new call key part from to seen number place there h old sound = absurd h
 
 -- of a pick-up
-owed_picks : (w new : WorldState) (call : ℕ) (key : Bytes) (join : JoinClaim) (from to : State) (seen : Shown) (number place : ℕ) → stripe_for w key ≡ Some from → Picks w call key join from to seen new → IsSoundWorld w → IsSoundWorld new
+owed_picks : (w new : WorldState) (call : ℕ) (key : Bytes) (join : JoinClaim) (from to : State) (seen : Outcome) (number place : ℕ) → stripe_for w key ≡ Some from → Picks w call key join from to seen new → IsSoundWorld w → IsSoundWorld new
     → owed new number place ≡ one_if (is_answer_at number place seen) + owed w number place
-owed_picks w new call key join from to (shown.PickedUp x) number place there h old sound =
+owed_picks w new call key join from to (outcome.PickedUp x) number place there h old sound =
     let order : new.order ≡ w.order = ap (λ (v : WorldState). v.order) h.2 in
     owed_set w new key from to (λ p. x.place == p) number place there old sound (ap (λ (v : WorldState). v.config) h.2) (ap (λ (v : WorldState). v.stripes) h.2)
     (λ m apart. ap (of_stripe w.config.stripes m) order)
     (gives_picked from to join x.reply x.place x.shared (old.shape.each (home w key) from there).reached h.0)
     ∙ ap (λ s. one_if ((s == number) && (x.place == place)) + owed w number place) (sym h.1)
-owed_picks w new call key join from to shown.Again number place there h old sound =
+owed_picks w new call key join from to outcome.Again number place there h old sound =
     let reached = (old.shape.each (home w key) from there).reached in
     owed_quiet w new key from to number place there old sound (ap (λ (v : WorldState). v.config) h.1) (ap (λ (v : WorldState). v.stripes) h.1) (ap (λ (v : WorldState). v.order) h.1)
     (gives_none from to (ap (λ (s : State). s.history) h.0.2) (λ c k. ap (λ (s : State). is_parked s.joiners c k) h.0.2 ∙ again_parks_same from join c k reached h.0.1))
-owed_picks w new call key join from to shown.Waits number place there h old sound = owed_still w new shown.Waits number place refl (ap (λ (x : WorldState). owed x number place) h.1)
+owed_picks w new call key join from to outcome.Waits number place there h old sound = owed_still w new outcome.Waits number place refl (ap (λ (x : WorldState). owed x number place) h.1)
 owed_picks w new call key join from to seen number place there h old sound = absurd h
 
 -- of any event that fits
-owed_happens : Grows → (w new : WorldState) (e : WorldEvent) (seen : Shown) (number place : ℕ) → fits w e ≡ true → Happens w e seen new → IsSoundWorld w → IsSoundWorld new → owed new number place ≡ one_if (is_answer_at number place seen) + owed w number place
+owed_happens : Grows → (w new : WorldState) (e : WorldEvent) (seen : Shown) (number place : ℕ) → fits w e ≡ true → Happens w e seen new → IsSoundWorld w → IsSoundWorld new → owed new number place ≡ one_if (is_answer_at number place seen.outcome) + owed w number place
 owed_happens grows w new (event.Call call session command) seen number place fit h old sound =
-    owed_still w new seen number place (ap (is_answer_at number place) h.0 ∙ begun_cases (new_call call session command) (λ s. is_answer_at number place s ≡ false) refl refl) (ap (λ (x : WorldState). owed x number place) h.1)
-owed_happens grows w new (event.Look call stripe) seen number place fit h old sound = owed_still w new seen number place (ap (is_answer_at number place) h.8) (ap (λ (x : WorldState). owed x number place) h.9)
+    owed_still w new seen.outcome number place (ap (λ (s : Shown). is_answer_at number place s.outcome) h.0 ∙ begun_cases (new_call call session command) (λ s. is_answer_at number place s.outcome ≡ false) refl refl) (ap (λ (x : WorldState). owed x number place) h.1)
+owed_happens grows w new (event.Look call stripe) seen number place fit h old sound = owed_still w new seen.outcome number place (ap (λ (s : Shown). is_answer_at number place s.outcome) h.8) (ap (λ (x : WorldState). owed x number place) h.9)
 owed_happens grows w new (event.Start call key) seen number place fit h old sound =
-    owed_started grows w new h.0 key h.1 h.4 h.6 seen number place h.5 h.7 (begins_at w call key h.0 h.1 h.4 fit h.2 h.3 h.5 old) old sound
-owed_happens grows w new (event.Read call key) seen number place fit h old sound = owed_still w new seen number place (ap (is_answer_at number place) h.2) (ap (λ (x : WorldState). owed x number place) h.3)
-owed_happens grows w new (event.Say call key answer) seen number place fit h old sound = owed_still w new seen number place (ap (is_answer_at number place) h.2) (ap (λ (x : WorldState). owed x number place) h.3)
+    owed_started grows w new h.0 key h.1 h.4 h.6 seen.outcome number place h.5 h.7 (begins_at w call key h.0 h.1 h.4 fit h.2 h.3 h.5 old) old sound
+owed_happens grows w new (event.Read call key) seen number place fit h old sound = owed_still w new seen.outcome number place (ap (λ (s : Shown). is_answer_at number place s.outcome) h.2) (ap (λ (x : WorldState). owed x number place) h.3)
+owed_happens grows w new (event.Say call key answer) seen number place fit h old sound = owed_still w new seen.outcome number place (ap (λ (s : Shown). is_answer_at number place s.outcome) h.2) (ap (λ (x : WorldState). owed x number place) h.3)
 owed_happens grows w new (event.Process call key source calls fail) seen number place fit h old sound =
-    owed_still w new seen number place (ap (is_answer_at number place) h.2) (ap (λ (x : WorldState). owed x number place) h.3)
-owed_happens grows w new (event.Change call key) seen number place fit h old sound = owed_still w new seen number place (ap (is_answer_at number place) h.4) (ap (λ (x : WorldState). owed x number place) h.5)
+    owed_still w new seen.outcome number place (ap (λ (s : Shown). is_answer_at number place s.outcome) h.2) (ap (λ (x : WorldState). owed x number place) h.3)
+owed_happens grows w new (event.Change call key) seen number place fit h old sound = owed_still w new seen.outcome number place (ap (λ (s : Shown). is_answer_at number place s.outcome) h.4) (ap (λ (x : WorldState). owed x number place) h.5)
 owed_happens grows w new (event.Report call left fault) seen number place fit h old sound =
-    owed_still w new seen number place (ap (is_answer_at number place) h.2) (ap (λ (x : WorldState). owed x number place) (beside w new call h.0 left fault h.3).is)
-owed_happens grows w new (event.Commit call key) seen number place fit h old sound = owed_ended grows w new call key h.0 h.2 h.4 seen number place h.3 h.5 old sound
+    owed_still w new seen.outcome number place (ap (λ (s : Shown). is_answer_at number place s.outcome) h.2) (ap (λ (x : WorldState). owed x number place) (beside w new call h.0 left fault h.3).is)
+owed_happens grows w new (event.Commit call key) seen number place fit h old sound = owed_ended grows w new call key h.0 h.2 h.4 seen.outcome number place h.3 h.5 old sound
 owed_happens grows w new (event.Withdraw call key) seen number place fit h old sound =
     let r = h.0.reservation in
     owed_quiet w new key h.2 h.4 number place h.3 old sound (ap (λ (v : WorldState). v.config) h.7) (ap (λ (v : WorldState). v.stripes) h.7) (ap (λ (v : WorldState). v.order) h.7)
     (gives_none h.2 h.4 (ap (λ (s : State). s.history) h.5.1) (λ c k. ap (λ (s : State). is_parked s.joiners c k) h.5.1 ∙ withdrawn_parks h.2 r c k))
-    ∙ ap (λ s. one_if (is_answer_at number place s) + owed w number place) (sym h.6)
-owed_happens grows w new (event.Leave call) seen number place fit h old sound = owed_still w new seen number place (ap (is_answer_at number place) h.0) (ap (λ (x : WorldState). owed x number place) h.1)
-owed_happens grows w new (event.PickUp call key) seen number place fit h old sound = owed_picks w new call key h.0 h.2 h.4 seen number place h.3 h.5 old sound
-owed_happens grows w new (event.Foreign key value) seen number place fit h old sound = owed_still w new seen number place (ap (is_answer_at number place) h.0) (ap (λ (x : WorldState). owed x number place) h.1)
+    ∙ ap (λ (s : Shown). one_if (is_answer_at number place s.outcome) + owed w number place) (sym h.6)
+owed_happens grows w new (event.Leave call) seen number place fit h old sound = owed_still w new seen.outcome number place (ap (λ (s : Shown). is_answer_at number place s.outcome) h.0) (ap (λ (x : WorldState). owed x number place) h.1)
+owed_happens grows w new (event.PickUp call key) seen number place fit h old sound = owed_picks w new call key h.0 h.2 h.4 seen.outcome number place h.3 h.5 old sound
+owed_happens grows w new (event.Foreign key value) seen number place fit h old sound = owed_still w new seen.outcome number place (ap (λ (s : Shown). is_answer_at number place s.outcome) h.0) (ap (λ (x : WorldState). owed x number place) h.1)
 
 -- and of any event
-owed_step : Grows → (w new : WorldState) (e : WorldEvent) (seen : Shown) (number place : ℕ) → Step w e seen new → IsSoundWorld w → IsSoundWorld new → owed new number place ≡ one_if (is_answer_at number place seen) + owed w number place
-owed_step grows w new e seen number place (inl (fit, (mid, happens, is))) old sound =
-    let n = noted_as w mid new e seen is in
-    ap (λ (x : WorldState). owed x number place) n.is ∙ owed_happens grows w mid e seen number place fit happens old (sound_before mid new n.ends n.is sound)
-owed_step grows w new e seen number place (inr (unfit, shows, is)) old sound = owed_still w new seen number place (ap (is_answer_at number place) shows) (ap (λ (x : WorldState). owed x number place) is)
+owed_step : Grows → (w new : WorldState) (e : WorldEvent) (seen : Shown) (number place : ℕ) → Step w e seen new → IsSoundWorld w → IsSoundWorld new → owed new number place ≡ one_if (is_answer_at number place seen.outcome) + owed w number place
+owed_step grows w new e seen number place (inl (fit, happens)) old sound = owed_happens grows w new e seen number place fit happens old sound
+owed_step grows w new e seen number place (inr (unfit, shows, is)) old sound = owed_still w new seen.outcome number place (ap (λ (s : Shown). is_answer_at number place s.outcome) shows) (ap (λ (x : WorldState). owed x number place) is)
 
 -- 4. A run.
 
-pub owed_run : Laws → Grows → (w new : WorldState) (es : List WorldEvent) (ss : List Shown) (number place : ℕ) → Run w es ss new → IsSoundWorld w → owed new number place ≡ count_by (is_answer_at number place) ss + owed w number place
+abbrev pub answers_at : ℕ → ℕ → Shown → Bool
+answers_at number place s = is_answer_at number place s.outcome
+
+pub owed_run : Laws → Grows → (w new : WorldState) (es : List WorldEvent) (ss : List Shown) (number place : ℕ) → Run w es ss new → IsSoundWorld w → owed new number place ≡ count_by (answers_at number place) ss + owed w number place
 owed_run laws grows w new [] [] number place run old = let e : owed new number place ≡ owed w number place = ap (λ (x : WorldState). owed x number place) run in omega arith
 owed_run laws grows w new [] (s ∷ ss) number place run old = absurd run
 owed_run laws grows w new (e ∷ es) [] number place run old = absurd run
@@ -309,7 +310,7 @@ owed_run laws grows w new (e ∷ es) (s ∷ ss) number place (mid, step, rest) o
     let sound = sound_step laws w e s mid step old in
     let one = owed_step grows w mid e s number place step old sound in
     let more = owed_run laws grows mid new es ss number place rest sound in
-    let split_off : count_by (is_answer_at number place) (s ∷ ss) ≡ one_if (is_answer_at number place s) + count_by (is_answer_at number place) ss = sum_by-cons (λ x. cond (is_answer_at number place x) 1 0) s ss in
+    let split_off : count_by (answers_at number place) (s ∷ ss) ≡ one_if (is_answer_at number place s.outcome) + count_by (answers_at number place) ss = sum_by-cons (λ x. cond (answers_at number place x) 1 0) s ss in
     omega arith
 
 -- nothing is owed before anything has happened
@@ -320,7 +321,7 @@ owed_opened config (e ∷ es) number place = owed_opened config es number place
 -- so what is owed was shown
 pub shown_once : Laws → Grows → (config : Config) (stored : List (Bytes × Bytes)) (new : WorldState) (es : List WorldEvent) (ss : List Shown) (number place : ℕ) (caller : Caller) (op : Op) (key : Bytes) (out : Out) (shared : Option ℕ) (reply : Reply)
     → Run (start_with config stored) es ss new → IsSoundWorld (start_with config stored) → slice_get (of_stripe config.stripes number new.order) place ≡ Some (stripe.Step caller op key out shared reply)
-    → count_by (is_answer_at number place) ss ≡ times_shown (is_parked (joiners_at new number) caller key)
+    → count_by (answers_at number place) ss ≡ times_shown (is_parked (joiners_at new number) caller key)
 shown_once laws grows config stored new es ss number place caller op key out shared reply run sound there =
     let total = owed_run laws grows (start_with config stored) new es ss number place run sound in
     let none = owed_opened config stored number place in

@@ -1,31 +1,32 @@
 -- Each event leads from a sound world to a sound one, and so does each run.
-use Rattle.std.proofs.Common.{inl, inr, ◌≡◌, ◌∙◌, ℕ, List, [], ◌∷◌, true, Some, Result, Ok, Err, OnOk, OnErr, sym, subst, ap, refl}
+use Rattle.std.proofs.Common.{inl, inr, is_none, ◌≡◌, ◌∙◌, ℕ, List, [], ◌∷◌, true, Option, Some, Result, Ok, Err, OnOk, OnErr, option_map, sym, subst, ap, refl}
 use Rattle.std.proofs.lemmas.Bool.{and_parts}
 use Rattle.jc_types.specs.declared.config.Config.{Config}
 use Rattle.jc_types.specs.Limits.{check}
 use Rattle.jc_model.specs.Cache.{Bytes, entry_at, with_entry}
 use Rattle.jc_model.specs.Table.{is_load_given}
 use Rattle.jc_model.specs.declared.event.WriteAnswer.{WriteAnswer}
-use Rattle.jc_world.specs.Calls.{open_keys}
+use Rattle.jc_types.specs.declared.refusal.Refusal.{Refusal}
+use Rattle.jc_types.specs.declared.refusal.Refusal.TheVariants.{WriterFailed}
+use Rattle.jc_world.specs.Calls.{CallState, open_keys}
 use Rattle.jc_world.specs.declared.event.Part.{Part}
 use Rattle.jc_world.specs.declared.event.Shown.{Shown}
 use Rattle.jc_world.specs.declared.event.WorldEvent.{WorldEvent}
 use Rattle.jc_world.specs.declared.event.WorldEvent.TheVariants as event
 use Rattle.jc_stripe.specs.Laws.{StaysReached, KeepsReserved}
-use Rattle.jc_world.specs.World.{WorldState, start, part_of, waits_for_load, waits_for_report, with_stored, has_progress}
+use Rattle.jc_world.specs.World.{WorldState, start, open_call, is_fresh, part_of, waits_for_load, waits_for_report, with_stored, has_progress}
 use Rattle.jc_world.specs.Premises.{read_answer, report_for, load_from}
 use Rattle.jc_world.specs.Fits.{fits}
-use Rattle.jc_world.specs.Events.{after_report, reported_keys, keys_reported, Happens, Step, Run}
+use Rattle.jc_world.specs.Events.{with_met_by, after_report, reported_keys, keys_reported, Happens, Step, Run}
 use Rattle.jc_world.specs.Sound.{IsSoundWorld}
 use Rattle.jc_world.specs.Headline.{start_with}
 use Rattle.jc_world.proofs.Halves.{HasParts, sound}
-use Rattle.jc_world.proofs.Noting.{noted_as, sound_ends}
 use Rattle.jc_world.proofs.Returns.{each_report, IsReport}
 use Rattle.jc_world.proofs.Beginning.{order_start}
-use Rattle.jc_world.proofs.Callers.{order_part, order_happens, order_opened}
-use Rattle.jc_world.proofs.Joins.{joins_parted, joins_start, joins_happens, joins_stored}
+use Rattle.jc_world.proofs.Callers.{order_part, order_met, order_happens, order_opened}
+use Rattle.jc_world.proofs.Joins.{joins_met, joins_parted, joins_start, joins_happens, joins_stored}
 use Rattle.jc_world.proofs.Dues.{dues_reported, dues_start, dues_happens}
-use Rattle.jc_world.proofs.Sweeps.{sweeps_happens}
+use Rattle.jc_world.proofs.Sweeps.{sweeps_met, sweeps_happens}
 use Rattle.jc_world.proofs.Kept.{parts_half, parts_processed, parts_start, parts_called, parts_started, parts_ended, parts_answered, parts_changed, parts_reported, parts_disturbed, parts_stored, parts_withdrawn, parts_left, parts_over, parts_picks}
 
 -- the writer has returned for a key
@@ -34,17 +35,23 @@ sound_reported w call key part report at waits h =
     sound (after_report w key part report) (order_part w call key part _ _ w.store at refl h) (parts_reported w call key part report at (ap (has_progress waits_for_report) at ∙ waits) h) (dues_reported w call key part report at h.due)
     (joins_parted w call key part _ _ w.store at refl h) h.sweeps
 
+-- a call has met something
+sound_met : (w : WorldState) (call : ℕ) (met : Option Refusal) (u : CallState) → open_call w call ≡ Some u → IsSoundWorld w → IsSoundWorld (with_met_by w call met)
+sound_met w call met u here h = sound (with_met_by w call met) (order_met w call met u here h) (parts_over w call u (with_met_by w call met).calls here h) h.due (joins_met w call met u here h) (sweeps_met w call met u here h.sweeps)
+
 -- and for all keys that it returns for
 sound_returned : (w new : WorldState) (e : WorldEvent) (seen : Shown) → Happens w e seen new → IsSoundWorld w → IsReport e → IsSoundWorld new
 sound_returned w new (event.Report call left fault) seen h old back =
     let answer = report_for h.0.kind left fault in
-    subst IsSoundWorld (sym h.3) (each_report IsSoundWorld call answer (λ v key part at waits o. sound_reported v call key part (answer key) at waits o) w (keys_reported (reported_keys w.parts call (open_keys h.0))) old)
+    let met = option_map WriterFailed fault in
+    subst IsSoundWorld (sym h.3)
+    (each_report IsSoundWorld call answer (λ v key part at waits o. sound_reported v call key part (answer key) at waits o) (with_met_by w call met) (keys_reported (reported_keys w.parts call (open_keys h.0))) (sound_met w call met h.0 h.1 old))
 sound_returned w new e seen h old back = absurd back
 
 parts_happens : (w new : WorldState) (e : WorldEvent) (seen : Shown) → fits w e ≡ true → Happens w e seen new → (IsReport e → IsSoundWorld new) → IsSoundWorld w → HasParts new
 parts_happens w new (event.Call call session command) seen fit (shows, is) back h = subst HasParts (sym is) (parts_called w call session command fit h)
 parts_happens w new (event.Look call stripe) seen fit (u, sweep, there, sweeps, from, at, keys, are, shows, is) back h = subst HasParts (sym is) (parts_over w call u _ there h)
-parts_happens w new (event.Start call key) seen fit (u, op, there, op_is, from, at, to, starts, refuses) back h = parts_started w new call key u op from to seen there at starts h
+parts_happens w new (event.Start call key) seen fit (u, op, there, op_is, from, at, to, starts, refuses, over) back h = parts_started w new call key u op from to seen.outcome there at starts h
 parts_happens w new (event.Read call key) seen fit (part, there, shows, is) back h = subst HasParts (sym is) (parts_answered w call key part (read_answer (entry_at w.store key)) there fit h)
 parts_happens w new (event.Say call key answer) seen fit (part, there, shows, is) back h =
     subst HasParts (sym is) (parts_answered w call key part answer there ((and_parts (is_load_given answer) (has_progress waits_for_load (part_of w call key)) fit).1) h)
@@ -52,10 +59,10 @@ parts_happens w new (event.Process call key source calls fail) seen fit (part, t
     subst HasParts (sym is) (parts_processed w key call part (load_from source (entry_at w.store key)) calls fail there fit h)
 parts_happens w new (event.Change call key) seen fit (part, change, there, asked, shows, is) back h = subst HasParts (sym is) (parts_changed w call key part change there asked fit h)
 parts_happens w new (event.Report call left fault) seen fit happens back h = parts_half new (back tt)
-parts_happens w new (event.Commit call key) seen fit (part, there, from, at, to, ends) back h = parts_ended w new call key part from to seen fit there at ends h
+parts_happens w new (event.Commit call key) seen fit (part, there, from, at, to, ends, over) back h = parts_ended w new call key part from to seen.outcome fit there at ends h
 parts_happens w new (event.Withdraw call key) seen fit (part, there, from, at, to, withdraws, shows, is) back h = subst HasParts (sym is) (parts_withdrawn w call key part from to fit there at withdraws h)
 parts_happens w new (event.Leave call) seen fit (shows, is) back h = subst HasParts (sym is) (parts_left w call fit h)
-parts_happens w new (event.PickUp call key) seen fit (join, there, from, at, to, picks) back h = parts_picks w new call key join from to seen there at picks h
+parts_happens w new (event.PickUp call key) seen fit (join, there, from, at, to, picks, over) back h = parts_picks w new call key join from to seen.outcome there at picks h
 parts_happens w new (event.Foreign key value) seen fit (shows, is) back h = subst HasParts (sym is) (parts_disturbed w (with_entry w.store key value) h)
 
 -- what the stripes below keep
@@ -64,12 +71,9 @@ pub record Laws : Type 0 where
   pub kept : KeepsReserved
 
 pub sound_step : Laws → (old : WorldState) (e : WorldEvent) (seen : Shown) (new : WorldState) → Step old e seen new → IsSoundWorld old → IsSoundWorld new
-sound_step laws old e seen new (inl (fit, (mid, happens, is))) h =
-    let back = sound_returned old mid e seen happens h in
-    let n = noted_as old mid new e seen is in
-    subst IsSoundWorld (sym n.is)
-    (sound_ends mid n.ends
-    (sound mid (order_happens laws.stays old mid e seen fit happens back h) (parts_happens old mid e seen fit happens back h) (dues_happens old mid e seen happens h.due) (joins_happens old mid e seen fit happens back h) (sweeps_happens old mid e seen fit happens back h)))
+sound_step laws old e seen new (inl (fit, happens)) h =
+    let back = sound_returned old new e seen happens h in
+    sound new (order_happens laws.stays old new e seen fit happens back h) (parts_happens old new e seen fit happens back h) (dues_happens old new e seen happens h.due) (joins_happens old new e seen fit happens back h) (sweeps_happens old new e seen fit happens back h)
 sound_step laws old e seen new (inr (unfit, shows, is)) h = subst IsSoundWorld (sym is) h
 
 pub sound_run : Laws → (old new : WorldState) (es : List WorldEvent) (ss : List Shown) → Run old es ss new → IsSoundWorld old → IsSoundWorld new
@@ -81,14 +85,14 @@ sound_run laws old new (e ∷ es) (s ∷ ss) (mid, step, rest) h = sound_run law
 pub sound_start : (config : Config) → check config ≡ Ok tt → IsSoundWorld (start config)
 sound_start config fits = sound (start config) (order_start config fits) (parts_start config fits) (dues_start config) (joins_start config fits) tt
 
-pub sound_stored : (w : WorldState) (key value : Bytes) → w.fresh ≡ true → IsSoundWorld w → IsSoundWorld (with_stored w key value)
-sound_stored w key value fresh h = sound (with_stored w key value) (order_opened w key value h) (parts_stored w key value fresh h) h.due (joins_stored w (with_stored w key value).store w.premises w.fresh h) h.sweeps
+pub sound_stored : (w : WorldState) (key value : Bytes) → is_none w.last ≡ true → IsSoundWorld w → IsSoundWorld (with_stored w key value)
+sound_stored w key value none h = sound (with_stored w key value) (order_opened w key value h) (parts_stored w key value none h) h.due (joins_stored w (with_stored w key value).store w.premises h) h.sweeps
 
-pub sound_set : {A E : Type 0} (r : Result A E) (old new : WorldState) (key value : Bytes) → OnOk r (new ≡ with_stored old key value) → OnErr r (new ≡ old) → old.fresh ≡ true → IsSoundWorld old → IsSoundWorld new
-sound_set (Ok x) old new key value ok err fresh h = subst IsSoundWorld (sym ok) (sound_stored old key value fresh h)
+pub sound_set : {A E : Type 0} (r : Result A E) (old new : WorldState) (key value : Bytes) → OnOk r (new ≡ with_stored old key value) → OnErr r (new ≡ old) → is_fresh old ≡ true → IsSoundWorld old → IsSoundWorld new
+sound_set (Ok x) old new key value ok err fresh h = subst IsSoundWorld (sym ok) (sound_stored old key value (and_parts (is_none old.last) old.premises.quiet fresh).0 h)
 sound_set (Err e) old new key value ok err fresh h = subst IsSoundWorld (sym err) h
 
 -- an opening is sound, and nothing has happened in it
-pub sound_opened : (config : Config) (stored : List (Bytes × Bytes)) → check config ≡ Ok tt → IsSoundWorld (start_with config stored) × ((start_with config stored).fresh ≡ true)
+pub sound_opened : (config : Config) (stored : List (Bytes × Bytes)) → check config ≡ Ok tt → IsSoundWorld (start_with config stored) × (is_none (start_with config stored).last ≡ true)
 sound_opened config [] fits = (sound_start config fits, refl)
 sound_opened config (e ∷ es) fits = let rest = sound_opened config es fits in (sound_stored (start_with config es) e.0 e.1 rest.1 rest.0, rest.1)

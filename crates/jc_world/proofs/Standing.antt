@@ -4,15 +4,15 @@
 --     AllBegun       what is under way, reserved and joined is so of calls that have begun
 --     AllStand       each answer that was shown is that of its call's step, and the call has begun before it
 --     stands_run     so a run of events keeps that
-use Rattle.std.proofs.Common.{inl, inr, ◌≡◌, ℕ, zero, suc, List, [], ◌∷◌, ◌++◌, length, take, zip, true, false, cond, not, Option, None, Some, slice_get, refl, sym, ap, ◌∙◌, subst, append-nil, append_assoc, arith}
-use Rattle.std.specs.FinMap.{get, insert, remove, get-empty, get-insert, get-remove}
-use Rattle.std.proofs.lemmas.Cmp.{nat_list_cmp_total}
+use Rattle.std.proofs.Common.{inl, inr, ◌≡◌, ℕ, zero, suc, List, [], ◌∷◌, ◌++◌, length, take, zip, true, false, cond, not, Option, None, Some, option_map, slice_get, refl, sym, ap, ◌∙◌, subst, append-nil, append_assoc, arith}
+use Rattle.std.specs.FinMap.{get, insert, remove, get-empty}
 use Rattle.std.proofs.lemmas.List.Elements.{filter-append}
 use Rattle.std.proofs.Math.Seq.{take-append_seam}
 use Rattle.std.proofs.lemmas.List.{take-append-le}
 use Rattle.std.proofs.lemmas.Option.{slice_get_within}
 use Rattle.jc_types.specs.declared.caller.Caller.{Caller}
 use Rattle.jc_types.specs.declared.config.Config.{Config}
+use Rattle.jc_types.specs.declared.refusal.Refusal.TheVariants.{WriterFailed}
 use Rattle.jc_types.specs.Stripes.{stripe_of}
 use Rattle.jc_model.specs.declared.event.Op.{Op}
 use Rattle.jc_model.specs.declared.event.Op.TheVariants.{Get}
@@ -30,30 +30,30 @@ use Rattle.jc_stripe.specs.Phases.{after_commit}
 use Rattle.jc_stripe.proofs.CallerLemmas.{step_at}
 use Rattle.jc_world.specs.declared.event.Part.{Part}
 use Rattle.jc_world.specs.declared.event.Shown.{Shown}
-use Rattle.jc_world.specs.declared.event.Shown.TheVariants as shown
+use Rattle.jc_world.specs.declared.event.Outcome.{Outcome}
+use Rattle.jc_world.specs.declared.event.Outcome.TheVariants as outcome
 use Rattle.jc_world.specs.declared.command.Command.{Command}
-use Rattle.jc_world.specs.Calls.{CallState, has_number, has_too_many_keys, is_going, op_for, new_call, opened, going_on, with_found, open_keys}
+use Rattle.jc_world.specs.Calls.{CallState, has_number, has_too_many_keys, is_going, op_for, new_call, opened, going_on, with_found, with_met, open_keys}
 use Rattle.jc_world.specs.declared.event.WorldEvent.{WorldEvent}
 use Rattle.jc_world.specs.declared.event.WorldEvent.TheVariants as event
-use Rattle.jc_world.specs.World.{WorldState, Parts, home, stripe_for, is_join, join_of, part_of, out_of, open_call}
+use Rattle.jc_world.specs.World.{WorldState, Parts, home, stripe_for, JoinKey, Joins, join_cmp, join_key, join_of, part_of, out_of, open_call}
 use Rattle.jc_world.specs.Fits.{fits}
-use Rattle.jc_world.specs.Events.{new_load, new_write, new_part, step_of, reported_keys, keys_reported, Starts, Ends, Picks, Happens, Step, Run, new_process}
+use Rattle.jc_world.specs.Events.{with_met_by, new_load, new_write, new_part, step_of, reported_keys, keys_reported, Starts, Ends, Picks, Happens, Step, Run, new_process}
 use Rattle.jc_world.specs.Sound.{IsSoundWorld, Each}
 use Rattle.jc_world.specs.Headline.{start_with}
 use Rattle.jc_world.specs.Replies.{IsReplyOfStep, Stands}
-use Rattle.jc_world.proofs.Shares.{each_filter, each_pushed, found_test, each_map, added, fact_found, still_at}
+use Rattle.jc_world.proofs.Shares.{each_filter, each_pushed, each_map, added, fact_found, still_at}
 use Rattle.jc_world.proofs.Underway.{found_number, of_call-at}
-use Rattle.jc_world.proofs.Looked.{Taken, taken_of, each_replaced}
+use Rattle.jc_world.proofs.Looked.{Taken, taken_of, taken_met, each_replaced}
 use Rattle.jc_world.proofs.Settling.{Left, done_for, each_settled}
 use Rattle.jc_world.proofs.NewCalls.{begun_cases, begun_shown}
 use Rattle.jc_world.proofs.LoadKeys.{joins_get}
-use Rattle.jc_world.proofs.Joiners.{join_is}
+use Rattle.jc_world.proofs.Joiners.{join_at}
 use Rattle.jc_world.proofs.Places.{stripe_put}
-use Rattle.jc_world.proofs.Entries.{split}
+use Rattle.jc_world.proofs.Maps.{keys_ordered, joins_ordered, each_put, each_left}
 use Rattle.jc_world.proofs.Callers.{part_key}
 use Rattle.jc_world.specs.Premises.{report_for}
 use Rattle.jc_world.proofs.Returns.{each_report}
-use Rattle.jc_world.proofs.Noting.{noted_as, sound_before}
 use Rattle.jc_world.proofs.Beside.{beside}
 use Rattle.jc_world.proofs.Sounding.{Laws, sound_step}
 
@@ -83,33 +83,33 @@ later_same : (old new : WorldState) → new.config ≡ old.config → new.order 
 later_same old new config order = record { config = config; more = []; order = order ∙ sym (append-nil old.order) }
 
 -- by what is shown of a first phase
-later_started : (w new : WorldState) (caller : Caller) (key : Bytes) (op : Op) (from to : State) (seen : Shown) → Starts w caller key op from to seen new → IsLater w new
-later_started w new caller key op from to (shown.Refused refusal) h = later_same w new (ap (λ (x : WorldState). x.config) h.1) (ap (λ (x : WorldState). x.order) h.1)
-later_started w new caller key op from to (shown.PutOff refusal) h = later_same w new (ap (λ (x : WorldState). x.config) h.1) (ap (λ (x : WorldState). x.order) h.1)
-later_started w new caller key op from to (shown.Stepped seen) h = record { config = ap (λ (x : WorldState). x.config) h.2; more = added from to; order = ap (λ (x : WorldState). x.order) h.2 }
-later_started w new caller key op from to shown.Loads h = later_same w new (ap (λ (x : WorldState). x.config) h.2) (ap (λ (x : WorldState). x.order) h.2)
-later_started w new caller key op from to (shown.Asks change) h = later_same w new (ap (λ (x : WorldState). x.config) h.3) (ap (λ (x : WorldState). x.order) h.3)
-later_started w new caller key op from to (shown.Processes entry) h = later_same w new (ap (λ (x : WorldState). x.config) h.3) (ap (λ (x : WorldState). x.order) h.3)
-later_started w new caller key op from to shown.Joins h = later_same w new (ap (λ (x : WorldState). x.config) h.2) (ap (λ (x : WorldState). x.order) h.2)
+later_started : (w new : WorldState) (caller : Caller) (key : Bytes) (op : Op) (from to : State) (seen : Outcome) → Starts w caller key op from to seen new → IsLater w new
+later_started w new caller key op from to (outcome.Refused refusal) h = later_same w new (ap (λ (x : WorldState). x.config) h.1) (ap (λ (x : WorldState). x.order) h.1)
+later_started w new caller key op from to (outcome.PutOff refusal) h = later_same w new (ap (λ (x : WorldState). x.config) h.1) (ap (λ (x : WorldState). x.order) h.1)
+later_started w new caller key op from to (outcome.Stepped seen) h = record { config = ap (λ (x : WorldState). x.config) h.2; more = added from to; order = ap (λ (x : WorldState). x.order) h.2 }
+later_started w new caller key op from to outcome.Loads h = later_same w new (ap (λ (x : WorldState). x.config) h.2) (ap (λ (x : WorldState). x.order) h.2)
+later_started w new caller key op from to (outcome.Asks change) h = later_same w new (ap (λ (x : WorldState). x.config) h.3) (ap (λ (x : WorldState). x.order) h.3)
+later_started w new caller key op from to (outcome.Processes entry) h = later_same w new (ap (λ (x : WorldState). x.config) h.3) (ap (λ (x : WorldState). x.order) h.3)
+later_started w new caller key op from to outcome.Joins h = later_same w new (ap (λ (x : WorldState). x.config) h.2) (ap (λ (x : WorldState). x.order) h.2)
 later_started w new caller key op from to seen h = absurd h
 
 -- of a last phase
-later_ended : (w new : WorldState) (call : ℕ) (key : Bytes) (part : Part) (from to : State) (seen : Shown) → Ends w call key part from to seen new → IsLater w new
-later_ended w new call key part from to (shown.Stepped seen) h = record { config = ap (λ (x : WorldState). x.config) h.2; more = added from to; order = ap (λ (x : WorldState). x.order) h.2 }
+later_ended : (w new : WorldState) (call : ℕ) (key : Bytes) (part : Part) (from to : State) (seen : Outcome) → Ends w call key part from to seen new → IsLater w new
+later_ended w new call key part from to (outcome.Stepped seen) h = record { config = ap (λ (x : WorldState). x.config) h.2; more = added from to; order = ap (λ (x : WorldState). x.order) h.2 }
 later_ended w new call key part from to seen h = absurd h
 
 -- of a pick-up
-later_picks : (w new : WorldState) (call : ℕ) (key : Bytes) (join : JoinClaim) (from to : State) (seen : Shown) → Picks w call key join from to seen new → IsLater w new
-later_picks w new call key join from to (shown.PickedUp seen) h = later_same w new (ap (λ (x : WorldState). x.config) h.2) (ap (λ (x : WorldState). x.order) h.2)
-later_picks w new call key join from to shown.Again h = later_same w new (ap (λ (x : WorldState). x.config) h.1) (ap (λ (x : WorldState). x.order) h.1)
-later_picks w new call key join from to shown.Waits h = later_same w new (ap (λ (x : WorldState). x.config) h.1) (ap (λ (x : WorldState). x.order) h.1)
+later_picks : (w new : WorldState) (call : ℕ) (key : Bytes) (join : JoinClaim) (from to : State) (seen : Outcome) → Picks w call key join from to seen new → IsLater w new
+later_picks w new call key join from to (outcome.PickedUp seen) h = later_same w new (ap (λ (x : WorldState). x.config) h.2) (ap (λ (x : WorldState). x.order) h.2)
+later_picks w new call key join from to outcome.Again h = later_same w new (ap (λ (x : WorldState). x.config) h.1) (ap (λ (x : WorldState). x.order) h.1)
+later_picks w new call key join from to outcome.Waits h = later_same w new (ap (λ (x : WorldState). x.config) h.1) (ap (λ (x : WorldState). x.order) h.1)
 later_picks w new call key join from to seen h = absurd h
 
 -- of any event that fits
 later_happens : (w new : WorldState) (e : WorldEvent) (seen : Shown) → Happens w e seen new → IsLater w new
 later_happens w new (event.Call call session command) seen h = later_same w new (ap (λ (x : WorldState). x.config) h.1) (ap (λ (x : WorldState). x.order) h.1)
 later_happens w new (event.Look call stripe) seen h = later_same w new (ap (λ (x : WorldState). x.config) h.9) (ap (λ (x : WorldState). x.order) h.9)
-later_happens w new (event.Start call key) seen h = later_started w new h.0.caller key h.1 h.4 h.6 seen h.7
+later_happens w new (event.Start call key) seen h = later_started w new h.0.caller key h.1 h.4 h.6 seen.outcome h.7
 later_happens w new (event.Read call key) seen h = later_same w new (ap (λ (x : WorldState). x.config) h.3) (ap (λ (x : WorldState). x.order) h.3)
 later_happens w new (event.Say call key answer) seen h = later_same w new (ap (λ (x : WorldState). x.config) h.3) (ap (λ (x : WorldState). x.order) h.3)
 later_happens w new (event.Process call key source calls fail) seen h = later_same w new (ap (λ (x : WorldState). x.config) h.3) (ap (λ (x : WorldState). x.order) h.3)
@@ -117,18 +117,15 @@ later_happens w new (event.Change call key) seen h = later_same w new (ap (λ (x
 later_happens w new (event.Report call left fault) seen h =
     let is = (beside w new call h.0 left fault h.3).is in
     later_same w new (ap (λ (x : WorldState). x.config) is) (ap (λ (x : WorldState). x.order) is)
-later_happens w new (event.Commit call key) seen h = later_ended w new call key h.0 h.2 h.4 seen h.5
+later_happens w new (event.Commit call key) seen h = later_ended w new call key h.0 h.2 h.4 seen.outcome h.5
 later_happens w new (event.Withdraw call key) seen h = later_same w new (ap (λ (x : WorldState). x.config) h.7) (ap (λ (x : WorldState). x.order) h.7)
 later_happens w new (event.Leave call) seen h = later_same w new (ap (λ (x : WorldState). x.config) h.1) (ap (λ (x : WorldState). x.order) h.1)
-later_happens w new (event.PickUp call key) seen h = later_picks w new call key h.0 h.2 h.4 seen h.5
+later_happens w new (event.PickUp call key) seen h = later_picks w new call key h.0 h.2 h.4 seen.outcome h.5
 later_happens w new (event.Foreign key value) seen h = later_same w new (ap (λ (x : WorldState). x.config) h.1) (ap (λ (x : WorldState). x.order) h.1)
 
 -- and of any event
 pub later_step : (w new : WorldState) (e : WorldEvent) (seen : Shown) → Step w e seen new → IsLater w new
-later_step w new e seen (inl (fit, (mid, happens, is))) =
-    let n = noted_as w mid new e seen is in
-    let l = later_happens w mid e seen happens in
-    record { config = ap (λ (x : WorldState). x.config) n.is ∙ l.config; more = l.more; order = ap (λ (x : WorldState). x.order) n.is ∙ l.order }
+later_step w new e seen (inl (fit, happens)) = later_happens w new e seen happens
 later_step w new e seen (inr (unfit, shows, is)) = later_same w new (ap (λ (x : WorldState). x.config) is) (ap (λ (x : WorldState). x.order) is)
 
 -- a run keeps the configuration, and so does what the store holds at the start
@@ -153,7 +150,9 @@ answered_on w n shows call key reply number place shared later h =
       command = h.command;
       op = h.op;
       at = h.at;
+      seen = h.seen;
       begun = h.begun;
+      begun_is = h.begun_is;
       op_is = h.op_is;
       home_is = h.home_is ∙ ap (λ (c : Config). stripe_of key c.stripes) (sym later.config);
       out = h.out;
@@ -162,12 +161,12 @@ answered_on w n shows call key reply number place shared later h =
           ∙ still_at (of_stripe w.config.stripes number w.order) (of_stripe w.config.stripes number later.more) place _ h.step;
     }
 
-stands_on : (w n : WorldState) (shows : List (WorldEvent × Shown)) (e : WorldEvent) (seen : Shown) → IsLater w n → Stands w shows e seen → Stands n shows e seen
-stands_on w n shows (event.Start call key) (shown.Stepped x) later h = answered_on w n shows call key x.reply x.stripe x.place None later h
-stands_on w n shows (event.Commit call key) (shown.Stepped x) later h = answered_on w n shows call key x.reply x.stripe x.place None later h
-stands_on w n shows (event.PickUp call key) (shown.PickedUp x) later h = answered_on w n shows call key x.reply x.stripe x.place (Some x.shared) later h
-stands_on w n shows e (shown.Stepped x) later h = absurd h
-stands_on w n shows e (shown.PickedUp x) later h = absurd h
+stands_on : (w n : WorldState) (shows : List (WorldEvent × Shown)) (e : WorldEvent) (seen : Outcome) → IsLater w n → Stands w shows e seen → Stands n shows e seen
+stands_on w n shows (event.Start call key) (outcome.Stepped x) later h = answered_on w n shows call key x.reply x.stripe x.place None later h
+stands_on w n shows (event.Commit call key) (outcome.Stepped x) later h = answered_on w n shows call key x.reply x.stripe x.place None later h
+stands_on w n shows (event.PickUp call key) (outcome.PickedUp x) later h = answered_on w n shows call key x.reply x.stripe x.place (Some x.shared) later h
+stands_on w n shows e (outcome.Stepped x) later h = absurd h
+stands_on w n shows e (outcome.PickedUp x) later h = absurd h
 stands_on w n shows e seen later h = tt
 
 -- 4. Which calls have begun.
@@ -175,7 +174,7 @@ stands_on w n shows e seen later h = tt
 -- a call of this caller that does this at this key is among what has happened
 abbrev pub BegunAs : List (WorldEvent × Shown) → Caller → Bytes → Op → Type 0
 BegunAs shows caller key op =
-    (at : ℕ) × (command : Command) × (slice_get shows at ≡ Some (event.Call caller.call caller.session command, shown.Begun)) × (op_for (new_call caller.call caller.session command) key ≡ Some op)
+    (at : ℕ) × (command : Command) × (seen : Shown) × (slice_get shows at ≡ Some (event.Call caller.call caller.session command, seen)) × (seen.outcome ≡ outcome.Begun) × (op_for (new_call caller.call caller.session command) key ≡ Some op)
 
 abbrev IsBegun : List (WorldEvent × Shown) → CallState → Type 0
 IsBegun shows u = (key : Bytes) (op : Op) → op_for u key ≡ Some op → BegunAs shows u.caller key op
@@ -189,21 +188,24 @@ JoinBegun shows join = BegunAs shows join.caller join.key Get
 abbrev PartsBegun : List (WorldEvent × Shown) → Parts → Type 0
 PartsBegun shows parts = (key : Bytes) (part : Part) → get parts key ≡ Some part → PartBegun shows part
 
+abbrev JoinsBegun : List (WorldEvent × Shown) → Joins → Type 0
+JoinsBegun shows joins = (at : JoinKey) (join : JoinClaim) → get joins at ≡ Some join → JoinBegun shows join
+
 -- what is under way, reserved and joined is so of calls that have begun
 pub record AllBegun (shows : List (WorldEvent × Shown)) (w : WorldState) : Type 0 where
   pub calls : Each (IsBegun shows) w.calls
   pub parts : PartsBegun shows w.parts
-  pub joins : Each (JoinBegun shows) w.joins
+  pub joins : JoinsBegun shows w.joins
 
 begun_on : (shows more : List (WorldEvent × Shown)) (caller : Caller) (key : Bytes) (op : Op) → BegunAs shows caller key op → BegunAs (shows ++ more) caller key op
-begun_on shows more caller key op h = (h.0, h.1, still_at shows more h.0 _ h.2, h.3)
+begun_on shows more caller key op h = (h.0, h.1, h.2, still_at shows more h.0 _ h.3, h.4, h.5)
 
 -- they are so when more has happened
 all_begun_on : (shows more : List (WorldEvent × Shown)) (w : WorldState) → AllBegun shows w → AllBegun (shows ++ more) w
 all_begun_on shows more w h = record {
   calls = each_map (IsBegun shows) (IsBegun (shows ++ more)) w.calls (λ u b key op is. begun_on shows more u.caller key op (b key op is)) h.calls;
   parts = λ key part is. begun_on shows more part.reservation.caller part.reservation.key part.reservation.op (h.parts key part is);
-  joins = each_map (JoinBegun shows) (JoinBegun (shows ++ more)) w.joins (λ j b. begun_on shows more j.caller j.key Get b) h.joins;
+  joins = λ at join is. begun_on shows more join.caller join.key Get (h.joins at join is);
 }
 
 -- the call that is found under way has begun
@@ -212,15 +214,14 @@ begun_under shows w call u here h = fact_found (IsBegun shows) (has_number call)
 
 -- a part is put in place, or taken away
 parts_put : (shows : List (WorldEvent × Shown)) (parts : Parts) (key : Bytes) (part : Part) → PartBegun shows part → PartsBegun shows parts → PartsBegun shows (insert parts key part)
-parts_put shows parts key part one all q p is =
-    split q key (λ b. cond b (Some part) (get parts q) ≡ Some p → PartBegun shows p)
-    (λ same e. let it : part ≡ p = cc in subst (PartBegun shows) it one)
-    (λ apart e. all q p e)
-    (sym (get-insert nat_list_cmp_total parts key part q) ∙ is)
+parts_put shows parts key part one all = each_put keys_ordered (λ q p. PartBegun shows p) parts key part one all
 
 parts_left : (shows : List (WorldEvent × Shown)) (parts : Parts) (key : Bytes) → PartsBegun shows parts → PartsBegun shows (remove parts key)
-parts_left shows parts key all q p is =
-    split q key (λ b. cond b None (get parts q) ≡ Some p → PartBegun shows p) (λ same e. cc) (λ apart e. all q p e) (sym (get-remove nat_list_cmp_total parts key q) ∙ is)
+parts_left shows parts key all = each_left keys_ordered (λ q p. PartBegun shows p) parts key (λ q p other is. all q p is)
+
+-- and so is a join
+joins_left : (shows : List (WorldEvent × Shown)) (joins : Joins) (at : JoinKey) → JoinsBegun shows joins → JoinsBegun shows (remove joins at)
+joins_left shows joins at all = each_left joins_ordered (λ q j. JoinBegun shows j) joins at (λ q j other is. all q j is)
 
 -- a part of a call has begun
 part_begun : (shows : List (WorldEvent × Shown)) (w : WorldState) (call : ℕ) (key : Bytes) (part : Part) → part_of w call key ≡ Some part → AllBegun shows w → PartBegun shows part
@@ -235,53 +236,53 @@ begun_taken : (shows : List (WorldEvent × Shown)) (u v : CallState) → Taken u
 begun_taken shows u v taken h q op is = let P : Caller → Type 0 = λ c. BegunAs shows c q op in subst P (sym taken.caller_is) (h q op (taken.was q op is))
 
 -- by what is shown of a first phase
-begun_started : (shows : List (WorldEvent × Shown)) (w new : WorldState) (caller : Caller) (key : Bytes) (op : Op) (from to : State) (seen : Shown) → Starts w caller key op from to seen new → BegunAs shows caller key op → AllBegun shows w → AllBegun shows new
-begun_started shows w new caller key op from to (shown.Refused refusal) h one old =
-    subst (AllBegun shows) (sym h.1) (record { calls = each_settled caller.call key (IsBegun shows) w.calls (begun_left shows caller.call key) old.calls; parts = old.parts; joins = old.joins })
-begun_started shows w new caller key op from to (shown.PutOff refusal) h one old = subst (AllBegun shows) (sym h.1) old
-begun_started shows w new caller key op from to (shown.Stepped seen) h one old =
-    subst (AllBegun shows) (sym h.2) (record { calls = each_settled caller.call key (IsBegun shows) w.calls (begun_left shows caller.call key) old.calls; parts = old.parts; joins = old.joins })
-begun_started shows w new caller key op from to shown.Loads h one old =
+begun_started : (shows : List (WorldEvent × Shown)) (w new : WorldState) (caller : Caller) (key : Bytes) (op : Op) (from to : State) (seen : Outcome) → Starts w caller key op from to seen new → BegunAs shows caller key op → AllBegun shows w → AllBegun shows new
+begun_started shows w new caller key op from to (outcome.Refused refusal) h one old =
+    subst (AllBegun shows) (sym h.1) (record { calls = each_settled caller.call key _ (IsBegun shows) w.calls (begun_left shows caller.call key) old.calls; parts = old.parts; joins = old.joins })
+begun_started shows w new caller key op from to (outcome.PutOff refusal) h one old = subst (AllBegun shows) (sym h.1) old
+begun_started shows w new caller key op from to (outcome.Stepped seen) h one old =
+    subst (AllBegun shows) (sym h.2) (record { calls = each_settled caller.call key _ (IsBegun shows) w.calls (begun_left shows caller.call key) old.calls; parts = old.parts; joins = old.joins })
+begun_started shows w new caller key op from to outcome.Loads h one old =
     let P : Ticket → Type 0 = λ t. PartBegun shows (new_part new_load t.reservation) in
     subst (AllBegun shows) (sym h.2) (record { calls = old.calls; parts = parts_put shows w.parts key (new_part new_load h.0.reservation) (subst P (sym h.1.3) one) old.parts; joins = old.joins })
-begun_started shows w new caller key op from to (shown.Asks change) h one old =
+begun_started shows w new caller key op from to (outcome.Asks change) h one old =
     let P : Ticket → Type 0 = λ t. PartBegun shows (new_part new_write t.reservation) in
     subst (AllBegun shows) (sym h.3) (record { calls = old.calls; parts = parts_put shows w.parts key (new_part new_write h.0.reservation) (subst P (sym h.1.3) one) old.parts; joins = old.joins })
-begun_started shows w new caller key op from to (shown.Processes entry) h one old =
+begun_started shows w new caller key op from to (outcome.Processes entry) h one old =
     let P : ProcessClaim → Type 0 = λ t. PartBegun shows (new_part new_process t.reservation) in
     subst (AllBegun shows) (sym h.3) (record { calls = old.calls; parts = parts_put shows w.parts key (new_part new_process h.0.reservation) (subst P (sym h.1.3) one) old.parts; joins = old.joins })
-begun_started shows w new caller key op from to shown.Joins h one old =
+begun_started shows w new caller key op from to outcome.Joins h one old =
     let get_is : op ≡ Get = joins_get from key op h.0.load h.1.1 in
     let P : JoinClaim → Type 0 = JoinBegun shows in
     let B : Op → Type 0 = BegunAs shows caller key in
-    subst (AllBegun shows) (sym h.2) (record { calls = old.calls; parts = old.parts; joins = each_pushed (JoinBegun shows) w.joins h.0 old.joins (subst P (sym h.1.2) (subst B get_is one)) })
+    subst (AllBegun shows) (sym h.2) (record { calls = old.calls; parts = old.parts; joins = each_put joins_ordered (λ at j. JoinBegun shows j) w.joins (join_key h.0) h.0 (subst P (sym h.1.2) (subst B get_is one)) old.joins })
 begun_started shows w new caller key op from to seen h one old = absurd h
 
 -- of a last phase
-begun_ended : (shows : List (WorldEvent × Shown)) (w new : WorldState) (call : ℕ) (key : Bytes) (part : Part) (from to : State) (seen : Shown) → Ends w call key part from to seen new → AllBegun shows w → AllBegun shows new
-begun_ended shows w new call key part from to (shown.Stepped seen) h old =
-    subst (AllBegun shows) (sym h.2) (record { calls = each_settled call key (IsBegun shows) w.calls (begun_left shows call key) old.calls; parts = parts_left shows w.parts key old.parts; joins = old.joins })
+begun_ended : (shows : List (WorldEvent × Shown)) (w new : WorldState) (call : ℕ) (key : Bytes) (part : Part) (from to : State) (seen : Outcome) → Ends w call key part from to seen new → AllBegun shows w → AllBegun shows new
+begun_ended shows w new call key part from to (outcome.Stepped seen) h old =
+    subst (AllBegun shows) (sym h.2) (record { calls = each_settled call key _ (IsBegun shows) w.calls (begun_left shows call key) old.calls; parts = parts_left shows w.parts key old.parts; joins = old.joins })
 begun_ended shows w new call key part from to seen h old = absurd h
 
 -- of a pick-up
-begun_picks : (shows : List (WorldEvent × Shown)) (w new : WorldState) (call : ℕ) (key : Bytes) (join : JoinClaim) (from to : State) (seen : Shown) → Picks w call key join from to seen new → AllBegun shows w → AllBegun shows new
-begun_picks shows w new call key join from to (shown.PickedUp seen) h old =
+begun_picks : (shows : List (WorldEvent × Shown)) (w new : WorldState) (call : ℕ) (key : Bytes) (join : JoinClaim) (from to : State) (seen : Outcome) → Picks w call key join from to seen new → AllBegun shows w → AllBegun shows new
+begun_picks shows w new call key join from to (outcome.PickedUp seen) h old =
     subst (AllBegun shows) (sym h.2)
     (record {
-      calls = each_settled call key (IsBegun shows) w.calls (begun_left shows call key) old.calls;
+      calls = each_settled call key _ (IsBegun shows) w.calls (begun_left shows call key) old.calls;
       parts = old.parts;
-      joins = each_filter (JoinBegun shows) (λ j. not (is_join call key j)) w.joins old.joins;
+      joins = joins_left shows w.joins (call, key) old.joins;
     })
-begun_picks shows w new call key join from to shown.Again h old =
-    subst (AllBegun shows) (sym h.1) (record { calls = old.calls; parts = old.parts; joins = each_filter (JoinBegun shows) (λ j. not (is_join call key j)) w.joins old.joins })
-begun_picks shows w new call key join from to shown.Waits h old = subst (AllBegun shows) (sym h.1) old
+begun_picks shows w new call key join from to outcome.Again h old =
+    subst (AllBegun shows) (sym h.1) (record { calls = old.calls; parts = old.parts; joins = joins_left shows w.joins (call, key) old.joins })
+begun_picks shows w new call key join from to outcome.Waits h old = subst (AllBegun shows) (sym h.1) old
 begun_picks shows w new call key join from to seen h old = absurd h
 
 -- of any event that fits, if it is among what has happened
 begun_happens : (shows : List (WorldEvent × Shown)) (w new : WorldState) (e : WorldEvent) (seen : Shown) → (at : ℕ) × (slice_get shows at ≡ Some (e, seen)) → Happens w e seen new → AllBegun shows w → AllBegun shows new
 begun_happens shows w new (event.Call call session command) seen last h old =
     let one : CallState = new_call call session command in
-    let begun : has_too_many_keys one ≡ false → IsBegun shows one = λ few key op is. (last.0, command, last.1 ∙ ap (λ s. Some (event.Call call session command, s)) (h.0 ∙ begun_shown one few), is) in
+    let begun : has_too_many_keys one ≡ false → IsBegun shows one = λ few key op is. (last.0, command, seen, last.1, ap (λ (s : Shown). s.outcome) h.0 ∙ begun_shown one few, is) in
     let none : Each (IsBegun shows) (w.calls ++ []) = subst (Each (IsBegun shows)) (sym (append-nil w.calls)) old.calls in
     let calls : Each (IsBegun shows) (w.calls ++ opened one) =
     elim (has_too_many_keys one) as (λ b. has_too_many_keys one ≡ b → Each (IsBegun shows) (w.calls ++ cond b [] (cond (is_going one) (one ∷ []) []))) [
@@ -301,7 +302,7 @@ begun_happens shows w new (event.Look call stripe) seen last h old =
       parts = old.parts;
       joins = old.joins;
     })
-begun_happens shows w new (event.Start call key) seen last h old = begun_started shows w new h.0.caller key h.1 h.4 h.6 seen h.7 (begun_under shows w call h.0 h.2 old key h.1 (done_for h.0 key h.1 h.3)) old
+begun_happens shows w new (event.Start call key) seen last h old = begun_started shows w new h.0.caller key h.1 h.4 h.6 seen.outcome h.7 (begun_under shows w call h.0 h.2 old key h.1 (done_for h.0 key h.1 h.3)) old
 begun_happens shows w new (event.Read call key) seen last h old =
     subst (AllBegun shows) (sym h.3) (record { calls = old.calls; parts = parts_put shows w.parts key _ (part_begun shows w call key h.0 h.1 old) old.parts; joins = old.joins })
 begun_happens shows w new (event.Say call key answer) seen last h old =
@@ -311,28 +312,28 @@ begun_happens shows w new (event.Process call key source calls fail) seen last h
 begun_happens shows w new (event.Change call key) seen last h old =
     subst (AllBegun shows) (sym h.5) (record { calls = old.calls; parts = parts_put shows w.parts key _ (part_begun shows w call key h.0 h.2 old) old.parts; joins = old.joins })
 begun_happens shows w new (event.Report call left fault) seen last h old =
+    let met = option_map WriterFailed fault in
     subst (AllBegun shows) (sym h.3)
     (each_report (AllBegun shows) call (report_for h.0.kind left fault)
     (λ v key part at waits o. record { calls = o.calls; parts = parts_put shows v.parts key _ (part_begun shows v call key part at o) o.parts; joins = o.joins })
-    w (keys_reported (reported_keys w.parts call (open_keys h.0))) old)
-begun_happens shows w new (event.Commit call key) seen last h old = begun_ended shows w new call key h.0 h.2 h.4 seen h.5 old
+    (with_met_by w call met) (keys_reported (reported_keys w.parts call (open_keys h.0)))
+    (record { calls = each_replaced call (λ x. Some (with_met met x)) (IsBegun shows) h.0 w.calls h.1 (λ v goes b. begun_taken shows h.0 v (taken_met met h.0 v goes) b) old.calls; parts = old.parts; joins = old.joins }))
+begun_happens shows w new (event.Commit call key) seen last h old = begun_ended shows w new call key h.0 h.2 h.4 seen.outcome h.5 old
 begun_happens shows w new (event.Withdraw call key) seen last h old =
     subst (AllBegun shows) (sym h.7) (record { calls = old.calls; parts = parts_left shows w.parts key old.parts; joins = old.joins })
 begun_happens shows w new (event.Leave call) seen last h old =
     subst (AllBegun shows) (sym h.1) (record { calls = each_filter (IsBegun shows) (λ x. not (has_number call x)) w.calls old.calls; parts = old.parts; joins = old.joins })
-begun_happens shows w new (event.PickUp call key) seen last h old = begun_picks shows w new call key h.0 h.2 h.4 seen h.5 old
+begun_happens shows w new (event.PickUp call key) seen last h old = begun_picks shows w new call key h.0 h.2 h.4 seen.outcome h.5 old
 begun_happens shows w new (event.Foreign key value) seen last h old = subst (AllBegun shows) (sym h.1) (record { calls = old.calls; parts = old.parts; joins = old.joins })
 
 -- and of any event
 begun_step : (shows : List (WorldEvent × Shown)) (w new : WorldState) (e : WorldEvent) (seen : Shown) → (at : ℕ) × (slice_get shows at ≡ Some (e, seen)) → Step w e seen new → AllBegun shows w → AllBegun shows new
-begun_step shows w new e seen last (inl (fit, (mid, happens, is))) old =
-    let b = begun_happens shows w mid e seen last happens old in
-    subst (AllBegun shows) (sym (noted_as w mid new e seen is).is) (record { calls = b.calls; parts = b.parts; joins = b.joins })
+begun_step shows w new e seen last (inl (fit, happens)) old = begun_happens shows w new e seen last happens old
 begun_step shows w new e seen last (inr (unfit, shows_it, is)) old = subst (AllBegun shows) (sym is) old
 
 -- nothing is under way at the start
 begun_opened : (shows : List (WorldEvent × Shown)) (config : Config) (stored : List (Bytes × Bytes)) → AllBegun shows (start_with config stored)
-begun_opened shows config [] = record { calls = tt; parts = λ key part is. let t : None ≡ Some part = sym (get-empty key_cmp key) ∙ is in cc; joins = tt }
+begun_opened shows config [] = record { calls = tt; parts = λ key part is. let t : None ≡ Some part = sym (get-empty key_cmp key) ∙ is in cc; joins = λ at join is. let t : None ≡ Some join = sym (get-empty join_cmp at) ∙ is in cc }
 begun_opened shows config (e ∷ es) = let rest = begun_opened shows config es in record { calls = rest.calls; parts = rest.parts; joins = rest.joins }
 
 -- 5. A new answer.
@@ -346,8 +347,10 @@ answered_at w new shows caller key op out shared reply number place to home_is l
   command = begun.1;
   op = op;
   at = begun.0;
-  begun = begun.2;
-  op_is = begun.3;
+  seen = begun.2;
+  begun = begun.3;
+  begun_is = begun.4;
+  op_is = begun.5;
   home_is = home_is ∙ ap (λ (c : Config). stripe_of key c.stripes) (sym later.config);
   out = out;
   step = (λ i. slice_get (of_stripe new.config.stripes (home_is i) new.order) place) ∙ ap (λ es. slice_get es place) (sound.shape.each (home w key) to here).share ∙ step;
@@ -361,100 +364,97 @@ answered_for w shows call n key k reply number place shared calls keys h =
     subst P calls (subst Q keys h)
 
 -- by what is shown of a first phase
-stands_started : (shows : List (WorldEvent × Shown)) (w new : WorldState) (call : ℕ) (key : Bytes) (u : CallState) (op : Op) (from to : State) (seen : Shown) → open_call w call ≡ Some u → stripe_for w key ≡ Some from
+stands_started : (shows : List (WorldEvent × Shown)) (w new : WorldState) (call : ℕ) (key : Bytes) (u : CallState) (op : Op) (from to : State) (seen : Outcome) → open_call w call ≡ Some u → stripe_for w key ≡ Some from
     → Starts w u.caller key op from to seen new → BegunAs shows u.caller key op → IsSoundWorld new → Stands new shows (event.Start call key) seen
-stands_started shows w new call key u op from to (shown.Refused refusal) here there h begun sound = tt
-stands_started shows w new call key u op from to (shown.PutOff refusal) here there h begun sound = tt
-stands_started shows w new call key u op from to (shown.Stepped x) here there h begun sound =
+stands_started shows w new call key u op from to (outcome.Refused refusal) here there h begun sound = tt
+stands_started shows w new call key u op from to (outcome.PutOff refusal) here there h begun sound = tt
+stands_started shows w new call key u op from to (outcome.Stepped x) here there h begun sound =
     let placed : slice_get new.stripes (home w key) ≡ Some to = ap (λ (v : WorldState). slice_get v.stripes (home w key)) h.2 ∙ stripe_put w.stripes (home w key) from to there in
     answered_for new shows u.caller.call call key key x.reply x.stripe x.place None (found_number call w.calls u here) refl
-    (answered_at w new shows u.caller key op nothing_said None x.reply x.stripe x.place to h.1 (later_started w new u.caller key op from to (shown.Stepped x) h) placed sound
+    (answered_at w new shows u.caller key op nothing_said None x.reply x.stripe x.place to h.1 (later_started w new u.caller key op from to (outcome.Stepped x) h) placed sound
     (step_at from to u.caller key op nothing_said [] (step_of x) h.0.2) begun)
-stands_started shows w new call key u op from to shown.Loads here there h begun sound = tt
-stands_started shows w new call key u op from to (shown.Asks change) here there h begun sound = tt
-stands_started shows w new call key u op from to (shown.Processes entry) here there h begun sound = tt
-stands_started shows w new call key u op from to shown.Joins here there h begun sound = tt
+stands_started shows w new call key u op from to outcome.Loads here there h begun sound = tt
+stands_started shows w new call key u op from to (outcome.Asks change) here there h begun sound = tt
+stands_started shows w new call key u op from to (outcome.Processes entry) here there h begun sound = tt
+stands_started shows w new call key u op from to outcome.Joins here there h begun sound = tt
 stands_started shows w new call key u op from to seen here there h begun sound = absurd h
 
 -- of a last phase
-stands_ended : (shows : List (WorldEvent × Shown)) (w new : WorldState) (call : ℕ) (key : Bytes) (part : Part) (from to : State) (seen : Shown) → part_of w call key ≡ Some part → part.reservation.key ≡ key → stripe_for w key ≡ Some from
+stands_ended : (shows : List (WorldEvent × Shown)) (w new : WorldState) (call : ℕ) (key : Bytes) (part : Part) (from to : State) (seen : Outcome) → part_of w call key ≡ Some part → part.reservation.key ≡ key → stripe_for w key ≡ Some from
     → Ends w call key part from to seen new → PartBegun shows part → IsSoundWorld new → Stands new shows (event.Commit call key) seen
-stands_ended shows w new call key part from to (shown.Stepped x) is key_is there h begun sound =
+stands_ended shows w new call key part from to (outcome.Stepped x) is key_is there h begun sound =
     let r = part.reservation in
     let mid = after_commit from r x.place in
     let home_is : home w r.key ≡ home w key = ap (home w) key_is in
     let placed : slice_get new.stripes (home w r.key) ≡ Some to = ap (slice_get new.stripes) home_is ∙ ap (λ (v : WorldState). slice_get v.stripes (home w key)) h.2 ∙ stripe_put w.stripes (home w key) from to there in
     answered_for new shows r.caller.call call r.key key x.reply x.stripe x.place None (of_call-at call (get w.parts key) part is).1 key_is
-    (answered_at w new shows r.caller r.key r.op (out_of part) None x.reply x.stripe x.place to (h.1 ∙ sym home_is) (later_ended w new call key part from to (shown.Stepped x) h) placed sound
+    (answered_at w new shows r.caller r.key r.op (out_of part) None x.reply x.stripe x.place to (h.1 ∙ sym home_is) (later_ended w new call key part from to (outcome.Stepped x) h) placed sound
     (step_at mid to r.caller r.key r.op (out_of part) (callers_of r.number from.joiners) (step_of x) h.0.1) begun)
 stands_ended shows w new call key part from to seen is key_is there h begun sound = absurd h
 
 -- of a pick-up
-stands_picks : (shows : List (WorldEvent × Shown)) (w new : WorldState) (call : ℕ) (key : Bytes) (join : JoinClaim) (from to : State) (seen : Shown) → join_of w call key ≡ Some join → stripe_for w key ≡ Some from
-    → Picks w call key join from to seen new → JoinBegun shows join → IsSoundWorld new → Stands new shows (event.PickUp call key) seen
-stands_picks shows w new call key join from to (shown.PickedUp x) is there h begun sound =
-    let same = join_is call key join (found_test (is_join call key) w.joins join is) in
+stands_picks : (shows : List (WorldEvent × Shown)) (w new : WorldState) (call : ℕ) (key : Bytes) (join : JoinClaim) (from to : State) (seen : Outcome) → join_of w call key ≡ Some join → stripe_for w key ≡ Some from
+    → Picks w call key join from to seen new → JoinBegun shows join → IsSoundWorld w → IsSoundWorld new → Stands new shows (event.PickUp call key) seen
+stands_picks shows w new call key join from to (outcome.PickedUp x) is there h begun old sound =
+    let same = join_at w call key join is old.joins in
     let home_is : home w join.key ≡ home w key = ap (home w) same.1 in
     let placed : slice_get new.stripes (home w join.key) ≡ Some to = ap (slice_get new.stripes) home_is ∙ ap (λ (v : WorldState). slice_get v.stripes (home w key)) h.2 ∙ stripe_put w.stripes (home w key) from to there in
     let step = h.0.2 in
     answered_for new shows join.caller.call call join.key key x.reply x.stripe x.place (Some x.shared) same.0 same.1
-    (answered_at w new shows join.caller join.key Get step.0 (Some x.shared) x.reply x.stripe x.place to (h.1 ∙ sym home_is) (later_picks w new call key join from to (shown.PickedUp x) h) placed sound
+    (answered_at w new shows join.caller join.key Get step.0 (Some x.shared) x.reply x.stripe x.place to (h.1 ∙ sym home_is) (later_picks w new call key join from to (outcome.PickedUp x) h) placed sound
     (ap (λ (s : State). slice_get s.history x.place) h.0.3 ∙ step.1) begun)
-stands_picks shows w new call key join from to shown.Again is there h begun sound = tt
-stands_picks shows w new call key join from to shown.Waits is there h begun sound = tt
-stands_picks shows w new call key join from to seen is there h begun sound = absurd h
+stands_picks shows w new call key join from to outcome.Again is there h begun old sound = tt
+stands_picks shows w new call key join from to outcome.Waits is there h begun old sound = tt
+stands_picks shows w new call key join from to seen is there h begun old sound = absurd h
 
 -- of any event that fits
-stands_happens : (shows : List (WorldEvent × Shown)) (w new : WorldState) (e : WorldEvent) (seen : Shown) → fits w e ≡ true → Happens w e seen new → IsSoundWorld w → IsSoundWorld new → AllBegun shows w → Stands new shows e seen
+stands_happens : (shows : List (WorldEvent × Shown)) (w new : WorldState) (e : WorldEvent) (seen : Shown) → fits w e ≡ true → Happens w e seen new → IsSoundWorld w → IsSoundWorld new → AllBegun shows w → Stands new shows e seen.outcome
 stands_happens shows w new (event.Call call session command) seen fit h old sound begun =
-    subst (Stands new shows (event.Call call session command)) (sym h.0) (begun_cases (new_call call session command) (Stands new shows (event.Call call session command)) tt tt)
-stands_happens shows w new (event.Look call stripe) seen fit h old sound begun = subst (Stands new shows (event.Look call stripe)) (sym h.8) tt
-stands_happens shows w new (event.Start call key) seen fit h old sound begun = stands_started shows w new call key h.0 h.1 h.4 h.6 seen h.2 h.5 h.7 (begun_under shows w call h.0 h.2 begun key h.1 (done_for h.0 key h.1 h.3)) sound
-stands_happens shows w new (event.Read call key) seen fit h old sound begun = subst (Stands new shows (event.Read call key)) (sym h.2) tt
-stands_happens shows w new (event.Say call key answer) seen fit h old sound begun = subst (Stands new shows (event.Say call key answer)) (sym h.2) tt
-stands_happens shows w new (event.Process call key source calls fail) seen fit h old sound begun = subst (Stands new shows (event.Process call key source calls fail)) (sym h.2) tt
-stands_happens shows w new (event.Change call key) seen fit h old sound begun = subst (Stands new shows (event.Change call key)) (sym h.4) tt
-stands_happens shows w new (event.Report call left fault) seen fit h old sound begun = subst (Stands new shows (event.Report call left fault)) (sym h.2) tt
+    subst (λ (s : Shown). Stands new shows (event.Call call session command) s.outcome) (sym h.0) (begun_cases (new_call call session command) (λ s. Stands new shows (event.Call call session command) s.outcome) tt tt)
+stands_happens shows w new (event.Look call stripe) seen fit h old sound begun = subst (λ (s : Shown). Stands new shows (event.Look call stripe) s.outcome) (sym h.8) tt
+stands_happens shows w new (event.Start call key) seen fit h old sound begun = stands_started shows w new call key h.0 h.1 h.4 h.6 seen.outcome h.2 h.5 h.7 (begun_under shows w call h.0 h.2 begun key h.1 (done_for h.0 key h.1 h.3)) sound
+stands_happens shows w new (event.Read call key) seen fit h old sound begun = subst (λ (s : Shown). Stands new shows (event.Read call key) s.outcome) (sym h.2) tt
+stands_happens shows w new (event.Say call key answer) seen fit h old sound begun = subst (λ (s : Shown). Stands new shows (event.Say call key answer) s.outcome) (sym h.2) tt
+stands_happens shows w new (event.Process call key source calls fail) seen fit h old sound begun = subst (λ (s : Shown). Stands new shows (event.Process call key source calls fail) s.outcome) (sym h.2) tt
+stands_happens shows w new (event.Change call key) seen fit h old sound begun = subst (λ (s : Shown). Stands new shows (event.Change call key) s.outcome) (sym h.4) tt
+stands_happens shows w new (event.Report call left fault) seen fit h old sound begun = subst (λ (s : Shown). Stands new shows (event.Report call left fault) s.outcome) (sym h.2) tt
 stands_happens shows w new (event.Commit call key) seen fit h old sound begun =
-    stands_ended shows w new call key h.0 h.2 h.4 seen h.1 (part_key w call key h.0 h.1 old) h.3 h.5 (part_begun shows w call key h.0 h.1 begun) sound
-stands_happens shows w new (event.Withdraw call key) seen fit h old sound begun = subst (Stands new shows (event.Withdraw call key)) (sym h.6) tt
-stands_happens shows w new (event.Leave call) seen fit h old sound begun = subst (Stands new shows (event.Leave call)) (sym h.0) tt
+    stands_ended shows w new call key h.0 h.2 h.4 seen.outcome h.1 (part_key w call key h.0 h.1 old) h.3 h.5 (part_begun shows w call key h.0 h.1 begun) sound
+stands_happens shows w new (event.Withdraw call key) seen fit h old sound begun = subst (λ (s : Shown). Stands new shows (event.Withdraw call key) s.outcome) (sym h.6) tt
+stands_happens shows w new (event.Leave call) seen fit h old sound begun = subst (λ (s : Shown). Stands new shows (event.Leave call) s.outcome) (sym h.0) tt
 stands_happens shows w new (event.PickUp call key) seen fit h old sound begun =
-    stands_picks shows w new call key h.0 h.2 h.4 seen h.1 h.3 h.5 (fact_found (JoinBegun shows) (is_join call key) w.joins h.0 h.1 begun.joins) sound
-stands_happens shows w new (event.Foreign key value) seen fit h old sound begun = subst (Stands new shows (event.Foreign key value)) (sym h.0) tt
+    stands_picks shows w new call key h.0 h.2 h.4 seen.outcome h.1 h.3 h.5 (begun.joins (call, key) h.0 h.1) old sound
+stands_happens shows w new (event.Foreign key value) seen fit h old sound begun = subst (λ (s : Shown). Stands new shows (event.Foreign key value) s.outcome) (sym h.0) tt
 
 -- what doesn't fit is no answer
-stands_unfit : (shows : List (WorldEvent × Shown)) (w : WorldState) (e : WorldEvent) → Stands w shows e shown.Unfit
+stands_unfit : (shows : List (WorldEvent × Shown)) (w : WorldState) (e : WorldEvent) → Stands w shows e outcome.Unfit
 stands_unfit shows w (event.Start call key) = tt
 stands_unfit shows w (event.Commit call key) = tt
 stands_unfit shows w (event.PickUp call key) = tt
 stands_unfit shows w e = tt
 
 -- and of any event
-stands_step : (shows : List (WorldEvent × Shown)) (w new : WorldState) (e : WorldEvent) (seen : Shown) → Step w e seen new → IsSoundWorld w → IsSoundWorld new → AllBegun shows w → Stands new shows e seen
-stands_step shows w new e seen (inl (fit, (mid, happens, is))) old sound begun =
-    let n = noted_as w mid new e seen is in
-    stands_on mid new shows e seen (later_same mid new (ap (λ (x : WorldState). x.config) n.is) (ap (λ (x : WorldState). x.order) n.is))
-    (stands_happens shows w mid e seen fit happens old (sound_before mid new n.ends n.is sound) begun)
-stands_step shows w new e seen (inr (unfit, shows_it, is)) old sound begun = subst (Stands new shows e) (sym shows_it) (stands_unfit shows new e)
+stands_step : (shows : List (WorldEvent × Shown)) (w new : WorldState) (e : WorldEvent) (seen : Shown) → Step w e seen new → IsSoundWorld w → IsSoundWorld new → AllBegun shows w → Stands new shows e seen.outcome
+stands_step shows w new e seen (inl (fit, happens)) old sound begun = stands_happens shows w new e seen fit happens old sound begun
+stands_step shows w new e seen (inr (unfit, shows_it, is)) old sound begun = subst (λ (s : Shown). Stands new shows e s.outcome) (sym shows_it) (stands_unfit shows new e)
 
 -- 6. A run.
 
 -- each answer that was shown is that of its call's step, and the call has begun before it
 abbrev pub AllStand : WorldState → List (WorldEvent × Shown) → Type 0
-AllStand w shows = (at : ℕ) (e : WorldEvent) (seen : Shown) → slice_get shows at ≡ Some (e, seen) → Stands w (take at shows) e seen
+AllStand w shows = (at : ℕ) (e : WorldEvent) (seen : Shown) → slice_get shows at ≡ Some (e, seen) → Stands w (take at shows) e seen.outcome
 
 -- it stays so with one event more
-stands_more : (shows : List (WorldEvent × Shown)) (w new : WorldState) (e : WorldEvent) (s : Shown) → IsLater w new → AllStand w shows → Stands new shows e s → AllStand new (shows ++ (e, s) ∷ [])
+stands_more : (shows : List (WorldEvent × Shown)) (w new : WorldState) (e : WorldEvent) (s : Shown) → IsLater w new → AllStand w shows → Stands new shows e s.outcome → AllStand new (shows ++ (e, s) ∷ [])
 stands_more shows w new e s later stand one at x seen is =
     let now = shows ++ (e, s) ∷ [] in
-    let P : List (WorldEvent × Shown) → Type 0 = λ l. Stands new l x seen in
+    let P : List (WorldEvent × Shown) → Type 0 = λ l. Stands new l x seen.outcome in
     pushed_at shows (e, s) at (x, seen)
     (λ before.
     let within = slice_get_within shows at (x, seen) before in
-    subst P (sym (take-append-le at shows ((e, s) ∷ []) (omega arith))) (stands_on w new (take at shows) x seen later (stand at x seen before)))
+    subst P (sym (take-append-le at shows ((e, s) ∷ []) (omega arith))) (stands_on w new (take at shows) x seen.outcome later (stand at x seen before)))
     (λ last same.
-    let Q : WorldEvent × Shown → Type 0 = λ p. Stands new shows p.0 p.1 in
+    let Q : WorldEvent × Shown → Type 0 = λ p. Stands new shows p.0 p.1.outcome in
     subst P (sym (ap (λ i. take i now) last ∙ take-append_seam shows ((e, s) ∷ []))) (subst Q same one))
     is
 

@@ -11,6 +11,7 @@ use Rattle.std.proofs.lemmas.Cmp.{nat_eq_equiv}
 use Rattle.std.proofs.lemmas.List.Folds.{list_any-append}
 use Rattle.std.proofs.lemmas.Map.Made.{is_some-lookup}
 use Rattle.jc_types.specs.declared.caller.Caller.{Caller}
+use Rattle.jc_types.specs.declared.refusal.Refusal.{Refusal}
 use Rattle.jc_types.specs.declared.config.Config.{Config}
 use Rattle.jc_types.specs.Stripes.{stripe_of}
 use Rattle.jc_model.specs.declared.event.Op.{Op}
@@ -21,13 +22,14 @@ use Rattle.jc_world.specs.declared.command.Command.{Command}
 use Rattle.jc_world.specs.declared.command.Command.TheVariants as command
 use Rattle.jc_world.specs.declared.event.Part.{Part}
 use Rattle.jc_world.specs.declared.event.Shown.{Shown}
-use Rattle.jc_world.specs.declared.event.Shown.TheVariants as shown
+use Rattle.jc_world.specs.declared.event.Outcome.{Outcome}
+use Rattle.jc_world.specs.declared.event.Outcome.TheVariants as outcome
 use Rattle.jc_world.specs.declared.event.WorldEvent.{WorldEvent}
 use Rattle.jc_world.specs.declared.event.WorldEvent.TheVariants as event
-use Rattle.jc_world.specs.Calls.{CallState, SweepState, has_looked, has_looked_at_each, has_number, at_each, new_call, opened, settle, going_on, next_sweep, with_found, look}
-use Rattle.jc_world.specs.World.{WorldState}
+use Rattle.jc_world.specs.Calls.{CallState, SweepState, has_looked, has_looked_at_each, has_number, at_each, new_call, opened, settle, going_on, next_sweep, with_found, with_met, look}
+use Rattle.jc_world.specs.World.{WorldState, open_call}
 use Rattle.jc_world.specs.Fits.{fits}
-use Rattle.jc_world.specs.Events.{Starts, Ends, Picks, Happens}
+use Rattle.jc_world.specs.Events.{fault_in, with_met_by, Starts, Ends, Picks, Happens}
 use Rattle.jc_world.specs.Sound.{Sweeps, Each, IsSoundWorld}
 use Rattle.jc_world.proofs.Found.{lookup-found}
 use Rattle.jc_world.proofs.Looked.{each_replaced}
@@ -99,27 +101,27 @@ sweep_found config stripe keys s u v sweeps here goes old =
 abbrev pub AllSweep : WorldState → Type 0
 AllSweep w = Each (Sweeps w.config) w.calls
 
-sweeps_settled : (w : WorldState) (call : ℕ) (key : Bytes) → AllSweep w → Each (Sweeps w.config) (settle call key w.calls)
-sweeps_settled w call key old = each_settled call key (Sweeps w.config) w.calls (sweeps_left w.config call key) old
+sweeps_settled : (w : WorldState) (call : ℕ) (key : Bytes) (met : Option Refusal) → AllSweep w → Each (Sweeps w.config) (settle call key met w.calls)
+sweeps_settled w call key met old = each_settled call key met (Sweeps w.config) w.calls (sweeps_left w.config call key) old
 
-sweeps_started : (w new : WorldState) (caller : Caller) (key : Bytes) (op : Op) (from to : State) (seen : Shown) → Starts w caller key op from to seen new → AllSweep w → AllSweep new
-sweeps_started w new caller key op from to (shown.Refused refusal) h old = subst AllSweep (sym h.1) (sweeps_settled w caller.call key old)
-sweeps_started w new caller key op from to (shown.PutOff refusal) h old = subst AllSweep (sym h.1) old
-sweeps_started w new caller key op from to (shown.Stepped seen) h old = subst AllSweep (sym h.2) (sweeps_settled w caller.call key old)
-sweeps_started w new caller key op from to shown.Loads h old = subst AllSweep (sym h.2) old
-sweeps_started w new caller key op from to (shown.Asks change) h old = subst AllSweep (sym h.3) old
-sweeps_started w new caller key op from to (shown.Processes entry) h old = subst AllSweep (sym h.3) old
-sweeps_started w new caller key op from to shown.Joins h old = subst AllSweep (sym h.2) old
+sweeps_started : (w new : WorldState) (caller : Caller) (key : Bytes) (op : Op) (from to : State) (seen : Outcome) → Starts w caller key op from to seen new → AllSweep w → AllSweep new
+sweeps_started w new caller key op from to (outcome.Refused refusal) h old = subst AllSweep (sym h.1) (sweeps_settled w caller.call key (Some refusal) old)
+sweeps_started w new caller key op from to (outcome.PutOff refusal) h old = subst AllSweep (sym h.1) old
+sweeps_started w new caller key op from to (outcome.Stepped seen) h old = subst AllSweep (sym h.2) (sweeps_settled w caller.call key (fault_in seen.reply) old)
+sweeps_started w new caller key op from to outcome.Loads h old = subst AllSweep (sym h.2) old
+sweeps_started w new caller key op from to (outcome.Asks change) h old = subst AllSweep (sym h.3) old
+sweeps_started w new caller key op from to (outcome.Processes entry) h old = subst AllSweep (sym h.3) old
+sweeps_started w new caller key op from to outcome.Joins h old = subst AllSweep (sym h.2) old
 sweeps_started w new caller key op from to seen h old = absurd h
 
-sweeps_ended : (w new : WorldState) (call : ℕ) (key : Bytes) (part : Part) (from to : State) (seen : Shown) → Ends w call key part from to seen new → AllSweep w → AllSweep new
-sweeps_ended w new call key part from to (shown.Stepped seen) h old = subst AllSweep (sym h.2) (sweeps_settled w call key old)
+sweeps_ended : (w new : WorldState) (call : ℕ) (key : Bytes) (part : Part) (from to : State) (seen : Outcome) → Ends w call key part from to seen new → AllSweep w → AllSweep new
+sweeps_ended w new call key part from to (outcome.Stepped seen) h old = subst AllSweep (sym h.2) (sweeps_settled w call key (fault_in seen.reply) old)
 sweeps_ended w new call key part from to seen h old = absurd h
 
-sweeps_picks : (w new : WorldState) (call : ℕ) (key : Bytes) (join : JoinClaim) (from to : State) (seen : Shown) → Picks w call key join from to seen new → AllSweep w → AllSweep new
-sweeps_picks w new call key join from to (shown.PickedUp seen) h old = subst AllSweep (sym h.2) (sweeps_settled w call key old)
-sweeps_picks w new call key join from to shown.Again h old = subst AllSweep (sym h.1) old
-sweeps_picks w new call key join from to shown.Waits h old = subst AllSweep (sym h.1) old
+sweeps_picks : (w new : WorldState) (call : ℕ) (key : Bytes) (join : JoinClaim) (from to : State) (seen : Outcome) → Picks w call key join from to seen new → AllSweep w → AllSweep new
+sweeps_picks w new call key join from to (outcome.PickedUp seen) h old = subst AllSweep (sym h.2) (sweeps_settled w call key (fault_in seen.reply) old)
+sweeps_picks w new call key join from to outcome.Again h old = subst AllSweep (sym h.1) old
+sweeps_picks w new call key join from to outcome.Waits h old = subst AllSweep (sym h.1) old
 sweeps_picks w new call key join from to seen h old = absurd h
 
 sweeps_called : (w : WorldState) (call session : ℕ) (c : Command) → IsSoundWorld w → Each (Sweeps w.config) (w.calls ++ opened (new_call call session c))
@@ -134,19 +136,22 @@ sweeps_looked : (w : WorldState) (call stripe : ℕ) (keys : List Bytes) (s : Sw
 sweeps_looked w call stripe keys s u here sweeps own old =
     each_replaced call (λ u. going_on (with_found w.config.stripes stripe keys s u)) (Sweeps w.config) u w.calls here (λ v goes h. sweep_found w.config stripe keys s u v sweeps own goes h) old
 
+pub sweeps_met : (w : WorldState) (call : ℕ) (met : Option Refusal) (u : CallState) → open_call w call ≡ Some u → AllSweep w → AllSweep (with_met_by w call met)
+sweeps_met w call met u here old = each_replaced call (λ x. Some (with_met met x)) (Sweeps w.config) u w.calls here (λ v goes h. let is : with_met met u ≡ v = cc in subst (Sweeps w.config) is h) old
+
 pub sweeps_happens : (w new : WorldState) (e : WorldEvent) (seen : Shown) → fits w e ≡ true → Happens w e seen new → (IsReport e → IsSoundWorld new) → IsSoundWorld w → AllSweep new
 sweeps_happens w new (event.Call call session command) seen fit h back old = subst AllSweep (sym h.1) (sweeps_called w call session command old)
 sweeps_happens w new (event.Look call stripe) seen fit h back old =
     let own = all_here w stripe h.4 h.6 (old.shape.each stripe h.4 h.5) h.7 in
     subst AllSweep (sym h.9) (sweeps_looked w call stripe h.6 h.1 h.0 h.2 h.3 own old.sweeps)
-sweeps_happens w new (event.Start call key) seen fit h back old = sweeps_started w new h.0.caller key h.1 h.4 h.6 seen h.7 old.sweeps
+sweeps_happens w new (event.Start call key) seen fit h back old = sweeps_started w new h.0.caller key h.1 h.4 h.6 seen.outcome h.7 old.sweeps
 sweeps_happens w new (event.Read call key) seen fit h back old = subst AllSweep (sym h.3) old.sweeps
 sweeps_happens w new (event.Say call key answer) seen fit h back old = subst AllSweep (sym h.3) old.sweeps
 sweeps_happens w new (event.Process call key source calls fail) seen fit h back old = subst AllSweep (sym h.3) old.sweeps
 sweeps_happens w new (event.Change call key) seen fit h back old = subst AllSweep (sym h.5) old.sweeps
 sweeps_happens w new (event.Report call left fault) seen fit h back old = (back tt).sweeps
-sweeps_happens w new (event.Commit call key) seen fit h back old = sweeps_ended w new call key h.0 h.2 h.4 seen h.5 old.sweeps
+sweeps_happens w new (event.Commit call key) seen fit h back old = sweeps_ended w new call key h.0 h.2 h.4 seen.outcome h.5 old.sweeps
 sweeps_happens w new (event.Withdraw call key) seen fit h back old = subst AllSweep (sym h.7) old.sweeps
 sweeps_happens w new (event.Leave call) seen fit h back old = subst AllSweep (sym h.1) (each_filter (Sweeps w.config) (λ u. not (has_number call u)) w.calls old.sweeps)
-sweeps_happens w new (event.PickUp call key) seen fit h back old = sweeps_picks w new call key h.0 h.2 h.4 seen h.5 old.sweeps
+sweeps_happens w new (event.PickUp call key) seen fit h back old = sweeps_picks w new call key h.0 h.2 h.4 seen.outcome h.5 old.sweeps
 sweeps_happens w new (event.Foreign key value) seen fit h back old = subst AllSweep (sym h.1) old.sweeps

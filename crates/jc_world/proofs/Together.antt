@@ -4,39 +4,37 @@
 --     keeps_other     what happens at a key keeps every other key of the call
 --     fit_together    what fits at keys that differ fits one after the other
 use Rattle.std.proofs.Common.{inl, ◌≡◌, ◌==◌, ◌||◌, ◌&&◌, ◌∙◌, ℕ, List, [], ◌∷◌, ◌++◌, map, Bool, true, false, cond, not, Option, None, Some, IsSomeAnd, find, is_none, is_some, refl, sym, ap, subst, append-nil}
-use Rattle.std.specs.FinMap.{get, insert, remove, get-insert, get-remove}
+use Rattle.std.specs.FinMap.{get, insert, remove, get-insert}
 use Rattle.std.specs.List.{IsDistinct, AllByRecursion, list_all, list_any}
 use Rattle.std.specs.Cmp.Lexicographic.{pointwise}
-use Rattle.std.specs.Ordering.{eq_by_cmp}
-use Rattle.std.proofs.lemmas.Bool.{eqb-true, and_parts, and_from, or_right, false_from_ne_true}
+use Rattle.std.proofs.lemmas.Bool.{eqb-true, and_parts, and_from, or_right}
 use Rattle.std.proofs.lemmas.Cmp.{nat_list_cmp_total, nat_list_eq_equiv, nat_eq_equiv}
-use Rattle.std.proofs.lemmas.List.Folds.{list_any-append}
 use Rattle.std.proofs.lemmas.Map.Keys.{IsDistinct-head, IsDistinct-tail}
 use Rattle.jc_model.specs.Batches.{is_among}
-use Rattle.jc_model.specs.Cache.{Bytes, key_cmp}
+use Rattle.jc_model.specs.Cache.{Bytes}
 use Rattle.jc_model.specs.Table.{is_load_given}
 use Rattle.jc_model.specs.declared.event.Change.{Change}
 use Rattle.jc_model.specs.declared.event.Op.{Op}
-use Rattle.jc_model.proofs.CallerLemmas.{same_key}
+use Rattle.jc_stripe.specs.State.{State}
 use Rattle.jc_stripe.specs.Tickets.{JoinClaim}
+use Rattle.jc_types.specs.declared.refusal.Refusal.{Refusal}
 use Rattle.jc_world.specs.declared.event.Part.{Part}
 use Rattle.jc_world.specs.declared.event.Shown.{Shown}
-use Rattle.jc_world.specs.declared.event.Shown.TheVariants as shown
+use Rattle.jc_world.specs.declared.event.Outcome.{Outcome}
+use Rattle.jc_world.specs.declared.event.Outcome.TheVariants as outcome
 use Rattle.jc_world.specs.declared.event.WorldEvent.{WorldEvent}
 use Rattle.jc_world.specs.declared.event.WorldEvent.TheVariants as event
 use Rattle.jc_world.specs.Calls.{CallState, has_number, is_turn, op_at, open_keys, settle}
-use Rattle.jc_world.specs.World.{WorldState, Parts, open_call, of_call, part_of, is_join, is_joined, joins_without, has_progress, waits_for_load, waits_for_report}
+use Rattle.jc_world.specs.World.{WorldState, Parts, open_call, of_call, part_of, JoinKey, join_key, has_joined, is_joined, has_progress, waits_for_load, waits_for_report}
 use Rattle.jc_world.specs.Fits.{fits, is_free, may_start, may_leave, waits_at, may_report}
-use Rattle.jc_world.specs.Events.{with_change, after_change, Happens, Starts, AllFit, with_ends, noted, subject}
-use Rattle.jc_world.specs.Ends.{EndsState}
+use Rattle.jc_world.specs.Events.{with_change, after_change, Happens, Starts, Ends, Picks, AllFit}
 use Rattle.jc_world.specs.Sound.{IsCallOf, IsSoundWorld, Each}
 use Rattle.jc_world.specs.Together.{at_call, key_at, AreAt, FitTogether}
 use Rattle.jc_world.proofs.Beginning.{may_start_at, may_turn, part_turn}
 use Rattle.jc_world.proofs.Callers.{picking, picking_turn}
-use Rattle.jc_world.proofs.Entries.{split, tied}
+use Rattle.jc_world.proofs.Entries.{split}
 use Rattle.jc_world.proofs.Fitting.{none_fit, fits_then, one_fits, still_waits, unjoined_held}
-use Rattle.jc_world.proofs.Joiners.{join_is}
-use Rattle.jc_world.proofs.Noting.{noted_beside, sound_ends, sound_before}
+use Rattle.jc_world.proofs.Maps.{keys_ordered, joins_ordered, get-beside, get-left, get-gone}
 use Rattle.jc_world.proofs.Numbered.{some_of}
 use Rattle.jc_world.proofs.Settling.{IsTurnOf, still_called}
 use Rattle.jc_world.proofs.Shares.{is_some_and}
@@ -105,73 +103,67 @@ kept_fit w mid call (event.Foreign key value) q at keeps fit = cc
 
 -- 2. What happens at another key.
 
--- keys that differ don't tie
-untied : (q key : Bytes) → (q ≡ key → ⊥) → eq_by_cmp key_cmp q key ≡ false
-untied q key apart = false_from_ne_true (eq_by_cmp key_cmp q key) (λ e. apart (same_key q key e))
-
 part_beside : (parts : Parts) (q key : Bytes) (part : Part) (call : ℕ) → (q ≡ key → ⊥) → of_call call (get (insert parts key part) q) ≡ of_call call (get parts q)
-part_beside parts q key part call apart = ap (of_call call) (get-insert nat_list_cmp_total parts key part q ∙ ap (λ b. cond b (Some part) (get parts q)) (untied q key apart))
+part_beside parts q key part call apart = ap (of_call call) (get-beside keys_ordered parts key part q apart)
 
 part_without : (parts : Parts) (q key : Bytes) (call : ℕ) → (q ≡ key → ⊥) → of_call call (get (remove parts key) q) ≡ of_call call (get parts q)
-part_without parts q key call apart = ap (of_call call) (get-remove nat_list_cmp_total parts key q ∙ ap (λ b. cond b None (get parts q)) (untied q key apart))
+part_without parts q key call apart = ap (of_call call) (get-left keys_ordered parts key q apart)
 
 -- a join of another key
-join_apart : (call : ℕ) (q : Bytes) (join : JoinClaim) → (q ≡ join.key → ⊥) → is_join call q join ≡ false
-join_apart call q join apart = false_from_ne_true (is_join call q join) (λ e. apart (sym (join_is call q join e).1))
+join_more : (w : WorldState) (call : ℕ) (q : Bytes) (join : JoinClaim) → (q ≡ join.key → ⊥) → has_joined (insert w.joins (join_key join) join) call q ≡ is_joined w call q
+join_more w call q join apart = ap is_some (get-beside joins_ordered w.joins (join_key join) join (call, q) (λ same. apart (ap (λ (at : JoinKey). at.1) same)))
 
-join_more : (joins : List JoinClaim) (call : ℕ) (q : Bytes) (join : JoinClaim) → (q ≡ join.key → ⊥) → list_any (is_join call q) (joins ++ join ∷ []) ≡ list_any (is_join call q) joins
-join_more joins call q join apart =
-    list_any-append (is_join call q) joins (join ∷ []) ∙ ap (λ b. list_any (is_join call q) joins || (b || false)) (join_apart call q join apart) ∙ or_none (list_any (is_join call q) joins)
-  where
-    or_none : (b : Bool) → (b || (false || false)) ≡ b
-    or_none true = refl
-    or_none false = refl
-
-join_less : (joins : List JoinClaim) (call other : ℕ) (q key : Bytes) → (q ≡ key → ⊥) → list_any (is_join call q) (joins_without other key joins) ≡ list_any (is_join call q) joins
-join_less [] call other q key apart = refl
-join_less (j ∷ js) call other q key apart =
-    elim (is_join other key j) as (λ b. is_join other key j ≡ b → list_any (is_join call q) (cond (not b) (j ∷ joins_without other key js) (joins_without other key js)) ≡ (is_join call q j || list_any (is_join call q) js)) [
-      | true ↦ λ e.
-          let away : is_join call q j ≡ false = false_from_ne_true (is_join call q j) (λ t. apart (sym (join_is call q j t).1 ∙ (join_is other key j e).1)) in
-          join_less js call other q key apart ∙ sym (ap (λ b. b || list_any (is_join call q) js) away)
-      | false ↦ λ e. ap (λ b. is_join call q j || b) (join_less js call other q key apart)
-    ] refl
+join_less : (w : WorldState) (call other : ℕ) (q key : Bytes) → (q ≡ key → ⊥) → has_joined (remove w.joins (other, key)) call q ≡ is_joined w call q
+join_less w call other q key apart = ap is_some (get-left joins_ordered w.joins (other, key) (call, q) (λ same. apart (ap (λ (at : JoinKey). at.1) same)))
 
 -- a key of a call that was settled leaves its others
-called_settled : (w : WorldState) (call other : ℕ) (q key : Bytes) → (q ≡ key → ⊥) → IsTurnOf w.calls other key → (session : ℕ) (op : Op) → IsSomeAnd (open_call w call) (IsCallOf session q op)
-    → IsSomeAnd (find (has_number call) (settle other key w.calls)) (IsCallOf session q op)
-called_settled w call other q key apart turn session op h = still_called other key call session q op w.calls (λ mine same. apart same) turn h
+called_settled : (w : WorldState) (call other : ℕ) (q key : Bytes) (met : Option Refusal) → (q ≡ key → ⊥) → IsTurnOf w.calls other key → (session : ℕ) (op : Op) → IsSomeAnd (open_call w call) (IsCallOf session q op)
+    → IsSomeAnd (find (has_number call) (settle other key met w.calls)) (IsCallOf session q op)
+called_settled w call other q key met apart turn session op h = still_called other key met call session q op w.calls (λ mine same. apart same) turn h
 
-keeps_started : (w mid : WorldState) (call : ℕ) (u : CallState) (key q : Bytes) (op : Op) (seen : Shown) → IsTurnOf w.calls u.caller.call key → (q ≡ key → ⊥) → (from to : _) → Starts w u.caller key op from to seen mid → Keeps w mid call q
-keeps_started w mid call u key q op (shown.Refused refusal) turn apart from to h =
-    subst (λ m. Keeps w m call q) (sym h.1) (record { called = called_settled w call u.caller.call q key apart turn; part = refl; joined = refl })
-keeps_started w mid call u key q op (shown.PutOff refusal) turn apart from to h =
+keeps_started : (w mid : WorldState) (call : ℕ) (u : CallState) (key q : Bytes) (op : Op) (seen : Outcome) → IsTurnOf w.calls u.caller.call key → (q ≡ key → ⊥) → (from to : _) → Starts w u.caller key op from to seen mid → Keeps w mid call q
+keeps_started w mid call u key q op (outcome.Refused refusal) turn apart from to h =
+    subst (λ m. Keeps w m call q) (sym h.1) (record { called = called_settled w call u.caller.call q key _ apart turn; part = refl; joined = refl })
+keeps_started w mid call u key q op (outcome.PutOff refusal) turn apart from to h =
     subst (λ m. Keeps w m call q) (sym h.1) (record { called = λ session op h. h; part = refl; joined = refl })
-keeps_started w mid call u key q op (shown.Stepped seen) turn apart from to h =
-    subst (λ m. Keeps w m call q) (sym h.2) (record { called = called_settled w call u.caller.call q key apart turn; part = refl; joined = refl })
-keeps_started w mid call u key q op shown.Loads turn apart from to h =
+keeps_started w mid call u key q op (outcome.Stepped seen) turn apart from to h =
+    subst (λ m. Keeps w m call q) (sym h.2) (record { called = called_settled w call u.caller.call q key _ apart turn; part = refl; joined = refl })
+keeps_started w mid call u key q op outcome.Loads turn apart from to h =
     subst (λ m. Keeps w m call q) (sym h.2) (record { called = λ session op h. h; part = part_beside w.parts q key _ call apart; joined = refl })
-keeps_started w mid call u key q op (shown.Asks change) turn apart from to h =
+keeps_started w mid call u key q op (outcome.Asks change) turn apart from to h =
     subst (λ m. Keeps w m call q) (sym h.3) (record { called = λ session op h. h; part = part_beside w.parts q key _ call apart; joined = refl })
-keeps_started w mid call u key q op (shown.Processes entry) turn apart from to h =
+keeps_started w mid call u key q op (outcome.Processes entry) turn apart from to h =
     subst (λ m. Keeps w m call q) (sym h.3) (record { called = λ session op h. h; part = part_beside w.parts q key _ call apart; joined = refl })
-keeps_started w mid call u key q op shown.Joins turn apart from to h =
+keeps_started w mid call u key q op outcome.Joins turn apart from to h =
     let of_key : h.0.key ≡ key = ap (λ (j : JoinClaim). j.key) h.1.2 in
-    subst (λ m. Keeps w m call q) (sym h.2) (record { called = λ session op h. h; part = refl; joined = join_more w.joins call q h.0 (λ same. apart (same ∙ of_key)) })
-keeps_started w mid call u key q op (shown.PickedUp seen) turn apart from to h = absurd h
-keeps_started w mid call u key q op (shown.Reported seen) turn apart from to h = absurd h
-keeps_started w mid call u key q op (shown.Processed seen) turn apart from to h = absurd h
-keeps_started w mid call u key q op (shown.Reads answer) turn apart from to h = absurd h
-keeps_started w mid call u key q op (shown.Says answer) turn apart from to h = absurd h
-keeps_started w mid call u key q op shown.Begun turn apart from to h = absurd h
-keeps_started w mid call u key q op shown.Looked turn apart from to h = absurd h
-keeps_started w mid call u key q op shown.Changed turn apart from to h = absurd h
-keeps_started w mid call u key q op shown.Withdrawn turn apart from to h = absurd h
-keeps_started w mid call u key q op shown.Left turn apart from to h = absurd h
-keeps_started w mid call u key q op shown.Waits turn apart from to h = absurd h
-keeps_started w mid call u key q op shown.Again turn apart from to h = absurd h
-keeps_started w mid call u key q op shown.Written turn apart from to h = absurd h
-keeps_started w mid call u key q op shown.Unfit turn apart from to h = absurd h
+    subst (λ m. Keeps w m call q) (sym h.2) (record { called = λ session op h. h; part = refl; joined = join_more w call q h.0 (λ same. apart (same ∙ of_key)) })
+keeps_started w mid call u key q op (outcome.PickedUp seen) turn apart from to h = absurd h
+keeps_started w mid call u key q op (outcome.Reported seen) turn apart from to h = absurd h
+keeps_started w mid call u key q op (outcome.Processed seen) turn apart from to h = absurd h
+keeps_started w mid call u key q op (outcome.Reads answer) turn apart from to h = absurd h
+keeps_started w mid call u key q op (outcome.Says answer) turn apart from to h = absurd h
+keeps_started w mid call u key q op outcome.Begun turn apart from to h = absurd h
+keeps_started w mid call u key q op outcome.Looked turn apart from to h = absurd h
+keeps_started w mid call u key q op outcome.Changed turn apart from to h = absurd h
+keeps_started w mid call u key q op outcome.Withdrawn turn apart from to h = absurd h
+keeps_started w mid call u key q op outcome.Left turn apart from to h = absurd h
+keeps_started w mid call u key q op outcome.Waits turn apart from to h = absurd h
+keeps_started w mid call u key q op outcome.Again turn apart from to h = absurd h
+keeps_started w mid call u key q op outcome.Written turn apart from to h = absurd h
+keeps_started w mid call u key q op outcome.Unfit turn apart from to h = absurd h
+
+keeps_ended : (w mid : WorldState) (call other : ℕ) (key q : Bytes) (part : Part) (from to : State) (seen : Outcome) → (q ≡ key → ⊥) → IsTurnOf w.calls other key → Ends w other key part from to seen mid → Keeps w mid call q
+keeps_ended w mid call other key q part from to (outcome.Stepped seen) away turn h =
+    subst (λ m. Keeps w m call q) (sym h.2) (record { called = called_settled w call other q key _ away turn; part = part_without w.parts q key call away; joined = refl })
+keeps_ended w mid call other key q part from to seen away turn h = absurd h
+
+keeps_picks : (w mid : WorldState) (call other : ℕ) (key q : Bytes) (join : JoinClaim) (from to : State) (seen : Outcome) → (q ≡ key → ⊥) → IsTurnOf w.calls other key → Picks w other key join from to seen mid → Keeps w mid call q
+keeps_picks w mid call other key q join from to (outcome.PickedUp seen) away turn h =
+    subst (λ m. Keeps w m call q) (sym h.2) (record { called = called_settled w call other q key _ away turn; part = refl; joined = join_less w call other q key away })
+keeps_picks w mid call other key q join from to outcome.Again away turn h =
+    subst (λ m. Keeps w m call q) (sym h.1) (record { called = λ session op h. h; part = refl; joined = join_less w call other q key away })
+keeps_picks w mid call other key q join from to outcome.Waits away turn h = subst (λ m. Keeps w m call q) (sym h.1) (record { called = λ session op h. h; part = refl; joined = refl })
+keeps_picks w mid call other key q join from to seen away turn h = absurd h
 
 -- the call of an event that is at a key
 pub keeps_other : (w mid : WorldState) (call : ℕ) (e : WorldEvent) (seen : Shown) (key q : Bytes) → key_at call e ≡ Some key → (q ≡ key → ⊥) → fits w e ≡ true → Happens w e seen mid → IsSoundWorld w → Keeps w mid call q
@@ -181,7 +173,7 @@ keeps_other w mid call (event.Start other at_key) seen key q at apart fit h old 
     let is = named call other at_key key at in
     let number = found_number other w.calls h.0 h.2 in
     let may = may_start_at w other at_key h.0 h.1 fit h.2 h.3 old in
-    keeps_started w mid call h.0 at_key q h.1 seen (may_turn w h.0 at_key h.1 may) (λ same. apart (same ∙ is.1)) h.4 h.6 h.7
+    keeps_started w mid call h.0 at_key q h.1 seen.outcome (may_turn w h.0 at_key h.1 may) (λ same. apart (same ∙ is.1)) h.4 h.6 h.7
 keeps_other w mid call (event.Read other at_key) seen key q at apart fit h old =
     let is = named call other at_key key at in
     subst (λ m. Keeps w m call q) (sym h.3) (record { called = λ session op h. h; part = part_beside w.parts q at_key _ call (λ same. apart (same ∙ is.1)); joined = refl })
@@ -195,29 +187,17 @@ keeps_other w mid call (event.Report other left fault) seen key q at apart fit h
 keeps_other w mid call (event.Process other at_key source calls fail) seen key q at apart fit h old =
     let is = named call other at_key key at in
     subst (λ m. Keeps w m call q) (sym h.3) (record { called = λ session op h. h; part = part_beside w.parts q at_key _ call (λ same. apart (same ∙ is.1)); joined = refl })
-keeps_other w mid call (event.Commit other at_key) shown.Unfit key q at apart fit h old = absurd h.5
-keeps_other w mid call (event.Commit other at_key) (shown.Stepped seen) key q at apart fit h old =
+keeps_other w mid call (event.Commit other at_key) seen key q at apart fit h old =
     let is = named call other at_key key at in
-    let away : q ≡ at_key → ⊥ = λ same. apart (same ∙ is.1) in
     let part = of_call-at other (get w.parts at_key) h.0 h.1 in
-    subst (λ m. Keeps w m call q) (sym h.5.2)
-    (record { called = called_settled w call other q at_key away (part_turn w other at_key h.0 part.0 part.1 old); part = part_without w.parts q at_key call away; joined = refl })
-keeps_other w mid call (event.Commit other at_key) seen key q at apart fit h old = absurd h.5
+    keeps_ended w mid call other at_key q h.0 h.2 h.4 seen.outcome (λ same. apart (same ∙ is.1)) (part_turn w other at_key h.0 part.0 part.1 old) h.5
 keeps_other w mid call (event.Withdraw other at_key) seen key q at apart fit h old =
     let is = named call other at_key key at in
     subst (λ m. Keeps w m call q) (sym h.7) (record { called = λ session op h. h; part = part_without w.parts q at_key call (λ same. apart (same ∙ is.1)); joined = refl })
 keeps_other w mid call (event.Leave other) seen key q at apart fit h old = cc
-keeps_other w mid call (event.PickUp other at_key) (shown.PickedUp seen) key q at apart fit h old =
+keeps_other w mid call (event.PickUp other at_key) seen key q at apart fit h old =
     let is = named call other at_key key at in
-    let away : q ≡ at_key → ⊥ = λ same. apart (same ∙ is.1) in
-    subst (λ m. Keeps w m call q) (sym h.5.2)
-    (record { called = called_settled w call other q at_key away (picking_turn w other at_key h.0 (picking w other at_key h.0 h.1 old)); part = refl; joined = join_less w.joins call other q at_key away })
-keeps_other w mid call (event.PickUp other at_key) shown.Again key q at apart fit h old =
-    let is = named call other at_key key at in
-    subst (λ m. Keeps w m call q) (sym h.5.1) (record { called = λ session op h. h; part = refl; joined = join_less w.joins call other q at_key (λ same. apart (same ∙ is.1)) })
-keeps_other w mid call (event.PickUp other at_key) shown.Waits key q at apart fit h old =
-    subst (λ m. Keeps w m call q) (sym h.5.1) (record { called = λ session op h. h; part = refl; joined = refl })
-keeps_other w mid call (event.PickUp other at_key) seen key q at apart fit h old = absurd h.5
+    keeps_picks w mid call other at_key q h.0 h.2 h.4 seen.outcome (λ same. apart (same ∙ is.1)) (picking_turn w other at_key h.0 (picking w other at_key h.0 h.1 old)) h.5
 keeps_other w mid call (event.Foreign at_key value) seen key q at apart fit h old = cc
 
 -- 3. Events at keys that differ.
@@ -241,35 +221,9 @@ rest_kept w mid call e seen key (q ∷ keys) (f ∷ events) at fit h old are apa
     (kept_fit w mid call f q are.0 (keeps_other w mid call e seen key q at (not_same key q apart.0) fit h old) parts.0)
     (rest_kept w mid call e seen key keys events at fit h old are.1 apart.1 parts.1)
 
--- what is noted of the ends of calls says nothing of what fits
-fits_noted : (w : WorldState) (ends : EndsState) (e : WorldEvent) → fits (with_ends w ends) e ≡ fits w e
-fits_noted w ends (event.Call call session command) = refl
-fits_noted w ends (event.Look call stripe) = refl
-fits_noted w ends (event.Start call key) = refl
-fits_noted w ends (event.Read call key) = refl
-fits_noted w ends (event.Say call key answer) = refl
-fits_noted w ends (event.Change call key) = refl
-fits_noted w ends (event.Report call left fault) = refl
-fits_noted w ends (event.Process call key source calls fail) = refl
-fits_noted w ends (event.Commit call key) = refl
-fits_noted w ends (event.Withdraw call key) = refl
-fits_noted w ends (event.Leave call) = refl
-fits_noted w ends (event.PickUp call key) = refl
-fits_noted w ends (event.Foreign key value) = refl
-
-all_noted : (w : WorldState) (ends : EndsState) (events : List WorldEvent) → list_all (fits w) events ≡ true → list_all (fits (with_ends w ends)) events ≡ true
-all_noted w ends [] h = refl
-all_noted w ends (e ∷ events) h = let parts = and_parts (fits w e) (list_all (fits w) events) h in and_from _ _ (fits_noted w ends e ∙ parts.0) (all_noted w ends events parts.1)
-
--- the world in which an event has happened is sound, whatever is noted there
-sound_then : Laws → (w mid : WorldState) (e : WorldEvent) (seen : Shown) (ends : EndsState) → fits w e ≡ true → Happens w e seen mid → IsSoundWorld w → IsSoundWorld (with_ends mid ends)
-sound_then laws w mid e seen ends fit happens old =
-    let n = noted_beside (subject w e) seen mid in
-    sound_ends mid ends (sound_before mid (noted (subject w e) seen mid) n.ends n.is (sound_step laws w e seen (noted (subject w e) seen mid) (inl (fit, (mid, happens, refl))) old))
-
 -- what is so after each event, of the keys that are left, and what then fits
 pub record Goes (call : ℕ) (P : WorldEvent → Type 0) (Q : List Bytes → WorldState → Type 0) (tail : List WorldEvent) : Type 0 where
-  pub step : (w mid : WorldState) (ends : EndsState) (e : WorldEvent) (seen : Shown) (key : Bytes) (keys : List Bytes) → IsSoundWorld w → P e → key_at call e ≡ Some key → fits w e ≡ true → Happens w e seen mid → Q (key ∷ keys) w → Q keys (with_ends mid ends)
+  pub step : (w mid : WorldState) (e : WorldEvent) (seen : Shown) (key : Bytes) (keys : List Bytes) → IsSoundWorld w → P e → key_at call e ≡ Some key → fits w e ≡ true → Happens w e seen mid → Q (key ∷ keys) w → Q keys mid
   pub end : (w : WorldState) → Q [] w → AllFit w tail
 
 all_together : Laws → (call : ℕ) (P : WorldEvent → Type 0) (Q : List Bytes → WorldState → Type 0) (tail : List WorldEvent) → Goes call P Q tail → (w : WorldState) (keys : List Bytes) (events : List WorldEvent) → IsSoundWorld w → AreAt call keys events
@@ -279,11 +233,11 @@ all_together laws call P Q tail goes w [] (e ∷ events) old are differ each fit
 all_together laws call P Q tail goes w (key ∷ keys) [] old are differ each fit q = absurd are
 all_together laws call P Q tail goes w (key ∷ keys) (e ∷ events) old are differ each fit q =
     let parts = and_parts (fits w e) (list_all (fits w) events) fit in
-    fits_then w e (events ++ tail) parts.0 (λ seen mid ends happens.
-    all_together laws call P Q tail goes (with_ends mid ends) keys events (sound_then laws w mid e seen ends parts.0 happens old) are.1
+    fits_then w e (events ++ tail) parts.0 (λ seen mid happens.
+    all_together laws call P Q tail goes mid keys events (sound_step laws w e seen mid (inl (parts.0, happens)) old) are.1
     (IsDistinct-tail (pointwise ◌==◌) key keys differ) each.1
-    (all_noted mid ends events (rest_kept w mid call e seen key keys events are.0 parts.0 happens old are.1 (IsDistinct-head (pointwise ◌==◌) key keys differ) parts.1))
-    (goes.step w mid ends e seen key keys old each.0 are.0 parts.0 happens q))
+    (rest_kept w mid call e seen key keys events are.0 parts.0 happens old are.1 (IsDistinct-head (pointwise ◌==◌) key keys differ) parts.1)
+    (goes.step w mid e seen key keys old each.0 are.0 parts.0 happens q))
 
 -- events of one kind
 are_mapped : (call : ℕ) (keys : List Bytes) (event_of : Bytes → WorldEvent) → ((key : Bytes) → key_at call (event_of key) ≡ Some key) → AreAt call keys (map event_of keys)
@@ -309,7 +263,7 @@ own_call call key = ap (λ b. cond b (Some key) None) (nat_eq_equiv.refl call)
 events_fit : Laws → (w : WorldState) → IsSoundWorld w → (call : ℕ) (keys : List Bytes) (events : List WorldEvent) → AreAt call keys events → IsDistinct (pointwise ◌==◌) keys → list_all (fits w) events ≡ true → AllFit w events
 events_fit laws w old call keys events are differ fit =
     subst (AllFit w) (append-nil events)
-    (all_together laws call (λ e. Unit {0}) (λ keys w. Unit {0}) [] (record { step = λ w mid ends e seen key keys old is at fit h q. tt; end = λ w q. none_fit w }) w keys events old are differ (each_any events) fit tt)
+    (all_together laws call (λ e. Unit {0}) (λ keys w. Unit {0}) [] (record { step = λ w mid e seen key keys old is at fit h q. tt; end = λ w q. none_fit w }) w keys events old are differ (each_any events) fit tt)
 
 -- 4. A call's leaving, after the withdrawals of all that it has reserved.
 
@@ -331,7 +285,7 @@ free_then w call key keys q alone h =
       | true ↦ λ e h.
           let same = same_bytes q key e in
           or_right (is_among keys q) _ (and_from _ _
-          (ap (λ o. is_none (of_call call o)) (get-remove nat_list_cmp_total w.parts key q ∙ ap (λ b. cond b None (get w.parts q)) (ap (λ k. eq_by_cmp key_cmp k key) same ∙ tied key)))
+          (ap (λ o. is_none (of_call call o)) (ap (get (remove w.parts key)) same ∙ get-gone keys_ordered w.parts key))
           (ap not (ap (is_joined w call) same ∙ alone)))
       | false ↦ λ e h.
           let apart : q ≡ key → ⊥ = λ same. (let t : true ≡ false = sym (nat_list_eq_equiv.refl key) ∙ ap (λ k. pointwise ◌==◌ k key) (sym same) ∙ e in cc) in
@@ -340,12 +294,12 @@ free_then w call key keys q alone h =
 
 goes_leaving : (call : ℕ) → Goes call (λ e. (k : Bytes) × (e ≡ event.Withdraw call k)) (IsLeaving call) (event.Leave call ∷ [])
 goes_leaving call = record {
-  step = λ w mid ends e seen key keys old is at fit h q.
-      let F : WorldEvent → Type 0 = λ e. key_at call e ≡ Some key → fits w e ≡ true → Happens w e seen mid → IsLeaving call keys (with_ends mid ends) in
+  step = λ w mid e seen key keys old is at fit h q.
+      let F : WorldEvent → Type 0 = λ e. key_at call e ≡ Some key → fits w e ≡ true → Happens w e seen mid → IsLeaving call keys mid in
       subst F (sym is.1) (λ at fit h.
       let mine = named call call is.0 key at in
       let alone = unjoined_held w call is.0 fit old in
-      let P : WorldState → Type 0 = λ m. IsLeaving call keys (with_ends m ends) in
+      let P : WorldState → Type 0 = λ m. IsLeaving call keys m in
       subst P (sym h.7) (record {
         u = q.u;
         here = q.here;
@@ -392,10 +346,10 @@ report_kept w call key part change is h = go (open_call w call) h
 
 goes_reporting : (call : ℕ) (left : List Bytes) (fault : Option ℕ) → Goes call (λ e. (k : Bytes) × (e ≡ event.Change call k)) (λ keys w. fits w (event.Report call left fault) ≡ true) (event.Report call left fault ∷ [])
 goes_reporting call left fault = record {
-  step = λ w mid ends e seen key keys old is at fit h q.
-      let F : WorldEvent → Type 0 = λ e. Happens w e seen mid → fits (with_ends mid ends) (event.Report call left fault) ≡ true in
+  step = λ w mid e seen key keys old is at fit h q.
+      let F : WorldEvent → Type 0 = λ e. Happens w e seen mid → fits mid (event.Report call left fault) ≡ true in
       subst F (sym is.1) (λ h.
-      let P : WorldState → Type 0 = λ m. fits (with_ends m ends) (event.Report call left fault) ≡ true in
+      let P : WorldState → Type 0 = λ m. fits m (event.Report call left fault) ≡ true in
       subst P (sym h.5) (report_kept w call is.0 h.0 h.1 h.2 q)) h;
   end = λ w q. one_fits w (event.Report call left fault) q;
 }

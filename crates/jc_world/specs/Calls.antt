@@ -6,12 +6,13 @@
 --                     by stripe
 --     kind_of         how the call of a command takes its keys
 --     takes_turns     a call of a kind works at one key at a time
+--     is_bulk         a call of a kind has many keys
 --     puts_off        a key of a call of a kind that meets a refusal stays open, to be tried again: in a call of one key it doesn't
 --     has_too_many    tasks are more than a call may have keys
 --     SweepState      what a call that takes the keys that are cached does at each key that it finds, and the stripes at which it
 --                     has looked
 --     sweep_of        the sweep of a command that takes the keys that are cached, before its first look; none of another command
---     CallState       a call under way: who calls, how it takes its keys, what it does, and its sweep of the stripes
+--     CallState       a call under way: who calls, how it takes its keys, what it does, its sweep of the stripes, and what it has met
 --     new_call        a call that has just begun
 --     has_too_many_keys
 --                     a call names too many keys: it is refused whole
@@ -32,21 +33,27 @@
 --     keys_at_work    the keys at which a call works: the current one alone, if it works at one at a time, else all that are open
 --     may_work        a key of a call is open, and it is its turn
 --     going_on        a call, if it isn't over
---     settled         what is left of a call once a key of the call with this number has its reply or last refusal
---     settle          the calls that are then under way
+--     over_of         that a call of many keys is over, with its cause, if it is: no key of it is open, and no look is left
+--     cause_after     the first fault, or refusal that isn't put off, that a call of a kind has met, once it meets this or nothing. Only a
+--                     batch keeps it: a call of one key is answered with it, and in an `invokeAll` each key has a result of its own
+--     with_met        a call that meets this
+--     settled         a call once a key of it has its reply or last refusal, and it has met this by it
+--     replaced        the calls, once of the one with this number is left what there is
+--     settle          the calls under way once a key of one is settled: the call is taken out if it is over with that
+--     over_settled    that the call is over with that, and with which cause, if it is a call of many keys that is
+--     meet            the calls under way once one has met this
 --     drop_call       the calls without one that is over
 --     has_looked      a stripe is among those at which a call has looked
 --     has_looked_at_each
 --                     so is each of so many stripes
 --     next_sweep      a sweep of so many stripes behind a look at one more: none once it has looked at each
 --     with_found      a call, of so many stripes, that has looked at a stripe and taken its keys
---     replaced        the calls, once of the one with this number is left what there is
 --     look            the calls under way once a call has looked at a stripe and taken these keys: it is over if it has looked at
 --                     each stripe, and no key of it is open
-use Rattle.std.specs.Prelude.{◌==◌, ◌&&◌, ◌||◌, ℕ, zero, suc, List, [], ◌∷◌, ◌++◌, length, nat_lt, slice_get, Bool, true, false, not, Option, None, Some, filter, map, is_some, option_map, option_to_list, if◌then◌else◌}
-use Rattle.std.specs.List.{cons_option, filter_map, list_any}
+use Rattle.std.specs.Prelude.{◌==◌, ◌&&◌, ◌||◌, ℕ, zero, suc, List, [], ◌∷◌, ◌++◌, length, nat_lt, slice_get, Bool, true, false, not, Option, None, Some, find, filter, map, is_some, option_map, option_to_list, if◌then◌else◌}
+use Rattle.std.specs.List.{cons_option, list_any}
 use Rattle.std.specs.Map.{keys_of, lookup, set_value}
-use Rattle.std.specs.Option.{option_flatten}
+use Rattle.std.specs.Option.{option_flatten, option_or}
 use Rattle.std.specs.Cmp.Lexicographic.{pointwise}
 use Rattle.jc_types.specs.declared.caller.Caller.{Caller}
 use Rattle.jc_types.specs.declared.limits.TheConstants.{BULK_KEYS_MAX}
@@ -59,6 +66,7 @@ use Rattle.jc_world.specs.declared.command.CallKind.{CallKind}
 use Rattle.jc_world.specs.declared.command.CallKind.TheVariants as kind
 use Rattle.jc_world.specs.declared.command.Command.{Command}
 use Rattle.jc_world.specs.declared.command.Command.TheVariants.{Single, GetAll, PutAll, RemoveAll, RemoveEvery, Clear, LoadAll, InvokeAll}
+use Rattle.jc_world.specs.declared.event.Over.{Over}
 
 -- 1. Commands.
 
@@ -112,6 +120,11 @@ takes_turns kind.Single = true
 takes_turns kind.KeyByKey = true
 takes_turns kind.Batch = false
 
+abbrev pub is_bulk : CallKind → Bool
+is_bulk kind.Single = false
+is_bulk kind.KeyByKey = true
+is_bulk kind.Batch = true
+
 abbrev pub puts_off : CallKind → Refusal → Bool
 puts_off kind.Single refusal = false
 puts_off kind.KeyByKey refusal = is_put_off refusal
@@ -127,6 +140,7 @@ pub record CallState : Type 0 where
   pub kind : CallKind
   pub tasks : List Task  -- in the order of its command, or as its looks have found them
   pub sweep : Option SweepState  -- none if it looks at no stripe, or has looked at each
+  pub cause : Option Refusal  -- the first fault, or refusal that isn't put off, that it has met
 
 abbrev pub new_call : ℕ → ℕ → Command → CallState
 new_call call session command =
@@ -135,6 +149,7 @@ new_call call session command =
       kind = kind_of command;
       tasks = tasks command;
       sweep = sweep_of command;
+      cause = None;
     }
 
 abbrev pub has_number : ℕ → CallState → Bool
@@ -204,14 +219,40 @@ opened u = if has_too_many_keys u then [] else if is_going u then u ∷ [] else 
 abbrev pub going_on : CallState → Option CallState
 going_on u = if is_going u then Some u else None
 
--- another call is left as it is
-abbrev pub settled : ℕ → Bytes → CallState → Option CallState
-settled call key u =
-    let tasks = if has_number call u then set_value (pointwise ◌==◌ key) u.tasks None else u.tasks in
-    going_on (record u { tasks = tasks })
+-- a call of one key is answered by its reply
+abbrev pub over_of : CallState → Option Over
+over_of u =
+    if is_going u then None
+    else if is_bulk u.kind then Some (record { call = u.caller.call; cause = u.cause })
+    else None
 
-abbrev pub settle : ℕ → Bytes → List CallState → List CallState
-settle call key calls = filter_map (settled call key) calls
+-- what a call has met before comes first
+abbrev pub cause_after : CallKind → Option Refusal → Option Refusal → Option Refusal
+cause_after kind.Single was met = None
+cause_after kind.KeyByKey was met = None
+cause_after kind.Batch was met = option_or was met
+
+abbrev pub with_met : Option Refusal → CallState → CallState
+with_met met u = record u { cause = cause_after u.kind u.cause met }
+
+abbrev pub settled : Bytes → Option Refusal → CallState → CallState
+settled key met u = with_met met (record u { tasks = set_value (pointwise ◌==◌ key) u.tasks None })
+
+-- the first call with this number
+abbrev pub replaced : ℕ → (CallState → Option CallState) → List CallState → List CallState
+replaced call left [] = []
+replaced call left (u ∷ calls) =
+    if has_number call u then cons_option (left u) calls else u ∷ replaced call left calls
+
+abbrev pub settle : ℕ → Bytes → Option Refusal → List CallState → List CallState
+settle call key met calls = replaced call (λ u. going_on (settled key met u)) calls
+
+abbrev pub over_settled : ℕ → Bytes → Option Refusal → List CallState → Option Over
+over_settled call key met calls =
+    option_flatten (option_map (λ u. over_of (settled key met u)) (find (has_number call) calls))
+
+abbrev pub meet : ℕ → Option Refusal → List CallState → List CallState
+meet call met calls = replaced call (λ u. Some (with_met met u)) calls
 
 -- the calls without one that is over
 abbrev pub drop_call : ℕ → List CallState → List CallState
@@ -237,12 +278,6 @@ next_sweep stripes stripe sweep =
 abbrev pub with_found : ℕ → ℕ → List Bytes → SweepState → CallState → CallState
 with_found stripes stripe keys sweep u =
     record u { tasks = u.tasks ++ at_each sweep.op keys; sweep = next_sweep stripes stripe sweep }
-
--- the first call with this number
-abbrev pub replaced : ℕ → (CallState → Option CallState) → List CallState → List CallState
-replaced call left [] = []
-replaced call left (u ∷ calls) =
-    if has_number call u then cons_option (left u) calls else u ∷ replaced call left calls
 
 abbrev pub look : ℕ → ℕ → ℕ → List Bytes → SweepState → List CallState → List CallState
 look call stripes stripe keys sweep calls =

@@ -6,8 +6,7 @@
 --     HasHeld        each held key's is, each reservation of a stripe has its key, and after a processor the writer is asked exactly
 --                    if it has to be
 --     IsJoinOut      a join has its joiner in the stripe of its key
---     AllJoinsOut    each join has
---     HasJoins       that is so, and no two joins are of one call and one key
+--     HasJoins       each join has, and is of the call and the key by which it is found
 --     NoneReserved   no key of any stripe is reserved
 use Rattle.std.specs.Prelude.{◌≡◌, ℕ, List, [], length, true, Option, Some, IsSomeAnd, is_some, slice_get}
 use Rattle.std.specs.List.{list_all}
@@ -20,8 +19,8 @@ use Rattle.jc_stripe.specs.Tickets.{JoinClaim}
 use Rattle.jc_stripe.specs.State.{State, IsOut, IsJoined}
 use Rattle.jc_stripe.specs.Reached.{IsReached}
 use Rattle.jc_world.specs.declared.event.Part.{Part}
-use Rattle.jc_world.specs.World.{Parts}
-use Rattle.jc_world.specs.Sound.{AllDue, Each, is_joined_once}
+use Rattle.jc_world.specs.World.{Parts, JoinKey, Joins, join_key}
+use Rattle.jc_world.specs.Sound.{AllDue}
 
 pub record IsLeft (config : Config) (number : ℕ) (s : State) : Type 0 where
   pub config_is : s.config ≡ config
@@ -51,12 +50,10 @@ pub record HasHeld (config : Config) (stripes : List State) (parts : Parts) : Ty
 abbrev pub IsJoinOut : Config → List State → JoinClaim → Type 0
 IsJoinOut config stripes join = IsSomeAnd (out_at config stripes join.key) (λ s. IsJoined s join)
 
-abbrev pub AllJoinsOut : Config → List State → List JoinClaim → Type 0
-AllJoinsOut config stripes joins = Each (IsJoinOut config stripes) joins
-
-pub record HasJoins (config : Config) (stripes : List State) (joins : List JoinClaim) : Type 0 where
-  pub once_is : is_joined_once joins ≡ true
-  pub out : AllJoinsOut config stripes joins
+abbrev pub HasJoins : Config → List State → Joins → Type 0
+HasJoins config stripes joins =
+    (at : JoinKey) (join : JoinClaim) → get joins at ≡ Some join
+    → (join_key join ≡ at) × IsJoinOut config stripes join
 
 abbrev pub NoneReserved : List State → Type 0
 NoneReserved stripes =

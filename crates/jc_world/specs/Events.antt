@@ -2,9 +2,15 @@
 --     with_stripe                 the world with a key's stripe at another state
 --     with_phase                  the same, and what the stripe appended to its history is at the end of the order
 --     step_of                     what is shown of a step, but for its stripe
+--     not_over                    what is shown of an event with which no call of many keys is over: its outcome alone
 --     with_call                   the world once a call has begun: it is under way, unless it is over at once
---     shown_begun                 what the beginning of a call shows: it has begun, or it is refused whole
---     with_settled                the world in which a key of a call has its reply or last refusal: without the call if it was the last
+--     shown_begun                 what the beginning of a call shows: it is refused whole, or it has begun, and is over if it has no keys
+--     fault_in                    the fault that a reply is, if it is one
+--     with_settled                the world in which a key of a call has its reply or last refusal, and the call has met this by it:
+--                                 without the call if it is over with that
+--     over_by                     that a call of many keys is over with an outcome at a key, if that settles its last open one: a step's
+--                                 or a joined load's reply, or a refusal that isn't put off. The call has met it if it is a fault or refusal
+--     with_met_by                 the world in which a call has met this
 --     without_call                the world without a call that leaves
 --     with_look                   the world in which a call has looked at a stripe, and taken these keys
 --     new_load, new_write, new_process     the progress of a key whose loader, writer or processor is to be asked
@@ -33,24 +39,23 @@
 --     progress_after              the progress once the processor has run, by what the writer is then asked for
 --     after_process               the world once the processor has run
 --     shown_process               what a processor's run shows
---     Happens                     what an event that fits may show and leave
---     subject_of, subject         the call that an event is about, if it is about one that begins or is under way
---     with_ends                   the world with this noted of the ends of its calls
---     ends_after                  what is noted of them once an event has shown this: a call has met it, and is over if it isn't under way
---                                 any more, unless it is given up
---     noted                       the world in which that is noted of the call that an event is about, if that has many keys
---     Step                        one event, with what is noted then: one that doesn't fit is shown as a fault and changes nothing
+--     Happens                     what an event that fits may show and leave. A call of many keys is over with the event after which none of
+--                                 its keys is open and no look is left; a call that leaves, or is refused whole, is given up instead
+--     Step                        one event: one that doesn't fit is shown as a fault and changes nothing
 --     Run                         events one after another
 --     RunAppending                the same, and what they show is appended to a list
---     is_fit, all_fit             what is shown is not the fault of an event that doesn't fit, and nothing that is shown is
+--     is_fit, all_fit             an outcome is not the fault of an event that doesn't fit, and none of those that are shown is
 --     AllFit                      whatever the world may choose, each of these events fits when it comes
-use Rattle.std.specs.Prelude.{◌≡◌, ◌⊎◌, ℕ, List, [], ◌∷◌, ◌++◌, length, drop, Bool, true, false, ◌||◌, Option, None, Some, is_some, map, option_map, slice_get, slice_set, if◌then◌else◌}
+use Rattle.std.specs.Prelude.{◌≡◌, ◌⊎◌, ℕ, List, [], ◌∷◌, ◌++◌, length, drop, Bool, true, false, Option, None, Some, map, option_map, slice_get, slice_set, if◌then◌else◌}
 use Rattle.std.specs.List.{filter_map, list_all}
 use Rattle.std.specs.FinMap.{get, insert, remove}
 use Rattle.jc_types.specs.declared.caller.Caller.{Caller}
-use Rattle.jc_types.specs.declared.refusal.Refusal.TheVariants.{TooManyKeys}
+use Rattle.jc_types.specs.declared.refusal.Refusal.{Refusal}
+use Rattle.jc_types.specs.declared.refusal.Refusal.TheVariants.{TooManyKeys, WriterFailed}
 use Rattle.jc_model.specs.declared.event.Op.{Op}
 use Rattle.jc_model.specs.declared.event.Change.{Change}
+use Rattle.jc_model.specs.declared.event.Reply.{Reply}
+use Rattle.jc_model.specs.declared.event.Reply.TheVariants as reply
 use Rattle.jc_model.specs.declared.processor.EntryCall.{EntryCall}
 use Rattle.jc_model.specs.declared.processor.EntryAnswer.{EntryAnswer}
 use Rattle.jc_model.specs.declared.event.LoadAnswer.{LoadAnswer}
@@ -76,17 +81,17 @@ use Rattle.jc_stripe.specs.Phases.{Begins, Commits, Withdraws, PicksUp}
 use Rattle.jc_world.specs.declared.command.CallKind.{CallKind}
 use Rattle.jc_world.specs.declared.event.WorldEvent.{WorldEvent}
 use Rattle.jc_world.specs.declared.event.WorldEvent.TheVariants as event
+use Rattle.jc_world.specs.declared.event.Outcome.{Outcome}
+use Rattle.jc_world.specs.declared.event.Outcome.TheVariants as outcome
+use Rattle.jc_world.specs.declared.event.Over.{Over}
 use Rattle.jc_world.specs.declared.event.Shown.{Shown}
-use Rattle.jc_world.specs.declared.event.Shown.TheVariants as shown
 use Rattle.jc_world.specs.declared.event.Stepped.{Stepped}
 use Rattle.jc_world.specs.declared.reports.ReportedKey.{ReportedKey}
-use Rattle.jc_world.specs.Ends.{EndsState, is_bulk, is_given_up, with_met, with_over}
-use Rattle.jc_world.specs.declared.ends.Subject.{Subject}
-use Rattle.jc_world.specs.Calls.{CallState, SweepState, open_keys, puts_off, op_at, new_call, has_too_many_keys, opened, settle, drop_call, look}
+use Rattle.jc_world.specs.Calls.{CallState, SweepState, open_keys, puts_off, op_at, new_call, has_too_many_keys, opened, over_of, settle, over_settled, meet, drop_call, with_found, look}
 use Rattle.jc_world.specs.declared.event.Part.{Part}
 use Rattle.jc_world.specs.declared.event.Progress.{Progress}
 use Rattle.jc_world.specs.declared.event.Progress.TheVariants.{Loading, Writing, Processing, Processed, WritingEffect}
-use Rattle.jc_world.specs.World.{WorldState, home, stripe_for, open_call, of_call, part_of, Parts, waits_for_report, has_changed, join_of, joins_without, out_of, writer_change}
+use Rattle.jc_world.specs.World.{WorldState, home, stripe_for, open_call, of_call, part_of, Parts, waits_for_report, has_changed, join_of, join_key, out_of, writer_change}
 use Rattle.jc_world.specs.Premises.{read_answer, changed_to, report_for, is_true_load, is_true_report, with_loader, with_writer, with_foreign_write, load_from}
 use Rattle.jc_world.specs.declared.process.Processed.{Processed as ProcessShown}
 use Rattle.jc_world.specs.Fits.{fits}
@@ -111,14 +116,36 @@ step_of seen =
     record { reply = seen.reply; place = seen.place; victim = seen.victim; evicted = seen.evicted }
 
 abbrev pub with_call : WorldState → CallState → WorldState
-with_call w u = record w { last = Some u.caller.call; fresh = false; calls = w.calls ++ opened u }
+with_call w u = record w { last = Some u.caller.call; calls = w.calls ++ opened u }
+
+abbrev pub not_over : Outcome → Shown
+not_over o = record { outcome = o; over = None }
 
 abbrev pub shown_begun : CallState → Shown
-shown_begun u = if has_too_many_keys u then shown.Refused TooManyKeys else shown.Begun
+shown_begun u =
+    if has_too_many_keys u then not_over (outcome.Refused TooManyKeys)
+    else record { outcome = outcome.Begun; over = over_of u }
+
+abbrev pub fault_in : Reply → Option Refusal
+fault_in reply.Unit = None
+fault_in (reply.Flag flag) = None
+fault_in (reply.Value value) = None
+fault_in (reply.Fault fault) = Some fault
 
 -- a key of a call has its reply or last refusal
-abbrev pub with_settled : WorldState → ℕ → Bytes → WorldState
-with_settled w call key = record w { calls = settle call key w.calls }
+abbrev pub with_settled : WorldState → ℕ → Bytes → Option Refusal → WorldState
+with_settled w call key met = record w { calls = settle call key met w.calls }
+
+-- any other outcome settles no key
+abbrev pub over_by : WorldState → ℕ → Bytes → Outcome → Option Over
+over_by w call key (outcome.Stepped x) = over_settled call key (fault_in x.reply) w.calls
+over_by w call key (outcome.PickedUp x) = over_settled call key (fault_in x.reply) w.calls
+over_by w call key (outcome.Refused refusal) = over_settled call key (Some refusal) w.calls
+over_by w call key o = None
+
+-- no key is settled by it
+abbrev pub with_met_by : WorldState → ℕ → Option Refusal → WorldState
+with_met_by w call met = record w { calls = meet call met w.calls }
 
 -- a call leaves
 abbrev pub without_call : WorldState → ℕ → WorldState
@@ -154,10 +181,10 @@ abbrev pub without_part : WorldState → Bytes → WorldState
 without_part w key = record w { parts = remove w.parts key }
 
 abbrev pub with_join : WorldState → JoinClaim → WorldState
-with_join w join = record w { joins = w.joins ++ join ∷ [] }
+with_join w join = record w { joins = insert w.joins (join_key join) join }
 
 abbrev pub without_join : WorldState → ℕ → Bytes → WorldState
-without_join w call key = record w { joins = joins_without call key w.joins }
+without_join w call key = record w { joins = remove w.joins (call, key) }
 
 -- 2. The first phase, and the last.
 
@@ -166,53 +193,54 @@ abbrev pub BeginsAs : Caller → Bytes → Op → Begun → State → State → 
 BeginsAs caller key op b from to = Begins from caller key op b to
 
 -- at a key whose stripe is at `from`, and is then at `to`
-abbrev pub Starts : WorldState → Caller → Bytes → Op → State → State → Shown → WorldState → Type 0
-Starts old caller key op from to (shown.Refused refusal) new =
-    BeginsAs caller key op (begun.Refused refusal) from to × (new ≡ with_settled old caller.call key)
-Starts old caller key op from to (shown.PutOff refusal) new =
+abbrev pub Starts : WorldState → Caller → Bytes → Op → State → State → Outcome → WorldState → Type 0
+Starts old caller key op from to (outcome.Refused refusal) new =
+    BeginsAs caller key op (begun.Refused refusal) from to
+    × (new ≡ with_settled old caller.call key (Some refusal))
+Starts old caller key op from to (outcome.PutOff refusal) new =
     BeginsAs caller key op (begun.Refused refusal) from to × (new ≡ old)
-Starts old caller key op from to (shown.Stepped seen) new =
+Starts old caller key op from to (outcome.Stepped seen) new =
     BeginsAs caller key op (begun.Done (step_of seen)) from to × (seen.stripe ≡ home old key)
-    × (new ≡ with_settled (with_phase old key from to) caller.call key)
-Starts old caller key op from to shown.Loads new =
+    × (new ≡ with_settled (with_phase old key from to) caller.call key (fault_in seen.reply))
+Starts old caller key op from to outcome.Loads new =
     (ticket : Ticket) × BeginsAs caller key op (begun.Load ticket) from to
     × (new ≡ with_new_part old key to new_load ticket.reservation)
-Starts old caller key op from to (shown.Asks change) new =
+Starts old caller key op from to (outcome.Asks change) new =
     (ticket : Ticket) × BeginsAs caller key op (begun.Write ticket) from to
     × (ticket.reservation.first ≡ Writer change)
     × (new ≡ with_new_part old key to new_write ticket.reservation)
-Starts old caller key op from to (shown.Processes entry) new =
+Starts old caller key op from to (outcome.Processes entry) new =
     (ticket : ProcessClaim) × BeginsAs caller key op (begun.Process ticket) from to
     × (entry ≡ entry_seen ticket.reservation.first)
     × (new ≡ with_new_part old key to new_process ticket.reservation)
-Starts old caller key op from to shown.Joins new =
+Starts old caller key op from to outcome.Joins new =
     (join : JoinClaim) × BeginsAs caller key op (begun.Joined join) from to
     × (new ≡ with_join (with_stripe old key to) join)
-Starts old caller key op from to seen new = ⊥
+Starts old caller key op from to o new = ⊥
 
-abbrev pub RefusesAs : CallKind → Shown → Type 0
-RefusesAs kind (shown.Refused refusal) = puts_off kind refusal ≡ false
-RefusesAs kind (shown.PutOff refusal) = puts_off kind refusal ≡ true
-RefusesAs kind seen = Unit {0}
+abbrev pub RefusesAs : CallKind → Outcome → Type 0
+RefusesAs kind (outcome.Refused refusal) = puts_off kind refusal ≡ false
+RefusesAs kind (outcome.PutOff refusal) = puts_off kind refusal ≡ true
+RefusesAs kind o = Unit {0}
 
-abbrev pub Ends : WorldState → ℕ → Bytes → Part → State → State → Shown → WorldState → Type 0
-Ends old call key part from to (shown.Stepped seen) new =
+abbrev pub Ends : WorldState → ℕ → Bytes → Part → State → State → Outcome → WorldState → Type 0
+Ends old call key part from to (outcome.Stepped seen) new =
     Commits from part.reservation (out_of part) (step_of seen) to
     × (seen.stripe ≡ home old key)
-    × (new ≡ without_part (with_settled (with_phase old key from to) call key) key)
-Ends old call key part from to seen new = ⊥
+    × (new ≡ without_part (with_settled (with_phase old key from to) call key (fault_in seen.reply)) key)
+Ends old call key part from to o new = ⊥
 
--- of a call that has joined the load of a key: its answer, with which the call is over, or that it is to retry, or nothing yet
-abbrev pub Picks : WorldState → ℕ → Bytes → JoinClaim → State → State → Shown → WorldState → Type 0
-Picks old call key join from to (shown.PickedUp seen) new =
+-- of a call that has joined the load of a key: its answer, with which the key is settled, or that it is to retry, or nothing yet
+abbrev pub Picks : WorldState → ℕ → Bytes → JoinClaim → State → State → Outcome → WorldState → Type 0
+Picks old call key join from to (outcome.PickedUp seen) new =
     PicksUp from join (picked.Answer seen.reply seen.place seen.shared) to
     × (seen.stripe ≡ home old key)
-    × (new ≡ with_settled (without_join (with_stripe old key to) call key) call key)
-Picks old call key join from to shown.Again new =
+    × (new ≡ with_settled (without_join (with_stripe old key to) call key) call key (fault_in seen.reply))
+Picks old call key join from to outcome.Again new =
     PicksUp from join picked.Again to × (new ≡ without_join (with_stripe old key to) call key)
-Picks old call key join from to shown.Waits new =
+Picks old call key join from to outcome.Waits new =
     PicksUp from join (picked.NotYet join) to × (new ≡ old)
-Picks old call key join from to seen new = ⊥
+Picks old call key join from to o new = ⊥
 
 -- 3. Outside answers.
 
@@ -333,93 +361,64 @@ Happens old (event.Look call stripe) seen new =
     (u : CallState) × (sweep : SweepState) × (open_call old call ≡ Some u) × (u.sweep ≡ Some sweep)
     × (from : State) × (slice_get old.stripes stripe ≡ Some from)
     × (keys : List Bytes) × AreKeys from keys
-    × (seen ≡ shown.Looked) × (new ≡ with_look old call stripe keys sweep)
+    × (seen ≡ record { outcome = outcome.Looked; over = over_of (with_found old.config.stripes stripe keys sweep u) })
+    × (new ≡ with_look old call stripe keys sweep)
 Happens old (event.Start call key) seen new =
     (u : CallState) × (op : Op) × (open_call old call ≡ Some u) × (op_at u key ≡ Some op)
     × (from : State) × (stripe_for old key ≡ Some from) × (to : State)
-    × Starts old u.caller key op from to seen new × RefusesAs u.kind seen
+    × Starts old u.caller key op from to seen.outcome new × RefusesAs u.kind seen.outcome
+    × (seen.over ≡ over_by old u.caller.call key seen.outcome)
 Happens old (event.Read call key) seen new =
     let answer = read_answer (entry_at old.store key) in
-    (part : Part) × (part_of old call key ≡ Some part) × (seen ≡ shown.Reads answer)
+    (part : Part) × (part_of old call key ≡ Some part) × (seen ≡ not_over (outcome.Reads answer))
     × (new ≡ after_answer old key part answer)
 Happens old (event.Say call key answer) seen new =
-    (part : Part) × (part_of old call key ≡ Some part) × (seen ≡ shown.Says answer)
+    (part : Part) × (part_of old call key ≡ Some part) × (seen ≡ not_over (outcome.Says answer))
     × (new ≡ after_answer old key part answer)
 Happens old (event.Change call key) seen new =
     (part : Part) × (change : Change) × (part_of old call key ≡ Some part)
-    × (writer_change part ≡ Some change) × (seen ≡ shown.Changed)
+    × (writer_change part ≡ Some change) × (seen ≡ not_over outcome.Changed)
     × (new ≡ after_change old key part change)
 Happens old (event.Report call left fault) seen new =
     (u : CallState) × (open_call old call ≡ Some u)
-    × (seen ≡ shown.Reported
-    (record { keys = reported_keys old.parts call (open_keys u); fault = fault }))
-    × (new ≡ after_reports old call (report_for u.kind left fault)
-    (keys_reported (reported_keys old.parts call (open_keys u))))
+    × (seen ≡ not_over (outcome.Reported
+    (record { keys = reported_keys old.parts call (open_keys u); fault = fault })))
+    × (new ≡ after_reports (with_met_by old call (option_map WriterFailed fault)) call
+    (report_for u.kind left fault) (keys_reported (reported_keys old.parts call (open_keys u))))
 Happens old (event.Process call key source calls fail) seen new =
     let answer = load_from source (entry_at old.store key) in
     (part : Part) × (part_of old call key ≡ Some part)
-    × (seen ≡ shown.Processed (shown_process old.config part.reservation answer calls fail))
+    × (seen ≡ not_over (outcome.Processed (shown_process old.config part.reservation answer calls fail)))
     × (new ≡ after_process old key part (run_result part.reservation answer calls fail))
 Happens old (event.Commit call key) seen new =
     (part : Part) × (part_of old call key ≡ Some part)
     × (from : State) × (stripe_for old key ≡ Some from) × (to : State)
-    × Ends old call key part from to seen new
+    × Ends old call key part from to seen.outcome new
+    × (seen.over ≡ over_by old call key seen.outcome)
 Happens old (event.Withdraw call key) seen new =
     (part : Part) × (part_of old call key ≡ Some part)
     × (from : State) × (stripe_for old key ≡ Some from) × (to : State)
-    × Withdraws from part.reservation to × (seen ≡ shown.Withdrawn)
+    × Withdraws from part.reservation to × (seen ≡ not_over outcome.Withdrawn)
     × (new ≡ without_part (with_stripe old key to) key)
-Happens old (event.Leave call) seen new = (seen ≡ shown.Left) × (new ≡ without_call old call)
+Happens old (event.Leave call) seen new =
+    (seen ≡ not_over outcome.Left) × (new ≡ without_call old call)
 Happens old (event.PickUp call key) seen new =
     (join : JoinClaim) × (join_of old call key ≡ Some join)
     × (from : State) × (stripe_for old key ≡ Some from) × (to : State)
-    × Picks old call key join from to seen new
+    × Picks old call key join from to seen.outcome new
+    × (seen.over ≡ over_by old call key seen.outcome)
 Happens old (event.Foreign key value) seen new =
     let store = with_entry old.store key value in
-    (seen ≡ shown.Written)
-    × (new ≡ record old { store = store; fresh = false; premises = with_foreign_write old.premises })
+    (seen ≡ not_over outcome.Written)
+    × (new ≡ record old { store = store; premises = with_foreign_write old.premises })
 
 -- 5. Steps and runs.
 
--- the call that an event is about
-abbrev pub subject_of : CallState → Subject
-subject_of u = record { caller = u.caller; kind = u.kind }
-
-abbrev pub subject : WorldState → WorldEvent → Option Subject
-subject w (event.Call call session command) = Some (subject_of (new_call call session command))
-subject w (event.Look call stripe) = option_map subject_of (open_call w call)
-subject w (event.Start call key) = option_map subject_of (open_call w call)
-subject w (event.Read call key) = option_map subject_of (open_call w call)
-subject w (event.Say call key answer) = option_map subject_of (open_call w call)
-subject w (event.Change call key) = option_map subject_of (open_call w call)
-subject w (event.Report call left fault) = option_map subject_of (open_call w call)
-subject w (event.Process call key source calls fail) = option_map subject_of (open_call w call)
-subject w (event.Commit call key) = option_map subject_of (open_call w call)
-subject w (event.Withdraw call key) = option_map subject_of (open_call w call)
-subject w (event.Leave call) = option_map subject_of (open_call w call)
-subject w (event.PickUp call key) = option_map subject_of (open_call w call)
-subject w (event.Foreign key value) = None
-
-abbrev pub with_ends : WorldState → EndsState → WorldState
-with_ends w ends = record w { ends = ends }
-
--- the call has met what was shown, and is over if it isn't under way any more
-abbrev pub ends_after : Subject → Shown → WorldState → EndsState
-ends_after s seen w =
-    if is_given_up seen || is_some (open_call w s.caller.call)
-    then with_met s seen w.ends
-    else with_over s.caller (with_met s seen w.ends)
-
-abbrev pub noted : Option Subject → Shown → WorldState → WorldState
-noted None seen w = w
-noted (Some s) seen w = if is_bulk s.kind then with_ends w (ends_after s seen w) else w
-
--- what happens, and what is noted then
+-- what happens, if it fits
 abbrev pub Step : WorldState → WorldEvent → Shown → WorldState → Type 0
 Step old e seen new =
-    ((fits old e ≡ true)
-    × ((mid : WorldState) × Happens old e seen mid × (new ≡ noted (subject old e) seen mid)))
-    ⊎ ((fits old e ≡ false) × (seen ≡ shown.Unfit) × (new ≡ old))
+    ((fits old e ≡ true) × Happens old e seen new)
+    ⊎ ((fits old e ≡ false) × (seen ≡ not_over outcome.Unfit) × (new ≡ old))
 
 abbrev pub Run : WorldState → List WorldEvent → List Shown → WorldState → Type 0
 Run old [] [] new = new ≡ old
@@ -434,12 +433,12 @@ RunAppending old events before after new =
 
 -- 6. Events that fit.
 
-abbrev pub is_fit : Shown → Bool
-is_fit shown.Unfit = false
-is_fit seen = true
+abbrev pub is_fit : Outcome → Bool
+is_fit outcome.Unfit = false
+is_fit o = true
 
 abbrev pub all_fit : List Shown → Bool
-all_fit seen = list_all is_fit seen
+all_fit seen = list_all (λ s. is_fit s.outcome) seen
 
 abbrev pub AllFit : WorldState → List WorldEvent → Type 0
 AllFit old events =

@@ -7,7 +7,7 @@
 --     with_all_premises  a world in which the premises have held so far, whatever came before
 --     StaysCoherentFrom from any world that is reached and coherent, in which no key is reserved: after every list of events, as long
 --                       as the premises held since then, the world is coherent
---     is_answer         an event is an answer of the loader for a key, and was taken
+--     is_answer         an event is an answer of the loader for a key, and was taken, by its outcome
 --     is_load           an event is a step of a key that had the loader asked, and isn't shared
 --     is_loaded         an answer of the loader is kept for the commit
 --     CountsLoads       after every list of events, the answers that loaders gave for a key are as many as its steps that had the
@@ -24,8 +24,9 @@ use Rattle.jc_model.specs.Table.{is_load_given}
 use Rattle.jc_world.specs.declared.event.Part.{Part}
 use Rattle.jc_world.specs.declared.event.WorldEvent.{WorldEvent}
 use Rattle.jc_world.specs.declared.event.WorldEvent.TheVariants as event
+use Rattle.jc_world.specs.declared.event.Outcome.{Outcome}
+use Rattle.jc_world.specs.declared.event.Outcome.TheVariants as outcome
 use Rattle.jc_world.specs.declared.event.Shown.{Shown}
-use Rattle.jc_world.specs.declared.event.Shown.TheVariants as shown
 use Rattle.jc_world.specs.World.{WorldState, start, out_of, with_stored}
 use Rattle.jc_world.specs.Events.{Run}
 use Rattle.jc_world.specs.Coherent.{Coherent, all_hold}
@@ -67,12 +68,12 @@ StaysCoherentFrom =
     → Run (with_all_premises opening) events seen new → all_hold new ≡ true → Coherent new
 
 -- an answer of the loader for a key, which was taken
-abbrev pub is_answer : Bytes → WorldEvent → Shown → Bool
-is_answer key (event.Read call k) (shown.Reads answer) = pointwise ◌==◌ key k
-is_answer key (event.Say call k said) (shown.Says answer) = pointwise ◌==◌ key k
-is_answer key (event.Process call k source calls fail) (shown.Processed x) =
+abbrev pub is_answer : Bytes → WorldEvent → Outcome → Bool
+is_answer key (event.Read call k) (outcome.Reads answer) = pointwise ◌==◌ key k
+is_answer key (event.Say call k said) (outcome.Says answer) = pointwise ◌==◌ key k
+is_answer key (event.Process call k source calls fail) (outcome.Processed x) =
     pointwise ◌==◌ key k && is_load_given x.load
-is_answer key e seen = false
+is_answer key e o = false
 
 -- a step of a key that has an answer of the loader, which it shares with no step before it
 abbrev pub is_load : Bytes → Event → Bool
@@ -91,5 +92,5 @@ CountsLoads =
     (config : Config) (stored : List (Bytes × Bytes)) (events : List WorldEvent) (seen : List Shown)
     (new : WorldState) (key : Bytes)
     → Reaches config stored events seen new
-    → count_by (λ e. is_answer key e.0 e.1) (zip events seen)
+    → count_by (λ (e : WorldEvent × Shown). is_answer key e.0 e.1.outcome) (zip events seen)
     ≡ count_by (is_load key) new.order + (if is_loaded (get new.parts key) then 1 else 0)

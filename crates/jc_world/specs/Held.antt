@@ -1,5 +1,5 @@
--- How a world keeps the keys that its calls have reserved: a map by key, of tickets with what was answered. No contract of a public
--- call cites this.
+-- How a world keeps the keys that its calls have reserved: a map by key, of tickets with what was answered; and its joins: a map by
+-- call and key. No contract of a public call cites this.
 --     load_in, report_in     what the loader, and the writer, has answered so far
 --     effect_report_in       the same of a writer that is asked after a processor
 --     progress_of_run        how far a key is whose processor has run
@@ -13,6 +13,7 @@
 --     IsRun, IsProcess       a ticket asks the processor; either it was not asked yet, or its own run is there
 --     IsAnswerable           one of these
 --     parts_of               by key, what was asked and answered: the map that an index map means
+--     joins_of               by call and key, the joins: the same of the joins
 use Rattle.std.specs.Prelude.{◌≡◌, true, false, Option, None, Some, is_some, option_map}
 use Rattle.std.specs.FinMap.{from_entries}
 use Rattle.indexmap.specs.IndexMap.{IndexMap}
@@ -25,11 +26,11 @@ use Rattle.jc_model.specs.Table.{is_load_given, is_write_given}
 use Rattle.jc_outside.specs.declared.done.Origin.TheVariants.{Played}
 use Rattle.jc_mutentry.specs.Done.{ProcessResult, effect_change}
 use Rattle.jc_stripe.specs.declared.ticket.Reservation.{Reservation}
-use Rattle.jc_stripe.specs.Tickets.{Ticket, ProcessClaim, asks_loader, asks_writer, asks_processor}
+use Rattle.jc_stripe.specs.Tickets.{Ticket, ProcessClaim, JoinClaim, asks_loader, asks_writer, asks_processor}
 use Rattle.jc_world.specs.declared.event.Progress.{Progress}
 use Rattle.jc_world.specs.declared.event.Part.{Part}
 use Rattle.jc_world.specs.declared.event.Progress.TheVariants.{Loading, Writing, Processing, Processed, WritingEffect}
-use Rattle.jc_world.specs.World.{Parts}
+use Rattle.jc_world.specs.World.{Parts, JoinKey, Joins}
 use Rattle.jc_world.specs.declared.held.Asked.{Asked}
 use Rattle.jc_world.specs.declared.held.Asked.TheVariants as asked
 use Rattle.jc_world.specs.declared.held.Loaded.{Loaded}
@@ -123,3 +124,8 @@ IsAnswerable (asked.Processor ticket run) = IsProcess ticket run
 
 abbrev pub parts_of : {S : Type 0} → IndexMap Bytes Part S → Parts
 parts_of m = from_entries m.entries
+
+-- 3. By call and key.
+
+abbrev pub joins_of : {S : Type 0} → IndexMap JoinKey JoinClaim S → Joins
+joins_of m = from_entries m.entries

@@ -2,7 +2,7 @@
 --     world_of      the state that the fields mean
 use Rattle.jc_world.specs.declared.machine.Machine.TheInside.{Inside}
 use Rattle.jc_world.specs.World.{WorldState}
-use Rattle.jc_world.specs.Held.{parts_of}
+use Rattle.jc_world.specs.Held.{parts_of, joins_of}
 
 abbrev pub world_of : Inside → WorldState
 world_of m =
@@ -11,11 +11,9 @@ world_of m =
       stripes = m.stripes.stripes;
       order = m.stripes.order;
       store = m.store;
-      fresh = m.fresh;
       last = m.last;
       calls = m.calls.items;
       parts = parts_of m.held;
-      joins = m.joins.items;
+      joins = joins_of m.joins;
       premises = m.premises;
-      ends = m.ends;
     }

@@ -13,7 +13,6 @@ pub mod Held
 pub mod Turns
 pub mod Inside
 pub mod Ending
-pub mod Ends
 pub mod Gathered
 pub mod Headline
 pub mod Replies

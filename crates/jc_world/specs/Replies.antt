@@ -1,8 +1,8 @@
 -- What callers were shown, over every run: each answer is the reply of a step of the order, and each step was answered once.
 --     IsReplyOfStep  the event at a place of the order is a step of a call that has begun before, with this reply
---     Stands          what an event showed, if it is an answer, is that of its call's step
+--     Stands          the outcome of an event, if it is an answer, is that of its call's step
 --     RepliesStand    after every list of events, each answer that was shown is that of the step at its place
---     is_answer_at    what was shown is the answer of the step at a place
+--     is_answer_at    an outcome is the answer of the step at a place
 --     joiners_in, joiners_at
 --                     the joiners of a stripe, and of the one with a number; none if there is no such stripe
 --     times_shown     once, or not yet if the answer is still parked
@@ -22,8 +22,9 @@ use Rattle.jc_stripe.specs.OnePhase.{is_parked}
 use Rattle.jc_world.specs.declared.command.Command.{Command}
 use Rattle.jc_world.specs.declared.event.WorldEvent.{WorldEvent}
 use Rattle.jc_world.specs.declared.event.WorldEvent.TheVariants as event
+use Rattle.jc_world.specs.declared.event.Outcome.{Outcome}
+use Rattle.jc_world.specs.declared.event.Outcome.TheVariants as outcome
 use Rattle.jc_world.specs.declared.event.Shown.{Shown}
-use Rattle.jc_world.specs.declared.event.Shown.TheVariants as shown
 use Rattle.jc_world.specs.World.{WorldState, home}
 use Rattle.jc_world.specs.Calls.{op_for, new_call}
 use Rattle.jc_world.specs.Headline.{Reaches}
@@ -39,23 +40,25 @@ pub record IsReplyOfStep (w : WorldState) (shows : List (WorldEvent × Shown)) (
   pub command : Command
   pub op : Op
   pub at : ℕ
-  pub begun : slice_get shows at ≡ Some (event.Call call session command, shown.Begun)
+  pub seen : Shown
+  pub begun : slice_get shows at ≡ Some (event.Call call session command, seen)
+  pub begun_is : seen.outcome ≡ outcome.Begun
   pub op_is : op_for (new_call call session command) key ≡ Some op
   pub home_is : stripe ≡ home w key
   pub out : Out
   pub step : slice_get (of_stripe w.config.stripes stripe w.order) place
       ≡ Some (Step (record { session = session; call = call }) op key out shared reply)
 
-abbrev pub Stands : WorldState → List (WorldEvent × Shown) → WorldEvent → Shown → Type 0
-Stands w shows (event.Start call key) (shown.Stepped x) =
+abbrev pub Stands : WorldState → List (WorldEvent × Shown) → WorldEvent → Outcome → Type 0
+Stands w shows (event.Start call key) (outcome.Stepped x) =
     IsReplyOfStep w shows call key x.reply x.stripe x.place None
-Stands w shows (event.Commit call key) (shown.Stepped x) =
+Stands w shows (event.Commit call key) (outcome.Stepped x) =
     IsReplyOfStep w shows call key x.reply x.stripe x.place None
-Stands w shows (event.PickUp call key) (shown.PickedUp x) =
+Stands w shows (event.PickUp call key) (outcome.PickedUp x) =
     IsReplyOfStep w shows call key x.reply x.stripe x.place (Some x.shared)
-Stands w shows e (shown.Stepped x) = ⊥
-Stands w shows e (shown.PickedUp x) = ⊥
-Stands w shows e seen = Unit {0}
+Stands w shows e (outcome.Stepped x) = ⊥
+Stands w shows e (outcome.PickedUp x) = ⊥
+Stands w shows e o = Unit {0}
 
 abbrev pub RepliesStand : Type 0
 RepliesStand =
@@ -63,14 +66,14 @@ RepliesStand =
     (new : WorldState)
     → Reaches config stored events seen new
     → (at : ℕ) (e : WorldEvent) (s : Shown) → slice_get (zip events seen) at ≡ Some (e, s)
-    → Stands new (take at (zip events seen)) e s
+    → Stands new (take at (zip events seen)) e s.outcome
 
 -- 2. Each step was answered once.
 
-abbrev pub is_answer_at : ℕ → ℕ → Shown → Bool
-is_answer_at stripe place (shown.Stepped x) = (x.stripe == stripe) && (x.place == place)
-is_answer_at stripe place (shown.PickedUp x) = (x.stripe == stripe) && (x.place == place)
-is_answer_at stripe place seen = false
+abbrev pub is_answer_at : ℕ → ℕ → Outcome → Bool
+is_answer_at stripe place (outcome.Stepped x) = (x.stripe == stripe) && (x.place == place)
+is_answer_at stripe place (outcome.PickedUp x) = (x.stripe == stripe) && (x.place == place)
+is_answer_at stripe place o = false
 
 abbrev pub joiners_in : Option State → List Joiner
 joiners_in None = []
@@ -91,5 +94,5 @@ StepsShownOnce =
     (reply : Reply)
     → slice_get (of_stripe config.stripes stripe new.order) place
     ≡ Some (Step caller op key out shared reply)
-    → count_by (is_answer_at stripe place) seen
+    → count_by (λ s. is_answer_at stripe place s.outcome) seen
     ≡ times_shown (is_parked (joiners_at new stripe) caller key)

@@ -1,5 +1,5 @@
 -- What stays while nothing is appended, and while a key is reserved.
---     is_appended       what was shown is a step's answer, which was given as the step was appended
+--     is_appended       an outcome is a step's answer, which was given as the step was appended
 --     OnlyStepsChange   an event that doesn't append a step leaves the order, and all that is cached: so do a reservation, an outside
 --                       answer, a withdrawal and a pick-up
 --     EntryStays        the cached entry of a reserved key stays as long as the reservation is out, whatever happens meanwhile
@@ -9,21 +9,22 @@ use Rattle.jc_types.specs.declared.config.Config.{Config}
 use Rattle.jc_model.specs.Cache.{Bytes}
 use Rattle.jc_world.specs.declared.event.Part.{Part}
 use Rattle.jc_world.specs.declared.event.WorldEvent.{WorldEvent}
+use Rattle.jc_world.specs.declared.event.Outcome.{Outcome}
+use Rattle.jc_world.specs.declared.event.Outcome.TheVariants as outcome
 use Rattle.jc_world.specs.declared.event.Shown.{Shown}
-use Rattle.jc_world.specs.declared.event.Shown.TheVariants as shown
 use Rattle.jc_world.specs.World.{WorldState, cached_entry}
 use Rattle.jc_world.specs.Events.{Step, Run}
 use Rattle.jc_world.specs.Headline.{Reaches}
 
-abbrev pub is_appended : Shown → Bool
-is_appended (shown.Stepped x) = true
-is_appended seen = false
+abbrev pub is_appended : Outcome → Bool
+is_appended (outcome.Stepped x) = true
+is_appended o = false
 
 abbrev pub OnlyStepsChange : Type 0
 OnlyStepsChange =
     (config : Config) (stored : List (Bytes × Bytes)) (events : List WorldEvent) (seen : List Shown)
     (old new : WorldState) (e : WorldEvent) (s : Shown)
-    → Reaches config stored events seen old → Step old e s new → is_appended s ≡ false
+    → Reaches config stored events seen old → Step old e s new → is_appended s.outcome ≡ false
     → (new.order ≡ old.order) × ((key : Bytes) → cached_entry new key ≡ cached_entry old key)
 
 -- the part of a key names its reservation: it is out in both worlds

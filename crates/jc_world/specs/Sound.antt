@@ -17,8 +17,8 @@
 --     IsHeld                        a part has its reservation, whose call is then under way
 --     IsCallOf                      a call is of a session, and an operation is open in it at a key, at which it may work
 --     IsOwned, AllOwned             a reservation has its part and its call; each does
---     IsWaitedFor, AllWaitedFor     a join has its joiner and its call, which has no part; each does
---     is_joined_once                no two joins are of one call and one key
+--     IsWaitedFor, AllWaitedFor     a join has its joiner and its call, which has no part; each does, and is of the call and the key by
+--                                   which it is found
 --     IsCalled, AllCalled           a joiner has its join and its call, and is in the stripe of its key; each is so
 --     Agrees                        an entry that is there is the store's value
 --     IsWrittenFor                  the store holds what the writer was asked for
@@ -29,9 +29,9 @@
 --                                   cached one
 --     Sweeps                        a call that is still to look at a stripe: the keys that it has taken are of those at which it has
 --                                   looked
---     IsSoundWorld                  all of it; and while a world is fresh, nothing is cached, reserved, joined or under way
+--     IsSoundWorld                  all of it; and before a call has begun, nothing is cached, reserved, joined or under way
 use Rattle.std.specs.Prelude.{◌≡◌, ◌==◌, ℕ, List, [], ◌∷◌, length, Ok, Bool, true, false, not, ◌&&◌, Option, None, Some, IfSome, IsSomeAnd, is_none, is_some, find, slice_get, nat_le}
-use Rattle.std.specs.List.{list_all, list_any}
+use Rattle.std.specs.List.{list_all}
 use Rattle.std.specs.Map.{lookup}
 use Rattle.std.specs.Cmp.Lexicographic.{pointwise}
 use Rattle.std.specs.FinMap.{get}
@@ -67,7 +67,7 @@ use Rattle.jc_world.specs.Calls.{CallState, SweepState, has_looked, op_at, op_fo
 use Rattle.jc_world.specs.declared.event.Part.{Part}
 use Rattle.jc_world.specs.declared.event.Progress.{Progress}
 use Rattle.jc_world.specs.declared.event.Progress.TheVariants.{Loading, Writing, Processing, Processed, WritingEffect}
-use Rattle.jc_world.specs.World.{WorldState, home, stripe_for, cached_entry, open_call, part_of, is_join, is_joined, Parts}
+use Rattle.jc_world.specs.World.{WorldState, home, stripe_for, cached_entry, open_call, part_of, JoinKey, Joins, join_key, is_joined, Parts}
 use Rattle.jc_world.specs.Premises.{changed_to, is_done}
 use Rattle.jc_world.specs.Coherent.{all_hold}
 
@@ -187,13 +187,9 @@ pub record IsWaitedFor (w : WorldState) (join : JoinClaim) : Type 0 where
   pub call : IsSomeAnd (open_call w join.caller.call) (IsCallOf join.caller.session join.key Get)
   pub no_part : part_of w join.caller.call join.key ≡ None
 
-abbrev pub AllWaitedFor : WorldState → List JoinClaim → Type 0
-AllWaitedFor w js = Each (IsWaitedFor w) js
-
--- no two joins are of one call and one key
-abbrev pub is_joined_once : List JoinClaim → Bool
-is_joined_once [] = true
-is_joined_once (j ∷ js) = not (list_any (is_join j.caller.call j.key) js) && is_joined_once js
+abbrev pub AllWaitedFor : WorldState → Joins → Type 0
+AllWaitedFor w joins = (at : JoinKey) (join : JoinClaim) → get joins at ≡ Some join
+    → (join_key join ≡ at) × IsWaitedFor w join
 
 -- the joiner of a call under way, with its join, in the stripe of its key
 pub record IsCalled (w : WorldState) (number : ℕ) (j : Joiner) : Type 0 where
@@ -246,7 +242,7 @@ Sweeps config u =
     → (key : Bytes) → is_some (lookup (pointwise ◌==◌ key) u.tasks) ≡ true
     → has_looked sweep.looked (stripe_of key config.stripes) ≡ true
 
--- 7. The world. While it is fresh, nothing is cached, reserved, joined or under way.
+-- 7. The world. Before a call has begun, nothing is cached, reserved, joined or under way.
 pub record IsSoundWorld (w : WorldState) : Type 0 where
   pub shape : IsShaped w
   pub order : in_order w.order ≡ true
@@ -259,10 +255,9 @@ pub record IsSoundWorld (w : WorldState) : Type 0 where
   pub owned : (number : ℕ) (s : State) → slice_get w.stripes number ≡ Some s
       → AllOwned w s.reservations
   pub joins : AllWaitedFor w w.joins
-  pub once : is_joined_once w.joins ≡ true
   pub called : (number : ℕ) (s : State) → slice_get w.stripes number ≡ Some s
       → AllCalled w number s.joiners
   pub told : all_hold w ≡ true → (key : Bytes)
       → KeyAgrees (get w.parts key) (entry_at w.store key) (cached_entry w key)
-  pub fresh : w.fresh ≡ true → (key : Bytes) → cached_entry w key ≡ None
-  pub idle : w.fresh ≡ true → w.calls ≡ []
+  pub cold : is_none w.last ≡ true → (key : Bytes) → cached_entry w key ≡ None
+  pub idle : is_none w.last ≡ true → w.calls ≡ []

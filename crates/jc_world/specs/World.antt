@@ -1,5 +1,9 @@
 -- A world: a state for each stripe, one store, the calls under way, and one order of all events.
 --     Parts                           by key, what the call that has reserved it asked and heard so far
+--     JoinKey                         a call's number, and a key
+--     join_cmp                        how two of them are compared: by the calls' numbers, and then by the keys
+--     join_key                        the call and the key of a join
+--     Joins                           the calls that have joined a load and haven't its answer, by call and key
 --     WorldState                      the world as a caller may know it
 --     home                            the number of the stripe that a key belongs to
 --     stripe_for                      the stripe of a key
@@ -7,6 +11,7 @@
 --     cached_entry                    what is cached for a key
 --     empty_stripe, empty_stripes     a stripe in which nothing has happened, and as many as are asked for, from a number on
 --     start                           a world before anything has happened
+--     is_fresh                        no call has begun, and nobody else has written the store
 --     is_busy                         a session has a call under way
 --     open_call                       the call with this number, if it is under way
 --     of_call                         a part, if it is this call's
@@ -21,15 +26,14 @@
 --     has_changed                     the writer has changed the store
 --     writer_change_in, writer_change     what the writer is asked for, if it is
 --     out_in, out_of                  the outside answers
---     is_join                         a join is of this call and this key
 --     join_of                         a call's join of a key, if it has one
---     is_joined                       a call has joined a load of a key, and hasn't its answer
+--     has_joined, is_joined           among these joins, and in a world, a call has joined a load of a key, and hasn't its answer
 --     is_free_of                      a call has neither reserved a key nor joined a load of it
---     joins_without                   the joins of the others
 --     with_stored                     the world with this value in its store
-use Rattle.std.specs.Prelude.{◌==◌, ℕ, zero, suc, ◌+◌, List, [], ◌∷◌, Bool, true, false, not, ◌&&◌, Option, None, Some, find, filter, is_none, slice_get, if◌then◌else◌}
+use Rattle.std.specs.Prelude.{◌==◌, ℕ, zero, suc, ◌+◌, List, [], ◌∷◌, Bool, true, false, not, ◌&&◌, Option, None, Some, find, is_none, is_some, slice_get, if◌then◌else◌}
+use Rattle.std.specs.declared.cmp.Ordering.{Ordering}
+use Rattle.std.specs.Ordering.{nat_cmp, on, then_cmp}
 use Rattle.std.specs.List.{list_any}
-use Rattle.std.specs.Cmp.Lexicographic.{pointwise}
 use Rattle.std.specs.FinMap.{FinMap, empty}
 use Rattle.std.specs.FinMap as map
 use Rattle.jc_types.specs.declared.config.Config.{Config}
@@ -47,7 +51,6 @@ use Rattle.jc_stripe.specs.declared.ticket.First.{First}
 use Rattle.jc_stripe.specs.Tickets.{JoinClaim, change_asked}
 use Rattle.jc_stripe.specs.State.{State}
 use Rattle.jc_world.specs.Calls.{CallState, has_number, is_of_session}
-use Rattle.jc_world.specs.Ends.{EndsState, no_ends}
 use Rattle.jc_world.specs.declared.event.Part.{Part}
 use Rattle.jc_world.specs.declared.event.Progress.{Progress}
 use Rattle.jc_world.specs.declared.event.Progress.TheVariants.{Loading, Writing, Processing, Processed, WritingEffect}
@@ -57,18 +60,31 @@ use Rattle.jc_world.specs.declared.event.Premises.{Premises}
 abbrev pub Parts : Type 0
 Parts = FinMap key_cmp Part
 
+-- a call's number, and a key
+abbrev pub JoinKey : Type 0
+JoinKey = ℕ × Bytes
+
+-- by the calls' numbers, and then by the keys
+abbrev pub join_cmp : JoinKey → JoinKey → Ordering
+join_cmp = then_cmp (on (λ at. at.0) nat_cmp) (on (λ at. at.1) key_cmp)
+
+abbrev pub join_key : JoinClaim → JoinKey
+join_key join = (join.caller.call, join.key)
+
+-- the calls that have joined a load and haven't its answer, by call and key
+abbrev pub Joins : Type 0
+Joins = FinMap join_cmp JoinClaim
+
 pub record WorldState : Type 0 where
   pub config : Config
   pub stripes : List State
   pub order : List Event  -- all events, over all stripes
   pub store : Cache
-  pub fresh : Bool  -- no call has begun, and nobody else has written the store
   pub last : Option ℕ  -- the highest number of a call so far
   pub calls : List CallState  -- the calls under way, in the order in which they began
   pub parts : Parts
-  pub joins : List JoinClaim  -- the calls that have joined a load and haven't its answer, in this order
+  pub joins : Joins
   pub premises : Premises  -- what has held so far of loaders, writers and others
-  pub ends : EndsState  -- what calls of many keys have met, and the last one that is over
 
 -- 1. Stripes.
 
@@ -114,16 +130,18 @@ start config =
       stripes = empty_stripes config 0 config.stripes;
       order = [];
       store = empty;
-      fresh = true;
       last = None;
       calls = [];
       parts = empty;
-      joins = [];
+      joins = empty;
       premises = record { writers = true; loaders = true; quiet = true };
-      ends = no_ends;
     }
 
 -- 2. Calls.
+
+-- nothing has happened in a world, but for what its store was given
+abbrev pub is_fresh : WorldState → Bool
+is_fresh w = is_none w.last && w.premises.quiet
 
 -- the session has a call under way
 abbrev pub is_busy : WorldState → ℕ → Bool
@@ -226,23 +244,19 @@ out_of part = out_in part.progress
 
 -- 4. The calls that have joined a load.
 
-abbrev pub is_join : ℕ → Bytes → JoinClaim → Bool
-is_join call key join = (join.caller.call == call) && pointwise ◌==◌ key join.key
-
 abbrev pub join_of : WorldState → ℕ → Bytes → Option JoinClaim
-join_of w call key = find (is_join call key) w.joins
+join_of w call key = map.get w.joins (call, key)
+
+abbrev pub has_joined : Joins → ℕ → Bytes → Bool
+has_joined joins call key = is_some (map.get joins (call, key))
 
 abbrev pub is_joined : WorldState → ℕ → Bytes → Bool
-is_joined w call key = list_any (is_join call key) w.joins
+is_joined w call key = has_joined w.joins call key
 
 -- a call has neither reserved a key nor joined a load of it
-abbrev pub is_free_of : Parts → List JoinClaim → ℕ → Bytes → Bool
+abbrev pub is_free_of : Parts → Joins → ℕ → Bytes → Bool
 is_free_of parts joins call key =
-    is_none (of_call call (map.get parts key)) && not (list_any (is_join call key) joins)
-
--- the joins of the others
-abbrev pub joins_without : ℕ → Bytes → List JoinClaim → List JoinClaim
-joins_without call key joins = filter (λ j. not (is_join call key j)) joins
+    is_none (of_call call (map.get parts key)) && not (has_joined joins call key)
 
 -- 5. The store before anything has happened.
 abbrev pub with_stored : WorldState → Bytes → Bytes → WorldState

@@ -1,17 +1,19 @@
 //! The calls under way. A session has one at most, so there are never more than there are sessions.
-ghost use Rattle.std.specs.Prelude.{◌≡◌, ◌++◌, true, Some, find, position, cond, option_copied, OnOk, OnErr, IfOk, IsSomeAnd};
-ghost use Rattle.std.specs.List.{list_any};
-ghost use Rattle.jc_world.specs.Calls.{has_number, has_too_many_keys, is_of_session, drop_call, look, new_call, opened, puts_off};
-ghost use Rattle.jc_world.specs.Calls.{settle};
+ghost use Rattle.std.specs.Prelude.{◌≡◌, ◌<◌, ◌++◌, true, Some, Ok, find, length, position, cond, option_copied, slice_get};
+ghost use Rattle.std.specs.Prelude.{OnOk, OnErr, IsSomeAnd};
+ghost use Rattle.std.specs.List.{list_any, remove};
+ghost use Rattle.jc_world.specs.Calls.{has_number, is_of_session, is_going, drop_call, look, meet, new_call, opened, over_of};
+ghost use Rattle.jc_world.specs.Calls.{over_settled, puts_off, settle, with_found};
 ghost use Rattle.jc_world.specs.OpenCalls.{TakesKeys};
 ghost use Rattle.jc_world.specs.Calls.{CallState, SweepState};
 ghost use Rattle.jc_world.specs.Fits.{is_single, is_playable, is_new};
-ghost use Rattle.jc_world.specs.declared.event.Shown.TheVariants as shown;
+ghost use Rattle.jc_world.specs.Events.{fault_in, not_over, shown_begun};
+ghost use Rattle.jc_world.specs.declared.event.Outcome.TheVariants as outcome;
 
 use crate::command::{CallKind, Command};
-use crate::event::Shown;
+use crate::event::{Outcome, Over, Shown, show, show_end};
 use crate::open_call::OpenCall;
-use jc_model::Op;
+use jc_model::{Op, Reply};
 use jc_types::{Caller, Key, Refusal, Value};
 use std::alloc::{AllocError, Global};
 
@@ -86,14 +88,16 @@ fn place_of(calls: &[OpenCall], call: u64) -> Option<usize>
     calls.iter().position(|u| u.caller().call == call)
 }
 
-/// A call begins. It is then under way, unless it has too many keys or none. Says whether it has too many.
+/// A call begins. It is then under way, unless it has too many keys or none. An `Err` says that an allocation failed, and then no call
+/// has begun.
 pub(crate) fn begin(
     alloc: Global,
     calls: &mut Vec<OpenCall>,
     caller: Caller,
     command: &Command,
-) -> Result<bool, AllocError>
-    ensures refused { IfOk result (λ refused. refused ≡ has_too_many_keys (new_call caller.call caller.session command.now)) }
+    seen: &mut Shown,
+) -> Result<(), AllocError>
+    ensures shown { OnOk result (seen.new ≡ shown_begun (new_call caller.call caller.session command.now)) }
     ensures ok { OnOk result (
         calls.new.items ≡ calls.old.items ++ opened (new_call caller.call caller.session command.now)) }
     ensures err { OnErr result (calls.new.items ≡ calls.old.items) }
@@ -101,75 +105,111 @@ pub(crate) fn begin(
     // Names the types that the prover looks for: see docs/CONTRIBUTING.md, "Idioms that the prover asks for".
     let _types: Option<(Op, Value)> = None;
     if command.has_too_many_keys() {
-        return Ok(true);
+        show(seen, Outcome::Refused(Refusal::TooManyKeys));
+        return Ok(());
     }
     let call = OpenCall::new(alloc, caller, command)?;
+    show_end(seen, Outcome::Begun, call.over());
     if call.is_going() {
         calls.push(call)?;
     }
-    Ok(false)
+    Ok(())
 }
 
-/// What the beginning of a call shows.
-pub(crate) fn shown_begun(refused: bool) -> Shown
-    ensures { result ≡ cond refused (shown.Refused Refusal.TooManyKeys) shown.Begun }
-{
-    if refused {
-        Shown::Refused(Refusal::TooManyKeys)
-    } else {
-        Shown::Begun
-    }
-}
-
-/// The first phase of a key of a call was refused. The key is settled, unless it is put off. Gives what this shows.
+/// The first phase of a key of a call was refused. The key is settled, unless it is put off.
 pub(crate) fn refuse(
     calls: &mut Vec<OpenCall>,
     kind: CallKind,
     call: u64,
     key: &Key,
     refusal: Refusal,
-) -> Shown
-    ensures calls { calls.new.items ≡ cond (puts_off kind refusal) calls.old.items (settle call key.now calls.old.items) }
-    ensures shown { result ≡ cond (puts_off kind refusal) (shown.PutOff refusal) (shown.Refused refusal) }
+    seen: &mut Shown,
+)
+    ensures calls { calls.new.items
+        ≡ cond (puts_off kind refusal) calls.old.items (settle call key.now (Some refusal) calls.old.items) }
+    ensures shown { seen.new ≡ cond (puts_off kind refusal) (not_over (outcome.PutOff refusal))
+        (record { outcome = outcome.Refused refusal; over = over_settled call key.now (Some refusal) calls.old.items }) }
 {
     if kind.puts_off(&refusal) {
-        return Shown::PutOff(refusal);
+        show(seen, Outcome::PutOff(refusal));
+        return;
     }
-    settle(calls, call, key);
-    Shown::Refused(refusal)
+    let over = settle(calls, call, key, Some(refusal));
+    show_end(seen, Outcome::Refused(refusal), over);
 }
 
-/// A key of a call has its reply or last refusal. The call is taken out if no key of it is open any more.
-pub(crate) fn settle(calls: &mut Vec<OpenCall>, call: u64, key: &Key)
-    ensures { calls.new.items ≡ settle call key.now calls.old.items }
+/// The fault that a reply is, if it is one.
+pub(crate) fn fault_in(reply: &Reply) -> Option<Refusal>
+    ensures { result ≡ fault_in reply.now }
 {
-    calls.retain_mut(|u| u.settle(call, key));
+    match reply {
+        Reply::Fault(fault) => Some(*fault),
+        Reply::Unit | Reply::Flag(_) | Reply::Value(_) => None,
+    }
 }
 
-/// A call takes these keys, which are those of a stripe, one of so many. It is taken out if it is over with that. An `Err` says that
-/// an allocation failed, and then nothing has changed.
+/// A key of a call has its reply or last refusal, and the call has met this fault or refusal by it, or none. The call is taken out if it
+/// is over with that. Gives its end, if it has many keys and is over.
+pub(crate) fn settle(
+    calls: &mut Vec<OpenCall>,
+    call: u64,
+    key: &Key,
+    met: Option<Refusal>,
+) -> Option<Over>
+    ensures calls { calls.new.items ≡ settle call key.now met calls.old.items }
+    ensures over { result ≡ over_settled call key.now met calls.old.items }
+{
+    let Some(place) = place_of(calls, call) else {
+        return None;
+    };
+    calls[place].settle(key, met);
+    end_at(calls, place)
+}
+
+/// Takes the call at a place out if it is over. Gives its end, if it has many keys and is over.
+fn end_at(calls: &mut Vec<OpenCall>, place: usize) -> Option<Over>
+    requires { place < length calls.old.items }
+    ensures { (u : CallState) × (slice_get calls.old.items place ≡ Some u) × (result ≡ over_of u)
+        × (calls.new.items ≡ cond (is_going u) calls.old.items (remove calls.old.items place)) }
+{
+    let u = &calls[place];
+    let over = u.over();
+    if !u.is_going() {
+        let _over = calls.remove(place);
+    }
+    over
+}
+
+/// A call meets this fault, or none.
+pub(crate) fn meet(calls: &mut Vec<OpenCall>, call: u64, met: Option<Refusal>)
+    ensures { calls.new.items ≡ meet call met calls.old.items }
+{
+    if let Some(place) = place_of(calls, call) {
+        calls[place].meet(met);
+    }
+}
+
+/// A call takes these keys, which are those of a stripe, one of so many. It is taken out if it is over with that. Gives its end, if it
+/// is over. An `Err` says that an allocation failed, and then nothing has changed.
 pub(crate) fn look(
     calls: &mut Vec<OpenCall>,
     call: u64,
     stripes: usize,
     stripe: usize,
     keys: &[Key],
-) -> Result<(), AllocError>
+) -> Result<Option<Over>, AllocError>
     requires { IsSomeAnd (find (has_number call) calls.old.items) (TakesKeys keys.now) }
     ensures ok { OnOk result ((u : CallState) × (sweep : SweepState)
         × (find (has_number call) calls.old.items ≡ Some u) × (u.sweep ≡ Some sweep)
+        × (result ≡ Ok (over_of (with_found stripes stripe keys.now sweep u)))
         × (calls.new.items ≡ look call stripes stripe keys.now sweep calls.old.items)) }
     ensures err { OnErr result (calls.new.items ≡ calls.old.items) }
 {
     let Some(place) = place_of(calls, call) else {
         unreachable!()
     };
-    let u = &mut calls[place];
-    u.look(stripes, stripe, keys)?;
-    if !u.is_going() {
-        let _over = calls.remove(place);
-    }
-    Ok(())
+    calls[place].look(stripes, stripe, keys)?;
+    Ok(end_at(calls, place))
 }
 
 /// Takes a call that leaves out.

@@ -1,6 +1,6 @@
 //! What calls do.
 ghost use Rattle.std.specs.Prelude.{◌≡◌, is_some, length};
-ghost use Rattle.jc_world.specs.Calls.{kind_of, sweep_of, takes_turns, puts_off, tasks, has_too_many};
+ghost use Rattle.jc_world.specs.Calls.{kind_of, sweep_of, takes_turns, is_bulk, cause_after, puts_off, tasks, has_too_many};
 
 use crate::sweep::Sweep;
 use indexmap::{IndexMap, IndexSet};
@@ -151,6 +151,26 @@ impl CallKind {
         match self {
             CallKind::Single | CallKind::KeyByKey => true,
             CallKind::Batch => false,
+        }
+    }
+
+    /// Whether such a call has many keys.
+    pub(crate) fn is_bulk(self) -> bool
+        ensures { result ≡ is_bulk self }
+    {
+        match self {
+            CallKind::Single => false,
+            CallKind::KeyByKey | CallKind::Batch => true,
+        }
+    }
+
+    /// The first fault, or refusal that isn't put off, that such a call has met, once it meets this or nothing. Only a batch keeps it.
+    pub(crate) fn cause_after(self, was: Option<Refusal>, met: Option<Refusal>) -> Option<Refusal>
+        ensures { result ≡ cause_after self was met }
+    {
+        match self {
+            CallKind::Single | CallKind::KeyByKey => None,
+            CallKind::Batch => was.or(met),
         }
     }
 

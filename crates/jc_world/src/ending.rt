@@ -1,26 +1,22 @@
 //! The end of a world: each ticket and each join is spent.
 ghost use Rattle.std.specs.Prelude.{◌≡◌};
 ghost use Rattle.jc_world.specs.Ending.{AreLeft, HasHeld, HasJoins, NoneReserved};
-ghost use Rattle.jc_world.specs.Held.{parts_of};
+ghost use Rattle.jc_world.specs.Held.{parts_of, joins_of};
 
 use crate::held_keys::{HeldKeys, take_any};
+use crate::joined::{Joins, take_any_join};
 use jc_stripe::phase_laws::stays_reached;
-use jc_stripe::{Join, Picked, Stripe};
+use jc_stripe::{Picked, Stripe};
 use jc_types::{Config, stripe_of};
 
 /// Ends all reservations: what was answered is committed, and all else is given back.
-pub(crate) fn end_all(
-    config: &Config,
-    stripes: &mut Vec<Stripe>,
-    mut held: HeldKeys,
-    joins: &[Join],
-)
+pub(crate) fn end_all(config: &Config, stripes: &mut Vec<Stripe>, mut held: HeldKeys, joins: &Joins)
     requires left { AreLeft config.now stripes.old.items }
     requires held { HasHeld config.now stripes.old.items (parts_of held) }
-    requires joins { HasJoins config.now stripes.old.items joins.now }
+    requires joins { HasJoins config.now stripes.old.items (joins_of joins.now) }
     ensures left { AreLeft config.now stripes.new.items }
     ensures none { NoneReserved stripes.new.items }
-    ensures joins { HasJoins config.now stripes.new.items joins.now }
+    ensures joins { HasJoins config.now stripes.new.items (joins_of joins.now) }
 {
     stays_reached();
     'ending: while let Some(one) = take_any(&mut held) {
@@ -32,13 +28,13 @@ pub(crate) fn end_all(
 }
 
 /// Picks up the answer of every join, once no load is under way any more.
-pub(crate) fn pick_all(config: &Config, stripes: &mut Vec<Stripe>, mut joins: Vec<Join>)
+pub(crate) fn pick_all(config: &Config, stripes: &mut Vec<Stripe>, mut joins: Joins)
     requires left { AreLeft config.now stripes.old.items }
     requires none { NoneReserved stripes.old.items }
-    requires joins { HasJoins config.now stripes.old.items joins.items }
+    requires joins { HasJoins config.now stripes.old.items (joins_of joins) }
 {
     stays_reached();
-    'picking: while let Some(join) = joins.pop() {
+    'picking: while let Some(join) = take_any_join(&mut joins) {
         let number = stripe_of(join.key(), config.stripes);
         let stripe = &mut stripes[number];
         match stripe.pick_up(join) {

@@ -2,6 +2,8 @@
 ghost use Rattle.std.specs.Prelude.{◌≡◌};
 ghost use Rattle.jc_world.specs.World.{waits_for_load, waits_for_process, waits_for_report, is_answered, is_unasked};
 ghost use Rattle.jc_world.specs.World.{is_untouched, has_changed};
+ghost use Rattle.jc_world.specs.declared.event.Outcome.TheVariants as outcome;
+ghost use Rattle.jc_world.specs.Events.{not_over};
 
 use crate::command::Command;
 use crate::process::{EntryCalls, LoadSource, Processed};
@@ -12,7 +14,7 @@ use jc_types::{Caller, Key, Refusal, Value};
 use std::mem;
 
 /// What may happen next. An event that names a call is about a call under way, but for `Call`. What doesn't fit is shown as
-/// `Unfit`, and changes nothing.
+/// `Outcome::Unfit`, and changes nothing.
 #[derive(Drop)]
 pub enum WorldEvent {
     /// A session begins a call. It has no phase yet.
@@ -171,9 +173,30 @@ pub struct PickedUp {
     pub shared: u32,
 }
 
-/// What is shown of an event.
+/// What an event has shown: what happened, and whether a call of many keys is over with it.
 #[derive(Drop)]
-pub enum Shown {
+pub struct Shown {
+    /// What happened.
+    pub outcome: Outcome,
+    /// The call of many keys that is over with the event, if one is. A call that leaves, or is refused whole, isn't over but given
+    /// up, and a call of one key is over with the reply or refusal that the outcome says.
+    pub over: Option<Over>,
+}
+
+/// A call of many keys that is over: each of its keys has its reply or last refusal, and it has looked at each stripe if it takes the
+/// keys that are cached.
+#[derive(Clone, Copy, Debug, PartialEq, Eq)]
+pub struct Over {
+    /// The call's number.
+    pub call: u64,
+    /// The first fault, or refusal that isn't put off, that the call has met: none if it has met none. An `invokeAll` never has one,
+    /// since each of its keys has a result of its own (JSR 107, "Entry Processors").
+    pub cause: Option<Refusal>,
+}
+
+/// What happened with an event.
+#[derive(Drop)]
+pub enum Outcome {
     /// The call has begun.
     Begun,
     /// The call has looked at a stripe, and has taken its keys.
@@ -218,18 +241,38 @@ pub enum Shown {
     Unfit,
 }
 
-/// Shows this. What was shown before is let go.
-pub(crate) fn show(seen: &mut Shown, now: Shown)
-    ensures { seen.new ≡ now }
+/// Shows this outcome, with which no call of many keys is over. What was shown before is let go.
+pub(crate) fn show(seen: &mut Shown, outcome: Outcome)
+    ensures { seen.new ≡ not_over outcome }
 {
-    *seen = now;
+    *seen = Shown {
+        outcome,
+        over: None,
+    };
+}
+
+/// Shows this outcome, and the call that is over with it, if one is. What was shown before is let go.
+pub(crate) fn show_end(seen: &mut Shown, outcome: Outcome, over: Option<Over>)
+    ensures { seen.new ≡ record { outcome = outcome; over = over } }
+{
+    *seen = Shown { outcome, over };
+}
+
+/// That nothing has happened.
+pub(crate) fn nothing_shown() -> Shown
+    ensures { result ≡ not_over outcome.Unfit }
+{
+    Shown {
+        outcome: Outcome::Unfit,
+        over: None,
+    }
 }
 
 /// Takes what was shown out.
 pub(crate) fn take_shown(seen: &mut Shown) -> Shown
     ensures { result ≡ seen.old }
 {
-    mem::replace(seen, Shown::Unfit)
+    mem::replace(seen, nothing_shown())
 }
 
 /// A key that a call has reserved: for what, and how far that is.

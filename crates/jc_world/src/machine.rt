@@ -1,12 +1,12 @@
 //! The machine below a world: what each kind of event does.
-ghost use Rattle.std.specs.Prelude.{option_copied, ◌≡◌, true, false, Ok, IfOk, OnErr, OnOk, Option, None, Some, option_map};
+ghost use Rattle.std.specs.Prelude.{option_copied, ◌≡◌, true, false, Ok, IfOk, OnErr, OnOk, Option, None, Some};
 ghost use Rattle.std.specs.FinMap as map;
 ghost use Rattle.jc_types.specs.Limits.{check};
 ghost use Rattle.jc_model.specs.Cache.{entry_at};
 ghost use Rattle.jc_world.specs.declared.event.WorldEvent.TheVariants as event;
-ghost use Rattle.jc_world.specs.World.{start, is_busy, open_call, part_of, is_joined, with_stored};
+ghost use Rattle.jc_world.specs.World.{start, is_busy, is_fresh, open_call, part_of, is_joined, with_stored};
 ghost use Rattle.jc_world.specs.Fits.{fits, is_new};
-ghost use Rattle.jc_world.specs.Events.{subject_of, subject, noted, Happens, Step};
+ghost use Rattle.jc_world.specs.Events.{Happens, Step};
 ghost use Rattle.jc_world.specs.Sound.{IsSoundWorld};
 
 mod answering;
@@ -15,20 +15,19 @@ mod fitting;
 mod looking;
 mod processing;
 
-use crate::calls::{begin, drop_call, find_call, has_call, is_above, refuse, settle, shown_begun};
+use crate::calls::{begin, drop_call, fault_in, find_call, has_call, is_above, refuse, settle};
 use crate::command::Command;
 use crate::ending::{end_all, pick_all};
-use crate::ends::{Ends, Over, Subject, is_given_up};
-use crate::event::{PickedUp, Premises, Shown, WorldEvent, show};
+use crate::event::{Outcome, PickedUp, Premises, Shown, WorldEvent, show, show_end};
 use crate::held::Held;
 use crate::held_keys::{
     HeldKeys, held_at, held_by, hold_load, hold_process, hold_write, make_room, take,
 };
-use crate::joining::{has_joined, put_back, take_join};
+use crate::joined::{Joins, has_joined, make_join_room, put_join, take_join};
 use crate::open_call::OpenCall;
 use crate::stripes::{Stripes, shown_of};
 use jc_model::{Change, Contents, Event};
-use jc_stripe::{Begun, Join, Picked};
+use jc_stripe::{Begun, Picked};
 use jc_types::{Caller, Config, Key, Value, stripe_of};
 use std::alloc::{AllocError, Global};
 use std::marker::Model;
@@ -39,13 +38,11 @@ pub(crate) struct Machine {
     config: Config,
     stripes: Stripes,
     store: Contents,
-    fresh: bool,
     last: Option<u64>,
     calls: Vec<OpenCall>,
     held: HeldKeys,
-    joins: Vec<Join>,
+    joins: Joins,
     premises: Premises,
-    ends: Ends,
 }
 
 impl Model for Machine {
@@ -68,32 +65,29 @@ impl Machine {
         requires { check config.now ≡ Ok tt }
         ensures { IfOk result (λ m. m ≡ start config.now) }
     {
-        let ends = Ends::new(alloc)?;
         let stripes = Stripes::new(alloc, config)?;
         Ok(Machine {
             alloc,
             config: *config,
             stripes,
             store: Contents::new(alloc),
-            fresh: true,
             last: None,
             calls: Vec::new(alloc),
             held: HeldKeys::new(alloc),
-            joins: Vec::new(alloc),
+            joins: Joins::new(alloc),
             premises: Premises {
                 writers: true,
                 loaders: true,
                 quiet: true,
             },
-            ends,
         })
     }
 
     /// Whether no call has begun, and nobody else has written the store.
     pub(crate) fn is_fresh(&self) -> bool
-        ensures { result ≡ self.now.fresh }
+        ensures { result ≡ is_fresh self.now }
     {
-        self.fresh
+        self.last.is_none() && self.premises.quiet
     }
 
     /// Whether a call's number is above that of every call so far.
@@ -174,83 +168,10 @@ impl Machine {
         ensures err { OnErr result (self.new ≡ self.old) }
     {
         if !self.fits(event) {
-            *seen = Shown::Unfit;
+            show(seen, Outcome::Unfit);
             return Ok(());
         }
-        let subject = self.subject(event);
-        self.apply(event, seen)?;
-        match subject {
-            Some(subject) => {
-                self.note(&subject, seen);
-                Ok(())
-            }
-            None => Ok(()),
-        }
-    }
-
-    /// The last call of many keys that is over.
-    pub(crate) fn over(&self) -> Option<Over>
-        ensures { result ≡ self.now.ends.over }
-    {
-        self.ends.over()
-    }
-
-    /// The call that an event is about.
-    fn subject(&self, event: &WorldEvent) -> Option<Subject>
-        ensures { result ≡ subject self.now event.now }
-    {
-        match event {
-            WorldEvent::Call {
-                call,
-                session,
-                command,
-            } => Some(Subject {
-                caller: Caller {
-                    session: *session,
-                    call: *call,
-                },
-                kind: command.kind(),
-            }),
-            WorldEvent::Look { call, .. }
-            | WorldEvent::Start { call, .. }
-            | WorldEvent::Read { call, .. }
-            | WorldEvent::Say { call, .. }
-            | WorldEvent::Change { call, .. }
-            | WorldEvent::Report { call, .. }
-            | WorldEvent::Process { call, .. }
-            | WorldEvent::Commit { call, .. }
-            | WorldEvent::Withdraw { call, .. }
-            | WorldEvent::Leave { call }
-            | WorldEvent::PickUp { call, .. } => self.subject_of(*call),
-            WorldEvent::Foreign { key: _, value: _ } => None,
-        }
-    }
-
-    /// A call under way.
-    fn subject_of(&self, call: u64) -> Option<Subject>
-        ensures { result ≡ option_map subject_of (open_call self.now call) }
-    {
-        match self.open_call(call) {
-            Some(u) => Some(Subject {
-                caller: u.caller(),
-                kind: u.kind(),
-            }),
-            None => None,
-        }
-    }
-
-    /// Notes what a call has met by what an event has shown, and whether the call is over then.
-    fn note(&mut self, subject: &Subject, seen: &Shown)
-        ensures { self.new ≡ noted (Some subject.now) seen.now self.old }
-    {
-        if !subject.kind.is_bulk() {
-            return;
-        }
-        let is_open = is_given_up(seen) || self.open_call(subject.caller.call).is_some();
-        self.ends.meet(subject, seen);
-        if !is_open {
-            self.ends.end(&subject.caller);
-        }
+        self.apply(event, seen)
     }
 
     /// One event that fits. Each kind has a function of its own, in the machine code too: there a function clears the room of all
@@ -286,9 +207,9 @@ impl Machine {
             WorldEvent::Withdraw { call, key } => self.withdraw(*call, key, seen),
             WorldEvent::Leave { call } => {
                 drop_call(&mut self.calls, *call);
-                *seen = Shown::Left;
+                show(seen, Outcome::Left);
             }
-            WorldEvent::PickUp { call, key } => self.pick_up(*call, key, seen),
+            WorldEvent::PickUp { call, key } => self.pick_up(*call, key, seen)?,
             WorldEvent::Foreign { key, value } => self.foreign_write(key, *value, seen)?,
         }
         Ok(())
@@ -307,10 +228,8 @@ impl Machine {
         ensures err { OnErr result (self.new ≡ self.old) }
     {
         let caller = Caller { session, call };
-        let refused = begin(self.alloc, &mut self.calls, caller, command)?;
+        begin(self.alloc, &mut self.calls, caller, command, seen)?;
         self.last = Some(call);
-        self.fresh = false;
-        *seen = shown_begun(refused);
         Ok(())
     }
 
@@ -325,7 +244,7 @@ impl Machine {
         // Names the types that the prover looks for: see docs/CONTRIBUTING.md, "Idioms that the prover asks for".
         let _types: Option<Change> = None;
         make_room(&mut self.held)?;
-        self.joins.try_reserve(1)?;
+        make_join_room(&mut self.joins)?;
         self.stripes.reserve()?;
         let Some(u) = find_call(&self.calls, call) else {
             unreachable!()
@@ -336,33 +255,29 @@ impl Machine {
         let number = stripe_of(key, self.config.stripes);
         match self.stripes.begin(number, &caller, key, op) {
             Begun::Done(done) => {
-                settle(&mut self.calls, caller.call, key);
-                *seen = Shown::Stepped(shown_of(number, done));
-                Ok(())
+                let over = settle(&mut self.calls, caller.call, key, fault_in(&done.reply));
+                show_end(seen, Outcome::Stepped(shown_of(number, done)), over);
             }
             Begun::Load(ticket) => {
                 hold_load(&mut self.held, ticket);
-                *seen = Shown::Loads;
-                Ok(())
+                show(seen, Outcome::Loads);
             }
             Begun::Write(ticket) => {
-                *seen = Shown::Asks(hold_write(&mut self.held, ticket));
-                Ok(())
+                show(seen, Outcome::Asks(hold_write(&mut self.held, ticket)));
             }
             Begun::Process(ticket) => {
-                *seen = Shown::Processes(hold_process(&mut self.held, ticket));
-                Ok(())
+                let entry = hold_process(&mut self.held, ticket);
+                show(seen, Outcome::Processes(entry));
             }
             Begun::Joined(join) => {
-                self.joins.push_reserved(join);
-                *seen = Shown::Joins;
-                Ok(())
+                put_join(&mut self.joins, join);
+                show(seen, Outcome::Joins);
             }
             Begun::Refused(refusal) => {
-                *seen = refuse(&mut self.calls, kind, caller.call, key, refusal);
-                Ok(())
+                refuse(&mut self.calls, kind, caller.call, key, refusal, seen);
             }
         }
+        Ok(())
     }
 
     /// The last phase of a key.
@@ -376,9 +291,10 @@ impl Machine {
         self.stripes.reserve()?;
         let number = stripe_of(key, self.config.stripes);
         let held = take(&mut self.held, key);
-        settle(&mut self.calls, call, key);
         let done = self.stripes.commit(number, held);
-        *seen = Shown::Stepped(shown_of(number, done));
+        let over = settle(&mut self.calls, call, key, fault_in(&done.reply));
+        let outcome = Outcome::Stepped(shown_of(number, done));
+        *seen = Shown { outcome, over };
         Ok(())
     }
 
@@ -392,39 +308,43 @@ impl Machine {
         let number = stripe_of(key, self.config.stripes);
         let held = take(&mut self.held, key);
         self.stripes.withdraw(number, held);
-        *seen = Shown::Withdrawn;
+        show(seen, Outcome::Withdrawn);
     }
 
-    /// A call that has joined a load asks for its answer.
+    /// A call that has joined a load asks for its answer. If that is too early, the join is put back. Room for that is made first,
+    /// since the map doesn't promise that the place of a join that was taken out is free again.
     #[inline(never)]
-    fn pick_up(&mut self, call: u64, key: &Key, seen: &mut Shown)
+    fn pick_up(&mut self, call: u64, key: &Key, seen: &mut Shown) -> Result<(), AllocError>
         requires sound { IsSoundWorld self.old }
         requires fits { fits self.old (event.PickUp call key.now) ≡ true }
-        ensures { Happens self.old (event.PickUp call key.now) seen.new self.new }
+        ensures ok { OnOk result (Happens self.old (event.PickUp call key.now) seen.new self.new) }
+        ensures err { OnErr result (self.new ≡ self.old) }
     {
+        make_join_room(&mut self.joins)?;
         let stripe = stripe_of(key, self.config.stripes);
-        let (join, place) = take_join(&mut self.joins, call, key);
+        let join = take_join(&mut self.joins, call, key);
         match self.stripes.pick_up(stripe, join) {
             Picked::Answer {
                 reply,
                 place: step,
                 shared_with: shared,
             } => {
-                settle(&mut self.calls, call, key);
+                let over = settle(&mut self.calls, call, key, fault_in(&reply));
                 let answer = PickedUp {
                     reply,
                     stripe,
                     place: step,
                     shared,
                 };
-                show(seen, Shown::PickedUp(answer));
+                show_end(seen, Outcome::PickedUp(answer), over);
             }
-            Picked::Again => show(seen, Shown::Again),
+            Picked::Again => show(seen, Outcome::Again),
             Picked::NotYet(join) => {
-                put_back(&mut self.joins, join, place);
-                show(seen, Shown::Waits);
+                put_join(&mut self.joins, join);
+                show(seen, Outcome::Waits);
             }
         }
+        Ok(())
     }
 
     /// Ends the machine: what was answered is committed, the other reservations are given back, and the joins are picked up.
@@ -436,13 +356,11 @@ impl Machine {
             config,
             stripes,
             store: _,
-            fresh: _,
             last: _,
             calls: _,
             held,
             joins,
             premises: _,
-            ends: _,
         } = self;
         let mut items = stripes.into_items();
         end_all(&config, &mut items, held, &joins);

@@ -4,15 +4,17 @@ ghost use Rattle.std.specs.Prelude.{OnErr, OnOk, IfOk};
 ghost use Rattle.std.specs.List.{list_all, list_any, IsDistinct};
 ghost use Rattle.std.specs.Cmp.Lexicographic.{pointwise};
 ghost use Rattle.jc_world.specs.Calls.{op_at, open_keys, current_key, keys_at_work, may_work};
-ghost use Rattle.jc_world.specs.Calls.{is_turn, is_going, new_call, settled, with_found, SweepState};
+ghost use Rattle.jc_world.specs.Calls.{is_turn, is_going, new_call, over_of, settled, with_found, with_met, SweepState};
 ghost use Rattle.jc_world.specs.OpenCalls.{TakesKeys};
 ghost use Rattle.jc_world.specs.World.{is_free_of};
 ghost use Rattle.jc_world.specs.Fits.{is_to_look, waits_in};
 ghost use Rattle.jc_world.specs.Events.{reported_keys};
-ghost use Rattle.jc_world.specs.Held.{parts_of};
+ghost use Rattle.jc_world.specs.Held.{parts_of, joins_of};
 
 use crate::command::{CallKind, Command};
+use crate::event::Over;
 use crate::held_keys::{HeldKeys, waits_for_report};
+use crate::joined::Joins;
 use crate::reports::ReportedKey;
 use crate::sweep::Sweep;
 use crate::tasks::{
@@ -20,8 +22,7 @@ use crate::tasks::{
     push_each, push_reported, put_if_open, put_open_among, settle_at, take_keys, tasks_for,
 };
 use jc_model::Op;
-use jc_stripe::Join;
-use jc_types::{Caller, Key};
+use jc_types::{Caller, Key, Refusal};
 use std::alloc::{AllocError, Global};
 use std::marker::Model;
 
@@ -32,6 +33,7 @@ pub struct OpenCall {
     kind: CallKind,
     tasks: Tasks,
     sweep: Option<Sweep>,
+    cause: Option<Refusal>,
 }
 
 impl Model for OpenCall {
@@ -40,7 +42,7 @@ impl Model for OpenCall {
 
     ghost Value = { CallState };
 
-    ghost view = { λ u. record { caller = u.caller; kind = u.kind; tasks = tasks_of u.tasks; sweep = u.sweep } };
+    ghost view = { λ u. record { caller = u.caller; kind = u.kind; tasks = tasks_of u.tasks; sweep = u.sweep; cause = u.cause } };
 
     ghost invariant = { λ u. IsPlaced u.tasks × IsSwept u.sweep u.tasks };
 }
@@ -58,6 +60,7 @@ impl OpenCall {
             kind,
             tasks,
             sweep,
+            cause: None,
         })
     }
 
@@ -176,9 +179,9 @@ impl OpenCall {
     }
 
     /// Whether the call holds none of its open keys, and has joined no load of one.
-    pub(crate) fn is_free(&self, call: u64, held: &HeldKeys, joins: &[Join]) -> bool
+    pub(crate) fn is_free(&self, call: u64, held: &HeldKeys, joins: &Joins) -> bool
         ensures { result ≡
-            list_all (is_free_of (parts_of held.now) joins.now call) (open_keys self.now) }
+            list_all (is_free_of (parts_of held.now) (joins_of joins.now) call) (open_keys self.now) }
     {
         match &self.tasks {
             Tasks::One { key, op } => op.is_none() || is_free_at(call, key, held, joins),
@@ -239,13 +242,31 @@ impl OpenCall {
         Ok(())
     }
 
-    /// A key of the call with this number has its reply or last refusal. Says whether this call isn't over then.
-    pub(crate) fn settle(&mut self, call: u64, key: &Key) -> bool
-        ensures { settled call key.now self.old ≡ cond result (Some self.new) None }
+    /// A key of the call has its reply or last refusal, and the call has met this fault or refusal by it, or none.
+    pub(crate) fn settle(&mut self, key: &Key, met: Option<Refusal>)
+        ensures { self.new ≡ settled key.now met self.old }
     {
-        if self.caller.call == call {
-            settle_at(&mut self.tasks, key);
+        settle_at(&mut self.tasks, key);
+        self.meet(met);
+    }
+
+    /// The call meets this fault or refusal, or none.
+    pub(crate) fn meet(&mut self, met: Option<Refusal>)
+        ensures { self.new ≡ with_met met self.old }
+    {
+        self.cause = self.kind.cause_after(self.cause, met);
+    }
+
+    /// That the call is over, if it has many keys and is.
+    pub(crate) fn over(&self) -> Option<Over>
+        ensures { result ≡ over_of self.now }
+    {
+        if self.is_going() || !self.kind.is_bulk() {
+            return None;
         }
-        self.is_going()
+        Some(Over {
+            call: self.caller.call,
+            cause: self.cause,
+        })
     }
 }

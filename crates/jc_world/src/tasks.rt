@@ -10,15 +10,14 @@ ghost use Rattle.indexmap.specs.IndexMap.{spare};
 ghost use Rattle.jc_world.specs.World.{is_free_of};
 ghost use Rattle.jc_world.specs.Fits.{waits_in};
 ghost use Rattle.jc_world.specs.Events.{reported_keys};
-ghost use Rattle.jc_world.specs.Held.{parts_of};
+ghost use Rattle.jc_world.specs.Held.{parts_of, joins_of};
 
 use crate::command::Command;
 use crate::held_keys::{HeldKeys, held_by, reported_key, waits_for_report};
-use crate::joining::has_joined;
+use crate::joined::{Joins, has_joined};
 use crate::reports::ReportedKey;
 use indexmap::{IndexMap, IndexSet};
 use jc_model::{Change, Op};
-use jc_stripe::Join;
 use jc_types::{Key, Value};
 use std::alloc::{AllocError, Global};
 
@@ -189,8 +188,8 @@ fn is_open_among(ops: &IndexMap<Key, Option<Op>>, key: &Key) -> bool
 }
 
 /// Whether a call has neither a reservation nor a join of a key.
-pub(crate) fn is_free_at(call: u64, key: &Key, held: &HeldKeys, joins: &[Join]) -> bool
-    ensures { result ≡ is_free_of (parts_of held.now) joins.now call key.now }
+pub(crate) fn is_free_at(call: u64, key: &Key, held: &HeldKeys, joins: &Joins) -> bool
+    ensures { result ≡ is_free_of (parts_of held.now) (joins_of joins.now) call key.now }
 {
     held_by(held, call, key).is_none() && !has_joined(joins, call, key)
 }
@@ -200,9 +199,10 @@ pub(crate) fn are_free(
     call: u64,
     ops: &IndexMap<Key, Option<Op>>,
     held: &HeldKeys,
-    joins: &[Join],
+    joins: &Joins,
 ) -> bool
-    ensures { result ≡ list_all (is_free_of (parts_of held.now) joins.now call) (open_in ops.now.entries) }
+    ensures { result ≡
+        list_all (is_free_of (parts_of held.now) (joins_of joins.now) call) (open_in ops.now.entries) }
 {
     for place in 0..ops.len() {
         match ops.get_index(place) {

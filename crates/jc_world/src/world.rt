@@ -2,7 +2,7 @@
 ghost use Rattle.std.specs.Prelude.{[], ◌≡◌, ◌≤◌, ◌⊎◌, ◌<◌, true, IsTrue, IfOk, IfErr, IsOk, option_copied, OnErr, OnOk, Ok, is_some};
 ghost use Rattle.std.specs.Prelude.{Err, take, length};
 ghost use Rattle.jc_types.specs.Limits.{check};
-ghost use Rattle.jc_world.specs.World.{start, is_busy, open_call, part_of, has_progress, waits_for_load, waits_for_process};
+ghost use Rattle.jc_world.specs.World.{start, is_busy, is_fresh, open_call, part_of, has_progress, waits_for_load, waits_for_process};
 ghost use Rattle.jc_world.specs.World.{waits_for_report, is_joined, with_stored};
 ghost use Rattle.jc_world.specs.Fits.{fits, is_new};
 ghost use Rattle.jc_world.specs.Events.{RunAppending};
@@ -11,8 +11,7 @@ ghost use Rattle.jc_world.specs.Coherent.{all_hold, Coherent};
 ghost use Rattle.jc_world.specs.Audit.{IsOrder, HasShares, IsAudit};
 
 use crate::audit::Audit;
-use crate::ends::Over;
-use crate::event::{Part, PickedUp, Shown, Stepped, WorldEvent, take_shown};
+use crate::event::{Part, PickedUp, Shown, Stepped, WorldEvent, nothing_shown, take_shown};
 use crate::machine::Machine;
 use crate::open_call::OpenCall;
 use crate::reports::ReportedKey;
@@ -67,7 +66,7 @@ impl World {
     ///
     /// Conditions: the world is fresh, as [`is_fresh`](World::is_fresh) says.
     pub fn set(&mut self, key: &Key, value: &Value) -> Result<(), AllocError>
-        requires { self.old.world.fresh ≡ true }
+        requires { is_fresh self.old.world ≡ true }
         ensures ok { OnOk result (
             self.new ≡ record self.old { world = with_stored self.old.world key.now value.now }) }
         ensures err { OnErr result (self.new ≡ self.old) }
@@ -77,7 +76,7 @@ impl World {
 
     /// Plays events in their order, and appends what each shows to `shown`.
     ///
-    /// An event that doesn't fit is shown as `Unfit` and changes nothing. After a failed allocation exactly the first `played`
+    /// An event that doesn't fit has the outcome `Unfit` and changes nothing. After a failed allocation exactly the first `played`
     /// events were taken, what they show is appended, and nothing of the others.
     pub fn play(&mut self, events: &[WorldEvent], shown: &mut Vec<Shown>) -> Result<(), AllocError>
         ensures run { OnOk result (
@@ -104,7 +103,7 @@ impl World {
         keeps_reserved();
         self.played = 0;
         shown.try_reserve(events.len())?;
-        let mut seen = Shown::Unfit;
+        let mut seen = nothing_shown();
         for event in events {
             self.machine.step(event, &mut seen)?;
             shown.push_reserved(take_shown(&mut seen));
@@ -134,7 +133,7 @@ impl World {
 
     /// Whether no call has begun, and nobody else has written the store.
     pub fn is_fresh(&self) -> bool
-        ensures { result ≡ self.now.world.fresh }
+        ensures { result ≡ is_fresh self.now.world }
     {
         self.machine.is_fresh()
     }
@@ -165,17 +164,6 @@ impl World {
         ensures { option_copied result ≡ open_call self.now.world call }
     {
         self.machine.open_call(call)
-    }
-
-    /// The last call of many keys that has ended with a reply or a last refusal for each of its keys, and its cause: the first fault,
-    /// or refusal that isn't put off, that it has met.
-    ///
-    /// `None` if there is no such call. A call that leaves, or is refused whole, isn't one. So to learn how a call ended, ask directly
-    /// after its last event: if the answer isn't about this call, it has left or was refused whole.
-    pub fn over(&self) -> Option<Over>
-        ensures { result ≡ self.now.world.ends.over }
-    {
-        self.machine.over()
     }
 
     /// What a call has asked and heard for a key that it has reserved.
@@ -223,7 +211,7 @@ impl World {
         self.machine.waits_for_process(call, key)
     }
 
-    /// Whether an event fits now. One that doesn't would be shown as `Unfit`, and change nothing.
+    /// Whether an event fits now. One that doesn't would have the outcome `Unfit`, and change nothing.
     pub fn fits(&self, event: &WorldEvent) -> bool
         ensures { result ≡ fits self.now.world event.now }
     {

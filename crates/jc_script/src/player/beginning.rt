@@ -12,8 +12,8 @@ ghost use Rattle.jc_script.specs.Faults.{begin_fault};
 ghost use Rattle.jc_script.specs.LineEvents.{single, bulk_call, start_events};
 ghost use Rattle.jc_script.specs.Transcript.{PlaysBegin, PlaysLine};
 
+use super::LineBuffers;
 use super::acting::put_key_events;
-use super::{LineBuffers, put_end};
 use crate::fault::Fault;
 use crate::line::{Act, BulkCall, Operation};
 use jc_model::{LoadAnswer, Op};
@@ -122,7 +122,6 @@ fn begin_single(
     put_single(&mut buffers.events, call, session, operation)?;
     world.lets_calls_begin();
     buffers.play(world, out)?;
-    put_end(out, call, &world.over())?;
     Ok(())
 }
 
@@ -172,7 +171,6 @@ fn begin_bulk(
     buffers.play(world, out)?;
     put_starts(alloc, world, call, buffers)?;
     buffers.play(world, out)?;
-    put_end(out, call, &world.over())?;
     Ok(())
 }
 

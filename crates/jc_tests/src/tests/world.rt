@@ -6,7 +6,7 @@ use courses::{event_of, plays};
 use jc_model::{Change, Event, Op, Reply, WriteAnswer, legal};
 use jc_stripe::{First, Reservation};
 use jc_types::{Caller, Config, Field, Key, Refusal, Value};
-use jc_world::event::{Progress, Shown};
+use jc_world::event::{Outcome, Progress, Shown};
 use jc_world::world::World;
 use std::alloc::Global;
 use std::process::Abort;
@@ -131,7 +131,23 @@ fn plays_a_list_in_its_order(rt: HostRuntime) {
         .play(&[begin, start, commit], &mut seen)
         .expect(&rt, "memory");
     assert!(rt;
-        matches!(seen.as_slice(), [Shown::Begun, Shown::Loads, Shown::Unfit]),
+        matches!(
+            seen.as_slice(),
+            [
+                Shown {
+                    outcome: Outcome::Begun,
+                    ..
+                },
+                Shown {
+                    outcome: Outcome::Loads,
+                    ..
+                },
+                Shown {
+                    outcome: Outcome::Unfit,
+                    ..
+                },
+            ]
+        ),
         "what is shown"
     );
     assert!(rt; world.played() == 3, "all are played");

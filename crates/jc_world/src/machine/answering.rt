@@ -1,6 +1,7 @@
 //! What loaders, writers and others do.
-ghost use Rattle.std.specs.Prelude.{◌≡◌, true, false, Ok, OnOk, OnErr, Option, None, Some};
+ghost use Rattle.std.specs.Prelude.{◌≡◌, true, false, Ok, OnOk, OnErr, Option, None, Some, option_map};
 ghost use Rattle.jc_model.specs.Table.{is_load_given, is_write_given};
+ghost use Rattle.jc_types.specs.declared.refusal.Refusal.TheVariants.{WriterFailed};
 ghost use Rattle.jc_world.specs.declared.event.WorldEvent.TheVariants as event;
 ghost use Rattle.jc_world.specs.declared.event.Part.{Part};
 ghost use Rattle.jc_world.specs.World.{has_progress, open_call, part_of, waits_for_load, waits_for_report};
@@ -8,15 +9,16 @@ ghost use Rattle.jc_world.specs.Premises.{report_for};
 ghost use Rattle.jc_world.specs.Fits.{fits, waits_at};
 ghost use Rattle.jc_world.specs.Events.{after_answer, after_report, reported_at, after_reports, keys_reported, Happens};
 
+use crate::calls::meet;
 use crate::command::CallKind;
-use crate::event::Shown;
+use crate::event::{Outcome, Shown, show};
 use crate::held_keys::{change, loader_answers, report};
 use crate::machine::Machine;
 use crate::outside::{and_now, answer_of, is_honest_load, is_honest_report};
 use crate::read_only::ReadOnlyList;
 use crate::reports::{LeftKeys, Reported, ReportedKey, report_for};
 use jc_model::{LoadAnswer, WriteAnswer};
-use jc_types::{Key, Value};
+use jc_types::{Key, Refusal, Value};
 use std::alloc::AllocError;
 
 impl Machine {
@@ -44,7 +46,7 @@ impl Machine {
         // Copied first: see docs/CONTRIBUTING.md, "Idioms that the prover asks for".
         let kept = answer;
         self.loader_answers(call, key, answer);
-        *seen = Shown::Reads(kept);
+        show(seen, Outcome::Reads(kept));
     }
 
     /// The loader answers this, whatever the store holds.
@@ -56,7 +58,7 @@ impl Machine {
         // Copied first: see docs/CONTRIBUTING.md, "Idioms that the prover asks for".
         let kept = answer;
         self.loader_answers(call, key, answer);
-        *seen = Shown::Says(kept);
+        show(seen, Outcome::Says(kept));
     }
 
     /// The writer changes the store.
@@ -72,7 +74,7 @@ impl Machine {
         ensures err { OnErr result (self.new ≡ self.old) }
     {
         change(&mut self.held, &mut self.store, key)?;
-        *seen = Shown::Changed;
+        show(seen, Outcome::Changed);
         Ok(())
     }
 
@@ -136,9 +138,10 @@ impl Machine {
         };
         let kind = u.kind();
         let reported = u.reported_keys(self.alloc, call, &self.held)?;
+        meet(&mut self.calls, call, fault_of(fault));
         self.report_each(call, kind, left, fault, &reported);
         let keys = ReadOnlyList::new(reported);
-        *seen = Shown::Reported(Reported { keys, fault });
+        show(seen, Outcome::Reported(Reported { keys, fault }));
         Ok(())
     }
 
@@ -154,9 +157,18 @@ impl Machine {
         ensures err { OnErr result (self.new ≡ self.old) }
     {
         self.store.set(key, value)?;
-        self.fresh = false;
         self.premises.quiet = false;
-        *seen = Shown::Written;
+        show(seen, Outcome::Written);
         Ok(())
+    }
+}
+
+/// What a call meets by the writer's fault, if it failed.
+fn fault_of(fault: Option<u32>) -> Option<Refusal>
+    ensures { result ≡ option_map WriterFailed fault }
+{
+    match fault {
+        Some(code) => Some(Refusal::WriterFailed(code)),
+        None => None,
     }
 }

@@ -10,7 +10,7 @@ ghost use Rattle.jc_world.specs.Events.{Happens};
 ghost use Rattle.jc_world.specs.Sound.{IsSoundWorld};
 
 use crate::calls::look;
-use crate::event::Shown;
+use crate::event::{Outcome, Shown, show_end};
 use crate::machine::Machine;
 use jc_types::Key;
 use std::alloc::AllocError;
@@ -30,8 +30,8 @@ impl Machine {
         ensures err { OnErr result (self.new ≡ self.old) }
     {
         let keys = self.keys_at(stripe)?;
-        look(&mut self.calls, call, self.config.stripes, stripe, &keys)?;
-        *seen = Shown::Looked;
+        let over = look(&mut self.calls, call, self.config.stripes, stripe, &keys)?;
+        show_end(seen, Outcome::Looked, over);
         Ok(())
     }
 

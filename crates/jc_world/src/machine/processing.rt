@@ -8,7 +8,7 @@ ghost use Rattle.jc_world.specs.World.{has_progress, part_of, waits_for_process}
 ghost use Rattle.jc_world.specs.Fits.{fits};
 ghost use Rattle.jc_world.specs.Events.{after_process, run_result, shown_process, Happens};
 
-use crate::event::Shown;
+use crate::event::{Outcome, Shown, show};
 use crate::held_keys::process;
 use crate::machine::Machine;
 use crate::outside::{and_now, is_honest_load};
@@ -37,7 +37,7 @@ impl Machine {
     {
         let answer = source.answer(self.stored(key));
         let processed = self.run(call, key, answer, calls, fail)?;
-        *seen = Shown::Processed(processed);
+        show(seen, Outcome::Processed(processed));
         Ok(())
     }
 

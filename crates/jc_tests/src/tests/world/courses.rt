@@ -2,14 +2,14 @@
 //!
 //! A course is a text with a line for each event. It has the event's name, the number of its call and a key; after a colon a word
 //! for what it shows; and after a semicolon the names of all events with this call and this key that fit then, or `none`. Each
-//! other one is to be shown as `Unfit`.
+//! other one is to have the outcome `Unfit`.
 //!
 //! Call N is by session N modulo 100: calls 1 and 101 by session 1, and call 100 by none. A put puts the number of its call.
 use super::{audits, differs, key_of, opened_world, value_of};
 use jc_model::{LoadAnswer, Op};
 use jc_types::Key;
 use jc_world::command::Command;
-use jc_world::event::{Shown, WorldEvent};
+use jc_world::event::{Outcome, Over, WorldEvent};
 use jc_world::reports::LeftKeys;
 use jc_world::world::World;
 use std::alloc::Global;
@@ -66,40 +66,40 @@ fn op_of(rt: &impl Abort, name: &str, number: &str) -> Op {
     }
 }
 
-/// A word for what is shown.
-fn word_of(shown: &Shown) -> &'static str {
-    match shown {
-        Shown::Begun => "begun",
-        Shown::Looked => "looked",
-        Shown::Stepped(_) => "stepped",
-        Shown::Loads => "loads",
-        Shown::Asks(_) => "asks",
-        Shown::Joins => "joins",
-        Shown::Refused(_) => "refused",
-        Shown::PutOff(_) => "putoff",
-        Shown::Reads(_) => "reads",
-        Shown::Says(_) => "says",
-        Shown::Changed => "changed",
-        Shown::Reported(reported) => {
+/// A word for an outcome.
+fn word_of(outcome: &Outcome) -> &'static str {
+    match outcome {
+        Outcome::Begun => "begun",
+        Outcome::Looked => "looked",
+        Outcome::Stepped(_) => "stepped",
+        Outcome::Loads => "loads",
+        Outcome::Asks(_) => "asks",
+        Outcome::Joins => "joins",
+        Outcome::Refused(_) => "refused",
+        Outcome::PutOff(_) => "putoff",
+        Outcome::Reads(_) => "reads",
+        Outcome::Says(_) => "says",
+        Outcome::Changed => "changed",
+        Outcome::Reported(reported) => {
             if reported.keys.as_slice().iter().all(|key| key.is_changed) {
                 "done"
             } else {
                 "undone"
             }
         }
-        Shown::Withdrawn => "withdrawn",
-        Shown::Left => "left",
-        Shown::PickedUp(_) => "pickedup",
-        Shown::Waits => "waits",
-        Shown::Again => "again",
-        Shown::Written => "written",
-        Shown::Processes(_) => "processes",
-        Shown::Processed(_) => "processed",
-        Shown::Unfit => "unfit",
+        Outcome::Withdrawn => "withdrawn",
+        Outcome::Left => "left",
+        Outcome::PickedUp(_) => "pickedup",
+        Outcome::Waits => "waits",
+        Outcome::Again => "again",
+        Outcome::Written => "written",
+        Outcome::Processes(_) => "processes",
+        Outcome::Processed(_) => "processed",
+        Outcome::Unfit => "unfit",
     }
 }
 
-/// Plays one event, which is to show this.
+/// Plays one event, which is to show this. Gives the call that is over with it, if one is.
 pub fn shows(
     rt: &impl Abort,
     alloc: Global,
@@ -107,11 +107,12 @@ pub fn shows(
     event: WorldEvent,
     word: &str,
     line: &str,
-) {
+) -> Option<Over> {
     let mut seen = Vec::new(alloc);
     world.play(&[event], &mut seen).expect(rt, "memory");
     let shown = seen.pop().expect(rt, "what is shown");
-    assert!(rt; word_of(&shown) == word, "{line}");
+    assert!(rt; word_of(&shown.outcome) == word, "{line}");
+    shown.over
 }
 
 /// Of the events with this call and this key exactly these fit.
@@ -134,15 +135,16 @@ fn fit(
     }
 }
 
-/// Plays a course.
-pub fn plays(rt: &impl Abort, alloc: Global, world: &mut World, course: &str) {
+/// Plays a course. Gives the call that is over with its last event, if one is.
+pub fn plays(rt: &impl Abort, alloc: Global, world: &mut World, course: &str) -> Option<Over> {
+    let mut over = None;
     for line in course.lines() {
         let (event, fitting) = line.split_once("; ").expect(rt, "what fits then");
         let (event, word) = event.split_once(": ").expect(rt, "what is shown");
         let (name, event) = event.split_once(' ').expect(rt, "a name");
         let (number, key) = event.split_once(' ').expect(rt, "a number");
         let key = key_of(rt, key);
-        shows(
+        over = shows(
             rt,
             alloc,
             world,
@@ -152,6 +154,7 @@ pub fn plays(rt: &impl Abort, alloc: Global, world: &mut World, course: &str) {
         );
         fit(rt, alloc, world, number, key, fitting, line);
     }
+    over
 }
 
 // At first these operations are no calls by themselves, no session has such a number, and no call is under way. Then there is a

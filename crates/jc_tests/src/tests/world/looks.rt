@@ -3,8 +3,7 @@ use super::courses::{plays, shows};
 use super::{config, is_in_order, opened_world, put_key};
 use jc_types::Config;
 use jc_world::command::Command;
-use jc_world::ends::Over;
-use jc_world::event::WorldEvent;
+use jc_world::event::{Over, WorldEvent};
 use jc_world::world::World;
 use std::alloc::Global;
 use std::process::Abort;
@@ -19,8 +18,14 @@ fn clears(rt: &impl Abort, alloc: Global, world: &mut World) {
     shows(rt, alloc, world, begin, "begun", "the call");
 }
 
-/// Call 9 looks at a stripe, which is to show this.
-fn looks(rt: &impl Abort, alloc: Global, world: &mut World, stripe: usize, word: &str) {
+/// Call 9 looks at a stripe, which is to show this. Gives the call that is over with it, if one is.
+fn looks(
+    rt: &impl Abort,
+    alloc: Global,
+    world: &mut World,
+    stripe: usize,
+    word: &str,
+) -> Option<Over> {
     shows(
         rt,
         alloc,
@@ -28,7 +33,7 @@ fn looks(rt: &impl Abort, alloc: Global, world: &mut World, stripe: usize, word:
         WorldEvent::Look { call: 9, stripe },
         word,
         "the look",
-    );
+    )
 }
 
 /// Whether call 9 is still to look at a stripe.
@@ -50,14 +55,14 @@ fn has_keys(rt: &impl Abort, alloc: Global, world: &World, names: &str) {
     assert!(rt; listed.as_slice() == names.as_bytes(), "its keys");
 }
 
-/// Call 9 is over by its keys, and has met nothing.
-fn is_over(rt: &impl Abort, world: &World) {
+/// Call 9 is over by its keys, as was shown, and has met nothing.
+fn is_over(rt: &impl Abort, world: &World, shown: Option<Over>) {
     assert!(rt; !world.is_busy(9), "the call is over");
     let over = Over {
         call: 9,
         cause: None,
     };
-    assert!(rt; world.over() == Some(over), "it has no cause");
+    assert!(rt; shown == Some(over), "it has no cause");
 }
 
 /// A world of two stripes without loader and writer: b and d are of the first, a and c of the second.
@@ -110,8 +115,8 @@ fn looks_at_each_stripe_once(rt: HostRuntime) {
     looks(&rt, alloc, &mut world, 1, "looked");
     assert!(rt; !is_to_look(&rt, &world, 1), "no stripe is left");
     looks(&rt, alloc, &mut world, 1, "unfit");
-    plays(&rt, alloc, &mut world, SECOND_LOOK);
-    is_over(&rt, &world);
+    let over = plays(&rt, alloc, &mut world, SECOND_LOOK);
+    is_over(&rt, &world, over);
     is_in_order(&rt, alloc, &world, "d c b d b c ");
     world.close();
 }
@@ -135,8 +140,8 @@ fn looks_in_any_order(rt: HostRuntime) {
     looks(&rt, alloc, &mut world, 0, "looked");
     looks(&rt, alloc, &mut world, 0, "unfit");
     has_keys(&rt, alloc, &world, "c b d ");
-    plays(&rt, alloc, &mut world, ALL_KEYS);
-    is_over(&rt, &world);
+    let over = plays(&rt, alloc, &mut world, ALL_KEYS);
+    is_over(&rt, &world, over);
     world.close();
 }
 
@@ -146,10 +151,10 @@ fn is_over_with_the_last_look_at_nothing(rt: HostRuntime) {
     let alloc = rt.alloc();
     let mut world = two_stripes(&rt, alloc);
     clears(&rt, alloc, &mut world);
-    looks(&rt, alloc, &mut world, 0, "looked");
-    assert!(rt; world.is_busy(9), "a stripe is left");
-    looks(&rt, alloc, &mut world, 1, "looked");
-    is_over(&rt, &world);
+    let over = looks(&rt, alloc, &mut world, 0, "looked");
+    assert!(rt; world.is_busy(9) && over.is_none(), "a stripe is left");
+    let over = looks(&rt, alloc, &mut world, 1, "looked");
+    is_over(&rt, &world, over);
     world.close();
 }
 
@@ -170,8 +175,8 @@ fn puts_off_a_reserved_key(rt: HostRuntime) {
     plays(&rt, alloc, &mut world, LOADED);
     clears(&rt, alloc, &mut world);
     looks(&rt, alloc, &mut world, 0, "looked");
-    plays(&rt, alloc, &mut world, PUT_OFF);
-    is_over(&rt, &world);
+    let over = plays(&rt, alloc, &mut world, PUT_OFF);
+    is_over(&rt, &world, over);
     is_in_order(&rt, alloc, &world, "a a ");
     world.close();
 }

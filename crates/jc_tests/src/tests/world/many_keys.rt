@@ -5,8 +5,7 @@ use indexmap::IndexSet;
 use jc_model::EntryCall;
 use jc_types::{BULK_KEYS_MAX, Key, Refusal};
 use jc_world::command::Command;
-use jc_world::ends::Over;
-use jc_world::event::WorldEvent;
+use jc_world::event::{Over, WorldEvent};
 use jc_world::process::{EntryCalls, LoadSource};
 use jc_world::reports::LeftKeys;
 use jc_world::world::World;
@@ -145,9 +144,9 @@ fn commits_what_the_writer_did_not_leave(rt: HostRuntime) {
     shows(&rt, alloc, &mut world, begin, "begun", "the call");
     plays(&rt, alloc, &mut world, BATCH_CHANGED);
     leaves(&rt, alloc, &mut world, "b");
-    plays(&rt, alloc, &mut world, BATCH_COMMITTED);
+    let over = plays(&rt, alloc, &mut world, BATCH_COMMITTED);
     let cause = Some(Refusal::WriterFailed(0));
-    assert!(rt; world.over() == Some(Over { call, cause }), "its cause");
+    assert!(rt; over == Some(Over { call, cause }), "its cause");
     is_in_order(&rt, alloc, &world, "b a ");
     world.close();
 }

@@ -1,13 +1,17 @@
 //! Long runs of random events with a fixed seed, compared with a plain reading of their order.
 use super::{config, key_at, key_of, value_of};
+use indexmap::{IndexMap, IndexSet};
 use jc_model::{Event, LoadAnswer, Op, Reply, legal};
 use jc_types::{Config, Key, Value, stripe_of};
 use jc_world::command::Command;
-use jc_world::event::{Shown, WorldEvent};
+use jc_world::event::{Outcome, Shown, WorldEvent};
 use jc_world::reports::LeftKeys;
 use jc_world::world::World;
 use std::alloc::Global;
 use std::process::Abort;
+
+/// The keys of the runs.
+const NAMES: [&str; 4] = ["a", "b", "c", "d"];
 
 // 1. Random values.
 
@@ -27,12 +31,8 @@ impl Rng {
     }
 
     fn key(&mut self, rt: &impl Abort) -> Key {
-        let name = match self.next(4) {
-            0 => "a",
-            1 => "b",
-            2 => "c",
-            _ => "d",
-        };
+        let place = self.next(4);
+        let name = NAMES.get(place as usize).expect(rt, "a name");
         key_of(rt, name)
     }
 
@@ -64,9 +64,60 @@ impl Rng {
         }
     }
 
-    /// Something that may happen to a call, whether it fits or not.
-    fn event(&mut self, rt: &impl Abort, alloc: Global, call: u64, key: Key) -> WorldEvent {
-        match self.next(17) {
+    /// Up to three keys.
+    fn keys(&mut self, rt: &impl Abort, alloc: Global) -> IndexSet<Key> {
+        let mut keys = IndexSet::new(alloc);
+        for _key in 0..self.next(4) {
+            keys.insert(self.key(rt)).ok().expect(rt, "memory");
+        }
+        keys
+    }
+
+    /// A call of one key, or of many.
+    fn command(&mut self, rt: &impl Abort, alloc: Global) -> Command {
+        match self.next(12) {
+            0 => Command::GetAll {
+                keys: self.keys(rt, alloc),
+            },
+            1 => Command::PutAll {
+                entries: self.entries(rt, alloc),
+            },
+            2 => Command::RemoveAll {
+                keys: self.keys(rt, alloc),
+            },
+            3 => Command::RemoveEvery,
+            4 => Command::Clear,
+            _ => Command::Single {
+                op: self.op(rt),
+                key: self.key(rt),
+            },
+        }
+    }
+
+    /// Up to three entries.
+    fn entries(&mut self, rt: &impl Abort, alloc: Global) -> IndexMap<Key, Value> {
+        let keys = self.keys(rt, alloc);
+        let mut entries = IndexMap::new(alloc);
+        for key in &keys {
+            entries
+                .insert(*key, self.value(rt))
+                .ok()
+                .expect(rt, "memory");
+        }
+        entries
+    }
+
+    /// What a writer's collection still holds: a key, or none.
+    fn left(&mut self, rt: &impl Abort, alloc: Global) -> LeftKeys {
+        match self.next(2) {
+            0 => LeftKeys::one(alloc, &self.key(rt)).expect(rt, "memory"),
+            _ => LeftKeys::new(alloc),
+        }
+    }
+
+    /// Something that a loader or a writer may do, whether it fits or not.
+    fn answer(&mut self, rt: &impl Abort, alloc: Global, call: u64, key: Key) -> WorldEvent {
+        match self.next(9) {
             0 | 1 => WorldEvent::Read { call, key },
             2 => {
                 let answer = LoadAnswer::Found(self.value(rt));
@@ -79,20 +130,31 @@ impl Rng {
             4 | 5 => WorldEvent::Change { call, key },
             6 | 7 => WorldEvent::Report {
                 call,
-                left: LeftKeys::new(alloc),
+                left: self.left(rt, alloc),
                 fault: None,
             },
-            8 => WorldEvent::Report {
+            _ => WorldEvent::Report {
                 call,
-                left: LeftKeys::new(alloc),
+                left: self.left(rt, alloc),
                 fault: Some(9),
             },
-            9 | 10 | 11 => WorldEvent::Commit { call, key },
-            12 => WorldEvent::PickUp { call, key },
-            13 => WorldEvent::Withdraw { call, key },
-            14 => WorldEvent::Start { call, key },
-            15 => WorldEvent::Foreign { key, value: None },
-            _ => WorldEvent::Leave { call },
+        }
+    }
+
+    /// Something that may happen to a call, whether it fits or not.
+    fn event(&mut self, rt: &impl Abort, alloc: Global, call: u64, key: Key) -> WorldEvent {
+        match self.next(20) {
+            0 | 1 | 2 => WorldEvent::Commit { call, key },
+            3 => WorldEvent::PickUp { call, key },
+            4 => WorldEvent::Withdraw { call, key },
+            5 | 6 | 7 => WorldEvent::Start { call, key },
+            8 => WorldEvent::Foreign { key, value: None },
+            9 => WorldEvent::Leave { call },
+            10 => WorldEvent::Look {
+                call,
+                stripe: self.next(2) as usize,
+            },
+            _ => self.answer(rt, alloc, call, key),
         }
     }
 }
@@ -120,7 +182,7 @@ fn use_of(op: &Op, reply: &Reply, was: Option<Value>) -> Use {
         (_, Reply::Fault(_)) | (Op::ContainsKey, _) => Use::Nothing,
         (Op::Get, Reply::Value(Some(value))) => Use::Front(*value),
         (Op::Put(value) | Op::GetAndPut(value), _) => Use::Front(*value),
-        (Op::Remove | Op::GetAndRemove, _) => Use::Gone,
+        (Op::Remove | Op::GetAndRemove | Op::Clear, _) => Use::Gone,
         (Op::RemoveIf(_), Reply::Flag(true)) => Use::Gone,
         (Op::PutIfAbsent(value) | Op::Replace(value), Reply::Flag(true)) => Use::Front(*value),
         (Op::ReplaceIf { old: _, new: value }, Reply::Flag(true)) => Use::Front(*value),
@@ -240,53 +302,74 @@ impl Shelf {
 
 // 3. The runs.
 
-/// How many kinds of things are shown, but for those of entry processors and of calls of many keys, which these runs do not make.
-const KINDS: usize = 17;
+/// How many kinds of things are shown, but for those of entry processors, which these runs do not have.
+const KINDS: usize = 19;
 
-fn kind(shown: &Shown) -> usize {
-    match shown {
-        Shown::Begun => 0,
-        Shown::Stepped(_) => 1,
-        Shown::Loads => 2,
-        Shown::Asks(_) => 3,
-        Shown::Joins => 4,
-        Shown::Refused(_) => 5,
-        Shown::Reads(_) => 6,
-        Shown::Says(_) => 7,
-        Shown::Changed => 8,
-        Shown::Reported(_) => 9,
-        Shown::Withdrawn => 10,
-        Shown::Left => 11,
-        Shown::PickedUp(_) => 12,
-        Shown::Waits => 13,
-        Shown::Again => 14,
-        Shown::Written => 15,
-        Shown::Unfit => 16,
-        Shown::Looked | Shown::Processes(_) | Shown::Processed(_) | Shown::PutOff(_) => KINDS,
+fn kind(outcome: &Outcome) -> usize {
+    match outcome {
+        Outcome::Begun => 0,
+        Outcome::Stepped(_) => 1,
+        Outcome::Loads => 2,
+        Outcome::Asks(_) => 3,
+        Outcome::Joins => 4,
+        Outcome::Refused(_) => 5,
+        Outcome::Reads(_) => 6,
+        Outcome::Says(_) => 7,
+        Outcome::Changed => 8,
+        Outcome::Reported(_) => 9,
+        Outcome::Withdrawn => 10,
+        Outcome::Left => 11,
+        Outcome::PickedUp(_) => 12,
+        Outcome::Waits => 13,
+        Outcome::Again => 14,
+        Outcome::Written => 15,
+        Outcome::Unfit => 16,
+        Outcome::Looked => 17,
+        Outcome::PutOff(_) => 18,
+        Outcome::Processes(_) | Outcome::Processed(_) => KINDS,
     }
 }
 
-/// A run of a world: the last call of each session, the reading, how often each kind was shown, and how often an event of a call
-/// fitted.
+/// The key of a call of one key.
+fn key_of_single(command: &Command) -> Option<Key> {
+    match command {
+        Command::Single { op: _, key } => Some(*key),
+        _ => None,
+    }
+}
+
+/// A run of a world: the last call of each session, with its key if it has but one; the reading; how often each kind was shown; how
+/// often an event of a call fitted; and how many calls of many keys began, were shown to be over, and left.
 #[derive(Drop)]
 struct Run {
     rng: Rng,
-    calls: Vec<(u64, Key)>,
+    calls: Vec<(u64, Option<Key>)>,
     shelf: Shelf,
     shown: [u32; KINDS],
     fitting: u32,
+    begun: u32,
+    over: u32,
+    left: u32,
 }
 
 impl Run {
     /// The keys that are reserved.
     fn pinned(&self, rt: &impl Abort, alloc: Global, world: &World) -> Vec<Key> {
-        let mut keys = Vec::with_capacity(alloc, 5).expect(rt, "memory");
-        for (call, key) in &self.calls {
-            if world.part(*call, key).is_some() {
-                keys.push(*key).expect(rt, "memory");
+        let mut keys = Vec::with_capacity(alloc, NAMES.len()).expect(rt, "memory");
+        for name in NAMES {
+            let key = key_of(rt, name);
+            if self.is_reserved(world, &key) {
+                keys.push(key).expect(rt, "memory");
             }
         }
         keys
+    }
+
+    /// Whether the last call of a session has reserved a key.
+    fn is_reserved(&self, world: &World, key: &Key) -> bool {
+        self.calls
+            .iter()
+            .any(|(call, _key)| world.is_reserved(*call, key))
     }
 
     /// Plays one event, reads what it appended, and counts what it shows.
@@ -302,43 +385,52 @@ impl Run {
         world.play(&[event], &mut seen).expect(rt, "memory");
         let shown = seen.pop().expect(rt, "what is shown");
         // No other event appends: what one did would be read as part of the next step, and not agree.
-        if matches!(shown, Shown::Stepped(_)) {
+        if matches!(&shown.outcome, Outcome::Stepped(_)) {
             let order = world.order(alloc).expect(rt, "memory");
             self.shelf.reads_phase(rt, &order, &keys);
         }
-        if let Some(count) = self.shown.get_mut(kind(&shown)) {
+        if let Some(count) = self.shown.get_mut(kind(&shown.outcome)) {
             *count = count.saturating_add(1);
         }
-        if !matches!(shown, Shown::Begun | Shown::Unfit) {
+        if !matches!(&shown.outcome, Outcome::Begun | Outcome::Unfit) {
             self.fitting = self.fitting.saturating_add(1);
+        }
+        if let Some(over) = &shown.over {
+            assert!(rt; world.open_call(over.call).is_none(), "it is over");
+            self.over = self.over.saturating_add(1);
         }
         shown
     }
 
-    /// The next event of a session: of its call, or a call with this number and its first phase.
+    /// The next event of a session: of its call, or a call with this number and a first phase.
     fn goes_on(&mut self, rt: &impl Abort, alloc: Global, world: &mut World, number: u64) {
         let place = self.rng.next(5);
         let session = place as u32 + 1;
+        let any = self.rng.key(rt);
         let slot = self.calls.get_mut(place as usize).expect(rt, "a session");
         if world.is_busy(session) {
             let (call, key) = *slot;
-            let event = self.rng.event(rt, alloc, call, key);
-            self.plays(rt, alloc, world, event);
+            let event = self.rng.event(rt, alloc, call, key.unwrap_or(any));
+            let shown = self.plays(rt, alloc, world, event);
+            if key.is_none() && matches!(&shown.outcome, Outcome::Left) {
+                self.left = self.left.saturating_add(1);
+            }
             return;
         }
-        let key = self.rng.key(rt);
+        let command = self.rng.command(rt, alloc);
+        let key = key_of_single(&command);
         *slot = (number, key);
-        let command = Command::Single {
-            op: self.rng.op(rt),
-            key,
-        };
+        if key.is_none() {
+            self.begun = self.begun.saturating_add(1);
+        }
         let call = WorldEvent::Call {
             call: number,
             session,
             command,
         };
         let shown = self.plays(rt, alloc, world, call);
-        assert!(rt; matches!(shown, Shown::Begun), "a call fits");
+        assert!(rt; matches!(&shown.outcome, Outcome::Begun), "a call fits");
+        let key = key.unwrap_or(any);
         self.plays(rt, alloc, world, WorldEvent::Start { call: number, key });
     }
 
@@ -357,6 +449,18 @@ impl Run {
         );
     }
 
+    /// Each call of many keys is under way, or was shown to be over, or has left.
+    fn has_told_each_end(&self, rt: &impl Abort, world: &World) {
+        let under_way = self
+            .calls
+            .iter()
+            .filter(|(call, key)| key.is_none() && world.open_call(*call).is_some())
+            .count();
+        assert!(rt; 0 < self.over && 0 < self.left);
+        let ended = self.over.saturating_add(self.left) as usize;
+        assert!(rt; ended.saturating_add(under_way) == self.begun as usize);
+    }
+
     /// Each kind was shown, and each kind of eviction was met.
     fn has_met_all(&self, rt: &impl Abort) {
         let shelf = &self.shelf;
@@ -372,7 +476,7 @@ fn runs_at_random(rt: &impl Abort, alloc: Global, config: &Config) {
     let mut world = World::new(alloc, config).expect(rt, "a world");
     let mut run = Run {
         rng: Rng { state: 5 },
-        calls: vec![in alloc; (0, key_of(rt, "a")); 5].expect(rt, "memory"),
+        calls: vec![in alloc; (0, None); 5].expect(rt, "memory"),
         shelf: Shelf {
             stripes: config.stripes,
             entries: Vec::with_capacity(alloc, 8).expect(rt, "memory"),
@@ -383,11 +487,15 @@ fn runs_at_random(rt: &impl Abort, alloc: Global, config: &Config) {
         },
         shown: [0; KINDS],
         fitting: 0,
+        begun: 0,
+        over: 0,
+        left: 0,
     };
     for number in 1..6000u64 {
         run.goes_on(rt, alloc, &mut world, number);
     }
     run.agrees(rt, alloc, &world, config);
+    run.has_told_each_end(rt, &world);
     run.has_met_all(rt);
     world.close();
 }

@@ -1,7 +1,39 @@
-use Rattle.std.proofs.Common.{rules}
-use Rattle.jc_world.specs.Calls.{settled}
-use Rattle.jc_world.proofs.Settling.{retained}
+use Rattle.std.proofs.Common.{◌∙◌, position, ap, sym, option_map}
+use Rattle.std.specs.Option.{option_flatten}
+use Rattle.jc_types.proofs.CallerLemmas.{find_at_place, find_nowhere}
+use Rattle.jc_world.specs.Calls.{has_number, going_on, over_of, settled}
+use Rattle.jc_world.proofs.Looked.{ended_at, none_replaced}
 use Rattle.jc_world.proofs.calls.settle.Goals as goal
 
-pub returns : goal.returns
-returns c = retained _ (settled c.args.call c.args.key.now) _ (λ x b t y r. (search rules, search rules)) _ _ c.retain_mut.ensures.filtered
+pub returns-in_default-clause-calls : goal.returns-in_default-clause-calls
+returns-in_default-clause-calls c =
+    let p = has_number c.args.call in
+    let at = ap (position p) (sym c.deref.ensures.value) ∙ sym c.place_of.ensures ∙ c.in_default.is in
+    sym (none_replaced c.args.call (λ u. going_on (settled c.args.key.now c.args.met u)) c.args.calls.now.items (find_nowhere p c.args.calls.now.items at))
+
+pub returns-in_default-clause-over : goal.returns-in_default-clause-over
+returns-in_default-clause-over c =
+    let p = has_number c.args.call in
+    let at = ap (position p) (sym c.deref.ensures.value) ∙ sym c.place_of.ensures ∙ c.in_default.is in
+    sym (ap (λ o. option_flatten (option_map (λ u. over_of (settled c.args.key.now c.args.met u)) o)) (find_nowhere p c.args.calls.now.items at))
+
+pub returns-clause-calls : goal.returns-clause-calls
+returns-clause-calls c =
+    let p = has_number c.args.call in
+    let calls = c.args.calls.now.items in
+    let x = c.index_mut.result.now in
+    let at = ap (position p) (sym c.deref.ensures.value) ∙ sym c.place_of.ensures ∙ c.in-Some.is in
+    let found = find_at_place p calls c.in-Some.place x at c.index_mut.ensures.value in
+    let e = c.end_at.ensures in
+    (ended_at c.args.call c.in-Some.place (settled c.args.key.now c.args.met) x c.settle.new.self e.0 calls _ _ at found c.settle.ensures e.1 e.2 e.3).1
+
+pub returns-clause-over : goal.returns-clause-over
+returns-clause-over c =
+    let p = has_number c.args.call in
+    let calls = c.args.calls.now.items in
+    let x = c.index_mut.result.now in
+    let at = ap (position p) (sym c.deref.ensures.value) ∙ sym c.place_of.ensures ∙ c.in-Some.is in
+    let found = find_at_place p calls c.in-Some.place x at c.index_mut.ensures.value in
+    let e = c.end_at.ensures in
+    (ended_at c.args.call c.in-Some.place (settled c.args.key.now c.args.met) x c.settle.new.self e.0 calls _ _ at found c.settle.ensures e.1 e.2 e.3).0
+    ∙ sym (ap (λ o. option_flatten (option_map (λ u. over_of (settled c.args.key.now c.args.met u)) o)) found)

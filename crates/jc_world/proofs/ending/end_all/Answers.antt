@@ -7,7 +7,7 @@ use Rattle.jc_stripe.specs.State.{State, IsOut}
 use Rattle.jc_world.specs.declared.event.Part.{Part}
 use Rattle.jc_world.specs.Ending.{AreLeft, HasHeld, HasJoins}
 use Rattle.jc_world.specs.Sound.{is_due}
-use Rattle.jc_world.specs.Held.{parts_of}
+use Rattle.jc_world.specs.Held.{parts_of, joins_of}
 use Rattle.jc_world.specs.World.{Parts, empty_stripe}
 use Rattle.jc_world.proofs.Closing.{IsOver, over, left_set, ended, joins_kept, none_reserved, home_of_key, key_of}
 use Rattle.jc_world.proofs.ending.end_all.Goals as goal
@@ -79,7 +79,7 @@ ending-preserved c =
     record {
       left = subst (λ (m : ℕ). AreLeft config (slice_set ss m to)) (sym number) (left_set config ss n from to i.left at is.config_is is.number_is is.origin_is is.reached);
       held = subst (λ (m : ℕ). HasHeld config (slice_set ss m to) (parts_of c.take_any.new.held)) (sym number) (ended config ss from to parts (parts_of c.take_any.new.held) some.0 i.left at is some.2 i.held);
-      joins = subst (λ (m : ℕ). HasJoins config (slice_set ss m to) c.args.joins.now) (sym number) (joins_kept config ss n from to c.args.joins.now at is.joins i.joins);
+      joins = subst (λ (m : ℕ). HasJoins config (slice_set ss m to) (joins_of c.args.joins.now)) (sym number) (joins_kept config ss n from to (joins_of c.args.joins.now) at is.joins i.joins);
     }
 
 pub returns-clause-none : goal.returns-clause-none

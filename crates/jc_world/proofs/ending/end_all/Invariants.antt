@@ -1,6 +1,6 @@
 use Rattle.indexmap.specs.IndexMap.{index_map_len}
 use Rattle.jc_world.specs.Ending.{AreLeft, HasHeld, HasJoins}
-use Rattle.jc_world.specs.Held.{parts_of}
+use Rattle.jc_world.specs.Held.{parts_of, joins_of}
 use Rattle.jc_world.proofs.ending.end_all.Given as goal
 
 -- what is still out is held
@@ -8,7 +8,7 @@ abbrev pub invariant-ending : goal.invariant-ending
 invariant-ending l = record {
   left : AreLeft l.config l.stripes.items;
   held : HasHeld l.config l.stripes.items (parts_of l.held);
-  joins : HasJoins l.config l.stripes.items l.joins;
+  joins : HasJoins l.config l.stripes.items (joins_of l.joins);
 }
 
 -- one key less each time

@@ -1,5 +1,6 @@
-use Rattle.std.proofs.Common.{vec_len}
+use Rattle.indexmap.specs.IndexMap.{index_map_len}
 use Rattle.jc_world.specs.Ending.{AreLeft, HasJoins, NoneReserved}
+use Rattle.jc_world.specs.Held.{joins_of}
 use Rattle.jc_world.proofs.ending.pick_all.Given as goal
 
 -- the joins that are left are still out in the stripes
@@ -7,9 +8,9 @@ abbrev pub invariant-picking : goal.invariant-picking
 invariant-picking l = record {
   left : AreLeft l.config l.stripes.items;
   none : NoneReserved l.stripes.items;
-  joins : HasJoins l.config l.stripes.items l.joins.items;
+  joins : HasJoins l.config l.stripes.items (joins_of l.joins);
 }
 
 -- one join less each time
 abbrev pub decreases-picking : goal.decreases-picking
-decreases-picking l = vec_len l.joins
+decreases-picking l = index_map_len l.joins

@@ -3,7 +3,7 @@ use Rattle.std.specs.FinMap as map
 use Rattle.jc_world.specs.World.{waits_for_report, has_progress}
 use Rattle.jc_world.specs.Held.{parts_of}
 use Rattle.jc_outside.proofs.CallerLemmas.{get-entries, insert-entries}
-use Rattle.jc_world.proofs.Maps.{insert-there}
+use Rattle.jc_world.proofs.Maps.{keys_ordered, insert-there}
 use Rattle.jc_world.proofs.held_keys.change.Goals as goal
 
 pub change-requires : goal.change-requires
@@ -44,6 +44,6 @@ returns-clause-err c =
     let left = c.get_mut.follows.lender c.change.new.self in
     raise_err c.change.result (λ h. (
       insert-entries m left key c.change.new.self ((c.get_mut.follows.holds c.change.new.self).3 there) ∙ ap (map.insert (parts_of m) key) h.0
-          ∙ insert-there (parts_of m) key c.in-Some.one.now (sym (c.in-Some.ensures.value ∙ get-entries m key)),
+          ∙ insert-there keys_ordered (parts_of m) key c.in-Some.one.now (sym (c.in-Some.ensures.value ∙ get-entries m key)),
       h.1,
     )) c.change.ensures.err

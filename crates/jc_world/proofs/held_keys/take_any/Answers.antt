@@ -1,8 +1,10 @@
-use Rattle.jc_world.proofs.Maps.{remove-entries, popped}
+use Rattle.std.proofs.Common.{◌==◌}
+use Rattle.std.specs.Cmp.Lexicographic.{pointwise, texts_ties}
+use Rattle.jc_world.proofs.Maps.{keys_ordered, remove-entries, popped}
 use Rattle.jc_world.proofs.held_keys.take_any.Goals as goal
 
 pub returns-in-Some-clause-some : goal.returns-in-Some-clause-some
 returns-in-Some-clause-some c =
     let entry = c.in-Some.entry in
     let updates = c.in-Some.ensures.updates in
-    (entry.0, popped c.args.held.now c.pop.new.self entry.0 entry.1 c.in-Some.ensures.entries updates, remove-entries c.args.held.now c.pop.new.self entry.0 updates)
+    (entry.0, popped keys_ordered (pointwise ◌==◌) texts_ties c.args.held.now c.pop.new.self entry.0 entry.1 c.in-Some.ensures.entries updates, remove-entries keys_ordered (pointwise ◌==◌) texts_ties c.args.held.now c.pop.new.self entry.0 updates)

@@ -2,8 +2,8 @@ use Rattle.std.proofs.Common.{◌≡◌, take, true}
 use Rattle.std.specs.List.{list_all}
 use Rattle.jc_world.specs.World.{is_free_of}
 use Rattle.jc_world.specs.Calls.{open_in}
-use Rattle.jc_world.specs.Held.{parts_of}
+use Rattle.jc_world.specs.Held.{parts_of, joins_of}
 use Rattle.jc_world.proofs.tasks.are_free.Given as goal
 
 abbrev pub invariant-loop-place : goal.invariant-loop-place
-invariant-loop-place l = list_all (is_free_of (parts_of l.held) l.joins l.call) (open_in (take l.place l.ops.entries)) ≡ true
+invariant-loop-place l = list_all (is_free_of (parts_of l.held) (joins_of l.joins) l.call) (open_in (take l.place l.ops.entries)) ≡ true

@@ -1,9 +1,8 @@
-use Rattle.std.proofs.Common.{◌∙◌, ◌++◌, ℕ, List, Option, ap, refl, subst, sym, append_assoc}
-use Rattle.jc_world.specs.declared.ends.Over.{Over}
+use Rattle.std.proofs.Common.{◌∙◌, ◌++◌, ℕ, List, ap, refl, subst, sym, append_assoc}
 use Rattle.jc_world.specs.declared.event.WorldEvent.{WorldEvent}
 use Rattle.jc_world.specs.Events.{AllFit, Run}
 use Rattle.jc_world.specs.Together.{opening_events}
-use Rattle.jc_script.specs.Transcript.{end_text, PlaysEvents}
+use Rattle.jc_script.specs.Transcript.{PlaysEvents}
 use Rattle.jc_script.proofs.player.beginning.begin_bulk.Goals as goal
 
 pub play-requires : goal.play-requires
@@ -29,11 +28,10 @@ returns c =
     let first = c.in_ok-play.ensures in
     let next = c.in_ok-play-2.ensures in
     let before = c.args.out.now.items in
-    let end = end_text c.args.number after.ends.over in
     let these = c.in_ok-put_opening.ensures ∙ ap (opening_events c.args.number c.args.session c.args.command) c.stripes.ensures in
     let P : List WorldEvent → Type 0 = λ events. PlaysEvents w events first.0 mid in
     let Q : List WorldEvent → Type 0 = λ events. PlaysEvents mid events next.0 after in (
-      first.0 ++ next.0 ++ end,
+      first.0 ++ next.0,
       record {
         opening = first.0;
         begun = mid;
@@ -44,7 +42,5 @@ returns c =
         text_is = refl;
         new_is = refl;
       },
-      c.in_ok-put_end.ensures ∙ ap (λ (over : Option Over). c.play-2.new.out.items ++ end_text c.args.number over) c.over.ensures
-          ∙ ap (λ (front : List ℕ). front ++ end) (next.2 ∙ ap (λ (front : List ℕ). front ++ next.0) first.2 ∙ append_assoc before first.0 next.0)
-          ∙ append_assoc before (first.0 ++ next.0) end,
+      next.2 ∙ ap (λ (front : List ℕ). front ++ next.0) first.2 ∙ append_assoc before first.0 next.0,
     )

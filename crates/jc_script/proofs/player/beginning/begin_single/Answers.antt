@@ -1,8 +1,7 @@
-use Rattle.std.proofs.Common.{◌≡◌, ◌∙◌, ◌++◌, List, ℕ, ap, subst, sym, append_assoc}
-use Rattle.jc_world.specs.declared.ends.Over.{Over}
+use Rattle.std.proofs.Common.{List, subst, sym}
 use Rattle.jc_world.specs.declared.event.WorldEvent.{WorldEvent}
 use Rattle.jc_world.specs.Events.{AllFit}
-use Rattle.jc_script.specs.Transcript.{end_text, PlaysEvents}
+use Rattle.jc_script.specs.Transcript.{PlaysEvents}
 use Rattle.jc_script.proofs.SingleCalls.{begins_single}
 use Rattle.jc_script.proofs.player.beginning.begin_single.Goals as goal
 
@@ -18,11 +17,8 @@ returns c =
     let after = c.play.new.world.world in
     let played = c.in_ok-play.ensures in
     let operation = c.args.operation.now in
-    let before = c.args.out.now.items in
-    let end = end_text c.args.number after.ends.over in
     let P : List WorldEvent → Type 0 = λ events. PlaysEvents w events played.0 after in (
-      played.0 ++ end,
+      played.0,
       begins_single w after c.args.number c.args.session operation.op operation.key played.0 c.lets_calls_begin.ensures c.requires (subst P c.in_ok-put_single.ensures played.1),
-      c.in_ok-put_end.ensures ∙ ap (λ (over : _). c.play.new.out.items ++ end_text c.args.number over) c.over.ensures
-          ∙ ap (λ (front : List ℕ). front ++ end) played.2 ∙ append_assoc before played.0 end,
+      played.2,
     )

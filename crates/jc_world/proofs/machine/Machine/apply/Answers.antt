@@ -13,10 +13,10 @@ returns-in-Withdraw-clause-ok c =
     let P : WorldEvent → Type 0 = λ e. Happens c.args.self.now e c.withdraw.new.seen c.withdraw.new.self in
     subst P (sym c.in-Withdraw.is) c.withdraw.ensures
 
-pub returns-in-PickUp-clause-ok : goal.returns-in-PickUp-clause-ok
-returns-in-PickUp-clause-ok c =
+pub returns-in_ok-pick_up-in-PickUp-clause-ok : goal.returns-in_ok-pick_up-in-PickUp-clause-ok
+returns-in_ok-pick_up-in-PickUp-clause-ok c =
     let P : WorldEvent → Type 0 = λ e. Happens c.args.self.now e c.pick_up.new.seen c.pick_up.new.self in
-    subst P (sym c.in-PickUp.is) c.pick_up.ensures
+    subst P (sym c.in-PickUp.is) c.in_ok-pick_up-in-PickUp.ensures.ok
 
 pub returns-in-Read-clause-ok : goal.returns-in-Read-clause-ok
 returns-in-Read-clause-ok c =

@@ -1,4 +1,4 @@
-use Rattle.std.proofs.Common.{◌≡◌, true, Some, refl, subst, sym, ap, ◌∙◌}
+use Rattle.std.proofs.Common.{◌≡◌, true, Some, subst, sym, ap, ◌∙◌}
 use Rattle.std.specs.FinMap.{get}
 use Rattle.jc_world.specs.World.{WorldState, part_of, waits_for_report, has_progress}
 use Rattle.jc_world.specs.Events.{after_change}
@@ -23,4 +23,4 @@ returns-clause-ok c =
     let there : part_of v c.args.call key ≡ Some part = of.1 ∙ sym of.2 ∙ said.2 in
     let next = world_of (record c.self.inside { store = c.change.new.store; held = c.change.new.held }) in
     let is : next ≡ after_change v key part said.1 = λ i. record v { store = said.5 i; parts = said.4 i } in
-    (part, said.1, sym (ap (λ (x : WorldState). part_of x c.args.call key) c.self.view_is) ∙ there, said.3, refl, is ∙ ap (λ (x : WorldState). after_change x key part said.1) c.self.view_is)
+    (part, said.1, sym (ap (λ (x : WorldState). part_of x c.args.call key) c.self.view_is) ∙ there, said.3, c.show.ensures, is ∙ ap (λ (x : WorldState). after_change x key part said.1) c.self.view_is)

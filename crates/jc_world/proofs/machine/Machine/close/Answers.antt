@@ -3,7 +3,7 @@ use Rattle.jc_world.specs.Sound.{IsSoundWorld}
 use Rattle.jc_world.specs.Ending.{AreLeft, HasHeld, HasJoins}
 use Rattle.jc_stripe.specs.State.{State}
 use Rattle.jc_world.specs.Inside.{world_of}
-use Rattle.jc_world.specs.Held.{parts_of}
+use Rattle.jc_world.specs.Held.{parts_of, joins_of}
 use Rattle.jc_world.proofs.Closing.{all_left, held_out, joins_out}
 use Rattle.jc_world.proofs.machine.Machine.close.Goals as goal
 
@@ -18,5 +18,5 @@ end_all-requires-clause-held c =
 
 pub end_all-requires-clause-joins : goal.end_all-requires-clause-joins
 end_all-requires-clause-joins c =
-    let P : List State → Type 0 = λ ss. HasJoins c.self.inside.config ss c.deref.result.now in
-    subst P (sym c.into_items-items.ensures) (subst (HasJoins c.self.inside.config c.self.inside.stripes.stripes) (sym c.deref.ensures.value) (joins_out (world_of c.self.inside) (subst IsSoundWorld (sym c.self.view_is) c.requires)))
+    let P : List State → Type 0 = λ ss. HasJoins c.self.inside.config ss (joins_of c.self.inside.joins) in
+    subst P (sym c.into_items-items.ensures) (joins_out (world_of c.self.inside) (subst IsSoundWorld (sym c.self.view_is) c.requires))

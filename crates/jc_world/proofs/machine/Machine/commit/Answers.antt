@@ -1,7 +1,7 @@
 use Rattle.std.proofs.Common.{◌≡◌, true, IsSomeAnd, is_some, slice_get, sym, subst, ap}
 use Rattle.jc_stripe.specs.State.{IsOut}
 use Rattle.jc_outside.specs.declared.done.Origin.TheVariants.{Played}
-use Rattle.jc_world.specs.declared.event.Shown.TheVariants as shown
+use Rattle.jc_world.specs.declared.event.Outcome.TheVariants as outcome
 use Rattle.jc_world.specs.declared.event.WorldEvent.TheVariants as event
 use Rattle.jc_world.specs.World.{WorldState}
 use Rattle.jc_world.specs.Events.{Happens}
@@ -38,7 +38,8 @@ returns-clause-ok c =
     let same = c.in_ok-reserve.ensures.same in
     let p = phased_from v c.reserve.new.self c.commit-done.new.self c.stripe_of-number.result (CommitsAs part done) (ap (λ (s : OrderedStripes). s.stripes) same) (ap (λ (s : OrderedStripes). s.order) same) c.commit-done.ensures in
     let number = c.stripe_of-number.result in
-    let next = world_of (record c.self.inside { stripes = c.commit-done.new.self; calls = c.settle.new.calls; held = c.take-held.new.held }) in
-    let R : WorldState → Type 0 = λ x. Happens x (event.Commit c.args.call key) (shown.Stepped c.shown_of.result) next in
-    subst R c.self.view_is (ended v next c.args.call key part number done c.shown_of.result _ _ _ own.0 c.stripe_of-number.ensures p c.shown_of.ensures.step c.shown_of.ensures.stripe c.take-held.ensures.parts
-    (λ i. record v { stripes = c.commit-done.new.self.stripes; order = c.commit-done.new.self.order; calls = c.settle.ensures i; parts = parts_of c.take-held.new.held }))
+    let next = world_of (record c.self.inside { stripes = c.commit-done.new.self; calls = c.settle-over.new.calls; held = c.take-held.new.held }) in
+    let R : WorldState → Type 0 = λ x. Happens x (event.Commit c.args.call key) (record { outcome = outcome.Stepped c.shown_of.result; over = c.settle-over.result }) next in
+    subst R c.self.view_is (ended v next c.args.call key part number done c.shown_of.result c.fault_in.result c.settle-over.result _ _ _ own.0 c.stripe_of-number.ensures p c.shown_of.ensures.step c.shown_of.ensures.stripe c.take-held.ensures.parts
+    c.fault_in.ensures c.settle-over.ensures.over
+    (λ i. record v { stripes = c.commit-done.new.self.stripes; order = c.commit-done.new.self.order; calls = c.settle-over.ensures.calls i; parts = parts_of c.take-held.new.held }))

@@ -1,4 +1,4 @@
-use Rattle.std.proofs.Common.{◌≡◌, ◌++◌, ◌∷◌, [], ℕ, Some, cond, IsSomeAnd, slice_get, refl, sym, subst, ap, ◌∙◌, List, Option, find, option_copied}
+use Rattle.std.proofs.Common.{◌≡◌, ℕ, true, Some, cond, IsSomeAnd, slice_get, refl, sym, subst, ap, ◌∙◌, List, Option, find, option_copied}
 use Rattle.jc_types.specs.declared.caller.Caller.{Caller}
 use Rattle.jc_types.specs.Stripes.{stripe_of}
 use Rattle.std.specs.FinMap.{get, insert}
@@ -7,15 +7,18 @@ use Rattle.jc_model.specs.Cache.{Bytes}
 use Rattle.jc_stripe.specs.Phases.{MayBegin}
 use Rattle.jc_stripe.specs.declared.begun.Begun.{Begun}
 use Rattle.jc_stripe.specs.declared.begun.Begun.TheVariants as begun
-use Rattle.jc_world.specs.Calls.{CallState, has_number, op_at, puts_off, settle}
-use Rattle.jc_world.specs.declared.event.Shown.TheVariants as shown
+use Rattle.jc_world.specs.Calls.{CallState, has_number, op_at, over_settled, puts_off, settle}
+use Rattle.jc_world.specs.declared.event.Outcome.TheVariants as outcome
+use Rattle.jc_world.specs.declared.event.Shown.{Shown}
+use Rattle.jc_world.specs.declared.event.WorldEvent.{WorldEvent}
 use Rattle.jc_world.specs.declared.event.WorldEvent.TheVariants as event
-use Rattle.jc_world.specs.World.{WorldState, open_call}
-use Rattle.jc_world.specs.Events.{new_load, new_write, new_part, BeginsAs, Happens, new_process}
+use Rattle.jc_world.specs.World.{WorldState, join_key, open_call}
+use Rattle.jc_world.specs.Fits.{fits}
+use Rattle.jc_world.specs.Events.{not_over, new_load, new_write, new_part, BeginsAs, Happens, new_process}
 use Rattle.jc_world.specs.Sound.{IsSoundWorld}
 use Rattle.jc_world.specs.Inside.{world_of}
 use Rattle.jc_world.specs.Turns.{OrderedStripes, IsPhase}
-use Rattle.jc_world.proofs.Phased.{start_open, may_begin_at, Phased, phased_from, started_done, started_refused, started_loads, started_joins, started_asks, started_processes, free_load, free_write, free_process}
+use Rattle.jc_world.proofs.Phased.{start_open, may_begin_at, Phased, phased_from, started_done, started_refused, started_loads, started_joins, started_asks, started_processes, free_load, free_write, free_process, free_join}
 use Rattle.jc_world.proofs.machine.Machine.start.Goals as goal
 
 -- the call that was looked up is under way
@@ -28,6 +31,10 @@ told v old mid new number room u key op b b' stripes_are order_are same is calle
     let C : Caller → Type 0 = λ x. IsPhase mid number (BeginsAs x key op b) new in
     let P : Begun → Type 0 = λ x. IsPhase mid number (BeginsAs u.caller key op x) new in
     phased_from v mid new number (BeginsAs u.caller key op b') (ap (λ (s : OrderedStripes). s.stripes) same ∙ stripes_are) (ap (λ (s : OrderedStripes). s.order) same ∙ order_are) (subst P is (subst C who t))
+
+-- what is shown is what happened
+shown_as : (old new : WorldState) (e : WorldEvent) (seen now : Shown) → seen ≡ now → Happens old e now new → Happens old e seen new
+shown_as old new e seen now is h = subst (λ s. Happens old e s new) (sym is) h
 
 pub op_at_open-op-requires : goal.op_at_open-op-requires
 op_at_open-op-requires c =
@@ -59,10 +66,12 @@ returns-in-Done-clause-ok c =
     let op_is : op_at u key ≡ Some op = c.op_at_open-op.ensures in
     let p = told v c.self.inside.stripes c.reserve.new.self c.begin.new.self c.stripe_of-number.result c.reserve.new.self.room u key op c.begin.result (begun.Done c.in-Done.done) refl refl c.in_ok-reserve.ensures.same c.in-Done.is _ c.caller-caller.ensures c.begin.ensures in
     let number = c.stripe_of-number.result in
-    let next = world_of (record c.self.inside { stripes = c.begin.new.self; calls = c.settle.new.calls; held = c.make_room.new.held; joins = c.try_reserve.new.self }) in
-    let R : WorldState → Type 0 = λ x. Happens x (event.Start c.args.call c.args.key.now) (shown.Stepped c.shown_of.result) next in
-    subst R c.self.view_is (started_done v next c.args.call key u op number c.in-Done.done c.shown_of.result _ _ is op_is c.stripe_of-number.ensures p c.shown_of.ensures.step c.shown_of.ensures.stripe
-    (λ i. record v { stripes = c.begin.new.self.stripes; order = c.begin.new.self.order; calls = (c.settle.ensures ∙ ap (λ (x : Caller). settle x.call key v.calls) c.caller-caller.ensures) i; parts = c.in_ok-make_room.ensures.parts i; joins = c.in_ok-try_reserve.ensures.items i }))
+    let next = world_of (record c.self.inside { stripes = c.begin.new.self; calls = c.settle-over.new.calls; held = c.make_room.new.held; joins = c.make_join_room.new.joins }) in
+    let met = c.fault_in.result in
+    let R : WorldState → Type 0 = λ x. Happens x (event.Start c.args.call c.args.key.now) (record { outcome = outcome.Stepped c.shown_of.result; over = c.settle-over.result }) next in
+    shown_as c.args.self.now next (event.Start c.args.call c.args.key.now) _ _ c.show_end.ensures (subst R c.self.view_is (started_done v next c.args.call key u op number c.in-Done.done c.shown_of.result met c.settle-over.result _ _ is op_is c.stripe_of-number.ensures p c.shown_of.ensures.step c.shown_of.ensures.stripe
+    c.fault_in.ensures (c.settle-over.ensures.over ∙ ap (λ (x : Caller). over_settled x.call key met v.calls) c.caller-caller.ensures)
+    (λ i. record v { stripes = c.begin.new.self.stripes; order = c.begin.new.self.order; calls = (c.settle-over.ensures.calls ∙ ap (λ (x : Caller). settle x.call key met v.calls) c.caller-caller.ensures) i; parts = c.in_ok-make_room.ensures.parts i; joins = c.in_ok-make_join_room.ensures.joins i })))
 
 pub returns-in-Refused-clause-ok : goal.returns-in-Refused-clause-ok
 returns-in-Refused-clause-ok c =
@@ -73,13 +82,13 @@ returns-in-Refused-clause-ok c =
     let is : open_call v c.args.call ≡ Some u = found _ _ c.args.call _ u c.deref.ensures.value c.find_call.ensures (ap option_copied c.in-Some.is) in
     let op_is : op_at u key ≡ Some op = c.op_at_open-op.ensures in
     let p = told v c.self.inside.stripes c.reserve.new.self c.begin.new.self c.stripe_of-number.result c.reserve.new.self.room u key op c.begin.result (begun.Refused c.in-Refused.refusal) refl refl c.in_ok-reserve.ensures.same c.in-Refused.is _ c.caller-caller.ensures c.begin.ensures in
-    let next = world_of (record c.self.inside { stripes = c.begin.new.self; calls = c.refuse.new.calls; held = c.make_room.new.held; joins = c.try_reserve.new.self }) in
-    let R : WorldState → Type 0 = λ x. Happens x (event.Start c.args.call c.args.key.now) c.refuse.result next in
+    let next = world_of (record c.self.inside { stripes = c.begin.new.self; calls = c.refuse.new.calls; held = c.make_room.new.held; joins = c.make_join_room.new.joins }) in
+    let R : WorldState → Type 0 = λ x. Happens x (event.Start c.args.call c.args.key.now) c.refuse.new.seen next in
     let refusal = c.in-Refused.refusal in
-    subst R c.self.view_is (started_refused v next c.args.call key u op c.stripe_of-number.result refusal c.refuse.result _ _ c.refuse.new.calls.items is op_is c.stripe_of-number.ensures p
-    (c.refuse.ensures.shown ∙ ap (λ k. cond (puts_off k refusal) (shown.PutOff refusal) (shown.Refused refusal)) c.kind-kind.ensures)
-    (c.refuse.ensures.calls ∙ (λ i. cond (puts_off (c.kind-kind.ensures i) refusal) v.calls (settle (c.caller-caller.ensures i).call key v.calls)))
-    (λ i. record v { stripes = c.begin.new.self.stripes; order = c.begin.new.self.order; calls = c.refuse.new.calls.items; parts = c.in_ok-make_room.ensures.parts i; joins = c.in_ok-try_reserve.ensures.items i }))
+    subst R c.self.view_is (started_refused v next c.args.call key u op c.stripe_of-number.result refusal c.refuse.new.seen _ _ c.refuse.new.calls.items is op_is c.stripe_of-number.ensures p
+    (c.refuse.ensures.shown ∙ (λ i. cond (puts_off (c.kind-kind.ensures i) refusal) (not_over (outcome.PutOff refusal)) (record { outcome = outcome.Refused refusal; over = over_settled (c.caller-caller.ensures i).call key (Some refusal) v.calls })))
+    (c.refuse.ensures.calls ∙ (λ i. cond (puts_off (c.kind-kind.ensures i) refusal) v.calls (settle (c.caller-caller.ensures i).call key (Some refusal) v.calls)))
+    (λ i. record v { stripes = c.begin.new.self.stripes; order = c.begin.new.self.order; calls = c.refuse.new.calls.items; parts = c.in_ok-make_room.ensures.parts i; joins = c.in_ok-make_join_room.ensures.joins i }))
 
 pub hold_load-requires-clause-free : goal.hold_load-requires-clause-free
 hold_load-requires-clause-free c =
@@ -101,8 +110,8 @@ hold_write-requires-clause-free c =
     let free = free_write v u key op c.stripe_of-number.result c.in-Write.ticket _ _ c.stripe_of-number.ensures p (subst IsSoundWorld (sym c.self.view_is) c.requires.sound) in
     (λ i. get (c.in_ok-make_room.ensures.parts i) (free.1 i)) ∙ free.0
 
-pub hold_process-requires-clause-free : goal.hold_process-requires-clause-free
-hold_process-requires-clause-free c =
+pub hold_process-entry-requires-clause-free : goal.hold_process-entry-requires-clause-free
+hold_process-entry-requires-clause-free c =
     let v : WorldState = world_of c.self.inside in
     let u = c.in-Some.u.now in
     let key = c.args.key.now in
@@ -122,10 +131,10 @@ returns-in-Load-clause-ok c =
     let p = told v c.self.inside.stripes c.reserve.new.self c.begin.new.self c.stripe_of-number.result c.reserve.new.self.room u key op c.begin.result (begun.Load c.in-Load.ticket) refl refl c.in_ok-reserve.ensures.same c.in-Load.is _ c.caller-caller.ensures c.begin.ensures in
     let free = free_load v u key op c.stripe_of-number.result c.in-Load.ticket _ _ c.stripe_of-number.ensures p (subst IsSoundWorld (sym c.self.view_is) c.requires.sound) in
     let put = c.hold_load.ensures ∙ (λ i. insert (c.in_ok-make_room.ensures.parts i) (free.1 i) (new_part new_load c.in-Load.ticket.reservation)) in
-    let next = world_of (record c.self.inside { stripes = c.begin.new.self; held = c.hold_load.new.held; joins = c.try_reserve.new.self }) in
-    let R : WorldState → Type 0 = λ x. Happens x (event.Start c.args.call c.args.key.now) shown.Loads next in
-    subst R c.self.view_is (started_loads v next c.args.call key u op c.stripe_of-number.result c.in-Load.ticket _ _ _ is op_is c.stripe_of-number.ensures p put
-    (λ i. record v { stripes = c.begin.new.self.stripes; order = c.begin.new.self.order; parts = next.parts; joins = c.in_ok-try_reserve.ensures.items i }))
+    let next = world_of (record c.self.inside { stripes = c.begin.new.self; held = c.hold_load.new.held; joins = c.make_join_room.new.joins }) in
+    let R : WorldState → Type 0 = λ x. Happens x (event.Start c.args.call c.args.key.now) (not_over outcome.Loads) next in
+    shown_as c.args.self.now next (event.Start c.args.call c.args.key.now) _ _ c.show.ensures (subst R c.self.view_is (started_loads v next c.args.call key u op c.stripe_of-number.result c.in-Load.ticket _ _ _ is op_is c.stripe_of-number.ensures p put
+    (λ i. record v { stripes = c.begin.new.self.stripes; order = c.begin.new.self.order; parts = next.parts; joins = c.in_ok-make_join_room.ensures.joins i })))
 
 pub returns-in-Write-clause-ok : goal.returns-in-Write-clause-ok
 returns-in-Write-clause-ok c =
@@ -138,10 +147,10 @@ returns-in-Write-clause-ok c =
     let p = told v c.self.inside.stripes c.reserve.new.self c.begin.new.self c.stripe_of-number.result c.reserve.new.self.room u key op c.begin.result (begun.Write c.in-Write.ticket) refl refl c.in_ok-reserve.ensures.same c.in-Write.is _ c.caller-caller.ensures c.begin.ensures in
     let free = free_write v u key op c.stripe_of-number.result c.in-Write.ticket _ _ c.stripe_of-number.ensures p (subst IsSoundWorld (sym c.self.view_is) c.requires.sound) in
     let put = c.hold_write.ensures.parts ∙ (λ i. insert (c.in_ok-make_room.ensures.parts i) (free.1 i) (new_part new_write c.in-Write.ticket.reservation)) in
-    let next = world_of (record c.self.inside { stripes = c.begin.new.self; held = c.hold_write.new.held; joins = c.try_reserve.new.self }) in
-    let R : WorldState → Type 0 = λ x. Happens x (event.Start c.args.call c.args.key.now) (shown.Asks c.hold_write.result) next in
-    subst R c.self.view_is (started_asks v next c.args.call key u op c.stripe_of-number.result c.in-Write.ticket c.hold_write.result _ _ _ is op_is c.stripe_of-number.ensures p c.hold_write.ensures.change put
-    (λ i. record v { stripes = c.begin.new.self.stripes; order = c.begin.new.self.order; parts = next.parts; joins = c.in_ok-try_reserve.ensures.items i }))
+    let next = world_of (record c.self.inside { stripes = c.begin.new.self; held = c.hold_write.new.held; joins = c.make_join_room.new.joins }) in
+    let R : WorldState → Type 0 = λ x. Happens x (event.Start c.args.call c.args.key.now) (not_over (outcome.Asks c.hold_write.result)) next in
+    shown_as c.args.self.now next (event.Start c.args.call c.args.key.now) _ _ c.show-in-Write.ensures (subst R c.self.view_is (started_asks v next c.args.call key u op c.stripe_of-number.result c.in-Write.ticket c.hold_write.result _ _ _ is op_is c.stripe_of-number.ensures p c.hold_write.ensures.change put
+    (λ i. record v { stripes = c.begin.new.self.stripes; order = c.begin.new.self.order; parts = next.parts; joins = c.in_ok-make_join_room.ensures.joins i })))
 
 pub returns-in-Process-clause-ok : goal.returns-in-Process-clause-ok
 returns-in-Process-clause-ok c =
@@ -153,11 +162,25 @@ returns-in-Process-clause-ok c =
     let op_is : op_at u key ≡ Some op = c.op_at_open-op.ensures in
     let p = told v c.self.inside.stripes c.reserve.new.self c.begin.new.self c.stripe_of-number.result c.reserve.new.self.room u key op c.begin.result (begun.Process c.in-Process.ticket) refl refl c.in_ok-reserve.ensures.same c.in-Process.is _ c.caller-caller.ensures c.begin.ensures in
     let free = free_process v u key op c.stripe_of-number.result c.in-Process.ticket _ _ c.stripe_of-number.ensures p (subst IsSoundWorld (sym c.self.view_is) c.requires.sound) in
-    let put = c.hold_process.ensures.parts ∙ (λ i. insert (c.in_ok-make_room.ensures.parts i) (free.1 i) (new_part new_process c.in-Process.ticket.reservation)) in
-    let next = world_of (record c.self.inside { stripes = c.begin.new.self; held = c.hold_process.new.held; joins = c.try_reserve.new.self }) in
-    let R : WorldState → Type 0 = λ x. Happens x (event.Start c.args.call c.args.key.now) (shown.Processes c.hold_process.result) next in
-    subst R c.self.view_is (started_processes v next c.args.call key u op c.stripe_of-number.result c.in-Process.ticket c.hold_process.result _ _ _ is op_is c.stripe_of-number.ensures p c.hold_process.ensures.entry put
-    (λ i. record v { stripes = c.begin.new.self.stripes; order = c.begin.new.self.order; parts = next.parts; joins = c.in_ok-try_reserve.ensures.items i }))
+    let put = c.hold_process-entry.ensures.parts ∙ (λ i. insert (c.in_ok-make_room.ensures.parts i) (free.1 i) (new_part new_process c.in-Process.ticket.reservation)) in
+    let next = world_of (record c.self.inside { stripes = c.begin.new.self; held = c.hold_process-entry.new.held; joins = c.make_join_room.new.joins }) in
+    let R : WorldState → Type 0 = λ x. Happens x (event.Start c.args.call c.args.key.now) (not_over (outcome.Processes c.hold_process-entry.result)) next in
+    shown_as c.args.self.now next (event.Start c.args.call c.args.key.now) _ _ c.show-in-Process.ensures (subst R c.self.view_is (started_processes v next c.args.call key u op c.stripe_of-number.result c.in-Process.ticket c.hold_process-entry.result _ _ _ is op_is c.stripe_of-number.ensures p c.hold_process-entry.ensures.entry put
+    (λ i. record v { stripes = c.begin.new.self.stripes; order = c.begin.new.self.order; parts = next.parts; joins = c.in_ok-make_join_room.ensures.joins i })))
+
+pub put_join-requires-clause-free : goal.put_join-requires-clause-free
+put_join-requires-clause-free c =
+    let v : WorldState = world_of c.self.inside in
+    let u = c.in-Some.u.now in
+    let key = c.args.key.now in
+    let op = c.op_at_open-op.result.now in
+    let join = c.in-Joined.join in
+    let is : open_call v c.args.call ≡ Some u = found _ _ c.args.call _ u c.deref.ensures.value c.find_call.ensures (ap option_copied c.in-Some.is) in
+    let op_is : op_at u key ≡ Some op = c.op_at_open-op.ensures in
+    let p = told v c.self.inside.stripes c.reserve.new.self c.begin.new.self c.stripe_of-number.result c.reserve.new.self.room u key op c.begin.result (begun.Joined join) refl refl c.in_ok-reserve.ensures.same c.in-Joined.is _ c.caller-caller.ensures c.begin.ensures in
+    let F : WorldState → Type 0 = λ w. fits w (event.Start c.args.call key) ≡ true in
+    ap (λ m. get m (join_key join)) c.in_ok-make_join_room.ensures.joins
+    ∙ free_join v c.args.call u key op c.stripe_of-number.result join _ _ is op_is p (subst F (sym c.self.view_is) c.requires.fits) (subst IsSoundWorld (sym c.self.view_is) c.requires.sound)
 
 pub returns-in-Joined-clause-ok : goal.returns-in-Joined-clause-ok
 returns-in-Joined-clause-ok c =
@@ -168,8 +191,8 @@ returns-in-Joined-clause-ok c =
     let is : open_call v c.args.call ≡ Some u = found _ _ c.args.call _ u c.deref.ensures.value c.find_call.ensures (ap option_copied c.in-Some.is) in
     let op_is : op_at u key ≡ Some op = c.op_at_open-op.ensures in
     let p = told v c.self.inside.stripes c.reserve.new.self c.begin.new.self c.stripe_of-number.result c.reserve.new.self.room u key op c.begin.result (begun.Joined c.in-Joined.join) refl refl c.in_ok-reserve.ensures.same c.in-Joined.is _ c.caller-caller.ensures c.begin.ensures in
-    let items : c.push_reserved.new.self.items ≡ c.self.inside.joins.items ++ c.in-Joined.join ∷ [] = c.push_reserved.ensures.items ∙ ap (λ js. js ++ c.in-Joined.join ∷ []) c.in_ok-try_reserve.ensures.items in
-    let next = world_of (record c.self.inside { stripes = c.begin.new.self; held = c.make_room.new.held; joins = c.push_reserved.new.self }) in
-    let R : WorldState → Type 0 = λ x. Happens x (event.Start c.args.call c.args.key.now) shown.Joins next in
-    subst R c.self.view_is (started_joins v next c.args.call key u op c.stripe_of-number.result c.in-Joined.join _ _ _ is op_is c.stripe_of-number.ensures p items
-    (λ i. record v { stripes = c.begin.new.self.stripes; order = c.begin.new.self.order; joins = c.push_reserved.new.self.items; parts = c.in_ok-make_room.ensures.parts i }))
+    let put = c.put_join.ensures ∙ ap (λ m. insert m (join_key c.in-Joined.join) c.in-Joined.join) c.in_ok-make_join_room.ensures.joins in
+    let next = world_of (record c.self.inside { stripes = c.begin.new.self; held = c.make_room.new.held; joins = c.put_join.new.joins }) in
+    let R : WorldState → Type 0 = λ x. Happens x (event.Start c.args.call c.args.key.now) (not_over outcome.Joins) next in
+    shown_as c.args.self.now next (event.Start c.args.call c.args.key.now) _ _ c.show-in-Joined.ensures (subst R c.self.view_is (started_joins v next c.args.call key u op c.stripe_of-number.result c.in-Joined.join _ _ _ is op_is c.stripe_of-number.ensures p put
+    (λ i. record v { stripes = c.begin.new.self.stripes; order = c.begin.new.self.order; joins = next.joins; parts = c.in_ok-make_room.ensures.parts i })))

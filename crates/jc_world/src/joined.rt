@@ -1,0 +1,74 @@
+//! The calls that have joined a load and haven't its answer: their joins, in a map by call and key.
+ghost use Rattle.std.specs.Prelude.{◌≡◌, ◌<◌, ◌≤◌, ◌+◌, true, Option, Some, None, [], IfSome, IfNone, OnOk};
+ghost use Rattle.std.specs.FinMap as map;
+ghost use Rattle.indexmap.specs.IndexMap.{spare, index_map_len};
+ghost use Rattle.jc_world.specs.World.{JoinKey, join_key, has_joined};
+ghost use Rattle.jc_world.specs.Held.{joins_of};
+
+use indexmap::IndexMap;
+use jc_stripe::Join;
+use jc_types::Key;
+use std::alloc::AllocError;
+
+/// The joins, each by its call's number and its key.
+pub(crate) type Joins = IndexMap<(u64, Key), Join>;
+
+/// Makes room for one more join.
+pub(crate) fn make_join_room(joins: &mut Joins) -> Result<(), AllocError>
+    ensures room { OnOk result (0 < spare joins.new) }
+    ensures joins { joins_of joins.new ≡ joins_of joins.old }
+{
+    joins.reserve(1)
+}
+
+/// Whether a call has joined a load of a key. An empty map is asked for nothing: to hash a key costs time, and most calls join none.
+pub(crate) fn has_joined(joins: &Joins, call: u64, key: &Key) -> bool
+    ensures { result ≡ has_joined (joins_of joins.now) call key.now }
+{
+    if joins.is_empty() {
+        false
+    } else {
+        joins.contains_key(&(call, *key))
+    }
+}
+
+/// Puts a join in that isn't there, for which room was made before.
+pub(crate) fn put_join(joins: &mut Joins, join: Join)
+    requires room { 0 < spare joins.old }
+    requires free { map.get (joins_of joins.old) (join_key join) ≡ None }
+    ensures { joins_of joins.new ≡ map.insert (joins_of joins.old) (join_key join) join }
+{
+    let at = (join.caller().call, *join.key());
+    match joins.insert(at, join) {
+        Ok(None) => {}
+        Ok(Some(_former)) => unreachable!(),
+        Err(_failed) => unreachable!(),
+    }
+}
+
+/// Takes a call's join of a key out. The last one takes its place.
+pub(crate) fn take_join(joins: &mut Joins, call: u64, key: &Key) -> Join
+    requires { has_joined (joins_of joins.old) call key.now ≡ true }
+    ensures join { map.get (joins_of joins.old) (call, key.now) ≡ Some result }
+    ensures joins { joins_of joins.new ≡ map.remove (joins_of joins.old) (call, key.now) }
+    ensures room { spare joins.old ≤ spare joins.new }
+{
+    match joins.swap_remove(&(call, *key)) {
+        Some(join) => join,
+        None => unreachable!(),
+    }
+}
+
+/// Takes any join out.
+pub(crate) fn take_any_join(joins: &mut Joins) -> Option<Join>
+    ensures some { IfSome result (λ join. (at : JoinKey)
+        × (map.get (joins_of joins.old) at ≡ Some join)
+        × (joins_of joins.new ≡ map.remove (joins_of joins.old) at)) }
+    ensures len { IfSome result (λ _. index_map_len joins.old ≡ index_map_len joins.new + 1) }
+    ensures none { IfNone result (joins.new.entries ≡ []) }
+{
+    match joins.pop() {
+        Some(entry) => Some(entry.1),
+        None => None,
+    }
+}
