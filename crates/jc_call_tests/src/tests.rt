@@ -23,6 +23,7 @@ mod outside;
 mod scripted;
 mod scripted_writer;
 mod stores;
+mod tour;
 mod writing_all;
 
 use answers::{answer_of, called, first_word, key, value};

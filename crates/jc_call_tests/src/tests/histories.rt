@@ -6,14 +6,25 @@ use super::*;
 use jc_model::{Event, LoadAnswer, legal};
 use jc_types::Caller;
 
-/// The events of the one stripe.
-fn events(alloc: Global, cache: &Cache) -> Result<Vec<Event>, AllocError>
-    requires { 0 < cache.now.config.stripes }
+/// The events of one stripe.
+fn events(alloc: Global, cache: &Cache, number: usize) -> Result<Vec<Event>, AllocError>
+    requires { number < cache.now.config.stripes }
 {
-    let stripe = cache.stripe(0);
+    let stripe = cache.stripe(number);
     let mut events = Vec::new(alloc);
     stripe.append_events(0, stripe.events_len(), &mut events)?;
     Ok(events)
+}
+
+/// Each stripe has so many events, and they are a legal history of a stripe that began empty.
+pub fn are_legal(rt: &impl Abort, alloc: Global, cache: &Cache, counts: &[usize]) {
+    let config = *cache.config();
+    is(rt, counts.len(), config.stripes);
+    for number in 0..config.stripes {
+        let events = events(alloc, cache, number).expect(rt, "memory");
+        is(rt, Some(events.len()), counts.get(number).copied());
+        assert!(rt; legal(alloc, &config, &[], &events).expect(rt, "memory"));
+    }
 }
 
 /// Whose call an event is of, if it is a step, and what its loader answered.
@@ -42,7 +53,7 @@ fn says_who_called_and_what_was_loaded(rt: HostRuntime) {
     desk.call(&rt, &mut cache, &mut session, "remove a = true | 0 0 0");
     desk.call(&rt, &mut cache, &mut session, "get a = 2 | 0 0 0");
     desk.call(&rt, &mut cache, &mut session, "get a = 2 | 0 0 0");
-    let events = events(alloc, &cache).expect(&rt, "memory");
+    let events = events(alloc, &cache, 0).expect(&rt, "memory");
     assert!(rt; legal(alloc, &config, &[], &events).expect(&rt, "memory"));
     let steps = [
         (1, LoadAnswer::Found(value(&rt, "1"))),

@@ -49,7 +49,7 @@ fn are(rt: &impl Abort, results: &Results, line: &str) {
 
 impl Desk {
     /// Runs the processor that a line says. The call is to answer what the line says, and the counts are to be these afterwards.
-    fn invoke_all<R: Abort + Wait>(
+    pub(super) fn invoke_all<R: Abort + Wait>(
         &self,
         rt: &R,
         alloc: Global,
