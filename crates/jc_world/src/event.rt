@@ -11,7 +11,6 @@ use crate::reports::{LeftKeys, Reported};
 use jc_model::{Change, LoadAnswer, ProcessAnswer, Reply, WriteAnswer};
 use jc_stripe::{Eviction, Reservation};
 use jc_types::{Caller, Key, Refusal, Value};
-use std::mem;
 
 /// What may happen next. An event that names a call is about a call under way, but for `Call`. What doesn't fit is shown as
 /// `Outcome::Unfit`, and changes nothing.
@@ -266,13 +265,6 @@ pub(crate) fn nothing_shown() -> Shown
         outcome: Outcome::Unfit,
         over: None,
     }
-}
-
-/// Takes what was shown out.
-pub(crate) fn take_shown(seen: &mut Shown) -> Shown
-    ensures { result ≡ seen.old }
-{
-    mem::replace(seen, nothing_shown())
 }
 
 /// A key that a call has reserved: for what, and how far that is.

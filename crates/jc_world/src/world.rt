@@ -11,7 +11,7 @@ ghost use Rattle.jc_world.specs.Coherent.{all_hold, Coherent};
 ghost use Rattle.jc_world.specs.Audit.{IsOrder, HasShares, IsAudit};
 
 use crate::audit::Audit;
-use crate::event::{Part, PickedUp, Shown, Stepped, WorldEvent, nothing_shown, take_shown};
+use crate::event::{Part, PickedUp, Shown, Stepped, WorldEvent, nothing_shown};
 use crate::machine::Machine;
 use crate::open_call::OpenCall;
 use crate::reports::ReportedKey;
@@ -103,10 +103,10 @@ impl World {
         keeps_reserved();
         self.played = 0;
         shown.try_reserve(events.len())?;
-        let mut seen = nothing_shown();
         for event in events {
+            let mut seen = nothing_shown();
             self.machine.step(event, &mut seen)?;
-            shown.push_reserved(take_shown(&mut seen));
+            shown.push_reserved(seen);
             self.played += 1;
         }
         Ok(())

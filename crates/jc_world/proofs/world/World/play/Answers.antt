@@ -14,7 +14,7 @@ loop-event-preserved c =
       run = (
         first ++ seen ∷ [],
         run-more c.args.self.now.world c.loop-event.self-inside.machine c.step.new.self c.args.events.now index c.event-item.result first seen c.loop-event-test.true c.event-item.is i.run.1 c.in_ok-step.ensures.step,
-        c.push_reserved.ensures.items ∙ ap (λ (s : Shown). c.loop-event.shown.items ++ s ∷ []) c.take_shown.ensures ∙ ap (λ (ss : List Shown). ss ++ seen ∷ []) i.run.2 ∙ append_assoc c.args.shown.now.items first (seen ∷ []),
+        c.push_reserved.ensures.items ∙ ap (λ (ss : List Shown). ss ++ seen ∷ []) i.run.2 ∙ append_assoc c.args.shown.now.items first (seen ∷ []),
       );
       sound = sound_step (record { stays = c.stays_reached.ensures; kept = c.keeps_reserved.ensures }) c.loop-event.self-inside.machine c.event-item.result seen c.step.new.self c.in_ok-step.ensures.step i.sound;
       taken = ap (λ n. n + 1) i.taken;
