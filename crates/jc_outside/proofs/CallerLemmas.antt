@@ -22,19 +22,17 @@ use Rattle.std.specs.Ordering.{eq_by_cmp}
 use Rattle.std.specs.List.{list_any, IsDistinct, AllByRecursion}
 use Rattle.std.specs.Cmp.{IsTotalOrder, eq_by_cmp_equiv, Equal-is}
 use Rattle.std.specs.Cmp.Lexicographic.{pointwise, texts_ties}
-use Rattle.std.specs.Map.{lookup, keys_of}
+use Rattle.std.specs.Map.{lookup}
 use Rattle.std.specs.FinMap as map
 use Rattle.std.specs.FinMap.{FinMap, IsAntisymmetric, find, insert, remove, same_map, from_entries, get-from_entries, get-insert, get-remove}
 use Rattle.std.proofs.lemmas.Cmp.{nat_list_cmp_total, nat_list_eq_equiv}
 use Rattle.std.proofs.lemmas.List.{nil_from_length}
 use Rattle.std.proofs.lemmas.Map.Keys.{IsDistinct-head, IsDistinct-tail}
 use Rattle.std.proofs.lemmas.Map.Lookups.{exact_bytes}
-use Rattle.std.proofs.lemmas.Map.Made.{is_some-lookup}
 use Rattle.std.proofs.lemmas.Option.{slice_get_read}
-use Rattle.indexmap.specs.IndexMap.{IndexMap, get, index_map_len, insert_entry, Updates}
-use Rattle.indexmap.proofs.CallerLemmas.{insert_entry-new}
-use Rattle.jc_types.proofs.CallerLemmas.{none_from}
+use Rattle.indexmap.specs.IndexMap.{IndexMap, get, index_map_len, Updates}
 use Rattle.jc_model.specs.Cache.{Bytes, key_cmp}
+pub use Rattle.jc_batch.proofs.CallerLemmas.{entry_last}
 
 -- 1. Orders of keys.
 
@@ -167,7 +165,3 @@ not_before (x ∷ keys) (suc i) key d at =
 -- of the key that a walk has come to
 pub new_at : (keys : List Bytes) (i : ℕ) (key : Bytes) → IsDistinct (pointwise ◌==◌) keys → i < length keys → key ≡ get_or keys i key → list_any (pointwise ◌==◌ key) (take i keys) ≡ false
 new_at keys i key d near is = not_before keys i key d (slice_get_read keys (length keys) i key refl near is)
-
-pub entry_last : {X S : Type 0} (m : IndexMap Bytes X S) (key : Bytes) (x : X) → list_any (pointwise ◌==◌ key) (keys_of m.entries) ≡ false
-    → insert_entry (pointwise ◌==◌) m.entries key x ≡ m.entries ++ (key, x) ∷ []
-entry_last m key x new = insert_entry-new (pointwise ◌==◌) m key x (none_from (lookup (pointwise ◌==◌ key) m.entries) (is_some-lookup (pointwise ◌==◌ key) m.entries ∙ new))
