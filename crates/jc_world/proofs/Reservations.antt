@@ -16,6 +16,7 @@ use Rattle.jc_model.specs.declared.event.Op.TheVariants.{Get, ContainsKey}
 use Rattle.jc_model.specs.Cache.{Bytes, key_cmp, entry_at}
 use Rattle.jc_model.specs.Table.{always_if}
 use Rattle.jc_model.proofs.CallerLemmas.{same_key}
+use Rattle.jc_stripe.proofs.CallerLemmas.{asks_none, answering_asks}
 use Rattle.jc_stripe.specs.declared.ticket.Reservation.{Reservation}
 use Rattle.jc_stripe.specs.Tickets.{asks_writer}
 use Rattle.jc_stripe.specs.State.{State, is_key, is_reserved, without_key}
@@ -47,23 +48,6 @@ pick true true true other h e = cc
 -- a call that is not refused at a reserved key needs no free key
 needs_none : (s : State) (caller : Caller) (key : Bytes) (op : Op) → first_refusal s caller key op ≡ None → is_reserved s key ≡ true → needs_free_key s key op ≡ false
 needs_none s caller key op none there = pick (has_room s caller.call (places_needed (needs_free_key s key op))) (is_reserved s key) (needs_free_key s key op) _ none there
-
--- if there is nothing to write, nobody is asked
-asks_none : (b : Bool) → writer_for (cond b None None) ≡ Nobody
-asks_none true = refl
-asks_none false = refl
-
--- a `Get` that answers at once asks nobody
-get_asks : (read write : Bool) (entry : Option Bytes) → (is_some entry || not read) ≡ true → first_by (always_if (read && is_none entry)) (cond write None None) ≡ Nobody
-get_asks true write (Some x) h = asks_none write
-get_asks true write None h = cc
-get_asks false write entry h = asks_none write
-
--- what answers at once asks nobody
-answering_asks : (config : Config) (op : Op) (entry : Option Bytes) → answers_at_once config op entry ≡ true → first_asked config op entry ≡ Nobody
-answering_asks config Get entry h = get_asks config.read_through config.write_through entry h
-answering_asks config ContainsKey entry h = asks_none config.write_through
-answering_asks config op entry h = cc
 
 -- what needs no free key and joins no load answers at once
 only_answers : (answers : Bool) (load : Option ℕ) → not (answers || is_some load) ≡ false → load ≡ None → answers ≡ true
