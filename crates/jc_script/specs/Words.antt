@@ -23,7 +23,7 @@
 --                              once
 --     with_key, key_onto       the keys so far, with one more, and with that of one more word: one that is among them already is a
 --                              fault
---     keys_from, keys_of
+--     keys_from, distinct_keys_of
 --                              the keys so far with those of more words, and the keys of some words
 --     said_after, said         what pairs say of a key, after an answer so far, and from the beginning: the last pair with it
 --                              counts
@@ -155,8 +155,8 @@ key_onto keys word = do
 abbrev pub keys_from : List Bytes → List (List ℕ) → Result (List Bytes) Fault
 keys_from keys words = words_onto key_onto keys words
 
-abbrev pub keys_of : List (List ℕ) → Result (List Bytes) Fault
-keys_of words = keys_from [] words
+abbrev pub distinct_keys_of : List (List ℕ) → Result (List Bytes) Fault
+distinct_keys_of words = keys_from [] words
 
 -- a later pair with the key takes the place of an answer so far
 abbrev pub said_after : LoadAnswer → Pairs → Bytes → LoadAnswer
