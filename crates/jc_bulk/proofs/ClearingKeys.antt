@@ -25,7 +25,7 @@ use Rattle.jc_session.specs.declared.session.Session.{Session}
 use Rattle.jc_cache.specs.Caches.{CacheState}
 use Rattle.jc_cache.specs.Calls.{next_call, ClearsAt}
 use Rattle.jc_cache.specs.Sessions.{LeavesSessions}
-use Rattle.jc_cache.specs.Whole.{Ends}
+use Rattle.jc_cache.specs.Whole.{EndsCall}
 use Rattle.jc_bulk.specs.Bulk.{AreLooked, clear_ops}
 use Rattle.jc_bulk.specs.Clearing.{ClearsEach, Clears}
 use Rattle.jc_bulk.specs.Ends.{KeyEnd, key_ops, failed_entries}
@@ -86,12 +86,12 @@ then_err (Err e) f h = f e h
 is_unit : (r : Reply) (key : Bytes) → r ≡ reply.Unit → All (λ (e : Bytes × Refusal). e.1 ≡ HistoryFull) (failed_entries (record { key = key; op = Clear; ended = Ok r } ∷ []))
 is_unit r key is = subst (λ x. All (λ (e : Bytes × Refusal). e.1 ≡ HistoryFull) (failed_entries (record { key = key; op = Clear; ended = Ok x } ∷ []))) (sym is) (All-nil (λ (e : Bytes × Refusal). e.1 ≡ HistoryFull))
 
-full_end : (a b : State) (caller : Caller) (key : Bytes) (ended : Result Reply Refusal) → Ends a caller key Clear nothing_said ended b → IfErr ended (λ why. why ≡ HistoryFull)
+full_end : (a b : State) (caller : Caller) (key : Bytes) (ended : Result Reply Refusal) → EndsCall a caller key Clear nothing_said ended b → IfErr ended (λ why. why ≡ HistoryFull)
     → All (λ (e : Bytes × Refusal). e.1 ≡ HistoryFull) (failed_entries (record { key = key; op = Clear; ended = ended } ∷ []))
 full_end a b caller key (Ok r) ends why = is_unit r key (sym ends.1.reply_is ∙ ends.1.steps.reply)
 full_end a b caller key (Err refusal) ends why = All-cons (λ (e : Bytes × Refusal). e.1 ≡ HistoryFull) (key, refusal) [] why (All-nil (λ (e : Bytes × Refusal). e.1 ≡ HistoryFull))
 
-pub all_full : (a b : State) (caller : Caller) (key : Bytes) (ended : Result Reply Refusal) (failed now : List (Bytes × Refusal)) → Ends a caller key Clear nothing_said ended b → IfErr ended (λ why. why ≡ HistoryFull)
+pub all_full : (a b : State) (caller : Caller) (key : Bytes) (ended : Result Reply Refusal) (failed now : List (Bytes × Refusal)) → EndsCall a caller key Clear nothing_said ended b → IfErr ended (λ why. why ≡ HistoryFull)
     → All (λ (e : Bytes × Refusal). e.1 ≡ HistoryFull) failed → now ≡ failed ++ failed_entries (record { key = key; op = Clear; ended = ended } ∷ []) → All (λ (e : Bytes × Refusal). e.1 ≡ HistoryFull) now
 all_full a b caller key ended failed now ends why full is =
     subst (All (λ (e : Bytes × Refusal). e.1 ≡ HistoryFull)) (sym is) (All-append (λ (e : Bytes × Refusal). e.1 ≡ HistoryFull) failed (failed_entries (record { key = key; op = Clear; ended = ended } ∷ [])) full (full_end a b caller key ended ends why))

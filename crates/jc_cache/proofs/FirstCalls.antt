@@ -16,7 +16,7 @@ use Rattle.jc_stripe.specs.OwnSteps.{CallerNumbers, HasNoCallFrom}
 use Rattle.jc_session.specs.Counting.{counts_begun}
 use Rattle.jc_session.specs.declared.session.Session.{Session}
 use Rattle.jc_cache.specs.OnePhase.{MakesPhase}
-use Rattle.jc_cache.specs.Whole.{Ends, IsCall, own_after}
+use Rattle.jc_cache.specs.Whole.{EndsCall, IsCall, own_after}
 use Rattle.jc_cache.proofs.Others.{leaves_others}
 use Rattle.jc_cache.proofs.SessionAfter.{after_first}
 
@@ -24,7 +24,7 @@ module _ {I J : Type 0} {D : I → Type 0} {E : J → Type 0}
     (loads : LoadRelation ((i : I) × D i)) (load_state : (i : I) × D i → List ℕ)
     (writes : WriteRelation ((j : J) × E j)) (write_state : (j : J) × E j → List ℕ) where
   abbrev pub first_call : {finds leaves : State → Type 0} {phase : State → State → Type 0} (old new : Session I J D E) (key : Bytes) (op : Op) (ended : Result Reply Refusal) → OnePhase
-      → (h : MakesPhase finds leaves old.caller.session phase) → Ends h.before old.caller key op nothing_said ended h.after
+      → (h : MakesPhase finds leaves old.caller.session phase) → EndsCall h.before old.caller key op nothing_said ended h.after
       → (HasNoCallFrom h.before old.caller.session old.caller.call → HasNoCallFrom h.after old.caller.session (old.caller.call + 1))
       → new ≡ record old { counts = record old.counts { own = own_after old.counts.own ended } } → old.hands.held ≡ 0
       → IsCall loads load_state writes write_state finds leaves old key op ended new
