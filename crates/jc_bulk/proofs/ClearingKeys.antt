@@ -24,7 +24,6 @@ use Rattle.jc_stripe.specs.State.{State}
 use Rattle.jc_session.specs.declared.session.Session.{Session}
 use Rattle.jc_cache.specs.Caches.{CacheState}
 use Rattle.jc_cache.specs.Calls.{next_call, ClearsAt}
-use Rattle.jc_cache.specs.Sessions.{LeavesSessions}
 use Rattle.jc_cache.specs.Whole.{EndsCall}
 use Rattle.jc_bulk.specs.Bulk.{AreLooked, clear_ops}
 use Rattle.jc_bulk.specs.Clearing.{ClearsEach, Clears}

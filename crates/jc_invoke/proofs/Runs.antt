@@ -1,7 +1,7 @@
 -- A call at many keys, one key more.
 --     runs_push    where it ended at some keys, and then at one more, it ended at all of these
 --     as_many      each key ended in one way
-use Rattle.std.proofs.Common.{◌≡◌, ◌==◌, ℕ, List, [], ◌∷◌, ◌++◌, length, suc, Result, refl, ap, ◌∙◌, subst}
+use Rattle.std.proofs.Common.{◌≡◌, ℕ, List, [], ◌∷◌, ◌++◌, length, suc, Result, refl, ap, subst}
 use Rattle.jc_types.specs.declared.refusal.Refusal.{Refusal}
 use Rattle.jc_model.specs.declared.event.Reply.{Reply}
 use Rattle.jc_model.specs.Cache.{Bytes}
@@ -10,7 +10,6 @@ use Rattle.jc_mutentry.specs.Running.{ProcessRelation}
 use Rattle.jc_session.specs.declared.session.Session.{Session}
 use Rattle.jc_cache.specs.Caches.{CacheState}
 use Rattle.jc_cache.specs.Calls.{InvokesAt}
-use Rattle.jc_cache.specs.Sessions.{LeavesSessions}
 use Rattle.jc_invoke.specs.ManyKeys.{IsRefusedFull, InvokesEach}
 
 module _ {I J P : Type 0} {D : I → Type 0} {E : J → Type 0}

@@ -8,11 +8,10 @@ use Rattle.std.proofs.lemmas.Cmp.{nat_list_eq_equiv}
 use Rattle.std.proofs.lemmas.List.Folds.{find-append}
 use Rattle.std.proofs.lemmas.Bool.{false_from_ne_true}
 use Rattle.jc_types.specs.declared.caller.Caller.{Caller}
-use Rattle.jc_types.specs.declared.config.Config.{Config}
 use Rattle.jc_types.specs.declared.refusal.Refusal.{Refusal}
 use Rattle.jc_types.specs.declared.refusal.Refusal.TheVariants as refusal
 use Rattle.jc_model.specs.declared.event.Op.{Op}
-use Rattle.jc_model.specs.declared.event.Op.TheVariants.{Get, ContainsKey}
+use Rattle.jc_model.specs.declared.event.Op.TheVariants.{Get}
 use Rattle.jc_model.specs.Cache.{Bytes, key_cmp, entry_at}
 use Rattle.jc_model.specs.Table.{always_if}
 use Rattle.jc_model.proofs.CallerLemmas.{same_key}
@@ -20,7 +19,7 @@ use Rattle.jc_stripe.proofs.CallerLemmas.{asks_none, answering_asks}
 use Rattle.jc_stripe.specs.declared.ticket.Reservation.{Reservation}
 use Rattle.jc_stripe.specs.Tickets.{asks_writer}
 use Rattle.jc_stripe.specs.State.{State, is_key, is_reserved, without_key}
-use Rattle.jc_stripe.specs.Refusals.{first_refusal, first_asked, first_by, writer_for, reserves, has_room, places_needed, answers_at_once, needs_free_key, load_joined}
+use Rattle.jc_stripe.specs.Refusals.{first_refusal, first_asked, first_by, reserves, has_room, places_needed, answers_at_once, needs_free_key, load_joined}
 use Rattle.jc_stripe.specs.declared.ticket.First.{First}
 use Rattle.jc_stripe.specs.declared.ticket.First.TheVariants.{Nobody, Loader}
 use Rattle.jc_world.proofs.Joiners.{find_kept}
