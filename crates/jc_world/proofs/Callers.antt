@@ -2,61 +2,14 @@
 --     order_over, order_started, order_ended, order_withdrawn, order_picks, order_left     after each kind of event
 --     order_happens, order_opened     after any event that fits, and after an entry of the store's opening
 --     order_is, has_shares            the order is one legal history over all stripes, and each stripe's history is its part of it
-use Rattle.std.proofs.Common.{inl, inr, ◌⊎◌, ◌≡◌, ◌==◌, ◌&&◌, ◌||◌, ◌+◌, ◌%◌, ◌<◌, ℕ, zero, suc, sum, List, [], ◌∷◌, ◌++◌, length, Bool, true, false, cond, not, Option, None, Some, IsSomeAnd, option_map, find, slice_get, slice_set, is_none, nat_lt, refl, sym, ap, ◌∙◌, subst, arith}
-use Rattle.std.specs.List.{list_all}
-use Rattle.std.specs.Ordering.{eq_by_cmp}
-use Rattle.std.specs.Cmp.{eq_by_cmp_equiv}
-use Rattle.std.specs.Cmp.Lexicographic.{pointwise, texts_ties}
-use Rattle.std.proofs.lemmas.Bool.{eqb-true, and_parts, false_from_ne_true, not-true}
-use Rattle.std.proofs.lemmas.Cmp.{nat_list_cmp_total, nat_list_eq_equiv}
-use Rattle.std.specs.FinMap.{get, insert, remove, get-insert, get-remove, empty, from_entries}
-use Rattle.jc_world.proofs.Numbered.{some_of}
-use Rattle.jc_types.proofs.CallerLemmas.{all_imply}
-use Rattle.jc_types.specs.declared.caller.Caller.{Caller}
-use Rattle.jc_types.specs.declared.refusal.Refusal.{Refusal}
-use Rattle.jc_types.specs.declared.config.Config.{Config}
-use Rattle.jc_model.specs.declared.event.Op.{Op}
-use Rattle.jc_model.specs.declared.event.Op.TheVariants.{Get}
-use Rattle.jc_model.specs.declared.event.Out.{Out}
-use Rattle.jc_model.specs.declared.event.Event.{Event}
-use Rattle.jc_model.specs.Cache.{Bytes, Cache, key_cmp}
-use Rattle.jc_model.specs.Group.{nothing_said, events_of}
-use Rattle.jc_model.specs.Legal.{IsHistory, of_stripe}
-use Rattle.jc_model.proofs.CallerLemmas.{empty_opens}
-use Rattle.jc_stripe.specs.declared.ticket.Reservation.{Reservation}
-use Rattle.jc_stripe.specs.declared.begun.StepDone.{StepDone}
+use Rattle.jc_world.proofs.Common.{◌≡◌, ℕ, zero, suc, ◌+◌, ◌%◌, ◌<◌, Bool, true, false, cond, not, ◌&&◌, ◌||◌, ◌⊎◌, List, [], ◌∷◌, ◌++◌, length, is_none, IsSomeAnd, nat_lt, ◌==◌, slice_get, slice_set, Some, None, sum, Option, option_map, find, sym, refl, ap, ◌∙◌, subst, inl, inr, arith, not-true, eqb-true, and_parts, false_from_ne_true, nat_list_cmp_total, nat_list_eq_equiv, eq_by_cmp_equiv, pointwise, texts_ties, empty, get, insert, remove, from_entries, get-insert, get-remove, list_all, eq_by_cmp, all_imply, Caller, Config, Refusal, empty_opens, Bytes, Cache, key_cmp, nothing_said, events_of, of_stripe, IsHistory, Event, Op, Get, Out, belongs_to, is_waiting, waits_for, callers_of, after_resolve, JoinState, Again, Answered, Waiting, Joiner, StaysReached, IsSameStripe, Extends, may_come_all, new_group, Steps, with_joiner, Begins, after_commit, Commits, Withdraws, without_joiner, PicksUp, JoinFits, IsReached, reserves, State, is_of, is_key, is_reserved, with_reservation, without_key, IsOut, Ticket, ProcessClaim, JoinClaim, Picked, StepDone, Loader, Reservation, Outcome, Part, Premises, Progress, Shown, WorldEvent, cache_in, cache_at, IsOrder, HasShares, SweepState, CallState, has_number, op_at, op_for, open_keys, is_turn, going_on, with_met, replaced, settle, with_found, with_stripe, with_phase, step_of, fault_in, with_settled, with_met_by, without_call, with_look, new_load, new_write, new_process, new_part, with_part, without_part, with_join, without_join, Starts, Ends, Picks, Happens, is_free, may_leave, fits, IsStripe, is_up_to, has_answer, has_parked_answer, is_served_in, is_served, FitsKey, FitsCall, CallsFit, Each, IsHeld, IsCallOf, IsOwned, AllOwned, IsCalled, IsSoundWorld, Parts, Joins, WorldState, home, stripe_for, open_call, part_of, out_of, join_of, is_joined, with_stored}
 use Rattle.jc_stripe.specs.declared.begun.Begun.TheVariants as begun
-use Rattle.jc_stripe.specs.declared.ticket.First.TheVariants.{Loader}
-use Rattle.jc_inflight.specs.declared.joiner.Joiner.{Joiner}
-use Rattle.jc_inflight.specs.declared.joiner.JoinState.{JoinState}
-use Rattle.jc_inflight.specs.declared.joiner.JoinState.TheVariants.{Waiting, Answered, Again}
-use Rattle.jc_inflight.specs.Joining.{belongs_to as is_joiner_of, is_waiting, waits_for, callers_of}
-use Rattle.jc_inflight.specs.Resolving.{after_resolve as resolved}
-use Rattle.jc_inflight.specs.Taking.{without_joiner as without}
-use Rattle.jc_stripe.specs.declared.begun.Picked.{Picked}
 use Rattle.jc_stripe.specs.declared.begun.Picked.TheVariants as picked
-use Rattle.jc_stripe.specs.Tickets.{Ticket, ProcessClaim, JoinClaim}
-use Rattle.jc_stripe.specs.State.{State, is_key, is_of, is_reserved, with_reservation, without_key, IsOut}
-use Rattle.jc_stripe.specs.Refusals.{reserves}
-use Rattle.jc_stripe.specs.Phases.{Begins, Commits, Withdraws, PicksUp, Steps, new_group, after_commit, with_joiner, without_joiner}
-use Rattle.jc_stripe.specs.Laws.{IsSameStripe, Extends, StaysReached}
-use Rattle.jc_stripe.specs.Reached.{IsReached, JoinFits}
-use Rattle.jc_stripe.specs.OwnSteps.{may_come_all}
-use Rattle.jc_world.specs.declared.event.Part.{Part}
-use Rattle.jc_world.specs.declared.event.Progress.{Progress}
-use Rattle.jc_world.specs.declared.event.Premises.{Premises}
-use Rattle.jc_world.specs.declared.event.Shown.{Shown}
-use Rattle.jc_world.specs.declared.event.Outcome.{Outcome}
 use Rattle.jc_world.specs.declared.event.Outcome.TheVariants as outcome
-use Rattle.jc_world.specs.Calls.{CallState, SweepState, has_number, open_keys, op_at, op_for, is_turn, settle, going_on, with_found, with_met, replaced}
-use Rattle.jc_world.specs.declared.event.WorldEvent.{WorldEvent}
 use Rattle.jc_world.specs.declared.event.WorldEvent.TheVariants as event
-use Rattle.jc_world.specs.World.{WorldState, Parts, home, stripe_for, open_call, part_of, Joins, is_joined, join_of, out_of, with_stored}
-use Rattle.jc_world.specs.Fits.{is_free, may_leave, fits}
-use Rattle.jc_world.specs.Events.{fault_in, with_met_by, with_stripe, with_phase, with_settled, without_call, with_look, new_load, new_write, new_part, with_part, without_part, with_join, without_join, step_of, Starts, Ends, Picks, Happens, new_process}
-use Rattle.jc_world.specs.Audit.{cache_in, cache_at, IsOrder, HasShares}
-use Rattle.jc_world.specs.Sound.{IsStripe, is_up_to, has_answer, has_parked_answer, is_served_in, is_served, FitsKey, FitsCall, CallsFit, IsCallOf, IsHeld, IsOwned, AllOwned, IsCalled, IsSoundWorld, Each}
-use Rattle.jc_world.proofs.Halves.{HasOrder, order_half, order_half}
+use Rattle.jc_world.proofs.Numbered.{some_of}
+use Rattle.jc_inflight.specs.Taking.{without_joiner as without}
+use Rattle.jc_world.proofs.Halves.{HasOrder, order_half}
 use Rattle.jc_world.proofs.Returns.{IsReport}
 use Rattle.jc_world.proofs.Places.{at_stripe, stripe_put}
 use Rattle.jc_world.proofs.Reservations.{out_reserved, was_free, writer_alone}
@@ -404,13 +357,13 @@ pub record Ending (w : WorldState) (call : ℕ) (key : Bytes) (met : Option Refu
   pub left : to.reservations ≡ without_key key from.reservations
 
 -- each joiner that waits for the load gets its answer
-caller_put : (w : WorldState) (key : Bytes) (from to : State) (met : Option Refusal) (call load place : ℕ) (j : Joiner) (k : Bytes) → stripe_for w key ≡ Some from → to.joiners ≡ resolved load place from.joiners
+caller_put : (w : WorldState) (key : Bytes) (from to : State) (met : Option Refusal) (call load place : ℕ) (j : Joiner) (k : Bytes) → stripe_for w key ≡ Some from → to.joiners ≡ after_resolve load place from.joiners
     → joiner_of j.caller j.key from.joiners ≡ Some j → IsCalled w (home w key) j → j.key ≡ k → waits_for load j ≡ true → IsPut w (ended_world w key from to call met) call key j.caller k
 caller_put w key from to met call load place j k there joiners own h key_is waits =
     let n = ended_world w key from to call met in
     let v = some_of (open_call w j.caller.call) (IsCallOf j.caller.session j.key Get) h.call in
     let before : is_served w j.caller j.key ≡ has_parked_answer (Some j) = ap (λ o. is_served_in o j.caller j.key) (ap (slice_get w.stripes) h.home_is ∙ there) ∙ ap has_parked_answer own in
-    let after : is_served n j.caller j.key ≡ has_parked_answer (joiner_of j.caller j.key (resolved load place from.joiners)) =
+    let after : is_served n j.caller j.key ≡ has_parked_answer (joiner_of j.caller j.key (after_resolve load place from.joiners)) =
     ap (λ o. is_served_in o j.caller j.key) (ap (slice_get n.stripes) h.home_is ∙ stripe_put w.stripes (home w key) from to there) ∙ ap (λ js. has_parked_answer (joiner_of j.caller j.key js)) joiners
     in
     record {
@@ -436,7 +389,7 @@ ending w call key met part from to done is part_call r_key there out steps owned
     let n = ended_world w key from to call met in
     let alone : is_joined w r.caller.call r.key ≡ false = (λ i. is_joined w (part_call i) (r_key i)) ∙ false_from_ne_true (is_joined w call key) (λ t. let e : Some part ≡ None = sym is ∙ joined_no_part w call key t old.joins in cc) in
     let one : IsPut w n call key r.caller r.key = record { v = u.0; here = u.1; session_is = u.2.0; op = r.op; op_is = u.2.1; unserved = unserved w r.caller r.key alone old; over = inl (part_call, r_key) } in
-    let joiners : to.joiners ≡ resolved r.number done.place from.joiners = ap (λ (s : State). s.joiners) steps.after in
+    let joiners : to.joiners ≡ after_resolve r.number done.place from.joiners = ap (λ (s : State). s.joiners) steps.after in
     let at = old.shape.each (home w key) from there in
     let P : Caller → Type 0 = λ c. IsPut w n call key c r.key in
     let J : Joiner → Type 0 = λ j. JoinFits from j j.state × IsCalled w (home w key) j in
@@ -506,8 +459,8 @@ order_withdrawn stays w key claim from to key_is there h old =
 -- what is parked for another call, or at another key, stays if one has its answer
 told_without : (one other : Caller) (key k : Bytes) (js : List Joiner) → (other.call ≡ one.call → k ≡ key → ⊥) → has_parked_answer (joiner_of other k js) ≡ true → has_parked_answer (joiner_of other k (without one key js)) ≡ true
 told_without one other key k js apart h =
-    ap has_parked_answer (find_kept (is_joiner_of other k) (λ j. not (is_joiner_of one key j)) js (λ x t.
-    ap not (false_from_ne_true (is_joiner_of one key x) (λ e.
+    ap has_parked_answer (find_kept (belongs_to other k) (λ j. not (belongs_to one key j)) js (λ x t.
+    ap not (false_from_ne_true (belongs_to one key x) (λ e.
     let mine = and_parts ((x.caller.session == other.session) && (x.caller.call == other.call)) (pointwise ◌==◌ k x.key) t in
     let its = and_parts ((x.caller.session == one.session) && (x.caller.call == one.call)) (pointwise ◌==◌ key x.key) e in
     let my_call : x.caller.call ≡ other.call = eqb-true x.caller.call other.call (and_parts (x.caller.session == other.session) (x.caller.call == other.call) mine.0).1 in

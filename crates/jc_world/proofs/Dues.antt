@@ -3,33 +3,9 @@
 --     due_run                    the progress of a key once its processor has run
 --     dues_reported              the writer has returned for a key
 --     dues_happens               any event that fits
-use Rattle.std.proofs.Common.{◌≡◌, ℕ, true, Option, None, Some, is_none, is_some, option_map, refl, sym, ap, ◌∙◌, subst}
-use Rattle.std.specs.FinMap.{get, insert, remove, get-empty}
-use Rattle.jc_types.specs.declared.caller.Caller.{Caller}
-use Rattle.jc_types.specs.declared.config.Config.{Config}
-use Rattle.jc_model.specs.declared.event.Op.{Op}
-use Rattle.jc_model.specs.declared.event.Change.{Change}
-use Rattle.jc_model.specs.declared.event.WriteAnswer.{WriteAnswer}
-use Rattle.jc_model.specs.Cache.{Bytes, key_cmp, entry_at}
-use Rattle.jc_mutentry.specs.Done.{ProcessResult}
-use Rattle.jc_stripe.specs.declared.ticket.Reservation.{Reservation}
-use Rattle.jc_stripe.specs.Effects.{change_due}
-use Rattle.jc_stripe.specs.State.{State}
-use Rattle.jc_stripe.specs.Tickets.{JoinClaim}
-use Rattle.jc_types.specs.declared.refusal.Refusal.TheVariants.{WriterFailed}
-use Rattle.jc_world.specs.declared.event.Part.{Part}
-use Rattle.jc_world.specs.declared.event.Progress.{Progress}
-use Rattle.jc_world.specs.declared.event.Progress.TheVariants.{Loading, Writing, Processing, Processed, WritingEffect}
-use Rattle.jc_world.specs.declared.event.Shown.{Shown}
-use Rattle.jc_world.specs.declared.event.Outcome.{Outcome}
+use Rattle.jc_world.proofs.Common.{◌≡◌, ℕ, true, is_some, is_none, Some, None, Option, option_map, sym, refl, ap, ◌∙◌, subst, get, insert, remove, get-empty, Caller, Config, WriterFailed, Bytes, entry_at, key_cmp, Change, Op, WriteAnswer, ProcessResult, change_due, State, JoinClaim, Reservation, Outcome, Part, Progress, Loading, Processed, Processing, Writing, WritingEffect, Shown, WorldEvent, open_keys, with_met_by, new_load, new_write, new_process, new_part, Starts, Ends, Picks, with_change, with_report, after_report, reported_keys, keys_reported, run_result, progress_after, Happens, load_from, report_for, is_due_in, is_due, AllDue, Parts, WorldState, start, part_of}
 use Rattle.jc_world.specs.declared.event.Outcome.TheVariants as outcome
-use Rattle.jc_world.specs.declared.event.WorldEvent.{WorldEvent}
 use Rattle.jc_world.specs.declared.event.WorldEvent.TheVariants as event
-use Rattle.jc_world.specs.World.{WorldState, Parts, start, part_of}
-use Rattle.jc_world.specs.Calls.{open_keys}
-use Rattle.jc_world.specs.Premises.{load_from, report_for}
-use Rattle.jc_world.specs.Events.{with_met_by, with_change, with_report, new_load, new_write, new_process, new_part, run_result, progress_after, after_report, reported_keys, keys_reported, Starts, Ends, Picks, Happens}
-use Rattle.jc_world.specs.Sound.{is_due_in, is_due, AllDue}
 use Rattle.jc_world.proofs.Holding.{is_part}
 use Rattle.jc_world.proofs.Maps.{keys_ordered, each_put, each_left}
 use Rattle.jc_world.proofs.Returns.{each_report}

@@ -1,35 +1,8 @@
 -- What a step leaves of each entry, and what of that the store says.
-use Rattle.std.proofs.Common.{◌≡◌, ◌==◌, ◌&&◌, List, Bool, true, false, cond, Option, None, Some, is_some, is_none, refl, sym, ap, ◌∙◌, subst}
-use Rattle.std.specs.Ordering.{eq_by_cmp}
-use Rattle.std.proofs.lemmas.Cmp.{nat_list_cmp_total}
-use Rattle.std.specs.FinMap.{remove, len, get-remove}
-use Rattle.std.proofs.lemmas.Bool.{and_parts}
-use Rattle.jc_types.specs.declared.caller.Caller.{Caller}
-use Rattle.jc_types.specs.declared.config.Config.{Config}
-use Rattle.jc_model.specs.declared.event.Op.{Op}
-use Rattle.jc_model.specs.declared.event.Op.TheVariants.{Get, ContainsKey, Put, GetAndPut, PutIfAbsent, Remove, RemoveIf, GetAndRemove, Replace, ReplaceIf, GetAndReplace, Clear, LoadAll, Invoke}
-use Rattle.jc_model.specs.declared.event.Out.{Out}
-use Rattle.jc_model.specs.declared.event.Change.{Change}
-use Rattle.jc_model.specs.declared.event.Change.TheVariants.{Write, Delete}
-use Rattle.jc_model.specs.declared.event.LoadAnswer.{LoadAnswer}
+use Rattle.jc_world.proofs.Common.{◌≡◌, Bool, true, false, cond, ◌&&◌, List, is_some, is_none, ◌==◌, Some, None, Option, sym, refl, ap, ◌∙◌, subst, and_parts, nat_list_cmp_total, remove, len, get-remove, eq_by_cmp, Caller, Config, none_is, get-with_entry, Bytes, Cache, entry_at, with_entry, key_cmp, nothing_said, load_only, write_only, without_victim, without_own, loads_whole, found_in, holds, always_if, ask_if, write_ask, entry_without_fault, entry_after, Cause, Change, Delete, Write, LoadAnswer, Op, Clear, ContainsKey, Get, GetAndPut, GetAndRemove, GetAndReplace, Invoke, LoadAll, Put, PutIfAbsent, Remove, RemoveIf, Replace, ReplaceIf, Out, least_used, overflows, victim, new_group, Steps, writer_for, first_by, first_asked, State, StepDone, Loader, Nobody, Writer, changed_to, Agrees}
 use Rattle.jc_model.specs.declared.event.LoadAnswer.TheVariants as load
 use Rattle.jc_model.specs.declared.event.WriteAnswer.TheVariants as write
 use Rattle.jc_model.specs.declared.event.ProcessAnswer.TheVariants as process
-use Rattle.jc_model.specs.declared.event.Cause.{Cause}
-use Rattle.jc_model.specs.Cache.{Bytes, Cache, key_cmp, entry_at, with_entry}
-use Rattle.jc_model.specs.Table.{entry_after, write_ask, holds, entry_without_fault, ask_if, always_if}
-use Rattle.jc_model.specs.Group.{nothing_said, without_victim, without_own, write_only, load_only}
-use Rattle.jc_model.specs.Lawful.{loads_whole}
-use Rattle.jc_model.specs.Processor.{found_in}
-use Rattle.jc_model.proofs.CallerLemmas.{none_is, get-with_entry}
-use Rattle.jc_stripe.specs.declared.begun.StepDone.{StepDone}
-use Rattle.jc_stripe.specs.State.{State}
-use Rattle.jc_stripe.specs.Refusals.{first_asked, first_by, writer_for}
-use Rattle.jc_stripe.specs.OrderOfUse.{least_used}
-use Rattle.jc_stripe.specs.Phases.{Steps, new_group, overflows, victim}
-use Rattle.jc_stripe.specs.declared.ticket.First.TheVariants.{Nobody, Loader, Writer}
-use Rattle.jc_world.specs.Premises.{changed_to}
-use Rattle.jc_world.specs.Sound.{Agrees}
 use Rattle.jc_world.proofs.Maps as map
 
 -- by cases on whether two keys are one

@@ -1,17 +1,6 @@
 -- What is known of a held key whose event fits.
-use Rattle.std.proofs.Common.{◌≡◌, ◌==◌, ◌&&◌, not, Bool, true, false, cond, Option, Some, None, IsSomeAnd, sym, subst, ap, ◌∙◌, refl, ℕ}
-use Rattle.std.specs.FinMap.{get}
-use Rattle.jc_model.specs.Cache.{Bytes}
-use Rattle.jc_model.specs.Table.{is_write_given}
-use Rattle.jc_stripe.specs.State.{is_key}
-use Rattle.jc_world.specs.Calls.{CallState, op_at}
-use Rattle.jc_world.specs.declared.event.Part.{Part}
-use Rattle.jc_world.specs.declared.event.Progress.{Progress}
-use Rattle.jc_world.specs.declared.event.Progress.TheVariants.{Loading, Writing, Processing, Processed, WritingEffect}
+use Rattle.jc_world.proofs.Common.{◌≡◌, ℕ, Bool, true, false, cond, not, ◌&&◌, IsSomeAnd, ◌==◌, Some, None, Option, sym, refl, ap, ◌∙◌, subst, get, Bytes, is_write_given, is_key, Part, Progress, Loading, Processed, Processing, Writing, WritingEffect, CallState, op_at, fits, IsHeld, IsCallOf, IsOwned, IsSoundWorld, WorldState, home, stripe_for, open_call, of_call, part_of, has_progress, is_answered, is_unasked, is_untouched}
 use Rattle.jc_world.specs.declared.event.WorldEvent.TheVariants as event
-use Rattle.jc_world.specs.World.{WorldState, home, stripe_for, open_call, of_call, part_of, is_answered, is_untouched, has_progress, is_unasked}
-use Rattle.jc_world.specs.Fits.{fits}
-use Rattle.jc_world.specs.Sound.{IsHeld, IsSoundWorld, IsOwned, IsCallOf}
 use Rattle.jc_world.proofs.Numbered.{some_of}
 use Rattle.jc_world.proofs.Shares.{fact_found}
 

@@ -1,44 +1,11 @@
 -- Each event keeps what the joins and the joiners of a world say.
 --     joins_called, joins_over, joins_phase, joins_joined, joins_picks, joins_parted, joins_stored     by the kind of the event
 --     joins_start, joins_happens       before anything has happened, and after any event that fits
-use Rattle.std.proofs.Common.{◌≡◌, ◌==◌, ◌&&◌, ◌+◌, ℕ, List, [], ◌∷◌, ◌++◌, Ok, Bool, true, false, not, Option, None, Some, IsSomeAnd, find, slice_get, slice_set, is_none, is_some, refl, sym, ap, ◌∙◌, subst}
-use Rattle.std.specs.List.{list_all}
-use Rattle.std.specs.Cmp.Lexicographic.{pointwise}
-use Rattle.std.specs.FinMap.{get, insert, remove, get-empty}
-use Rattle.std.proofs.lemmas.Bool.{eq-eqb, eqb-true, and_parts, and_from, false_from_ne_true}
-use Rattle.std.proofs.lemmas.Cmp.{nat_eq_equiv, nat_list_eq_equiv}
-use Rattle.jc_world.proofs.Numbered.{some_of}
-use Rattle.jc_types.specs.declared.caller.Caller.{Caller}
-use Rattle.jc_types.specs.declared.refusal.Refusal.{Refusal}
-use Rattle.jc_types.specs.declared.config.Config.{Config}
-use Rattle.jc_types.specs.Limits.{check}
-use Rattle.jc_model.specs.declared.event.Event.{Event}
-use Rattle.jc_model.specs.declared.event.Op.{Op}
-use Rattle.jc_model.specs.declared.event.Op.TheVariants.{Get}
-use Rattle.jc_model.specs.Cache.{Bytes, Cache}
-use Rattle.jc_model.proofs.CallerLemmas.{none_is}
-use Rattle.jc_inflight.specs.declared.joiner.Joiner.{Joiner}
-use Rattle.jc_inflight.specs.declared.joiner.JoinState.TheVariants.{Waiting}
-use Rattle.jc_inflight.specs.Joining.{belongs_to as is_joiner_of}
-use Rattle.jc_inflight.specs.Resolving.{after_resolve as resolved}
-use Rattle.jc_inflight.specs.Taking.{without_joiner as without}
-use Rattle.jc_stripe.specs.declared.ticket.Reservation.{Reservation}
-use Rattle.jc_stripe.specs.Tickets.{Ticket, ProcessClaim, JoinClaim}
-use Rattle.jc_stripe.specs.State.{State, IsJoined}
-use Rattle.jc_stripe.specs.Phases.{Withdraws, with_joiner, without_joiner}
-use Rattle.jc_world.specs.declared.command.Command.{Command}
-use Rattle.jc_world.specs.declared.event.Part.{Part}
-use Rattle.jc_world.specs.declared.event.Premises.{Premises}
-use Rattle.jc_world.specs.declared.event.Shown.{Shown}
-use Rattle.jc_world.specs.declared.event.Outcome.{Outcome}
+use Rattle.jc_world.proofs.Common.{◌≡◌, ℕ, ◌+◌, Bool, true, false, not, ◌&&◌, List, [], ◌∷◌, ◌++◌, is_some, is_none, IsSomeAnd, ◌==◌, slice_get, slice_set, Some, None, Ok, Option, find, sym, refl, ap, ◌∙◌, subst, eqb-true, eq-eqb, and_parts, and_from, false_from_ne_true, nat_eq_equiv, nat_list_eq_equiv, pointwise, get, insert, remove, get-empty, list_all, check, Caller, Config, Refusal, none_is, Bytes, Cache, Event, Op, Get, belongs_to, after_resolve, Waiting, Joiner, with_joiner, Withdraws, without_joiner, State, IsJoined, Ticket, ProcessClaim, JoinClaim, Reservation, Command, Outcome, Part, Premises, Shown, WorldEvent, SweepState, CallState, new_call, has_number, op_at, open_keys, is_turn, opened, settle, drop_call, with_stripe, with_phase, fault_in, with_settled, with_met_by, without_call, with_look, new_load, new_write, new_process, new_part, without_part, with_join, Starts, Ends, Picks, Happens, is_free, may_leave, fits, IsCallOf, IsWaitedFor, AllWaitedFor, IsCalled, AllCalled, IsSoundWorld, Parts, JoinKey, join_cmp, join_key, WorldState, home, stripe_for, start, open_call, of_call, part_of, join_of, is_joined}
 use Rattle.jc_world.specs.declared.event.Outcome.TheVariants as outcome
-use Rattle.jc_world.specs.Calls.{CallState, SweepState, has_number, open_keys, op_at, is_turn, opened, settle, drop_call, new_call}
-use Rattle.jc_world.specs.declared.event.WorldEvent.{WorldEvent}
 use Rattle.jc_world.specs.declared.event.WorldEvent.TheVariants as event
-use Rattle.jc_world.specs.World.{WorldState, Parts, home, stripe_for, start, open_call, of_call, part_of, JoinKey, join_cmp, join_key, join_of, is_joined}
-use Rattle.jc_world.specs.Fits.{is_free, may_leave, fits}
-use Rattle.jc_world.specs.Events.{fault_in, with_met_by, with_stripe, with_phase, with_settled, without_call, with_look, new_load, new_write, new_part, without_part, with_join, Starts, Ends, Picks, Happens, new_process}
-use Rattle.jc_world.specs.Sound.{IsWaitedFor, AllWaitedFor, IsCalled, AllCalled, IsSoundWorld, IsCallOf}
+use Rattle.jc_world.proofs.Numbered.{some_of}
+use Rattle.jc_inflight.specs.Taking.{without_joiner as without}
 use Rattle.jc_world.proofs.Halves.{HasJoins, joins_half}
 use Rattle.jc_world.proofs.Returns.{IsReport}
 use Rattle.jc_world.proofs.Places.{at_stripe, stripe_put}
@@ -55,7 +22,7 @@ use Rattle.jc_world.proofs.Facts.{denied, missing}
 -- 1. What stays.
 
 -- a joiner is of its session, its call and its key
-joiner_is : (caller : Caller) (key : Bytes) (j : Joiner) → is_joiner_of caller key j ≡ true → (j.caller.session ≡ caller.session) × (j.caller.call ≡ caller.call) × (j.key ≡ key)
+joiner_is : (caller : Caller) (key : Bytes) (j : Joiner) → belongs_to caller key j ≡ true → (j.caller.session ≡ caller.session) × (j.caller.call ≡ caller.call) × (j.key ≡ key)
 joiner_is caller key j h =
     let parts = and_parts ((j.caller.session == caller.session) && (j.caller.call == caller.call)) (pointwise ◌==◌ key j.key) h in
     let pair = and_parts (j.caller.session == caller.session) (j.caller.call == caller.call) parts.0 in
@@ -207,8 +174,8 @@ none_reserved w call key part call_is free number q joined none =
 -- a call without a join has no joiner
 pub no_joiner : (w : WorldState) (key : Bytes) (from : State) (join : JoinClaim) → stripe_for w key ≡ Some from → is_joined w join.caller.call join.key ≡ false → IsSoundWorld w → joiner_of join.caller join.key from.joiners ≡ None
 no_joiner w key from join there free old = missing (joiner_of join.caller join.key from.joiners) (λ x e.
-    let its = joiner_is join.caller join.key x (found_test (is_joiner_of join.caller join.key) from.joiners x e) in
-    let had = (fact_found (IsCalled w (home w key)) (is_joiner_of join.caller join.key) from.joiners x e (old.called (home w key) from there)).join in
+    let its = joiner_is join.caller join.key x (found_test (belongs_to join.caller join.key) from.joiners x e) in
+    let had = (fact_found (IsCalled w (home w key)) (belongs_to join.caller join.key) from.joiners x e (old.called (home w key) from there)).join in
     let t : true ≡ false = sym had ∙ (λ i. is_joined w (its.1 i) (its.2 i)) ∙ free in cc)
 
 -- the call has joined a load
@@ -219,7 +186,7 @@ joins_joined w u key op from to join there join_is to_is get_is may old =
     let next : Joiner = record { caller = join.caller; key = join.key; load = join.load; state = Waiting } in
     let joiners : to.joiners ≡ from.joiners ++ next ∷ [] = ap (λ (s : State). s.joiners) to_is in
     let J : JoinClaim → List Joiner → Type 0 = λ j js. IsSomeAnd (joiner_of j.caller j.key js) (λ x. x.load ≡ j.load) in
-    let keeps : (j : JoinClaim) → IsJoined from j → IsJoined to j = λ j t. subst (J j) (sym joiners) (joined_front (λ x. x.load ≡ j.load) (is_joiner_of j.caller j.key) from.joiners (next ∷ []) t) in
+    let keeps : (j : JoinClaim) → IsJoined from j → IsJoined to j = λ j t. subst (J j) (sym joiners) (joined_front (λ x. x.load ≡ j.load) (belongs_to j.caller j.key) from.joiners (next ∷ []) t) in
     let session_is : join.caller.session ≡ u.caller.session = ap (λ (j : JoinClaim). j.caller.session) join_is in
     let call_is : join.caller.call ≡ u.caller.call = ap (λ (j : JoinClaim). j.caller.call) join_is in
     let key_is : join.key ≡ key = ap (λ (j : JoinClaim). j.key) join_is in
@@ -235,7 +202,7 @@ joins_joined w u key op from to join there join_is to_is get_is may old =
     let waits : IsWaitedFor new join = record {
       out = is_some_and (stripe_for new join.key) F to (ap (λ k. slice_get new.stripes (home w k)) key_is ∙ stripe_put w.stripes (home w key) from to there)
           (subst (J join) (sym joiners)
-          (joined_last (λ x. x.load ≡ join.load) (is_joiner_of join.caller join.key) from.joiners next alone
+          (joined_last (λ x. x.load ≡ join.load) (belongs_to join.caller join.key) from.joiners next alone
           (and_from _ _ (and_from _ _ (nat_eq_equiv.refl join.caller.session) (nat_eq_equiv.refl join.caller.call)) (nat_list_eq_equiv.refl join.key)) refl));
       call = its_call;
       no_part = (λ i. part_of w (call_is i) (key_is i)) ∙ none_is (part_of w u.caller.call key) may.none;
@@ -287,7 +254,7 @@ unjoined_part w call key part is old = false_from_ne_true (is_joined w call key)
 -- by what is shown of the last phase
 joins_ended : (w new : WorldState) (call : ℕ) (key : Bytes) (part : Part) (from to : State) (seen : Outcome) → part_of w call key ≡ Some part → stripe_for w key ≡ Some from → Ends w call key part from to seen new → IsSoundWorld w → HasJoins new
 joins_ended w new call key part from to (outcome.Stepped seen) is there h old =
-    let joiners : to.joiners ≡ resolved part.reservation.number seen.place from.joiners = ap (λ (s : State). s.joiners) h.0.1.after in
+    let joiners : to.joiners ≡ after_resolve part.reservation.number seen.place from.joiners = ap (λ (s : State). s.joiners) h.0.1.after in
     let free = unjoined_part w call key part is old in
     let at = of_call-at call (get w.parts key) part is in
     let turn = part_turn w call key part at.0 at.1 old in
@@ -335,12 +302,12 @@ joins_picked : (w : WorldState) (call : ℕ) (key : Bytes) (join : JoinClaim) (f
 joins_picked w call key join from to calls joined there is go old =
     let new : WorldState = record w { stripes = slice_set w.stripes (home w key) to; joins = remove w.joins (call, key); calls = calls } in
     let p = picking w call key join joined old in
-    let its : Joiner → Bool = is_joiner_of join.caller join.key in
+    let its : Joiner → Bool = belongs_to join.caller join.key in
     let joiners : to.joiners ≡ without join.caller join.key from.joiners = ap (λ (s : State). s.joiners) is in
     let out : (j : JoinClaim) → (j.caller.call ≡ call → j.key ≡ key → ⊥) → IsJoined from j → IsJoined to j = λ j other h.
     let J : Option Joiner → Type 0 = λ o. IsSomeAnd o (λ x. x.load ≡ j.load) in
     subst J (sym (ap (joiner_of j.caller j.key) joiners
-    ∙ find_kept (is_joiner_of j.caller j.key) (λ x. not (its x)) from.joiners (λ x t. ap not (false_from_ne_true (its x) (λ e.
+    ∙ find_kept (belongs_to j.caller j.key) (λ x. not (its x)) from.joiners (λ x t. ap not (false_from_ne_true (its x) (λ e.
     let mine = joiner_is j.caller j.key x t in
     let same = joiner_is join.caller join.key x e in
     other (sym mine.1 ∙ same.1 ∙ p.call_is) (sym mine.2 ∙ same.2 ∙ p.join_key)))))) h

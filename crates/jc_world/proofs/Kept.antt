@@ -1,61 +1,14 @@
 -- Each event keeps what the parts and the store of a world say.
-use Rattle.std.proofs.Common.{◌≡◌, ◌&&◌, ◌+◌, ℕ, zero, suc, List, [], ◌∷◌, ◌++◌, Bool, true, false, cond, Option, None, Some, is_none, is_some, IsSomeAnd, Ok, find, refl, sym, ap, ◌∙◌, subst, slice_get, slice_set}
-use Rattle.std.specs.Ordering.{eq_by_cmp}
-use Rattle.std.specs.Cmp.Lexicographic.{texts_ties}
-use Rattle.std.proofs.lemmas.Cmp.{nat_list_cmp_total}
-use Rattle.std.proofs.lemmas.Bool.{and_parts, and_from}
-use Rattle.std.specs.FinMap.{get, insert, remove, get-empty, get-insert, get-remove}
-use Rattle.std.specs.Bool.{beq}
-use Rattle.jc_world.proofs.Numbered.{some_of}
-use Rattle.jc_types.specs.declared.caller.Caller.{Caller}
-use Rattle.jc_types.specs.declared.config.Config.{Config}
-use Rattle.jc_types.specs.Limits.{check}
-use Rattle.jc_model.specs.declared.event.Op.{Op}
-use Rattle.jc_model.specs.declared.event.Event.{Event}
-use Rattle.jc_model.specs.declared.event.Change.{Change}
-use Rattle.jc_model.specs.declared.event.LoadAnswer.{LoadAnswer}
+use Rattle.jc_world.proofs.Common.{◌≡◌, ℕ, zero, suc, ◌+◌, Bool, true, false, cond, ◌&&◌, List, [], ◌∷◌, ◌++◌, is_some, is_none, IsSomeAnd, slice_get, slice_set, Some, None, Ok, Option, find, sym, refl, ap, ◌∙◌, subst, and_parts, and_from, nat_list_cmp_total, beq, texts_ties, get, insert, remove, get-empty, get-insert, get-remove, eq_by_cmp, check, Caller, Config, same_key, get-with_entry, Bytes, Cache, entry_at, with_entry, key_cmp, nothing_said, write_only, found_in, holds, write_ask, is_write_given, entry_after, Change, Event, LoadAnswer, Op, WriteAnswer, EntryCall, callers_of, ProcessResult, Played, asks_invoking, change_due, Steps, Begins, after_commit, Commits, Withdraws, AllAsk, first_asked, reserves, State, is_key, is_reserved, new_reservation, without_key, IsOut, Ticket, ProcessClaim, asks_loader, asks_writer, asks_processor, JoinClaim, StepDone, First, Loader, Nobody, Processor, Writer, Reservation, Command, Outcome, Part, Premises, Progress, Loading, Processed, Processing, Writing, WritingEffect, CallState, new_call, has_number, op_at, opened, settle, drop_call, Coherent, all_hold, with_stripe, with_phase, step_of, fault_in, without_call, new_load, new_write, new_process, new_part, with_part, without_part, Starts, Ends, Picks, after_answer, with_change, after_change, with_report, after_report, run_result, progress_after, after_process, may_leave, fits, changed_to, is_true_load, is_done, is_true_report, with_foreign_write, premises_hold, is_asked, is_due_in, IsHeld, Agrees, IsWrittenFor, LoadAgrees, ProgressAgrees, KeyAgrees, IsSoundWorld, Parts, join_key, Joins, WorldState, home, stripe_for, entry_in, cached_entry, empty_stripes, start, open_call, part_of, has_progress, waits_for_load, waits_for_process, waits_for_report, is_answered, is_untouched, has_changed, writer_change_in, writer_change, out_in, out_of, join_of, with_stored}
 use Rattle.jc_model.specs.declared.event.LoadAnswer.TheVariants as load
-use Rattle.jc_model.specs.declared.event.WriteAnswer.{WriteAnswer}
 use Rattle.jc_model.specs.declared.event.WriteAnswer.TheVariants as write
 use Rattle.jc_model.specs.declared.event.ProcessAnswer.TheVariants as process
-use Rattle.jc_model.specs.Cache.{Bytes, Cache, key_cmp, entry_at, with_entry}
-use Rattle.jc_model.specs.Table.{entry_after, write_ask, holds, is_write_given}
-use Rattle.jc_model.specs.Group.{nothing_said, write_only}
-use Rattle.jc_model.specs.Processor.{found_in}
-use Rattle.jc_model.proofs.CallerLemmas.{same_key, get-with_entry}
-use Rattle.jc_inflight.specs.Joining.{callers_of}
-use Rattle.jc_stripe.specs.declared.ticket.Reservation.{Reservation}
-use Rattle.jc_stripe.specs.Tickets.{Ticket, ProcessClaim, JoinClaim, asks_loader, asks_writer, asks_processor}
-use Rattle.jc_mutentry.specs.Done.{ProcessResult}
-use Rattle.jc_outside.specs.declared.done.Origin.TheVariants.{Played}
-use Rattle.jc_model.specs.declared.processor.EntryCall.{EntryCall}
-use Rattle.jc_stripe.specs.Effects.{change_due}
-use Rattle.jc_stripe.specs.State.{State, without_key, is_reserved, is_key, new_reservation, IsOut}
-use Rattle.jc_stripe.specs.Phases.{Begins, Commits, Withdraws, Steps, after_commit}
-use Rattle.jc_stripe.specs.Refusals.{reserves, first_asked}
-use Rattle.jc_stripe.specs.declared.begun.StepDone.{StepDone}
-use Rattle.jc_stripe.specs.Reached.{AllAsk}
 use Rattle.jc_stripe.specs.declared.begun.Begun.TheVariants as begun
-use Rattle.jc_stripe.specs.declared.ticket.First.{First}
-use Rattle.jc_stripe.specs.declared.ticket.First.TheVariants.{Nobody, Loader, Writer, Processor}
-use Rattle.jc_world.specs.declared.command.Command.{Command}
-use Rattle.jc_world.specs.Calls.{CallState, has_number, op_at, opened, settle, drop_call, new_call}
-use Rattle.jc_world.specs.declared.event.Part.{Part}
-use Rattle.jc_world.specs.declared.event.Progress.{Progress}
-use Rattle.jc_world.specs.declared.event.Progress.TheVariants.{Loading, Writing, Processing, Processed, WritingEffect}
-use Rattle.jc_world.specs.declared.event.Premises.{Premises}
-use Rattle.jc_world.specs.declared.event.Outcome.{Outcome}
 use Rattle.jc_world.specs.declared.event.Outcome.TheVariants as outcome
 use Rattle.jc_world.specs.declared.event.WorldEvent.TheVariants as event
-use Rattle.jc_world.specs.World.{WorldState, Parts, home, stripe_for, cached_entry, entry_in, empty_stripes, start, open_call, part_of, waits_for_load, waits_for_report, is_answered, is_untouched, has_changed, out_in, Joins, join_key, join_of, out_of, with_stored, has_progress, waits_for_process, writer_change_in, writer_change}
-use Rattle.jc_world.specs.Premises.{changed_to, is_true_load, is_done, is_true_report, with_foreign_write, premises_hold}
-use Rattle.jc_world.specs.Fits.{fits, may_leave}
-use Rattle.jc_world.specs.Events.{fault_in, run_result, progress_after, after_process, after_answer, after_change, after_report, new_load, new_write, new_process, new_part, with_change, with_report, with_stripe, with_phase, without_call, with_part, without_part, step_of, Starts, Ends, Picks}
-use Rattle.jc_world.specs.Coherent.{Coherent, all_hold}
-use Rattle.jc_world.specs.Sound.{is_due_in, is_asked, IsHeld, Agrees, LoadAgrees, ProgressAgrees, KeyAgrees, IsWrittenFor, IsSoundWorld}
+use Rattle.jc_world.proofs.Numbered.{some_of}
 use Rattle.jc_world.proofs.Holding.{call_on, is_part}
 use Rattle.jc_world.proofs.Halves.{HasParts}
-use Rattle.jc_stripe.proofs.CallerLemmas.{asks_invoking}
 use Rattle.jc_world.proofs.Processors.{processor_free, invoke_is, write_due, agrees_processed, agrees_effect}
 use Rattle.jc_world.proofs.Places.{at_stripe, stripe_put, home_stripe}
 use Rattle.jc_world.proofs.Reservations.{found_more, out_reserved, was_free, writer_alone, new_out, found_left}

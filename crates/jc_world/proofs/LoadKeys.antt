@@ -5,25 +5,7 @@
 --     key_of_load       a joiner that waits for a load is at its key
 --     joins_get         only a `Get` joins a load
 --     each_fits         each joiner of a stripe fits
-use Rattle.std.proofs.Common.{◌≡◌, ◌==◌, ℕ, suc, List, [], ◌∷◌, Bool, true, false, cond, Option, None, Some, find, refl, sym, ap, ◌∙◌, subst, arith}
-use Rattle.std.specs.List.{All, AllPairs}
-use Rattle.std.proofs.lemmas.List.Elements.{All-head, All-tail}
-use Rattle.std.proofs.lemmas.Bool.{eq-eqb, eqb-true, and_parts}
-use Rattle.jc_model.specs.declared.event.Op.{Op}
-use Rattle.jc_model.specs.declared.event.Op.TheVariants.{Get}
-use Rattle.jc_model.specs.Cache.{Bytes}
-use Rattle.jc_inflight.specs.declared.joiner.Joiner.{Joiner}
-use Rattle.jc_inflight.specs.declared.joiner.JoinState.{JoinState}
-use Rattle.jc_inflight.specs.declared.joiner.JoinState.TheVariants.{Waiting, Answered, Again}
-use Rattle.jc_inflight.specs.Joining.{is_waiting, waits_for}
-use Rattle.jc_stripe.specs.declared.ticket.First.{First}
-use Rattle.jc_stripe.specs.declared.ticket.First.TheVariants.{Nobody, Loader, Writer, Processor}
-use Rattle.jc_stripe.specs.declared.ticket.Reservation.{Reservation}
-use Rattle.jc_stripe.specs.Tickets.{asks_loader}
-use Rattle.jc_stripe.specs.State.{State, is_key, reservation_of, IsOut}
-use Rattle.jc_stripe.specs.Refusals.{load_of, load_at, load_joined}
-use Rattle.jc_stripe.specs.Reached.{IsReached, JoinFits, AllJoin}
-use Rattle.jc_world.specs.Sound.{Each}
+use Rattle.jc_world.proofs.Common.{◌≡◌, ℕ, suc, Bool, true, false, cond, List, [], ◌∷◌, ◌==◌, Some, None, Option, find, sym, refl, ap, ◌∙◌, subst, arith, eqb-true, eq-eqb, and_parts, All-head, All-tail, All, AllPairs, Bytes, Op, Get, is_waiting, waits_for, JoinState, Again, Answered, Waiting, Joiner, JoinFits, AllJoin, IsReached, load_of, load_at, load_joined, State, is_key, reservation_of, IsOut, asks_loader, First, Loader, Nobody, Processor, Writer, Reservation, Each}
 use Rattle.jc_world.proofs.Shares.{found_test}
 use Rattle.jc_world.proofs.Underway.{same_bytes}
 

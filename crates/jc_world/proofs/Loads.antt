@@ -2,52 +2,9 @@
 --     total          how many steps of a key have an answer of their own, and one more if one is kept
 --     total_step     each event raises that by one if it is an answer for the key, and else leaves it
 --     total_run      so a run raises it by its answers
-use Rattle.std.proofs.Common.{inl, inr, ◌≡◌, ◌==◌, ◌&&◌, ◌+◌, ℕ, List, [], ◌∷◌, ◌++◌, length, map, drop, zip, count_by, Bool, true, false, cond, Option, None, Some, option_map, refl, sym, ap, ◌∙◌, arith}
-use Rattle.std.specs.Ordering.{eq_by_cmp}
-use Rattle.std.specs.Cmp.Lexicographic.{pointwise, texts_ties}
-use Rattle.std.specs.FinMap.{get, insert, remove, get-empty, get-insert, get-remove}
-use Rattle.std.proofs.lemmas.Cmp.{nat_list_cmp_total}
-use Rattle.std.proofs.lemmas.List.Sums.{sum_by-cons, sum_by-append}
-use Rattle.std.proofs.Math.Seq.{drop-append_seam}
-use Rattle.std.proofs.lemmas.Bool.{and_parts, not-true, and_right}
-use Rattle.jc_types.specs.declared.caller.Caller.{Caller}
-use Rattle.jc_types.specs.declared.config.Config.{Config}
-use Rattle.jc_model.specs.declared.event.Op.{Op}
-use Rattle.jc_model.specs.declared.event.Out.{Out}
-use Rattle.jc_model.specs.declared.event.Event.{Event}
-use Rattle.jc_model.specs.declared.event.Cause.{Cause}
-use Rattle.jc_model.specs.declared.event.LoadAnswer.{LoadAnswer}
-use Rattle.jc_model.specs.declared.event.WriteAnswer.{WriteAnswer}
-use Rattle.jc_model.specs.Cache.{Bytes, key_cmp, entry_at}
-use Rattle.jc_model.specs.Table.{is_load_given}
-use Rattle.jc_model.specs.Group.{Group, nothing_said, victim_events, step_event, step_place, shared_event, evicted_events, events_of}
-use Rattle.jc_inflight.specs.Joining.{callers_of}
-use Rattle.jc_stripe.specs.declared.ticket.First.TheVariants.{Loader}
-use Rattle.jc_stripe.specs.Tickets.{JoinClaim}
-use Rattle.jc_stripe.specs.declared.begun.StepDone.{StepDone}
-use Rattle.jc_stripe.specs.Refusals.{reserves}
-use Rattle.jc_stripe.specs.State.{State}
-use Rattle.jc_stripe.specs.Phases.{Steps, new_group, after_commit}
-use Rattle.jc_world.specs.Calls.{CallState, open_keys}
-use Rattle.jc_types.specs.declared.refusal.Refusal.TheVariants.{WriterFailed}
-use Rattle.jc_world.specs.declared.event.Part.{Part}
-use Rattle.jc_world.specs.declared.event.Progress.{Progress}
-use Rattle.jc_world.specs.declared.event.Progress.TheVariants.{Loading, Writing, Processing, Processed, WritingEffect}
-use Rattle.jc_world.specs.declared.event.Shown.{Shown}
-use Rattle.jc_world.specs.declared.event.Outcome.{Outcome}
+use Rattle.jc_world.proofs.Common.{◌≡◌, ℕ, ◌+◌, Bool, true, false, cond, ◌&&◌, List, [], ◌∷◌, ◌++◌, map, length, drop, ◌==◌, Some, None, count_by, Option, option_map, zip, sym, refl, ap, ◌∙◌, inl, inr, arith, drop-append_seam, not-true, and_parts, and_right, nat_list_cmp_total, sum_by-cons, sum_by-append, pointwise, texts_ties, get, insert, remove, get-empty, get-insert, get-remove, eq_by_cmp, Caller, Config, WriterFailed, Bytes, entry_at, key_cmp, Group, nothing_said, victim_events, evicted_events, step_event, shared_event, step_place, events_of, is_load_given, Cause, Change, Event, LoadAnswer, Op, Out, WriteAnswer, callers_of, ProcessResult, change_due, new_group, Steps, after_commit, reserves, State, JoinClaim, StepDone, Loader, Reservation, Outcome, Part, Progress, Loading, Processed, Processing, Writing, WritingEffect, Shown, WorldEvent, CallState, open_keys, step_of, with_met_by, new_load, new_write, new_process, new_part, Starts, Ends, Picks, with_change, with_report, reported_keys, keys_reported, run_result, progress_after, after_process, Happens, Step, Run, fits, start_with, is_answer, is_load, is_loaded, read_answer, load_from, report_for, IsSoundWorld, Parts, WorldState, stripe_for, part_of, has_progress, waits_for_load, waits_for_process, is_untouched, out_in, out_of}
 use Rattle.jc_world.specs.declared.event.Outcome.TheVariants as outcome
-use Rattle.jc_world.specs.declared.event.WorldEvent.{WorldEvent}
 use Rattle.jc_world.specs.declared.event.WorldEvent.TheVariants as event
-use Rattle.jc_world.specs.World.{WorldState, Parts, stripe_for, part_of, waits_for_load, waits_for_process, is_untouched, out_in, out_of, has_progress}
-use Rattle.jc_world.specs.Premises.{read_answer, load_from, report_for}
-use Rattle.jc_model.specs.declared.event.Change.{Change}
-use Rattle.jc_mutentry.specs.Done.{ProcessResult}
-use Rattle.jc_stripe.specs.declared.ticket.Reservation.{Reservation}
-use Rattle.jc_stripe.specs.Effects.{change_due}
-use Rattle.jc_world.specs.Fits.{fits}
-use Rattle.jc_world.specs.Events.{with_met_by, run_result, progress_after, after_process, new_load, new_write, new_process, new_part, with_change, with_report, step_of, reported_keys, keys_reported, Starts, Ends, Picks, Happens, Step, Run}
-use Rattle.jc_world.specs.Sound.{IsSoundWorld}
-use Rattle.jc_world.specs.Headline.{start_with, is_answer, is_load, is_loaded}
 use Rattle.jc_world.proofs.Shares.{added}
 use Rattle.jc_world.proofs.Reservations.{was_free, writer_alone}
 use Rattle.jc_world.proofs.Processors.{processor_free}

@@ -5,30 +5,11 @@
 --     stays_merged       a stripe whose history stays: so does the order
 --     merged_next        one turn more: the next event of its stripe is at the end
 --     merged_length      there are as many events as turns
-use Rattle.std.proofs.Common.{◌≡◌, ◌==◌, ◌∙◌, ◌+◌, ◌-◌, ◌≤◌, ◌<◌, ℕ, zero, suc, List, [], ◌∷◌, ◌++◌, Bool, true, false, cond, Some, IsSomeAnd, Ok, length, take, drop, replicate, get_or, slice_get, slice_set, refl, sym, ap, subst, arith, append_assoc, append-nil, length-append}
-use Rattle.std.proofs.Math.Seq.{drop-append_seam}
-use Rattle.std.proofs.lemmas.Bool.Decides.{nat_tests}
-use Rattle.std.proofs.lemmas.Bool.{eqb-true}
-use Rattle.std.proofs.lemmas.List.{take_more, take-append-drop, get_or-set_same, get_or-set_other}
-use Rattle.std.proofs.lemmas.List.Sums.{sum_by-cons, sum_by-append, count_by_more_yes, count_by_more_no}
-use Rattle.std.proofs.lemmas.Option.{slice_get_read}
-use Rattle.std.proofs.lemmas.Cmp.{nat_eq_equiv}
-use Rattle.jc_types.specs.declared.limits.TheConstants.{STRIPES_MAX}
-use Rattle.jc_model.specs.declared.event.Event.{Event}
-use Rattle.jc_stripe.specs.State.{State}
-use Rattle.jc_types.specs.declared.config.Config.{Config}
-use Rattle.jc_types.specs.Limits.{check}
-use Rattle.jc_world.specs.World.{empty_stripes}
+use Rattle.jc_world.proofs.Common.{◌≡◌, ℕ, zero, suc, ◌+◌, ◌-◌, ◌<◌, ◌≤◌, Bool, true, false, cond, List, [], ◌∷◌, ◌++◌, length, get_or, take, drop, replicate, IsSomeAnd, ◌==◌, slice_get, slice_set, Some, Ok, sym, refl, ap, ◌∙◌, subst, append_assoc, append-nil, arith, length-append, drop-append_seam, eqb-true, nat_tests, nat_eq_equiv, take-append-drop, get_or-set_same, get_or-set_other, take_more, sum_by-cons, sum_by-append, count_by_more_yes, count_by_more_no, slice_get_read, check, Config, STRIPES_MAX, Event, Extends, PicksUp, State, JoinClaim, Picked, Inside, history_in, history_at, turns_of, after_turn, merge, OrderedStripes, IsPhase, IsQuietPhase, ordered_stripes, AreTurns, IsMergeable, empty_stripes}
+use Rattle.jc_stripe.specs.declared.begun.Picked.TheVariants as picked
 use Rattle.jc_world.proofs.Places.{few_stripes, stripe_put}
 use Rattle.jc_world.proofs.Beginning.{empty_count}
-use Rattle.jc_stripe.specs.Laws.{Extends}
-use Rattle.jc_stripe.specs.Phases.{PicksUp}
-use Rattle.jc_stripe.specs.Tickets.{JoinClaim}
-use Rattle.jc_stripe.specs.declared.begun.Picked.{Picked}
-use Rattle.jc_stripe.specs.declared.begun.Picked.TheVariants as picked
-use Rattle.jc_world.specs.declared.stripes.Stripes.TheInside.{Inside}
 use Rattle.jc_world.proofs.Numbered.{at_index}
-use Rattle.jc_world.specs.Turns.{OrderedStripes, IsPhase, IsQuietPhase, ordered_stripes, IsMergeable, history_in, history_at, turns_of, after_turn, merge, AreTurns}
 
 -- 1. Turns.
 

@@ -1,40 +1,9 @@
 -- What the machine of a world does in a first and a last phase is what the definitions say.
-use Rattle.std.proofs.Common.{false, ◌≡◌, ◌&&◌, ◌∙◌, cond, ℕ, zero, suc, List, [], ◌∷◌, ◌++◌, length, drop, Option, Some, None, IsSomeAnd, is_some, true, slice_get, slice_set, refl, sym, ap, subst, append-nil}
-use Rattle.std.specs.FinMap.{get, insert, remove}
-use Rattle.jc_model.specs.Cache.{Bytes}
-use Rattle.jc_model.specs.declared.event.Change.{Change}
-use Rattle.jc_model.specs.declared.event.Event.{Event}
-use Rattle.jc_model.specs.declared.event.Op.{Op}
-use Rattle.std.proofs.lemmas.Bool.{and_parts}
-use Rattle.jc_stripe.specs.Tickets.{Ticket, ProcessClaim, JoinClaim, asks_writer, entry_seen}
-use Rattle.jc_stripe.specs.State.{State, IsOut, IsJoined}
-use Rattle.jc_stripe.specs.Refusals.{reserves}
-use Rattle.jc_stripe.specs.Phases.{MayBegin, Begins, Commits, Withdraws, PicksUp}
-use Rattle.jc_stripe.specs.declared.begun.Picked.{Picked}
+use Rattle.jc_world.proofs.Common.{◌≡◌, ℕ, zero, suc, true, false, cond, ◌&&◌, List, [], ◌∷◌, ◌++◌, length, drop, is_some, IsSomeAnd, slice_get, slice_set, Some, None, Option, sym, refl, ap, ◌∙◌, subst, append-nil, and_parts, get, insert, remove, Config, Refusal, Bytes, Change, Event, Op, Played, MayBegin, Begins, Commits, Withdraws, PicksUp, reserves, State, IsOut, IsJoined, Ticket, ProcessClaim, asks_writer, entry_seen, JoinClaim, Begun, Picked, StepDone, First, Loader, Nobody, Processor, Writer, Reservation, Over, Part, PickedUp, Progress, Shown, Stepped, puts_off, CallState, op_at, is_turn, settle, over_settled, step_of, not_over, fault_in, over_by, new_load, new_write, new_process, new_part, with_new_part, BeginsAs, Starts, RefusesAs, Happens, is_free, may_start, fits, is_due, IsHeld, IsSoundWorld, OrderedStripes, IsPhase, IsQuietPhase, Parts, join_key, Joins, WorldState, home, stripe_for, open_call, part_of, out_of, join_of}
 use Rattle.jc_stripe.specs.declared.begun.Picked.TheVariants as picked
-use Rattle.jc_stripe.specs.declared.begun.Begun.{Begun}
 use Rattle.jc_stripe.specs.declared.begun.Begun.TheVariants as begun
-use Rattle.jc_stripe.specs.declared.ticket.Reservation.{Reservation}
-use Rattle.jc_stripe.specs.declared.begun.StepDone.{StepDone}
-use Rattle.jc_stripe.specs.declared.ticket.First.{First}
-use Rattle.jc_stripe.specs.declared.ticket.First.TheVariants.{Nobody, Loader, Writer, Processor}
-use Rattle.jc_outside.specs.declared.done.Origin.TheVariants.{Played}
-use Rattle.jc_types.specs.declared.config.Config.{Config}
-use Rattle.jc_types.specs.declared.refusal.Refusal.{Refusal}
-use Rattle.jc_world.specs.Calls.{CallState, op_at, is_turn, over_settled, puts_off, settle}
-use Rattle.jc_world.specs.declared.event.Part.{Part}
-use Rattle.jc_world.specs.declared.event.Progress.{Progress}
-use Rattle.jc_world.specs.declared.event.Stepped.{Stepped}
-use Rattle.jc_world.specs.declared.event.PickedUp.{PickedUp}
 use Rattle.jc_world.specs.declared.event.WorldEvent.TheVariants as event
-use Rattle.jc_world.specs.declared.event.Over.{Over}
-use Rattle.jc_world.specs.declared.event.Shown.{Shown}
 use Rattle.jc_world.specs.declared.event.Outcome.TheVariants as outcome
-use Rattle.jc_world.specs.World.{WorldState, Parts, home, stripe_for, open_call, part_of, Joins, join_key, join_of, out_of}
-use Rattle.jc_world.specs.Fits.{fits, is_free, may_start}
-use Rattle.jc_world.specs.Events.{fault_in, not_over, over_by, Happens, Starts, RefusesAs, step_of, with_new_part, new_load, new_write, new_part, BeginsAs, new_process}
-use Rattle.jc_world.specs.Sound.{IsHeld, IsSoundWorld, is_due}
-use Rattle.jc_world.specs.Turns.{OrderedStripes, IsPhase, IsQuietPhase}
 use Rattle.jc_world.proofs.Numbered.{some_of}
 use Rattle.jc_world.proofs.Holding.{is_part}
 use Rattle.jc_world.proofs.Reservations.{was_free, writer_alone}

@@ -6,39 +6,9 @@
 --     follows_joined     it is so if the call has just joined
 --     resolves           so what a pick-up shows is what has become of the load
 --     answers_joins      the whole, from the join to the pick-up
-use Rattle.std.proofs.Common.{inl, inr, ◌≡◌, ◌==◌, ◌&&◌, ◌||◌, ℕ, List, [], ◌∷◌, ◌++◌, zip, Bool, true, false, cond, not, Option, None, Some, IsSomeAnd, option_map, is_some, slice_get, slice_set, refl, sym, ap, ◌∙◌, subst, append-nil, append_assoc}
-use Rattle.std.specs.List.{list_any}
-use Rattle.std.specs.FinMap.{get, remove}
-use Rattle.std.specs.Cmp.Lexicographic.{pointwise}
-use Rattle.std.proofs.lemmas.Bool.{eq-eqb, and_from, or_parts, false_from_ne_true}
-use Rattle.std.proofs.lemmas.Cmp.{nat_eq_equiv, nat_list_eq_equiv}
-use Rattle.jc_types.specs.declared.caller.Caller.{Caller}
-use Rattle.jc_types.specs.declared.config.Config.{Config}
-use Rattle.jc_types.specs.Stripes.{stripe_of}
-use Rattle.jc_model.specs.declared.event.Op.{Op}
-use Rattle.jc_model.specs.Cache.{Bytes}
-use Rattle.jc_inflight.specs.declared.joiner.Joiner.{Joiner}
-use Rattle.jc_inflight.specs.declared.joiner.JoinState.{JoinState}
-use Rattle.jc_inflight.specs.declared.joiner.JoinState.TheVariants.{Waiting, Answered, Again}
-use Rattle.jc_inflight.specs.Joining.{belongs_to}
-use Rattle.jc_inflight.proofs.CallerLemmas.{belongs_to_same}
-use Rattle.jc_stripe.specs.declared.ticket.Reservation.{Reservation}
-use Rattle.jc_stripe.specs.Tickets.{JoinClaim, asks_loader}
-use Rattle.jc_stripe.specs.State.{State, is_key, reservation_of, IsOut}
-use Rattle.jc_stripe.specs.Phases.{with_joiner, without_joiner, told_to}
-use Rattle.jc_world.specs.declared.event.Part.{Part}
-use Rattle.jc_world.specs.Calls.{CallState, op_at}
-use Rattle.jc_world.specs.declared.event.Shown.{Shown}
-use Rattle.jc_world.specs.declared.event.Over.{Over}
-use Rattle.jc_world.specs.declared.event.Outcome.{Outcome}
+use Rattle.jc_world.proofs.Common.{◌≡◌, ℕ, Bool, true, false, cond, not, ◌&&◌, ◌||◌, List, [], ◌∷◌, ◌++◌, is_some, IsSomeAnd, ◌==◌, slice_get, slice_set, Some, None, Option, option_map, zip, sym, refl, ap, ◌∙◌, subst, inl, inr, append_assoc, append-nil, eq-eqb, and_from, or_parts, false_from_ne_true, nat_eq_equiv, nat_list_eq_equiv, pointwise, get, remove, list_any, stripe_of, Caller, Config, Bytes, Op, belongs_to_same, belongs_to, JoinState, Again, Answered, Waiting, Joiner, with_joiner, without_joiner, told_to, State, is_key, reservation_of, IsOut, asks_loader, JoinClaim, Reservation, Outcome, Over, Part, Shown, WorldEvent, CallState, op_at, with_stripe, not_over, with_join, Starts, Ends, Picks, Happens, Step, Run, fits, ends_join, is_last_pick_up, ends_load, Resolves, IsHeld, IsOwned, IsSoundWorld, JoinKey, join_key, Joins, WorldState, home, stripe_for, open_call, of_call, part_of, join_of, has_joined, is_joined}
 use Rattle.jc_world.specs.declared.event.Outcome.TheVariants as outcome
-use Rattle.jc_world.specs.declared.event.WorldEvent.{WorldEvent}
 use Rattle.jc_world.specs.declared.event.WorldEvent.TheVariants as event
-use Rattle.jc_world.specs.World.{WorldState, home, stripe_for, open_call, of_call, part_of, JoinKey, Joins, join_key, join_of, has_joined, is_joined}
-use Rattle.jc_world.specs.Fits.{fits}
-use Rattle.jc_world.specs.Events.{not_over, with_stripe, with_join, Starts, Ends, Picks, Happens, Step, Run}
-use Rattle.jc_world.specs.PickUps.{ends_join, is_last_pick_up, ends_load, Resolves}
-use Rattle.jc_world.specs.Sound.{IsHeld, IsSoundWorld, IsOwned}
 use Rattle.jc_world.proofs.Numbered.{some_of}
 use Rattle.jc_world.proofs.Places.{at_stripe_apart, stripe_put}
 use Rattle.jc_world.proofs.Shares.{is_some_and, found_test, fact_found}

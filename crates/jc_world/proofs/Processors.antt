@@ -4,32 +4,12 @@
 --     write_due          with write-through on, what is due of the writer is the processor's net effect
 --     agrees_processed   what a processor leaves after which no writer is asked agrees with the store
 --     agrees_effect      so does what it leaves once the writer that is asked after it has returned
-use Rattle.std.proofs.Common.{◌≡◌, Bool, true, false, cond, Option, None, is_none, is_some, refl, sym, ap}
-use Rattle.jc_types.specs.declared.caller.Caller.{Caller}
-use Rattle.jc_types.specs.declared.config.Config.{Config}
-use Rattle.jc_model.specs.declared.event.Op.{Op}
-use Rattle.jc_model.specs.declared.event.Op.TheVariants.{Invoke}
-use Rattle.jc_model.specs.declared.event.LoadAnswer.{LoadAnswer}
+use Rattle.jc_world.proofs.Common.{◌≡◌, Bool, true, false, cond, is_some, is_none, None, Option, sym, refl, ap, Caller, Config, Bytes, is_write_given, is_invoke, entry_after, LoadAnswer, Op, Invoke, ProcessAnswer, WriteAnswer, ProcessResult, effect_change, invokes, change_due, Begins, reserves, load_joined, State, is_reserved, ProcessClaim, asks_processor, First, Loader, Nobody, Processor, Writer, Reservation, Agrees, LoadAgrees, WriteAgrees}
 use Rattle.jc_model.specs.declared.event.LoadAnswer.TheVariants as load
-use Rattle.jc_model.specs.declared.event.WriteAnswer.{WriteAnswer}
 use Rattle.jc_model.specs.declared.event.WriteAnswer.TheVariants as write
-use Rattle.jc_model.specs.declared.event.ProcessAnswer.{ProcessAnswer}
 use Rattle.jc_model.specs.declared.event.ProcessAnswer.TheVariants as process
 use Rattle.jc_model.specs.declared.event.Effect.TheVariants as effect
-use Rattle.jc_model.specs.Cache.{Bytes}
-use Rattle.jc_model.specs.Table.{is_invoke, is_write_given, entry_after}
-use Rattle.jc_mutentry.specs.Done.{ProcessResult, effect_change}
-use Rattle.jc_stripe.specs.declared.ticket.First.{First}
-use Rattle.jc_stripe.specs.declared.ticket.First.TheVariants.{Nobody, Loader, Writer, Processor}
-use Rattle.jc_stripe.specs.declared.ticket.Reservation.{Reservation}
 use Rattle.jc_stripe.specs.declared.begun.Begun.TheVariants as begun
-use Rattle.jc_stripe.specs.Tickets.{ProcessClaim, asks_processor}
-use Rattle.jc_stripe.specs.Effects.{change_due}
-use Rattle.jc_stripe.specs.State.{State, is_reserved}
-use Rattle.jc_stripe.specs.Refusals.{reserves, load_joined}
-use Rattle.jc_stripe.specs.Phases.{Begins}
-use Rattle.jc_stripe.proofs.CallerLemmas.{invokes}
-use Rattle.jc_world.specs.Sound.{Agrees, LoadAgrees, WriteAgrees}
 use Rattle.jc_world.proofs.Reservations.{was_free}
 
 -- 1. A processor's ticket.

@@ -6,29 +6,10 @@
 --     StayOut         from one world to a later one: that is so of all stripes
 --     stay_run        so it is in every run
 --     stays_held      so the entry of a key stays, if its reservation is the same
-use Rattle.std.proofs.Common.{inl, inr, ◌⊎◌, ◌≡◌, ◌<◌, ◌≤◌, ℕ, List, [], ◌∷◌, ◌++◌, Bool, true, false, cond, not, None, Some, find, filter, slice_get, slice_set, refl, sym, ap, ◌∙◌, subst, arith}
-use Rattle.std.specs.FinMap.{get}
-use Rattle.jc_types.specs.declared.config.Config.{Config}
-use Rattle.jc_types.specs.Stripes.{stripe_of}
-use Rattle.jc_model.specs.declared.event.Op.{Op}
-use Rattle.jc_model.specs.Cache.{Bytes, entry_at}
+use Rattle.jc_world.proofs.Common.{◌≡◌, ℕ, ◌<◌, ◌≤◌, Bool, true, false, cond, not, ◌⊎◌, List, [], ◌∷◌, ◌++◌, slice_get, slice_set, Some, None, filter, find, sym, refl, ap, ◌∙◌, subst, inl, inr, arith, get, stripe_of, Config, Bytes, entry_at, Op, KeepsReserved, IsReached, State, is_key, is_reserved, with_reservation, without_key, without_reservation, IsOut, Ticket, ProcessClaim, JoinClaim, Reservation, Outcome, Part, Shown, WorldEvent, CallState, step_of, Starts, Ends, Picks, Happens, Step, Run, is_appended, IsHeld, IsSoundWorld, WorldState, home, stripe_for, entry_in, cached_entry, out_of}
 use Rattle.jc_stripe.specs.declared.begun.Begun.TheVariants as begun
-use Rattle.jc_stripe.specs.declared.ticket.Reservation.{Reservation}
-use Rattle.jc_stripe.specs.Tickets.{Ticket, ProcessClaim, JoinClaim}
-use Rattle.jc_stripe.specs.State.{State, is_key, is_reserved, without_key, with_reservation, without_reservation, IsOut}
-use Rattle.jc_stripe.specs.Reached.{IsReached}
-use Rattle.jc_stripe.specs.Laws.{KeepsReserved}
-use Rattle.jc_world.specs.Calls.{CallState}
-use Rattle.jc_world.specs.declared.event.Part.{Part}
-use Rattle.jc_world.specs.declared.event.Shown.{Shown}
-use Rattle.jc_world.specs.declared.event.Outcome.{Outcome}
 use Rattle.jc_world.specs.declared.event.Outcome.TheVariants as outcome
-use Rattle.jc_world.specs.declared.event.WorldEvent.{WorldEvent}
 use Rattle.jc_world.specs.declared.event.WorldEvent.TheVariants as event
-use Rattle.jc_world.specs.World.{WorldState, home, stripe_for, entry_in, cached_entry, out_of}
-use Rattle.jc_world.specs.Events.{step_of, Starts, Ends, Picks, Happens, Step, Run}
-use Rattle.jc_world.specs.Reserved.{is_appended}
-use Rattle.jc_world.specs.Sound.{IsHeld, IsSoundWorld}
 use Rattle.jc_world.proofs.Numbered.{some_of}
 use Rattle.jc_world.proofs.Places.{at_stripe}
 use Rattle.jc_world.proofs.LoadKeys.{found_holds}

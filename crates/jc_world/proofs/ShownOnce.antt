@@ -4,52 +4,13 @@
 --     Gives          a phase raises that by one at the places that it answers, and leaves it at the others
 --     gives_done, gives_commit, gives_picked and so on      what each kind of phase answers
 --     owed_run        so a run raises it by the answers that it shows
-use Rattle.std.proofs.Common.{inl, inr, ◌≡◌, ◌==◌, ◌&&◌, ◌+◌, ℕ, zero, suc, List, [], ◌∷◌, ◌++◌, length, map, count_by, Bool, true, false, cond, Option, None, Some, slice_get, slice_set, refl, sym, ap, ◌∙◌, subst, arith}
-use Rattle.std.specs.List.{list_all}
-use Rattle.std.proofs.lemmas.Bool.{and_parts, eqb-true, eqb-false, eq-eqb}
-use Rattle.std.proofs.Math.Bool.{and-false}
-use Rattle.std.proofs.Math.Dec.{eqb-suc-zero, eqb-zero-suc, eqb-suc-suc}
-use Rattle.std.proofs.lemmas.List.Sums.{sum_by-cons}
-use Rattle.jc_types.specs.declared.caller.Caller.{Caller}
-use Rattle.jc_types.specs.declared.config.Config.{Config}
-use Rattle.jc_model.specs.declared.event.Op.{Op}
-use Rattle.jc_model.specs.declared.event.Op.TheVariants.{Get}
-use Rattle.jc_model.specs.declared.event.Out.{Out}
-use Rattle.jc_model.specs.declared.event.Reply.{Reply}
-use Rattle.jc_model.specs.declared.event.Cause.{Cause}
-use Rattle.jc_model.specs.declared.event.LoadAnswer.{LoadAnswer}
-use Rattle.jc_model.specs.declared.event.Event.{Event}
+use Rattle.jc_world.proofs.Common.{◌≡◌, ℕ, zero, suc, ◌+◌, Bool, true, false, cond, ◌&&◌, List, [], ◌∷◌, ◌++◌, map, length, ◌==◌, slice_get, slice_set, Some, None, count_by, Option, sym, refl, ap, ◌∙◌, subst, inl, inr, arith, and-false, eqb-suc-suc, eqb-suc-zero, eqb-zero-suc, eqb-true, eqb-false, eq-eqb, and_parts, sum_by-cons, list_all, Caller, Config, Bytes, Group, nothing_said, victim_events, evicted_events, step_event, shared_event, step_place, events_of, of_stripe, Cause, Event, LoadAnswer, Op, Get, Out, Reply, callers_of, Joiner, joined_parks, withdrawn_parks, beginner_parks, commit_parks, committer_parks, sharers_park, picker_parks, picked_parks, others_park, again_parks_same, Extends, Grows, is_parked, MayBegin, new_group, Steps, Begins, after_commit, Commits, without_joiner, PicksUp, IsReached, State, JoinClaim, StepDone, Reservation, Outcome, Part, Shown, WorldEvent, CallState, new_call, step_of, Starts, Ends, Picks, Happens, Step, Run, fits, start_with, is_answer_at, joiners_in, joiners_at, times_shown, IsSoundWorld, WorldState, home, stripe_for, out_of}
 use Rattle.jc_model.specs.declared.event.Event.TheVariants as stripe
-use Rattle.jc_model.specs.Cache.{Bytes}
-use Rattle.jc_model.specs.Group.{Group, nothing_said, victim_events, step_event, step_place, shared_event, evicted_events, events_of}
-use Rattle.jc_model.specs.Legal.{of_stripe}
-use Rattle.jc_inflight.specs.declared.joiner.Joiner.{Joiner}
-use Rattle.jc_inflight.specs.Joining.{callers_of}
-use Rattle.jc_stripe.specs.declared.begun.StepDone.{StepDone}
 use Rattle.jc_stripe.specs.declared.begun.Begun.TheVariants as begun
 use Rattle.jc_stripe.specs.declared.begun.Picked.TheVariants as picked
-use Rattle.jc_stripe.specs.declared.ticket.Reservation.{Reservation}
-use Rattle.jc_stripe.specs.Tickets.{JoinClaim}
-use Rattle.jc_stripe.specs.State.{State}
-use Rattle.jc_stripe.specs.Phases.{MayBegin, Begins, Commits, PicksUp, Steps, new_group, after_commit, without_joiner}
-use Rattle.jc_stripe.specs.Reached.{IsReached}
-use Rattle.jc_stripe.specs.OnePhase.{is_parked}
-use Rattle.jc_stripe.proofs.CallerLemmas.{joined_parks, withdrawn_parks, beginner_parks, commit_parks, committer_parks, sharers_park, picker_parks, picked_parks, others_park, again_parks_same}
-use Rattle.jc_stripe.specs.Laws.{Extends, Grows}
-use Rattle.jc_world.specs.declared.event.Part.{Part}
-use Rattle.jc_world.specs.declared.event.Shown.{Shown}
-use Rattle.jc_world.specs.declared.event.Outcome.{Outcome}
 use Rattle.jc_world.specs.declared.event.Outcome.TheVariants as outcome
-use Rattle.jc_world.specs.Calls.{CallState, new_call}
-use Rattle.jc_world.proofs.NewCalls.{begun_cases}
-use Rattle.jc_world.specs.declared.event.WorldEvent.{WorldEvent}
 use Rattle.jc_world.specs.declared.event.WorldEvent.TheVariants as event
-use Rattle.jc_world.specs.World.{WorldState, home, stripe_for, out_of}
-use Rattle.jc_world.specs.Fits.{fits}
-use Rattle.jc_world.specs.Events.{step_of, Starts, Ends, Picks, Happens, Step, Run}
-use Rattle.jc_world.specs.Sound.{IsSoundWorld}
-use Rattle.jc_world.specs.Headline.{start_with}
-use Rattle.jc_world.specs.Replies.{is_answer_at, joiners_in, joiners_at, times_shown}
+use Rattle.jc_world.proofs.NewCalls.{begun_cases}
 use Rattle.jc_world.proofs.Shares.{added, share_stays}
 use Rattle.jc_world.proofs.Places.{stripe_put}
 use Rattle.jc_world.proofs.Merging.{other_set}

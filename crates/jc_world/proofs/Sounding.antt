@@ -1,25 +1,6 @@
 -- Each event leads from a sound world to a sound one, and so does each run.
-use Rattle.std.proofs.Common.{inl, inr, is_none, ◌≡◌, ◌∙◌, ℕ, List, [], ◌∷◌, true, Option, Some, Result, Ok, Err, OnOk, OnErr, option_map, sym, subst, ap, refl}
-use Rattle.std.proofs.lemmas.Bool.{and_parts}
-use Rattle.jc_types.specs.declared.config.Config.{Config}
-use Rattle.jc_types.specs.Limits.{check}
-use Rattle.jc_model.specs.Cache.{Bytes, entry_at, with_entry}
-use Rattle.jc_model.specs.Table.{is_load_given}
-use Rattle.jc_model.specs.declared.event.WriteAnswer.{WriteAnswer}
-use Rattle.jc_types.specs.declared.refusal.Refusal.{Refusal}
-use Rattle.jc_types.specs.declared.refusal.Refusal.TheVariants.{WriterFailed}
-use Rattle.jc_world.specs.Calls.{CallState, open_keys}
-use Rattle.jc_world.specs.declared.event.Part.{Part}
-use Rattle.jc_world.specs.declared.event.Shown.{Shown}
-use Rattle.jc_world.specs.declared.event.WorldEvent.{WorldEvent}
+use Rattle.jc_world.proofs.Common.{◌≡◌, ℕ, true, List, [], ◌∷◌, is_none, OnOk, OnErr, Some, Ok, Err, Option, Result, option_map, sym, refl, ap, ◌∙◌, subst, inl, inr, and_parts, check, Config, Refusal, WriterFailed, Bytes, entry_at, with_entry, is_load_given, WriteAnswer, StaysReached, KeepsReserved, Part, Shown, WorldEvent, CallState, open_keys, with_met_by, after_report, reported_keys, keys_reported, Happens, Step, Run, fits, start_with, read_answer, load_from, report_for, IsSoundWorld, WorldState, start, is_fresh, open_call, part_of, has_progress, waits_for_load, waits_for_report, with_stored}
 use Rattle.jc_world.specs.declared.event.WorldEvent.TheVariants as event
-use Rattle.jc_stripe.specs.Laws.{StaysReached, KeepsReserved}
-use Rattle.jc_world.specs.World.{WorldState, start, open_call, is_fresh, part_of, waits_for_load, waits_for_report, with_stored, has_progress}
-use Rattle.jc_world.specs.Premises.{read_answer, report_for, load_from}
-use Rattle.jc_world.specs.Fits.{fits}
-use Rattle.jc_world.specs.Events.{with_met_by, after_report, reported_keys, keys_reported, Happens, Step, Run}
-use Rattle.jc_world.specs.Sound.{IsSoundWorld}
-use Rattle.jc_world.specs.Headline.{start_with}
 use Rattle.jc_world.proofs.Halves.{HasParts, sound}
 use Rattle.jc_world.proofs.Returns.{each_report, IsReport}
 use Rattle.jc_world.proofs.Beginning.{order_start}

@@ -4,44 +4,11 @@
 --     AllBegun       what is under way, reserved and joined is so of calls that have begun
 --     AllStand       each answer that was shown is that of its call's step, and the call has begun before it
 --     stands_run     so a run of events keeps that
-use Rattle.std.proofs.Common.{inl, inr, ◌≡◌, ℕ, zero, suc, List, [], ◌∷◌, ◌++◌, length, take, zip, true, false, cond, not, Option, None, Some, option_map, slice_get, refl, sym, ap, ◌∙◌, subst, append-nil, append_assoc, arith}
-use Rattle.std.specs.FinMap.{get, insert, remove, get-empty}
-use Rattle.std.proofs.lemmas.List.Elements.{filter-append}
-use Rattle.std.proofs.Math.Seq.{take-append_seam}
-use Rattle.std.proofs.lemmas.List.{take-append-le}
-use Rattle.std.proofs.lemmas.Option.{slice_get_within}
-use Rattle.jc_types.specs.declared.caller.Caller.{Caller}
-use Rattle.jc_types.specs.declared.config.Config.{Config}
-use Rattle.jc_types.specs.declared.refusal.Refusal.TheVariants.{WriterFailed}
-use Rattle.jc_types.specs.Stripes.{stripe_of}
-use Rattle.jc_model.specs.declared.event.Op.{Op}
-use Rattle.jc_model.specs.declared.event.Op.TheVariants.{Get}
-use Rattle.jc_model.specs.declared.event.Out.{Out}
-use Rattle.jc_model.specs.declared.event.Reply.{Reply}
-use Rattle.jc_model.specs.declared.event.Event.{Event as StripeEvent}
+use Rattle.jc_world.proofs.Common.{◌≡◌, ℕ, zero, suc, true, false, cond, not, List, [], ◌∷◌, ◌++◌, length, take, slice_get, Some, None, Option, option_map, zip, sym, refl, ap, ◌∙◌, subst, inl, inr, append_assoc, append-nil, arith, take-append_seam, take-append-le, filter-append, slice_get_within, get, insert, remove, get-empty, stripe_of, Caller, Config, WriterFailed, Bytes, key_cmp, nothing_said, is_of_stripe, of_stripe, Op, Get, Out, Reply, callers_of, step_at, after_commit, State, Ticket, ProcessClaim, JoinClaim, Command, Outcome, Part, Shown, WorldEvent, CallState, new_call, has_number, op_for, open_keys, is_going, has_too_many_keys, opened, going_on, with_met, with_found, step_of, with_met_by, new_load, new_write, new_process, new_part, Starts, Ends, Picks, reported_keys, keys_reported, Happens, Step, Run, fits, start_with, report_for, IsReplyOfStep, Stands, Each, IsSoundWorld, Parts, JoinKey, join_cmp, join_key, Joins, WorldState, home, stripe_for, open_call, part_of, out_of, join_of}
 use Rattle.jc_model.specs.declared.event.Event.TheVariants as stripe
-use Rattle.jc_model.specs.Cache.{Bytes, key_cmp}
-use Rattle.jc_model.specs.Group.{nothing_said}
-use Rattle.jc_model.specs.Legal.{is_of_stripe, of_stripe}
-use Rattle.jc_inflight.specs.Joining.{callers_of}
-use Rattle.jc_stripe.specs.Tickets.{Ticket, ProcessClaim, JoinClaim}
-use Rattle.jc_stripe.specs.State.{State}
-use Rattle.jc_stripe.specs.Phases.{after_commit}
-use Rattle.jc_stripe.proofs.CallerLemmas.{step_at}
-use Rattle.jc_world.specs.declared.event.Part.{Part}
-use Rattle.jc_world.specs.declared.event.Shown.{Shown}
-use Rattle.jc_world.specs.declared.event.Outcome.{Outcome}
 use Rattle.jc_world.specs.declared.event.Outcome.TheVariants as outcome
-use Rattle.jc_world.specs.declared.command.Command.{Command}
-use Rattle.jc_world.specs.Calls.{CallState, has_number, has_too_many_keys, is_going, op_for, new_call, opened, going_on, with_found, with_met, open_keys}
-use Rattle.jc_world.specs.declared.event.WorldEvent.{WorldEvent}
 use Rattle.jc_world.specs.declared.event.WorldEvent.TheVariants as event
-use Rattle.jc_world.specs.World.{WorldState, Parts, home, stripe_for, JoinKey, Joins, join_cmp, join_key, join_of, part_of, out_of, open_call}
-use Rattle.jc_world.specs.Fits.{fits}
-use Rattle.jc_world.specs.Events.{with_met_by, new_load, new_write, new_part, step_of, reported_keys, keys_reported, Starts, Ends, Picks, Happens, Step, Run, new_process}
-use Rattle.jc_world.specs.Sound.{IsSoundWorld, Each}
-use Rattle.jc_world.specs.Headline.{start_with}
-use Rattle.jc_world.specs.Replies.{IsReplyOfStep, Stands}
+use Rattle.jc_model.specs.declared.event.Event.{Event as StripeEvent}
 use Rattle.jc_world.proofs.Shares.{each_filter, each_pushed, each_map, added, fact_found, still_at}
 use Rattle.jc_world.proofs.Underway.{found_number, of_call-at}
 use Rattle.jc_world.proofs.Looked.{Taken, taken_of, taken_met, each_replaced}
@@ -52,7 +19,6 @@ use Rattle.jc_world.proofs.Joiners.{join_at}
 use Rattle.jc_world.proofs.Places.{stripe_put}
 use Rattle.jc_world.proofs.Maps.{keys_ordered, joins_ordered, each_put, each_left}
 use Rattle.jc_world.proofs.Callers.{part_key}
-use Rattle.jc_world.specs.Premises.{report_for}
 use Rattle.jc_world.proofs.Returns.{each_report}
 use Rattle.jc_world.proofs.Beside.{beside}
 use Rattle.jc_world.proofs.Sounding.{Laws, sound_step}

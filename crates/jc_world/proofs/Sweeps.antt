@@ -1,36 +1,10 @@
 -- Each call that looks at the stripes has taken keys of those at which it has looked: each event keeps that.
 --     sweeps_left, sweep_found      what is left of a call once a key is settled, and once it has taken keys
 --     sweeps_happens                any event that fits
-use Rattle.std.proofs.Common.{◌≡◌, ◌==◌, ◌||◌, ℕ, List, [], ◌∷◌, ◌++◌, true, false, cond, not, Option, None, Some, find, is_some, refl, sym, ap, ◌∙◌, subst, append-nil}
-use Rattle.std.specs.List.{list_all, list_any}
-use Rattle.std.specs.Map.{lookup}
-use Rattle.std.specs.Option.{option_or}
-use Rattle.std.specs.Cmp.Lexicographic.{pointwise}
-use Rattle.std.proofs.lemmas.Bool.{and_parts, eqb-true, or_right}
-use Rattle.std.proofs.lemmas.Cmp.{nat_eq_equiv}
-use Rattle.std.proofs.lemmas.List.Folds.{list_any-append}
-use Rattle.std.proofs.lemmas.Map.Made.{is_some-lookup}
-use Rattle.jc_types.specs.declared.caller.Caller.{Caller}
-use Rattle.jc_types.specs.declared.refusal.Refusal.{Refusal}
-use Rattle.jc_types.specs.declared.config.Config.{Config}
-use Rattle.jc_types.specs.Stripes.{stripe_of}
-use Rattle.jc_model.specs.declared.event.Op.{Op}
-use Rattle.jc_model.specs.Cache.{Bytes}
-use Rattle.jc_stripe.specs.State.{State}
-use Rattle.jc_stripe.specs.Tickets.{JoinClaim}
-use Rattle.jc_world.specs.declared.command.Command.{Command}
+use Rattle.jc_world.proofs.Common.{◌≡◌, ℕ, true, false, cond, not, ◌||◌, List, [], ◌∷◌, ◌++◌, is_some, ◌==◌, Some, None, Option, find, sym, refl, ap, ◌∙◌, subst, append-nil, eqb-true, and_parts, or_right, nat_eq_equiv, list_any-append, is_some-lookup, pointwise, list_any, list_all, lookup, option_or, stripe_of, Caller, Config, Refusal, Bytes, Op, State, JoinClaim, Command, Outcome, Part, Shown, WorldEvent, at_each, SweepState, CallState, new_call, has_number, opened, going_on, with_met, settle, has_looked, has_looked_at_each, next_sweep, with_found, look, fault_in, with_met_by, Starts, Ends, Picks, Happens, fits, Each, Sweeps, IsSoundWorld, WorldState, open_call}
 use Rattle.jc_world.specs.declared.command.Command.TheVariants as command
-use Rattle.jc_world.specs.declared.event.Part.{Part}
-use Rattle.jc_world.specs.declared.event.Shown.{Shown}
-use Rattle.jc_world.specs.declared.event.Outcome.{Outcome}
 use Rattle.jc_world.specs.declared.event.Outcome.TheVariants as outcome
-use Rattle.jc_world.specs.declared.event.WorldEvent.{WorldEvent}
 use Rattle.jc_world.specs.declared.event.WorldEvent.TheVariants as event
-use Rattle.jc_world.specs.Calls.{CallState, SweepState, has_looked, has_looked_at_each, has_number, at_each, new_call, opened, settle, going_on, next_sweep, with_found, with_met, look}
-use Rattle.jc_world.specs.World.{WorldState, open_call}
-use Rattle.jc_world.specs.Fits.{fits}
-use Rattle.jc_world.specs.Events.{fault_in, with_met_by, Starts, Ends, Picks, Happens}
-use Rattle.jc_world.specs.Sound.{Sweeps, Each, IsSoundWorld}
 use Rattle.jc_world.proofs.Found.{lookup-found}
 use Rattle.jc_world.proofs.Looked.{each_replaced}
 use Rattle.jc_world.proofs.NewCalls.{opened_cases}

@@ -16,25 +16,8 @@
 --                             the first open key from a place on
 --     first_settled, first_fits
 --                             once a key is settled, the first open one is found from where it was
-use Rattle.std.proofs.Common.{◌≡◌, ◌==◌, ◌<◌, ◌≤◌, ◌+◌, ◌&&◌, ◌||◌, ℕ, zero, suc, Bool, true, false, cond, not, List, [], ◌∷◌, ◌++◌, filter, take, drop, length, option_map, subst, slice_get, Option, None, Some, is_some, refl, sym, ap, ◌∙◌, arith, true≢false, zero-add}
-use Rattle.std.specs.List.{list_all, list_any, IsDistinct, AllByRecursion}
-use Rattle.std.specs.Map.{keys_of, lookup, set_value}
-use Rattle.std.specs.Option.{option_flatten}
-use Rattle.std.specs.Prelude.{get_or}
-use Rattle.std.specs.Cmp.Lexicographic.{pointwise}
-use Rattle.std.proofs.lemmas.Map.Keys.{IsDistinct-head, IsDistinct-tail}
-use Rattle.std.proofs.lemmas.Map.Made.{IsDistinct-keys_filter, is_some-lookup}
-use Rattle.std.proofs.lemmas.Bool.{and_parts, and_from, and_right, false_from_ne_true}
-use Rattle.std.proofs.lemmas.Bool.Decides.{nat_tests}
-use Rattle.std.proofs.lemmas.List.{take_more, map-append}
-use Rattle.std.proofs.lemmas.Option.{get_or_from_slice_get, slice_get_within, slice_get_read}
-use Rattle.indexmap.specs.IndexMap.{IndexMap, insert_entry}
-use Rattle.indexmap.proofs.CallerLemmas.{insert_entry-new}
-use Rattle.jc_model.specs.declared.event.Op.{Op}
+use Rattle.jc_world.proofs.Common.{◌≡◌, ℕ, zero, suc, ◌+◌, ◌<◌, ◌≤◌, Bool, true, false, cond, not, ◌&&◌, ◌||◌, List, [], ◌∷◌, ◌++◌, length, get_or, take, drop, is_some, ◌==◌, slice_get, Some, None, filter, Option, option_map, sym, refl, ap, ◌∙◌, subst, true≢false, zero-add, arith, and_parts, and_from, and_right, false_from_ne_true, nat_tests, map-append, take_more, IsDistinct-head, IsDistinct-tail, is_some-lookup, IsDistinct-keys_filter, slice_get_within, slice_get_read, get_or_from_slice_get, pointwise, list_any, list_all, AllByRecursion, IsDistinct, keys_of, lookup, set_value, option_flatten, insert_entry-new, IndexMap, insert_entry, Bytes, Op, Task, at_each, put_each_of, op_in, is_open, open_in, first_open}
 use Rattle.jc_model.specs.declared.event.Op.TheVariants as op
-use Rattle.jc_model.specs.Cache.{Bytes}
-use Rattle.jc_world.specs.Calls.{Task, at_each, put_each_of, op_in, is_open, open_in}
-use Rattle.jc_world.specs.OpenCalls.{first_open}
 use Rattle.jc_world.proofs.Underway.{same_bytes}
 
 -- 1. New keys.

@@ -3,33 +3,9 @@
 --     kept_fit        what fits at such a key fits in either
 --     keeps_other     what happens at a key keeps every other key of the call
 --     fit_together    what fits at keys that differ fits one after the other
-use Rattle.std.proofs.Common.{inl, ◌≡◌, ◌==◌, ◌||◌, ◌&&◌, ◌∙◌, ℕ, List, [], ◌∷◌, ◌++◌, map, Bool, true, false, cond, not, Option, None, Some, IsSomeAnd, find, is_none, is_some, refl, sym, ap, subst, append-nil}
-use Rattle.std.specs.FinMap.{get, insert, remove, get-insert}
-use Rattle.std.specs.List.{IsDistinct, AllByRecursion, list_all, list_any}
-use Rattle.std.specs.Cmp.Lexicographic.{pointwise}
-use Rattle.std.proofs.lemmas.Bool.{eqb-true, and_parts, and_from, or_right}
-use Rattle.std.proofs.lemmas.Cmp.{nat_list_cmp_total, nat_list_eq_equiv, nat_eq_equiv}
-use Rattle.std.proofs.lemmas.Map.Keys.{IsDistinct-head, IsDistinct-tail}
-use Rattle.jc_model.specs.Batches.{is_among}
-use Rattle.jc_model.specs.Cache.{Bytes}
-use Rattle.jc_model.specs.Table.{is_load_given}
-use Rattle.jc_model.specs.declared.event.Change.{Change}
-use Rattle.jc_model.specs.declared.event.Op.{Op}
-use Rattle.jc_stripe.specs.State.{State}
-use Rattle.jc_stripe.specs.Tickets.{JoinClaim}
-use Rattle.jc_types.specs.declared.refusal.Refusal.{Refusal}
-use Rattle.jc_world.specs.declared.event.Part.{Part}
-use Rattle.jc_world.specs.declared.event.Shown.{Shown}
-use Rattle.jc_world.specs.declared.event.Outcome.{Outcome}
+use Rattle.jc_world.proofs.Common.{◌≡◌, ℕ, Bool, true, false, cond, not, ◌&&◌, ◌||◌, List, [], ◌∷◌, ◌++◌, map, is_some, is_none, IsSomeAnd, ◌==◌, Some, None, Option, find, sym, refl, ap, ◌∙◌, subst, inl, append-nil, eqb-true, and_parts, and_from, or_right, nat_eq_equiv, nat_list_cmp_total, nat_list_eq_equiv, IsDistinct-head, IsDistinct-tail, pointwise, get, insert, remove, get-insert, list_any, list_all, AllByRecursion, IsDistinct, Refusal, is_among, Bytes, is_load_given, Change, Op, State, JoinClaim, Outcome, Part, Shown, WorldEvent, CallState, has_number, op_at, open_keys, is_turn, settle, Starts, Ends, Picks, with_change, after_change, Happens, AllFit, is_free, may_start, may_leave, waits_at, may_report, fits, Each, IsCallOf, IsSoundWorld, at_call, key_at, AreAt, FitTogether, Parts, JoinKey, join_key, WorldState, open_call, of_call, part_of, has_progress, waits_for_load, waits_for_report, has_joined, is_joined}
 use Rattle.jc_world.specs.declared.event.Outcome.TheVariants as outcome
-use Rattle.jc_world.specs.declared.event.WorldEvent.{WorldEvent}
 use Rattle.jc_world.specs.declared.event.WorldEvent.TheVariants as event
-use Rattle.jc_world.specs.Calls.{CallState, has_number, is_turn, op_at, open_keys, settle}
-use Rattle.jc_world.specs.World.{WorldState, Parts, open_call, of_call, part_of, JoinKey, join_key, has_joined, is_joined, has_progress, waits_for_load, waits_for_report}
-use Rattle.jc_world.specs.Fits.{fits, is_free, may_start, may_leave, waits_at, may_report}
-use Rattle.jc_world.specs.Events.{with_change, after_change, Happens, Starts, Ends, Picks, AllFit}
-use Rattle.jc_world.specs.Sound.{IsCallOf, IsSoundWorld, Each}
-use Rattle.jc_world.specs.Together.{at_call, key_at, AreAt, FitTogether}
 use Rattle.jc_world.proofs.Beginning.{may_start_at, may_turn, part_turn}
 use Rattle.jc_world.proofs.Callers.{picking, picking_turn}
 use Rattle.jc_world.proofs.Entries.{split}

@@ -1,7 +1,4 @@
-use Rattle.std.proofs.Common.{◌≡◌, ◌∙◌, Ok, Option, None, IsSomeAnd, position, ap, sym, subst}
-use Rattle.jc_types.proofs.CallerLemmas.{find_at_place, find_nowhere}
-use Rattle.jc_world.specs.Calls.{CallState, has_number, with_found}
-use Rattle.jc_world.specs.OpenCalls.{TakesKeys}
+use Rattle.jc_world.proofs.Common.{◌≡◌, IsSomeAnd, None, Ok, Option, position, sym, ap, ◌∙◌, subst, find_at_place, find_nowhere, CallState, has_number, with_found, TakesKeys}
 use Rattle.jc_world.proofs.Looked.{ended_at}
 use Rattle.jc_world.proofs.calls.look.Goals as goal
 

@@ -1,11 +1,4 @@
-use Rattle.std.proofs.Common.{◌≡◌, ◌<◌, get_or, slice_set, ℕ, sym, ap, ◌∙◌, subst, arith, vec_len}
-use Rattle.jc_stripe.specs.State.{State}
-use Rattle.jc_stripe.specs.Phases.{PicksUp, without_joiner}
-use Rattle.jc_stripe.specs.declared.begun.Picked.{Picked}
-use Rattle.jc_types.specs.Stripes.{stripe_of}
-use Rattle.jc_world.specs.Ending.{AreLeft, HasJoins, NoneReserved}
-use Rattle.jc_world.specs.Held.{joins_of}
-use Rattle.jc_world.specs.World.{empty_stripe}
+use Rattle.jc_world.proofs.Common.{◌≡◌, ℕ, ◌<◌, get_or, slice_set, vec_len, sym, ap, ◌∙◌, subst, arith, stripe_of, without_joiner, PicksUp, State, Picked, AreLeft, HasJoins, NoneReserved, joins_of, empty_stripe}
 use Rattle.jc_world.proofs.Closing.{left_set, never_waits, picked_left, picked_up, none_set, home_of_join}
 use Rattle.jc_world.proofs.ending.pick_all.Goals as goal
 

@@ -1,9 +1,4 @@
-use Rattle.std.proofs.Common.{◌==◌, subst, sym}
-use Rattle.std.specs.List.{IsDistinct}
-use Rattle.std.specs.Map.{keys_of}
-use Rattle.std.specs.Cmp.Lexicographic.{pointwise}
-use Rattle.jc_world.specs.OpenCalls.{tasks_of}
-use Rattle.jc_world.specs.declared.tasks.Tasks.{Tasks}
+use Rattle.jc_world.proofs.Common.{◌==◌, sym, subst, pointwise, IsDistinct, keys_of, Tasks, tasks_of}
 use Rattle.jc_world.proofs.AtWork.{alone_differs}
 use Rattle.jc_world.proofs.tasks.names_each_once.Goals as goal
 

@@ -1,6 +1,4 @@
-use Rattle.std.proofs.Common.{sym, subst}
-use Rattle.jc_world.specs.declared.event.WorldEvent.{WorldEvent}
-use Rattle.jc_world.specs.Events.{Happens}
+use Rattle.jc_world.proofs.Common.{sym, subst, WorldEvent, Happens}
 use Rattle.jc_world.proofs.machine.Machine.apply.Goals as goal
 
 pub returns-in_ok-commit-in-Commit-clause-ok : goal.returns-in_ok-commit-in-Commit-clause-ok

@@ -1,9 +1,4 @@
-use Rattle.std.proofs.Common.{List, sym, subst}
-use Rattle.jc_world.specs.Sound.{IsSoundWorld}
-use Rattle.jc_world.specs.Ending.{AreLeft, HasHeld, HasJoins}
-use Rattle.jc_stripe.specs.State.{State}
-use Rattle.jc_world.specs.Inside.{world_of}
-use Rattle.jc_world.specs.Held.{parts_of, joins_of}
+use Rattle.jc_world.proofs.Common.{List, sym, subst, State, AreLeft, HasHeld, HasJoins, parts_of, joins_of, world_of, IsSoundWorld}
 use Rattle.jc_world.proofs.Closing.{all_left, held_out, joins_out}
 use Rattle.jc_world.proofs.machine.Machine.close.Goals as goal
 
