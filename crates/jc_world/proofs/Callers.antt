@@ -540,9 +540,8 @@ again_untold (Some j) h = go j.state (same_some j.state Again h)
     same_some x y e = cc
 
     go : (s : JoinState) → s ≡ Again → has_answer s ≡ false
-    go Waiting h = refl
     go (Answered place shared) h = cc
-    go Again h = refl
+    go s h = refl
 
 -- a call is told to retry
 order_again : StaysReached → (w : WorldState) (call : ℕ) (key : Bytes) (join : JoinClaim) (from to : State) → join_of w call key ≡ Some join → stripe_for w key ≡ Some from → PicksUp from join picked.Again to → IsSoundWorld w

@@ -22,17 +22,11 @@ dues_remove config parts key all = each_left keys_ordered (λ q part. is_due con
 
 due_change : (config : Config) (r : Reservation) (p : Progress) → is_due_in config r p ≡ true → is_due_in config r (with_change p) ≡ true
 due_change config r (Loading answer) h = h
-due_change config r (Writing is_changed report) h = h
-due_change config r Processing h = h
-due_change config r (Processed loaded process) h = h
-due_change config r (WritingEffect loaded process is_changed report) h = h
+due_change config r p h = h
 
 due_report : (config : Config) (r : Reservation) (p : Progress) (report : WriteAnswer) → is_due_in config r p ≡ true → is_due_in config r (with_report p report) ≡ true
 due_report config r (Loading answer) report h = h
-due_report config r (Writing is_changed was) report h = h
-due_report config r Processing report h = h
-due_report config r (Processed loaded process) report h = h
-due_report config r (WritingEffect loaded process is_changed was) report h = h
+due_report config r p report h = h
 
 due_run : (config : Config) (r : Reservation) (done : ProcessResult Reservation) → is_due_in config r (progress_after (change_due config done) done) ≡ true
 due_run config r done = go (change_due config done) refl
@@ -74,7 +68,6 @@ pub dues_reported : (w : WorldState) (call : ℕ) (key : Bytes) (part : Part) (r
 dues_reported w call key part report at old = dues_insert w.config w.parts key _ old (due_report w.config part.reservation part.progress report (due_of w call key part at old))
 
 pub dues_happens : (w new : WorldState) (e : WorldEvent) (seen : Shown) → Happens w e seen new → AllDueAt w → AllDueAt new
-dues_happens w new (event.Call call session command) seen h old = subst AllDueAt (sym h.1) old
 dues_happens w new (event.Look call stripe) seen h old = subst AllDueAt (sym h.9) old
 dues_happens w new (event.Start call key) seen h old = dues_started w new h.0.caller key h.1 h.4 h.6 seen.outcome h.7 old
 dues_happens w new (event.Read call key) seen h old = subst AllDueAt (sym h.3) (dues_insert w.config w.parts key _ old refl)
@@ -89,9 +82,8 @@ dues_happens w new (event.Report call left fault) seen h old =
     subst AllDueAt (sym h.3) (each_report AllDueAt call answer (λ v key part at waits o. dues_reported v call key part (answer key) at o) (with_met_by w call (option_map WriterFailed fault)) (keys_reported (reported_keys w.parts call (open_keys h.0))) old)
 dues_happens w new (event.Commit call key) seen h old = dues_ended w new call key h.0 h.2 h.4 seen.outcome h.5 old
 dues_happens w new (event.Withdraw call key) seen h old = subst AllDueAt (sym h.7) (dues_remove w.config w.parts key old)
-dues_happens w new (event.Leave call) seen h old = subst AllDueAt (sym h.1) old
 dues_happens w new (event.PickUp call key) seen h old = dues_picks w new call key h.0 h.2 h.4 seen.outcome h.5 old
-dues_happens w new (event.Foreign key value) seen h old = subst AllDueAt (sym h.1) old
+dues_happens w new e seen h old = subst AllDueAt (sym h.1) old
 
 -- nothing is reserved at the start
 pub dues_start : (config : Config) → AllDueAt (start config)

@@ -41,9 +41,8 @@ none_if false entry h = refl
 
 -- a step that has a victim finds its key missing, so it finds without the victim what it found with it
 found_without : (cache : Cache) (key : Bytes) (b : Bool) (victim : Option Bytes) → (b ≡ true → entry_at cache key ≡ None) → entry_at (without_victim cache (cond b victim None)) key ≡ entry_at cache key
-found_without cache key false victim h = refl
-found_without cache key true None h = refl
 found_without cache key true (Some other) h = get-remove nat_list_cmp_total cache other key ∙ none_if (eq_by_cmp key_cmp key other) (entry_at cache key) (h refl)
+found_without cache key b victim h = refl
 
 -- a step that inserts into a full stripe finds its key missing
 came : (a b c : Bool) → ((a && b) && c) ≡ true → a ≡ true
@@ -96,14 +95,11 @@ pub writes : (op : Op) (entry : Option Bytes) (change : Change) → write_ask op
 writes (Put value) entry change h = to (Write value) change h
 writes (GetAndPut value) entry change h = to (Write value) change h
 writes (PutIfAbsent value) None change h = to (Write value) change h
-writes (PutIfAbsent value) (Some x) change h = not_asked change _ h
 writes Remove entry change h = to Delete change h
 writes (RemoveIf old) entry change h = writes_if (holds entry old) entry None Delete change refl h
 writes GetAndRemove entry change h = to Delete change h
-writes (Replace value) None change h = not_asked change _ h
 writes (Replace value) (Some x) change h = to (Write value) change h
 writes (ReplaceIf old value) entry change h = writes_if (holds entry old) entry (Some value) (Write value) change refl h
-writes (GetAndReplace value) None change h = not_asked change _ h
 writes (GetAndReplace value) (Some x) change h = to (Write value) change h
 writes op entry change h = not_asked change _ h
 
@@ -112,8 +108,7 @@ writes op entry change h = not_asked change _ h
 -- a writer that is asked is asked for this
 writer_is : (b : Bool) (asks : Option Change) (change : Change) → writer_for (cond b asks None) ≡ Writer change → asks ≡ Some change
 writer_is true (Some asks) change h = cc
-writer_is true None change h = cc
-writer_is false asks change h = cc
+writer_is b asks change h = cc
 
 -- if the writer table is read, no loader is asked
 no_loader : (b : Bool) (asks : Option Change) (A : Type 0) → writer_for (cond b asks None) ≡ Loader → A
@@ -130,8 +125,7 @@ no_writer false false change A h = cc
 -- with write-through on, nobody is asked only if there is nothing to write
 unasked : (b : Bool) (asks : Option Change) → writer_for (cond b asks None) ≡ Nobody → b ≡ true → asks ≡ None
 unasked true None h on = refl
-unasked true (Some asks) h on = cc
-unasked false asks h on = cc
+unasked b asks h on = cc
 
 -- the loader is asked first by what loads
 pub loads_asked : (config : Config) (op : Op) (entry : Option Bytes) → first_asked config op entry ≡ Loader → loads_whole op ≡ true
@@ -168,12 +162,9 @@ keeps_if false asks entry next stored h kept = kept
 
 -- an operation with nothing to write keeps the entry or takes it out
 keeps : (op : Op) (entry stored : Option Bytes) → write_ask op entry process.NotAsked ≡ None → Agrees entry stored → Agrees (entry_after op entry nothing_said) stored
-keeps Get entry stored h kept = kept
-keeps ContainsKey entry stored h kept = kept
 keeps (Put value) entry stored h kept = cc
 keeps (GetAndPut value) entry stored h kept = cc
 keeps (PutIfAbsent value) None stored h kept = cc
-keeps (PutIfAbsent value) (Some x) stored h kept = kept
 keeps Remove entry stored h kept = tt
 keeps (RemoveIf old) entry stored h kept = keeps_if (holds entry old) Delete entry None stored h kept
 keeps GetAndRemove entry stored h kept = tt
@@ -183,8 +174,7 @@ keeps (ReplaceIf old value) entry stored h kept = keeps_if (holds entry old) (Wr
 keeps (GetAndReplace value) None stored h kept = tt
 keeps (GetAndReplace value) (Some x) stored h kept = cc
 keeps Clear entry stored h kept = tt
-keeps (LoadAll replace) entry stored h kept = kept
-keeps Invoke entry stored h kept = kept
+keeps op entry stored h kept = kept
 
 -- a call that asks nobody, with write-through on, keeps the entry or takes it out
 pub asks_nobody : (config : Config) (op : Op) (entry stored : Option Bytes) → config.write_through ≡ true → first_asked config op entry ≡ Nobody → Agrees entry stored → Agrees (entry_after op entry nothing_said) stored

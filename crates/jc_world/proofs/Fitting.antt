@@ -38,16 +38,13 @@ fit_shown : (old new : WorldState) (e : WorldEvent) (seen : Shown) → Happens o
 fit_shown old new (event.Call call session command) seen h = ap (λ (s : Shown). is_fit s.outcome) h.0 ∙ begun_cases (new_call call session command) (λ s. is_fit s.outcome ≡ true) refl refl
 fit_shown old new (event.Look call stripe) seen h = ap (λ (s : Shown). is_fit s.outcome) h.8
 fit_shown old new (event.Start call key) seen h = started_fits old new h.0.caller key h.1 h.4 h.6 seen.outcome h.7
-fit_shown old new (event.Read call key) seen h = ap (λ (s : Shown). is_fit s.outcome) h.2
-fit_shown old new (event.Say call key answer) seen h = ap (λ (s : Shown). is_fit s.outcome) h.2
-fit_shown old new (event.Process call key source calls fail) seen h = ap (λ (s : Shown). is_fit s.outcome) h.2
 fit_shown old new (event.Change call key) seen h = ap (λ (s : Shown). is_fit s.outcome) h.4
-fit_shown old new (event.Report call left fault) seen h = ap (λ (s : Shown). is_fit s.outcome) h.2
 fit_shown old new (event.Commit call key) seen h = ended_fits old new call key h.0 h.2 h.4 seen.outcome h.5
 fit_shown old new (event.Withdraw call key) seen h = ap (λ (s : Shown). is_fit s.outcome) h.6
 fit_shown old new (event.Leave call) seen h = ap (λ (s : Shown). is_fit s.outcome) h.0
 fit_shown old new (event.PickUp call key) seen h = picked_fits old new call key h.0 h.2 h.4 seen.outcome h.5
 fit_shown old new (event.Foreign key value) seen h = ap (λ (s : Shown). is_fit s.outcome) h.0
+fit_shown old new e seen h = ap (λ (s : Shown). is_fit s.outcome) h.2
 
 -- there is nothing that doesn't fit
 pub none_fit : (w : WorldState) → AllFit w []
@@ -74,10 +71,7 @@ still_waits call o part is waits =
   where
     unchanged : (p : Progress) → waits_for_report (with_change p) ≡ waits_for_report p
     unchanged (Loading answer) = refl
-    unchanged (Writing is_changed report) = refl
-    unchanged Processing = refl
-    unchanged (Processed loaded process) = refl
-    unchanged (WritingEffect loaded process is_changed report) = refl
+    unchanged p = refl
 
 -- 3. A call that has just begun.
 
@@ -146,14 +140,9 @@ looks_fit call (suc (suc count)) from w u s here sweeps below few =
 
 -- a call that looks at the stripes names no key, and has looked at none
 sweeping : (call session : ℕ) (c : Command) (s : SweepState) → sweep_of c ≡ Some s → (has_too_many_keys (new_call call session c) ≡ false) × (s.looked ≡ [])
-sweeping call session (command.Single op key) s is = cc
-sweeping call session (command.GetAll keys) s is = cc
-sweeping call session (command.PutAll entries) s is = cc
-sweeping call session (command.RemoveAll keys) s is = cc
 sweeping call session command.RemoveEvery s is = (refl, cc)
 sweeping call session command.Clear s is = (refl, cc)
-sweeping call session (command.LoadAll replace keys) s is = cc
-sweeping call session (command.InvokeAll keys) s is = cc
+sweeping call session c s is = cc
 
 pub looks_begun : (w : WorldState) → IsSoundWorld w → (call session : ℕ) (c : Command) (s : SweepState) → fits w (event.Call call session c) ≡ true → sweep_of c ≡ Some s → AllFit w (event.Call call session c ∷ looks call 0 w.config.stripes)
 looks_begun w old call session c s fit sweeps =

@@ -21,13 +21,12 @@ of_key test o call none h = go (of_call call o) refl h
 untouched_open : (p : Progress) → is_untouched p ≡ true → is_unasked p ≡ true
 untouched_open (Loading answer) h = h
 untouched_open Processing h = refl
-untouched_open (Processed loaded process) h = cc
-untouched_open (WritingEffect loaded process is_changed report) h = cc
 untouched_open (Writing is_changed report) h = not_given is_changed (is_write_given report) h
   where
     not_given : (c b : Bool) → (not c && not b) ≡ true → not b ≡ true
     not_given true b h = cc
     not_given false b h = h
+untouched_open p h = cc
 
 -- a call whose commit fits has its key, and so what is held of that is its part
 pub fits_commit : (v w : WorldState) (call : ℕ) (key : Bytes) → v ≡ w → fits w (event.Commit call key) ≡ true → (part : Part) × (part_of v call key ≡ Some part) × (get v.parts key ≡ Some part) × (has_progress is_answered (get v.parts key) ≡ true)

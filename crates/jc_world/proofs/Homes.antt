@@ -121,8 +121,7 @@ is_true false h = absurd h
 -- what is less isn't equal
 less_not_equal : (r : Ordering) → is_lt r ≡ true → is_eq r ≡ false
 less_not_equal Less h = refl
-less_not_equal Equal h = cc
-less_not_equal Greater h = cc
+less_not_equal r h = cc
 
 -- a key below all of a list isn't in it
 none_below : (key : Bytes) (es : List (Bytes × Bytes)) → below_all key_cmp key es ≡ true → find key_cmp key es ≡ None

@@ -67,8 +67,7 @@ tells_on number shows more s t r Again on (at, end) = (at, end_more shows more r
 -- a joiner that waits tells that the load is out
 tells_out : (number : ℕ) (shows : Shows) (s : State) (r : Reservation) (state : JoinState) → is_waiting state ≡ true → Tells number shows s r state → IsOut s r × (list_any (ends_load r) shows ≡ false)
 tells_out number shows s r Waiting waits h = h
-tells_out number shows s r (Answered place shared) waits h = cc
-tells_out number shows s r Again waits h = cc
+tells_out number shows s r state waits h = cc
 
 -- the joiners are the same, or there are more after them
 pub tells_kept : (number : ℕ) (shows more : Shows) (join : JoinClaim) (r : Reservation) (s t : State) (behind : List Joiner) → t.joiners ≡ s.joiners ++ behind → list_any (ends_load r) more ≡ false → (IsOut s r → IsOut t r)

@@ -14,8 +14,7 @@ joiner_of caller key joiners = find (belongs_to caller key) joiners
 -- what waits has no answer
 pub unanswered : (s : JoinState) → is_waiting s ≡ true → has_answer s ≡ true → ⊥
 unanswered Waiting h k = cc
-unanswered (Answered place shared) h k = cc
-unanswered Again h k = cc
+unanswered s h k = cc
 
 -- an answer that is parked stays if others are parked
 pub told_resolved : (load step place : ℕ) (caller : Caller) (key : Bytes) (js : List Joiner) → has_parked_answer (joiner_of caller key js) ≡ true → has_parked_answer (joiner_of caller key (answered_from load step place js)) ≡ true

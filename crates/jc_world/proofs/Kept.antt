@@ -76,17 +76,14 @@ holds_same (Some x) value h = ap Some (same_key x value (sym (texts_ties x value
 
 -- what an honest loader found is what is stored
 true_found : (answer : LoadAnswer) (stored : Option Bytes) → is_true_load answer stored ≡ true → Agrees (found_in answer) stored
-true_found load.NotAsked stored h = tt
 true_found (load.Found value) stored h = holds_same stored value h
-true_found load.Nothing stored h = tt
-true_found (load.Failed code) stored h = tt
+true_found answer stored h = tt
 
 -- tests that answer alike are the same
 same_test : (a b : Bool) → beq a b ≡ true → b ≡ a
-same_test true true h = refl
 same_test true false h = cc
 same_test false true h = cc
-same_test false false h = refl
+same_test a b h = refl
 
 -- what a key's part, its entry and the store say, if the entry is changed
 told_on : (o : Option Part) (stored entry next : Option Bytes) → (Agrees entry stored → Agrees next stored) → KeyAgrees o stored entry → KeyAgrees o stored next
@@ -95,16 +92,14 @@ told_on (Some part) stored entry next f h = go part.progress h
   where
     go : (p : Progress) → ProgressAgrees p part.reservation.first stored entry → ProgressAgrees p part.reservation.first stored next
     go (Loading answer) h = record { loaded = h.loaded; unwritten = f h.unwritten }
-    go (Writing is_changed report) h = record { written = h.written; unwritten = λ e. f (h.unwritten e); honest = h.honest }
     go Processing h = f h
     go (Processed loaded process) h = record { loaded = h.loaded; unwritten = f h.unwritten }
-    go (WritingEffect loaded process is_changed report) h = record { written = h.written; unwritten = λ e. f (h.unwritten e); honest = h.honest }
+    go p h = record { written = h.written; unwritten = λ e. f (h.unwritten e); honest = h.honest }
 
 -- nothing cached and no part say nothing
 told_none : (o : Option Part) (stored entry : Option Bytes) → o ≡ None → entry ≡ None → KeyAgrees o stored entry
 told_none None stored None h k = tt
-told_none None stored (Some x) h k = cc
-told_none (Some part) stored entry h k = cc
+told_none o stored entry h k = cc
 
 -- what is known of a key with this part
 told_at : (o : Option Part) (part : Part) (stored entry : Option Bytes) → o ≡ Some part → KeyAgrees o stored entry → ProgressAgrees part.progress part.reservation.first stored entry
@@ -112,11 +107,10 @@ told_at o part stored entry e h = let P : Option Part → Type 0 = λ o. KeyAgre
 
 -- as long as the writer hasn't changed the store, the entry agrees with it
 unwritten_in : (p : Progress) (first : First) (stored entry : Option Bytes) → has_changed p ≡ false → ProgressAgrees p first stored entry → Agrees entry stored
-unwritten_in (Loading answer) first stored entry e h = h.unwritten
 unwritten_in (Writing is_changed report) first stored entry e h = h.unwritten e
 unwritten_in Processing first stored entry e h = h
-unwritten_in (Processed loaded process) first stored entry e h = h.unwritten
 unwritten_in (WritingEffect loaded process is_changed report) first stored entry e h = h.unwritten e
+unwritten_in p first stored entry e h = h.unwritten
 
 -- 2. What is known of a sound world.
 
@@ -174,50 +168,32 @@ told_insert w parts store key new all one q =
 -- an answer that was due is of whom was asked, and so is a report
 load_asked_of : (p : Progress) (first : First) (answer : LoadAnswer) → waits_for_load p ≡ true → is_asked p first ≡ true → is_asked (Loading answer) first ≡ true
 load_asked_of (Loading was) first answer due h = h
-load_asked_of (Writing is_changed report) first answer due h = cc
-load_asked_of Processing first answer due h = cc
-load_asked_of (Processed loaded process) first answer due h = cc
-load_asked_of (WritingEffect loaded process is_changed report) first answer due h = cc
+load_asked_of p first answer due h = cc
 
 run_asked_of : (p : Progress) (first : First) (change : Option Change) (done : ProcessResult Reservation) → waits_for_process p ≡ true → is_asked p first ≡ true → is_asked (progress_after change done) first ≡ true
-run_asked_of (Loading answer) first change done due h = cc
-run_asked_of (Writing is_changed report) first change done due h = cc
 run_asked_of Processing first None done due h = h
 run_asked_of Processing first (Some change) done due h = h
-run_asked_of (Processed loaded process) first change done due h = cc
-run_asked_of (WritingEffect loaded process is_changed report) first change done due h = cc
+run_asked_of p first change done due h = cc
 
 change_asked_of : (p : Progress) (first : First) → is_asked p first ≡ true → is_asked (with_change p) first ≡ true
 change_asked_of (Loading answer) first h = h
-change_asked_of (Writing is_changed report) first h = h
-change_asked_of Processing first h = h
-change_asked_of (Processed loaded process) first h = h
-change_asked_of (WritingEffect loaded process is_changed report) first h = h
+change_asked_of p first h = h
 
 report_asked_of : (p : Progress) (first : First) (report : WriteAnswer) → is_asked p first ≡ true → is_asked (with_report p report) first ≡ true
 report_asked_of (Loading answer) first report h = h
-report_asked_of (Writing is_changed was) first report h = h
-report_asked_of Processing first report h = h
-report_asked_of (Processed loaded process) first report h = h
-report_asked_of (WritingEffect loaded process is_changed was) first report h = h
+report_asked_of p first report h = h
 
 -- what is known once the loader has answered
 told_load : (p : Progress) (first : First) (answer : LoadAnswer) (stored entry : Option Bytes) → waits_for_load p ≡ true → Agrees (found_in answer) stored → ProgressAgrees p first stored entry → LoadAgrees answer stored entry
 told_load (Loading was) first answer stored entry due found h = record { loaded = found; unwritten = h.unwritten }
-told_load (Writing is_changed report) first answer stored entry due found h = cc
-told_load Processing first answer stored entry due found h = cc
-told_load (Processed loaded process) first answer stored entry due found h = cc
-told_load (WritingEffect loaded process is_changed report) first answer stored entry due found h = cc
+told_load p first answer stored entry due found h = cc
 
 -- once the processor has run
 told_run : (p : Progress) (first : First) (change : Option Change) (done : ProcessResult Reservation) (stored entry : Option Bytes) → waits_for_process p ≡ true → Agrees (found_in done.load) stored → ProgressAgrees p first stored entry
     → ProgressAgrees (progress_after change done) first stored entry
-told_run (Loading answer) first change done stored entry due found h = cc
-told_run (Writing is_changed report) first change done stored entry due found h = cc
 told_run Processing first None done stored entry due found h = record { loaded = found; unwritten = h }
 told_run Processing first (Some change) done stored entry due found h = record { written = λ e. absurd (let t : false ≡ true = e in cc); unwritten = λ e. h; honest = λ e. absurd (let t : false ≡ true = e in cc) }
-told_run (Processed loaded process) first change done stored entry due found h = cc
-told_run (WritingEffect loaded process is_changed report) first change done stored entry due found h = cc
+told_run p first change done stored entry due found h = cc
 
 -- once the writer has changed the store
 told_change : (p : Progress) (first : First) (change : Change) (entry : Option Bytes) → waits_for_report p ≡ true → writer_change_in first p ≡ Some change → ProgressAgrees (with_change p) first (changed_to change) entry
@@ -237,11 +213,9 @@ told_change (WritingEffect loaded process is_changed report) first change entry 
 
 -- and once it has returned
 told_report : (p : Progress) (first : First) (report : WriteAnswer) (stored entry : Option Bytes) → waits_for_report p ≡ true → is_true_report report (has_changed p) ≡ true → ProgressAgrees p first stored entry → ProgressAgrees (with_report p report) first stored entry
-told_report (Loading answer) first report stored entry due honest h = cc
 told_report (Writing is_changed was) first report stored entry due honest h = record { written = h.written; unwritten = h.unwritten; honest = λ e. same_test is_changed (is_done report) honest }
-told_report Processing first report stored entry due honest h = cc
-told_report (Processed loaded process) first report stored entry due honest h = cc
 told_report (WritingEffect loaded process is_changed was) first report stored entry due honest h = record { written = h.written; unwritten = h.unwritten; honest = λ e. same_test is_changed (is_done report) honest }
+told_report p first report stored entry due honest h = cc
 
 -- a held key stays held: whom it asked stays, and what is then known of all keys holds
 parts_progressed : (w : WorldState) (call : ℕ) (key : Bytes) (part : Part) (p : Progress) (store : Cache) (premises : Premises) → part_of w call key ≡ Some part
@@ -553,13 +527,6 @@ agrees_ended : (config : Config) (r : Reservation) (p : Progress) (op : Op) (fir
 agrees_ended config r (Loading answer) op Loader entry stored asks asked over on due h = loads op entry answer stored (loads_asked config op entry asks) h.unwritten h.loaded
 agrees_ended config r (Writing is_changed report) op (Writer change) entry stored asks asked over on due h =
     agrees_written op entry stored change report is_changed (writes_asked config op entry change asks) over h.written h.unwritten (h.honest over)
-agrees_ended config r (Loading answer) op Nobody entry stored asks asked over on due h = cc
-agrees_ended config r (Loading answer) op (Writer change) entry stored asks asked over on due h = cc
-agrees_ended config r (Loading answer) op (Processor seen loads) entry stored asks asked over on due h = cc
-agrees_ended config r (Writing is_changed report) op Nobody entry stored asks asked over on due h = cc
-agrees_ended config r (Writing is_changed report) op Loader entry stored asks asked over on due h = cc
-agrees_ended config r (Writing is_changed report) op (Processor seen loads) entry stored asks asked over on due h = cc
-agrees_ended config r Processing op first entry stored asks asked over on due h = cc
 agrees_ended config r (Processed loaded process) op first entry stored asks asked over on due h =
     let done : ProcessResult Reservation = record { ask = r; origin = Played; load = loaded; process = process } in
     let A : Op → Type 0 = λ o. Agrees (entry_after o entry (record { load = loaded; write = write.NotAsked; process = process })) stored in
@@ -570,6 +537,7 @@ agrees_ended config r (WritingEffect loaded process is_changed report) op first 
     let A : Op → Type 0 = λ o. Agrees (entry_after o entry (record { load = loaded; write = report; process = process })) stored in
     subst A (sym (invoke_is op (asks_invoking config op entry (ap asks_processor asks ∙ asked))))
     (agrees_effect loaded process is_changed report entry stored (ap is_some (sym (write_due config done on)) ∙ due) over h)
+agrees_ended config r p op first entry stored asks asked over on due h = cc
 
 -- the reservation that is found asks what it asked
 asks_found : (config : Config) (cache : Cache) (key : Bytes) (rs : List Reservation) (r : Reservation) → find (is_key key) rs ≡ Some r → AllAsk config cache rs → first_asked config r.op (entry_at cache r.key) ≡ r.first
@@ -668,12 +636,9 @@ parts_ended w new call key part from to seen fit is at h old = absurd h
 
 -- of what is untouched the store is as it was
 unchanged : (p : Progress) → is_untouched p ≡ true → has_changed p ≡ false
-unchanged (Loading answer) h = refl
 unchanged (Writing true report) h = cc
-unchanged (Writing false report) h = refl
-unchanged Processing h = refl
-unchanged (Processed loaded process) h = refl
 unchanged (WritingEffect loaded process is_changed report) h = cc
+unchanged p h = refl
 
 -- a reservation is given back, and with it its part
 pub parts_withdrawn : (w : WorldState) (call : ℕ) (key : Bytes) (part : Part) (from next : State) → has_progress is_untouched (part_of w call key) ≡ true → part_of w call key ≡ Some part → stripe_for w key ≡ Some from

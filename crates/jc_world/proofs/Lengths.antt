@@ -63,10 +63,8 @@ same_length old new same = let e = ap length same in record { grows = omega arit
 pub begun_length : (old new : State) (caller : Caller) (key : Bytes) (op : Op) (b : Begun) → Begins old caller key op b new → IsLonger old new
 begun_length old new caller key op (begun.Refused refusal) h = same_length old new (ap (λ (s : State). s.history) h.1)
 begun_length old new caller key op (begun.Done done) h = steps_length old new caller key op nothing_said [] done h.2 (omega arith)
-begun_length old new caller key op (begun.Load ticket) h = same_length old new (ap (λ (s : State). s.history) h.4)
-begun_length old new caller key op (begun.Write ticket) h = same_length old new (ap (λ (s : State). s.history) h.4)
-begun_length old new caller key op (begun.Process ticket) h = same_length old new (ap (λ (s : State). s.history) h.4)
 begun_length old new caller key op (begun.Joined join) h = same_length old new (ap (λ (s : State). s.history) h.3)
+begun_length old new caller key op b h = same_length old new (ap (λ (s : State). s.history) h.4)
 
 -- a last phase
 pub ended_length : (old new : State) (r : Reservation) (out : Out) (done : StepDone) → IsReached old → Commits old r out done new → IsLonger old new

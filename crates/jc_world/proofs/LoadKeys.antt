@@ -44,10 +44,8 @@ load_there None load h = cc
 load_there (Some r) load h = let at = asked r.first r.number h in (r, refl, at.0, at.1)
   where
     asked : (first : First) (number : ℕ) → load_of first number ≡ Some load → (number ≡ load) × (asks_loader first ≡ true)
-    asked Nobody number h = cc
     asked Loader number h = (cc, refl)
-    asked (Writer change) number h = cc
-    asked (Processor seen loads) number h = cc
+    asked first number h = cc
 
 -- only a `Get` joins a load
 pub joins_get : (s : State) (key : Bytes) (op : Op) (load : ℕ) → load_joined s key op ≡ Some load → op ≡ Get
@@ -68,5 +66,4 @@ key_of_load s r j reached out fits waits = let parts = and_parts (j.load == r.nu
         let load = load_there (reservation_of s j.key) j.load f.load in
         let one = same_number (is_key r.key) (is_key j.key) s.reservations r load.0 reached.numbered.numbers out load.1 (sym (eqb-true j.load r.number number) ∙ sym load.2) in
         same_bytes j.key load.0.key (found_test (is_key j.key) s.reservations load.0 load.1) ∙ ap (λ (x : Reservation). x.key) (sym one)
-    go number (Answered place shared) w f = cc
-    go number Again w f = cc
+    go number state w f = cc

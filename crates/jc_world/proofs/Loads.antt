@@ -98,21 +98,17 @@ no_answer o part is waits = go part.progress (sym (ap (has_progress waits_for_lo
   where
     go : (p : Progress) → waits_for_load p ≡ true → is_load_given (out_in p).load ≡ false
     go (Loading answer) h = not-true (is_load_given answer) h
-    go (Writing is_changed report) h = refl
-    go Processing h = refl
     go (Processed loaded process) h = cc
     go (WritingEffect loaded process is_changed report) h = cc
+    go p h = refl
 
 -- a processor that is waited for has had none
 no_run : (o : Option Part) (part : Part) → o ≡ Some part → has_progress waits_for_process o ≡ true → is_load_given (out_of part).load ≡ false
 no_run o part is waits = go part.progress (sym (ap (has_progress waits_for_process) is) ∙ waits)
   where
     go : (p : Progress) → waits_for_process p ≡ true → is_load_given (out_in p).load ≡ false
-    go (Loading answer) h = cc
-    go (Writing is_changed report) h = cc
     go Processing h = refl
-    go (Processed loaded process) h = cc
-    go (WritingEffect loaded process is_changed report) h = cc
+    go p h = cc
 
 -- what is untouched has none
 no_touch : (o : Option Part) (part : Part) → o ≡ Some part → has_progress is_untouched o ≡ true → is_load_given (out_of part).load ≡ false
@@ -120,25 +116,18 @@ no_touch o part is untouched = go part.progress (sym (ap (has_progress is_untouc
   where
     go : (p : Progress) → is_untouched p ≡ true → is_load_given (out_in p).load ≡ false
     go (Loading answer) h = not-true (is_load_given answer) h
-    go (Writing is_changed report) h = refl
-    go Processing h = refl
     go (Processed loaded process) h = cc
     go (WritingEffect loaded process is_changed report) h = cc
+    go p h = refl
 
 -- what the writer does is no answer of the loader
 change_loads : (p : Progress) → is_load_given (out_in (with_change p)).load ≡ is_load_given (out_in p).load
 change_loads (Loading answer) = refl
-change_loads (Writing is_changed report) = refl
-change_loads Processing = refl
-change_loads (Processed loaded process) = refl
-change_loads (WritingEffect loaded process is_changed report) = refl
+change_loads p = refl
 
 report_loads : (p : Progress) (report : WriteAnswer) → is_load_given (out_in (with_report p report)).load ≡ is_load_given (out_in p).load
 report_loads (Loading answer) report = refl
-report_loads (Writing is_changed was) report = refl
-report_loads Processing report = refl
-report_loads (Processed loaded process) report = refl
-report_loads (WritingEffect loaded process is_changed was) report = refl
+report_loads p report = refl
 
 -- what a processor's loader answered is kept
 run_loads : (change : Option Change) (done : ProcessResult Reservation) → is_load_given (out_in (progress_after change done)).load ≡ is_load_given done.load
@@ -245,7 +234,6 @@ total_picks w new call key join from to seen q h = absurd h
 
 -- by the kind of the event
 total_happens : (w new : WorldState) (e : WorldEvent) (seen : Shown) (q : Bytes) → fits w e ≡ true → Happens w e seen new → IsSoundWorld w → total new q ≡ one_if (is_answer q e seen.outcome) + total w q
-total_happens w new (event.Call call session command) seen q fit h old = unanswered false (total new q) (total w q) refl (ap (λ (x : WorldState). total x q) h.1)
 total_happens w new (event.Look call stripe) seen q fit h old = unanswered false (total new q) (total w q) refl (ap (λ (x : WorldState). total x q) h.9)
 total_happens w new (event.Start call key) seen q fit h old = unanswered false (total new q) (total w q) refl (total_started w new h.0 key h.1 h.4 h.6 seen.outcome q h.5 h.7 old)
 total_happens w new (event.Read call key) seen q fit h old =
@@ -279,15 +267,12 @@ total_happens w new (event.Withdraw call key) seen q fit h old =
     unanswered false (total new q) (total w q) refl
     (ap (λ (x : WorldState). total x q) h.7
     ∙ ap (λ b. count_by (is_load q) w.order + one_if b) (loaded_removed w.parts key q (λ same. loaded_at w key q h.0 there same ∙ no_touch (part_of w call key) h.0 h.1 fit)))
-total_happens w new (event.Leave call) seen q fit h old = unanswered false (total new q) (total w q) refl (ap (λ (x : WorldState). total x q) h.1)
 total_happens w new (event.PickUp call key) seen q fit h old = unanswered false (total new q) (total w q) refl (total_picks w new call key h.0 h.2 h.4 seen.outcome q h.5)
-total_happens w new (event.Foreign key value) seen q fit h old = unanswered false (total new q) (total w q) refl (ap (λ (x : WorldState). total x q) h.1)
+total_happens w new e seen q fit h old = unanswered false (total new q) (total w q) refl (ap (λ (x : WorldState). total x q) h.1)
 
 -- what doesn't fit is no answer
 unfit_answer : (q : Bytes) (e : WorldEvent) → is_answer q e outcome.Unfit ≡ false
 unfit_answer q (event.Read call key) = refl
-unfit_answer q (event.Say call key answer) = refl
-unfit_answer q (event.Process call key source calls fail) = refl
 unfit_answer q e = refl
 
 -- any event, also one that doesn't fit
@@ -304,13 +289,12 @@ answers q es ss = count_by (λ (e : WorldEvent × Shown). is_answer q e.0 e.1.ou
 -- and so a run
 pub total_run : Laws → (w new : WorldState) (es : List WorldEvent) (ss : List Shown) (q : Bytes) → Run w es ss new → IsSoundWorld w → total new q ≡ answers q es ss + total w q
 total_run laws w new [] [] q run old = let e : total new q ≡ total w q = ap (λ (x : WorldState). total x q) run in omega arith
-total_run laws w new [] (s ∷ ss) q run old = absurd run
-total_run laws w new (e ∷ es) [] q run old = absurd run
 total_run laws w new (e ∷ es) (s ∷ ss) q (mid, step, rest) old =
     let one = total_step w mid e s q step old in
     let more = total_run laws mid new es ss q rest (sound_step laws w e s mid step old) in
     let split_off : answers q (e ∷ es) (s ∷ ss) ≡ one_if (is_answer q e s.outcome) + answers q es ss = sum_by-cons (λ (x : WorldEvent × Shown). cond (is_answer q x.0 x.1.outcome) 1 0) (e, s) (zip es ss) in
     omega arith
+total_run laws w new es ss q run old = absurd run
 
 -- nothing was counted before anything has happened
 pub total_opened : (config : Config) (stored : List (Bytes × Bytes)) (q : Bytes) → total (start_with config stored) q ≡ 0

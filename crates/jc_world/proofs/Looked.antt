@@ -222,9 +222,8 @@ place_at call left calls i h =
     subst (IsPlaceOf call left calls) is found.2
 
 pub remove_set : (calls : List CallState) (i : ℕ) (v : CallState) → remove (slice_set calls i v) i ≡ remove calls i
-remove_set [] i v = refl
-remove_set (x ∷ xs) zero v = refl
 remove_set (x ∷ xs) (suc i) v = ap (λ cs. x ∷ cs) (remove_set xs i v)
+remove_set calls i v = refl
 
 -- a call that has changed is put in its place, or taken out if it is over
 left_is : (f : CallState → CallState) (u x v : CallState) → u ≡ x → v ≡ f x → (b : Bool) → is_going v ≡ b → going_on (f u) ≡ cond b (Some v) None

@@ -119,14 +119,12 @@ merged_same left left' (turn ∷ turns) each longer =
 -- 4. A stripe that appends.
 
 pub other_set : (stripes : List State) (n m : ℕ) (to : State) → (n == m) ≡ false → slice_get (slice_set stripes n to) m ≡ slice_get stripes m
-other_set [] n m to h = refl
 other_set (s ∷ ss) zero zero to h = cc
-other_set (s ∷ ss) zero (suc m) to h = refl
-other_set (s ∷ ss) (suc n) zero to h = refl
 other_set (s ∷ ss) (suc n) (suc m) to h = other_set ss n m to (next n m h)
   where
     next : (n m : ℕ) → (suc n == suc m) ≡ false → (n == m) ≡ false
     next n m h = grind (arith, nat_tests)
+other_set stripes n m to h = refl
 
 -- what each history is then
 history_set : (stripes : List State) (n m : ℕ) (from to : State) (more : List Event) → slice_get stripes n ≡ Some from → to.history ≡ from.history ++ more → history_at (slice_set stripes n to) m ≡ history_at stripes m ++ cond (n == m) more []
@@ -227,16 +225,14 @@ quiet_made s now number from to phase next is at same made stripes_are order_are
 
 -- a pick-up appends nothing
 pub picked_same : (from to : State) (join : JoinClaim) (p : Picked) → PicksUp from join p to → to.history ≡ from.history
-picked_same from to join (picked.Answer reply place shared_with) h = ap (λ (s : State). s.history) h.3
 picked_same from to join picked.Again h = ap (λ (s : State). s.history) h.2
-picked_same from to join (picked.NotYet back) h = ap (λ (s : State). s.history) h.3
+picked_same from to join p h = ap (λ (s : State). s.history) h.3
 
 -- 7. Empty stripes.
 
 no_history : (config : Config) (number count m : ℕ) → history_at (empty_stripes config number count) m ≡ []
-no_history config number zero m = refl
-no_history config number (suc count) zero = refl
 no_history config number (suc count) (suc m) = no_history config (number + 1) count m
+no_history config number count m = refl
 
 pub starts_mergeable : (s : Inside) (config : Config) → check config ≡ Ok tt → s.items.items ≡ empty_stripes config 0 config.stripes → s.turns.items ≡ [] → IsMergeable s
 starts_mergeable s config fits empty none = record {

@@ -30,10 +30,9 @@ beside_look w new call stripe seen (inr (unfit, shows, is)) = record { parts = �
 
 beside_looks : (call from count : ℕ) (w new : WorldState) (seen : List Shown) → Run w (looks call from count) seen new → Beside w new
 beside_looks call from zero w new [] run = record { parts = λ i. (run i).parts; joins = λ i. (run i).joins }
-beside_looks call from zero w new (s ∷ ss) run = absurd run
-beside_looks call from (suc count) w new [] run = absurd run
 beside_looks call from (suc count) w new (s ∷ ss) run =
     beside_then w run.0 new (beside_look w run.0 call from s run.1) (beside_looks call (from + 1) count run.0 new ss run.2)
+beside_looks call from count w new seen run = absurd run
 
 beside_opening : (w new : WorldState) (call session : ℕ) (command : Command) (seen : List Shown) → Run w (opening_events call session command w.config.stripes) seen new → Beside w new
 beside_opening w new call session command [] run = absurd run

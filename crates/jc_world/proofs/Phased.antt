@@ -175,9 +175,7 @@ free_write v u key op number ticket stripes order home_is p sound =
   where
     writer_reserves : (first : First) → asks_writer first ≡ true → reserves first ≡ true
     writer_reserves Nobody h = cc
-    writer_reserves Loader h = refl
-    writer_reserves (Writer change) h = refl
-    writer_reserves (Processor seen loads) h = refl
+    writer_reserves first h = refl
 
 pub free_process : (v : WorldState) (u : CallState) (key : Bytes) (op : Op) (number : ℕ) (ticket : ProcessClaim) (stripes : List State) (order : List Event) → number ≡ home v key → Phased v number (BeginsAs u.caller key op (begun.Process ticket)) stripes order → IsSoundWorld v
     → (get v.parts key ≡ None) × (ticket.reservation.key ≡ key) × (ticket.asked ≡ false) × (ticket.writer_asked ≡ false)

@@ -173,7 +173,6 @@ follows_picks w new call key other from to seen shows more join r found there h 
 -- by the kind of the event
 follows_happens : (w new : WorldState) (e : WorldEvent) (seen : Shown) (shows : Shows) (join : JoinClaim) (r : Reservation) → fits w e ≡ true → Happens w e seen new → is_last_pick_up join.caller.call join.key (e, seen) ≡ false → IsSoundWorld w → Follows w shows join r
     → Follows new (shows ++ (e, seen) ∷ []) join r
-follows_happens w new (event.Call call session command) seen shows join r fit h last old f = follows_beside w new _ shows _ join r f h.1 refl refl refl refl
 follows_happens w new (event.Look call stripe) seen shows join r fit h last old f = follows_beside w new _ shows _ join r f h.9 refl refl refl refl
 follows_happens w new (event.Start call key) seen shows join r fit h last old f = follows_started w new h.0.caller key h.1 h.4 h.6 seen.outcome shows _ join r h.5 h.7 (may_start_at w call key h.0 h.1 fit h.2 h.3 old).alone refl f
 follows_happens w new (event.Read call key) seen shows join r fit h last old f = follows_beside w new _ shows _ join r f h.3 refl refl refl refl
@@ -192,14 +191,12 @@ follows_happens w new (event.Withdraw call key) seen shows join r fit h last old
     (tells_withdrawn (home w join.key) call key shows join p r h.2 h.4 (old.shape.each (home w key) h.2 h.3).reached h.5.0
     (of_call-at call (get w.parts key) h.0 h.1).1 (part_key w call key h.0 h.1 old)
     (ap (λ (s : State). s.reservations) h.5.1) (ap (λ (s : State). s.joiners) h.5.1)))
-follows_happens w new (event.Leave call) seen shows join r fit h last old f = follows_beside w new _ shows _ join r f h.1 refl refl refl refl
 follows_happens w new (event.PickUp call key) seen shows join r fit h last old f = follows_picks w new call key h.0 h.2 h.4 seen.outcome shows _ join r h.1 h.3 h.5 last refl old f
-follows_happens w new (event.Foreign key value) seen shows join r fit h last old f = follows_beside w new _ shows _ join r f h.1 refl refl refl refl
+follows_happens w new e seen shows join r fit h last old f = follows_beside w new _ shows _ join r f h.1 refl refl refl refl
 
 -- what doesn't fit ends no load
 unfit_ends : (r : Reservation) (e : WorldEvent) → ends_load r (e, not_over outcome.Unfit) ≡ false
 unfit_ends r (event.Commit call key) = refl
-unfit_ends r (event.Withdraw call key) = refl
 unfit_ends r e = refl
 
 follows_step : (w new : WorldState) (e : WorldEvent) (seen : Shown) (shows : Shows) (join : JoinClaim) (r : Reservation) → Step w e seen new → is_last_pick_up join.caller.call join.key (e, seen) ≡ false → IsSoundWorld w → Follows w shows join r
@@ -211,13 +208,12 @@ follows_step w new e seen shows join r (inr (unfit, shown_is, is)) last old f = 
 follows_run : Laws → (w new : WorldState) (es : List WorldEvent) (ss : List Shown) (shows : Shows) (join : JoinClaim) (r : Reservation) → Run w es ss new → list_any (is_last_pick_up join.caller.call join.key) (zip es ss) ≡ false → IsSoundWorld w
     → Follows w shows join r → Follows new (shows ++ zip es ss) join r
 follows_run laws w new [] [] shows join r run none old f = follows_beside w new w shows [] join r f run refl refl refl refl
-follows_run laws w new [] (s ∷ ss) shows join r run none old f = absurd run
-follows_run laws w new (e ∷ es) [] shows join r run none old f = absurd run
 follows_run laws w new (e ∷ es) (s ∷ ss) shows join r (mid, step, rest) none old f =
     let parts = or_parts (is_last_pick_up join.caller.call join.key (e, s)) (list_any (is_last_pick_up join.caller.call join.key) (zip es ss)) none in
     let next = follows_step w mid e s shows join r step parts.0 old f in
     let P : Shows → Type 0 = λ xs. Follows new xs join r in
     subst P (append_assoc shows ((e, s) ∷ []) (zip es ss)) (follows_run laws mid new es ss (shows ++ (e, s) ∷ []) join r rest parts.1 (sound_step laws w e s mid step old) next)
+follows_run laws w new es ss shows join r run none old f = absurd run
 
 -- 2. The part of a load that is out.
 

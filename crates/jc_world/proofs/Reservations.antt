@@ -19,10 +19,8 @@ out_reserved key r (x ∷ xs) h =
 
 -- only what needs no free key is not refused as busy
 pick : (room is_there needs : Bool) (other : Option Refusal) → cond (not room) (Some refusal.HistoryFull) (cond (is_there && needs) (Some refusal.Busy) other) ≡ None → is_there ≡ true → needs ≡ false
-pick false is_there needs other h e = cc
-pick true false needs other h e = cc
 pick true true false other h e = refl
-pick true true true other h e = cc
+pick room is_there needs other h e = cc
 
 -- a call that is not refused at a reserved key needs no free key
 needs_none : (s : State) (caller : Caller) (key : Bytes) (op : Op) → first_refusal s caller key op ≡ None → is_reserved s key ≡ true → needs_free_key s key op ≡ false
@@ -35,9 +33,8 @@ asks_none false = refl
 
 -- a `Get` that answers at once asks nobody
 get_asks : (read write : Bool) (entry : Option Bytes) → (is_some entry || not read) ≡ true → first_by (always_if (read && is_none entry)) (cond write None None) ≡ Nobody
-get_asks true write (Some x) h = asks_none write
 get_asks true write None h = cc
-get_asks false write entry h = asks_none write
+get_asks read write entry h = asks_none write
 
 -- what answers at once asks nobody
 answering_asks : (config : Config) (op : Op) (entry : Option Bytes) → answers_at_once config op entry ≡ true → first_asked config op entry ≡ Nobody

@@ -52,7 +52,6 @@ unmoved_picks w new call key join from to seen there h = absurd h
 
 -- by the kind of the event
 unmoved_happens : (w new : WorldState) (e : WorldEvent) (seen : Shown) → Happens w e seen new → is_appended seen.outcome ≡ false → IsUnmoved w new
-unmoved_happens w new (event.Call call session command) seen h none = subst (IsUnmoved w) (sym h.1) (refl, λ q. refl)
 unmoved_happens w new (event.Look call stripe) seen h none = subst (IsUnmoved w) (sym h.9) (refl, λ q. refl)
 unmoved_happens w new (event.Start call key) seen h none = unmoved_started w new h.0 key h.1 h.4 h.6 seen.outcome h.5 h.7 none
 unmoved_happens w new (event.Read call key) seen h none = subst (IsUnmoved w) (sym h.3) (refl, λ q. refl)
@@ -62,9 +61,8 @@ unmoved_happens w new (event.Change call key) seen h none = subst (IsUnmoved w) 
 unmoved_happens w new (event.Report call left fault) seen h none = subst (IsUnmoved w) (sym (beside w new call h.0 left fault h.3).is) (refl, λ q. refl)
 unmoved_happens w new (event.Commit call key) seen h none = unmoved_ended w new call key h.0 h.2 h.4 seen.outcome h.5 none
 unmoved_happens w new (event.Withdraw call key) seen h none = subst (IsUnmoved w) (sym h.7) (refl, λ q. cached_set w key q h.2 h.4 h.3 (ap (λ (s : State). s.cache) h.5.1))
-unmoved_happens w new (event.Leave call) seen h none = subst (IsUnmoved w) (sym h.1) (refl, λ q. refl)
 unmoved_happens w new (event.PickUp call key) seen h none = unmoved_picks w new call key h.0 h.2 h.4 seen.outcome h.3 h.5
-unmoved_happens w new (event.Foreign key value) seen h none = subst (IsUnmoved w) (sym h.1) (refl, λ q. refl)
+unmoved_happens w new e seen h none = subst (IsUnmoved w) (sym h.1) (refl, λ q. refl)
 
 pub unmoved_step : (w new : WorldState) (e : WorldEvent) (seen : Shown) → Step w e seen new → is_appended seen.outcome ≡ false → IsUnmoved w new
 unmoved_step w new e seen (inl (fit, happens)) none = unmoved_happens w new e seen happens none
@@ -217,7 +215,6 @@ stay_picks w new call key join from to seen there h = absurd h
 
 -- by the kind of the event
 stay_happens : KeepsReserved → (w new : WorldState) (e : WorldEvent) (seen : Shown) → Happens w e seen new → IsSoundWorld w → StayOut w new
-stay_happens kept w new (event.Call call session command) seen h old = stay_beside w new _ h.1 refl refl
 stay_happens kept w new (event.Look call stripe) seen h old = stay_beside w new _ h.9 refl refl
 stay_happens kept w new (event.Start call key) seen h old = stay_started kept w new h.0 key h.1 h.4 h.6 seen.outcome h.5 (old.shape.each (home w key) h.4 h.5).reached h.7
 stay_happens kept w new (event.Read call key) seen h old = stay_beside w new _ h.3 refl refl
@@ -229,9 +226,8 @@ stay_happens kept w new (event.Commit call key) seen h old = stay_ended kept w n
 stay_happens kept w new (event.Withdraw call key) seen h old =
     stay_set w new key h.2 h.4 (ap (λ (x : WorldState). x.config) h.7) (ap (λ (x : WorldState). x.stripes) h.7) h.3
     (stays_released h.2 h.4 h.0.reservation.key (ap (λ (s : State). s.next) h.5.1) (ap (λ (s : State). s.reservations) h.5.1) (λ q out. ap (λ (s : State). entry_at s.cache q) h.5.1))
-stay_happens kept w new (event.Leave call) seen h old = stay_beside w new _ h.1 refl refl
 stay_happens kept w new (event.PickUp call key) seen h old = stay_picks w new call key h.0 h.2 h.4 seen.outcome h.3 h.5
-stay_happens kept w new (event.Foreign key value) seen h old = stay_beside w new _ h.1 refl refl
+stay_happens kept w new e seen h old = stay_beside w new _ h.1 refl refl
 
 stay_step : KeepsReserved → (w new : WorldState) (e : WorldEvent) (seen : Shown) → Step w e seen new → IsSoundWorld w → StayOut w new
 stay_step kept w new e seen (inl (fit, happens)) old = stay_happens kept w new e seen happens old
@@ -239,10 +235,9 @@ stay_step kept w new e seen (inr (unfit, shows, is)) old = stay_beside w new w i
 
 pub stay_run : Laws → (w new : WorldState) (es : List WorldEvent) (ss : List Shown) → Run w es ss new → IsSoundWorld w → StayOut w new
 stay_run laws w new [] [] run old = stay_beside w new w run refl refl
-stay_run laws w new [] (s ∷ ss) run old = absurd run
-stay_run laws w new (e ∷ es) [] run old = absurd run
 stay_run laws w new (e ∷ es) (s ∷ ss) (mid, step, rest) old =
     stay_then w mid new (stay_step laws.kept w mid e s step old) (stay_run laws mid new es ss rest (sound_step laws w e s mid step old))
+stay_run laws w new es ss run old = absurd run
 
 -- 4. A key whose part is of the same reservation.
 

@@ -23,15 +23,13 @@ still_at (z ∷ zs) ys (suc i) x h = still_at zs ys i x h
 pub set_cases : {A P : Type 0} (xs : List A) (i j : ℕ) (x y : A) → (i ≡ j → x ≡ y → P) → ((i ≡ j → ⊥) → slice_get xs j ≡ Some y → P) → slice_get (slice_set xs i x) j ≡ Some y → P
 set_cases [] i j x y here there h = cc
 set_cases (z ∷ zs) zero zero x y here there h = here refl cc
-set_cases (z ∷ zs) zero (suc j) x y here there h = there (λ e. omega arith) h
-set_cases (z ∷ zs) (suc i) zero x y here there h = there (λ e. omega arith) h
 set_cases (z ∷ zs) (suc i) (suc j) x y here there h = set_cases zs i j x y (λ e. here (ap suc e)) (λ apart. there (λ e. apart (omega arith))) h
+set_cases xs i j x y here there h = there (λ e. omega arith) h
 
 -- a list of which one place is another is as long
 pub length-slice_set : {A : Type 0} (xs : List A) (i : ℕ) (x : A) → length (slice_set xs i x) ≡ length xs
-length-slice_set [] i x = refl
-length-slice_set (z ∷ zs) zero x = refl
 length-slice_set (z ∷ zs) (suc i) x = ap suc (length-slice_set zs i x)
+length-slice_set xs i x = refl
 
 -- one that is found passes the test
 pub found_test : {A : Type 0} (p : A → Bool) (xs : List A) (x : A) → find p xs ≡ Some x → p x ≡ true

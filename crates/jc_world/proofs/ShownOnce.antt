@@ -30,9 +30,8 @@ times_owed js (Some (stripe.Evict key cause)) = 0
 -- other joiners that park the same of the event leave it
 owed_same : (js next : List Joiner) (o : Option Event) → ((c : Caller) (op : Op) (k : Bytes) (out : Out) (shared : Option ℕ) (reply : Reply) → o ≡ Some (stripe.Step c op k out shared reply) → is_parked next c k ≡ is_parked js c k)
     → times_owed next o ≡ times_owed js o
-owed_same js next None same = refl
 owed_same js next (Some (stripe.Step c op k out shared reply)) same = ap times_shown (same c op k out shared reply refl)
-owed_same js next (Some (stripe.Evict k cause)) same = refl
+owed_same js next o same = refl
 
 -- after a group's step nothing is owed, if those that share its load are parked
 none_owed : (js : List Joiner) (place : ℕ) (key : Bytes) (answer : LoadAnswer) (callers : List Caller) (cause : Option Cause) (p : ℕ) → list_all (λ c. is_parked js c key) callers ≡ true
@@ -236,8 +235,6 @@ owed_happens grows w new (event.Call call session command) seen number place fit
 owed_happens grows w new (event.Look call stripe) seen number place fit h old sound = owed_still w new seen.outcome number place (ap (λ (s : Shown). is_answer_at number place s.outcome) h.8) (ap (λ (x : WorldState). owed x number place) h.9)
 owed_happens grows w new (event.Start call key) seen number place fit h old sound =
     owed_started grows w new h.0 key h.1 h.4 h.6 seen.outcome number place h.5 h.7 (begins_at w call key h.0 h.1 h.4 fit h.2 h.3 h.5 old) old sound
-owed_happens grows w new (event.Read call key) seen number place fit h old sound = owed_still w new seen.outcome number place (ap (λ (s : Shown). is_answer_at number place s.outcome) h.2) (ap (λ (x : WorldState). owed x number place) h.3)
-owed_happens grows w new (event.Say call key answer) seen number place fit h old sound = owed_still w new seen.outcome number place (ap (λ (s : Shown). is_answer_at number place s.outcome) h.2) (ap (λ (x : WorldState). owed x number place) h.3)
 owed_happens grows w new (event.Process call key source calls fail) seen number place fit h old sound =
     owed_still w new seen.outcome number place (ap (λ (s : Shown). is_answer_at number place s.outcome) h.2) (ap (λ (x : WorldState). owed x number place) h.3)
 owed_happens grows w new (event.Change call key) seen number place fit h old sound = owed_still w new seen.outcome number place (ap (λ (s : Shown). is_answer_at number place s.outcome) h.4) (ap (λ (x : WorldState). owed x number place) h.5)
@@ -252,6 +249,7 @@ owed_happens grows w new (event.Withdraw call key) seen number place fit h old s
 owed_happens grows w new (event.Leave call) seen number place fit h old sound = owed_still w new seen.outcome number place (ap (λ (s : Shown). is_answer_at number place s.outcome) h.0) (ap (λ (x : WorldState). owed x number place) h.1)
 owed_happens grows w new (event.PickUp call key) seen number place fit h old sound = owed_picks w new call key h.0 h.2 h.4 seen.outcome number place h.3 h.5 old sound
 owed_happens grows w new (event.Foreign key value) seen number place fit h old sound = owed_still w new seen.outcome number place (ap (λ (s : Shown). is_answer_at number place s.outcome) h.0) (ap (λ (x : WorldState). owed x number place) h.1)
+owed_happens grows w new e seen number place fit h old sound = owed_still w new seen.outcome number place (ap (λ (s : Shown). is_answer_at number place s.outcome) h.2) (ap (λ (x : WorldState). owed x number place) h.3)
 
 -- and of any event
 owed_step : Grows → (w new : WorldState) (e : WorldEvent) (seen : Shown) (number place : ℕ) → Step w e seen new → IsSoundWorld w → IsSoundWorld new → owed new number place ≡ one_if (is_answer_at number place seen.outcome) + owed w number place
@@ -265,14 +263,13 @@ answers_at number place s = is_answer_at number place s.outcome
 
 pub owed_run : Laws → Grows → (w new : WorldState) (es : List WorldEvent) (ss : List Shown) (number place : ℕ) → Run w es ss new → IsSoundWorld w → owed new number place ≡ count_by (answers_at number place) ss + owed w number place
 owed_run laws grows w new [] [] number place run old = let e : owed new number place ≡ owed w number place = ap (λ (x : WorldState). owed x number place) run in omega arith
-owed_run laws grows w new [] (s ∷ ss) number place run old = absurd run
-owed_run laws grows w new (e ∷ es) [] number place run old = absurd run
 owed_run laws grows w new (e ∷ es) (s ∷ ss) number place (mid, step, rest) old =
     let sound = sound_step laws w e s mid step old in
     let one = owed_step grows w mid e s number place step old sound in
     let more = owed_run laws grows mid new es ss number place rest sound in
     let split_off : count_by (answers_at number place) (s ∷ ss) ≡ one_if (is_answer_at number place s.outcome) + count_by (answers_at number place) ss = sum_by-cons (λ x. cond (answers_at number place x) 1 0) s ss in
     omega arith
+owed_run laws grows w new es ss number place run old = absurd run
 
 -- nothing is owed before anything has happened
 owed_opened : (config : Config) (stored : List (Bytes × Bytes)) (number place : ℕ) → owed (start_with config stored) number place ≡ 0

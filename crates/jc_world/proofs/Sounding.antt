@@ -59,9 +59,8 @@ sound_step laws old e seen new (inr (unfit, shows, is)) h = subst IsSoundWorld (
 
 pub sound_run : Laws → (old new : WorldState) (es : List WorldEvent) (ss : List Shown) → Run old es ss new → IsSoundWorld old → IsSoundWorld new
 sound_run laws old new [] [] run h = subst IsSoundWorld (sym run) h
-sound_run laws old new [] (s ∷ ss) run h = absurd run
-sound_run laws old new (e ∷ es) [] run h = absurd run
 sound_run laws old new (e ∷ es) (s ∷ ss) (mid, step, rest) h = sound_run laws mid new es ss rest (sound_step laws old e s mid step h)
+sound_run laws old new es ss run h = absurd run
 
 pub sound_start : (config : Config) → check config ≡ Ok tt → IsSoundWorld (start config)
 sound_start config fits = sound (start config) (order_start config fits) (parts_start config fits) (dues_start config) (joins_start config fits) tt

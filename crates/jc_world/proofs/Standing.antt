@@ -73,7 +73,6 @@ later_picks w new call key join from to seen h = absurd h
 
 -- of any event that fits
 later_happens : (w new : WorldState) (e : WorldEvent) (seen : Shown) → Happens w e seen new → IsLater w new
-later_happens w new (event.Call call session command) seen h = later_same w new (ap (λ (x : WorldState). x.config) h.1) (ap (λ (x : WorldState). x.order) h.1)
 later_happens w new (event.Look call stripe) seen h = later_same w new (ap (λ (x : WorldState). x.config) h.9) (ap (λ (x : WorldState). x.order) h.9)
 later_happens w new (event.Start call key) seen h = later_started w new h.0.caller key h.1 h.4 h.6 seen.outcome h.7
 later_happens w new (event.Read call key) seen h = later_same w new (ap (λ (x : WorldState). x.config) h.3) (ap (λ (x : WorldState). x.order) h.3)
@@ -85,9 +84,8 @@ later_happens w new (event.Report call left fault) seen h =
     later_same w new (ap (λ (x : WorldState). x.config) is) (ap (λ (x : WorldState). x.order) is)
 later_happens w new (event.Commit call key) seen h = later_ended w new call key h.0 h.2 h.4 seen.outcome h.5
 later_happens w new (event.Withdraw call key) seen h = later_same w new (ap (λ (x : WorldState). x.config) h.7) (ap (λ (x : WorldState). x.order) h.7)
-later_happens w new (event.Leave call) seen h = later_same w new (ap (λ (x : WorldState). x.config) h.1) (ap (λ (x : WorldState). x.order) h.1)
 later_happens w new (event.PickUp call key) seen h = later_picks w new call key h.0 h.2 h.4 seen.outcome h.5
-later_happens w new (event.Foreign key value) seen h = later_same w new (ap (λ (x : WorldState). x.config) h.1) (ap (λ (x : WorldState). x.order) h.1)
+later_happens w new e seen h = later_same w new (ap (λ (x : WorldState). x.config) h.1) (ap (λ (x : WorldState). x.order) h.1)
 
 -- and of any event
 pub later_step : (w new : WorldState) (e : WorldEvent) (seen : Shown) → Step w e seen new → IsLater w new
@@ -97,9 +95,8 @@ later_step w new e seen (inr (unfit, shows, is)) = later_same w new (ap (λ (x :
 -- a run keeps the configuration, and so does what the store holds at the start
 pub config_run : (w new : WorldState) (es : List WorldEvent) (ss : List Shown) → Run w es ss new → new.config ≡ w.config
 config_run w new [] [] run = ap (λ (x : WorldState). x.config) run
-config_run w new [] (s ∷ ss) run = absurd run
-config_run w new (e ∷ es) [] run = absurd run
 config_run w new (e ∷ es) (s ∷ ss) (mid, step, rest) = config_run mid new es ss rest ∙ (later_step w mid e s step).config
+config_run w new es ss run = absurd run
 
 pub config_opened : (config : Config) (stored : List (Bytes × Bytes)) → (start_with config stored).config ≡ config
 config_opened config [] = refl
@@ -395,8 +392,6 @@ stands_happens shows w new (event.Foreign key value) seen fit h old sound begun 
 -- what doesn't fit is no answer
 stands_unfit : (shows : List (WorldEvent × Shown)) (w : WorldState) (e : WorldEvent) → Stands w shows e outcome.Unfit
 stands_unfit shows w (event.Start call key) = tt
-stands_unfit shows w (event.Commit call key) = tt
-stands_unfit shows w (event.PickUp call key) = tt
 stands_unfit shows w e = tt
 
 -- and of any event
@@ -429,8 +424,6 @@ stands_run laws shows w new [] [] run old begun stand =
     let P : WorldState → Type 0 = λ v. AllStand v (shows ++ []) in
     let Q : List (WorldEvent × Shown) → Type 0 = λ l. AllStand w l in
     subst P (sym run) (subst Q (sym (append-nil shows)) stand)
-stands_run laws shows w new [] (s ∷ ss) run old begun stand = absurd run
-stands_run laws shows w new (e ∷ es) [] run old begun stand = absurd run
 stands_run laws shows w new (e ∷ es) (s ∷ ss) (mid, step, rest) old begun stand =
     let now = shows ++ (e, s) ∷ [] in
     let sound = sound_step laws w e s mid step old in
@@ -438,6 +431,7 @@ stands_run laws shows w new (e ∷ es) (s ∷ ss) (mid, step, rest) old begun st
     let Q : List (WorldEvent × Shown) → Type 0 = λ l. AllStand new l in
     subst Q (append_assoc shows ((e, s) ∷ []) (zip es ss))
     (stands_run laws now mid new es ss rest sound more (stands_more shows w mid e s (later_step w mid e s step) stand (stands_step shows w mid e s step old sound begun)))
+stands_run laws shows w new es ss run old begun stand = absurd run
 
 -- from the start
 pub stands_opened : Laws → (config : Config) (stored : List (Bytes × Bytes)) (new : WorldState) (es : List WorldEvent) (ss : List Shown) → Run (start_with config stored) es ss new → IsSoundWorld (start_with config stored) → AllStand new (zip es ss)

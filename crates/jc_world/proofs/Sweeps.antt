@@ -25,13 +25,7 @@ sweeps_left config call key u v left old s is q there =
 -- a call that has just begun has no keys, if it looks at the stripes
 sweeps_new : (config : Config) (call session : ℕ) (c : Command) → Sweeps config (new_call call session c)
 sweeps_new config call session (command.Single op key) s is q there = cc
-sweeps_new config call session (command.GetAll keys) s is q there = cc
-sweeps_new config call session (command.PutAll entries) s is q there = cc
-sweeps_new config call session (command.RemoveAll keys) s is q there = cc
-sweeps_new config call session command.RemoveEvery s is q there = cc
-sweeps_new config call session command.Clear s is q there = cc
-sweeps_new config call session (command.LoadAll replace keys) s is q there = cc
-sweeps_new config call session (command.InvokeAll keys) s is q there = cc
+sweeps_new config call session c s is q there = cc
 
 -- behind a look
 behind_next : (stripes stripe : ℕ) (s next : SweepState) → next_sweep stripes stripe s ≡ Some next → next.looked ≡ s.looked ++ stripe ∷ []
@@ -119,9 +113,6 @@ sweeps_happens w new (event.Look call stripe) seen fit h back old =
     let own = all_here w stripe h.4 h.6 (old.shape.each stripe h.4 h.5) h.7 in
     subst AllSweep (sym h.9) (sweeps_looked w call stripe h.6 h.1 h.0 h.2 h.3 own old.sweeps)
 sweeps_happens w new (event.Start call key) seen fit h back old = sweeps_started w new h.0.caller key h.1 h.4 h.6 seen.outcome h.7 old.sweeps
-sweeps_happens w new (event.Read call key) seen fit h back old = subst AllSweep (sym h.3) old.sweeps
-sweeps_happens w new (event.Say call key answer) seen fit h back old = subst AllSweep (sym h.3) old.sweeps
-sweeps_happens w new (event.Process call key source calls fail) seen fit h back old = subst AllSweep (sym h.3) old.sweeps
 sweeps_happens w new (event.Change call key) seen fit h back old = subst AllSweep (sym h.5) old.sweeps
 sweeps_happens w new (event.Report call left fault) seen fit h back old = (back tt).sweeps
 sweeps_happens w new (event.Commit call key) seen fit h back old = sweeps_ended w new call key h.0 h.2 h.4 seen.outcome h.5 old.sweeps
@@ -129,3 +120,4 @@ sweeps_happens w new (event.Withdraw call key) seen fit h back old = subst AllSw
 sweeps_happens w new (event.Leave call) seen fit h back old = subst AllSweep (sym h.1) (each_filter (Sweeps w.config) (λ u. not (has_number call u)) w.calls old.sweeps)
 sweeps_happens w new (event.PickUp call key) seen fit h back old = sweeps_picks w new call key h.0 h.2 h.4 seen.outcome h.5 old.sweeps
 sweeps_happens w new (event.Foreign key value) seen fit h back old = subst AllSweep (sym h.1) old.sweeps
+sweeps_happens w new e seen fit h back old = subst AllSweep (sym h.3) old.sweeps

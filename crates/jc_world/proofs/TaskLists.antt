@@ -61,9 +61,8 @@ keys-put_each_of [] = refl
 keys-put_each_of (e ∷ entries) = ap (λ ks. e.0 ∷ ks) (keys-put_each_of entries)
 
 take-keys : (i : ℕ) (entries : List (Bytes × Bytes)) → keys_of (take i entries) ≡ take i (keys_of entries)
-take-keys zero entries = refl
-take-keys (suc i) [] = refl
 take-keys (suc i) (e ∷ entries) = ap (λ ks. e.0 ∷ ks) (take-keys i entries)
+take-keys i entries = refl
 
 -- one key more
 pub at_each-more : {S : Type 0} (m : IndexMap Bytes (Option Op) S) (one : Op) (keys : List Bytes) (i : ℕ) (key : Bytes) → IsDistinct (pointwise ◌==◌) keys → i < length keys → key ≡ get_or keys i key
@@ -118,8 +117,6 @@ absent_same key (task ∷ tasks) none =
 -- one task more
 more_open : (p : Bytes → Bool) (tasks : List Task) (i : ℕ) (key : Bytes) (one : Option Op) → slice_get tasks i ≡ Some (key, one) → (is_some one ≡ true → p key ≡ true) → list_all p (open_in (take i tasks)) ≡ true
     → list_all p (open_in (take (suc i) tasks)) ≡ true
-more_open p [] zero key one at holds before = cc
-more_open p [] (suc i) key one at holds before = cc
 more_open p (task ∷ tasks) zero key one at holds before =
     let is : task ≡ (key, one) = cc in
     subst (λ (t : Task). list_all p (open_in (t ∷ [])) ≡ true) (sym is) (alone (is_some one) holds)
@@ -132,6 +129,7 @@ more_open p (task ∷ tasks) (suc i) key one at holds before =
       | true ↦ λ before. let parts = and_parts (p task.0) (list_all p (open_in (take i tasks))) before in and_from _ _ parts.0 (more_open p tasks i key one at holds parts.1)
       | false ↦ λ before. more_open p tasks i key one at holds before
     ] before
+more_open p tasks i key one at holds before = cc
 
 pub open_more : (p : Bytes → Bool) (tasks : List Task) (i : ℕ) (key : Bytes) (one : Option Op) → slice_get tasks i ≡ Some (key, one) → (is_some one ≡ true → p key ≡ true) → list_all p (open_in (take i tasks)) ≡ true
     → list_all p (open_in (take (i + 1) tasks)) ≡ true
@@ -161,8 +159,6 @@ open_keys-more tasks i key one at = let next : i + 1 ≡ suc i = omega (arith) i
     alone false = refl
 
     go : (tasks : List Task) (i : ℕ) → slice_get tasks i ≡ Some (key, one) → open_in (take (suc i) tasks) ≡ open_in (take i tasks) ++ cond (is_some one) (key ∷ []) []
-    go [] zero at = cc
-    go [] (suc i) at = cc
     go (task ∷ tasks) zero at =
         let is : task ≡ (key, one) = cc in
         ap (λ (t : Task). open_in (t ∷ [])) is ∙ alone (is_some one)
@@ -171,6 +167,7 @@ open_keys-more tasks i key one at = let next : i + 1 ≡ suc i = omega (arith) i
           | true ↦ ap (λ ks. task.0 ∷ ks) (go tasks i at)
           | false ↦ go tasks i at
         ]
+    go tasks i at = cc
 
 -- of keys that differ the open ones differ
 pub open_distinct : (tasks : List Task) → IsDistinct (pointwise ◌==◌) (keys_of tasks) → IsDistinct (pointwise ◌==◌) (open_in tasks)

@@ -61,21 +61,17 @@ kept_part : (w mid : WorldState) (call other : ℕ) (key q : Bytes) → at_call 
 kept_part w mid call other key q at keeps = at_named call other key q (λ n k. part_of mid n k ≡ part_of w n k) (named call other key q at) keeps.part
 
 pub kept_fit : (w mid : WorldState) (call : ℕ) (e : WorldEvent) (q : Bytes) → key_at call e ≡ Some q → Keeps w mid call q → fits w e ≡ true → fits mid e ≡ true
-kept_fit w mid call (event.Call other session command) q at keeps fit = cc
-kept_fit w mid call (event.Look other stripe) q at keeps fit = cc
 kept_fit w mid call (event.Start other key) q at keeps fit =
     at_named call other key q (λ n k. fits w (event.Start n k) ≡ true → fits mid (event.Start n k) ≡ true) (named call other key q at) (kept_start w mid call q keeps) fit
 kept_fit w mid call (event.Read other key) q at keeps fit = ap (has_progress _) (kept_part w mid call other key q at keeps) ∙ fit
 kept_fit w mid call (event.Say other key answer) q at keeps fit = ap (λ o. is_load_given answer && has_progress waits_for_load o) (kept_part w mid call other key q at keeps) ∙ fit
 kept_fit w mid call (event.Change other key) q at keeps fit = ap (has_progress _) (kept_part w mid call other key q at keeps) ∙ fit
-kept_fit w mid call (event.Report other left fault) q at keeps fit = cc
 kept_fit w mid call (event.Process other key source calls fail) q at keeps fit = ap (has_progress _) (kept_part w mid call other key q at keeps) ∙ fit
 kept_fit w mid call (event.Commit other key) q at keeps fit = ap (has_progress _) (kept_part w mid call other key q at keeps) ∙ fit
 kept_fit w mid call (event.Withdraw other key) q at keeps fit = ap (has_progress _) (kept_part w mid call other key q at keeps) ∙ fit
-kept_fit w mid call (event.Leave other) q at keeps fit = cc
 kept_fit w mid call (event.PickUp other key) q at keeps fit =
     at_named call other key q (λ n k. is_joined mid n k ≡ is_joined w n k) (named call other key q at) keeps.joined ∙ fit
-kept_fit w mid call (event.Foreign key value) q at keeps fit = cc
+kept_fit w mid call e q at keeps fit = cc
 
 -- 2. What happens at another key.
 
@@ -113,20 +109,7 @@ keeps_started w mid call u key q op (outcome.Processes entry) turn apart from to
 keeps_started w mid call u key q op outcome.Joins turn apart from to h =
     let of_key : h.0.key ≡ key = ap (λ (j : JoinClaim). j.key) h.1.2 in
     subst (λ m. Keeps w m call q) (sym h.2) (record { called = λ session op h. h; part = refl; joined = join_more w call q h.0 (λ same. apart (same ∙ of_key)) })
-keeps_started w mid call u key q op (outcome.PickedUp seen) turn apart from to h = absurd h
-keeps_started w mid call u key q op (outcome.Reported seen) turn apart from to h = absurd h
-keeps_started w mid call u key q op (outcome.Processed seen) turn apart from to h = absurd h
-keeps_started w mid call u key q op (outcome.Reads answer) turn apart from to h = absurd h
-keeps_started w mid call u key q op (outcome.Says answer) turn apart from to h = absurd h
-keeps_started w mid call u key q op outcome.Begun turn apart from to h = absurd h
-keeps_started w mid call u key q op outcome.Looked turn apart from to h = absurd h
-keeps_started w mid call u key q op outcome.Changed turn apart from to h = absurd h
-keeps_started w mid call u key q op outcome.Withdrawn turn apart from to h = absurd h
-keeps_started w mid call u key q op outcome.Left turn apart from to h = absurd h
-keeps_started w mid call u key q op outcome.Waits turn apart from to h = absurd h
-keeps_started w mid call u key q op outcome.Again turn apart from to h = absurd h
-keeps_started w mid call u key q op outcome.Written turn apart from to h = absurd h
-keeps_started w mid call u key q op outcome.Unfit turn apart from to h = absurd h
+keeps_started w mid call u key q op seen turn apart from to h = absurd h
 
 keeps_ended : (w mid : WorldState) (call other : ℕ) (key q : Bytes) (part : Part) (from to : State) (seen : Outcome) → (q ≡ key → ⊥) → IsTurnOf w.calls other key → Ends w other key part from to seen mid → Keeps w mid call q
 keeps_ended w mid call other key q part from to (outcome.Stepped seen) away turn h =
@@ -143,8 +126,6 @@ keeps_picks w mid call other key q join from to seen away turn h = absurd h
 
 -- the call of an event that is at a key
 pub keeps_other : (w mid : WorldState) (call : ℕ) (e : WorldEvent) (seen : Shown) (key q : Bytes) → key_at call e ≡ Some key → (q ≡ key → ⊥) → fits w e ≡ true → Happens w e seen mid → IsSoundWorld w → Keeps w mid call q
-keeps_other w mid call (event.Call other session command) seen key q at apart fit h old = cc
-keeps_other w mid call (event.Look other stripe) seen key q at apart fit h old = cc
 keeps_other w mid call (event.Start other at_key) seen key q at apart fit h old =
     let is = named call other at_key key at in
     let number = found_number other w.calls h.0 h.2 in
@@ -159,7 +140,6 @@ keeps_other w mid call (event.Say other at_key answer) seen key q at apart fit h
 keeps_other w mid call (event.Change other at_key) seen key q at apart fit h old =
     let is = named call other at_key key at in
     subst (λ m. Keeps w m call q) (sym h.5) (record { called = λ session op h. h; part = part_beside w.parts q at_key _ call (λ same. apart (same ∙ is.1)); joined = refl })
-keeps_other w mid call (event.Report other left fault) seen key q at apart fit h old = cc
 keeps_other w mid call (event.Process other at_key source calls fail) seen key q at apart fit h old =
     let is = named call other at_key key at in
     subst (λ m. Keeps w m call q) (sym h.3) (record { called = λ session op h. h; part = part_beside w.parts q at_key _ call (λ same. apart (same ∙ is.1)); joined = refl })
@@ -170,11 +150,10 @@ keeps_other w mid call (event.Commit other at_key) seen key q at apart fit h old
 keeps_other w mid call (event.Withdraw other at_key) seen key q at apart fit h old =
     let is = named call other at_key key at in
     subst (λ m. Keeps w m call q) (sym h.7) (record { called = λ session op h. h; part = part_without w.parts q at_key call (λ same. apart (same ∙ is.1)); joined = refl })
-keeps_other w mid call (event.Leave other) seen key q at apart fit h old = cc
 keeps_other w mid call (event.PickUp other at_key) seen key q at apart fit h old =
     let is = named call other at_key key at in
     keeps_picks w mid call other at_key q h.0 h.2 h.4 seen.outcome (λ same. apart (same ∙ is.1)) (picking_turn w other at_key h.0 (picking w other at_key h.0 h.1 old)) h.5
-keeps_other w mid call (event.Foreign at_key value) seen key q at apart fit h old = cc
+keeps_other w mid call e seen key q at apart fit h old = cc
 
 -- 3. Events at keys that differ.
 
@@ -189,13 +168,12 @@ not_same key q apart same = let t : true ≡ false = sym (nat_list_eq_equiv.refl
 rest_kept : (w mid : WorldState) (call : ℕ) (e : WorldEvent) (seen : Shown) (key : Bytes) (keys : List Bytes) (events : List WorldEvent) → key_at call e ≡ Some key → fits w e ≡ true → Happens w e seen mid → IsSoundWorld w
     → AreAt call keys events → Apart key keys → list_all (fits w) events ≡ true → list_all (fits mid) events ≡ true
 rest_kept w mid call e seen key [] [] at fit h old are apart fits_all = refl
-rest_kept w mid call e seen key [] (f ∷ events) at fit h old are apart fits_all = absurd are
-rest_kept w mid call e seen key (q ∷ keys) [] at fit h old are apart fits_all = absurd are
 rest_kept w mid call e seen key (q ∷ keys) (f ∷ events) at fit h old are apart fits_all =
     let parts = and_parts (fits w f) (list_all (fits w) events) fits_all in
     and_from _ _
     (kept_fit w mid call f q are.0 (keeps_other w mid call e seen key q at (not_same key q apart.0) fit h old) parts.0)
     (rest_kept w mid call e seen key keys events at fit h old are.1 apart.1 parts.1)
+rest_kept w mid call e seen key keys events at fit h old are apart fits_all = absurd are
 
 -- what is so after each event, of the keys that are left, and what then fits
 pub record Goes (call : ℕ) (P : WorldEvent → Type 0) (Q : List Bytes → WorldState → Type 0) (tail : List WorldEvent) : Type 0 where
