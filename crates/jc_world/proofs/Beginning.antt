@@ -34,8 +34,7 @@ pub fits_left : (w n : WorldState) (call : ℕ) (key : Bytes) (u v : CallState) 
 fits_left w n call key u v left last order served h = record {
   number = (λ i. is_up_to (last i) (left.caller_is i).call) ∙ h.number;
   keys = λ q op is.
-      let P : Caller → Type 0 = λ c. FitsKey n c q op in
-      subst P (sym left.caller_is) (fits_key w n u.caller q op order (served q op is) (h.keys q op (left.was q op is)));
+      rw left.caller_is (fits_key w n u.caller q op order (served q op is) (h.keys q op (left.was q op is)));
 }
 
 -- and so does what is left of a call that has taken keys
@@ -43,8 +42,7 @@ pub fits_taken : (w n : WorldState) (u v : CallState) → Taken u v → n.last �
 fits_taken w n u v taken last order served h = record {
   number = (λ i. is_up_to (last i) (taken.caller_is i).call) ∙ h.number;
   keys = λ q op is.
-      let P : Caller → Type 0 = λ c. FitsKey n c q op in
-      subst P (sym taken.caller_is) (fits_key w n u.caller q op order (served q op is) (h.keys q op (taken.was q op is)));
+      rw taken.caller_is (fits_key w n u.caller q op order (served q op is) (h.keys q op (taken.was q op is)));
 }
 
 -- a call fits a world of the same order and the same last number, in which it is served if it was

@@ -2,7 +2,7 @@
 --     order_over, order_started, order_ended, order_withdrawn, order_picks, order_left     after each kind of event
 --     order_happens, order_opened     after any event that fits, and after an entry of the store's opening
 --     order_is, has_shares            the order is one legal history over all stripes, and each stripe's history is its part of it
-use Rattle.jc_world.proofs.Common.{◌≡◌, ℕ, zero, suc, ◌+◌, ◌%◌, ◌<◌, Bool, true, false, cond, not, ◌&&◌, ◌||◌, ◌⊎◌, List, [], ◌∷◌, ◌++◌, length, is_none, IsSomeAnd, nat_lt, ◌==◌, slice_get, slice_set, Some, None, sum, Option, option_map, find, sym, refl, ap, ◌∙◌, subst, inl, inr, arith, not-true, eqb-true, and_parts, false_from_ne_true, nat_list_cmp_total, nat_list_eq_equiv, eq_by_cmp_equiv, pointwise, texts_ties, empty, get, insert, remove, from_entries, get-insert, get-remove, list_all, eq_by_cmp, all_imply, Caller, Config, Refusal, empty_opens, Bytes, Cache, key_cmp, nothing_said, events_of, of_stripe, IsHistory, Event, Op, Get, Out, belongs_to, is_waiting, waits_for, callers_of, after_resolve, JoinState, Again, Answered, Waiting, Joiner, StaysReached, IsSameStripe, Extends, may_come_all, new_group, Steps, with_joiner, Begins, after_commit, Commits, Withdraws, without_joiner, PicksUp, JoinFits, IsReached, reserves, State, is_of, is_key, is_reserved, with_reservation, without_key, IsOut, Ticket, ProcessClaim, JoinClaim, Picked, StepDone, Loader, Reservation, Outcome, Part, Premises, Progress, Shown, WorldEvent, cache_in, cache_at, IsOrder, HasShares, SweepState, CallState, has_number, op_at, op_for, open_keys, is_turn, going_on, with_met, replaced, settle, with_found, with_stripe, with_phase, step_of, fault_in, with_settled, with_met_by, without_call, with_look, new_load, new_write, new_process, new_part, with_part, without_part, with_join, without_join, Starts, Ends, Picks, Happens, is_free, may_leave, fits, IsStripe, is_up_to, has_answer, has_parked_answer, is_served_in, is_served, FitsKey, FitsCall, CallsFit, Each, IsHeld, IsCallOf, IsOwned, AllOwned, IsCalled, IsSoundWorld, Parts, Joins, WorldState, home, stripe_for, open_call, part_of, out_of, join_of, is_joined, with_stored}
+use Rattle.jc_world.proofs.Common.{◌≡◌, ℕ, zero, suc, ◌+◌, ◌%◌, ◌<◌, Bool, true, false, cond, not, ◌&&◌, ◌||◌, ◌⊎◌, List, [], ◌∷◌, ◌++◌, length, is_none, IsSomeAnd, nat_lt, ◌==◌, slice_get, slice_set, Some, None, sum, Option, option_map, find, sym, refl, ap, ◌∙◌, subst, inl, inr, arith, not-true, eqb-true, and_parts, false_from_ne_true, nat_list_cmp_total, nat_list_eq_equiv, eq_by_cmp_equiv, pointwise, texts_ties, empty, get, insert, remove, get-insert, get-remove, list_all, eq_by_cmp, all_imply, Caller, Config, Refusal, empty_opens, Bytes, Cache, key_cmp, nothing_said, events_of, of_stripe, IsHistory, Op, Get, Out, belongs_to, is_waiting, waits_for, callers_of, after_resolve, JoinState, Again, Answered, Waiting, Joiner, StaysReached, IsSameStripe, Extends, may_come_all, new_group, Steps, with_joiner, Begins, after_commit, Commits, Withdraws, without_joiner, PicksUp, JoinFits, IsReached, reserves, State, is_of, is_key, is_reserved, with_reservation, without_key, IsOut, Ticket, ProcessClaim, JoinClaim, Picked, StepDone, Loader, Reservation, Outcome, Part, Premises, Progress, Shown, WorldEvent, cache_at, IsOrder, HasShares, SweepState, CallState, has_number, op_at, op_for, open_keys, is_turn, going_on, with_met, replaced, settle, with_found, with_stripe, with_phase, step_of, fault_in, with_settled, with_met_by, without_call, with_look, new_load, new_write, new_process, new_part, with_part, without_part, with_join, without_join, Starts, Ends, Picks, Happens, is_free, may_leave, fits, IsStripe, is_up_to, has_answer, has_parked_answer, is_served_in, is_served, FitsCall, CallsFit, Each, IsHeld, IsCallOf, IsOwned, AllOwned, IsCalled, IsSoundWorld, Parts, Joins, WorldState, home, stripe_for, open_call, part_of, out_of, join_of, is_joined, with_stored}
 use Rattle.jc_stripe.specs.declared.begun.Begun.TheVariants as begun
 use Rattle.jc_stripe.specs.declared.begun.Picked.TheVariants as picked
 use Rattle.jc_world.specs.declared.event.Outcome.TheVariants as outcome
@@ -63,7 +63,6 @@ order_over w call u free is old =
       calls = calls_filter w new (is_other call) (IsFound w) w.calls (λ v other found h. fits_same w new v refl refl (λ q o is k. k) h) (each_found w w.calls old.calls) old.calls;
       owned = λ n s here. each_map (IsOwned w) (IsOwned new) s.reservations
           (λ r h.
-          let P : Option CallState → Type 0 = λ o. IsSomeAnd o (IsCallOf r.caller.session r.key r.op) in
           let v = some_of (open_call w r.caller.call) (IsCallOf r.caller.session r.key r.op) h.call in
           let apart = false_from_ne_true (call == r.caller.call) (λ e.
           let mine : r.caller.call ≡ call = sym (eqb-true call r.caller.call e) in
@@ -71,7 +70,7 @@ order_over w call u free is old =
           let one = open_now (is_free w call) u r.key r.op (ap (λ (x : CallState). op_at x r.key) (sym same) ∙ v.2.1) free in
           not_own w call r.key r (and_parts (is_none (part_of w call r.key)) (not (is_joined w call r.key)) one).0 h mine refl)
           in
-          record { part = h.part; call = subst P (sym (find_over call r.caller.call w.calls apart)) h.call })
+          record { part = h.part; call = rw (find_over call r.caller.call w.calls apart) h.call })
           (old.owned n s here);
     }
 
@@ -163,8 +162,7 @@ order_stepped w key from to call met parts old there g reached put keeps owned =
       order = added_order w.order from to g reached old.order
           (by_map put_of (λ who k. may_come_all w.order who k ≡ true) g.more
           (λ who k p.
-          let F : Caller → Type 0 = λ c. FitsKey w c k p.op in
-          (subst F (put_caller w new call key who k p) ((fit who k p).keys k p.op (done_for p.v k p.op p.op_is))).comes p.unserved) put);
+          (rw (put_caller w new call key who k p) at ((fit who k p).keys k p.op (done_for p.v k p.op p.op_is))).comes p.unserved) put);
       numbers = numbers_added w.last w.order from to g old.numbers
           (by_map put_of (λ who k. is_up_to w.last who.call ≡ true) g.more (λ who k p. ap (is_up_to w.last) (sym (found_number who.call w.calls p.v p.here)) ∙ (fit who k p).number) put);
       calls = calls_settled w new call key met (IsFound w) w.calls
@@ -172,9 +170,8 @@ order_stepped w key from to call met parts old there g reached put keeps owned =
           record {
             number = ap (λ (c : Caller). is_up_to w.last c.call) left.caller_is ∙ h.number;
             keys = λ q op is.
-                let F : Caller → Type 0 = λ c. FitsKey new c q op in
                 let k = h.keys q op (left.was q op is) in
-                subst F (sym left.caller_is)
+                rw left.caller_is
                 (record {
                   comes = λ e. comes_added w.order from to u.caller q g (k.comes (unless (is_served w u.caller q) (is_served new u.caller q) (served_set w key from to there keeps u.caller q) e))
                       (by_map put_of (λ who x. comes_behind who x u.caller q ≡ true) g.more (λ who x p. put_behind w new call key u v q op who x old.calls found left is e p) put);
@@ -323,9 +320,8 @@ order_started stays w new call key u op from to seen fit is op_is there h old = 
 -- another key's reservation keeps its part
 part_kept : (w : WorldState) (key : Bytes) (r : Reservation) → is_key key r ≡ false → IsOwned w r → IsSomeAnd (get (remove w.parts key) r.key) (λ p. p.reservation.caller.call ≡ r.caller.call)
 part_kept w key r apart h =
-    let P : Option Part → Type 0 = λ o. IsSomeAnd o (λ p. p.reservation.caller.call ≡ r.caller.call) in
     let other : eq_by_cmp key_cmp r.key key ≡ false = (eq_by_cmp_equiv nat_list_cmp_total).symm r.key key ∙ sym (texts_ties key r.key) ∙ apart in
-    subst P (sym (get-remove nat_list_cmp_total w.parts key r.key ∙ ap (λ b. cond b None (get w.parts r.key)) other)) h.part
+    rw (get-remove nat_list_cmp_total w.parts key r.key ∙ ap (λ b. cond b None (get w.parts r.key)) other) h.part
 
 -- the reservations of another stripe are of other keys
 other_stripe : (w : WorldState) (key : Bytes) (n : ℕ) (s : State) (rs : List Reservation) → IsStripe w n s → (home w key ≡ n → ⊥) → list_all (λ r. is_of s r.key) rs ≡ true → list_all (λ r. not (is_key key r)) rs ≡ true
@@ -663,11 +659,7 @@ there_is (x ∷ xs) (suc n) h = there_is xs n (omega arith)
 -- a stripe's part of the order is a legal history
 history_of_stripe : (w : WorldState) (n : ℕ) (s : State) → slice_get w.stripes n ≡ Some s → IsStripe w n s → IsHistory w.config empty (of_stripe w.config.stripes n w.order) (cache_at w n)
 history_of_stripe w n s there at =
-    let A : Config → Type 0 = λ c. IsHistory c (from_entries s.opening) s.history s.cache in
-    let B : List (Bytes × Bytes) → Type 0 = λ o. IsHistory w.config (from_entries o) s.history s.cache in
-    let C : List Event → Type 0 = λ h. IsHistory w.config empty h s.cache in
-    let D : Option State → Type 0 = λ o. IsHistory w.config empty (of_stripe w.config.stripes n w.order) (cache_in o) in
-    subst D (sym there) (subst C (sym at.share) (subst B at.reached.opening (subst A at.config_is at.reached.legal)))
+    rw there (rw at.share (rw at.reached.opening at (rw at.config_is at at.reached.legal)))
 
 -- and so is the whole order
 pub order_is : (w : WorldState) → IsSoundWorld w → IsOrder w

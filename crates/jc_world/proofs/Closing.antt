@@ -12,7 +12,7 @@ use Rattle.jc_world.proofs.Shares.{set_cases, length-slice_set, each_test}
 use Rattle.jc_world.proofs.Underway.{others_left, same_bytes}
 use Rattle.jc_world.proofs.Maps.{joins_ordered, each_left}
 use Rattle.jc_world.proofs.Reservations.{found_left}
-use Rattle.jc_world.proofs.Joiners.{joiner_of, find_kept, joined_resolved, joined_dissolved}
+use Rattle.jc_world.proofs.Joiners.{find_kept, joined_resolved, joined_dissolved}
 
 -- 1. A reservation that is over.
 
@@ -33,8 +33,7 @@ committed stays from to r out done reached h = record {
   origin_is = ap (λ (s : State). s.origin) h.1.after;
   left = ap (λ (s : State). s.reservations) h.1.after;
   joins = λ j t.
-      let J : List Joiner → Type 0 = λ js. IsSomeAnd (joiner_of j.caller j.key js) (λ x. x.load ≡ j.load) in
-      subst J (sym (ap (λ (s : State). s.joiners) h.1.after)) (joined_resolved (λ x. x.load ≡ j.load) r.number done.place (done.place + 1) j.caller j.key from.joiners (λ place x k. k) t);
+      rw (ap (λ (s : State). s.joiners) h.1.after) (joined_resolved (λ x. x.load ≡ j.load) r.number done.place (done.place + 1) j.caller j.key from.joiners (λ place x k. k) t);
   reached = stays.commits from to r out done reached h;
 }
 
@@ -46,8 +45,7 @@ given_back stays from to r reached h = record {
   origin_is = ap (λ (s : State). s.origin) h.1;
   left = ap (λ (s : State). s.reservations) h.1;
   joins = λ j t.
-      let J : List Joiner → Type 0 = λ js. IsSomeAnd (joiner_of j.caller j.key js) (λ x. x.load ≡ j.load) in
-      subst J (sym (ap (λ (s : State). s.joiners) h.1)) (joined_dissolved (λ x. x.load ≡ j.load) r.number j.caller j.key from.joiners (λ x k. k) t);
+      rw (ap (λ (s : State). s.joiners) h.1) (joined_dissolved (λ x. x.load ≡ j.load) r.number j.caller j.key from.joiners (λ x k. k) t);
   reached = stays.withdraws from to r reached h;
 }
 
@@ -84,8 +82,7 @@ still_out config ss n from to key q part at is apart =
     let F : State → Type 0 = λ s. (part.reservation.key ≡ q) × IsOut s part.reservation in
     at_stripe ss n (stripe_of q config.stripes) from to (λ o y. IsSomeAnd o F → IsSomeAnd y F) at
     (λ h.
-    let R : List Reservation → Type 0 = λ rs. find (is_key part.reservation.key) rs ≡ Some part.reservation in
-    (h.0, subst R (sym is.left) (found_left part.reservation.key key from.reservations (ap (λ k. eq_by_cmp key_cmp k key) h.0 ∙ apart) ∙ h.1)))
+    (h.0, rw is.left (found_left part.reservation.key key from.reservations (ap (λ k. eq_by_cmp key_cmp k key) h.0 ∙ apart) ∙ h.1)))
     (λ h. h)
 
 -- each reservation of another key is still held

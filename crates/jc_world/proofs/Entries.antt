@@ -1,5 +1,5 @@
 -- What a step leaves of each entry, and what of that the store says.
-use Rattle.jc_world.proofs.Common.{◌≡◌, Bool, true, false, cond, ◌&&◌, List, is_some, is_none, ◌==◌, Some, None, Option, sym, refl, ap, ◌∙◌, subst, and_parts, nat_list_cmp_total, remove, len, get-remove, eq_by_cmp, Caller, Config, none_is, get-with_entry, Bytes, Cache, entry_at, with_entry, key_cmp, nothing_said, load_only, write_only, without_victim, without_own, loads_whole, found_in, holds, always_if, ask_if, write_ask, entry_without_fault, entry_after, Cause, Change, Delete, Write, LoadAnswer, Op, Clear, ContainsKey, Get, GetAndPut, GetAndRemove, GetAndReplace, Invoke, LoadAll, Put, PutIfAbsent, Remove, RemoveIf, Replace, ReplaceIf, Out, least_used, overflows, victim, new_group, Steps, writer_for, first_by, first_asked, State, StepDone, Loader, Nobody, Writer, changed_to, Agrees}
+use Rattle.jc_world.proofs.Common.{◌≡◌, Bool, true, false, cond, ◌&&◌, List, is_some, is_none, ◌==◌, Some, None, Option, sym, refl, ap, ◌∙◌, subst, and_parts, nat_list_cmp_total, remove, len, get-remove, eq_by_cmp, Caller, Config, none_is, get-with_entry, Bytes, Cache, entry_at, with_entry, key_cmp, nothing_said, load_only, write_only, without_victim, without_own, loads_whole, found_in, holds, always_if, ask_if, write_ask, entry_without_fault, entry_after, Cause, Change, Delete, Write, LoadAnswer, Op, Clear, Get, GetAndPut, GetAndRemove, GetAndReplace, Invoke, LoadAll, Put, PutIfAbsent, Remove, RemoveIf, Replace, ReplaceIf, Out, least_used, overflows, victim, new_group, Steps, writer_for, first_by, first_asked, State, StepDone, Loader, Nobody, Writer, changed_to, Agrees}
 use Rattle.jc_model.specs.declared.event.LoadAnswer.TheVariants as load
 use Rattle.jc_model.specs.declared.event.WriteAnswer.TheVariants as write
 use Rattle.jc_model.specs.declared.event.ProcessAnswer.TheVariants as process
@@ -58,7 +58,6 @@ found_before s key op out =
 pub agrees_stepped : (old new : State) (caller : Caller) (key : Bytes) (op : Op) (out : Out) (callers : List Caller) (done : StepDone) (q : Bytes) (stored : Option Bytes) → Steps old caller key op out callers done new
     → Agrees (cond (eq_by_cmp key_cmp q key) (entry_after op (entry_at old.cache key) out) (entry_at old.cache q)) stored → Agrees (entry_at new.cache q) stored
 agrees_stepped old new caller key op out callers done q stored steps h =
-    let P : State → Type 0 = λ s. Agrees (entry_at s.cache q) stored in
     let Q : Option Bytes → Type 0 = λ o. Agrees o stored in
     let group = new_group old caller key op out callers steps.short in
     let left : Cache = without_victim old.cache (victim old key op out) in
@@ -68,7 +67,7 @@ agrees_stepped old new caller key op out callers done q stored steps h =
     (λ same h. subst Q (ap (λ e. entry_after op e out) (sym found)) h)
     (λ apart h. agrees_without old.cache (victim old key op out) q stored h) h
     in
-    subst P (sym steps.after)
+    rw steps.after
     (agrees_evicted (with_entry left key (entry_after op (entry_at left key) out)) key group.evicted q stored (subst Q (sym (get-with_entry left key (entry_after op (entry_at left key) out) q)) made))
 
 -- 2. The tables: what a write leaves is what was asked for.

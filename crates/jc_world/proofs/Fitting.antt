@@ -6,7 +6,7 @@
 --     start_fits     a call's first phase, after its beginning
 --     looks_fit_all  the looks of a call
 --     rest_fits      what follows in a line, if its first event fits
-use Rattle.jc_world.proofs.Common.{◌≡◌, ℕ, zero, suc, ◌+◌, ◌<◌, ◌≤◌, true, false, cond, not, ◌||◌, List, [], ◌∷◌, ◌++◌, is_some, is_none, IsSomeAnd, nat_lt, nat_le, Some, None, Option, find, sym, refl, ap, ◌∙◌, subst, inl, inr, arith, lt-ltb, eq-eqb, and_parts, and_from, false_from_ne_true, nat_tests, nat_eq_equiv, find-append, get, list_any, option_or, Caller, Bytes, Op, Get, State, JoinClaim, Command, Outcome, Part, Progress, Loading, Processed, Processing, Writing, WritingEffect, Shown, WorldEvent, at_each, SweepState, sweep_of, CallState, new_call, has_number, op_at, is_open, is_going, has_too_many_keys, opened, going_on, has_looked, has_looked_at_each, with_found, with_look, Starts, Ends, Picks, with_change, Happens, is_fit, AllFit, is_new, is_free, is_to_look, may_look, fits, is_up_to, IsCallOf, IsSoundWorld, looks, WorldState, open_call, of_call, part_of, has_progress, waits_for_report, is_untouched, is_joined}
+use Rattle.jc_world.proofs.Common.{◌≡◌, ℕ, zero, suc, ◌+◌, ◌<◌, ◌≤◌, true, false, cond, not, ◌||◌, List, [], ◌∷◌, ◌++◌, is_some, is_none, IsSomeAnd, nat_lt, nat_le, Some, None, Option, find, sym, refl, ap, ◌∙◌, subst, inl, inr, arith, lt-ltb, eq-eqb, and_parts, and_from, false_from_ne_true, nat_tests, nat_eq_equiv, find-append, get, list_any, option_or, Caller, Bytes, Op, Get, State, JoinClaim, Command, Outcome, Part, Progress, Loading, Shown, WorldEvent, at_each, SweepState, sweep_of, CallState, new_call, has_number, op_at, is_open, is_going, has_too_many_keys, opened, going_on, has_looked, has_looked_at_each, with_found, with_look, Starts, Ends, Picks, with_change, Happens, is_fit, AllFit, is_new, is_free, is_to_look, may_look, fits, is_up_to, IsCallOf, IsSoundWorld, looks, WorldState, open_call, of_call, part_of, has_progress, waits_for_report, is_untouched, is_joined}
 use Rattle.jc_world.specs.declared.command.Command.TheVariants as command
 use Rattle.jc_world.specs.declared.event.Outcome.TheVariants as outcome
 use Rattle.jc_world.specs.declared.event.WorldEvent.TheVariants as event

@@ -4,7 +4,7 @@
 --     found_next     the stripes that are left, once one was gone through
 --     agrees         an entry of a coherent world doesn't differ
 --     none_differ    so none does
-use Rattle.jc_world.proofs.Common.{◌≡◌, ℕ, zero, suc, ◌+◌, ◌<◌, Bool, true, false, cond, not, ◌&&◌, List, [], ◌∷◌, ◌++◌, map, length, get_or, drop, IfSome, ◌==◌, slice_get, Some, None, filter, Option, sym, refl, ap, ◌∙◌, subst, add-one, arith, drop-cons, ne_eqb, and_parts, and_right, nat_list_cmp_total, list_all-append, eq_by_cmp_equiv, texts_ties, is_sorted, entries, entries_sorted, get, remove, from_entries, get-empty, get-remove, get-from_entries, below_all, list_all, is_eq, is_lt, eq_by_cmp, T, Ordering, Equal, Greater, Less, stripe_of, Config, same_key, get-with_entry, Bytes, Cache, entry_at, key_cmp, Group, victim_events, evicted_events, step_event, shared_event, step_place, events_of, history_of, without_victim, cache_before_step, cache_after_step, without_own, cache_after_group, cache_after_groups, event_key, holds, seq_entry, Cause, Event, is_own, IsReached, State, is_of, IsCache, differs, differing, Coherent, or_else, found_after, IsSoundWorld, WorldState, home, entry_in, cached_entry, has_progress, has_changed}
+use Rattle.jc_world.proofs.Common.{◌≡◌, ℕ, zero, suc, ◌+◌, ◌<◌, Bool, true, false, cond, not, ◌&&◌, List, [], ◌∷◌, ◌++◌, map, length, get_or, drop, ◌==◌, slice_get, Some, None, filter, Option, sym, refl, ap, ◌∙◌, add-one, arith, drop-cons, ne_eqb, and_parts, and_right, nat_list_cmp_total, list_all-append, eq_by_cmp_equiv, texts_ties, is_sorted, entries, entries_sorted, get, remove, from_entries, get-empty, get-remove, get-from_entries, below_all, list_all, is_eq, is_lt, eq_by_cmp, T, Ordering, Less, stripe_of, Config, same_key, get-with_entry, Bytes, Cache, entry_at, key_cmp, Group, victim_events, evicted_events, step_event, shared_event, step_place, events_of, history_of, without_victim, cache_before_step, cache_after_step, without_own, cache_after_group, cache_after_groups, event_key, holds, seq_entry, Cause, Event, is_own, IsReached, State, is_of, IsCache, differs, differing, Coherent, or_else, found_after, IsSoundWorld, WorldState, home, entry_in, cached_entry, has_progress, has_changed}
 use Rattle.std.specs.FinMap.{find, get-entries}
 
 -- 1. What a group leaves at other keys.
@@ -159,8 +159,7 @@ held_apart stored value false h = ap (λ b. not b && true) (held_true stored val
 -- an entry that a coherent world caches doesn't differ
 pub agrees : (w : WorldState) (key value : Bytes) → Coherent w → cached_entry w key ≡ Some value → differs w (key, value) ≡ false
 agrees w key value coherent is =
-    let P : Option Bytes → Type 0 = λ o. IfSome o (λ v. entry_at w.store key ≡ Some v) in
-    held_apart (entry_at w.store key) value (has_progress has_changed (get w.parts key)) (λ unchanged. subst P is (coherent key unchanged))
+    held_apart (entry_at w.store key) value (has_progress has_changed (get w.parts key)) (λ unchanged. rw is at (coherent key unchanged))
 
 -- so none of them does
 pub none_differ : (w : WorldState) (cache : Cache) → IsCache w cache → Coherent w → differing w (entries cache) ≡ []

@@ -74,8 +74,7 @@ pub tells_kept : (number : ℕ) (shows more : Shows) (join : JoinClaim) (r : Res
     → TellsIn number shows join r s → TellsIn number (shows ++ more) join r t
 tells_kept number shows more join r s t behind joiners none out h =
     let Q : Joiner → Type 0 = TellsOf number (shows ++ more) t r in
-    let J : List Joiner → Type 0 = λ js. IsSomeAnd (joiner_of join.caller join.key js) Q in
-    subst J (sym joiners)
+    rw joiners
     (joined_front Q (belongs_to join.caller join.key) s.joiners behind
     (some_map (joiner_of join.caller join.key s.joiners) (TellsOf number shows s r) Q (λ j k. (k.0, tells_on number shows more s t r j.state (λ waits o. (out o, none)) k.1)) h))
 
@@ -158,8 +157,7 @@ pub tells_committed : (number call : ℕ) (key : Bytes) (shows : Shows) (join : 
 tells_committed number call key shows join p r from to seen end reached over call_is key_is stripe_is left joiners h =
     let more : Shows = (event.Commit call key, step_shown seen end) ∷ [] in
     let Q : Joiner → Type 0 = TellsOf number (shows ++ more) to r in
-    let J : List Joiner → Type 0 = λ js. IsSomeAnd (joiner_of join.caller join.key js) Q in
-    subst J (sym joiners)
+    subst (λ js. IsSomeAnd (joiner_of join.caller join.key js) Q) (sym joiners)
     (resolved_by (TellsOf number shows from r) Q p.number seen.place (seen.place + 1) join.caller join.key from.joiners
     (λ place j waits k.
     let one = load_over number shows p r from j reached over waits k in
@@ -176,8 +174,7 @@ pub tells_withdrawn : (number call : ℕ) (key : Bytes) (shows : Shows) (join : 
 tells_withdrawn number call key shows join p r from to reached over call_is key_is left joiners h =
     let more : Shows = (event.Withdraw call key, not_over outcome.Withdrawn) ∷ [] in
     let Q : Joiner → Type 0 = TellsOf number (shows ++ more) to r in
-    let J : List Joiner → Type 0 = λ js. IsSomeAnd (joiner_of join.caller join.key js) Q in
-    subst J (sym joiners)
+    subst (λ js. IsSomeAnd (joiner_of join.caller join.key js) Q) (sym joiners)
     (dissolved_by (TellsOf number shows from r) Q p.number join.caller join.key from.joiners
     (λ j waits k.
     let one = load_over number shows p r from j reached over waits k in

@@ -44,9 +44,7 @@ called_set : (w n : WorldState) (key : Bytes) (from to : State) → stripe_for w
     → ((m : ℕ) (js : List Joiner) → (home w key ≡ m → ⊥) → AllCalled w m js → AllCalled n m js) → IsSoundWorld w
     → (m : ℕ) (s : State) → slice_get (slice_set w.stripes (home w key) to) m ≡ Some s → AllCalled n m s.joiners
 called_set w n key from to there here rest old m s =
-    let P : ℕ → Type 0 = λ m. AllCalled n m s.joiners in
-    let Q : State → Type 0 = λ s. AllCalled n (home w key) s.joiners in
-    set_cases w.stripes (home w key) m to s (λ same is. subst P same (subst Q is (here (old.called (home w key) from there)))) (λ apart at. rest m s.joiners apart (old.called m s at))
+    set_cases w.stripes (home w key) m to s (λ same is. rw same at (rw is at (here (old.called (home w key) from there)))) (λ apart at. rest m s.joiners apart (old.called m s at))
 
 -- 2. What leaves the stripes.
 
@@ -119,7 +117,6 @@ joins_refused w call key met free turn old =
 still_beside : (w : WorldState) (call : ℕ) (u : CallState) → open_call w call ≡ Some u → list_all (is_free w call) (open_keys u) ≡ true → (number session : ℕ) (q : Bytes) → is_joined w number q ≡ true
     → IsSomeAnd (open_call w number) (IsCallOf session q Get) → IsSomeAnd (find (has_number number) (drop_call call w.calls)) (IsCallOf session q Get)
 still_beside w call u is free number session q joined h =
-    let P : Option CallState → Type 0 = λ o. IsSomeAnd o (IsCallOf session q Get) in
     let v = some_of (open_call w number) (IsCallOf session q Get) h in
     let apart = false_from_ne_true (call == number) (λ e.
     let mine : number ≡ call = sym (eqb-true call number e) in
@@ -127,7 +124,7 @@ still_beside w call u is free number session q joined h =
     let same : v.0 ≡ u = cc in
     let one = open_now (is_free w call) u q Get (ap (λ (x : CallState). op_at x q) (sym same) ∙ v.2.1) free in
     denied (is_joined w call q) (and_parts (is_none (part_of w call q)) (not (is_joined w call q)) one).1 (ap (λ n. is_joined w n q) (sym mine) ∙ joined)) in
-    subst P (sym (find_over call number w.calls apart)) h
+    rw (find_over call number w.calls apart) h
 
 -- 3. A phase that changes no join.
 

@@ -1,5 +1,5 @@
 -- Each event keeps what the parts and the store of a world say.
-use Rattle.jc_world.proofs.Common.{◌≡◌, ℕ, zero, suc, ◌+◌, Bool, true, false, cond, ◌&&◌, List, [], ◌∷◌, ◌++◌, is_some, is_none, IsSomeAnd, slice_get, slice_set, Some, None, Ok, Option, find, sym, refl, ap, ◌∙◌, subst, and_parts, and_from, nat_list_cmp_total, beq, texts_ties, get, insert, remove, get-empty, get-insert, get-remove, eq_by_cmp, check, Caller, Config, same_key, get-with_entry, Bytes, Cache, entry_at, with_entry, key_cmp, nothing_said, write_only, found_in, holds, write_ask, is_write_given, entry_after, Change, Event, LoadAnswer, Op, WriteAnswer, EntryCall, callers_of, ProcessResult, Played, asks_invoking, change_due, Steps, Begins, after_commit, Commits, Withdraws, AllAsk, first_asked, reserves, State, is_key, is_reserved, new_reservation, without_key, IsOut, Ticket, ProcessClaim, asks_loader, asks_writer, asks_processor, JoinClaim, StepDone, First, Loader, Nobody, Processor, Writer, Reservation, Command, Outcome, Part, Premises, Progress, Loading, Processed, Processing, Writing, WritingEffect, CallState, new_call, has_number, op_at, opened, settle, drop_call, Coherent, all_hold, with_stripe, with_phase, step_of, fault_in, without_call, new_load, new_write, new_process, new_part, with_part, without_part, Starts, Ends, Picks, after_answer, with_change, after_change, with_report, after_report, run_result, progress_after, after_process, may_leave, fits, changed_to, is_true_load, is_done, is_true_report, with_foreign_write, premises_hold, is_asked, is_due_in, IsHeld, Agrees, IsWrittenFor, LoadAgrees, ProgressAgrees, KeyAgrees, IsSoundWorld, Parts, join_key, Joins, WorldState, home, stripe_for, entry_in, cached_entry, empty_stripes, start, open_call, part_of, has_progress, waits_for_load, waits_for_process, waits_for_report, is_answered, is_untouched, has_changed, writer_change_in, writer_change, out_in, out_of, join_of, with_stored}
+use Rattle.jc_world.proofs.Common.{◌≡◌, ℕ, zero, suc, ◌+◌, Bool, true, false, cond, ◌&&◌, List, [], ◌∷◌, ◌++◌, is_some, is_none, IsSomeAnd, slice_get, slice_set, Some, None, Ok, Option, find, sym, refl, ap, ◌∙◌, subst, and_parts, and_from, nat_list_cmp_total, beq, texts_ties, get, insert, remove, get-empty, get-insert, get-remove, eq_by_cmp, check, Caller, Config, same_key, get-with_entry, Bytes, Cache, entry_at, with_entry, key_cmp, nothing_said, write_only, found_in, holds, write_ask, is_write_given, entry_after, Change, Event, LoadAnswer, Op, WriteAnswer, EntryCall, callers_of, ProcessResult, Played, asks_invoking, change_due, Steps, Begins, after_commit, Commits, Withdraws, AllAsk, first_asked, reserves, State, is_key, is_reserved, new_reservation, without_key, IsOut, Ticket, ProcessClaim, asks_loader, asks_writer, asks_processor, JoinClaim, StepDone, First, Loader, Writer, Reservation, Command, Outcome, Part, Premises, Progress, Loading, Processed, Processing, Writing, WritingEffect, CallState, new_call, has_number, op_at, opened, settle, drop_call, Coherent, all_hold, with_stripe, with_phase, step_of, fault_in, without_call, new_load, new_write, new_process, new_part, with_part, without_part, Starts, Ends, Picks, after_answer, with_change, after_change, with_report, after_report, run_result, progress_after, after_process, may_leave, fits, changed_to, is_true_load, is_done, is_true_report, with_foreign_write, premises_hold, is_asked, is_due_in, IsHeld, Agrees, IsWrittenFor, LoadAgrees, ProgressAgrees, KeyAgrees, IsSoundWorld, Parts, join_key, Joins, WorldState, home, stripe_for, entry_in, cached_entry, empty_stripes, start, open_call, part_of, has_progress, waits_for_load, waits_for_process, waits_for_report, is_answered, is_untouched, has_changed, writer_change_in, writer_change, out_in, out_of, join_of, with_stored}
 use Rattle.jc_model.specs.declared.event.LoadAnswer.TheVariants as load
 use Rattle.jc_model.specs.declared.event.WriteAnswer.TheVariants as write
 use Rattle.jc_model.specs.declared.event.ProcessAnswer.TheVariants as process
@@ -157,8 +157,7 @@ held_insert w parts key new all one = each_put keys_ordered (λ q part. HeldIn (
 -- what is known of a further part, and of all the others
 told_insert : (w : WorldState) (parts : Parts) (store : Cache) (key : Bytes) (new : Part) → AllTold w parts store → ProgressAgrees new.progress new.reservation.first (entry_at store key) (cached_entry w key) → AllTold w (insert parts key new) store
 told_insert w parts store key new all one q =
-    let P : Option Part → Type 0 = λ o. KeyAgrees o (entry_at store q) (cached_entry w q) in
-    subst P (sym (get-insert nat_list_cmp_total parts key new q))
+    rw (get-insert nat_list_cmp_total parts key new q)
     (split q key (λ b. KeyAgrees (cond b (Some new) (get parts q)) (entry_at store q) (cached_entry w q))
     (λ same. let Q : Bytes → Type 0 = λ k. ProgressAgrees new.progress new.reservation.first (entry_at store k) (cached_entry w k) in subst Q (sym same) one)
     (λ apart. all q))
@@ -268,10 +267,8 @@ parts_changed w call key part change is asks waits old =
     let due : waits_for_report part.progress ≡ true = sym (ap (has_progress waits_for_report) is) ∙ waits in
     parts_progressed w call key part new.progress store w.premises is (change_asked_of part.progress part.reservation.first)
     (λ h q.
-    let P : Option Part → Type 0 = λ o. KeyAgrees o (entry_at store q) (cached_entry w q) in
-    let Q : Option Bytes → Type 0 = λ s. KeyAgrees (cond (eq_by_cmp key_cmp q key) (Some new) (get w.parts q)) s (cached_entry w q) in
-    subst P (sym (get-insert nat_list_cmp_total w.parts key new q))
-    (subst Q (sym (get-with_entry w.store key (changed_to change) q))
+    rw (get-insert nat_list_cmp_total w.parts key new q)
+    (rw (get-with_entry w.store key (changed_to change) q)
     (split q key (λ b. KeyAgrees (cond b (Some new) (get w.parts q)) (cond b (changed_to change) (entry_at w.store q)) (cached_entry w q))
     (λ same. told_change part.progress part.reservation.first change (cached_entry w q) due asks)
     (λ apart. old.told h q)))) old
@@ -358,8 +355,7 @@ parts_over w call u calls is old = record {
 -- a step was appended
 held_stepped : (caller : Caller) (key : Bytes) (op : Op) (from next : State) (done : StepDone) (q : Bytes) (p : Part) → Begins from caller key op (begun.Done done) next → IsHeld from q p → IsHeld next q p
 held_stepped caller key op from next done q p begins h =
-    let R : List Reservation → Type 0 = λ rs. find (is_key p.reservation.key) rs ≡ Some p.reservation in
-    held_on from next q p (subst R (sym (ap (λ (s : State). s.reservations) begins.2.after)) h.out) h
+    held_on from next q p (rw (ap (λ (s : State). s.reservations) begins.2.after) h.out) h
 
 -- and the entries that agreed with the store do so still
 agrees_begun : (caller : Caller) (key : Bytes) (op : Op) (from next : State) (done : StepDone) (q : Bytes) (stored : Option Bytes) → Begins from caller key op (begun.Done done) next
@@ -395,8 +391,7 @@ parts_stepped w call u key op from next order calls done is at begins old =
 -- a key was reserved: its part is new, and the others are held on
 held_reserving : (from next : State) (r : Reservation) (q : Bytes) (p : Part) → next.reservations ≡ from.reservations ++ r ∷ [] → IsHeld from q p → IsHeld next q p
 held_reserving from next r q p reservations h =
-    let R : List Reservation → Type 0 = λ rs. find (is_key p.reservation.key) rs ≡ Some p.reservation in
-    held_on from next q p (subst R (sym reservations) (found_more (is_key p.reservation.key) from.reservations (r ∷ []) p.reservation h.out)) h
+    held_on from next q p (rw reservations (found_more (is_key p.reservation.key) from.reservations (r ∷ []) p.reservation h.out)) h
 
 -- so there is one part more
 parts_reserving : (w : WorldState) (key : Bytes) (from next : State) (r : Reservation) (part : Part) → stripe_for w key ≡ Some from → is_reserved from key ≡ false
@@ -420,8 +415,7 @@ parts_reserving w key from next r part at free reservations cache one new used o
           (λ h. h)
           (old.told hold q)
           in
-          let N : Option Part → Type 0 = λ o. KeyAgrees o (entry_at w.store key) (cached_entry n key) in
-          told_insert n w.parts w.store key part all (new (entry_at w.store key) (cached_entry n key) (subst N (unheld w key from at free old) (all key)));
+          told_insert n w.parts w.store key part all (new (entry_at w.store key) (cached_entry n key) (rw (unheld w key from at free old) at (all key)));
       cold = λ f. absurd (used f);
       idle = λ f. absurd (used f);
     }
@@ -430,8 +424,7 @@ parts_reserving w key from next r part at free reservations cache one new used o
 held_new : (key : Bytes) (from next : State) (p : Progress) (r : Reservation) → is_reserved from key ≡ false → r.key ≡ key → next.reservations ≡ from.reservations ++ r ∷ [] → is_asked p r.first ≡ true
     → IsHeld next key (new_part p r)
 held_new key from next p r free key_is reservations asked =
-    let P : List Reservation → Type 0 = λ rs. find (is_key r.key) rs ≡ Some r in
-    record { key_is = key_is; out = subst P (sym reservations) (new_out from r (ap (is_reserved from) key_is ∙ free)); asked = asked }
+    record { key_is = key_is; out = rw reservations (new_out from r (ap (is_reserved from) key_is ∙ free)); asked = asked }
 
 -- the key is reserved, and the loader is asked
 parts_loads : (w : WorldState) (call : ℕ) (u : CallState) (key : Bytes) (op : Op) (from next : State) (ticket : Ticket) → open_call w call ≡ Some u → stripe_for w key ≡ Some from
@@ -518,8 +511,7 @@ agrees_written : (op : Op) (entry stored : Option Bytes) (change : Change) (repo
 agrees_written op entry stored change write.NotAsked was asked given written unwritten honest = cc
 agrees_written op entry stored change (write.Failed code) was asked given written unwritten honest = unwritten (sym honest)
 agrees_written op entry stored change write.Done was asked given written unwritten honest =
-    let P : Option Bytes → Type 0 = λ o. Agrees o stored in
-    subst P (written (sym honest) ∙ sym (writes op entry change asked)) (agrees_same stored)
+    subst (λ o. Agrees o stored) (written (sym honest) ∙ sym (writes op entry change asked)) (agrees_same stored)
 
 -- what a commit leaves agrees with the store: a reservation still asks what it asked
 agrees_ended : (config : Config) (r : Reservation) (p : Progress) (op : Op) (first : First) (entry stored : Option Bytes) → first_asked config op entry ≡ first → is_asked p first ≡ true → is_answered p ≡ true → config.write_through ≡ true → is_due_in config r p ≡ true
@@ -529,13 +521,11 @@ agrees_ended config r (Writing is_changed report) op (Writer change) entry store
     agrees_written op entry stored change report is_changed (writes_asked config op entry change asks) over h.written h.unwritten (h.honest over)
 agrees_ended config r (Processed loaded process) op first entry stored asks asked over on due h =
     let done : ProcessResult Reservation = record { ask = r; origin = Played; load = loaded; process = process } in
-    let A : Op → Type 0 = λ o. Agrees (entry_after o entry (record { load = loaded; write = write.NotAsked; process = process })) stored in
-    subst A (sym (invoke_is op (asks_invoking config op entry (ap asks_processor asks ∙ asked))))
+    rw (invoke_is op (asks_invoking config op entry (ap asks_processor asks ∙ asked)))
     (agrees_processed loaded process entry stored (ap is_none (sym (write_due config done on)) ∙ due) h)
 agrees_ended config r (WritingEffect loaded process is_changed report) op first entry stored asks asked over on due h =
     let done : ProcessResult Reservation = record { ask = r; origin = Played; load = loaded; process = process } in
-    let A : Op → Type 0 = λ o. Agrees (entry_after o entry (record { load = loaded; write = report; process = process })) stored in
-    subst A (sym (invoke_is op (asks_invoking config op entry (ap asks_processor asks ∙ asked))))
+    rw (invoke_is op (asks_invoking config op entry (ap asks_processor asks ∙ asked)))
     (agrees_effect loaded process is_changed report entry stored (ap is_some (sym (write_due config done on)) ∙ due) over h)
 agrees_ended config r p op first entry stored asks asked over on due h = cc
 
@@ -555,8 +545,7 @@ others_out from key q p apart h = found_left p.reservation.key key from.reservat
 -- a commit keeps the reservations of the other keys
 held_ended : (key : Bytes) (from next : State) (q : Bytes) (p : Part) → next.reservations ≡ without_key key from.reservations → eq_by_cmp key_cmp q key ≡ false → IsHeld from q p → IsHeld next q p
 held_ended key from next q p left apart h =
-    let R : List Reservation → Type 0 = λ rs. find (is_key p.reservation.key) rs ≡ Some p.reservation in
-    held_on from next q p (subst R (sym left) (others_out from key q p apart h)) h
+    held_on from next q p (rw left (others_out from key q p apart h)) h
 
 -- so are their parts held
 held_removed : (w : WorldState) (key : Bytes) (from next : State) (q : Bytes) (p : Part) → stripe_for w key ≡ Some from → next.reservations ≡ without_key key from.reservations → IsSoundWorld w → get (remove w.parts key) q ≡ Some p
@@ -602,8 +591,7 @@ parts_committed w call key part from next order calls done is answered at commit
       held = λ q p e. held_removed w key from next q p at left old e;
       told = λ hold q.
           let all = old.told hold in
-          let P : Option Part → Type 0 = λ o. KeyAgrees o (entry_at w.store q) (cached_entry n q) in
-          subst P (sym (get-remove nat_list_cmp_total w.parts key q))
+          subst (λ o. KeyAgrees o (entry_at w.store q) (cached_entry n q)) (sym (get-remove nat_list_cmp_total w.parts key q))
           (split q key (λ b. KeyAgrees (cond b None (get w.parts q)) (entry_at w.store q) (cached_entry n q))
           (λ same.
           let B : Bytes → Type 0 = λ k. Agrees (cached_entry n k) (entry_at w.store k) in
@@ -655,14 +643,11 @@ parts_withdrawn w call key part from next fit is at withdraws old =
     record {
       held = λ q p e. held_removed w key from next q p at left old e;
       told = λ hold q.
-          let P : Option Part → Type 0 = λ o. KeyAgrees o (entry_at w.store q) (cached_entry n q) in
-          let C : Option Bytes → Type 0 = λ c. KeyAgrees (cond (eq_by_cmp key_cmp q key) None (get w.parts q)) (entry_at w.store q) c in
-          subst P (sym (get-remove nat_list_cmp_total w.parts key q))
-          (subst C (sym (same q))
+          rw (get-remove nat_list_cmp_total w.parts key q)
+          (rw (same q)
           (split q key (λ b. KeyAgrees (cond b None (get w.parts q)) (entry_at w.store q) (cached_entry w q))
           (λ e.
-          let T : Option Part → Type 0 = λ o. KeyAgrees o (entry_at w.store q) (cached_entry w q) in
-          unwritten_in part.progress part.reservation.first (entry_at w.store q) (cached_entry w q) (unchanged part.progress (sym (ap (has_progress is_untouched) is) ∙ fit)) (subst T (ap (get w.parts) e ∙ there) (old.told hold q)))
+          unwritten_in part.progress part.reservation.first (entry_at w.store q) (cached_entry w q) (unchanged part.progress (sym (ap (has_progress is_untouched) is) ∙ fit)) (rw (ap (get w.parts) e ∙ there) at (old.told hold q)))
           (λ apart. old.told hold q)));
       cold = λ f. absurd (worn w key part there old f);
       idle = λ f. absurd (worn w key part there old f);

@@ -5,7 +5,7 @@
 --     key_of_load       a joiner that waits for a load is at its key
 --     joins_get         only a `Get` joins a load
 --     each_fits         each joiner of a stripe fits
-use Rattle.jc_world.proofs.Common.{◌≡◌, ℕ, suc, Bool, true, false, cond, List, [], ◌∷◌, ◌==◌, Some, None, Option, find, sym, refl, ap, ◌∙◌, subst, arith, eqb-true, eq-eqb, and_parts, All-head, All-tail, All, AllPairs, Bytes, Op, Get, is_waiting, waits_for, JoinState, Again, Answered, Waiting, Joiner, JoinFits, AllJoin, IsReached, load_of, load_at, load_joined, State, is_key, reservation_of, IsOut, asks_loader, First, Loader, Nobody, Processor, Writer, Reservation, Each}
+use Rattle.jc_world.proofs.Common.{◌≡◌, ℕ, suc, Bool, true, false, cond, List, [], ◌∷◌, ◌==◌, Some, None, Option, find, sym, refl, ap, ◌∙◌, subst, arith, eqb-true, eq-eqb, and_parts, All-head, All-tail, All, AllPairs, Bytes, Op, Get, is_waiting, waits_for, JoinState, Waiting, Joiner, JoinFits, AllJoin, IsReached, load_of, load_at, load_joined, State, is_key, reservation_of, IsOut, asks_loader, First, Loader, Reservation, Each}
 use Rattle.jc_world.proofs.Shares.{found_test}
 use Rattle.jc_world.proofs.Underway.{same_bytes}
 

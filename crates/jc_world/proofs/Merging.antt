@@ -85,8 +85,7 @@ others_length (x ∷ xs) n h = omega arith
 -- the first turn is of a stripe that has an event left
 has_first : (left : ℕ → List Event) (turn : ℕ) (turns : List ℕ) → ((number : ℕ) → turns_of number (turn ∷ turns) ≤ length (left number)) → 1 + turns_of turn turns ≤ length (left turn)
 has_first left turn turns each =
-    let Q : ℕ → Type 0 = λ n. n ≤ length (left turn) in
-    subst Q (count_one turn turn turns ∙ ap (λ b. cond b 1 0 + turns_of turn turns) (nat_eq_equiv.refl turn)) (each turn)
+    rw (count_one turn turn turns ∙ ap (λ b. cond b 1 0 + turns_of turn turns) (nat_eq_equiv.refl turn)) at (each turn)
 
 within_turn : (b : Bool) (n : ℕ) (xs : List Event) → cond b 1 0 + n ≤ length xs → n ≤ length (cond b (drop 1 xs) xs)
 within_turn true n xs h = others_length xs n (omega arith)
@@ -94,8 +93,7 @@ within_turn false n xs h = omega arith
 
 within_after : (left : ℕ → List Event) (turn : ℕ) (turns : List ℕ) → ((number : ℕ) → turns_of number (turn ∷ turns) ≤ length (left number)) → (number : ℕ) → turns_of number turns ≤ length (after_turn left turn number)
 within_after left turn turns each number =
-    let Q : ℕ → Type 0 = λ n. n ≤ length (left number) in
-    within_turn (turn == number) (turns_of number turns) (left number) (subst Q (count_one number turn turns) (each number))
+    within_turn (turn == number) (turns_of number turns) (left number) (rw (count_one number turn turns) at (each number))
 
 longer_after : (left left' : ℕ → List Event) (turn : ℕ) → 1 ≤ length (left turn) → Longer left left' → Longer (after_turn left turn) (after_turn left' turn)
 longer_after left left' turn some longer number =
@@ -203,8 +201,7 @@ is_at s now number from P is h read = at_index s.items.items number from P (subs
 pub phase_made : (s : Inside) (now : OrderedStripes) (number count : ℕ) (from to : State) (phase : State → State → Type 0) (turns : List ℕ) (next : OrderedStripes) → ordered_stripes s ≡ now → IsMergeable s → slice_get s.items.items number ≡ Some from → Extends from to → count ≡ length from.history → phase from to
     → turns ≡ s.turns.items ++ replicate (length to.history - count) number → next.stripes ≡ slice_set s.items.items number to → next.order ≡ merge (history_at (slice_set s.items.items number to)) turns → IsPhase now number phase next
 phase_made s now number count from to phase turns next is ok at longer counted made given stripes_are order_are =
-    let P : OrderedStripes → Type 0 = λ v. IsPhase v number phase next in
-    subst P is (record {
+    subst (λ v. IsPhase v number phase next) is (record {
       from = from;
       at = at;
       to = to;

@@ -6,7 +6,7 @@
 --     follows_joined     it is so if the call has just joined
 --     resolves           so what a pick-up shows is what has become of the load
 --     answers_joins      the whole, from the join to the pick-up
-use Rattle.jc_world.proofs.Common.{◌≡◌, ℕ, Bool, true, false, cond, not, ◌&&◌, ◌||◌, List, [], ◌∷◌, ◌++◌, is_some, IsSomeAnd, ◌==◌, slice_get, slice_set, Some, None, Option, option_map, zip, sym, refl, ap, ◌∙◌, subst, inl, inr, append_assoc, append-nil, eq-eqb, and_from, or_parts, false_from_ne_true, nat_eq_equiv, nat_list_eq_equiv, pointwise, get, remove, list_any, stripe_of, Caller, Config, Bytes, Op, belongs_to_same, belongs_to, JoinState, Again, Answered, Waiting, Joiner, with_joiner, without_joiner, told_to, State, is_key, reservation_of, IsOut, asks_loader, JoinClaim, Reservation, Outcome, Over, Part, Shown, WorldEvent, CallState, op_at, with_stripe, not_over, with_join, Starts, Ends, Picks, Happens, Step, Run, fits, ends_join, is_last_pick_up, ends_load, Resolves, IsHeld, IsOwned, IsSoundWorld, JoinKey, join_key, Joins, WorldState, home, stripe_for, open_call, of_call, part_of, join_of, has_joined, is_joined}
+use Rattle.jc_world.proofs.Common.{◌≡◌, ℕ, Bool, true, false, cond, not, ◌&&◌, ◌||◌, List, [], ◌∷◌, ◌++◌, is_some, IsSomeAnd, ◌==◌, slice_get, slice_set, Some, None, Option, option_map, zip, sym, refl, ap, ◌∙◌, subst, inl, inr, append_assoc, append-nil, eq-eqb, and_from, or_parts, false_from_ne_true, nat_eq_equiv, nat_list_eq_equiv, pointwise, get, remove, list_any, Caller, Bytes, Op, belongs_to_same, belongs_to, JoinState, Again, Answered, Waiting, Joiner, with_joiner, without_joiner, told_to, State, is_key, reservation_of, IsOut, asks_loader, JoinClaim, Reservation, Outcome, Over, Part, Shown, WorldEvent, CallState, op_at, with_stripe, not_over, with_join, Starts, Ends, Picks, Happens, Step, Run, fits, ends_join, is_last_pick_up, ends_load, Resolves, IsHeld, IsOwned, IsSoundWorld, JoinKey, join_key, Joins, WorldState, home, stripe_for, open_call, of_call, part_of, join_of, has_joined, is_joined}
 use Rattle.jc_world.specs.declared.event.Outcome.TheVariants as outcome
 use Rattle.jc_world.specs.declared.event.WorldEvent.TheVariants as event
 use Rattle.jc_world.proofs.Numbered.{some_of}
@@ -38,12 +38,10 @@ follows_set : (w n : WorldState) (shows more : Shows) (join : JoinClaim) (r : Re
     → (TellsIn (home w join.key) shows join r from → TellsIn (home w join.key) (shows ++ more) join r to) → Follows n (shows ++ more) join r
 follows_set w n shows more join r key from to h config stripes there joined none phase =
     let m = home w join.key in
-    let C : Config → Type 0 = λ c. IsSomeAnd (slice_get n.stripes (stripe_of join.key c.stripes)) (TellsIn (stripe_of join.key c.stripes) (shows ++ more) join r) in
-    let S : List State → Type 0 = λ ss. IsSomeAnd (slice_get ss m) (TellsIn m (shows ++ more) join r) in
     record {
       key_is = h.key_is;
       join_is = joined;
-      joiner = subst C (sym config) (subst S (sym stripes)
+      joiner = rw config (rw stripes
           (at_stripe_apart w.stripes (home w key) m from to (λ o x. IsSomeAnd o (TellsIn m shows join r) → IsSomeAnd x (TellsIn m (shows ++ more) join r)) there (λ same. phase)
           (λ apart. some_map (slice_get w.stripes m) (TellsIn m shows join r) (TellsIn m (shows ++ more) join r) (λ s t. tells_kept m shows more join r s s [] (sym (append-nil s.joiners)) (none apart) (λ o. o) t))
           h.joiner));
@@ -54,12 +52,10 @@ follows_same : (w n : WorldState) (shows more : Shows) (join : JoinClaim) (r : R
     → Follows n (shows ++ more) join r
 follows_same w n shows more join r h config stripes joins none =
     let m = home w join.key in
-    let C : Config → Type 0 = λ c. IsSomeAnd (slice_get n.stripes (stripe_of join.key c.stripes)) (TellsIn (stripe_of join.key c.stripes) (shows ++ more) join r) in
-    let S : List State → Type 0 = λ ss. IsSomeAnd (slice_get ss m) (TellsIn m (shows ++ more) join r) in
     record {
       key_is = h.key_is;
       join_is = ap (λ (m : Joins). get m (join_key join)) joins ∙ h.join_is;
-      joiner = subst C (sym config) (subst S (sym stripes)
+      joiner = rw config (rw stripes
           (some_map (slice_get w.stripes m) (TellsIn m shows join r) (TellsIn m (shows ++ more) join r) (λ s t. tells_kept m shows more join r s s [] (sym (append-nil s.joiners)) none (λ o. o) t) h.joiner));
     }
 
@@ -67,8 +63,7 @@ follows_same w n shows more join r h config stripes joins none =
 follows_beside : (w n m : WorldState) (shows more : Shows) (join : JoinClaim) (r : Reservation) → Follows w shows join r → n ≡ m → m.config ≡ w.config → m.stripes ≡ w.stripes → m.joins ≡ w.joins → list_any (ends_load r) more ≡ false
     → Follows n (shows ++ more) join r
 follows_beside w n m shows more join r h is config stripes joins none =
-    let P : WorldState → Type 0 = λ x. Follows x (shows ++ more) join r in
-    subst P (sym is) (follows_same w m shows more join r h config stripes joins none)
+    rw is (follows_same w m shows more join r h config stripes joins none)
 
 -- the first phase of a call
 follows_started : (w new : WorldState) (caller : Caller) (key : Bytes) (op : Op) (from to : State) (seen : Outcome) (shows more : Shows) (join : JoinClaim) (r : Reservation) → stripe_for w key ≡ Some from → Starts w caller key op from to seen new → is_joined w caller.call key ≡ false → list_any (ends_load r) more ≡ false
@@ -183,8 +178,7 @@ follows_happens w new (event.Report call left fault) seen shows join r fit h las
 follows_happens w new (event.Commit call key) seen shows join r fit h last old f = follows_ended w new call key h.0 h.2 h.4 seen.outcome seen.over shows join r h.1 h.3 h.5 old f
 follows_happens w new (event.Withdraw call key) seen shows join r fit h last old f =
     let p = h.0.reservation in
-    let S : Shown → Type 0 = λ s. Follows new (shows ++ (event.Withdraw call key, s) ∷ []) join r in
-    subst S (sym h.6)
+    rw h.6
     (follows_set w new shows ((event.Withdraw call key, not_over outcome.Withdrawn) ∷ []) join r key h.2 h.4 f (ap (λ (x : WorldState). x.config) h.7) (ap (λ (x : WorldState). x.stripes) h.7) h.3
     (ap (λ (x : WorldState). join_of x join.caller.call join.key) h.7 ∙ f.join_is)
     (λ apart. ap (λ b. b || false) (none_of_key r call key (not_over outcome.Withdrawn) (λ same. apart (ap (home w) (sym same ∙ f.key_is)))))
@@ -211,8 +205,7 @@ follows_run laws w new [] [] shows join r run none old f = follows_beside w new 
 follows_run laws w new (e ∷ es) (s ∷ ss) shows join r (mid, step, rest) none old f =
     let parts = or_parts (is_last_pick_up join.caller.call join.key (e, s)) (list_any (is_last_pick_up join.caller.call join.key) (zip es ss)) none in
     let next = follows_step w mid e s shows join r step parts.0 old f in
-    let P : Shows → Type 0 = λ xs. Follows new xs join r in
-    subst P (append_assoc shows ((e, s) ∷ []) (zip es ss)) (follows_run laws mid new es ss (shows ++ (e, s) ∷ []) join r rest parts.1 (sound_step laws w e s mid step old) next)
+    rw (append_assoc shows ((e, s) ∷ []) (zip es ss)) at (follows_run laws mid new es ss (shows ++ (e, s) ∷ []) join r rest parts.1 (sound_step laws w e s mid step old) next)
 follows_run laws w new es ss shows join r run none old f = absurd run
 
 -- 2. The part of a load that is out.
@@ -224,8 +217,7 @@ part_of_out w key s r there key_is out old =
     let held = some_of (stripe_for w r.key) (λ x. IsHeld x r.key part.0) (old.held r.key part.0 part.1) in
     let e : Some held.0 ≡ Some s = sym held.1 ∙ ap (stripe_for w) key_is ∙ there in
     let here : held.0 ≡ s = cc in
-    let O : State → Type 0 = λ x. IsOut x part.0.reservation in
-    let t : Some part.0.reservation ≡ Some r = sym (subst O here held.2.out) ∙ ap (reservation_of s) held.2.key_is ∙ out in (
+    let t : Some part.0.reservation ≡ Some r = sym (rw here at held.2.out) ∙ ap (reservation_of s) held.2.key_is ∙ out in (
       part.0,
       ap (of_call r.caller.call) part.1 ∙ ap (λ b. cond b (Some part.0) None) (eq-eqb part.0.reservation.caller.call r.caller.call part.2),
       cc,
@@ -248,13 +240,12 @@ follows_joined w u key op from to join r there join_is_of to_is r_key r_number o
     let new : WorldState = with_join (with_stripe w key to) join in
     let free : is_joined w join.caller.call join.key ≡ false = (λ i. is_joined w (call_is i) (key_is i)) ∙ may.alone in
     let Q : Joiner → Type 0 = TellsOf (home w join.key) [] to r in
-    let J : List Joiner → Type 0 = λ js. IsSomeAnd (joiner_of join.caller join.key js) Q in
     let I : State → Type 0 = TellsIn (home w join.key) [] join r in
     record {
       key_is = r_key ∙ sym key_is;
       join_is = get-here joins_ordered w.joins (join_key join) join;
       joiner = is_some_and (stripe_for new join.key) I to (ap (λ k. slice_get new.stripes (home w k)) key_is ∙ stripe_put w.stripes (home w key) from to there)
-          (subst J (sym (ap (λ (s : State). s.joiners) to_is))
+          (rw (ap (λ (s : State). s.joiners) to_is)
           (joined_last Q (belongs_to join.caller join.key) from.joiners next (no_joiner w key from join there free old)
           (and_from _ _ (and_from _ _ (nat_eq_equiv.refl join.caller.session) (nat_eq_equiv.refl join.caller.call)) (nat_list_eq_equiv.refl join.key))
           (sym r_number, (ap (λ (s : State). reservation_of s r.key) to_is ∙ out, refl))));
@@ -287,8 +278,7 @@ resolves : (w new : WorldState) (call : ℕ) (key : Bytes) (join : JoinClaim) (s
 resolves w new call key join seen shows r call_is key_is f old (inl (fit, (other, found, from, there, to, picks, over))) =
     let e : Some other ≡ Some join = sym found ∙ (λ i. join_of w (sym call_is i) (sym key_is i)) ∙ f.join_is in
     let same : other ≡ join = cc in
-    let K : Bytes → Type 0 = λ k. IsSomeAnd (stripe_for w k) (TellsIn (home w k) shows join r) in
-    let at = some_of (stripe_for w key) (TellsIn (home w key) shows join r) (subst K key_is f.joiner) in
+    let at = some_of (stripe_for w key) (TellsIn (home w key) shows join r) (subst (λ k. IsSomeAnd (stripe_for w k) (TellsIn (home w k) shows join r)) key_is f.joiner) in
     let t : Some at.0 ≡ Some from = sym at.1 ∙ there in
     let here : at.0 ≡ from = cc in
     let P : JoinClaim → Type 0 = λ j. Picks w call key j from to seen.outcome new in
@@ -317,8 +307,7 @@ answers_started laws old joined new newer call key u op from to es ss seen here 
     let r = part.0.reservation in
     let call_is : join.caller.call ≡ call = ap (λ (j : JoinClaim). j.caller.call) begins.2 ∙ found_number call old.calls u here in
     let key_is : join.key ≡ key = ap (λ (j : JoinClaim). j.key) begins.2 in
-    let F : WorldState → Type 0 = λ w. Follows w [] join load.0 in
-    let f = subst F (sym is) (follows_joined old u key op from to join load.0 there begins.2 begins.3 r_key load.2 out may sound_old) in
+    let f = subst (λ w. Follows w [] join load.0) (sym is) (follows_joined old u key op from to join load.0 there begins.2 begins.3 r_key load.2 out may sound_old) in
     let none_of : list_any (is_last_pick_up join.caller.call join.key) (zip es ss) ≡ false = (λ i. list_any (is_last_pick_up (call_is i) (key_is i)) (zip es ss)) ∙ none in
     let g = follows_run laws joined new es ss [] join load.0 run none_of sound_joined f in
     let resolved = resolves new newer call key join seen (zip es ss) load.0 call_is key_is g (sound_run laws joined new es ss run sound_joined) step in

@@ -4,7 +4,7 @@
 --     write_due          with write-through on, what is due of the writer is the processor's net effect
 --     agrees_processed   what a processor leaves after which no writer is asked agrees with the store
 --     agrees_effect      so does what it leaves once the writer that is asked after it has returned
-use Rattle.jc_world.proofs.Common.{◌≡◌, Bool, true, false, cond, is_some, is_none, None, Option, sym, refl, ap, Caller, Config, Bytes, is_write_given, is_invoke, entry_after, LoadAnswer, Op, Invoke, ProcessAnswer, WriteAnswer, ProcessResult, effect_change, invokes, change_due, Begins, reserves, load_joined, State, is_reserved, ProcessClaim, asks_processor, First, Loader, Nobody, Processor, Writer, Reservation, Agrees, LoadAgrees, WriteAgrees}
+use Rattle.jc_world.proofs.Common.{◌≡◌, Bool, true, false, cond, is_some, is_none, None, Option, sym, refl, ap, Caller, Config, Bytes, is_write_given, is_invoke, entry_after, LoadAnswer, Op, Invoke, ProcessAnswer, WriteAnswer, ProcessResult, effect_change, invokes, change_due, Begins, reserves, load_joined, State, is_reserved, ProcessClaim, asks_processor, First, Nobody, Reservation, Agrees, LoadAgrees, WriteAgrees}
 use Rattle.jc_model.specs.declared.event.LoadAnswer.TheVariants as load
 use Rattle.jc_model.specs.declared.event.WriteAnswer.TheVariants as write
 use Rattle.jc_model.specs.declared.event.ProcessAnswer.TheVariants as process

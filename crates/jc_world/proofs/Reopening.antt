@@ -1,5 +1,5 @@
 -- A sound world in which no key is reserved, and that is coherent, is sound if the premises are taken to have held so far.
-use Rattle.jc_world.proofs.Common.{◌≡◌, Some, None, Option, sym, ap, ◌∙◌, subst, get, Bytes, entry_at, Part, Premises, Coherent, with_all_premises, KeyAgrees, IsSoundWorld, WorldState, cached_entry, has_progress, has_changed}
+use Rattle.jc_world.proofs.Common.{◌≡◌, Some, None, sym, ap, ◌∙◌, get, Bytes, Premises, Coherent, with_all_premises, IsSoundWorld, WorldState, has_progress, has_changed}
 use Rattle.jc_world.proofs.Halves.{HasParts, sound}
 use Rattle.jc_world.proofs.Beginning.{order_stored}
 use Rattle.jc_world.proofs.Joins.{joins_stored}
@@ -9,8 +9,7 @@ parts_reopened : (w : WorldState) → ((key : Bytes) → get w.parts key ≡ Non
 parts_reopened w none coherent old = record {
   held = λ key part there. absurd (let e : Some part ≡ None = sym there ∙ none key in cc);
   told = λ hold key.
-      let P : Option Part → Type 0 = λ o. KeyAgrees o (entry_at w.store key) (cached_entry w key) in
-      subst P (sym (none key)) (coherent key (ap (has_progress has_changed) (none key)));
+      rw (none key) (coherent key (ap (has_progress has_changed) (none key)));
   cold = old.cold;
   idle = old.idle;
 }

@@ -251,10 +251,9 @@ stays_held w n key was is before after same old new stay =
     let one : Some then.0 ≡ Some from.0 = sym then.1 ∙ from.1 in
     let here : then.0 ≡ from.0 = cc in
     let O : State → Type 0 = λ s. IsOut s r in
-    let R : Reservation → Type 0 = λ x. IsOut now.0 x in
     let below : r.number < from.0.next =
     found_holds (is_key r.key) (λ x. x.number < from.0.next) from.0.reservations r (subst O here then.2.out) (old.shape.each (home w key) from.0 from.1).reached.numbered.below in
-    let kept = (from.2.out r below (subst R same now.2.out)).1 in
+    let kept = (from.2.out r below (subst (λ x. IsOut now.0 x) same now.2.out)).1 in
     ap (λ o. entry_in o key) now.1
     ∙ (λ i. entry_at now.0.cache (sym then.2.key_is i)) ∙ kept ∙ (λ i. entry_at from.0.cache (then.2.key_is i))
     ∙ ap (λ o. entry_in o key) (sym from.1)

@@ -4,7 +4,7 @@
 --     Gives          a phase raises that by one at the places that it answers, and leaves it at the others
 --     gives_done, gives_commit, gives_picked and so on      what each kind of phase answers
 --     owed_run        so a run raises it by the answers that it shows
-use Rattle.jc_world.proofs.Common.{◌≡◌, ℕ, zero, suc, ◌+◌, Bool, true, false, cond, ◌&&◌, List, [], ◌∷◌, ◌++◌, map, length, ◌==◌, slice_get, slice_set, Some, None, count_by, Option, sym, refl, ap, ◌∙◌, subst, inl, inr, arith, and-false, eqb-suc-suc, eqb-suc-zero, eqb-zero-suc, eqb-true, eqb-false, eq-eqb, and_parts, sum_by-cons, list_all, Caller, Config, Bytes, Group, nothing_said, victim_events, evicted_events, step_event, shared_event, step_place, events_of, of_stripe, Cause, Event, LoadAnswer, Op, Get, Out, Reply, callers_of, Joiner, joined_parks, withdrawn_parks, beginner_parks, commit_parks, committer_parks, sharers_park, picker_parks, picked_parks, others_park, again_parks_same, Extends, Grows, is_parked, MayBegin, new_group, Steps, Begins, after_commit, Commits, without_joiner, PicksUp, IsReached, State, JoinClaim, StepDone, Reservation, Outcome, Part, Shown, WorldEvent, CallState, new_call, step_of, Starts, Ends, Picks, Happens, Step, Run, fits, start_with, is_answer_at, joiners_in, joiners_at, times_shown, IsSoundWorld, WorldState, home, stripe_for, out_of}
+use Rattle.jc_world.proofs.Common.{◌≡◌, ℕ, zero, suc, ◌+◌, Bool, true, false, cond, ◌&&◌, List, [], ◌∷◌, ◌++◌, map, length, ◌==◌, slice_get, slice_set, Some, None, count_by, Option, sym, refl, ap, ◌∙◌, inl, inr, arith, and-false, eqb-suc-suc, eqb-suc-zero, eqb-zero-suc, eqb-true, eqb-false, eq-eqb, and_parts, sum_by-cons, list_all, Caller, Config, Bytes, Group, nothing_said, victim_events, evicted_events, step_event, shared_event, step_place, events_of, of_stripe, Cause, Event, LoadAnswer, Op, Get, Out, Reply, callers_of, Joiner, joined_parks, withdrawn_parks, beginner_parks, commit_parks, committer_parks, sharers_park, picker_parks, picked_parks, others_park, again_parks_same, Extends, Grows, is_parked, MayBegin, new_group, Steps, Begins, after_commit, Commits, without_joiner, PicksUp, IsReached, State, JoinClaim, StepDone, Reservation, Outcome, Part, Shown, WorldEvent, CallState, new_call, step_of, Starts, Ends, Picks, Happens, Step, Run, fits, start_with, is_answer_at, joiners_in, joiners_at, times_shown, IsSoundWorld, WorldState, home, stripe_for, out_of}
 use Rattle.jc_model.specs.declared.event.Event.TheVariants as stripe
 use Rattle.jc_stripe.specs.declared.begun.Begun.TheVariants as begun
 use Rattle.jc_stripe.specs.declared.begun.Picked.TheVariants as picked
@@ -149,8 +149,7 @@ owed_set w new key from to answers number place there old sound config stripes r
           let placed : slice_get new.stripes n ≡ Some to = ap (λ ss. slice_get ss n) stripes ∙ stripe_put w.stripes n from to there in
           let now = (sound.shape.each n to placed).share in
           let was = (old.shape.each n from there).share in
-          let P : ℕ → Type 0 = λ m. owed new m place ≡ one_if (answers place) + owed w m place in
-          subst P (eqb-true n number e)
+          rw (eqb-true n number e) at
           ((λ i. times_owed (joiners_in (placed i)) (slice_get (now i) place))
           ∙ gives place
           ∙ sym (λ i. one_if (answers place) + times_owed (joiners_in (there i)) (slice_get (was i) place)))

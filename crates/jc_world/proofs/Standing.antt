@@ -4,7 +4,7 @@
 --     AllBegun       what is under way, reserved and joined is so of calls that have begun
 --     AllStand       each answer that was shown is that of its call's step, and the call has begun before it
 --     stands_run     so a run of events keeps that
-use Rattle.jc_world.proofs.Common.{◌≡◌, ℕ, zero, suc, true, false, cond, not, List, [], ◌∷◌, ◌++◌, length, take, slice_get, Some, None, Option, option_map, zip, sym, refl, ap, ◌∙◌, subst, inl, inr, append_assoc, append-nil, arith, take-append_seam, take-append-le, filter-append, slice_get_within, get, insert, remove, get-empty, stripe_of, Caller, Config, WriterFailed, Bytes, key_cmp, nothing_said, is_of_stripe, of_stripe, Op, Get, Out, Reply, callers_of, step_at, after_commit, State, Ticket, ProcessClaim, JoinClaim, Command, Outcome, Part, Shown, WorldEvent, CallState, new_call, has_number, op_for, open_keys, is_going, has_too_many_keys, opened, going_on, with_met, with_found, step_of, with_met_by, new_load, new_write, new_process, new_part, Starts, Ends, Picks, reported_keys, keys_reported, Happens, Step, Run, fits, start_with, report_for, IsReplyOfStep, Stands, Each, IsSoundWorld, Parts, JoinKey, join_cmp, join_key, Joins, WorldState, home, stripe_for, open_call, part_of, out_of, join_of}
+use Rattle.jc_world.proofs.Common.{◌≡◌, ℕ, zero, suc, true, false, cond, not, List, [], ◌∷◌, ◌++◌, length, take, slice_get, Some, None, Option, option_map, zip, sym, refl, ap, ◌∙◌, subst, inl, inr, append_assoc, append-nil, arith, take-append_seam, take-append-le, filter-append, slice_get_within, get, insert, remove, get-empty, stripe_of, Caller, Config, WriterFailed, Bytes, key_cmp, nothing_said, is_of_stripe, of_stripe, Op, Get, Out, Reply, callers_of, step_at, after_commit, State, JoinClaim, Command, Outcome, Part, Shown, WorldEvent, CallState, new_call, has_number, op_for, open_keys, is_going, has_too_many_keys, opened, going_on, with_met, with_found, step_of, with_met_by, new_load, new_write, new_process, new_part, Starts, Ends, Picks, reported_keys, keys_reported, Happens, Step, Run, fits, start_with, report_for, IsReplyOfStep, Stands, Each, IsSoundWorld, Parts, JoinKey, join_cmp, join_key, Joins, WorldState, home, stripe_for, open_call, part_of, out_of, join_of}
 use Rattle.jc_model.specs.declared.event.Event.TheVariants as stripe
 use Rattle.jc_world.specs.declared.event.Outcome.TheVariants as outcome
 use Rattle.jc_world.specs.declared.event.WorldEvent.TheVariants as event
@@ -206,14 +206,11 @@ begun_started shows w new caller key op from to (outcome.PutOff refusal) h one o
 begun_started shows w new caller key op from to (outcome.Stepped seen) h one old =
     subst (AllBegun shows) (sym h.2) (record { calls = each_settled caller.call key _ (IsBegun shows) w.calls (begun_left shows caller.call key) old.calls; parts = old.parts; joins = old.joins })
 begun_started shows w new caller key op from to outcome.Loads h one old =
-    let P : Ticket → Type 0 = λ t. PartBegun shows (new_part new_load t.reservation) in
-    subst (AllBegun shows) (sym h.2) (record { calls = old.calls; parts = parts_put shows w.parts key (new_part new_load h.0.reservation) (subst P (sym h.1.3) one) old.parts; joins = old.joins })
+    subst (AllBegun shows) (sym h.2) (record { calls = old.calls; parts = parts_put shows w.parts key (new_part new_load h.0.reservation) (rw h.1.3 one) old.parts; joins = old.joins })
 begun_started shows w new caller key op from to (outcome.Asks change) h one old =
-    let P : Ticket → Type 0 = λ t. PartBegun shows (new_part new_write t.reservation) in
-    subst (AllBegun shows) (sym h.3) (record { calls = old.calls; parts = parts_put shows w.parts key (new_part new_write h.0.reservation) (subst P (sym h.1.3) one) old.parts; joins = old.joins })
+    subst (AllBegun shows) (sym h.3) (record { calls = old.calls; parts = parts_put shows w.parts key (new_part new_write h.0.reservation) (rw h.1.3 one) old.parts; joins = old.joins })
 begun_started shows w new caller key op from to (outcome.Processes entry) h one old =
-    let P : ProcessClaim → Type 0 = λ t. PartBegun shows (new_part new_process t.reservation) in
-    subst (AllBegun shows) (sym h.3) (record { calls = old.calls; parts = parts_put shows w.parts key (new_part new_process h.0.reservation) (subst P (sym h.1.3) one) old.parts; joins = old.joins })
+    subst (AllBegun shows) (sym h.3) (record { calls = old.calls; parts = parts_put shows w.parts key (new_part new_process h.0.reservation) (rw h.1.3 one) old.parts; joins = old.joins })
 begun_started shows w new caller key op from to outcome.Joins h one old =
     let get_is : op ≡ Get = joins_get from key op h.0.load h.1.1 in
     let P : JoinClaim → Type 0 = JoinBegun shows in
@@ -322,9 +319,7 @@ answered_at w new shows caller key op out shared reply number place to home_is l
 -- of another call and key that are the same
 answered_for : (w : WorldState) (shows : List (WorldEvent × Shown)) (call n : ℕ) (key k : Bytes) (reply : Reply) (number place : ℕ) (shared : Option ℕ) → call ≡ n → key ≡ k → IsReplyOfStep w shows call key reply number place shared → IsReplyOfStep w shows n k reply number place shared
 answered_for w shows call n key k reply number place shared calls keys h =
-    let P : ℕ → Type 0 = λ m. IsReplyOfStep w shows m k reply number place shared in
-    let Q : Bytes → Type 0 = λ q. IsReplyOfStep w shows call q reply number place shared in
-    subst P calls (subst Q keys h)
+    rw calls at (rw keys at h)
 
 -- by what is shown of a first phase
 stands_started : (shows : List (WorldEvent × Shown)) (w new : WorldState) (call : ℕ) (key : Bytes) (u : CallState) (op : Op) (from to : State) (seen : Outcome) → open_call w call ≡ Some u → stripe_for w key ≡ Some from
@@ -415,21 +410,17 @@ stands_more shows w new e s later stand one at x seen is =
     let within = slice_get_within shows at (x, seen) before in
     subst P (sym (take-append-le at shows ((e, s) ∷ []) (omega arith))) (stands_on w new (take at shows) x seen.outcome later (stand at x seen before)))
     (λ last same.
-    let Q : WorldEvent × Shown → Type 0 = λ p. Stands new shows p.0 p.1.outcome in
-    subst P (sym (ap (λ i. take i now) last ∙ take-append_seam shows ((e, s) ∷ []))) (subst Q same one))
+    subst P (sym (ap (λ i. take i now) last ∙ take-append_seam shows ((e, s) ∷ []))) (subst (λ (p : WorldEvent × Shown). Stands new shows p.0 p.1.outcome) same one))
     is
 
 pub stands_run : Laws → (shows : List (WorldEvent × Shown)) (w new : WorldState) (es : List WorldEvent) (ss : List Shown) → Run w es ss new → IsSoundWorld w → AllBegun shows w → AllStand w shows → AllStand new (shows ++ zip es ss)
 stands_run laws shows w new [] [] run old begun stand =
-    let P : WorldState → Type 0 = λ v. AllStand v (shows ++ []) in
-    let Q : List (WorldEvent × Shown) → Type 0 = λ l. AllStand w l in
-    subst P (sym run) (subst Q (sym (append-nil shows)) stand)
+    rw run (rw (append-nil shows) stand)
 stands_run laws shows w new (e ∷ es) (s ∷ ss) (mid, step, rest) old begun stand =
     let now = shows ++ (e, s) ∷ [] in
     let sound = sound_step laws w e s mid step old in
     let more = begun_step now w mid e s (length shows, seam_at shows [] (e, s)) step (all_begun_on shows ((e, s) ∷ []) w begun) in
-    let Q : List (WorldEvent × Shown) → Type 0 = λ l. AllStand new l in
-    subst Q (append_assoc shows ((e, s) ∷ []) (zip es ss))
+    rw (append_assoc shows ((e, s) ∷ []) (zip es ss)) at
     (stands_run laws now mid new es ss rest sound more (stands_more shows w mid e s (later_step w mid e s step) stand (stands_step shows w mid e s step old sound begun)))
 stands_run laws shows w new es ss run old begun stand = absurd run
 

@@ -249,12 +249,10 @@ free_then w call key keys q alone h =
 goes_leaving : (call : ℕ) → Goes call (λ e. (k : Bytes) × (e ≡ event.Withdraw call k)) (IsLeaving call) (event.Leave call ∷ [])
 goes_leaving call = record {
   step = λ w mid e seen key keys old is at fit h q.
-      let F : WorldEvent → Type 0 = λ e. key_at call e ≡ Some key → fits w e ≡ true → Happens w e seen mid → IsLeaving call keys mid in
-      subst F (sym is.1) (λ at fit h.
+      subst (λ e. key_at call e ≡ Some key → fits w e ≡ true → Happens w e seen mid → IsLeaving call keys mid) (sym is.1) (λ at fit h.
       let mine = named call call is.0 key at in
       let alone = unjoined_held w call is.0 fit old in
-      let P : WorldState → Type 0 = λ m. IsLeaving call keys m in
-      subst P (sym h.7) (record {
+      subst (λ m. IsLeaving call keys m) (sym h.7) (record {
         u = q.u;
         here = q.here;
         rest = all_more (λ k. is_among (key ∷ keys) k || is_free w call k) _ (open_keys q.u) (λ k t.
@@ -301,10 +299,8 @@ report_kept w call key part change is h = go (open_call w call) h
 goes_reporting : (call : ℕ) (left : List Bytes) (fault : Option ℕ) → Goes call (λ e. (k : Bytes) × (e ≡ event.Change call k)) (λ keys w. fits w (event.Report call left fault) ≡ true) (event.Report call left fault ∷ [])
 goes_reporting call left fault = record {
   step = λ w mid e seen key keys old is at fit h q.
-      let F : WorldEvent → Type 0 = λ e. Happens w e seen mid → fits mid (event.Report call left fault) ≡ true in
-      subst F (sym is.1) (λ h.
-      let P : WorldState → Type 0 = λ m. fits m (event.Report call left fault) ≡ true in
-      subst P (sym h.5) (report_kept w call is.0 h.0 h.1 h.2 q)) h;
+      subst (λ e. Happens w e seen mid → fits mid (event.Report call left fault) ≡ true) (sym is.1) (λ h.
+      subst (λ m. fits m (event.Report call left fault) ≡ true) (sym h.5) (report_kept w call is.0 h.0 h.1 h.2 q)) h;
   end = λ w q. one_fits w (event.Report call left fault) q;
 }
 
