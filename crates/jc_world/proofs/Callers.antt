@@ -1,8 +1,8 @@
 -- Each event keeps the callers' order.
---     order_over, order_started, order_ended, order_withdrawn, order_picks, order_left     after each kind of event
+--     order_key                       after each kind of change at a key
 --     order_happens, order_opened     after any event that fits, and after an entry of the store's opening
 --     order_is, has_shares            the order is one legal history over all stripes, and each stripe's history is its part of it
-use Rattle.jc_world.proofs.Common.{◌≡◌, ℕ, zero, suc, ◌+◌, ◌%◌, ◌<◌, Bool, true, false, cond, not, ◌&&◌, ◌||◌, ◌⊎◌, List, [], ◌∷◌, ◌++◌, length, is_none, IsSomeAnd, nat_lt, ◌==◌, slice_get, slice_set, Some, None, sum, Option, option_map, find, sym, refl, ap, ◌∙◌, subst, inl, inr, arith, not-true, eqb-true, and_parts, false_from_ne_true, nat_list_cmp_total, nat_list_eq_equiv, eq_by_cmp_equiv, pointwise, texts_ties, empty, get, insert, remove, get-insert, get-remove, list_all, eq_by_cmp, all_imply, Caller, Config, Refusal, empty_opens, Bytes, Cache, key_cmp, nothing_said, events_of, of_stripe, IsHistory, Op, Get, Out, belongs_to, is_waiting, waits_for, callers_of, after_resolve, JoinState, Again, Answered, Waiting, Joiner, StaysReached, IsSameStripe, Extends, may_come_all, new_group, Steps, with_joiner, Begins, after_commit, Commits, Withdraws, without_joiner, PicksUp, JoinFits, IsReached, reserves, State, is_of, is_key, is_reserved, with_reservation, without_key, IsOut, Ticket, ProcessClaim, JoinClaim, Picked, StepDone, Loader, Reservation, Outcome, Part, Premises, Progress, Shown, WorldEvent, cache_at, IsOrder, HasShares, SweepState, CallState, has_number, op_at, op_for, open_keys, is_turn, going_on, with_met, replaced, settle, with_found, with_stripe, with_phase, step_of, fault_in, with_settled, with_met_by, without_call, with_look, new_load, new_write, new_process, new_part, with_part, without_part, with_join, without_join, Starts, Ends, Picks, Happens, is_free, may_leave, fits, IsStripe, is_up_to, has_answer, has_parked_answer, is_served_in, is_served, FitsCall, CallsFit, Each, IsHeld, IsCallOf, IsOwned, AllOwned, IsCalled, IsSoundWorld, Parts, Joins, WorldState, home, stripe_for, open_call, part_of, out_of, join_of, is_joined, with_stored}
+use Rattle.jc_world.proofs.Common.{◌≡◌, ℕ, zero, suc, ◌+◌, ◌%◌, ◌<◌, Bool, true, false, cond, not, ◌&&◌, ◌||◌, ◌⊎◌, List, [], ◌∷◌, ◌++◌, length, is_none, IsSomeAnd, nat_lt, ◌==◌, slice_get, slice_set, Some, None, sum, Option, option_map, find, sym, refl, ap, ◌∙◌, subst, inl, inr, arith, not-true, eqb-true, and_parts, false_from_ne_true, nat_list_cmp_total, nat_list_eq_equiv, eq_by_cmp_equiv, pointwise, texts_ties, empty, get, insert, remove, from_entries, get-insert, get-remove, list_all, eq_by_cmp, all_imply, Caller, Config, Refusal, empty_opens, Bytes, Cache, key_cmp, nothing_said, events_of, of_stripe, IsHistory, Event, Op, Get, Out, belongs_to, is_waiting, waits_for, callers_of, after_resolve, JoinState, Again, Answered, Waiting, Joiner, StaysReached, IsSameStripe, Extends, may_come_all, new_group, Steps, with_joiner, Begins, after_commit, Commits, Withdraws, without_joiner, PicksUp, JoinFits, IsReached, reserves, State, is_of, is_key, is_reserved, with_reservation, without_key, IsOut, Ticket, ProcessClaim, JoinClaim, Picked, StepDone, Loader, Reservation, Outcome, Part, Premises, Progress, Shown, WorldEvent, cache_in, cache_at, IsOrder, HasShares, SweepState, CallState, has_number, op_at, op_for, open_keys, is_turn, going_on, with_met, replaced, settle, with_found, with_stripe, with_phase, step_of, fault_in, with_settled, with_met_by, without_call, with_look, new_load, new_write, new_process, new_part, with_part, without_part, with_join, without_join, Starts, Ends, Picks, Happens, is_free, may_leave, fits, IsStripe, is_up_to, has_answer, has_parked_answer, is_served_in, is_served, FitsKey, FitsCall, CallsFit, Each, IsHeld, IsCallOf, IsOwned, AllOwned, IsCalled, IsSoundWorld, Parts, Joins, WorldState, home, stripe_for, open_call, part_of, out_of, join_of, is_joined, with_stored}
 use Rattle.jc_stripe.specs.declared.begun.Begun.TheVariants as begun
 use Rattle.jc_stripe.specs.declared.begun.Picked.TheVariants as picked
 use Rattle.jc_world.specs.declared.event.Outcome.TheVariants as outcome
@@ -23,6 +23,7 @@ use Rattle.jc_world.proofs.Joiners.{joiner_of, unanswered, told_resolved, told_w
 use Rattle.jc_world.proofs.Beginning.{unless, fits_left, fits_same, fits_taken, calls_same, order_stored, owned_part, order_parted, order_called, MayStart, may_start_at, may_turn, part_turn, not_own, apart_or, unserved, begins_with}
 use Rattle.jc_world.proofs.Facts.{same_found}
 use Rattle.jc_world.proofs.Entries.{tied}
+use Rattle.jc_world.proofs.KeyChanges.{KeyChange, by_answer, by_commit, by_join, by_nothing, by_refusal, by_reservation, by_retry, by_step, by_withdrawal, key_change, may_of}
 
 -- 1. A key that is settled.
 
@@ -279,43 +280,7 @@ order_joins w key from to join there is reached old =
     order_aside w key from to new.joins there (ap (λ (s : State). s.config) is) (ap (λ (s : State). s.stripe) is) (ap (λ (s : State). s.origin) is) (ap (λ (s : State). s.history) is) (ap (λ (s : State). s.reservations) is) reached
     (calls_same w new w.calls refl refl (served_set w key from to there keeps) old.calls) old
 
--- 5. The first phase.
-
--- by what is shown of the first phase
-starts : StaysReached → (w new : WorldState) (u : CallState) (key : Bytes) (op : Op) (from to : State) (seen : Outcome) → stripe_for w key ≡ Some from → Starts w u.caller key op from to seen new → MayStart w u key op → IsSoundWorld w → HasOrder new
-starts stays w new u key op from to (outcome.Refused refusal) there h may old = subst HasOrder (sym h.1) (order_refused w u key op (Some refusal) may old)
-starts stays w new u key op from to (outcome.PutOff refusal) there h may old = subst HasOrder (sym h.1) (order_half w old)
-starts stays w new u key op from to (outcome.Stepped seen) there h may old = subst HasOrder (sym h.2) (order_done stays w u key op (fault_in seen.reply) from to (step_of seen) there h.0 may old)
-starts stays w new u key op from to outcome.Loads there h may old =
-    let at = old.shape.each (home w key) from there in
-    let reached = stays.begins from to u.caller key op (begun.Load h.0) at.reached (begins_with w u key op from old there may) h.1 in
-    let free = was_free from u.caller key op Loader h.1.0 h.1.1 h.1.2 refl in
-    subst HasOrder (sym h.2)
-    (order_reserved w u key op from to new_load h.0.reservation there free (ap (λ (t : Ticket). t.reservation.caller) h.1.3) (ap (λ (t : Ticket). t.reservation.key) h.1.3) (ap (λ (t : Ticket). t.reservation.op) h.1.3) h.1.4 reached may old)
-starts stays w new u key op from to (outcome.Asks change) there h may old =
-    let at = old.shape.each (home w key) from there in
-    let reached = stays.begins from to u.caller key op (begun.Write h.0) at.reached (begins_with w u key op from old there may) h.1 in
-    let free = was_free from u.caller key op h.0.reservation.first h.1.0 (writer_alone from key op h.0.reservation.first h.1.1 h.1.2) h.1.1 (ap reserves h.2) in
-    subst HasOrder (sym h.3)
-    (order_reserved w u key op from to new_write h.0.reservation there free (ap (λ (t : Ticket). t.reservation.caller) h.1.3) (ap (λ (t : Ticket). t.reservation.key) h.1.3) (ap (λ (t : Ticket). t.reservation.op) h.1.3) h.1.4 reached may old)
-starts stays w new u key op from to (outcome.Processes entry) there h may old =
-    let at = old.shape.each (home w key) from there in
-    let reached = stays.begins from to u.caller key op (begun.Process h.0) at.reached (begins_with w u key op from old there may) h.1 in
-    let free = processor_free from to u.caller key op h.0 h.1 in
-    subst HasOrder (sym h.3)
-    (order_reserved w u key op from to new_process h.0.reservation there free (ap (λ (t : ProcessClaim). t.reservation.caller) h.1.3) (ap (λ (t : ProcessClaim). t.reservation.key) h.1.3) (ap (λ (t : ProcessClaim). t.reservation.op) h.1.3) h.1.4 reached may old)
-starts stays w new u key op from to outcome.Joins there h may old =
-    let at = old.shape.each (home w key) from there in
-    let reached = stays.begins from to u.caller key op (begun.Joined h.0) at.reached (begins_with w u key op from old there may) h.1 in
-    subst HasOrder (sym h.2) (order_joins w key from to h.0 there h.1.3 reached old)
-starts stays w new u key op from to seen there h may old = absurd h
-
--- a first phase
-pub order_started : StaysReached → (w new : WorldState) (call : ℕ) (key : Bytes) (u : CallState) (op : Op) (from to : State) (seen : Outcome) → fits w (event.Start call key) ≡ true → open_call w call ≡ Some u → op_at u key ≡ Some op → stripe_for w key ≡ Some from
-    → Starts w u.caller key op from to seen new → IsSoundWorld w → HasOrder new
-order_started stays w new call key u op from to seen fit is op_is there h old = starts stays w new u key op from to seen there h (may_start_at w call key u op fit is op_is old) old
-
--- 6. The last phase.
+-- 5. The last phase.
 
 -- another key's reservation keeps its part
 part_kept : (w : WorldState) (key : Bytes) (r : Reservation) → is_key key r ≡ false → IsOwned w r → IsSomeAnd (get (remove w.parts key) r.key) (λ p. p.reservation.caller.call ≡ r.caller.call)
@@ -422,17 +387,7 @@ order_commit w call key met from to old there turn e reached =
       call = call_kept w call key met r (λ mine at. let t : true ≡ false = sym (ap (pointwise ◌==◌ key) at ∙ nat_list_eq_equiv.refl key) ∙ apart in cc) turn h;
     }) old)
 
--- by what is shown of the last phase
-pub order_ended : StaysReached → (w new : WorldState) (call : ℕ) (key : Bytes) (part : Part) (from to : State) (seen : Outcome) → part_of w call key ≡ Some part → stripe_for w key ≡ Some from → Ends w call key part from to seen new → IsSoundWorld w → HasOrder new
-order_ended stays w new call key part from to (outcome.Stepped seen) is there h old =
-    let at = old.shape.each (home w key) from there in
-    let e = ending_at w call key (fault_in seen.reply) part from to (step_of seen) is there h.0 old in
-    let reached = stays.commits from to part.reservation (out_of part) (step_of seen) at.reached h.0 in
-    let mine = of_call-at call (get w.parts key) part is in
-    subst HasOrder (sym h.2) (order_commit w call key (fault_in seen.reply) from to old there (part_turn w call key part mine.0 mine.1 old) e reached)
-order_ended stays w new call key part from to seen is there h old = absurd h
-
--- 7. A reservation is given back, and an answer picked up.
+-- 6. A reservation is given back, and an answer picked up.
 
 -- a reservation is given back
 pub order_withdrawn : StaysReached → (w : WorldState) (key : Bytes) (claim : Reservation) (from to : State) → claim.key ≡ key → stripe_for w key ≡ Some from → Withdraws from claim to → IsSoundWorld w → HasOrder (without_part (with_stripe w key to) key)
@@ -564,14 +519,6 @@ order_again stays w call key join from to joined there picks old =
     (stays.picks_up from to join picked.Again at.reached picks)
     (calls_on w new (IsFound w) w.calls (λ v found h. fits_same w new v refl refl (served v found) h) (each_found w w.calls old.calls) old.calls) old
 
--- by what is shown of it
-pub order_picks : StaysReached → (w new : WorldState) (call : ℕ) (key : Bytes) (join : JoinClaim) (from to : State) (seen : Outcome) → join_of w call key ≡ Some join → stripe_for w key ≡ Some from → Picks w call key join from to seen new → IsSoundWorld w → HasOrder new
-order_picks stays w new call key join from to (outcome.PickedUp seen) joined there h old =
-    subst HasOrder (sym h.2) (order_picked stays w call key (fault_in seen.reply) join from to (picked.Answer seen.reply seen.place seen.shared) joined there h.0 h.0.3 old)
-order_picks stays w new call key join from to outcome.Again joined there h old = subst HasOrder (sym h.1) (order_again stays w call key join from to joined there h.0 old)
-order_picks stays w new call key join from to outcome.Waits joined there h old = subst HasOrder (sym h.1) (order_half w old)
-order_picks stays w new call key join from to seen joined there h old = absurd h
-
 -- a call leaves
 pub order_left : (w : WorldState) (call : ℕ) → may_leave w call (open_call w call) ≡ true → IsSoundWorld w → HasOrder (without_call w call)
 order_left w call fit old = go (open_call w call) refl fit
@@ -617,7 +564,7 @@ met_called w call met u here number session q op h = still_replaced call (λ x. 
 pub order_met : (w : WorldState) (call : ℕ) (met : Option Refusal) (u : CallState) → open_call w call ≡ Some u → IsSoundWorld w → HasOrder (with_met_by w call met)
 order_met w call met u here old = order_taken w call (λ x. Some (with_met met x)) u here (λ v goes. taken_met met u v goes) (met_called w call met u here) old
 
--- 8. An event that fits.
+-- 7. An event that fits.
 
 -- a call's part stays
 pub order_part : (w : WorldState) (call : ℕ) (key : Bytes) (old part : Part) (premises : Premises) (store : Cache) → part_of w call key ≡ Some old → part.reservation.caller.call ≡ old.reservation.caller.call → IsSoundWorld w
@@ -628,27 +575,49 @@ order_part w call key old part premises store is same was = order_parted w key o
 pub part_key : (w : WorldState) (call : ℕ) (key : Bytes) (part : Part) → part_of w call key ≡ Some part → IsSoundWorld w → part.reservation.key ≡ key
 part_key w call key part is old = (some_of (stripe_for w key) (λ s. IsHeld s key part) (old.held key part (of_call-at call (get w.parts key) part is).0)).2.key_is
 
+-- by the kind of the change at a key
+order_key : StaysReached → (w new : WorldState) (e : WorldEvent) (key : Bytes) (seen : Shown) → KeyChange w new e key seen → fits w e ≡ true → IsSoundWorld w → HasOrder new
+order_key stays w new e key seen (by_nothing is none ends) fit old = subst HasOrder (sym is) (order_half w old)
+order_key stays w new e key seen (by_refusal u op refusal start is none ends) fit old = subst HasOrder (sym is) (order_refused w u key op (Some refusal) (may_of w e key u op start fit old) old)
+order_key stays w new e key seen (by_step u op from to x start there h home_is is shows ends) fit old =
+    subst HasOrder (sym is) (order_done stays w u key op (fault_in x.reply) from to (step_of x) there h (may_of w e key u op start fit old) old)
+order_key stays w new e key seen (by_reservation u op from to p r start there h is none ends) fit old =
+    let may = may_of w e key u op start fit old in
+    let reached = stays.begins from to u.caller key op h.b (old.shape.each (home w key) from there).reached (begins_with w u key op from old there may) h.begins in
+    subst HasOrder (sym is)
+    (order_reserved w u key op from to p r there h.free (ap (λ (x : Reservation). x.caller) h.is) (ap (λ (x : Reservation). x.key) h.is) (ap (λ (x : Reservation). x.op) h.is) h.after reached may old)
+order_key stays w new e key seen (by_join u op from to join start there h is none ends) fit old =
+    let may = may_of w e key u op start fit old in
+    let reached = stays.begins from to u.caller key op (begun.Joined join) (old.shape.each (home w key) from there).reached (begins_with w u key op from old there may) h in
+    subst HasOrder (sym is) (order_joins w key from to join there h.3 reached old)
+order_key stays w new e key seen (by_commit call part from to x e_is part_is there h home_is is shows) fit old =
+    let end = ending_at w call key (fault_in x.reply) part from to (step_of x) part_is there h old in
+    let reached = stays.commits from to part.reservation (out_of part) (step_of x) (old.shape.each (home w key) from there).reached h in
+    let mine = of_call-at call (get w.parts key) part part_is in
+    subst HasOrder (sym is) (order_commit w call key (fault_in x.reply) from to old there (part_turn w call key part mine.0 mine.1 old) end reached)
+order_key stays w new e key seen (by_withdrawal call part from to e_is part_is there h is shows) fit old = subst HasOrder (sym is) (order_withdrawn stays w key part.reservation from to (part_key w call key part part_is old) there h old)
+order_key stays w new e key seen (by_answer call join from to x e_is join_is there h home_is is shows ends) fit old =
+    subst HasOrder (sym is) (order_picked stays w call key (fault_in x.reply) join from to (picked.Answer x.reply x.place x.shared) join_is there h h.3 old)
+order_key stays w new e key seen (by_retry call join from to e_is join_is there h is shows ends) fit old = subst HasOrder (sym is) (order_again stays w call key join from to join_is there h old)
+
 -- by the kind of the event
 pub order_happens : StaysReached → (w new : WorldState) (e : WorldEvent) (seen : Shown) → fits w e ≡ true → Happens w e seen new → (IsReport e → IsSoundWorld new) → IsSoundWorld w → HasOrder new
 order_happens stays w new (event.Call call session command) seen fit h back old = subst HasOrder (sym h.1) (order_called w call session command fit old)
 order_happens stays w new (event.Look call stripe) seen fit h back old = subst HasOrder (sym h.9) (order_looked w call stripe h.6 h.1 h.0 h.2 h.3 old)
-order_happens stays w new (event.Start call key) seen fit h back old = order_started stays w new call key h.0 h.1 h.4 h.6 seen.outcome fit h.2 h.3 h.5 h.7 old
 order_happens stays w new (event.Read call key) seen fit h back old = subst HasOrder (sym h.3) (order_part w call key h.0 _ _ w.store h.1 refl old)
 order_happens stays w new (event.Say call key answer) seen fit h back old = subst HasOrder (sym h.3) (order_part w call key h.0 _ _ w.store h.1 refl old)
 order_happens stays w new (event.Process call key source calls fail) seen fit h back old = subst HasOrder (sym h.3) (order_part w call key h.0 _ _ w.store h.1 refl old)
 order_happens stays w new (event.Change call key) seen fit h back old = subst HasOrder (sym h.5) (order_part w call key h.0 _ w.premises _ h.2 refl old)
 order_happens stays w new (event.Report call left fault) seen fit h back old = order_half new (back tt)
-order_happens stays w new (event.Commit call key) seen fit h back old = order_ended stays w new call key h.0 h.2 h.4 seen.outcome h.1 h.3 h.5 old
-order_happens stays w new (event.Withdraw call key) seen fit h back old = subst HasOrder (sym h.7) (order_withdrawn stays w key h.0.reservation h.2 h.4 (part_key w call key h.0 h.1 old) h.3 h.5 old)
 order_happens stays w new (event.Leave call) seen fit h back old = subst HasOrder (sym h.1) (order_left w call fit old)
-order_happens stays w new (event.PickUp call key) seen fit h back old = order_picks stays w new call key h.0 h.2 h.4 seen.outcome h.1 h.3 h.5 old
 order_happens stays w new (event.Foreign key value) seen fit h back old = subst HasOrder (sym h.1) (order_stored w _ _ old)
+order_happens stays w new e seen fit h back old = let k = key_change w new e seen refl h in order_key stays w new e k.0 seen k.1 fit old
 
 -- an entry that the store has from the start
 pub order_opened : (w : WorldState) (key value : Bytes) → IsSoundWorld w → HasOrder (with_stored w key value)
 order_opened w key value old = order_stored w (with_stored w key value).store w.premises old
 
--- 9. The whole history.
+-- 8. The whole history.
 
 -- there is something at each place
 there_is : {A : Type 0} (xs : List A) (n : ℕ) → n < length xs → (x : A) × (slice_get xs n ≡ Some x)

@@ -1,5 +1,5 @@
 -- The names that most pages of this crate cite, passed on from one place. Declares nothing.
-pub use Rattle.std.proofs.Common.{◌≡◌, ℕ, zero, suc, ◌+◌, ◌-◌, ◌%◌, ◌<◌, ◌≤◌, Bool, true, false, cond, not, ◌&&◌, ◌||◌, ◌⊎◌, List, [], ◌∷◌, ◌++◌, map, length, get_or, take, drop, replicate, is_some, is_none, IsSomeAnd, IfSome, OnOk, OnErr, nat_lt, nat_le, ◌==◌, slice_get, slice_set, Some, None, Ok, Err, vec_len, vec_capacity, sum, count_by, filter, Option, Result, option_map, option_to_list, position, find, zip, option_copied, sym, refl, ap, ◌∙◌, subst, inl, inr, true≢false, append_assoc, append-nil, add-zero, zero-add, add-one, arith, length-append, drop-cons, rules}
+pub use Rattle.std.proofs.Common.{◌≡◌, ℕ, zero, suc, ◌+◌, ◌-◌, ◌%◌, ◌<◌, ◌≤◌, Bool, true, false, cond, not, ◌&&◌, ◌||◌, ◌⊎◌, List, [], ◌∷◌, ◌++◌, map, length, get_or, take, drop, replicate, is_some, is_none, IsSomeAnd, IfSome, OnOk, OnErr, nat_lt, nat_le, ◌==◌, slice_get, slice_set, Some, None, Ok, Err, vec_len, vec_capacity, sum, count_by, filter, Option, Result, option_map, option_to_list, position, find, zip, option_copied, sym, refl, ap, ◌∙◌, subst, subst₂, inl, inr, true≢false, append_assoc, append-nil, add-zero, zero-add, add-one, arith, length-append, drop-cons, rules}
 pub use Rattle.std.proofs.Math.Bool.{and-false}
 pub use Rattle.std.proofs.Math.Dec.{eqb-suc-suc, eqb-suc-zero, eqb-zero-suc}
 pub use Rattle.std.proofs.Math.Seq.{drop-append_seam, take-append_seam}

@@ -1,5 +1,5 @@
 -- Each event keeps what the parts and the store of a world say.
-use Rattle.jc_world.proofs.Common.{◌≡◌, ℕ, zero, suc, ◌+◌, Bool, true, false, cond, ◌&&◌, List, [], ◌∷◌, ◌++◌, is_some, is_none, IsSomeAnd, slice_get, slice_set, Some, None, Ok, Option, find, sym, refl, ap, ◌∙◌, subst, and_parts, and_from, nat_list_cmp_total, beq, texts_ties, get, insert, remove, get-empty, get-insert, get-remove, eq_by_cmp, check, Caller, Config, same_key, get-with_entry, Bytes, Cache, entry_at, with_entry, key_cmp, nothing_said, write_only, found_in, holds, write_ask, is_write_given, entry_after, Change, Event, LoadAnswer, Op, WriteAnswer, EntryCall, callers_of, ProcessResult, Played, asks_invoking, change_due, Steps, Begins, after_commit, Commits, Withdraws, AllAsk, first_asked, reserves, State, is_key, is_reserved, new_reservation, without_key, IsOut, Ticket, ProcessClaim, asks_loader, asks_writer, asks_processor, JoinClaim, StepDone, First, Loader, Writer, Reservation, Command, Outcome, Part, Premises, Progress, Loading, Processed, Processing, Writing, WritingEffect, CallState, new_call, has_number, op_at, opened, settle, drop_call, Coherent, all_hold, with_stripe, with_phase, step_of, fault_in, without_call, new_load, new_write, new_process, new_part, with_part, without_part, Starts, Ends, Picks, after_answer, with_change, after_change, with_report, after_report, run_result, progress_after, after_process, may_leave, fits, changed_to, is_true_load, is_done, is_true_report, with_foreign_write, premises_hold, is_asked, is_due_in, IsHeld, Agrees, IsWrittenFor, LoadAgrees, ProgressAgrees, KeyAgrees, IsSoundWorld, Parts, join_key, Joins, WorldState, home, stripe_for, entry_in, cached_entry, empty_stripes, start, open_call, part_of, has_progress, waits_for_load, waits_for_process, waits_for_report, is_answered, is_untouched, has_changed, writer_change_in, writer_change, out_in, out_of, join_of, with_stored}
+use Rattle.jc_world.proofs.Common.{◌≡◌, ℕ, zero, suc, ◌+◌, Bool, true, false, cond, ◌&&◌, List, [], ◌∷◌, ◌++◌, is_some, is_none, IsSomeAnd, slice_get, slice_set, Some, None, Ok, Option, find, sym, refl, ap, ◌∙◌, subst, and_parts, and_from, nat_list_cmp_total, beq, texts_ties, get, insert, remove, get-empty, get-insert, get-remove, eq_by_cmp, T, check, Caller, Config, same_key, get-with_entry, Bytes, Cache, entry_at, with_entry, key_cmp, nothing_said, write_only, found_in, holds, write_ask, is_write_given, entry_after, Change, Event, LoadAnswer, Op, WriteAnswer, EntryCall, callers_of, ProcessResult, Played, asks_invoking, change_due, Steps, Begins, after_commit, Commits, Withdraws, AllAsk, first_asked, reserves, State, is_key, is_reserved, new_reservation, without_key, IsOut, Ticket, ProcessClaim, asks_loader, asks_writer, asks_processor, JoinClaim, StepDone, First, Loader, Nobody, Processor, Writer, Reservation, Command, Outcome, Part, Premises, Progress, Loading, Processed, Processing, Writing, WritingEffect, Shown, WorldEvent, CallState, new_call, has_number, op_at, opened, settle, drop_call, Coherent, all_hold, with_stripe, with_phase, step_of, fault_in, without_call, new_load, new_write, new_process, new_part, with_part, without_part, Starts, Ends, Picks, after_answer, with_change, after_change, with_report, after_report, run_result, progress_after, after_process, may_leave, fits, changed_to, is_true_load, is_done, is_true_report, with_foreign_write, premises_hold, is_asked, is_due_in, IsHeld, Agrees, IsWrittenFor, LoadAgrees, ProgressAgrees, KeyAgrees, IsSoundWorld, Parts, join_key, Joins, WorldState, home, stripe_for, entry_in, cached_entry, empty_stripes, start, open_call, part_of, has_progress, waits_for_load, waits_for_process, waits_for_report, is_answered, is_untouched, has_changed, writer_change_in, writer_change, out_in, out_of, join_of, with_stored}
 use Rattle.jc_model.specs.declared.event.LoadAnswer.TheVariants as load
 use Rattle.jc_model.specs.declared.event.WriteAnswer.TheVariants as write
 use Rattle.jc_model.specs.declared.event.ProcessAnswer.TheVariants as process
@@ -17,6 +17,7 @@ use Rattle.jc_world.proofs.Entries.{split, tied, agrees_stepped, writes, loads_a
 use Rattle.jc_world.proofs.Callers.{picking}
 use Rattle.jc_world.proofs.Facts.{denied, missing}
 use Rattle.jc_world.proofs.Shares.{is_some_and}
+use Rattle.jc_world.proofs.KeyChanges.{KeyChange, by_answer, by_commit, by_join, by_nothing, by_refusal, by_reservation, by_retry, by_step, by_withdrawal}
 
 -- 1. Small facts.
 
@@ -426,47 +427,6 @@ held_new : (key : Bytes) (from next : State) (p : Progress) (r : Reservation) �
 held_new key from next p r free key_is reservations asked =
     record { key_is = key_is; out = rw reservations (new_out from r (ap (is_reserved from) key_is ∙ free)); asked = asked }
 
--- the key is reserved, and the loader is asked
-parts_loads : (w : WorldState) (call : ℕ) (u : CallState) (key : Bytes) (op : Op) (from next : State) (ticket : Ticket) → open_call w call ≡ Some u → stripe_for w key ≡ Some from
-    → Begins from u.caller key op (begun.Load ticket) next → IsSoundWorld w → HasParts (with_part (with_stripe w key next) key (new_part new_load ticket.reservation))
-parts_loads w call u key op from next ticket is at begins old =
-    let r = ticket.reservation in
-    let part = new_part new_load r in
-    let n = with_part (with_stripe w key next) key part in
-    let r_is : r ≡ new_reservation from u.caller key op Loader = ap (λ (t : Ticket). t.reservation) begins.3 in
-    let free = was_free from u.caller key op Loader begins.0 begins.1 begins.2 refl in
-    let reservations = ap (λ (s : State). s.reservations) begins.4 in
-    parts_reserving w key from next r part at free reservations (ap (λ (s : State). s.cache) begins.4)
-    (held_new key from next new_load r free (ap (λ (x : Reservation). x.key) r_is) reservations (ap (λ (x : Reservation). asks_loader x.first) r_is))
-    (λ stored entry agrees. record { loaded = tt; unwritten = agrees }) (begun_before w call u is old) old
-
--- the key is reserved, and the writer is asked
-parts_asks : (w : WorldState) (call : ℕ) (u : CallState) (key : Bytes) (op : Op) (from next : State) (ticket : Ticket) (change : Change) → open_call w call ≡ Some u → stripe_for w key ≡ Some from
-    → Begins from u.caller key op (begun.Write ticket) next → ticket.reservation.first ≡ Writer change → IsSoundWorld w → HasParts (with_part (with_stripe w key next) key (new_part new_write ticket.reservation))
-parts_asks w call u key op from next ticket change is at begins first old =
-    let r = ticket.reservation in
-    let part = new_part new_write r in
-    let n = with_part (with_stripe w key next) key part in
-    let r_is : r ≡ new_reservation from u.caller key op r.first = ap (λ (t : Ticket). t.reservation) begins.3 in
-    let free = was_free from u.caller key op r.first begins.0 (writer_alone from key op r.first begins.1 begins.2) begins.1 (ap reserves first) in
-    let reservations = ap (λ (s : State). s.reservations) begins.4 in
-    parts_reserving w key from next r part at free reservations (ap (λ (s : State). s.cache) begins.4)
-    (held_new key from next new_write r free (ap (λ (x : Reservation). x.key) r_is) reservations (ap asks_writer first))
-    (λ stored entry agrees. record { written = λ e. absurd (let t : false ≡ true = e in cc); unwritten = λ e. agrees; honest = λ e. absurd (let t : false ≡ true = e in cc) }) (begun_before w call u is old) old
-
--- the key is reserved, and the processor is asked
-parts_processes : (w : WorldState) (call : ℕ) (u : CallState) (key : Bytes) (op : Op) (from next : State) (ticket : ProcessClaim) → open_call w call ≡ Some u → stripe_for w key ≡ Some from
-    → Begins from u.caller key op (begun.Process ticket) next → IsSoundWorld w → HasParts (with_part (with_stripe w key next) key (new_part new_process ticket.reservation))
-parts_processes w call u key op from next ticket is at begins old =
-    let r = ticket.reservation in
-    let part = new_part new_process r in
-    let r_is : r ≡ new_reservation from u.caller key op r.first = ap (λ (t : ProcessClaim). t.reservation) begins.3 in
-    let free = processor_free from next u.caller key op ticket begins in
-    let reservations = ap (λ (s : State). s.reservations) begins.4 in
-    parts_reserving w key from next r part at free reservations (ap (λ (s : State). s.cache) begins.4)
-    (held_new key from next new_process r free (ap (λ (x : Reservation). x.key) r_is) reservations begins.2)
-    (λ stored entry agrees. agrees) (begun_before w call u is old) old
-
 -- a stripe is another, whose entries and reservations are the same
 parts_aside : (w : WorldState) (key : Bytes) (from next : State) (calls : List CallState) (joins : Joins) → stripe_for w key ≡ Some from → next.cache ≡ from.cache → next.reservations ≡ from.reservations → (is_none w.last ≡ true → ⊥) → IsSoundWorld w
     → HasParts (record w { stripes = slice_set w.stripes (home w key) next; calls = calls; joins = joins })
@@ -486,22 +446,6 @@ parts_aside w key from next calls joins at cache reservations used old =
       cold = λ f. absurd (used f);
       idle = λ f. absurd (used f);
     }
-
--- the first phase of a key
-pub parts_started : (w new : WorldState) (call : ℕ) (key : Bytes) (u : CallState) (op : Op) (from to : State) (seen : Outcome) → open_call w call ≡ Some u → stripe_for w key ≡ Some from
-    → Starts w u.caller key op from to seen new → IsSoundWorld w → HasParts new
-parts_started w new call key u op from to (outcome.Refused refusal) is at (begins, leaves) old = subst HasParts (sym leaves) (parts_over w call u (settle u.caller.call key (Some refusal) w.calls) is old)
-parts_started w new call key u op from to (outcome.PutOff refusal) is at (begins, leaves) old = subst HasParts (sym leaves) (record { held = old.held; told = old.told; cold = old.cold; idle = old.idle })
-parts_started w new call key u op from to (outcome.Stepped seen) is at (begins, shows, leaves) old =
-    subst HasParts (sym leaves) (parts_stepped w call u key op from to (with_phase w key from to).order (settle u.caller.call key (fault_in seen.reply) w.calls) (step_of seen) is at begins old)
-parts_started w new call key u op from to outcome.Loads is at (ticket, begins, leaves) old = subst HasParts (sym leaves) (parts_loads w call u key op from to ticket is at begins old)
-parts_started w new call key u op from to (outcome.Asks change) is at (ticket, begins, first, leaves) old = subst HasParts (sym leaves) (parts_asks w call u key op from to ticket change is at begins first old)
-parts_started w new call key u op from to (outcome.Processes entry) is at (ticket, begins, shows, leaves) old =
-    subst HasParts (sym leaves) (parts_processes w call u key op from to ticket is at begins old)
-parts_started w new call key u op from to outcome.Joins is at (join, begins, leaves) old =
-    subst HasParts (sym leaves)
-    (parts_aside w key from to w.calls (insert w.joins (join_key join) join) at (ap (λ (s : State). s.cache) begins.3) (ap (λ (s : State). s.reservations) begins.3) (begun_before w call u is old) old)
-parts_started w new call key u op from to seen is at h old = absurd h
 
 -- 7. The last phase.
 
@@ -613,13 +557,6 @@ parts_committed w call key part from next order calls done is answered at commit
       idle = λ f. absurd (worn w key part there old f);
     }
 
--- the last phase of a call
-pub parts_ended : (w new : WorldState) (call : ℕ) (key : Bytes) (part : Part) (from to : State) (seen : Outcome) → fits w (event.Commit call key) ≡ true → part_of w call key ≡ Some part → stripe_for w key ≡ Some from
-    → Ends w call key part from to seen new → IsSoundWorld w → HasParts new
-parts_ended w new call key part from to (outcome.Stepped seen) fit is at (commits, shows, leaves) old =
-    subst HasParts (sym leaves) (parts_committed w call key part from to (with_phase w key from to).order (settle call key (fault_in seen.reply) w.calls) (step_of seen) is fit at commits old)
-parts_ended w new call key part from to seen fit is at h old = absurd h
-
 -- 8. A reservation is given back, a call leaves, and an answer is picked up.
 
 -- of what is untouched the store is as it was
@@ -665,20 +602,31 @@ parts_left w call fit old = go (open_call w call) refl
 pub parts_half : (w : WorldState) → IsSoundWorld w → HasParts w
 parts_half w h = record { held = h.held; told = h.told; cold = h.cold; idle = h.idle }
 
--- by what is shown of a pick-up
-pub parts_picks : (w new : WorldState) (call : ℕ) (key : Bytes) (join : JoinClaim) (from to : State) (seen : Outcome) → join_of w call key ≡ Some join → stripe_for w key ≡ Some from → Picks w call key join from to seen new → IsSoundWorld w → HasParts new
-parts_picks w new call key join from to (outcome.PickedUp seen) joined at h old =
-    let p = picking w call key join joined old in
-    let is = h.0.3 in
-    subst HasParts (sym h.2)
-    (parts_aside w key from to (settle call key (fault_in seen.reply) w.calls) (remove w.joins (call, key)) at (ap (λ (s : State). s.cache) is) (ap (λ (s : State). s.reservations) is) (begun_before w call p.u p.here old) old)
-parts_picks w new call key join from to outcome.Again joined at h old =
-    let p = picking w call key join joined old in
-    let is = h.0.2 in
-    subst HasParts (sym h.1)
-    (parts_aside w key from to w.calls (remove w.joins (call, key)) at (ap (λ (s : State). s.cache) is) (ap (λ (s : State). s.reservations) is) (begun_before w call p.u p.here old) old)
-parts_picks w new call key join from to outcome.Waits joined at h old = subst HasParts (sym h.1) (parts_half w old)
-parts_picks w new call key join from to seen joined at h old = absurd h
+-- by the kind of the change at a key
+pub parts_key : (w new : WorldState) (e : WorldEvent) (key : Bytes) (seen : Shown) → KeyChange w new e key seen → fits w e ≡ true → IsSoundWorld w → HasParts new
+parts_key w new e key seen (by_nothing is none ends) fit old = subst HasParts (sym is) (parts_half w old)
+parts_key w new e key seen (by_refusal u op refusal may is none ends) fit old = subst HasParts (sym is) (parts_over w may.call u (settle u.caller.call key (Some refusal) w.calls) may.here old)
+parts_key w new e key seen (by_step u op from to x may there h home_is is shows ends) fit old =
+    subst HasParts (sym is) (parts_stepped w may.call u key op from to (with_phase w key from to).order (settle u.caller.call key (fault_in x.reply) w.calls) (step_of x) may.here there h old)
+parts_key w new e key seen (by_reservation u op from to p r may there h is none ends) fit old =
+    let reservations = ap (λ (s : State). s.reservations) h.after in
+    subst HasParts (sym is)
+    (parts_reserving w key from to r (new_part p r) there h.free reservations (ap (λ (s : State). s.cache) h.after)
+    (held_new key from to p r h.free (ap (λ (x : Reservation). x.key) h.is) reservations h.asked) h.untold (begun_before w may.call u may.here old) old)
+parts_key w new e key seen (by_join u op from to join may there h is none ends) fit old =
+    subst HasParts (sym is)
+    (parts_aside w key from to w.calls (insert w.joins (join_key join) join) there (ap (λ (s : State). s.cache) h.3) (ap (λ (s : State). s.reservations) h.3) (begun_before w may.call u may.here old) old)
+parts_key w new e key seen (by_commit call part from to x e_is part_is there h home_is is shows) fit old =
+    subst HasParts (sym is) (parts_committed w call key part from to (with_phase w key from to).order (settle call key (fault_in x.reply) w.calls) (step_of x) part_is (ap (fits w) (sym e_is) ∙ fit) there h old)
+parts_key w new e key seen (by_withdrawal call part from to e_is part_is there h is shows) fit old = subst HasParts (sym is) (parts_withdrawn w call key part from to (ap (fits w) (sym e_is) ∙ fit) part_is there h old)
+parts_key w new e key seen (by_answer call join from to x e_is join_is there h home_is is shows ends) fit old =
+    let p = picking w call key join join_is old in
+    subst HasParts (sym is)
+    (parts_aside w key from to (settle call key (fault_in x.reply) w.calls) (remove w.joins (call, key)) there (ap (λ (s : State). s.cache) h.3) (ap (λ (s : State). s.reservations) h.3) (begun_before w call p.u p.here old) old)
+parts_key w new e key seen (by_retry call join from to e_is join_is there h is shows ends) fit old =
+    let p = picking w call key join join_is old in
+    subst HasParts (sym is)
+    (parts_aside w key from to w.calls (remove w.joins (call, key)) there (ap (λ (s : State). s.cache) h.2) (ap (λ (s : State). s.reservations) h.2) (begun_before w call p.u p.here old) old)
 
 -- 9. A sound world is coherent, as long as the premises held.
 

@@ -24,6 +24,7 @@ pub mod Reservations
 pub mod Processors
 pub mod Dues
 pub mod Kept
+pub mod KeyChanges
 pub mod Maps
 pub mod Numbered
 pub mod Returns

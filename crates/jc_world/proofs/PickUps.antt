@@ -6,7 +6,7 @@
 --     follows_joined     it is so if the call has just joined
 --     resolves           so what a pick-up shows is what has become of the load
 --     answers_joins      the whole, from the join to the pick-up
-use Rattle.jc_world.proofs.Common.{◌≡◌, ℕ, Bool, true, false, cond, not, ◌&&◌, ◌||◌, List, [], ◌∷◌, ◌++◌, is_some, IsSomeAnd, ◌==◌, slice_get, slice_set, Some, None, Option, option_map, zip, sym, refl, ap, ◌∙◌, subst, inl, inr, append_assoc, append-nil, eq-eqb, and_from, or_parts, false_from_ne_true, nat_eq_equiv, nat_list_eq_equiv, pointwise, get, remove, list_any, Caller, Bytes, Op, belongs_to_same, belongs_to, JoinState, Again, Answered, Waiting, Joiner, with_joiner, without_joiner, told_to, State, is_key, reservation_of, IsOut, asks_loader, JoinClaim, Reservation, Outcome, Over, Part, Shown, WorldEvent, CallState, op_at, with_stripe, not_over, with_join, Starts, Ends, Picks, Happens, Step, Run, fits, ends_join, is_last_pick_up, ends_load, Resolves, IsHeld, IsOwned, IsSoundWorld, JoinKey, join_key, Joins, WorldState, home, stripe_for, open_call, of_call, part_of, join_of, has_joined, is_joined}
+use Rattle.jc_world.proofs.Common.{◌≡◌, ℕ, Bool, true, false, cond, not, ◌&&◌, ◌||◌, List, [], ◌∷◌, ◌++◌, is_some, IsSomeAnd, ◌==◌, slice_get, slice_set, Some, None, Option, option_map, zip, sym, refl, ap, ◌∙◌, subst, inl, inr, append_assoc, append-nil, eq-eqb, and_from, or_parts, false_from_ne_true, nat_eq_equiv, nat_list_eq_equiv, pointwise, get, remove, list_any, stripe_of, Caller, Config, Bytes, Op, belongs_to_same, belongs_to, JoinState, Again, Answered, Waiting, Joiner, with_joiner, without_joiner, told_to, State, is_key, reservation_of, IsOut, asks_loader, JoinClaim, Reservation, Outcome, Over, Part, Shown, WorldEvent, CallState, op_at, with_stripe, not_over, with_join, Starts, Ends, Picks, Happens, Step, Run, fits, ends_join, is_last_pick_up, ends_load, Resolves, IsHeld, IsOwned, IsSoundWorld, JoinKey, join_key, Joins, WorldState, home, stripe_for, open_call, of_call, part_of, join_of, has_joined, is_joined}
 use Rattle.jc_world.specs.declared.event.Outcome.TheVariants as outcome
 use Rattle.jc_world.specs.declared.event.WorldEvent.TheVariants as event
 use Rattle.jc_world.proofs.Numbered.{some_of}
@@ -24,6 +24,7 @@ use Rattle.jc_world.proofs.Joins.{no_joiner}
 use Rattle.jc_world.proofs.JoinedLoads.{Shows, step_shown, Tells, TellsOf, TellsIn, none_of_key, tells_on, tells_kept, tells_committed, tells_withdrawn}
 use Rattle.jc_world.proofs.Sounding.{Laws, sound_step, sound_run}
 use Rattle.jc_world.proofs.Beside.{beside}
+use Rattle.jc_world.proofs.KeyChanges.{KeyChange, StripeChange, beside_stripes, by_answer, by_commit, by_join, by_key, by_nothing, by_refusal, by_reservation, by_retry, by_step, by_withdrawal, change_of, may_of}
 
 -- 1. From world to world.
 
@@ -65,60 +66,6 @@ follows_beside : (w n m : WorldState) (shows more : Shows) (join : JoinClaim) (r
 follows_beside w n m shows more join r h is config stripes joins none =
     rw is (follows_same w m shows more join r h config stripes joins none)
 
--- the first phase of a call
-follows_started : (w new : WorldState) (caller : Caller) (key : Bytes) (op : Op) (from to : State) (seen : Outcome) (shows more : Shows) (join : JoinClaim) (r : Reservation) → stripe_for w key ≡ Some from → Starts w caller key op from to seen new → is_joined w caller.call key ≡ false → list_any (ends_load r) more ≡ false
-    → Follows w shows join r → Follows new (shows ++ more) join r
-follows_started w new caller key op from to (outcome.Refused refusal) shows more join r there h alone none f = follows_beside w new _ shows more join r f h.1 refl refl refl none
-follows_started w new caller key op from to (outcome.PutOff refusal) shows more join r there h alone none f = follows_beside w new _ shows more join r f h.1 refl refl refl none
-follows_started w new caller key op from to (outcome.Stepped seen) shows more join r there h alone none f =
-    let after = h.0.2.after in
-    follows_set w new shows more join r key from to f (ap (λ (x : WorldState). x.config) h.2) (ap (λ (x : WorldState). x.stripes) h.2) there
-    (ap (λ (x : WorldState). join_of x join.caller.call join.key) h.2 ∙ f.join_is) (λ apart. none)
-    (tells_kept (home w join.key) shows more join r from to [] (ap (λ (s : State). s.joiners) after ∙ sym (append-nil from.joiners)) none (λ out. ap (λ (s : State). reservation_of s r.key) after ∙ out))
-follows_started w new caller key op from to outcome.Loads shows more join r there h alone none f =
-    let after = h.1.4 in
-    follows_set w new shows more join r key from to f (ap (λ (x : WorldState). x.config) h.2) (ap (λ (x : WorldState). x.stripes) h.2) there
-    (ap (λ (x : WorldState). join_of x join.caller.call join.key) h.2 ∙ f.join_is) (λ apart. none)
-    (tells_kept (home w join.key) shows more join r from to [] (ap (λ (s : State). s.joiners) after ∙ sym (append-nil from.joiners)) none
-    (λ out. ap (λ (s : State). reservation_of s r.key) after ∙ found_more (is_key r.key) from.reservations (h.0.reservation ∷ []) r out))
-follows_started w new caller key op from to (outcome.Asks change) shows more join r there h alone none f =
-    let after = h.1.4 in
-    follows_set w new shows more join r key from to f (ap (λ (x : WorldState). x.config) h.3) (ap (λ (x : WorldState). x.stripes) h.3) there
-    (ap (λ (x : WorldState). join_of x join.caller.call join.key) h.3 ∙ f.join_is) (λ apart. none)
-    (tells_kept (home w join.key) shows more join r from to [] (ap (λ (s : State). s.joiners) after ∙ sym (append-nil from.joiners)) none
-    (λ out. ap (λ (s : State). reservation_of s r.key) after ∙ found_more (is_key r.key) from.reservations (h.0.reservation ∷ []) r out))
-follows_started w new caller key op from to (outcome.Processes entry) shows more join r there h alone none f =
-    let after = h.1.4 in
-    follows_set w new shows more join r key from to f (ap (λ (x : WorldState). x.config) h.3) (ap (λ (x : WorldState). x.stripes) h.3) there
-    (ap (λ (x : WorldState). join_of x join.caller.call join.key) h.3 ∙ f.join_is) (λ apart. none)
-    (tells_kept (home w join.key) shows more join r from to [] (ap (λ (s : State). s.joiners) after ∙ sym (append-nil from.joiners)) none
-    (λ out. ap (λ (s : State). reservation_of s r.key) after ∙ found_more (is_key r.key) from.reservations (h.0.reservation ∷ []) r out))
-follows_started w new caller key op from to outcome.Joins shows more join r there h alone none f =
-    let after = h.1.3 in
-    let other = h.0 in
-    let apart : join_key join ≡ join_key other → ⊥ = λ same.
-    let other_is : join_key other ≡ (caller.call, key) = λ i. join_key (h.1.2 i) in
-    let t : true ≡ false = sym (ap is_some f.join_is) ∙ ap (λ (at : JoinKey). has_joined w.joins at.0 at.1) (same ∙ other_is) ∙ alone in cc
-    in
-    follows_set w new shows more join r key from to f (ap (λ (x : WorldState). x.config) h.2) (ap (λ (x : WorldState). x.stripes) h.2) there
-    (ap (λ (x : WorldState). join_of x join.caller.call join.key) h.2 ∙ get-beside joins_ordered w.joins (join_key other) other (join_key join) apart ∙ f.join_is) (λ apart. none)
-    (tells_kept (home w join.key) shows more join r from to (record { caller = other.caller; key = other.key; load = other.load; state = Waiting } ∷ []) (ap (λ (s : State). s.joiners) after) none (λ out. ap (λ (s : State). reservation_of s r.key) after ∙ out))
-follows_started w new caller key op from to seen shows more join r there h alone none f = absurd h
-
--- the last phase of a call
-follows_ended : (w new : WorldState) (call : ℕ) (key : Bytes) (part : Part) (from to : State) (seen : Outcome) (over : Option Over) (shows : Shows) (join : JoinClaim) (r : Reservation) → part_of w call key ≡ Some part → stripe_for w key ≡ Some from
-    → Ends w call key part from to seen new → IsSoundWorld w → Follows w shows join r → Follows new (shows ++ (event.Commit call key, record { outcome = seen; over = over }) ∷ []) join r
-follows_ended w new call key part from to (outcome.Stepped seen) over shows join r is there h old f =
-    let p = part.reservation in
-    let after = h.0.1.after in
-    follows_set w new shows ((event.Commit call key, step_shown seen over) ∷ []) join r key from to f (ap (λ (x : WorldState). x.config) h.2) (ap (λ (x : WorldState). x.stripes) h.2) there
-    (ap (λ (x : WorldState). join_of x join.caller.call join.key) h.2 ∙ f.join_is)
-    (λ apart. ap (λ b. b || false) (none_of_key r call key (step_shown seen over) (λ same. apart (ap (home w) (sym same ∙ f.key_is)))))
-    (tells_committed (home w join.key) call key shows join p r from to seen over (old.shape.each (home w key) from there).reached h.0.0
-    (of_call-at call (get w.parts key) part is).1 (part_key w call key part is old) (λ same. h.1 ∙ ap (home w) (sym same ∙ f.key_is))
-    (ap (λ (s : State). s.reservations) after) (ap (λ (s : State). s.joiners) after))
-follows_ended w new call key part from to seen over shows join r is there h old f = absurd h
-
 -- a pick-up of another join leaves this one, and its joiner
 follows_others : (w new : WorldState) (call : ℕ) (key : Bytes) (other : JoinClaim) (from to : State) (shows more : Shows) (join : JoinClaim) (r : Reservation) → join_of w call key ≡ Some other → stripe_for w key ≡ Some from → to ≡ without_joiner from other
     → (call ≡ join.caller.call → key ≡ join.key → ⊥) → new.config ≡ w.config → new.stripes ≡ slice_set w.stripes (home w key) to → new.joins ≡ remove w.joins (call, key)
@@ -152,41 +99,59 @@ of_another call mine key own seen other ends same_call same_key =
     in
     cc
 
--- a pick-up
-follows_picks : (w new : WorldState) (call : ℕ) (key : Bytes) (other : JoinClaim) (from to : State) (seen : Outcome) (shows more : Shows) (join : JoinClaim) (r : Reservation) → join_of w call key ≡ Some other → stripe_for w key ≡ Some from
-    → Picks w call key other from to seen new → ((call == join.caller.call) && pointwise ◌==◌ join.key key && ends_join seen) ≡ false → list_any (ends_load r) more ≡ false
-    → IsSoundWorld w → Follows w shows join r → Follows new (shows ++ more) join r
-follows_picks w new call key other from to (outcome.PickedUp seen) shows more join r found there h last none old f =
-    follows_others w new call key other from to shows more join r found there h.0.3 (of_another call join.caller.call key join.key (outcome.PickedUp seen) last refl)
-    (ap (λ (x : WorldState). x.config) h.2) (ap (λ (x : WorldState). x.stripes) h.2) (ap (λ (x : WorldState). x.joins) h.2) none old f
-follows_picks w new call key other from to outcome.Again shows more join r found there h last none old f =
-    follows_others w new call key other from to shows more join r found there h.0.2 (of_another call join.caller.call key join.key outcome.Again last refl)
-    (ap (λ (x : WorldState). x.config) h.1) (ap (λ (x : WorldState). x.stripes) h.1) (ap (λ (x : WorldState). x.joins) h.1) none old f
-follows_picks w new call key other from to outcome.Waits shows more join r found there h last none old f = follows_beside w new w shows more join r f h.1 refl refl refl none
-follows_picks w new call key other from to seen shows more join r found there h last none old f = absurd h
-
--- by the kind of the event
-follows_happens : (w new : WorldState) (e : WorldEvent) (seen : Shown) (shows : Shows) (join : JoinClaim) (r : Reservation) → fits w e ≡ true → Happens w e seen new → is_last_pick_up join.caller.call join.key (e, seen) ≡ false → IsSoundWorld w → Follows w shows join r
-    → Follows new (shows ++ (e, seen) ∷ []) join r
-follows_happens w new (event.Look call stripe) seen shows join r fit h last old f = follows_beside w new _ shows _ join r f h.9 refl refl refl refl
-follows_happens w new (event.Start call key) seen shows join r fit h last old f = follows_started w new h.0.caller key h.1 h.4 h.6 seen.outcome shows _ join r h.5 h.7 (may_start_at w call key h.0 h.1 fit h.2 h.3 old).alone refl f
-follows_happens w new (event.Read call key) seen shows join r fit h last old f = follows_beside w new _ shows _ join r f h.3 refl refl refl refl
-follows_happens w new (event.Say call key answer) seen shows join r fit h last old f = follows_beside w new _ shows _ join r f h.3 refl refl refl refl
-follows_happens w new (event.Process call key source calls fail) seen shows join r fit h last old f = follows_beside w new _ shows _ join r f h.3 refl refl refl refl
-follows_happens w new (event.Change call key) seen shows join r fit h last old f = follows_beside w new _ shows _ join r f h.5 refl refl refl refl
-follows_happens w new (event.Report call left fault) seen shows join r fit h last old f = follows_beside w new _ shows _ join r f (beside w new call h.0 left fault h.3).is refl refl refl refl
-follows_happens w new (event.Commit call key) seen shows join r fit h last old f = follows_ended w new call key h.0 h.2 h.4 seen.outcome seen.over shows join r h.1 h.3 h.5 old f
-follows_happens w new (event.Withdraw call key) seen shows join r fit h last old f =
-    let p = h.0.reservation in
-    rw h.6
-    (follows_set w new shows ((event.Withdraw call key, not_over outcome.Withdrawn) ∷ []) join r key h.2 h.4 f (ap (λ (x : WorldState). x.config) h.7) (ap (λ (x : WorldState). x.stripes) h.7) h.3
-    (ap (λ (x : WorldState). join_of x join.caller.call join.key) h.7 ∙ f.join_is)
+-- by the kind of the change at a key
+follows_key : (w new : WorldState) (e : WorldEvent) (key : Bytes) (seen : Shown) (shows : Shows) (join : JoinClaim) (r : Reservation) → KeyChange w new e key seen → fits w e ≡ true → is_last_pick_up join.caller.call join.key (e, seen) ≡ false
+    → IsSoundWorld w → Follows w shows join r → Follows new (shows ++ (e, seen) ∷ []) join r
+follows_key w new e key seen shows join r (by_nothing is none ends) fit last old f = follows_beside w new w shows _ join r f is refl refl refl (ap (λ b. b || false) (ends r))
+follows_key w new e key seen shows join r (by_refusal u op refusal may is none ends) fit last old f = follows_beside w new _ shows _ join r f is refl refl refl (ap (λ b. b || false) (ends r))
+follows_key w new e key seen shows join r (by_step u op from to x may there h home_is is shows_it ends) fit last old f =
+    let after = h.2.after in
+    let none = ap (λ b. b || false) (ends r) in
+    follows_set w new shows _ join r key from to f (ap (λ (x : WorldState). x.config) is) (ap (λ (x : WorldState). x.stripes) is) there
+    (ap (λ (x : WorldState). join_of x join.caller.call join.key) is ∙ f.join_is) (λ apart. none)
+    (tells_kept (home w join.key) shows _ join r from to [] (ap (λ (s : State). s.joiners) after ∙ sym (append-nil from.joiners)) none (λ out. ap (λ (s : State). reservation_of s r.key) after ∙ out))
+follows_key w new e key seen shows join r (by_reservation u op from to p own may there h is silent ends) fit last old f =
+    let none = ap (λ b. b || false) (ends r) in
+    follows_set w new shows _ join r key from to f (ap (λ (x : WorldState). x.config) is) (ap (λ (x : WorldState). x.stripes) is) there
+    (ap (λ (x : WorldState). join_of x join.caller.call join.key) is ∙ f.join_is) (λ apart. none)
+    (tells_kept (home w join.key) shows _ join r from to [] (ap (λ (s : State). s.joiners) h.after ∙ sym (append-nil from.joiners)) none
+    (λ out. ap (λ (s : State). reservation_of s r.key) h.after ∙ found_more (is_key r.key) from.reservations (own ∷ []) r out))
+follows_key w new e key seen shows join r (by_join u op from to other may there h is silent ends) fit last old f =
+    let after = h.3 in
+    let none = ap (λ b. b || false) (ends r) in
+    let apart : join_key join ≡ join_key other → ⊥ = λ same.
+    let other_is : join_key other ≡ (u.caller.call, key) = λ i. join_key (h.2 i) in
+    let t : true ≡ false = sym (ap is_some f.join_is) ∙ ap (λ (at : JoinKey). has_joined w.joins at.0 at.1) (same ∙ other_is) ∙ (may_of w e key u op may fit old).alone in cc
+    in
+    follows_set w new shows _ join r key from to f (ap (λ (x : WorldState). x.config) is) (ap (λ (x : WorldState). x.stripes) is) there
+    (ap (λ (x : WorldState). join_of x join.caller.call join.key) is ∙ get-beside joins_ordered w.joins (join_key other) other (join_key join) apart ∙ f.join_is) (λ apart. none)
+    (tells_kept (home w join.key) shows _ join r from to (record { caller = other.caller; key = other.key; load = other.load; state = Waiting } ∷ []) (ap (λ (s : State). s.joiners) after) none (λ out. ap (λ (s : State). reservation_of s r.key) after ∙ out))
+follows_key w new e key seen shows join r (by_commit call part from to x e_is part_is there h home_is is shows_it) fit last old f =
+    let p = part.reservation in
+    let after = h.1.after in
+    subst (λ (p : WorldEvent × Shown). Follows new (shows ++ p ∷ []) join r) (sym (λ i. (e_is i, record { outcome = shows_it i; over = seen.over })))
+    (follows_set w new shows ((event.Commit call key, step_shown x seen.over) ∷ []) join r key from to f (ap (λ (x : WorldState). x.config) is) (ap (λ (x : WorldState). x.stripes) is) there
+    (ap (λ (x : WorldState). join_of x join.caller.call join.key) is ∙ f.join_is)
+    (λ apart. ap (λ b. b || false) (none_of_key r call key (step_shown x seen.over) (λ same. apart (ap (home w) (sym same ∙ f.key_is)))))
+    (tells_committed (home w join.key) call key shows join p r from to x seen.over (old.shape.each (home w key) from there).reached h.0
+    (of_call-at call (get w.parts key) part part_is).1 (part_key w call key part part_is old) (λ same. home_is ∙ ap (home w) (sym same ∙ f.key_is))
+    (ap (λ (s : State). s.reservations) after) (ap (λ (s : State). s.joiners) after)))
+follows_key w new e key seen shows join r (by_withdrawal call part from to e_is part_is there h is shows_it) fit last old f =
+    subst (λ (p : WorldEvent × Shown). Follows new (shows ++ p ∷ []) join r) (sym (λ i. (e_is i, shows_it i)))
+    (follows_set w new shows ((event.Withdraw call key, not_over outcome.Withdrawn) ∷ []) join r key from to f (ap (λ (x : WorldState). x.config) is) (ap (λ (x : WorldState). x.stripes) is) there
+    (ap (λ (x : WorldState). join_of x join.caller.call join.key) is ∙ f.join_is)
     (λ apart. ap (λ b. b || false) (none_of_key r call key (not_over outcome.Withdrawn) (λ same. apart (ap (home w) (sym same ∙ f.key_is)))))
-    (tells_withdrawn (home w join.key) call key shows join p r h.2 h.4 (old.shape.each (home w key) h.2 h.3).reached h.5.0
-    (of_call-at call (get w.parts key) h.0 h.1).1 (part_key w call key h.0 h.1 old)
-    (ap (λ (s : State). s.reservations) h.5.1) (ap (λ (s : State). s.joiners) h.5.1)))
-follows_happens w new (event.PickUp call key) seen shows join r fit h last old f = follows_picks w new call key h.0 h.2 h.4 seen.outcome shows _ join r h.1 h.3 h.5 last refl old f
-follows_happens w new e seen shows join r fit h last old f = follows_beside w new _ shows _ join r f h.1 refl refl refl refl
+    (tells_withdrawn (home w join.key) call key shows join part.reservation r from to (old.shape.each (home w key) from there).reached h.0
+    (of_call-at call (get w.parts key) part part_is).1 (part_key w call key part part_is old)
+    (ap (λ (s : State). s.reservations) h.1) (ap (λ (s : State). s.joiners) h.1)))
+follows_key w new e key seen shows join r (by_answer call other from to x e_is found there h home_is is shows_it ends) fit last old f =
+    follows_others w new call key other from to shows _ join r found there h.3
+    (of_another call join.caller.call key join.key seen.outcome (ap (λ x. is_last_pick_up join.caller.call join.key (x, seen)) (sym e_is) ∙ last) (ap ends_join shows_it))
+    (ap (λ (x : WorldState). x.config) is) (ap (λ (x : WorldState). x.stripes) is) (ap (λ (x : WorldState). x.joins) is) (ap (λ b. b || false) (ends r)) old f
+follows_key w new e key seen shows join r (by_retry call other from to e_is found there h is shows_it ends) fit last old f =
+    follows_others w new call key other from to shows _ join r found there h.2
+    (of_another call join.caller.call key join.key seen.outcome (ap (λ x. is_last_pick_up join.caller.call join.key (x, seen)) (sym e_is) ∙ last) (ap ends_join shows_it))
+    (ap (λ (x : WorldState). x.config) is) (ap (λ (x : WorldState). x.stripes) is) (ap (λ (x : WorldState). x.joins) is) (ap (λ b. b || false) (ends r)) old f
 
 -- what doesn't fit ends no load
 unfit_ends : (r : Reservation) (e : WorldEvent) → ends_load r (e, not_over outcome.Unfit) ≡ false
@@ -195,7 +160,11 @@ unfit_ends r e = refl
 
 follows_step : (w new : WorldState) (e : WorldEvent) (seen : Shown) (shows : Shows) (join : JoinClaim) (r : Reservation) → Step w e seen new → is_last_pick_up join.caller.call join.key (e, seen) ≡ false → IsSoundWorld w → Follows w shows join r
     → Follows new (shows ++ (e, seen) ∷ []) join r
-follows_step w new e seen shows join r (inl (fit, happens)) last old f = follows_happens w new e seen shows join r fit happens last old f
+follows_step w new e seen shows join r (inl (fit, happens)) last old f = go (change_of w new e seen happens)
+  where
+    go : StripeChange w new e seen → Follows new (shows ++ (e, seen) ∷ []) join r
+    go (by_key key k) = follows_key w new e key seen shows join r k fit last old f
+    go (beside_stripes m is config stripes order joins none ends) = follows_beside w new m shows _ join r f is config stripes joins (ap (λ b. b || false) (ends r))
 follows_step w new e seen shows join r (inr (unfit, shown_is, is)) last old f = follows_beside w new w shows _ join r f is refl refl refl (ap (λ b. b || false) (ap (λ s. ends_load r (e, s)) shown_is ∙ unfit_ends r e))
 
 -- both tests fail, where not one of them holds

@@ -8,7 +8,8 @@ use Rattle.jc_world.proofs.Callers.{order_part, order_met, order_happens, order_
 use Rattle.jc_world.proofs.Joins.{joins_met, joins_parted, joins_start, joins_happens, joins_stored}
 use Rattle.jc_world.proofs.Dues.{dues_reported, dues_start, dues_happens}
 use Rattle.jc_world.proofs.Sweeps.{sweeps_met, sweeps_happens}
-use Rattle.jc_world.proofs.Kept.{parts_half, parts_processed, parts_start, parts_called, parts_started, parts_ended, parts_answered, parts_changed, parts_reported, parts_disturbed, parts_stored, parts_withdrawn, parts_left, parts_over, parts_picks}
+use Rattle.jc_world.proofs.Kept.{parts_half, parts_processed, parts_start, parts_called, parts_answered, parts_changed, parts_reported, parts_disturbed, parts_stored, parts_left, parts_over, parts_key}
+use Rattle.jc_world.proofs.KeyChanges.{key_change}
 
 -- the writer has returned for a key
 sound_reported : (w : WorldState) (call : ℕ) (key : Bytes) (part : Part) (report : WriteAnswer) → part_of w call key ≡ Some part → waits_for_report part.progress ≡ true → IsSoundWorld w → IsSoundWorld (after_report w key part report)
@@ -32,7 +33,6 @@ sound_returned w new e seen h old back = absurd back
 parts_happens : (w new : WorldState) (e : WorldEvent) (seen : Shown) → fits w e ≡ true → Happens w e seen new → (IsReport e → IsSoundWorld new) → IsSoundWorld w → HasParts new
 parts_happens w new (event.Call call session command) seen fit (shows, is) back h = subst HasParts (sym is) (parts_called w call session command fit h)
 parts_happens w new (event.Look call stripe) seen fit (u, sweep, there, sweeps, from, at, keys, are, shows, is) back h = subst HasParts (sym is) (parts_over w call u _ there h)
-parts_happens w new (event.Start call key) seen fit (u, op, there, op_is, from, at, to, starts, refuses, over) back h = parts_started w new call key u op from to seen.outcome there at starts h
 parts_happens w new (event.Read call key) seen fit (part, there, shows, is) back h = subst HasParts (sym is) (parts_answered w call key part (read_answer (entry_at w.store key)) there fit h)
 parts_happens w new (event.Say call key answer) seen fit (part, there, shows, is) back h =
     subst HasParts (sym is) (parts_answered w call key part answer there ((and_parts (is_load_given answer) (has_progress waits_for_load (part_of w call key)) fit).1) h)
@@ -40,11 +40,9 @@ parts_happens w new (event.Process call key source calls fail) seen fit (part, t
     subst HasParts (sym is) (parts_processed w key call part (load_from source (entry_at w.store key)) calls fail there fit h)
 parts_happens w new (event.Change call key) seen fit (part, change, there, asked, shows, is) back h = subst HasParts (sym is) (parts_changed w call key part change there asked fit h)
 parts_happens w new (event.Report call left fault) seen fit happens back h = parts_half new (back tt)
-parts_happens w new (event.Commit call key) seen fit (part, there, from, at, to, ends, over) back h = parts_ended w new call key part from to seen.outcome fit there at ends h
-parts_happens w new (event.Withdraw call key) seen fit (part, there, from, at, to, withdraws, shows, is) back h = subst HasParts (sym is) (parts_withdrawn w call key part from to fit there at withdraws h)
 parts_happens w new (event.Leave call) seen fit (shows, is) back h = subst HasParts (sym is) (parts_left w call fit h)
-parts_happens w new (event.PickUp call key) seen fit (join, there, from, at, to, picks, over) back h = parts_picks w new call key join from to seen.outcome there at picks h
 parts_happens w new (event.Foreign key value) seen fit (shows, is) back h = subst HasParts (sym is) (parts_disturbed w (with_entry w.store key value) h)
+parts_happens w new e seen fit h back old = let k = key_change w new e seen refl h in parts_key w new e k.0 seen k.1 fit old
 
 -- what the stripes below keep
 pub record Laws : Type 0 where
