@@ -6,36 +6,10 @@
 --     start_fits     a call's first phase, after its beginning
 --     looks_fit_all  the looks of a call
 --     rest_fits      what follows in a line, if its first event fits
-use Rattle.std.proofs.Common.{◌≡◌, ◌||◌, ◌+◌, ◌<◌, ◌≤◌, ℕ, zero, suc, List, [], ◌∷◌, ◌++◌, true, false, cond, not, Option, None, Some, IsSomeAnd, find, inl, inr, refl, sym, ap, ◌∙◌, subst, arith, is_none, is_some, nat_lt, nat_le}
-use Rattle.std.specs.Option.{option_or}
-use Rattle.std.specs.FinMap.{get}
-use Rattle.std.proofs.lemmas.Bool.{eq-eqb, and_parts, and_from, false_from_ne_true, lt-ltb}
-use Rattle.std.proofs.lemmas.Bool.Decides.{nat_tests}
-use Rattle.std.proofs.lemmas.Cmp.{nat_eq_equiv}
-use Rattle.std.proofs.lemmas.List.Folds.{find-append}
-use Rattle.std.specs.List.{list_any}
-use Rattle.jc_types.specs.declared.caller.Caller.{Caller}
-use Rattle.jc_model.specs.declared.event.Op.{Op}
-use Rattle.jc_model.specs.declared.event.Op.TheVariants.{Get}
-use Rattle.jc_model.specs.Cache.{Bytes}
-use Rattle.jc_stripe.specs.State.{State}
-use Rattle.jc_stripe.specs.Tickets.{JoinClaim}
-use Rattle.jc_world.specs.declared.event.Part.{Part}
-use Rattle.jc_world.specs.declared.event.Progress.{Progress}
-use Rattle.jc_world.specs.declared.event.Progress.TheVariants.{Loading, Writing, Processing, Processed, WritingEffect}
-use Rattle.jc_world.specs.declared.command.Command.{Command}
+use Rattle.jc_world.proofs.Common.{◌≡◌, ℕ, zero, suc, ◌+◌, ◌<◌, ◌≤◌, true, false, cond, not, ◌||◌, List, [], ◌∷◌, ◌++◌, is_some, is_none, IsSomeAnd, nat_lt, nat_le, Some, None, Option, find, sym, refl, ap, ◌∙◌, subst, inl, inr, arith, lt-ltb, eq-eqb, and_parts, and_from, false_from_ne_true, nat_tests, nat_eq_equiv, find-append, get, list_any, option_or, Caller, Bytes, Op, Get, State, JoinClaim, Command, Outcome, Part, Progress, Loading, Shown, WorldEvent, at_each, SweepState, sweep_of, CallState, new_call, has_number, op_at, is_open, is_going, has_too_many_keys, opened, going_on, has_looked, has_looked_at_each, with_found, with_look, Starts, Ends, Picks, with_change, Happens, is_fit, AllFit, is_new, is_free, is_to_look, may_look, fits, is_up_to, IsCallOf, IsSoundWorld, looks, WorldState, open_call, of_call, part_of, has_progress, waits_for_report, is_untouched, is_joined}
 use Rattle.jc_world.specs.declared.command.Command.TheVariants as command
-use Rattle.jc_world.specs.Calls.{CallState, SweepState, has_looked, has_looked_at_each, has_number, has_too_many_keys, at_each, is_going, is_open, op_at, opened, new_call, going_on, sweep_of, with_found}
-use Rattle.jc_world.specs.declared.event.Shown.{Shown}
-use Rattle.jc_world.specs.declared.event.Outcome.{Outcome}
 use Rattle.jc_world.specs.declared.event.Outcome.TheVariants as outcome
-use Rattle.jc_world.specs.declared.event.WorldEvent.{WorldEvent}
 use Rattle.jc_world.specs.declared.event.WorldEvent.TheVariants as event
-use Rattle.jc_world.specs.World.{WorldState, open_call, of_call, part_of, waits_for_report, is_joined, is_untouched, has_progress}
-use Rattle.jc_world.specs.Fits.{fits, is_new, is_free, is_to_look, may_look}
-use Rattle.jc_world.specs.Events.{with_look, Starts, Ends, Picks, Happens, is_fit, AllFit, with_change}
-use Rattle.jc_world.specs.Together.{looks}
-use Rattle.jc_world.specs.Sound.{is_up_to, IsCallOf, IsSoundWorld}
 use Rattle.jc_world.proofs.Holding.{call_on}
 use Rattle.jc_world.proofs.Looked.{found_replaced}
 use Rattle.jc_world.proofs.Unseen.{missed, unseen, seen_below}
@@ -64,16 +38,13 @@ fit_shown : (old new : WorldState) (e : WorldEvent) (seen : Shown) → Happens o
 fit_shown old new (event.Call call session command) seen h = ap (λ (s : Shown). is_fit s.outcome) h.0 ∙ begun_cases (new_call call session command) (λ s. is_fit s.outcome ≡ true) refl refl
 fit_shown old new (event.Look call stripe) seen h = ap (λ (s : Shown). is_fit s.outcome) h.8
 fit_shown old new (event.Start call key) seen h = started_fits old new h.0.caller key h.1 h.4 h.6 seen.outcome h.7
-fit_shown old new (event.Read call key) seen h = ap (λ (s : Shown). is_fit s.outcome) h.2
-fit_shown old new (event.Say call key answer) seen h = ap (λ (s : Shown). is_fit s.outcome) h.2
-fit_shown old new (event.Process call key source calls fail) seen h = ap (λ (s : Shown). is_fit s.outcome) h.2
 fit_shown old new (event.Change call key) seen h = ap (λ (s : Shown). is_fit s.outcome) h.4
-fit_shown old new (event.Report call left fault) seen h = ap (λ (s : Shown). is_fit s.outcome) h.2
 fit_shown old new (event.Commit call key) seen h = ended_fits old new call key h.0 h.2 h.4 seen.outcome h.5
 fit_shown old new (event.Withdraw call key) seen h = ap (λ (s : Shown). is_fit s.outcome) h.6
 fit_shown old new (event.Leave call) seen h = ap (λ (s : Shown). is_fit s.outcome) h.0
 fit_shown old new (event.PickUp call key) seen h = picked_fits old new call key h.0 h.2 h.4 seen.outcome h.5
 fit_shown old new (event.Foreign key value) seen h = ap (λ (s : Shown). is_fit s.outcome) h.0
+fit_shown old new e seen h = ap (λ (s : Shown). is_fit s.outcome) h.2
 
 -- there is nothing that doesn't fit
 pub none_fit : (w : WorldState) → AllFit w []
@@ -100,10 +71,7 @@ still_waits call o part is waits =
   where
     unchanged : (p : Progress) → waits_for_report (with_change p) ≡ waits_for_report p
     unchanged (Loading answer) = refl
-    unchanged (Writing is_changed report) = refl
-    unchanged Processing = refl
-    unchanged (Processed loaded process) = refl
-    unchanged (WritingEffect loaded process is_changed report) = refl
+    unchanged p = refl
 
 -- 3. A call that has just begun.
 
@@ -172,14 +140,9 @@ looks_fit call (suc (suc count)) from w u s here sweeps below few =
 
 -- a call that looks at the stripes names no key, and has looked at none
 sweeping : (call session : ℕ) (c : Command) (s : SweepState) → sweep_of c ≡ Some s → (has_too_many_keys (new_call call session c) ≡ false) × (s.looked ≡ [])
-sweeping call session (command.Single op key) s is = cc
-sweeping call session (command.GetAll keys) s is = cc
-sweeping call session (command.PutAll entries) s is = cc
-sweeping call session (command.RemoveAll keys) s is = cc
 sweeping call session command.RemoveEvery s is = (refl, cc)
 sweeping call session command.Clear s is = (refl, cc)
-sweeping call session (command.LoadAll replace keys) s is = cc
-sweeping call session (command.InvokeAll keys) s is = cc
+sweeping call session c s is = cc
 
 pub looks_begun : (w : WorldState) → IsSoundWorld w → (call session : ℕ) (c : Command) (s : SweepState) → fits w (event.Call call session c) ≡ true → sweep_of c ≡ Some s → AllFit w (event.Call call session c ∷ looks call 0 w.config.stripes)
 looks_begun w old call session c s fit sweeps =

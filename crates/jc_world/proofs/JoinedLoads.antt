@@ -3,36 +3,10 @@
 --     TellsIn            a stripe has the joiner of a join, whose state tells that of the load
 --     tells_kept         it does later, if the joiners are the same or more, and the load stays out
 --     tells_committed, tells_withdrawn      it does where any load is over
-use Rattle.std.proofs.Common.{◌≡◌, ◌==◌, ◌<◌, ◌&&◌, ◌||◌, ◌+◌, ℕ, List, [], ◌∷◌, ◌++◌, length, Bool, true, false, cond, Option, Some, IsSomeAnd, find, slice_get, refl, sym, ap, ◌∙◌, subst, arith}
-use Rattle.std.specs.List.{list_any}
-use Rattle.std.specs.Cmp.Lexicographic.{pointwise}
-use Rattle.std.proofs.Math.Seq.{take-append_seam}
-use Rattle.std.proofs.lemmas.List.{take-append-le}
-use Rattle.std.proofs.lemmas.List.Folds.{list_any-append}
-use Rattle.std.proofs.lemmas.Option.{slice_get_within}
-use Rattle.std.proofs.lemmas.Bool.{eq-eqb, eqb-true, and_parts, false_from_ne_true}
-use Rattle.jc_world.proofs.Shares.{still_at}
-use Rattle.jc_types.specs.declared.caller.Caller.{Caller}
-use Rattle.jc_model.specs.Cache.{Bytes}
-use Rattle.jc_inflight.specs.declared.joiner.Joiner.{Joiner}
-use Rattle.jc_inflight.specs.declared.joiner.JoinState.{JoinState}
-use Rattle.jc_inflight.specs.declared.joiner.JoinState.TheVariants.{Waiting, Answered, Again}
-use Rattle.jc_inflight.specs.Joining.{belongs_to, is_waiting, waits_for}
-use Rattle.jc_inflight.specs.Resolving.{with_answer, answered_from, after_resolve}
-use Rattle.jc_inflight.specs.Dissolving.{after_dissolve}
-use Rattle.jc_stripe.specs.declared.ticket.Reservation.{Reservation}
-use Rattle.jc_stripe.specs.Tickets.{JoinClaim}
-use Rattle.jc_stripe.specs.State.{State, is_key, without_key, IsOut}
-use Rattle.jc_stripe.specs.Reached.{IsReached}
-use Rattle.jc_world.specs.declared.event.Shown.{Shown}
-use Rattle.jc_world.specs.declared.event.Over.{Over}
-use Rattle.jc_world.specs.declared.event.Outcome.{Outcome}
+use Rattle.jc_world.proofs.Common.{◌≡◌, ℕ, ◌+◌, ◌<◌, Bool, true, false, cond, ◌&&◌, ◌||◌, List, [], ◌∷◌, ◌++◌, length, IsSomeAnd, ◌==◌, slice_get, Some, Option, find, sym, refl, ap, ◌∙◌, subst, arith, take-append_seam, eqb-true, eq-eqb, and_parts, false_from_ne_true, take-append-le, list_any-append, slice_get_within, pointwise, list_any, Caller, Bytes, after_dissolve, belongs_to, is_waiting, waits_for, with_answer, answered_from, after_resolve, JoinState, Again, Answered, Waiting, Joiner, IsReached, State, is_key, without_key, IsOut, JoinClaim, Reservation, Outcome, Over, Shown, Stepped, WorldEvent, not_over, is_fit, ends_load, IsEnd}
 use Rattle.jc_world.specs.declared.event.Outcome.TheVariants as outcome
-use Rattle.jc_world.specs.declared.event.Stepped.{Stepped}
-use Rattle.jc_world.specs.declared.event.WorldEvent.{WorldEvent}
 use Rattle.jc_world.specs.declared.event.WorldEvent.TheVariants as event
-use Rattle.jc_world.specs.Events.{is_fit, not_over}
-use Rattle.jc_world.specs.PickUps.{ends_load, IsEnd}
+use Rattle.jc_world.proofs.Shares.{still_at}
 use Rattle.jc_world.proofs.Underway.{same_bytes}
 use Rattle.jc_world.proofs.Joiners.{joiner_of, joined_front}
 use Rattle.jc_world.proofs.Reservations.{found_left}
@@ -93,16 +67,14 @@ tells_on number shows more s t r Again on (at, end) = (at, end_more shows more r
 -- a joiner that waits tells that the load is out
 tells_out : (number : ℕ) (shows : Shows) (s : State) (r : Reservation) (state : JoinState) → is_waiting state ≡ true → Tells number shows s r state → IsOut s r × (list_any (ends_load r) shows ≡ false)
 tells_out number shows s r Waiting waits h = h
-tells_out number shows s r (Answered place shared) waits h = cc
-tells_out number shows s r Again waits h = cc
+tells_out number shows s r state waits h = cc
 
 -- the joiners are the same, or there are more after them
 pub tells_kept : (number : ℕ) (shows more : Shows) (join : JoinClaim) (r : Reservation) (s t : State) (behind : List Joiner) → t.joiners ≡ s.joiners ++ behind → list_any (ends_load r) more ≡ false → (IsOut s r → IsOut t r)
     → TellsIn number shows join r s → TellsIn number (shows ++ more) join r t
 tells_kept number shows more join r s t behind joiners none out h =
     let Q : Joiner → Type 0 = TellsOf number (shows ++ more) t r in
-    let J : List Joiner → Type 0 = λ js. IsSomeAnd (joiner_of join.caller join.key js) Q in
-    subst J (sym joiners)
+    rw joiners
     (joined_front Q (belongs_to join.caller join.key) s.joiners behind
     (some_map (joiner_of join.caller join.key s.joiners) (TellsOf number shows s r) Q (λ j k. (k.0, tells_on number shows more s t r j.state (λ waits o. (out o, none)) k.1)) h))
 
@@ -185,8 +157,7 @@ pub tells_committed : (number call : ℕ) (key : Bytes) (shows : Shows) (join : 
 tells_committed number call key shows join p r from to seen end reached over call_is key_is stripe_is left joiners h =
     let more : Shows = (event.Commit call key, step_shown seen end) ∷ [] in
     let Q : Joiner → Type 0 = TellsOf number (shows ++ more) to r in
-    let J : List Joiner → Type 0 = λ js. IsSomeAnd (joiner_of join.caller join.key js) Q in
-    subst J (sym joiners)
+    subst (λ js. IsSomeAnd (joiner_of join.caller join.key js) Q) (sym joiners)
     (resolved_by (TellsOf number shows from r) Q p.number seen.place (seen.place + 1) join.caller join.key from.joiners
     (λ place j waits k.
     let one = load_over number shows p r from j reached over waits k in
@@ -203,8 +174,7 @@ pub tells_withdrawn : (number call : ℕ) (key : Bytes) (shows : Shows) (join : 
 tells_withdrawn number call key shows join p r from to reached over call_is key_is left joiners h =
     let more : Shows = (event.Withdraw call key, not_over outcome.Withdrawn) ∷ [] in
     let Q : Joiner → Type 0 = TellsOf number (shows ++ more) to r in
-    let J : List Joiner → Type 0 = λ js. IsSomeAnd (joiner_of join.caller join.key js) Q in
-    subst J (sym joiners)
+    subst (λ js. IsSomeAnd (joiner_of join.caller join.key js) Q) (sym joiners)
     (dissolved_by (TellsOf number shows from r) Q p.number join.caller join.key from.joiners
     (λ j waits k.
     let one = load_over number shows p r from j reached over waits k in

@@ -13,21 +13,10 @@
 --                            a look-up of an index map, an insertion, a removal, and what was popped
 --     nothing_at             an index map with no entry has nothing at any key
 --     is_join_key, joins_tied     the test of calls and keys, and that it is of their order
-use Rattle.std.proofs.Common.{◌≡◌, ◌==◌, ◌&&◌, List, [], ◌∷◌, ◌++◌, None, Some, Bool, true, false, cond, is_some, refl, sym, ap, subst, ◌∙◌}
-use Rattle.std.specs.declared.cmp.Ordering.{Ordering}
-use Rattle.std.specs.Ordering.{eq_by_cmp, is_eq, nat_cmp}
-use Rattle.std.specs.Cmp.{IsTotalOrder, eq_by_cmp_equiv, Equal-is, tied_then, both_tied, then_total, on_total, unsigned_ties}
-use Rattle.std.specs.Cmp.Lexicographic.{pointwise, texts_ties}
-use Rattle.std.proofs.lemmas.Bool.{and_parts}
-use Rattle.std.proofs.lemmas.Cmp.{nat_cmp_total, nat_list_cmp_total}
-use Rattle.std.proofs.lemmas.Map.Lookups.{exact_bytes}
-use Rattle.std.specs.Map.{lookup}
+use Rattle.jc_world.proofs.Common.{◌≡◌, Bool, true, false, cond, ◌&&◌, List, [], ◌∷◌, ◌++◌, is_some, ◌==◌, Some, None, sym, refl, ap, ◌∙◌, subst, and_parts, nat_cmp_total, nat_list_cmp_total, nil_from_length, exact_bytes, IsTotalOrder, Equal-is, eq_by_cmp_equiv, unsigned_ties, on_total, tied_then, both_tied, then_total, pointwise, texts_ties, FinMap, IsAntisymmetric, nat_cmp-IsAntisymmetric, insert, remove, from_entries, get-insert, get-remove, get-from_entries, same_map, lookup, is_eq, nat_cmp, eq_by_cmp, Ordering, Updates, index_map_len, IndexMap, key_cmp, JoinKey, join_cmp}
 use Rattle.std.specs.FinMap as map
-use Rattle.std.specs.FinMap.{FinMap, IsAntisymmetric, nat_cmp-IsAntisymmetric, find, insert, remove, same_map, from_entries, get-from_entries, get-insert, get-remove}
-use Rattle.std.proofs.lemmas.List.{nil_from_length}
-use Rattle.indexmap.specs.IndexMap.{IndexMap, get, index_map_len, Updates}
-use Rattle.jc_model.specs.Cache.{key_cmp}
-use Rattle.jc_world.specs.World.{JoinKey, join_cmp}
+use Rattle.std.specs.FinMap.{find}
+use Rattle.indexmap.specs.IndexMap.{get}
 
 -- 1. Orders of keys.
 

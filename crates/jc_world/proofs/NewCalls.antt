@@ -2,12 +2,8 @@
 --     opened_cases       what is so of it under way, and of no call, is so of what was opened
 --     begun_cases        what is so of a begun call's showing, and of a refusal's, is so of what was shown
 --     begun_shown        one that isn't refused whole has begun
-use Rattle.std.proofs.Common.{◌≡◌, List, [], ◌∷◌, true, false, cond, ap}
-use Rattle.jc_types.specs.declared.refusal.Refusal.TheVariants.{TooManyKeys}
-use Rattle.jc_world.specs.Calls.{CallState, has_too_many_keys, is_going, opened, over_of}
-use Rattle.jc_world.specs.declared.event.Shown.{Shown}
+use Rattle.jc_world.proofs.Common.{◌≡◌, true, false, cond, List, [], ◌∷◌, ap, TooManyKeys, Shown, CallState, is_going, has_too_many_keys, opened, over_of, not_over, shown_begun}
 use Rattle.jc_world.specs.declared.event.Outcome.TheVariants as outcome
-use Rattle.jc_world.specs.Events.{not_over, shown_begun}
 
 pub opened_cases : (u : CallState) (P : List CallState → Type 0) → P (u ∷ []) → P [] → P (opened u)
 opened_cases u P one none =

@@ -1,22 +1,8 @@
 -- How a call begins: its looks fit behind its begin, and then it is free of every key; a call of one key is then under way, and may
 -- make its first phase.
-use Rattle.std.proofs.Common.{◌≡◌, ◌∙◌, ℕ, zero, suc, ◌+◌, List, [], ◌∷◌, ◌++◌, Bool, true, false, cond, None, Some, find, is_some, inl, inr, refl, sym, ap, subst}
-use Rattle.jc_model.specs.Cache.{Bytes}
-use Rattle.std.specs.Option.{option_flatten, option_or}
-use Rattle.std.proofs.lemmas.Cmp.{nat_eq_equiv, nat_list_eq_equiv}
-use Rattle.std.proofs.lemmas.List.Folds.{find-append}
-use Rattle.jc_model.specs.declared.event.Op.{Op}
-use Rattle.jc_world.specs.declared.command.Command.{Command}
+use Rattle.jc_world.proofs.Common.{◌≡◌, ℕ, zero, suc, ◌+◌, Bool, true, false, cond, List, [], ◌∷◌, ◌++◌, is_some, Some, None, find, sym, refl, ap, ◌∙◌, subst, inl, inr, and_parts, and_from, nat_eq_equiv, nat_list_eq_equiv, find-append, option_or, option_flatten, Bytes, Op, Command, Shown, sweep_of, CallState, new_call, has_number, may_work, Step, Run, AllFit, is_new, is_free, may_start, fits, IsSoundWorld, looks, opening_events, BeginFits, WorldState, open_call, is_free_of}
 use Rattle.jc_world.specs.declared.command.Command.TheVariants as command
-use Rattle.jc_world.specs.declared.event.Shown.{Shown}
 use Rattle.jc_world.specs.declared.event.WorldEvent.TheVariants as event
-use Rattle.jc_world.specs.Calls.{CallState, has_number, may_work, new_call, sweep_of}
-use Rattle.jc_world.specs.World.{WorldState, is_free_of, open_call}
-use Rattle.jc_world.specs.Fits.{fits, is_new, is_free, may_start}
-use Rattle.jc_world.specs.Events.{AllFit, Run, Step}
-use Rattle.jc_world.specs.Sound.{IsSoundWorld}
-use Rattle.jc_world.specs.Together.{looks, opening_events, BeginFits}
-use Rattle.std.proofs.lemmas.Bool.{and_from, and_parts}
 use Rattle.jc_world.proofs.Fitting.{fits_then, looks_begun, new_free, new_under, one_fits}
 
 opening : (w : WorldState) → IsSoundWorld w → (call session : ℕ) (command : Command) → fits w (event.Call call session command) ≡ true → AllFit w (opening_events call session command w.config.stripes)
@@ -44,10 +30,9 @@ beside_look w new call stripe seen (inr (unfit, shows, is)) = record { parts = �
 
 beside_looks : (call from count : ℕ) (w new : WorldState) (seen : List Shown) → Run w (looks call from count) seen new → Beside w new
 beside_looks call from zero w new [] run = record { parts = λ i. (run i).parts; joins = λ i. (run i).joins }
-beside_looks call from zero w new (s ∷ ss) run = absurd run
-beside_looks call from (suc count) w new [] run = absurd run
 beside_looks call from (suc count) w new (s ∷ ss) run =
     beside_then w run.0 new (beside_look w run.0 call from s run.1) (beside_looks call (from + 1) count run.0 new ss run.2)
+beside_looks call from count w new seen run = absurd run
 
 beside_opening : (w new : WorldState) (call session : ℕ) (command : Command) (seen : List Shown) → Run w (opening_events call session command w.config.stripes) seen new → Beside w new
 beside_opening w new call session command [] run = absurd run

@@ -1,40 +1,9 @@
 -- What the machine of a world does in a first and a last phase is what the definitions say.
-use Rattle.std.proofs.Common.{false, ◌≡◌, ◌&&◌, ◌∙◌, cond, ℕ, zero, suc, List, [], ◌∷◌, ◌++◌, length, drop, Option, Some, None, IsSomeAnd, is_some, true, slice_get, slice_set, refl, sym, ap, subst, append-nil}
-use Rattle.std.specs.FinMap.{get, insert, remove}
-use Rattle.jc_model.specs.Cache.{Bytes}
-use Rattle.jc_model.specs.declared.event.Change.{Change}
-use Rattle.jc_model.specs.declared.event.Event.{Event}
-use Rattle.jc_model.specs.declared.event.Op.{Op}
-use Rattle.std.proofs.lemmas.Bool.{and_parts}
-use Rattle.jc_stripe.specs.Tickets.{Ticket, ProcessClaim, JoinClaim, asks_writer, entry_seen}
-use Rattle.jc_stripe.specs.State.{State, IsOut, IsJoined}
-use Rattle.jc_stripe.specs.Refusals.{reserves}
-use Rattle.jc_stripe.specs.Phases.{MayBegin, Begins, Commits, Withdraws, PicksUp}
-use Rattle.jc_stripe.specs.declared.begun.Picked.{Picked}
+use Rattle.jc_world.proofs.Common.{◌≡◌, ℕ, zero, suc, true, false, cond, ◌&&◌, List, [], ◌∷◌, ◌++◌, length, drop, is_some, IsSomeAnd, slice_get, slice_set, Some, None, Option, sym, refl, ap, ◌∙◌, subst, append-nil, and_parts, get, insert, remove, Config, Refusal, Bytes, Change, Event, Op, Played, MayBegin, Commits, Withdraws, PicksUp, reserves, State, IsOut, IsJoined, Ticket, ProcessClaim, asks_writer, entry_seen, JoinClaim, Begun, Picked, StepDone, First, Loader, Nobody, Writer, Reservation, Over, Part, PickedUp, Progress, Shown, Stepped, puts_off, CallState, op_at, is_turn, settle, over_settled, step_of, not_over, fault_in, over_by, new_load, new_write, new_process, new_part, with_new_part, BeginsAs, Starts, RefusesAs, Happens, is_free, may_start, fits, is_due, IsHeld, IsSoundWorld, OrderedStripes, IsPhase, IsQuietPhase, Parts, join_key, Joins, WorldState, home, stripe_for, open_call, part_of, out_of, join_of}
 use Rattle.jc_stripe.specs.declared.begun.Picked.TheVariants as picked
-use Rattle.jc_stripe.specs.declared.begun.Begun.{Begun}
 use Rattle.jc_stripe.specs.declared.begun.Begun.TheVariants as begun
-use Rattle.jc_stripe.specs.declared.ticket.Reservation.{Reservation}
-use Rattle.jc_stripe.specs.declared.begun.StepDone.{StepDone}
-use Rattle.jc_stripe.specs.declared.ticket.First.{First}
-use Rattle.jc_stripe.specs.declared.ticket.First.TheVariants.{Nobody, Loader, Writer, Processor}
-use Rattle.jc_outside.specs.declared.done.Origin.TheVariants.{Played}
-use Rattle.jc_types.specs.declared.config.Config.{Config}
-use Rattle.jc_types.specs.declared.refusal.Refusal.{Refusal}
-use Rattle.jc_world.specs.Calls.{CallState, op_at, is_turn, over_settled, puts_off, settle}
-use Rattle.jc_world.specs.declared.event.Part.{Part}
-use Rattle.jc_world.specs.declared.event.Progress.{Progress}
-use Rattle.jc_world.specs.declared.event.Stepped.{Stepped}
-use Rattle.jc_world.specs.declared.event.PickedUp.{PickedUp}
 use Rattle.jc_world.specs.declared.event.WorldEvent.TheVariants as event
-use Rattle.jc_world.specs.declared.event.Over.{Over}
-use Rattle.jc_world.specs.declared.event.Shown.{Shown}
 use Rattle.jc_world.specs.declared.event.Outcome.TheVariants as outcome
-use Rattle.jc_world.specs.World.{WorldState, Parts, home, stripe_for, open_call, part_of, Joins, join_key, join_of, out_of}
-use Rattle.jc_world.specs.Fits.{fits, is_free, may_start}
-use Rattle.jc_world.specs.Events.{fault_in, not_over, over_by, Happens, Starts, RefusesAs, step_of, with_new_part, new_load, new_write, new_part, BeginsAs, new_process}
-use Rattle.jc_world.specs.Sound.{IsHeld, IsSoundWorld, is_due}
-use Rattle.jc_world.specs.Turns.{OrderedStripes, IsPhase, IsQuietPhase}
 use Rattle.jc_world.proofs.Numbered.{some_of}
 use Rattle.jc_world.proofs.Holding.{is_part}
 use Rattle.jc_world.proofs.Reservations.{was_free, writer_alone}
@@ -49,8 +18,7 @@ use Rattle.jc_world.proofs.Kept.{unheld, stripe_at}
 pub may_begin_at : (w : WorldState) (call : ℕ) (key : Bytes) (u : CallState) (op : Op) → fits w (event.Start call key) ≡ true → open_call w call ≡ Some u → op_at u key ≡ Some op → IsSoundWorld w → IsSomeAnd (stripe_for w key) (λ s. MayBegin s u.caller key)
 may_begin_at w call key u op fit is op_is sound =
     let s = stripe_at w key sound in
-    let P : Option State → Type 0 = λ o. IsSomeAnd o (λ s. MayBegin s u.caller key) in
-    subst P (sym s.1) (begins_at w call key u op s.0 fit is op_is s.1 sound)
+    rw s.1 (begins_at w call key u op s.0 fit is op_is s.1 sound)
 
 -- the key of a call that starts is open in it
 pub start_open : (w : WorldState) (call : ℕ) (key : Bytes) (u : CallState) → fits w (event.Start call key) ≡ true → open_call w call ≡ Some u → is_some (op_at u key) ≡ true
@@ -99,9 +67,8 @@ pub started_done : (v next : WorldState) (call : ℕ) (key : Bytes) (u : CallSta
 started_done v next call key u op number done seen met over stripes order is op_is home_is p shows stripe_is met_is over_is next_is =
     let same : met ≡ fault_in seen.reply = met_is ∙ sym (ap (λ (d : StepDone). fault_in d.reply) shows) in
     started v next call key u op number (begun.Done done) (record { outcome = outcome.Stepped seen; over = over }) stripes order is op_is home_is p (λ q.
-    let B : StepDone → Type 0 = λ d. Begins q.from u.caller key op (begun.Done d) q.to in
     let left = next_is ∙ (λ i. record v { stripes = q.stripes_are i; order = q.order_is i; calls = settle u.caller.call key (same i) v.calls }) in
-    ((subst B (sym shows) q.made, stripe_is ∙ home_is, left), tt, over_is ∙ ap (λ m. over_settled u.caller.call key m v.calls) same))
+    ((rw shows q.made, stripe_is ∙ home_is, left), tt, over_is ∙ ap (λ m. over_settled u.caller.call key m v.calls) same))
 
 -- a refused call leaves its stripe
 same_set : (xs : List State) (i : ℕ) (x y : State) → slice_get xs i ≡ Some x → y ≡ x → slice_set xs i y ≡ xs
@@ -196,9 +163,8 @@ free_load v u key op number ticket stripes order home_is p sound =
 pub free_write : (v : WorldState) (u : CallState) (key : Bytes) (op : Op) (number : ℕ) (ticket : Ticket) (stripes : List State) (order : List Event) → number ≡ home v key → Phased v number (BeginsAs u.caller key op (begun.Write ticket)) stripes order → IsSoundWorld v
     → (get v.parts key ≡ None) × (ticket.reservation.key ≡ key) × (ticket.asked ≡ false)
 free_write v u key op number ticket stripes order home_is p sound =
-    let At : ℕ → Type 0 = λ n. slice_get v.stripes n ≡ Some p.from in
     let first = ticket.reservation.first in (
-      unheld v key p.from (subst At home_is p.at)
+      unheld v key p.from (rw home_is at p.at)
           (was_free p.from u.caller key op first p.made.0 (writer_alone p.from key op first p.made.1 p.made.2) p.made.1 (writer_reserves first p.made.2)) sound,
       ap (λ (t : Ticket). t.reservation.key) p.made.3,
       ap (λ (t : Ticket). t.asked) p.made.3,
@@ -206,9 +172,7 @@ free_write v u key op number ticket stripes order home_is p sound =
   where
     writer_reserves : (first : First) → asks_writer first ≡ true → reserves first ≡ true
     writer_reserves Nobody h = cc
-    writer_reserves Loader h = refl
-    writer_reserves (Writer change) h = refl
-    writer_reserves (Processor seen loads) h = refl
+    writer_reserves first h = refl
 
 pub free_process : (v : WorldState) (u : CallState) (key : Bytes) (op : Op) (number : ℕ) (ticket : ProcessClaim) (stripes : List State) (order : List Event) → number ≡ home v key → Phased v number (BeginsAs u.caller key op (begun.Process ticket)) stripes order → IsSoundWorld v
     → (get v.parts key ≡ None) × (ticket.reservation.key ≡ key) × (ticket.asked ≡ false) × (ticket.writer_asked ≡ false)
@@ -246,9 +210,7 @@ may_end_at v call key part number is home_is sound =
     let shape = sound.shape.each (home v key) s found.1 in
     let due = ap (λ (c : Config). is_due c part) shape.config_is ∙ sound.due key part (is_part (get v.parts key) call part is) in
     let P : State → Type 0 = λ s. IsOut s part.reservation × (s.origin ≡ Played) × (is_due s.config part ≡ true) in
-    let Q : Option State → Type 0 = λ o. IsSomeAnd o P in
-    let R : ℕ → Type 0 = λ n. IsSomeAnd (slice_get v.stripes n) P in
-    subst R (sym home_is) (subst Q (sym found.1) (held.out, shape.origin_is, due))
+    rw home_is (rw found.1 (held.out, shape.origin_is, due))
 
 -- 5. A reservation that is given back.
 
@@ -297,8 +259,7 @@ withdrawn_at v next call key part number stripes parts is home_is p parts_are ne
 pub joiner_at : (v : WorldState) (call : ℕ) (key : Bytes) (join : JoinClaim) (number : ℕ) → join_of v call key ≡ Some join → number ≡ home v key → IsSoundWorld v → IsSomeAnd (slice_get v.stripes number) (λ s. IsJoined s join)
 joiner_at v call key join number is home_is sound =
     let h = join_at v call key join is sound.joins in
-    let P : ℕ → Type 0 = λ n. IsSomeAnd (slice_get v.stripes n) (λ s. IsJoined s join) in
-    subst P (ap (home v) h.1 ∙ sym home_is) h.2.out
+    rw (ap (home v) h.1 ∙ sym home_is) at h.2.out
 
 -- a pick-up of this join
 abbrev pub PicksAs : JoinClaim → Picked → State → State → Type 0

@@ -4,23 +4,8 @@
 --     stripe_at      the stripe that is read
 --     look_found, look_takes
 --                    a call whose look fits hasn't looked at that stripe, which is there, and may take its keys
-use Rattle.std.proofs.Common.{◌≡◌, ◌==◌, ◌<◌, ℕ, List, [], ◌∷◌, length, true, false, Option, None, Some, IsSomeAnd, get_or, is_none, is_some, nat_lt, slice_get, refl, sym, ap, ◌∙◌, subst}
-use Rattle.std.specs.List.{list_all}
-use Rattle.std.specs.Map.{lookup}
-use Rattle.std.specs.Cmp.Lexicographic.{pointwise}
-use Rattle.std.proofs.lemmas.Bool.{and_parts, and_from, eqb-true, not-true, ltb-true}
-use Rattle.std.proofs.lemmas.Option.{slice_get_read}
-use Rattle.jc_types.specs.Stripes.{stripe_of}
-use Rattle.jc_model.specs.Cache.{Bytes}
-use Rattle.jc_stripe.specs.Keys.{AreKeys}
-use Rattle.jc_stripe.proofs.CallerLemmas.{keys_once, keys_own}
-use Rattle.jc_stripe.specs.State.{State}
-use Rattle.jc_world.specs.Calls.{CallState, SweepState, Task, has_looked, has_number}
+use Rattle.jc_world.proofs.Common.{◌≡◌, ℕ, ◌<◌, true, false, List, [], ◌∷◌, length, get_or, is_some, is_none, IsSomeAnd, nat_lt, ◌==◌, slice_get, Some, None, Option, sym, refl, ap, ◌∙◌, subst, not-true, ltb-true, eqb-true, and_parts, and_from, slice_get_read, pointwise, list_all, lookup, stripe_of, Bytes, keys_once, keys_own, AreKeys, State, Task, SweepState, CallState, has_number, has_looked, is_to_look, may_look, fits, are_new, TakesKeys, IsStripe, Sweeps, IsSoundWorld, WorldState, open_call}
 use Rattle.jc_world.specs.declared.event.WorldEvent.TheVariants as event
-use Rattle.jc_world.specs.Fits.{fits, is_to_look, may_look}
-use Rattle.jc_world.specs.OpenCalls.{are_new, TakesKeys}
-use Rattle.jc_world.specs.World.{WorldState, open_call}
-use Rattle.jc_world.specs.Sound.{IsStripe, Sweeps, IsSoundWorld}
 use Rattle.jc_world.proofs.Shares.{fact_found, is_some_and}
 
 -- 1. The keys of a stripe belong to it.

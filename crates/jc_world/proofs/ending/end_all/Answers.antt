@@ -1,14 +1,4 @@
-use Rattle.std.proofs.Common.{◌≡◌, ◌<◌, Some, List, get_or, slice_get, slice_set, ℕ, sym, ap, ◌∙◌, subst, arith, vec_len}
-use Rattle.std.specs.FinMap.{get}
-use Rattle.jc_types.specs.declared.config.Config.{Config}
-use Rattle.jc_types.specs.Stripes.{stripe_of}
-use Rattle.jc_model.specs.Cache.{Bytes}
-use Rattle.jc_stripe.specs.State.{State, IsOut}
-use Rattle.jc_world.specs.declared.event.Part.{Part}
-use Rattle.jc_world.specs.Ending.{AreLeft, HasHeld, HasJoins}
-use Rattle.jc_world.specs.Sound.{is_due}
-use Rattle.jc_world.specs.Held.{parts_of, joins_of}
-use Rattle.jc_world.specs.World.{Parts, empty_stripe}
+use Rattle.jc_world.proofs.Common.{◌≡◌, ℕ, ◌<◌, List, get_or, slice_get, slice_set, Some, vec_len, sym, ap, ◌∙◌, subst, arith, get, stripe_of, Config, Bytes, State, IsOut, Part, AreLeft, HasHeld, HasJoins, parts_of, joins_of, is_due, Parts, empty_stripe}
 use Rattle.jc_world.proofs.Closing.{IsOver, over, left_set, ended, joins_kept, none_reserved, home_of_key, key_of}
 use Rattle.jc_world.proofs.ending.end_all.Goals as goal
 

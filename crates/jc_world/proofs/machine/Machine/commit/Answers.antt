@@ -1,14 +1,6 @@
-use Rattle.std.proofs.Common.{◌≡◌, true, IsSomeAnd, is_some, slice_get, sym, subst, ap}
-use Rattle.jc_stripe.specs.State.{IsOut}
-use Rattle.jc_outside.specs.declared.done.Origin.TheVariants.{Played}
+use Rattle.jc_world.proofs.Common.{◌≡◌, true, is_some, IsSomeAnd, slice_get, sym, ap, subst, Played, IsOut, Happens, parts_of, world_of, is_due, IsSoundWorld, OrderedStripes, WorldState}
 use Rattle.jc_world.specs.declared.event.Outcome.TheVariants as outcome
 use Rattle.jc_world.specs.declared.event.WorldEvent.TheVariants as event
-use Rattle.jc_world.specs.World.{WorldState}
-use Rattle.jc_world.specs.Events.{Happens}
-use Rattle.jc_world.specs.Sound.{is_due, IsSoundWorld}
-use Rattle.jc_world.specs.Inside.{world_of}
-use Rattle.jc_world.specs.Turns.{OrderedStripes}
-use Rattle.jc_world.specs.Held.{parts_of}
 use Rattle.jc_world.proofs.Holding.{fits_commit, may_commit}
 use Rattle.jc_world.proofs.Phased.{phased_from, CommitsAs, ended, may_end_at}
 use Rattle.jc_world.proofs.machine.Machine.commit.Goals as goal

@@ -1,12 +1,6 @@
-use Rattle.std.proofs.Common.{◌≡◌, ◌∙◌, Some, IsSomeAnd, slice_get, sym, subst}
-use Rattle.jc_stripe.specs.Keys.{AreKeys}
+use Rattle.jc_world.proofs.Common.{◌≡◌, IsSomeAnd, slice_get, Some, sym, ◌∙◌, subst, AreKeys, over_of, with_found, Happens, world_of, TakesKeys, WorldState, open_call}
 use Rattle.jc_world.specs.declared.event.Outcome.TheVariants as outcome
 use Rattle.jc_world.specs.declared.event.WorldEvent.TheVariants as event
-use Rattle.jc_world.specs.Calls.{over_of, with_found}
-use Rattle.jc_world.specs.World.{WorldState, open_call}
-use Rattle.jc_world.specs.Events.{Happens}
-use Rattle.jc_world.specs.OpenCalls.{TakesKeys}
-use Rattle.jc_world.specs.Inside.{world_of}
 use Rattle.jc_world.proofs.StripeKeys.{look_found, look_takes}
 use Rattle.jc_world.proofs.machine.Machine.look.Goals as goal
 

@@ -1,20 +1,7 @@
-use Rattle.std.proofs.Common.{◌≡◌, ℕ, Some, true, sym, subst, ap, ◌∙◌, refl}
-use Rattle.std.specs.FinMap.{get, insert, remove}
-use Rattle.jc_model.specs.Cache.{Bytes}
-use Rattle.jc_stripe.specs.Tickets.{JoinClaim}
-use Rattle.jc_stripe.specs.declared.begun.Picked.{Picked}
+use Rattle.jc_world.proofs.Common.{◌≡◌, ℕ, true, Some, sym, refl, ap, ◌∙◌, subst, get, insert, remove, Bytes, JoinClaim, Picked, PickedUp, Shown, settle, over_settled, not_over, Happens, fits, world_of, IsSoundWorld, OrderedStripes, IsQuietPhase, JoinKey, join_key, Joins, WorldState, has_joined}
 use Rattle.jc_stripe.specs.declared.begun.Picked.TheVariants as picked
-use Rattle.jc_world.specs.declared.event.PickedUp.{PickedUp}
 use Rattle.jc_world.specs.declared.event.WorldEvent.TheVariants as event
-use Rattle.jc_world.specs.declared.event.Shown.{Shown}
 use Rattle.jc_world.specs.declared.event.Outcome.TheVariants as outcome
-use Rattle.jc_world.specs.World.{WorldState, JoinKey, Joins, join_key, has_joined}
-use Rattle.jc_world.specs.Fits.{fits}
-use Rattle.jc_world.specs.Calls.{over_settled, settle}
-use Rattle.jc_world.specs.Events.{not_over, Happens}
-use Rattle.jc_world.specs.Sound.{IsSoundWorld}
-use Rattle.jc_world.specs.Inside.{world_of}
-use Rattle.jc_world.specs.Turns.{OrderedStripes, IsQuietPhase}
 use Rattle.jc_world.proofs.Maps.{joins_ordered, get-gone, insert-back}
 use Rattle.jc_world.proofs.Phased.{changed_from, PicksAs, joiner_at, picked_answer, picked_again, picked_nothing}
 use Rattle.jc_world.proofs.machine.Machine.pick_up.Goals as goal

@@ -1,23 +1,7 @@
-use Rattle.std.proofs.Common.{◌≡◌, ℕ, true, Some, cond, IsSomeAnd, slice_get, refl, sym, subst, ap, ◌∙◌, List, Option, find, option_copied}
-use Rattle.jc_types.specs.declared.caller.Caller.{Caller}
-use Rattle.jc_types.specs.Stripes.{stripe_of}
-use Rattle.std.specs.FinMap.{get, insert}
-use Rattle.jc_model.specs.declared.event.Op.{Op}
-use Rattle.jc_model.specs.Cache.{Bytes}
-use Rattle.jc_stripe.specs.Phases.{MayBegin}
-use Rattle.jc_stripe.specs.declared.begun.Begun.{Begun}
+use Rattle.jc_world.proofs.Common.{◌≡◌, ℕ, true, cond, List, IsSomeAnd, slice_get, Some, Option, find, option_copied, sym, refl, ap, ◌∙◌, subst, get, insert, stripe_of, Caller, Bytes, Op, MayBegin, Begun, Shown, WorldEvent, puts_off, CallState, has_number, op_at, settle, over_settled, not_over, new_load, new_write, new_process, new_part, BeginsAs, Happens, fits, world_of, IsSoundWorld, OrderedStripes, IsPhase, join_key, WorldState, open_call}
 use Rattle.jc_stripe.specs.declared.begun.Begun.TheVariants as begun
-use Rattle.jc_world.specs.Calls.{CallState, has_number, op_at, over_settled, puts_off, settle}
 use Rattle.jc_world.specs.declared.event.Outcome.TheVariants as outcome
-use Rattle.jc_world.specs.declared.event.Shown.{Shown}
-use Rattle.jc_world.specs.declared.event.WorldEvent.{WorldEvent}
 use Rattle.jc_world.specs.declared.event.WorldEvent.TheVariants as event
-use Rattle.jc_world.specs.World.{WorldState, join_key, open_call}
-use Rattle.jc_world.specs.Fits.{fits}
-use Rattle.jc_world.specs.Events.{not_over, new_load, new_write, new_part, BeginsAs, Happens, new_process}
-use Rattle.jc_world.specs.Sound.{IsSoundWorld}
-use Rattle.jc_world.specs.Inside.{world_of}
-use Rattle.jc_world.specs.Turns.{OrderedStripes, IsPhase}
 use Rattle.jc_world.proofs.Phased.{start_open, may_begin_at, Phased, phased_from, started_done, started_refused, started_loads, started_joins, started_asks, started_processes, free_load, free_write, free_process, free_join}
 use Rattle.jc_world.proofs.machine.Machine.start.Goals as goal
 

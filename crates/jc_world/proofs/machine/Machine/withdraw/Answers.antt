@@ -1,13 +1,6 @@
-use Rattle.std.proofs.Common.{is_some, sym, subst, ap, refl}
-use Rattle.jc_stripe.specs.Phases.{Withdraws}
+use Rattle.jc_world.proofs.Common.{is_some, sym, refl, ap, subst, Withdraws, Shown, not_over, Happens, parts_of, world_of, IsSoundWorld, WorldState}
 use Rattle.jc_world.specs.declared.event.WorldEvent.TheVariants as event
 use Rattle.jc_world.specs.declared.event.Outcome.TheVariants as outcome
-use Rattle.jc_world.specs.World.{WorldState}
-use Rattle.jc_world.specs.declared.event.Shown.{Shown}
-use Rattle.jc_world.specs.Events.{not_over, Happens}
-use Rattle.jc_world.specs.Sound.{IsSoundWorld}
-use Rattle.jc_world.specs.Inside.{world_of}
-use Rattle.jc_world.specs.Held.{parts_of}
 use Rattle.jc_world.proofs.Holding.{fits_withdrawal, may_withdraw}
 use Rattle.jc_world.proofs.Phased.{changed_from, may_withdraw_at, withdrawn_at}
 use Rattle.jc_world.proofs.machine.Machine.withdraw.Goals as goal

@@ -1,5 +1,4 @@
-use Rattle.std.proofs.Common.{◌+◌, ◌++◌, ◌∷◌, [], List, ap, ◌∙◌, arith, append_assoc}
-use Rattle.jc_world.specs.declared.event.Shown.{Shown}
+use Rattle.jc_world.proofs.Common.{◌+◌, List, [], ◌∷◌, ◌++◌, ap, ◌∙◌, append_assoc, arith, Shown}
 use Rattle.jc_world.proofs.Runs.{run-more}
 use Rattle.jc_world.proofs.Sounding.{sound_step}
 use Rattle.jc_world.proofs.world.World.play.Goals as goal
