@@ -3,8 +3,6 @@
 --     joins_phase, joins_joined, joins_picked, joins_key        by the kind of the change at a key
 --     joins_start, joins_happens       before anything has happened, and after any event that fits
 use Rattle.jc_world.proofs.Common.{◌≡◌, ℕ, ◌+◌, Bool, true, false, not, ◌&&◌, List, [], ◌∷◌, ◌++◌, is_some, is_none, IsSomeAnd, ◌==◌, slice_get, slice_set, Some, None, Ok, Option, find, sym, refl, ap, ◌∙◌, subst, eqb-true, eq-eqb, and_parts, and_from, false_from_ne_true, nat_eq_equiv, nat_list_eq_equiv, pointwise, get, insert, remove, get-empty, list_all, check, Caller, Config, Refusal, none_is, Bytes, Cache, Event, Op, Get, belongs_to, after_resolve, Waiting, Joiner, with_joiner, Withdraws, without_joiner, State, IsJoined, Ticket, ProcessClaim, JoinClaim, Reservation, Command, Outcome, Part, Premises, Shown, WorldEvent, SweepState, CallState, new_call, has_number, op_at, open_keys, is_turn, opened, settle, drop_call, with_stripe, with_phase, fault_in, with_settled, with_met_by, without_call, with_look, new_load, new_write, new_process, new_part, without_part, with_join, Starts, Ends, Picks, Happens, is_free, may_leave, fits, IsCallOf, IsWaitedFor, AllWaitedFor, IsCalled, AllCalled, IsSoundWorld, Parts, JoinKey, join_cmp, join_key, WorldState, home, stripe_for, start, open_call, of_call, part_of, join_of, is_joined}
-use Rattle.jc_world.specs.declared.event.Outcome.TheVariants as outcome
-use Rattle.jc_world.specs.declared.event.WorldEvent.TheVariants as event
 use Rattle.jc_world.proofs.Numbered.{some_of}
 use Rattle.jc_inflight.specs.Taking.{without_joiner as without}
 use Rattle.jc_world.proofs.Halves.{HasJoins, joins_half}
@@ -352,13 +350,13 @@ joins_left w call fit old = go (open_call w call) refl
 
 -- by the kind of the event
 pub joins_happens : (w new : WorldState) (e : WorldEvent) (seen : Shown) → fits w e ≡ true → Happens w e seen new → (IsReport e → IsSoundWorld new) → IsSoundWorld w → HasJoins new
-joins_happens w new (event.Call call session command) seen fit h back old = subst HasJoins (sym h.1) (joins_called w call session command old)
-joins_happens w new (event.Look call stripe) seen fit h back old = subst HasJoins (sym h.9) (joins_looked w call stripe h.6 h.1 h.0 h.2 h.3 old)
-joins_happens w new (event.Read call key) seen fit h back old = subst HasJoins (sym h.3) (joins_parted w call key h.0 _ _ w.store h.1 refl old)
-joins_happens w new (event.Say call key answer) seen fit h back old = subst HasJoins (sym h.3) (joins_parted w call key h.0 _ _ w.store h.1 refl old)
-joins_happens w new (event.Process call key source calls fail) seen fit h back old = subst HasJoins (sym h.3) (joins_parted w call key h.0 _ _ w.store h.1 refl old)
-joins_happens w new (event.Change call key) seen fit h back old = subst HasJoins (sym h.5) (joins_parted w call key h.0 _ w.premises _ h.2 refl old)
-joins_happens w new (event.Report call left fault) seen fit h back old = joins_half new (back tt)
-joins_happens w new (event.Leave call) seen fit h back old = subst HasJoins (sym h.1) (joins_left w call fit old)
-joins_happens w new (event.Foreign key value) seen fit h back old = subst HasJoins (sym h.1) (joins_stored w _ _ old)
+joins_happens w new (WorldEvent.Call call session command) seen fit h back old = subst HasJoins (sym h.1) (joins_called w call session command old)
+joins_happens w new (WorldEvent.Look call stripe) seen fit h back old = subst HasJoins (sym h.9) (joins_looked w call stripe h.6 h.1 h.0 h.2 h.3 old)
+joins_happens w new (WorldEvent.Read call key) seen fit h back old = subst HasJoins (sym h.3) (joins_parted w call key h.0 _ _ w.store h.1 refl old)
+joins_happens w new (WorldEvent.Say call key answer) seen fit h back old = subst HasJoins (sym h.3) (joins_parted w call key h.0 _ _ w.store h.1 refl old)
+joins_happens w new (WorldEvent.Process call key source calls fail) seen fit h back old = subst HasJoins (sym h.3) (joins_parted w call key h.0 _ _ w.store h.1 refl old)
+joins_happens w new (WorldEvent.Change call key) seen fit h back old = subst HasJoins (sym h.5) (joins_parted w call key h.0 _ w.premises _ h.2 refl old)
+joins_happens w new (WorldEvent.Report call left fault) seen fit h back old = joins_half new (back tt)
+joins_happens w new (WorldEvent.Leave call) seen fit h back old = subst HasJoins (sym h.1) (joins_left w call fit old)
+joins_happens w new (WorldEvent.Foreign key value) seen fit h back old = subst HasJoins (sym h.1) (joins_stored w _ _ old)
 joins_happens w new e seen fit h back old = let k = key_change w new e seen refl h in joins_key w new e k.0 seen k.1 fit old

@@ -1,11 +1,5 @@
 -- Each event keeps what the parts and the store of a world say.
-use Rattle.jc_world.proofs.Common.{◌≡◌, ℕ, zero, suc, ◌+◌, Bool, true, false, cond, ◌&&◌, List, [], ◌∷◌, ◌++◌, is_some, is_none, IsSomeAnd, slice_get, slice_set, Some, None, Ok, Option, find, sym, refl, ap, ◌∙◌, subst, and_parts, and_from, nat_list_cmp_total, beq, texts_ties, get, insert, remove, get-empty, get-insert, get-remove, eq_by_cmp, T, check, Caller, Config, same_key, get-with_entry, Bytes, Cache, entry_at, with_entry, key_cmp, nothing_said, write_only, found_in, holds, write_ask, is_write_given, entry_after, Change, Event, LoadAnswer, Op, WriteAnswer, EntryCall, callers_of, ProcessResult, Played, asks_invoking, change_due, Steps, Begins, after_commit, Commits, Withdraws, AllAsk, first_asked, reserves, State, is_key, is_reserved, new_reservation, without_key, IsOut, Ticket, ProcessClaim, asks_loader, asks_writer, asks_processor, JoinClaim, StepDone, First, Loader, Nobody, Processor, Writer, Reservation, Command, Outcome, Part, Premises, Progress, Loading, Processed, Processing, Writing, WritingEffect, Shown, WorldEvent, CallState, new_call, has_number, op_at, opened, settle, drop_call, Coherent, all_hold, with_stripe, with_phase, step_of, fault_in, without_call, new_load, new_write, new_process, new_part, with_part, without_part, Starts, Ends, Picks, after_answer, with_change, after_change, with_report, after_report, run_result, progress_after, after_process, may_leave, fits, changed_to, is_true_load, is_done, is_true_report, with_foreign_write, premises_hold, is_asked, is_due_in, IsHeld, Agrees, IsWrittenFor, LoadAgrees, ProgressAgrees, KeyAgrees, IsSoundWorld, Parts, join_key, Joins, WorldState, home, stripe_for, entry_in, cached_entry, empty_stripes, start, open_call, part_of, has_progress, waits_for_load, waits_for_process, waits_for_report, is_answered, is_untouched, has_changed, writer_change_in, writer_change, out_in, out_of, join_of, with_stored}
-use Rattle.jc_model.specs.declared.event.LoadAnswer.TheVariants as load
-use Rattle.jc_model.specs.declared.event.WriteAnswer.TheVariants as write
-use Rattle.jc_model.specs.declared.event.ProcessAnswer.TheVariants as process
-use Rattle.jc_stripe.specs.declared.begun.Begun.TheVariants as begun
-use Rattle.jc_world.specs.declared.event.Outcome.TheVariants as outcome
-use Rattle.jc_world.specs.declared.event.WorldEvent.TheVariants as event
+use Rattle.jc_world.proofs.Common.{◌≡◌, ℕ, zero, suc, ◌+◌, Bool, true, false, cond, ◌&&◌, List, [], ◌∷◌, ◌++◌, is_some, is_none, IsSomeAnd, slice_get, slice_set, Some, None, Ok, Option, find, sym, refl, ap, ◌∙◌, subst, and_parts, and_from, nat_list_cmp_total, beq, texts_ties, get, insert, remove, get-empty, get-insert, get-remove, eq_by_cmp, T, check, Caller, Config, same_key, get-with_entry, Bytes, Cache, entry_at, with_entry, key_cmp, nothing_said, write_only, found_in, holds, write_ask, is_write_given, entry_after, Change, Event, LoadAnswer, Op, ProcessAnswer, WriteAnswer, EntryCall, callers_of, ProcessResult, Played, asks_invoking, change_due, Steps, Begins, after_commit, Commits, Withdraws, AllAsk, first_asked, reserves, State, is_key, is_reserved, new_reservation, without_key, IsOut, Ticket, ProcessClaim, asks_loader, asks_writer, asks_processor, JoinClaim, Begun, StepDone, First, Loader, Nobody, Processor, Writer, Reservation, Command, Outcome, Part, Premises, Progress, Loading, Processed, Processing, Writing, WritingEffect, Shown, WorldEvent, CallState, new_call, has_number, op_at, opened, settle, drop_call, Coherent, all_hold, with_stripe, with_phase, step_of, fault_in, without_call, new_load, new_write, new_process, new_part, with_part, without_part, Starts, Ends, Picks, after_answer, with_change, after_change, with_report, after_report, run_result, progress_after, after_process, may_leave, fits, changed_to, is_true_load, is_done, is_true_report, with_foreign_write, premises_hold, is_asked, is_due_in, IsHeld, Agrees, IsWrittenFor, LoadAgrees, ProgressAgrees, KeyAgrees, IsSoundWorld, Parts, join_key, Joins, WorldState, home, stripe_for, entry_in, cached_entry, empty_stripes, start, open_call, part_of, has_progress, waits_for_load, waits_for_process, waits_for_report, is_answered, is_untouched, has_changed, writer_change_in, writer_change, out_in, out_of, join_of, with_stored}
 use Rattle.jc_world.proofs.Numbered.{some_of}
 use Rattle.jc_world.proofs.Holding.{call_on, is_part}
 use Rattle.jc_world.proofs.Halves.{HasParts}
@@ -77,7 +71,7 @@ holds_same (Some x) value h = ap Some (same_key x value (sym (texts_ties x value
 
 -- what an honest loader found is what is stored
 true_found : (answer : LoadAnswer) (stored : Option Bytes) → is_true_load answer stored ≡ true → Agrees (found_in answer) stored
-true_found (load.Found value) stored h = holds_same stored value h
+true_found (LoadAnswer.Found value) stored h = holds_same stored value h
 true_found answer stored h = tt
 
 -- tests that answer alike are the same
@@ -326,7 +320,7 @@ parts_start config fits =
     }
 
 -- a call has begun
-pub parts_called : (w : WorldState) (call session : ℕ) (command : Command) → fits w (event.Call call session command) ≡ true → IsSoundWorld w
+pub parts_called : (w : WorldState) (call session : ℕ) (command : Command) → fits w (WorldEvent.Call call session command) ≡ true → IsSoundWorld w
     → HasParts (record w { last = Some call; calls = w.calls ++ opened (new_call call session command) })
 parts_called w call session command fit old =
     let more : List CallState = opened (new_call call session command) in
@@ -354,12 +348,12 @@ parts_over w call u calls is old = record {
 }
 
 -- a step was appended
-held_stepped : (caller : Caller) (key : Bytes) (op : Op) (from next : State) (done : StepDone) (q : Bytes) (p : Part) → Begins from caller key op (begun.Done done) next → IsHeld from q p → IsHeld next q p
+held_stepped : (caller : Caller) (key : Bytes) (op : Op) (from next : State) (done : StepDone) (q : Bytes) (p : Part) → Begins from caller key op (Begun.Done done) next → IsHeld from q p → IsHeld next q p
 held_stepped caller key op from next done q p begins h =
     held_on from next q p (rw (ap (λ (s : State). s.reservations) begins.2.after) h.out) h
 
 -- and the entries that agreed with the store do so still
-agrees_begun : (caller : Caller) (key : Bytes) (op : Op) (from next : State) (done : StepDone) (q : Bytes) (stored : Option Bytes) → Begins from caller key op (begun.Done done) next
+agrees_begun : (caller : Caller) (key : Bytes) (op : Op) (from next : State) (done : StepDone) (q : Bytes) (stored : Option Bytes) → Begins from caller key op (Begun.Done done) next
     → from.config.write_through ≡ true → Agrees (entry_at from.cache q) stored → Agrees (entry_at next.cache q) stored
 agrees_begun caller key op from next done q stored begins on agrees =
     agrees_stepped from next caller key op nothing_said [] done q stored begins.2
@@ -369,7 +363,7 @@ agrees_begun caller key op from next done q stored begins on agrees =
 
 -- so the parts and the store say what they said
 parts_stepped : (w : WorldState) (call : ℕ) (u : CallState) (key : Bytes) (op : Op) (from next : State) (order : List Event) (calls : List CallState) (done : StepDone) → open_call w call ≡ Some u → stripe_for w key ≡ Some from
-    → Begins from u.caller key op (begun.Done done) next → IsSoundWorld w
+    → Begins from u.caller key op (Begun.Done done) next → IsSoundWorld w
     → HasParts (record w { stripes = slice_set w.stripes (home w key) next; order = order; calls = calls })
 parts_stepped w call u key op from next order calls done is at begins old =
     let n : WorldState = record w { stripes = slice_set w.stripes (home w key) next; order = order; calls = calls } in
@@ -450,11 +444,11 @@ parts_aside w key from next calls joins at cache reservations used old =
 -- 7. The last phase.
 
 -- a writer's report, once it is true, leaves the entry in agreement
-agrees_written : (op : Op) (entry stored : Option Bytes) (change : Change) (report : WriteAnswer) (was : Bool) → write_ask op entry process.NotAsked ≡ Some change → is_write_given report ≡ true
+agrees_written : (op : Op) (entry stored : Option Bytes) (change : Change) (report : WriteAnswer) (was : Bool) → write_ask op entry ProcessAnswer.NotAsked ≡ Some change → is_write_given report ≡ true
     → (was ≡ true → stored ≡ changed_to change) → (was ≡ false → Agrees entry stored) → is_done report ≡ was → Agrees (entry_after op entry (write_only report)) stored
-agrees_written op entry stored change write.NotAsked was asked given written unwritten honest = cc
-agrees_written op entry stored change (write.Failed code) was asked given written unwritten honest = unwritten (sym honest)
-agrees_written op entry stored change write.Done was asked given written unwritten honest =
+agrees_written op entry stored change WriteAnswer.NotAsked was asked given written unwritten honest = cc
+agrees_written op entry stored change (WriteAnswer.Failed code) was asked given written unwritten honest = unwritten (sym honest)
+agrees_written op entry stored change WriteAnswer.Done was asked given written unwritten honest =
     subst (λ o. Agrees o stored) (written (sym honest) ∙ sym (writes op entry change asked)) (agrees_same stored)
 
 -- what a commit leaves agrees with the store: a reservation still asks what it asked

@@ -1,7 +1,4 @@
-use Rattle.jc_world.proofs.Common.{◌≡◌, ℕ, true, Some, sym, refl, ap, ◌∙◌, subst, get, insert, remove, Bytes, JoinClaim, Picked, PickedUp, Shown, settle, over_settled, not_over, Happens, fits, joins_of, world_of, IsSoundWorld, OrderedStripes, IsQuietPhase, JoinKey, join_key, Joins, WorldState, join_of, has_joined}
-use Rattle.jc_stripe.specs.declared.begun.Picked.TheVariants as picked
-use Rattle.jc_world.specs.declared.event.WorldEvent.TheVariants as event
-use Rattle.jc_world.specs.declared.event.Outcome.TheVariants as outcome
+use Rattle.jc_world.proofs.Common.{◌≡◌, ℕ, true, Some, sym, refl, ap, ◌∙◌, subst, get, insert, remove, Bytes, JoinClaim, Picked, Outcome, PickedUp, Shown, WorldEvent, settle, over_settled, not_over, Happens, fits, joins_of, world_of, IsSoundWorld, OrderedStripes, IsQuietPhase, JoinKey, join_key, Joins, WorldState, join_of, has_joined}
 use Rattle.jc_world.proofs.Maps.{joins_ordered, get-gone, insert-back}
 use Rattle.jc_world.proofs.Phased.{changed_from, PicksAs, joiner_at, picked_answer, picked_again, picked_nothing, Changed, shown_as}
 use Rattle.jc_world.proofs.machine.Machine.pick_up.Goals.{After-take_join-join, After-pick_up}
@@ -36,7 +33,7 @@ restored before after next at join back there left put same own = put ∙ (λ i.
 
 pub take_join-join-requires : goal.take_join-join-requires
 take_join-join-requires c =
-    let F : WorldState → Type 0 = λ w. fits w (event.PickUp c.args.call c.args.key.now) ≡ true in
+    let F : WorldState → Type 0 = λ w. fits w (WorldEvent.PickUp c.args.call c.args.key.now) ≡ true in
     ap (λ m. has_joined m c.args.call c.args.key.now) c.in_ok-make_join_room.ensures.joins ∙ subst F (sym c.self.view_is) c.requires.fits
 
 pub pick_up-requires : goal.pick_up-requires
@@ -47,7 +44,7 @@ pick_up-requires c =
 pub put_join-requires-clause-free : goal.put_join-requires-clause-free
 put_join-requires-clause-free c =
     let at = goal.at.put_join-requires-clause-free c in
-    let p = changed at.After-pick_up (picked.NotYet c.in-NotYet.join) c.in-NotYet.is in
+    let p = changed at.After-pick_up (Picked.NotYet c.in-NotYet.join) c.in-NotYet.is in
     (λ i. get (c.take_join-join.ensures.joins i) ((ap join_key p.made.2 ∙ own at.After-take_join-join) i)) ∙ get-gone joins_ordered _ (c.args.call, c.args.key.now)
 
 -- 3. What happens.
@@ -59,10 +56,10 @@ returns-in-Answer-clause-ok c =
     let at = goal.at.returns-in-Answer-clause-ok c in
     let number = c.stripe_of-stripe.result in
     let seen : PickedUp = record { reply = c.in-Answer.reply; stripe = number; place = c.in-Answer.step; shared = c.in-Answer.shared } in
-    let p : Picked = picked.Answer seen.reply seen.place seen.shared in
+    let p : Picked = Picked.Answer seen.reply seen.place seen.shared in
     let next = world_of (record c.self.inside { stripes = c.pick_up.new.self; calls = c.settle-over.new.calls; joins = c.take_join-join.new.joins }) in
     let calls = c.settle-over.ensures.calls ∙ ap (λ m. settle c.args.call key m v.calls) c.fault_in.ensures in
-    shown_as _ v next (event.PickUp c.args.call key) _ _ c.self.view_is c.show_end.ensures
+    shown_as _ v next (WorldEvent.PickUp c.args.call key) _ _ c.self.view_is c.show_end.ensures
     (picked_answer v next c.args.call key c.take_join-join.result number seen c.settle-over.result c.pick_up.new.self.stripes (there at.After-take_join-join) c.stripe_of-stripe.ensures refl (changed at.After-pick_up p c.in-Answer.is)
     (c.settle-over.ensures.over ∙ ap (λ m. over_settled c.args.call key m v.calls) c.fault_in.ensures)
     (λ i. record v { stripes = c.pick_up.new.self.stripes; order = (ran at.After-pick_up p c.in-Answer.is).order_is i; joins = left at.After-take_join-join i; calls = calls i }))
@@ -73,9 +70,9 @@ returns-in-Again-clause-ok c =
     let key = c.args.key.now in
     let at = goal.at.returns-in-Again-clause-ok c in
     let next = world_of (record c.self.inside { stripes = c.pick_up.new.self; joins = c.take_join-join.new.joins }) in
-    shown_as _ v next (event.PickUp c.args.call key) _ _ c.self.view_is c.show.ensures
-    (picked_again v next c.args.call key c.take_join-join.result c.stripe_of-stripe.result c.pick_up.new.self.stripes (there at.After-take_join-join) c.stripe_of-stripe.ensures (changed at.After-pick_up picked.Again c.in-Again.is)
-    (λ i. record v { stripes = c.pick_up.new.self.stripes; order = (ran at.After-pick_up picked.Again c.in-Again.is).order_is i; joins = left at.After-take_join-join i }))
+    shown_as _ v next (WorldEvent.PickUp c.args.call key) _ _ c.self.view_is c.show.ensures
+    (picked_again v next c.args.call key c.take_join-join.result c.stripe_of-stripe.result c.pick_up.new.self.stripes (there at.After-take_join-join) c.stripe_of-stripe.ensures (changed at.After-pick_up Picked.Again c.in-Again.is)
+    (λ i. record v { stripes = c.pick_up.new.self.stripes; order = (ran at.After-pick_up Picked.Again c.in-Again.is).order_is i; joins = left at.After-take_join-join i }))
 
 pub returns-in-NotYet-clause-ok : goal.returns-in-NotYet-clause-ok
 returns-in-NotYet-clause-ok c =
@@ -83,10 +80,10 @@ returns-in-NotYet-clause-ok c =
     let key = c.args.key.now in
     let at = goal.at.returns-in-NotYet-clause-ok c in
     let back = c.in-NotYet.join in
-    let p = changed at.After-pick_up (picked.NotYet back) c.in-NotYet.is in
+    let p = changed at.After-pick_up (Picked.NotYet back) c.in-NotYet.is in
     let before = at.After-take_join-join in
     let joins = restored v.joins _ _ (c.args.call, key) c.take_join-join.result back (there before) (left before) c.put_join.ensures p.made.2 (own before) in
     let next = world_of (record c.self.inside { stripes = c.pick_up.new.self; joins = c.put_join.new.joins }) in
-    shown_as _ v next (event.PickUp c.args.call key) _ _ c.self.view_is c.show-in-NotYet.ensures
+    shown_as _ v next (WorldEvent.PickUp c.args.call key) _ _ c.self.view_is c.show-in-NotYet.ensures
     (picked_nothing v next c.args.call key c.take_join-join.result back c.stripe_of-stripe.result c.pick_up.new.self.stripes (there before) c.stripe_of-stripe.ensures p
-    (λ i. record v { stripes = c.pick_up.new.self.stripes; order = (ran at.After-pick_up (picked.NotYet back) c.in-NotYet.is).order_is i; joins = joins i }))
+    (λ i. record v { stripes = c.pick_up.new.self.stripes; order = (ran at.After-pick_up (Picked.NotYet back) c.in-NotYet.is).order_is i; joins = joins i }))
