@@ -347,6 +347,23 @@ parts_over w call u calls is old = record {
   idle = λ f. absurd (begun_before w call u is old f);
 }
 
+-- the stripe of a key is another: the parts are still held, if those of that stripe are
+held_set : (w : WorldState) (key : Bytes) (from next : State) → stripe_for w key ≡ Some from → ((q : Bytes) (p : Part) → IsHeld from q p → IsHeld next q p) → IsSoundWorld w
+    → (q : Bytes) (p : Part) → get w.parts q ≡ Some p → HeldIn (slice_get (slice_set w.stripes (home w key) next) (home w q)) q p
+held_set w key from next at on old q p e = at_stripe w.stripes (home w key) (home w q) from next (λ o x. HeldIn o q p → HeldIn x q p) at (on q p) (λ h. h) (old.held q p e)
+
+-- and what is known of a key still holds, if it does at that stripe
+told_set : (w : WorldState) (key : Bytes) (from next : State) (q : Bytes) → stripe_for w key ≡ Some from
+    → (KeyAgrees (get w.parts q) (entry_at w.store q) (entry_at from.cache q) → KeyAgrees (get w.parts q) (entry_at w.store q) (entry_at next.cache q)) → KeyAgrees (get w.parts q) (entry_at w.store q) (cached_entry w q)
+    → KeyAgrees (get w.parts q) (entry_at w.store q) (entry_in (slice_get (slice_set w.stripes (home w key) next) (home w q)) q)
+told_set w key from next q at on =
+    at_stripe w.stripes (home w key) (home w q) from next (λ o x. KeyAgrees (get w.parts q) (entry_at w.store q) (entry_in o q) → KeyAgrees (get w.parts q) (entry_at w.store q) (entry_in x q)) at on (λ h. h)
+
+-- of a stripe with the same entries it does
+told_same : (w : WorldState) (key : Bytes) (from next : State) (q : Bytes) → stripe_for w key ≡ Some from → next.cache ≡ from.cache → KeyAgrees (get w.parts q) (entry_at w.store q) (cached_entry w q)
+    → KeyAgrees (get w.parts q) (entry_at w.store q) (entry_in (slice_get (slice_set w.stripes (home w key) next) (home w q)) q)
+told_same w key from next q at cache = told_set w key from next q at (λ h. subst (λ c. KeyAgrees (get w.parts q) (entry_at w.store q) (entry_at c q)) (sym cache) h)
+
 -- a step was appended
 held_stepped : (caller : Caller) (key : Bytes) (op : Op) (from next : State) (done : StepDone) (q : Bytes) (p : Part) → Begins from caller key op (Begun.Done done) next → IsHeld from q p → IsHeld next q p
 held_stepped caller key op from next done q p begins h =
@@ -365,23 +382,14 @@ agrees_begun caller key op from next done q stored begins on agrees =
 parts_stepped : (w : WorldState) (call : ℕ) (u : CallState) (key : Bytes) (op : Op) (from next : State) (order : List Event) (calls : List CallState) (done : StepDone) → open_call w call ≡ Some u → stripe_for w key ≡ Some from
     → Begins from u.caller key op (Begun.Done done) next → IsSoundWorld w
     → HasParts (record w { stripes = slice_set w.stripes (home w key) next; order = order; calls = calls })
-parts_stepped w call u key op from next order calls done is at begins old =
-    let n : WorldState = record w { stripes = slice_set w.stripes (home w key) next; order = order; calls = calls } in
-    record {
-      held = λ q p e.
-          at_stripe w.stripes (home w key) (home w q) from next (λ o x. HeldIn o q p → HeldIn x q p) at
-          (held_stepped u.caller key op from next done q p begins)
-          (λ h. h)
-          (old.held q p e);
-      told = λ hold q.
-          let on : from.config.write_through ≡ true = ap (λ (c : Config). c.write_through) (config_at w (home w key) from at old) ∙ (and_parts w.config.write_through (premises_hold w.premises) hold).0 in
-          at_stripe w.stripes (home w key) (home w q) from next (λ o x. KeyAgrees (get w.parts q) (entry_at w.store q) (entry_in o q) → KeyAgrees (get w.parts q) (entry_at w.store q) (entry_in x q)) at
-          (told_on (get w.parts q) (entry_at w.store q) (entry_at from.cache q) (entry_at next.cache q) (agrees_begun u.caller key op from next done q (entry_at w.store q) begins on))
-          (λ h. h)
-          (old.told hold q);
-      cold = λ f. absurd (begun_before w call u is old f);
-      idle = λ f. absurd (begun_before w call u is old f);
-    }
+parts_stepped w call u key op from next order calls done is at begins old = record {
+  held = held_set w key from next at (λ q p. held_stepped u.caller key op from next done q p begins) old;
+  told = λ hold q.
+      let on : from.config.write_through ≡ true = ap (λ (c : Config). c.write_through) (config_at w (home w key) from at old) ∙ (and_parts w.config.write_through (premises_hold w.premises) hold).0 in
+      told_set w key from next q at (told_on (get w.parts q) (entry_at w.store q) (entry_at from.cache q) (entry_at next.cache q) (agrees_begun u.caller key op from next done q (entry_at w.store q) begins on)) (old.told hold q);
+  cold = λ f. absurd (begun_before w call u is old f);
+  idle = λ f. absurd (begun_before w call u is old f);
+}
 
 -- a key was reserved: its part is new, and the others are held on
 held_reserving : (from next : State) (r : Reservation) (q : Bytes) (p : Part) → next.reservations ≡ from.reservations ++ r ∷ [] → IsHeld from q p → IsHeld next q p
@@ -395,22 +403,13 @@ parts_reserving : (w : WorldState) (key : Bytes) (from next : State) (r : Reserv
     → HasParts (with_part (with_stripe w key next) key part)
 parts_reserving w key from next r part at free reservations cache one new used old =
     let n = with_part (with_stripe w key next) key part in
-    let on : AllHeld n w.parts = λ q p e.
-    at_stripe w.stripes (home w key) (home w q) from next (λ o x. HeldIn o q p → HeldIn x q p) at
-    (held_reserving from next r q p reservations)
-    (λ h. h)
-    (old.held q p e)
-    in
+    let on : AllHeld n w.parts = held_set w key from next at (λ q p. held_reserving from next r q p reservations) old in
     record {
       held = held_insert n w.parts key part on (is_some_and (stripe_for n key) (λ s. IsHeld s key part) next (stripe_put w.stripes (home w key) from next at) one);
       told = λ hold.
-          let all : AllTold n w.parts w.store = λ q.
-          at_stripe w.stripes (home w key) (home w q) from next (λ o x. KeyAgrees (get w.parts q) (entry_at w.store q) (entry_in o q) → KeyAgrees (get w.parts q) (entry_at w.store q) (entry_in x q)) at
-          (let C : Cache → Type 0 = λ c. KeyAgrees (get w.parts q) (entry_at w.store q) (entry_at c q) in λ h. subst C (sym cache) h)
-          (λ h. h)
-          (old.told hold q)
-          in
-          told_insert n w.parts w.store key part all (new (entry_at w.store key) (cached_entry n key) (rw (unheld w key from at free old) at (all key)));
+          let all : AllTold n w.parts w.store = λ q. told_same w key from next q at cache (old.told hold q) in
+          let N : Option Part → Type 0 = λ o. KeyAgrees o (entry_at w.store key) (cached_entry n key) in
+          told_insert n w.parts w.store key part all (new (entry_at w.store key) (cached_entry n key) (subst N (unheld w key from at free old) (all key)));
       cold = λ f. absurd (used f);
       idle = λ f. absurd (used f);
     }
@@ -424,22 +423,12 @@ held_new key from next p r free key_is reservations asked =
 -- a stripe is another, whose entries and reservations are the same
 parts_aside : (w : WorldState) (key : Bytes) (from next : State) (calls : List CallState) (joins : Joins) → stripe_for w key ≡ Some from → next.cache ≡ from.cache → next.reservations ≡ from.reservations → (is_none w.last ≡ true → ⊥) → IsSoundWorld w
     → HasParts (record w { stripes = slice_set w.stripes (home w key) next; calls = calls; joins = joins })
-parts_aside w key from next calls joins at cache reservations used old =
-    let n : WorldState = record w { stripes = slice_set w.stripes (home w key) next; calls = calls; joins = joins } in
-    record {
-      held = λ q p e.
-          at_stripe w.stripes (home w key) (home w q) from next (λ o x. HeldIn o q p → HeldIn x q p) at
-          (λ h. let R : List Reservation → Type 0 = λ rs. find (is_key p.reservation.key) rs ≡ Some p.reservation in held_on from next q p (subst R (sym reservations) h.out) h)
-          (λ h. h)
-          (old.held q p e);
-      told = λ hold q.
-          at_stripe w.stripes (home w key) (home w q) from next (λ o x. KeyAgrees (get w.parts q) (entry_at w.store q) (entry_in o q) → KeyAgrees (get w.parts q) (entry_at w.store q) (entry_in x q)) at
-          (let C : Cache → Type 0 = λ c. KeyAgrees (get w.parts q) (entry_at w.store q) (entry_at c q) in λ h. subst C (sym cache) h)
-          (λ h. h)
-          (old.told hold q);
-      cold = λ f. absurd (used f);
-      idle = λ f. absurd (used f);
-    }
+parts_aside w key from next calls joins at cache reservations used old = record {
+  held = held_set w key from next at (λ q p h. held_on from next q p (ap (find (is_key p.reservation.key)) reservations ∙ h.out) h) old;
+  told = λ hold q. told_same w key from next q at cache (old.told hold q);
+  cold = λ f. absurd (used f);
+  idle = λ f. absurd (used f);
+}
 
 -- 7. The last phase.
 
@@ -543,10 +532,7 @@ parts_committed w call key part from next order calls done is answered at commit
           let leaves = agrees_ended from.config r part.progress r.op r.first (entry_at from.cache key) (entry_at w.store key) asks one.asked (sym (ap (has_progress is_answered) is) ∙ answered) on due told in
           subst B (sym same) (subst S (sym (stripe_put w.stripes (home w key) from next at)) (agrees_own key part from next done (entry_at w.store key) steps leaves)))
           (λ apart.
-          at_stripe w.stripes (home w key) (home w q) from next (λ o x. KeyAgrees (get w.parts q) (entry_at w.store q) (entry_in o q) → KeyAgrees (get w.parts q) (entry_at w.store q) (entry_in x q)) at
-          (told_on (get w.parts q) (entry_at w.store q) (entry_at from.cache q) (entry_at next.cache q) (agrees_other key part from next done q (entry_at w.store q) steps apart))
-          (λ h. h)
-          (all q)));
+          told_set w key from next q at (told_on (get w.parts q) (entry_at w.store q) (entry_at from.cache q) (entry_at next.cache q) (agrees_other key part from next done q (entry_at w.store q) steps apart)) (all q)));
       cold = λ f. absurd (worn w key part there old f);
       idle = λ f. absurd (worn w key part there old f);
     }
