@@ -4,13 +4,8 @@
 --     tells_kept         it does later, if the joiners are the same or more, and the load stays out
 --     tells_committed, tells_withdrawn      it does where any load is over
 use Rattle.jc_world.proofs.Common.{◌≡◌, ℕ, ◌+◌, ◌<◌, Bool, true, false, cond, ◌&&◌, ◌||◌, List, [], ◌∷◌, ◌++◌, length, IsSomeAnd, ◌==◌, slice_get, Some, Option, find, sym, refl, ap, ◌∙◌, subst, arith, take-append_seam, eqb-true, eq-eqb, and_parts, false_from_ne_true, take-append-le, list_any-append, slice_get_within, pointwise, list_any, Caller, Bytes, after_dissolve, belongs_to, is_waiting, waits_for, with_answer, answered_from, after_resolve, JoinState, Again, Answered, Waiting, Joiner, IsReached, State, is_key, without_key, IsOut, JoinClaim, Reservation, Outcome, Over, Shown, Stepped, WorldEvent, not_over, is_fit, ends_load, IsEnd}
-use Rattle.jc_world.proofs.Shares.{still_at}
-use Rattle.jc_world.proofs.Underway.{same_bytes}
-use Rattle.jc_world.proofs.Joiners.{joiner_of, joined_front}
-use Rattle.jc_world.proofs.Reservations.{found_left}
-use Rattle.jc_world.proofs.Entries.{split}
+use Rattle.jc_world.proofs.Lemmas.{still_at, same_bytes, joiner_of, joined_front, same_number, split, found_left}
 use Rattle.jc_world.proofs.Kept.{some_map}
-use Rattle.jc_world.proofs.LoadKeys.{same_number}
 
 -- what was shown so far, each with its event
 abbrev pub Shows : Type 0

@@ -1,14 +1,10 @@
 -- Each event leads from a sound world to a sound one, and so does each run.
 use Rattle.jc_world.proofs.Common.{◌≡◌, ℕ, true, List, [], ◌∷◌, is_none, OnOk, OnErr, Some, Ok, Err, Option, Result, option_map, sym, refl, ap, ◌∙◌, subst, inl, inr, and_parts, check, Config, Refusal, WriterFailed, Bytes, entry_at, with_entry, is_load_given, WriteAnswer, StaysReached, KeepsReserved, Part, Shown, WorldEvent, CallState, open_keys, with_met_by, after_report, reported_keys, keys_reported, Happens, Step, Run, fits, start_with, read_answer, load_from, report_for, IsSoundWorld, WorldState, start, is_fresh, open_call, part_of, has_progress, waits_for_load, waits_for_report, with_stored}
-use Rattle.jc_world.proofs.Halves.{HasParts, sound}
-use Rattle.jc_world.proofs.Returns.{each_report, IsReport}
-use Rattle.jc_world.proofs.Beginning.{order_start}
-use Rattle.jc_world.proofs.Callers.{order_part, order_met, order_happens, order_opened}
+use Rattle.jc_world.proofs.Lemmas.{HasParts, sound, order_start, order_met, order_part, order_happens, order_opened, key_change, each_report, IsReport}
 use Rattle.jc_world.proofs.Joins.{joins_met, joins_parted, joins_start, joins_happens, joins_stored}
 use Rattle.jc_world.proofs.Dues.{dues_reported, dues_start, dues_happens}
 use Rattle.jc_world.proofs.Sweeps.{sweeps_met, sweeps_happens}
 use Rattle.jc_world.proofs.Kept.{parts_half, parts_processed, parts_start, parts_called, parts_answered, parts_changed, parts_reported, parts_disturbed, parts_stored, parts_left, parts_over, parts_key}
-use Rattle.jc_world.proofs.KeyChanges.{key_change}
 
 -- the writer has returned for a key
 sound_reported : (w : WorldState) (call : ℕ) (key : Bytes) (part : Part) (report : WriteAnswer) → part_of w call key ≡ Some part → waits_for_report part.progress ≡ true → IsSoundWorld w → IsSoundWorld (after_report w key part report)

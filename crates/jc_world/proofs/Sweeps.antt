@@ -2,16 +2,8 @@
 --     sweeps_left, sweep_found      what is left of a call once a key is settled, and once it has taken keys
 --     sweeps_happens                any event that fits
 use Rattle.jc_world.proofs.Common.{◌≡◌, ℕ, true, false, cond, not, ◌||◌, List, [], ◌∷◌, ◌++◌, is_some, ◌==◌, Some, None, Option, find, sym, refl, ap, ◌∙◌, subst, append-nil, eqb-true, and_parts, or_right, nat_eq_equiv, list_any-append, is_some-lookup, pointwise, list_any, list_all, lookup, option_or, stripe_of, Caller, Config, Refusal, Bytes, Op, State, JoinClaim, Command, Outcome, Part, Shown, WorldEvent, at_each, SweepState, CallState, new_call, has_number, opened, going_on, with_met, settle, has_looked, has_looked_at_each, next_sweep, with_found, look, fault_in, with_met_by, Starts, Ends, Picks, Happens, fits, Each, Sweeps, IsSoundWorld, WorldState, open_call}
-use Rattle.jc_world.proofs.Found.{lookup-found}
-use Rattle.jc_world.proofs.Looked.{each_replaced}
-use Rattle.jc_world.proofs.NewCalls.{opened_cases}
-use Rattle.jc_world.proofs.Returns.{IsReport}
-use Rattle.jc_world.proofs.Settling.{Left, going_is, each_settled}
-use Rattle.jc_world.proofs.Shares.{each_filter, each_pushed}
+use Rattle.jc_world.proofs.Lemmas.{each_pushed, each_filter, same_bytes, Left, going_is, each_settled, opened_cases, each_replaced, keys-at_each, lookup-found, KeyChange, by_nothing, by_refusal, by_step, by_reservation, by_join, by_commit, by_withdrawal, by_answer, by_retry, key_change, IsReport}
 use Rattle.jc_world.proofs.StripeKeys.{all_here}
-use Rattle.jc_world.proofs.TaskLists.{keys-at_each}
-use Rattle.jc_world.proofs.Underway.{same_bytes}
-use Rattle.jc_world.proofs.KeyChanges.{KeyChange, by_answer, by_commit, by_join, by_nothing, by_refusal, by_reservation, by_retry, by_step, by_withdrawal, key_change}
 
 -- 1. One call.
 

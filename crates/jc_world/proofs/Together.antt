@@ -4,17 +4,10 @@
 --     keeps_other     what happens at a key keeps every other key of the call
 --     fit_together    what fits at keys that differ fits one after the other
 use Rattle.jc_world.proofs.Common.{◌≡◌, ℕ, Bool, true, false, cond, not, ◌&&◌, ◌||◌, List, [], ◌∷◌, ◌++◌, map, is_some, is_none, IsSomeAnd, ◌==◌, Some, None, Option, find, sym, refl, ap, ◌∙◌, subst, inl, append-nil, eqb-true, and_parts, and_from, or_right, nat_eq_equiv, nat_list_cmp_total, nat_list_eq_equiv, IsDistinct-head, IsDistinct-tail, pointwise, get, insert, remove, get-insert, list_any, list_all, AllByRecursion, IsDistinct, Refusal, is_among, Bytes, Cache, is_load_given, Change, Op, State, JoinClaim, Outcome, Part, Premises, Shown, WorldEvent, CallState, has_number, op_at, open_keys, is_turn, settle, Starts, Ends, Picks, with_change, after_change, Happens, AllFit, is_free, may_start, may_leave, waits_at, may_report, fits, Each, IsCallOf, IsSoundWorld, at_call, key_at, AreAt, FitTogether, Parts, JoinKey, join_key, WorldState, open_call, of_call, part_of, has_progress, waits_for_load, waits_for_report, has_joined, is_joined}
-use Rattle.jc_world.proofs.Beginning.{may_start_at, may_turn, part_turn}
-use Rattle.jc_world.proofs.Callers.{picking, picking_turn}
-use Rattle.jc_world.proofs.Entries.{split}
+use Rattle.jc_world.proofs.Lemmas.{is_some_and, found_number, same_bytes, of_call-at, IsTurnOf, still_called, may_start_at, may_turn, part_turn, picking, picking_turn, split, KeyChange, by_nothing, by_refusal, by_step, by_reservation, by_join, by_commit, by_withdrawal, by_answer, by_retry, start_change, end_change, pick_change, may_of, some_of}
 use Rattle.jc_world.proofs.Fitting.{none_fit, fits_then, one_fits, still_waits, unjoined_held}
 use Rattle.jc_world.proofs.Maps.{keys_ordered, joins_ordered, get-beside, get-left, get-gone}
-use Rattle.jc_world.proofs.Numbered.{some_of}
-use Rattle.jc_world.proofs.Settling.{IsTurnOf, still_called}
-use Rattle.jc_world.proofs.Shares.{is_some_and}
 use Rattle.jc_world.proofs.Sounding.{Laws, sound_step}
-use Rattle.jc_world.proofs.Underway.{found_number, of_call-at, same_bytes}
-use Rattle.jc_world.proofs.KeyChanges.{KeyChange, by_answer, by_commit, by_join, by_nothing, by_refusal, by_reservation, by_retry, by_step, by_withdrawal, end_change, may_of, pick_change, start_change}
 
 -- 1. What fits at a key of a call.
 
