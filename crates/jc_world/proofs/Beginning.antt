@@ -3,8 +3,7 @@
 --     order_start, order_called      at the start, and once a call has begun
 --     may_start_at, begins_at        the conditions on a first phase
 --     may_turn, part_turn            a call may work at a key that it starts, and at one that it has reserved
-use Rattle.jc_world.proofs.Common.{◌≡◌, ℕ, zero, suc, ◌+◌, Bool, true, false, cond, not, ◌&&◌, ◌||◌, List, [], ◌∷◌, ◌++◌, length, is_some, is_none, IsSomeAnd, ◌==◌, slice_get, Some, None, Ok, Option, find, sym, refl, ap, ◌∙◌, subst, append-nil, add-zero, zero-add, arith, not-true, eqb-true, eq-eqb, and_parts, and_from, or_left, or_right, false_from_ne_true, nat_list_cmp_total, pointwise, get, insert, len-empty, get-insert, all_filter, is_session, check, stripe_of, Caller, Config, Bytes, Cache, key_cmp, may_come, is_of_stripe, Op, Get, belongs_to, Joiner, may_come_all, is_other_call, is_other_join, MayBegin, IsReached, State, is_of, is_key, Reservation, Command, Part, Premises, CallState, new_call, has_number, op_at, op_for, is_turn, opened, is_playable, is_new, is_free, may_start, fits, IsStripe, is_up_to, has_parked_answer, is_served_in, is_served, FitsKey, FitsCall, CallsFit, IsHeld, IsCallOf, IsOwned, AllOwned, IsCalled, AllCalled, IsSoundWorld, Parts, WorldState, home, stripe_for, empty_stripe, empty_stripes, start, is_busy, open_call, part_of, is_joined}
-use Rattle.jc_world.specs.declared.event.WorldEvent.TheVariants as event
+use Rattle.jc_world.proofs.Common.{◌≡◌, ℕ, zero, suc, ◌+◌, Bool, true, false, cond, not, ◌&&◌, ◌||◌, List, [], ◌∷◌, ◌++◌, length, is_some, is_none, IsSomeAnd, ◌==◌, slice_get, Some, None, Ok, Option, find, sym, refl, ap, ◌∙◌, subst, append-nil, add-zero, zero-add, arith, not-true, eqb-true, eq-eqb, and_parts, and_from, or_left, or_right, false_from_ne_true, nat_list_cmp_total, pointwise, get, insert, len-empty, get-insert, all_filter, is_session, check, stripe_of, Caller, Config, Bytes, Cache, key_cmp, may_come, is_of_stripe, of_stripe, Op, Get, belongs_to, Joiner, may_come_all, is_other_call, is_other_join, MayBegin, IsReached, State, is_of, is_key, Reservation, Command, Part, Premises, WorldEvent, CallState, new_call, has_number, op_at, op_for, is_turn, opened, is_playable, is_new, is_free, may_start, fits, IsStripe, is_up_to, has_parked_answer, is_served_in, is_served, FitsKey, FitsCall, CallsFit, IsHeld, IsCallOf, IsOwned, AllOwned, IsCalled, AllCalled, IsSoundWorld, Parts, WorldState, home, stripe_for, empty_stripe, empty_stripes, start, is_busy, open_call, part_of, is_joined}
 use Rattle.jc_world.proofs.Numbered.{some_of}
 use Rattle.jc_world.proofs.Halves.{HasOrder}
 use Rattle.jc_world.proofs.Shares.{found_test, shape_same, fact_found, each_map, each_test}
@@ -57,17 +56,22 @@ pub calls_same : (w n : WorldState) (calls : List CallState) → n.last ≡ w.la
 calls_same w n calls last order served fit =
     calls_all w n calls (λ u h. fits_same w n u last order (λ q op is. served u.caller q) h) fit
 
--- the store changes
-pub order_stored : (w : WorldState) (store : Cache) (premises : Premises) → IsSoundWorld w → HasOrder (record w { store = store; premises = premises })
-order_stored w store premises old =
-    let new : WorldState = record w { store = store; premises = premises } in
+-- the stripes, the order and the last number are the same: the calls fit, and each reservation is owned as before
+pub order_beside : (w : WorldState) (calls : List CallState) (parts : Parts) (store : Cache) (premises : Premises) → CallsFit (record w { calls = calls; parts = parts; store = store; premises = premises }) calls
+    → ((r : Reservation) → IsOwned w r → IsOwned (record w { calls = calls; parts = parts; store = store; premises = premises }) r) → IsSoundWorld w → HasOrder (record w { calls = calls; parts = parts; store = store; premises = premises })
+order_beside w calls parts store premises fit owned old =
+    let new : WorldState = record w { calls = calls; parts = parts; store = store; premises = premises } in
     record {
       shape = shape_same w new refl refl refl old.shape;
       order = old.order;
       numbers = old.numbers;
-      calls = calls_same w new w.calls refl refl (λ c q h. h) old.calls;
-      owned = λ n s here. each_map (IsOwned w) (IsOwned new) s.reservations (λ r h. record { part = h.part; call = h.call }) (old.owned n s here);
+      calls = fit;
+      owned = λ n s here. each_map (IsOwned w) (IsOwned new) s.reservations owned (old.owned n s here);
     }
+
+-- the store changes
+pub order_stored : (w : WorldState) (store : Cache) (premises : Premises) → IsSoundWorld w → HasOrder (record w { store = store; premises = premises })
+order_stored w store premises old = order_beside w w.calls w.parts store premises (calls_same w (record w { store = store; premises = premises }) w.calls refl refl (λ c q h. h) old.calls) (λ r h. record { part = h.part; call = h.call }) old
 
 -- a key's part stays, of the same call
 pub owned_part : (parts : Parts) (key q : Bytes) (part : Part) (call : ℕ) → IsSomeAnd (get parts q) (λ p. p.reservation.caller.call ≡ call) → (q ≡ key → part.reservation.caller.call ≡ call) → IsSomeAnd (get (insert parts key part) q) (λ p. p.reservation.caller.call ≡ call)
@@ -81,21 +85,14 @@ pub order_parted : (w : WorldState) (key : Bytes) (old part : Part) (premises : 
     → HasOrder (record w { parts = insert w.parts key part; premises = premises; store = store })
 order_parted w key old part premises store there same was =
     let new : WorldState = record w { parts = insert w.parts key part; premises = premises; store = store } in
-    record {
-      shape = shape_same w new refl refl refl was.shape;
-      order = was.order;
-      numbers = was.numbers;
-      calls = calls_same w new w.calls refl refl (λ c q h. h) was.calls;
-      owned = λ n s here. each_map (IsOwned w) (IsOwned new) s.reservations
-          (λ r h. record {
-            part = owned_part w.parts key r.key part r.caller.call h.part (λ e.
-                let found = some_of (get w.parts r.key) (λ p. p.reservation.caller.call ≡ r.caller.call) h.part in
-                let is : found.0 ≡ old = let t : Some found.0 ≡ Some old = sym found.1 ∙ ap (get w.parts) e ∙ there in cc in
-                same ∙ ap (λ (p : Part). p.reservation.caller.call) (sym is) ∙ found.2);
-            call = h.call;
-          })
-          (was.owned n s here);
-    }
+    order_beside w w.calls (insert w.parts key part) store premises (calls_same w new w.calls refl refl (λ c q h. h) was.calls)
+    (λ r h. record {
+      part = owned_part w.parts key r.key part r.caller.call h.part (λ e.
+          let found = some_of (get w.parts r.key) (λ p. p.reservation.caller.call ≡ r.caller.call) h.part in
+          let is : found.0 ≡ old = let t : Some found.0 ≡ Some old = sym found.1 ∙ ap (get w.parts) e ∙ there in cc in
+          same ∙ ap (λ (p : Part). p.reservation.caller.call) (sym is) ∙ found.2);
+      call = h.call;
+    }) was
 
 -- 2. The start.
 
@@ -190,7 +187,7 @@ order_more w call more is fit old =
     }
 
 -- a session begins a call
-pub order_called : (w : WorldState) (call session : ℕ) (command : Command) → fits w (event.Call call session command) ≡ true → IsSoundWorld w
+pub order_called : (w : WorldState) (call session : ℕ) (command : Command) → fits w (WorldEvent.Call call session command) ≡ true → IsSoundWorld w
     → HasOrder (record w { last = Some call; calls = w.calls ++ opened (new_call call session command) })
 order_called w call session command fit old =
     let u : CallState = new_call call session command in
@@ -220,7 +217,7 @@ pub record MayStart (w : WorldState) (u : CallState) (key : Bytes) (op : Op) : T
   pub alone : is_joined w u.caller.call key ≡ false
 
 -- so if a start fits
-pub may_start_at : (w : WorldState) (call : ℕ) (key : Bytes) (u : CallState) (op : Op) → fits w (event.Start call key) ≡ true → open_call w call ≡ Some u → op_at u key ≡ Some op → IsSoundWorld w → MayStart w u key op
+pub may_start_at : (w : WorldState) (call : ℕ) (key : Bytes) (u : CallState) (op : Op) → fits w (WorldEvent.Start call key) ≡ true → open_call w call ≡ Some u → op_at u key ≡ Some op → IsSoundWorld w → MayStart w u key op
 may_start_at w call key u op fit is op_is old =
     let tests = and_parts (is_some (op_at u key) && is_turn u key) (is_free w call key) (sym (ap (may_start w call key) is) ∙ fit) in
     let parts = and_parts (is_none (part_of w call key)) (not (is_joined w call key)) tests.1 in
@@ -315,6 +312,6 @@ begins_with w u key op from old there may =
     }
 
 -- the same, if a start fits
-pub begins_at : (w : WorldState) (call : ℕ) (key : Bytes) (u : CallState) (op : Op) (from : State) → fits w (event.Start call key) ≡ true → open_call w call ≡ Some u → op_at u key ≡ Some op → stripe_for w key ≡ Some from → IsSoundWorld w
+pub begins_at : (w : WorldState) (call : ℕ) (key : Bytes) (u : CallState) (op : Op) (from : State) → fits w (WorldEvent.Start call key) ≡ true → open_call w call ≡ Some u → op_at u key ≡ Some op → stripe_for w key ≡ Some from → IsSoundWorld w
     → MayBegin from u.caller key
 begins_at w call key u op from fit is op_is there old = begins_with w u key op from old there (may_start_at w call key u op fit is op_is old)

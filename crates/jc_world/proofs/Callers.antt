@@ -2,11 +2,7 @@
 --     order_key                       after each kind of change at a key
 --     order_happens, order_opened     after any event that fits, and after an entry of the store's opening
 --     order_is, has_shares            the order is one legal history over all stripes, and each stripe's history is its part of it
-use Rattle.jc_world.proofs.Common.{◌≡◌, ℕ, zero, suc, ◌+◌, ◌%◌, ◌<◌, Bool, true, false, cond, not, ◌&&◌, ◌||◌, ◌⊎◌, List, [], ◌∷◌, ◌++◌, length, is_none, IsSomeAnd, nat_lt, ◌==◌, slice_get, slice_set, Some, None, sum, Option, option_map, find, sym, refl, ap, ◌∙◌, subst, inl, inr, arith, not-true, eqb-true, and_parts, false_from_ne_true, nat_list_cmp_total, nat_list_eq_equiv, eq_by_cmp_equiv, pointwise, texts_ties, empty, get, insert, remove, from_entries, get-insert, get-remove, list_all, eq_by_cmp, all_imply, Caller, Config, Refusal, empty_opens, Bytes, Cache, key_cmp, nothing_said, events_of, of_stripe, IsHistory, Event, Op, Get, Out, belongs_to, is_waiting, waits_for, callers_of, after_resolve, JoinState, Again, Answered, Waiting, Joiner, StaysReached, IsSameStripe, Extends, may_come_all, new_group, Steps, with_joiner, Begins, after_commit, Commits, Withdraws, without_joiner, PicksUp, JoinFits, IsReached, reserves, State, is_of, is_key, is_reserved, with_reservation, without_key, IsOut, Ticket, ProcessClaim, JoinClaim, Picked, StepDone, Loader, Reservation, Outcome, Part, Premises, Progress, Shown, WorldEvent, cache_in, cache_at, IsOrder, HasShares, SweepState, CallState, has_number, op_at, op_for, open_keys, is_turn, going_on, with_met, replaced, settle, with_found, with_stripe, with_phase, step_of, fault_in, with_settled, with_met_by, without_call, with_look, new_load, new_write, new_process, new_part, with_part, without_part, with_join, without_join, Starts, Ends, Picks, Happens, is_free, may_leave, fits, IsStripe, is_up_to, has_answer, has_parked_answer, is_served_in, is_served, FitsKey, FitsCall, CallsFit, Each, IsHeld, IsCallOf, IsOwned, AllOwned, IsCalled, IsSoundWorld, Parts, Joins, WorldState, home, stripe_for, open_call, part_of, out_of, join_of, is_joined, with_stored}
-use Rattle.jc_stripe.specs.declared.begun.Begun.TheVariants as begun
-use Rattle.jc_stripe.specs.declared.begun.Picked.TheVariants as picked
-use Rattle.jc_world.specs.declared.event.Outcome.TheVariants as outcome
-use Rattle.jc_world.specs.declared.event.WorldEvent.TheVariants as event
+use Rattle.jc_world.proofs.Common.{◌≡◌, ℕ, zero, suc, ◌+◌, ◌%◌, ◌<◌, Bool, true, false, cond, not, ◌&&◌, ◌||◌, ◌⊎◌, List, [], ◌∷◌, ◌++◌, length, is_none, IsSomeAnd, nat_lt, ◌==◌, slice_get, slice_set, Some, None, sum, Option, option_map, find, sym, refl, ap, ◌∙◌, subst, inl, inr, arith, not-true, eqb-true, and_parts, false_from_ne_true, nat_list_cmp_total, nat_list_eq_equiv, eq_by_cmp_equiv, pointwise, texts_ties, empty, get, insert, remove, from_entries, get-insert, get-remove, list_all, eq_by_cmp, all_imply, Caller, Config, Refusal, empty_opens, Bytes, Cache, key_cmp, nothing_said, events_of, of_stripe, IsHistory, Event, Op, Get, Out, belongs_to, is_waiting, waits_for, callers_of, after_resolve, JoinState, Again, Answered, Waiting, Joiner, StaysReached, IsSameStripe, Extends, may_come_all, new_group, Steps, with_joiner, Begins, after_commit, Commits, Withdraws, without_joiner, PicksUp, JoinFits, IsReached, reserves, State, is_of, is_key, is_reserved, with_reservation, without_key, IsOut, Ticket, ProcessClaim, JoinClaim, Begun, Picked, StepDone, Loader, Reservation, Outcome, Part, Premises, Progress, Shown, WorldEvent, cache_in, cache_at, IsOrder, HasShares, SweepState, CallState, has_number, op_at, op_for, open_keys, is_turn, going_on, with_met, replaced, settle, drop_call, with_found, with_stripe, with_phase, step_of, fault_in, with_settled, with_met_by, without_call, with_look, new_load, new_write, new_process, new_part, with_part, without_part, with_join, without_join, Starts, Ends, Picks, Happens, is_free, may_leave, fits, IsStripe, is_up_to, has_answer, has_parked_answer, is_served_in, is_served, FitsKey, FitsCall, CallsFit, Each, IsHeld, IsCallOf, IsOwned, AllOwned, IsCalled, IsSoundWorld, Parts, Joins, WorldState, home, stripe_for, open_call, part_of, out_of, join_of, is_joined, with_stored}
 use Rattle.jc_world.proofs.Numbered.{some_of}
 use Rattle.jc_inflight.specs.Taking.{without_joiner as without}
 use Rattle.jc_world.proofs.Halves.{HasOrder, order_half}
@@ -20,7 +16,7 @@ use Rattle.jc_world.proofs.Looked.{Taken, taken_of, taken_met, taken_on, calls_r
 use Rattle.jc_world.proofs.Settling.{open_now, Left, done_for, IsTurnOf, still_called, calls_settled}
 use Rattle.jc_world.proofs.LoadKeys.{key_of_load, each_fits}
 use Rattle.jc_world.proofs.Joiners.{joiner_of, unanswered, told_resolved, told_waiting, told_dissolved, told_pushed, find_kept, each_own, each_caller, each_both, join_at, joined_no_part}
-use Rattle.jc_world.proofs.Beginning.{unless, fits_left, fits_same, fits_taken, calls_same, order_stored, owned_part, order_parted, order_called, MayStart, may_start_at, may_turn, part_turn, not_own, apart_or, unserved, begins_with}
+use Rattle.jc_world.proofs.Beginning.{unless, fits_left, fits_same, fits_taken, calls_same, order_stored, owned_part, order_parted, order_called, MayStart, may_start_at, may_turn, part_turn, not_own, apart_or, unserved, begins_with, order_beside}
 use Rattle.jc_world.proofs.Facts.{same_found}
 use Rattle.jc_world.proofs.Entries.{tied}
 use Rattle.jc_world.proofs.KeyChanges.{KeyChange, by_answer, by_commit, by_join, by_nothing, by_refusal, by_reservation, by_retry, by_step, by_withdrawal, key_change, may_of}
@@ -42,38 +38,27 @@ call_kept w call key met r other turn h = still_called call key met r.caller.cal
 -- a first phase was refused, and the key has its last refusal
 order_refused : (w : WorldState) (u : CallState) (key : Bytes) (op : Op) (met : Option Refusal) → MayStart w u key op → IsSoundWorld w → HasOrder (with_settled w u.caller.call key met)
 order_refused w u key op met may old =
-    let new : WorldState = with_settled w u.caller.call key met in
-    record {
-      shape = shape_same w new refl refl refl old.shape;
-      order = old.order;
-      numbers = old.numbers;
-      calls = calls_settled w new u.caller.call key met (IsFound w) w.calls (λ x v left found h. fits_left w new u.caller.call key x v left refl refl (λ q o is k. k) h) (each_found w w.calls old.calls) old.calls;
-      owned = λ n s here. each_map (IsOwned w) (IsOwned new) s.reservations
-          (λ r h. record { part = h.part; call = call_kept w u.caller.call key met r (not_own w u.caller.call key r may.none h) (may_turn w u key op may) h })
-          (old.owned n s here);
-    }
+    let call = u.caller.call in
+    let new : WorldState = with_settled w call key met in
+    order_beside w (settle call key met w.calls) w.parts w.store w.premises
+    (calls_settled w new call key met (IsFound w) w.calls (λ x v left found h. fits_left w new call key x v left refl refl (λ q o is k. k) h) (each_found w w.calls old.calls) old.calls)
+    (λ r h. record { part = h.part; call = call_kept w call key met r (not_own w call key r may.none h) (may_turn w u key op may) h }) old
 
 -- a call leaves: no reservation is of it
 order_over : (w : WorldState) (call : ℕ) (u : CallState) → list_all (is_free w call) (open_keys u) ≡ true → open_call w call ≡ Some u → IsSoundWorld w → HasOrder (without_call w call)
 order_over w call u free is old =
     let new : WorldState = without_call w call in
-    record {
-      shape = shape_same w new refl refl refl old.shape;
-      order = old.order;
-      numbers = old.numbers;
-      calls = calls_filter w new (is_other call) (IsFound w) w.calls (λ v other found h. fits_same w new v refl refl (λ q o is k. k) h) (each_found w w.calls old.calls) old.calls;
-      owned = λ n s here. each_map (IsOwned w) (IsOwned new) s.reservations
-          (λ r h.
-          let v = some_of (open_call w r.caller.call) (IsCallOf r.caller.session r.key r.op) h.call in
-          let apart = false_from_ne_true (call == r.caller.call) (λ e.
-          let mine : r.caller.call ≡ call = sym (eqb-true call r.caller.call e) in
-          let same : v.0 ≡ u = same_found (open_call w call) v.0 u (ap (open_call w) (sym mine) ∙ v.1) is in
-          let one = open_now (is_free w call) u r.key r.op (ap (λ (x : CallState). op_at x r.key) (sym same) ∙ v.2.1) free in
-          not_own w call r.key r (and_parts (is_none (part_of w call r.key)) (not (is_joined w call r.key)) one).0 h mine refl)
-          in
-          record { part = h.part; call = rw (find_over call r.caller.call w.calls apart) h.call })
-          (old.owned n s here);
-    }
+    order_beside w (drop_call call w.calls) w.parts w.store w.premises
+    (calls_filter w new (is_other call) (IsFound w) w.calls (λ v other found h. fits_same w new v refl refl (λ q o is k. k) h) (each_found w w.calls old.calls) old.calls)
+    (λ r h.
+    let v = some_of (open_call w r.caller.call) (IsCallOf r.caller.session r.key r.op) h.call in
+    let apart = false_from_ne_true (call == r.caller.call) (λ e.
+    let mine : r.caller.call ≡ call = sym (eqb-true call r.caller.call e) in
+    let same : v.0 ≡ u = same_found (open_call w call) v.0 u (ap (open_call w) (sym mine) ∙ v.1) is in
+    let one = open_now (is_free w call) u r.key r.op (ap (λ (x : CallState). op_at x r.key) (sym same) ∙ v.2.1) free in
+    not_own w call r.key r (and_parts (is_none (part_of w call r.key)) (not (is_joined w call r.key)) one).0 h mine refl)
+    in
+    record { part = h.part; call = rw (find_over call r.caller.call w.calls apart) h.call }) old
 
 -- 2. A step.
 
@@ -189,14 +174,14 @@ same_told : (from to : State) → to.joiners ≡ from.joiners → KeepsParked fr
 same_told from to same caller key h = ap (λ js. has_parked_answer (joiner_of caller key js)) same ∙ h
 
 -- the key is settled, with its step
-order_done : StaysReached → (w : WorldState) (u : CallState) (key : Bytes) (op : Op) (met : Option Refusal) (from to : State) (done : StepDone) → stripe_for w key ≡ Some from → Begins from u.caller key op (begun.Done done) to
+order_done : StaysReached → (w : WorldState) (u : CallState) (key : Bytes) (op : Op) (met : Option Refusal) (from to : State) (done : StepDone) → stripe_for w key ≡ Some from → Begins from u.caller key op (Begun.Done done) to
     → MayStart w u key op → IsSoundWorld w → HasOrder (with_settled (with_phase w key from to) u.caller.call key met)
 unfolding goes
 order_done stays w u key op met from to done there begins may old =
     let call = u.caller.call in
     let new : WorldState = with_settled (with_phase w key from to) call key met in
     let at = old.shape.each (home w key) from there in
-    let reached = stays.begins from to u.caller key op (begun.Done done) at.reached (begins_with w u key op from old there may) begins in
+    let reached = stays.begins from to u.caller key op (Begun.Done done) at.reached (begins_with w u key op from old there may) begins in
     let g = goes from from to u.caller key op nothing_said [] done (record { config = refl; stripe = refl; origin = refl; opening = refl }) refl begins.2 in
     let one : IsPut w new call key u.caller key = record { v = u; here = may.here; session_is = refl; op = op; op_is = may.op_is; unserved = unserved w u.caller key may.alone old; over = inl (refl, refl) } in
     let kept : (rs : List Reservation) → AllOwned w rs → AllOwned new rs = λ rs. each_map (IsOwned w) (IsOwned new) rs (λ r h. record { part = h.part; call = call_kept w call key met r (not_own w call key r may.none h) (may_turn w u key op may) h }) in
@@ -495,7 +480,7 @@ again_untold (Some j) h = go j.state (same_some j.state Again h)
     go s h = refl
 
 -- a call is told to retry
-order_again : StaysReached → (w : WorldState) (call : ℕ) (key : Bytes) (join : JoinClaim) (from to : State) → join_of w call key ≡ Some join → stripe_for w key ≡ Some from → PicksUp from join picked.Again to → IsSoundWorld w
+order_again : StaysReached → (w : WorldState) (call : ℕ) (key : Bytes) (join : JoinClaim) (from to : State) → join_of w call key ≡ Some join → stripe_for w key ≡ Some from → PicksUp from join Picked.Again to → IsSoundWorld w
     → HasOrder (without_join (with_stripe w key to) call key)
 order_again stays w call key join from to joined there picks old =
     let new : WorldState = without_join (with_stripe w key to) call key in
@@ -516,7 +501,7 @@ order_again stays w call key join from to joined there picks old =
     let t : true ≡ false = sym h ∙ (λ i. is_served w (same i).caller (at i)) ∙ untold in cc) h
     in
     order_aside w key from to new.joins there (ap (λ (s : State). s.config) is) (ap (λ (s : State). s.stripe) is) (ap (λ (s : State). s.origin) is) (ap (λ (s : State). s.history) is) (ap (λ (s : State). s.reservations) is)
-    (stays.picks_up from to join picked.Again at.reached picks)
+    (stays.picks_up from to join Picked.Again at.reached picks)
     (calls_on w new (IsFound w) w.calls (λ v found h. fits_same w new v refl refl (served v found) h) (each_found w w.calls old.calls) old.calls) old
 
 -- a call leaves
@@ -539,17 +524,11 @@ order_taken : (w : WorldState) (call : ℕ) (left : CallState → Option CallSta
     → IsSoundWorld w → HasOrder (record w { calls = replaced call left w.calls })
 order_taken w call left u here taken called old =
     let new : WorldState = record w { calls = replaced call left w.calls } in
-    record {
-      shape = shape_same w new refl refl refl old.shape;
-      order = old.order;
-      numbers = old.numbers;
-      calls = calls_replaced w new call left u w.calls here (λ v goes. (taken v goes).caller_is)
-          (λ x h. fits_same w new x refl refl (λ q op is k. k) h)
-          (λ v goes h. fits_taken w new u v (taken v goes) refl refl (λ q op is k. k) h) old.calls;
-      owned = λ n s here_s. each_map (IsOwned w) (IsOwned new) s.reservations
-          (λ r h. record { part = h.part; call = called r.caller.call r.caller.session r.key r.op h.call })
-          (old.owned n s here_s);
-    }
+    order_beside w (replaced call left w.calls) w.parts w.store w.premises
+    (calls_replaced w new call left u w.calls here (λ v goes. (taken v goes).caller_is)
+    (λ x h. fits_same w new x refl refl (λ q op is k. k) h)
+    (λ v goes h. fits_taken w new u v (taken v goes) refl refl (λ q op is k. k) h) old.calls)
+    (λ r h. record { part = h.part; call = called r.caller.call r.caller.session r.key r.op h.call }) old
 
 order_looked : (w : WorldState) (call stripe : ℕ) (keys : List Bytes) (s : SweepState) (u : CallState) → open_call w call ≡ Some u → u.sweep ≡ Some s → IsSoundWorld w → HasOrder (with_look w call stripe keys s)
 order_looked w call stripe keys s u here sweeps old =
@@ -588,7 +567,7 @@ order_key stays w new e key seen (by_reservation u op from to p r start there h 
     (order_reserved w u key op from to p r there h.free (ap (λ (x : Reservation). x.caller) h.is) (ap (λ (x : Reservation). x.key) h.is) (ap (λ (x : Reservation). x.op) h.is) h.after reached may old)
 order_key stays w new e key seen (by_join u op from to join start there h is none ends) fit old =
     let may = may_of w e key u op start fit old in
-    let reached = stays.begins from to u.caller key op (begun.Joined join) (old.shape.each (home w key) from there).reached (begins_with w u key op from old there may) h in
+    let reached = stays.begins from to u.caller key op (Begun.Joined join) (old.shape.each (home w key) from there).reached (begins_with w u key op from old there may) h in
     subst HasOrder (sym is) (order_joins w key from to join there h.3 reached old)
 order_key stays w new e key seen (by_commit call part from to x e_is part_is there h home_is is shows) fit old =
     let end = ending_at w call key (fault_in x.reply) part from to (step_of x) part_is there h old in
@@ -597,20 +576,20 @@ order_key stays w new e key seen (by_commit call part from to x e_is part_is the
     subst HasOrder (sym is) (order_commit w call key (fault_in x.reply) from to old there (part_turn w call key part mine.0 mine.1 old) end reached)
 order_key stays w new e key seen (by_withdrawal call part from to e_is part_is there h is shows) fit old = subst HasOrder (sym is) (order_withdrawn stays w key part.reservation from to (part_key w call key part part_is old) there h old)
 order_key stays w new e key seen (by_answer call join from to x e_is join_is there h home_is is shows ends) fit old =
-    subst HasOrder (sym is) (order_picked stays w call key (fault_in x.reply) join from to (picked.Answer x.reply x.place x.shared) join_is there h h.3 old)
+    subst HasOrder (sym is) (order_picked stays w call key (fault_in x.reply) join from to (Picked.Answer x.reply x.place x.shared) join_is there h h.3 old)
 order_key stays w new e key seen (by_retry call join from to e_is join_is there h is shows ends) fit old = subst HasOrder (sym is) (order_again stays w call key join from to join_is there h old)
 
 -- by the kind of the event
 pub order_happens : StaysReached → (w new : WorldState) (e : WorldEvent) (seen : Shown) → fits w e ≡ true → Happens w e seen new → (IsReport e → IsSoundWorld new) → IsSoundWorld w → HasOrder new
-order_happens stays w new (event.Call call session command) seen fit h back old = subst HasOrder (sym h.1) (order_called w call session command fit old)
-order_happens stays w new (event.Look call stripe) seen fit h back old = subst HasOrder (sym h.9) (order_looked w call stripe h.6 h.1 h.0 h.2 h.3 old)
-order_happens stays w new (event.Read call key) seen fit h back old = subst HasOrder (sym h.3) (order_part w call key h.0 _ _ w.store h.1 refl old)
-order_happens stays w new (event.Say call key answer) seen fit h back old = subst HasOrder (sym h.3) (order_part w call key h.0 _ _ w.store h.1 refl old)
-order_happens stays w new (event.Process call key source calls fail) seen fit h back old = subst HasOrder (sym h.3) (order_part w call key h.0 _ _ w.store h.1 refl old)
-order_happens stays w new (event.Change call key) seen fit h back old = subst HasOrder (sym h.5) (order_part w call key h.0 _ w.premises _ h.2 refl old)
-order_happens stays w new (event.Report call left fault) seen fit h back old = order_half new (back tt)
-order_happens stays w new (event.Leave call) seen fit h back old = subst HasOrder (sym h.1) (order_left w call fit old)
-order_happens stays w new (event.Foreign key value) seen fit h back old = subst HasOrder (sym h.1) (order_stored w _ _ old)
+order_happens stays w new (WorldEvent.Call call session command) seen fit h back old = subst HasOrder (sym h.1) (order_called w call session command fit old)
+order_happens stays w new (WorldEvent.Look call stripe) seen fit h back old = subst HasOrder (sym h.9) (order_looked w call stripe h.6 h.1 h.0 h.2 h.3 old)
+order_happens stays w new (WorldEvent.Read call key) seen fit h back old = subst HasOrder (sym h.3) (order_part w call key h.0 _ _ w.store h.1 refl old)
+order_happens stays w new (WorldEvent.Say call key answer) seen fit h back old = subst HasOrder (sym h.3) (order_part w call key h.0 _ _ w.store h.1 refl old)
+order_happens stays w new (WorldEvent.Process call key source calls fail) seen fit h back old = subst HasOrder (sym h.3) (order_part w call key h.0 _ _ w.store h.1 refl old)
+order_happens stays w new (WorldEvent.Change call key) seen fit h back old = subst HasOrder (sym h.5) (order_part w call key h.0 _ w.premises _ h.2 refl old)
+order_happens stays w new (WorldEvent.Report call left fault) seen fit h back old = order_half new (back tt)
+order_happens stays w new (WorldEvent.Leave call) seen fit h back old = subst HasOrder (sym h.1) (order_left w call fit old)
+order_happens stays w new (WorldEvent.Foreign key value) seen fit h back old = subst HasOrder (sym h.1) (order_stored w _ _ old)
 order_happens stays w new e seen fit h back old = let k = key_change w new e seen refl h in order_key stays w new e k.0 seen k.1 fit old
 
 -- an entry that the store has from the start

@@ -4,12 +4,9 @@
 --     dues_reported              the writer has returned for a key
 --     dues_happens               any event that fits
 use Rattle.jc_world.proofs.Common.{◌≡◌, ℕ, true, is_some, is_none, Some, None, Option, option_map, sym, refl, ap, ◌∙◌, subst, get, insert, remove, get-empty, Caller, Config, WriterFailed, Bytes, entry_at, key_cmp, Change, Op, WriteAnswer, ProcessResult, change_due, State, JoinClaim, Reservation, Outcome, Part, Progress, Loading, Processed, Processing, Writing, WritingEffect, Shown, WorldEvent, open_keys, with_met_by, new_load, new_write, new_process, new_part, Starts, Ends, Picks, with_change, with_report, after_report, reported_keys, keys_reported, run_result, progress_after, Happens, load_from, report_for, is_due_in, is_due, AllDue, Parts, WorldState, start, part_of}
-use Rattle.jc_world.specs.declared.event.Outcome.TheVariants as outcome
-use Rattle.jc_world.specs.declared.event.WorldEvent.TheVariants as event
 use Rattle.jc_world.proofs.Holding.{is_part}
 use Rattle.jc_world.proofs.Maps.{keys_ordered, each_put, each_left}
-use Rattle.jc_world.proofs.Returns.{each_report}
-use Rattle.jc_world.proofs.KeyChanges.{KeyChange, by_answer, by_commit, by_join, by_nothing, by_refusal, by_reservation, by_retry, by_step, by_withdrawal, key_change}
+use Rattle.jc_world.proofs.Lemmas.{KeyChange, by_nothing, by_refusal, by_step, by_reservation, by_join, by_commit, by_withdrawal, by_answer, by_retry, key_change, each_report}
 
 -- 1. One part more, and one less.
 
@@ -61,20 +58,20 @@ pub dues_reported : (w : WorldState) (call : ℕ) (key : Bytes) (part : Part) (r
 dues_reported w call key part report at old = dues_insert w.config w.parts key _ old (due_report w.config part.reservation part.progress report (due_of w call key part at old))
 
 pub dues_happens : (w new : WorldState) (e : WorldEvent) (seen : Shown) → Happens w e seen new → AllDueAt w → AllDueAt new
-dues_happens w new (event.Look call stripe) seen h old = subst AllDueAt (sym h.9) old
-dues_happens w new (event.Read call key) seen h old = subst AllDueAt (sym h.3) (dues_insert w.config w.parts key _ old refl)
-dues_happens w new (event.Say call key answer) seen h old = subst AllDueAt (sym h.3) (dues_insert w.config w.parts key _ old refl)
-dues_happens w new (event.Process call key source calls fail) seen h old =
+dues_happens w new (WorldEvent.Look call stripe) seen h old = subst AllDueAt (sym h.9) old
+dues_happens w new (WorldEvent.Read call key) seen h old = subst AllDueAt (sym h.3) (dues_insert w.config w.parts key _ old refl)
+dues_happens w new (WorldEvent.Say call key answer) seen h old = subst AllDueAt (sym h.3) (dues_insert w.config w.parts key _ old refl)
+dues_happens w new (WorldEvent.Process call key source calls fail) seen h old =
     let r = h.0.reservation in
     subst AllDueAt (sym h.3) (dues_insert w.config w.parts key _ old (due_run w.config r (run_result r (load_from source (entry_at w.store key)) calls fail)))
-dues_happens w new (event.Change call key) seen h old =
+dues_happens w new (WorldEvent.Change call key) seen h old =
     subst AllDueAt (sym h.5) (dues_insert w.config w.parts key _ old (due_change w.config h.0.reservation h.0.progress (due_of w call key h.0 h.2 old)))
-dues_happens w new (event.Report call left fault) seen h old =
+dues_happens w new (WorldEvent.Report call left fault) seen h old =
     let answer = report_for h.0.kind left fault in
     subst AllDueAt (sym h.3) (each_report AllDueAt call answer (λ v key part at waits o. dues_reported v call key part (answer key) at o) (with_met_by w call (option_map WriterFailed fault)) (keys_reported (reported_keys w.parts call (open_keys h.0))) old)
-dues_happens w new (event.Call call session command) seen h old = subst AllDueAt (sym h.1) old
-dues_happens w new (event.Leave call) seen h old = subst AllDueAt (sym h.1) old
-dues_happens w new (event.Foreign key value) seen h old = subst AllDueAt (sym h.1) old
+dues_happens w new (WorldEvent.Call call session command) seen h old = subst AllDueAt (sym h.1) old
+dues_happens w new (WorldEvent.Leave call) seen h old = subst AllDueAt (sym h.1) old
+dues_happens w new (WorldEvent.Foreign key value) seen h old = subst AllDueAt (sym h.1) old
 dues_happens w new e seen h old = let k = key_change w new e seen refl h in dues_key w new e k.0 seen k.1 old
 
 -- nothing is reserved at the start

@@ -1,8 +1,5 @@
 -- What a step leaves of each entry, and what of that the store says.
-use Rattle.jc_world.proofs.Common.{◌≡◌, Bool, true, false, cond, ◌&&◌, List, is_some, is_none, ◌==◌, Some, None, Option, sym, refl, ap, ◌∙◌, subst, and_parts, nat_list_cmp_total, remove, len, get-remove, eq_by_cmp, Caller, Config, none_is, get-with_entry, Bytes, Cache, entry_at, with_entry, key_cmp, nothing_said, load_only, write_only, without_victim, without_own, loads_whole, found_in, holds, always_if, ask_if, write_ask, entry_without_fault, entry_after, Cause, Change, Delete, Write, LoadAnswer, Op, Clear, Get, GetAndPut, GetAndRemove, GetAndReplace, Invoke, LoadAll, Put, PutIfAbsent, Remove, RemoveIf, Replace, ReplaceIf, Out, least_used, overflows, victim, new_group, Steps, writer_for, first_by, first_asked, State, StepDone, Loader, Nobody, Writer, changed_to, Agrees}
-use Rattle.jc_model.specs.declared.event.LoadAnswer.TheVariants as load
-use Rattle.jc_model.specs.declared.event.WriteAnswer.TheVariants as write
-use Rattle.jc_model.specs.declared.event.ProcessAnswer.TheVariants as process
+use Rattle.jc_world.proofs.Common.{◌≡◌, Bool, true, false, cond, ◌&&◌, List, is_some, is_none, ◌==◌, Some, None, Option, sym, refl, ap, ◌∙◌, subst, and_parts, nat_list_cmp_total, remove, len, get-remove, eq_by_cmp, Caller, Config, none_is, get-with_entry, Bytes, Cache, entry_at, with_entry, key_cmp, nothing_said, load_only, write_only, without_victim, without_own, loads_whole, found_in, holds, always_if, ask_if, write_ask, entry_without_fault, entry_after, Cause, Change, Delete, Write, LoadAnswer, Op, Clear, Get, GetAndPut, GetAndRemove, GetAndReplace, Invoke, LoadAll, Put, PutIfAbsent, Remove, RemoveIf, Replace, ReplaceIf, Out, ProcessAnswer, WriteAnswer, least_used, overflows, victim, new_group, Steps, writer_for, first_by, first_asked, State, StepDone, Loader, Nobody, Writer, changed_to, Agrees}
 use Rattle.jc_world.proofs.Maps as map
 
 -- by cases on whether two keys are one
@@ -90,7 +87,7 @@ to : (asks change : Change) → Some asks ≡ Some change → changed_to asks �
 to asks change h = ap changed_to (same_some asks change h)
 
 -- if the writer did as it was asked, the operation leaves what the store then holds
-pub writes : (op : Op) (entry : Option Bytes) (change : Change) → write_ask op entry process.NotAsked ≡ Some change → entry_without_fault op entry (write_only write.Done) ≡ changed_to change
+pub writes : (op : Op) (entry : Option Bytes) (change : Change) → write_ask op entry ProcessAnswer.NotAsked ≡ Some change → entry_without_fault op entry (write_only WriteAnswer.Done) ≡ changed_to change
 writes (Put value) entry change h = to (Write value) change h
 writes (GetAndPut value) entry change h = to (Write value) change h
 writes (PutIfAbsent value) None change h = to (Write value) change h
@@ -131,27 +128,27 @@ pub loads_asked : (config : Config) (op : Op) (entry : Option Bytes) → first_a
 loads_asked config Get entry h = refl
 loads_asked config (LoadAll replace) entry h = refl
 loads_asked config Invoke entry h = cc
-loads_asked config op entry h = no_loader config.write_through (write_ask op entry process.NotAsked) _ h
+loads_asked config op entry h = no_loader config.write_through (write_ask op entry ProcessAnswer.NotAsked) _ h
 
 -- the writer is asked first for what the operation asks for
-pub writes_asked : (config : Config) (op : Op) (entry : Option Bytes) (change : Change) → first_asked config op entry ≡ Writer change → write_ask op entry process.NotAsked ≡ Some change
+pub writes_asked : (config : Config) (op : Op) (entry : Option Bytes) (change : Change) → first_asked config op entry ≡ Writer change → write_ask op entry ProcessAnswer.NotAsked ≡ Some change
 writes_asked config Get entry change h = no_writer _ config.write_through change _ h
 writes_asked config (LoadAll replace) entry change h = no_writer _ config.write_through change _ h
 writes_asked config Invoke entry change h = cc
-writes_asked config op entry change h = writer_is config.write_through (write_ask op entry process.NotAsked) change h
+writes_asked config op entry change h = writer_is config.write_through (write_ask op entry ProcessAnswer.NotAsked) change h
 
 -- 4. What agrees with the store still does.
 
 -- a load keeps an entry, or makes it what was found
 pub loads : (op : Op) (entry : Option Bytes) (answer : LoadAnswer) (stored : Option Bytes) → loads_whole op ≡ true → Agrees entry stored → Agrees (found_in answer) stored → Agrees (entry_after op entry (load_only answer)) stored
-loads Get entry load.NotAsked stored h kept found = kept
-loads Get entry (load.Found value) stored h kept found = found
-loads Get entry load.Nothing stored h kept found = kept
-loads Get entry (load.Failed code) stored h kept found = kept
-loads (LoadAll replace) entry load.NotAsked stored h kept found = kept
-loads (LoadAll replace) entry (load.Found value) stored h kept found = found
-loads (LoadAll replace) entry load.Nothing stored h kept found = kept
-loads (LoadAll replace) entry (load.Failed code) stored h kept found = kept
+loads Get entry LoadAnswer.NotAsked stored h kept found = kept
+loads Get entry (LoadAnswer.Found value) stored h kept found = found
+loads Get entry LoadAnswer.Nothing stored h kept found = kept
+loads Get entry (LoadAnswer.Failed code) stored h kept found = kept
+loads (LoadAll replace) entry LoadAnswer.NotAsked stored h kept found = kept
+loads (LoadAll replace) entry (LoadAnswer.Found value) stored h kept found = found
+loads (LoadAll replace) entry LoadAnswer.Nothing stored h kept found = kept
+loads (LoadAll replace) entry (LoadAnswer.Failed code) stored h kept found = kept
 loads op entry answer stored h kept found = cc
 
 -- what is not written keeps the entry
@@ -160,7 +157,7 @@ keeps_if true asks entry next stored h kept = cc
 keeps_if false asks entry next stored h kept = kept
 
 -- an operation with nothing to write keeps the entry or takes it out
-keeps : (op : Op) (entry stored : Option Bytes) → write_ask op entry process.NotAsked ≡ None → Agrees entry stored → Agrees (entry_after op entry nothing_said) stored
+keeps : (op : Op) (entry stored : Option Bytes) → write_ask op entry ProcessAnswer.NotAsked ≡ None → Agrees entry stored → Agrees (entry_after op entry nothing_said) stored
 keeps (Put value) entry stored h kept = cc
 keeps (GetAndPut value) entry stored h kept = cc
 keeps (PutIfAbsent value) None stored h kept = cc
@@ -180,4 +177,4 @@ pub asks_nobody : (config : Config) (op : Op) (entry stored : Option Bytes) → 
 asks_nobody config Get entry stored on h kept = kept
 asks_nobody config (LoadAll replace) entry stored on h kept = kept
 asks_nobody config Invoke entry stored on h kept = kept
-asks_nobody config op entry stored on h kept = keeps op entry stored (unasked config.write_through (write_ask op entry process.NotAsked) h on) kept
+asks_nobody config op entry stored on h kept = keeps op entry stored (unasked config.write_through (write_ask op entry ProcessAnswer.NotAsked) h on) kept

@@ -1,8 +1,6 @@
 -- What is known of a held key whose event fits.
-use Rattle.jc_world.proofs.Common.{◌≡◌, ℕ, Bool, true, false, cond, not, ◌&&◌, IsSomeAnd, ◌==◌, Some, None, Option, sym, refl, ap, ◌∙◌, get, Bytes, is_write_given, is_key, Part, Progress, Loading, Processing, Writing, op_at, fits, IsHeld, IsCallOf, IsOwned, IsSoundWorld, WorldState, home, stripe_for, open_call, of_call, part_of, has_progress, is_answered, is_unasked, is_untouched}
-use Rattle.jc_world.specs.declared.event.WorldEvent.TheVariants as event
-use Rattle.jc_world.proofs.Numbered.{some_of}
-use Rattle.jc_world.proofs.Shares.{fact_found}
+use Rattle.jc_world.proofs.Common.{◌≡◌, ℕ, Bool, true, false, cond, not, ◌&&◌, IsSomeAnd, ◌==◌, Some, None, Option, sym, refl, ap, ◌∙◌, get, Bytes, is_write_given, is_key, Part, Progress, Loading, Processing, Writing, WorldEvent, op_at, fits, IsHeld, IsCallOf, IsOwned, IsSoundWorld, WorldState, home, stripe_for, open_call, of_call, part_of, has_progress, is_answered, is_unasked, is_untouched}
+use Rattle.jc_world.proofs.Lemmas.{fact_found, some_of}
 
 pub is_part : (o : Option Part) (call : ℕ) (part : Part) → of_call call o ≡ Some part → o ≡ Some part
 is_part None call part h = cc
@@ -29,21 +27,21 @@ untouched_open (Writing is_changed report) h = not_given is_changed (is_write_gi
 untouched_open p h = cc
 
 -- a call whose commit fits has its key, and so what is held of that is its part
-pub fits_commit : (v w : WorldState) (call : ℕ) (key : Bytes) → v ≡ w → fits w (event.Commit call key) ≡ true → (part : Part) × (part_of v call key ≡ Some part) × (get v.parts key ≡ Some part) × (has_progress is_answered (get v.parts key) ≡ true)
+pub fits_commit : (v w : WorldState) (call : ℕ) (key : Bytes) → v ≡ w → fits w (WorldEvent.Commit call key) ≡ true → (part : Part) × (part_of v call key ≡ Some part) × (get v.parts key ≡ Some part) × (has_progress is_answered (get v.parts key) ≡ true)
 fits_commit v w call key same fit =
     of_key (has_progress is_answered) (get v.parts key) call (λ h. cc) (rw same fit)
 
-pub may_commit : (v w : WorldState) (call : ℕ) (key : Bytes) (part : Part) → v ≡ w → fits w (event.Commit call key) ≡ true → get v.parts key ≡ Some part → (part_of v call key ≡ Some part) × (has_progress is_answered (Some part) ≡ true)
+pub may_commit : (v w : WorldState) (call : ℕ) (key : Bytes) (part : Part) → v ≡ w → fits w (WorldEvent.Commit call key) ≡ true → get v.parts key ≡ Some part → (part_of v call key ≡ Some part) × (has_progress is_answered (Some part) ≡ true)
 may_commit v w call key part same fit there =
     let one = fits_commit v w call key same fit in
     (one.1 ∙ sym one.2 ∙ there, ap (has_progress is_answered) (sym there) ∙ one.3)
 
 -- and so has a call that may withdraw
-pub fits_withdrawal : (v w : WorldState) (call : ℕ) (key : Bytes) → v ≡ w → fits w (event.Withdraw call key) ≡ true → (part : Part) × (part_of v call key ≡ Some part) × (get v.parts key ≡ Some part) × (has_progress is_untouched (get v.parts key) ≡ true)
+pub fits_withdrawal : (v w : WorldState) (call : ℕ) (key : Bytes) → v ≡ w → fits w (WorldEvent.Withdraw call key) ≡ true → (part : Part) × (part_of v call key ≡ Some part) × (get v.parts key ≡ Some part) × (has_progress is_untouched (get v.parts key) ≡ true)
 fits_withdrawal v w call key same fit =
     of_key (has_progress is_untouched) (get v.parts key) call (λ h. cc) (rw same fit)
 
-pub may_withdraw : (v w : WorldState) (call : ℕ) (key : Bytes) (part : Part) → v ≡ w → fits w (event.Withdraw call key) ≡ true → get v.parts key ≡ Some part → (part_of v call key ≡ Some part) × (has_progress is_unasked (Some part) ≡ true)
+pub may_withdraw : (v w : WorldState) (call : ℕ) (key : Bytes) (part : Part) → v ≡ w → fits w (WorldEvent.Withdraw call key) ≡ true → get v.parts key ≡ Some part → (part_of v call key ≡ Some part) × (has_progress is_unasked (Some part) ≡ true)
 may_withdraw v w call key part same fit there =
     let one = fits_withdrawal v w call key same fit in
     (one.1 ∙ sym one.2 ∙ there, untouched_open part.progress (ap (has_progress is_untouched) (sym there) ∙ one.3))

@@ -4,15 +4,8 @@
 --     tells_kept         it does later, if the joiners are the same or more, and the load stays out
 --     tells_committed, tells_withdrawn      it does where any load is over
 use Rattle.jc_world.proofs.Common.{◌≡◌, ℕ, ◌+◌, ◌<◌, Bool, true, false, cond, ◌&&◌, ◌||◌, List, [], ◌∷◌, ◌++◌, length, IsSomeAnd, ◌==◌, slice_get, Some, Option, find, sym, refl, ap, ◌∙◌, subst, arith, take-append_seam, eqb-true, eq-eqb, and_parts, false_from_ne_true, take-append-le, list_any-append, slice_get_within, pointwise, list_any, Caller, Bytes, after_dissolve, belongs_to, is_waiting, waits_for, with_answer, answered_from, after_resolve, JoinState, Again, Answered, Waiting, Joiner, IsReached, State, is_key, without_key, IsOut, JoinClaim, Reservation, Outcome, Over, Shown, Stepped, WorldEvent, not_over, is_fit, ends_load, IsEnd}
-use Rattle.jc_world.specs.declared.event.Outcome.TheVariants as outcome
-use Rattle.jc_world.specs.declared.event.WorldEvent.TheVariants as event
-use Rattle.jc_world.proofs.Shares.{still_at}
-use Rattle.jc_world.proofs.Underway.{same_bytes}
-use Rattle.jc_world.proofs.Joiners.{joiner_of, joined_front}
-use Rattle.jc_world.proofs.Reservations.{found_left}
-use Rattle.jc_world.proofs.Entries.{split}
+use Rattle.jc_world.proofs.Lemmas.{still_at, same_bytes, joiner_of, joined_front, same_number, split, found_left}
 use Rattle.jc_world.proofs.Kept.{some_map}
-use Rattle.jc_world.proofs.LoadKeys.{same_number}
 
 -- what was shown so far, each with its event
 abbrev pub Shows : Type 0
@@ -20,14 +13,14 @@ Shows = List (WorldEvent × Shown)
 
 -- a step that was shown, and what was over with it
 abbrev pub step_shown : Stepped → Option Over → Shown
-step_shown step over = record { outcome = outcome.Stepped step; over = over }
+step_shown step over = record { outcome = Outcome.Stepped step; over = over }
 
 -- 1. What the state of a joiner tells.
 
 abbrev pub Tells : ℕ → Shows → State → Reservation → JoinState → Type 0
 Tells number shows s r Waiting = IsOut s r × (list_any (ends_load r) shows ≡ false)
-Tells number shows s r (Answered place shared) = (at : ℕ) × (step : Stepped) × IsEnd shows r at (event.Commit r.caller.call r.key) (outcome.Stepped step) × (step.stripe ≡ number) × (step.place ≡ shared)
-Tells number shows s r Again = (at : ℕ) × IsEnd shows r at (event.Withdraw r.caller.call r.key) outcome.Withdrawn
+Tells number shows s r (Answered place shared) = (at : ℕ) × (step : Stepped) × IsEnd shows r at (WorldEvent.Commit r.caller.call r.key) (Outcome.Stepped step) × (step.stripe ≡ number) × (step.place ≡ shared)
+Tells number shows s r Again = (at : ℕ) × IsEnd shows r at (WorldEvent.Withdraw r.caller.call r.key) Outcome.Withdrawn
 
 -- of a joiner of this load
 abbrev pub TellsOf : ℕ → Shows → State → Reservation → Joiner → Type 0
@@ -153,9 +146,9 @@ load_over number shows p r from j reached over waits (load, told) =
 -- a load was committed
 pub tells_committed : (number call : ℕ) (key : Bytes) (shows : Shows) (join : JoinClaim) (p r : Reservation) (from to : State) (seen : Stepped) (end : Option Over) → IsReached from → IsOut from p → p.caller.call ≡ call → p.key ≡ key → (r.key ≡ key → seen.stripe ≡ number)
     → to.reservations ≡ without_key p.key from.reservations → to.joiners ≡ after_resolve p.number seen.place from.joiners
-    → TellsIn number shows join r from → TellsIn number (shows ++ (event.Commit call key, step_shown seen end) ∷ []) join r to
+    → TellsIn number shows join r from → TellsIn number (shows ++ (WorldEvent.Commit call key, step_shown seen end) ∷ []) join r to
 tells_committed number call key shows join p r from to seen end reached over call_is key_is stripe_is left joiners h =
-    let more : Shows = (event.Commit call key, step_shown seen end) ∷ [] in
+    let more : Shows = (WorldEvent.Commit call key, step_shown seen end) ∷ [] in
     let Q : Joiner → Type 0 = TellsOf number (shows ++ more) to r in
     subst (λ js. IsSomeAnd (joiner_of join.caller join.key js) Q) (sym joiners)
     (resolved_by (TellsOf number shows from r) Q p.number seen.place (seen.place + 1) join.caller join.key from.joiners
@@ -163,16 +156,16 @@ tells_committed number call key shows join p r from to seen end reached over cal
     let one = load_over number shows p r from j reached over waits k in
     let call_of : call ≡ r.caller.call = sym call_is ∙ ap (λ (x : Reservation). x.caller.call) one.0 in
     let key_of : key ≡ r.key = sym key_is ∙ ap (λ (x : Reservation). x.key) one.0 in
-    let E : WorldEvent → Type 0 = λ e. IsEnd (shows ++ more) r (length shows) e (outcome.Stepped seen) in
-    (k.0, (length shows, seen, subst E (λ i. event.Commit (call_of i) (key_of i)) (end_last shows r (event.Commit call key) (step_shown seen end) one.1), stripe_is (sym key_of), refl)))
+    let E : WorldEvent → Type 0 = λ e. IsEnd (shows ++ more) r (length shows) e (Outcome.Stepped seen) in
+    (k.0, (length shows, seen, subst E (λ i. WorldEvent.Commit (call_of i) (key_of i)) (end_last shows r (WorldEvent.Commit call key) (step_shown seen end) one.1), stripe_is (sym key_of), refl)))
     (λ j other k. tells_past number shows more p r from to j over left (λ apart. ap (λ b. b || false) (none_of_key r call key (step_shown seen end) (λ same. apart (same ∙ sym key_is)))) other k) h)
 
 -- a load was withdrawn
 pub tells_withdrawn : (number call : ℕ) (key : Bytes) (shows : Shows) (join : JoinClaim) (p r : Reservation) (from to : State) → IsReached from → IsOut from p → p.caller.call ≡ call → p.key ≡ key
     → to.reservations ≡ without_key p.key from.reservations → to.joiners ≡ after_dissolve p.number from.joiners
-    → TellsIn number shows join r from → TellsIn number (shows ++ (event.Withdraw call key, not_over outcome.Withdrawn) ∷ []) join r to
+    → TellsIn number shows join r from → TellsIn number (shows ++ (WorldEvent.Withdraw call key, not_over Outcome.Withdrawn) ∷ []) join r to
 tells_withdrawn number call key shows join p r from to reached over call_is key_is left joiners h =
-    let more : Shows = (event.Withdraw call key, not_over outcome.Withdrawn) ∷ [] in
+    let more : Shows = (WorldEvent.Withdraw call key, not_over Outcome.Withdrawn) ∷ [] in
     let Q : Joiner → Type 0 = TellsOf number (shows ++ more) to r in
     subst (λ js. IsSomeAnd (joiner_of join.caller join.key js) Q) (sym joiners)
     (dissolved_by (TellsOf number shows from r) Q p.number join.caller join.key from.joiners
@@ -180,6 +173,6 @@ tells_withdrawn number call key shows join p r from to reached over call_is key_
     let one = load_over number shows p r from j reached over waits k in
     let call_of : call ≡ r.caller.call = sym call_is ∙ ap (λ (x : Reservation). x.caller.call) one.0 in
     let key_of : key ≡ r.key = sym key_is ∙ ap (λ (x : Reservation). x.key) one.0 in
-    let E : WorldEvent → Type 0 = λ e. IsEnd (shows ++ more) r (length shows) e outcome.Withdrawn in
-    (k.0, (length shows, subst E (λ i. event.Withdraw (call_of i) (key_of i)) (end_last shows r (event.Withdraw call key) (not_over outcome.Withdrawn) one.1))))
-    (λ j other k. tells_past number shows more p r from to j over left (λ apart. ap (λ b. b || false) (none_of_key r call key (not_over outcome.Withdrawn) (λ same. apart (same ∙ sym key_is)))) other k) h)
+    let E : WorldEvent → Type 0 = λ e. IsEnd (shows ++ more) r (length shows) e Outcome.Withdrawn in
+    (k.0, (length shows, subst E (λ i. WorldEvent.Withdraw (call_of i) (key_of i)) (end_last shows r (WorldEvent.Withdraw call key) (not_over Outcome.Withdrawn) one.1))))
+    (λ j other k. tells_past number shows more p r from to j over left (λ apart. ap (λ b. b || false) (none_of_key r call key (not_over Outcome.Withdrawn) (λ same. apart (same ∙ sym key_is)))) other k) h)

@@ -1,23 +1,8 @@
 -- Each event keeps what the parts and the store of a world say.
-use Rattle.jc_world.proofs.Common.{◌≡◌, ℕ, zero, suc, ◌+◌, Bool, true, false, cond, ◌&&◌, List, [], ◌∷◌, ◌++◌, is_some, is_none, IsSomeAnd, slice_get, slice_set, Some, None, Ok, Option, find, sym, refl, ap, ◌∙◌, subst, and_parts, and_from, nat_list_cmp_total, beq, texts_ties, get, insert, remove, get-empty, get-insert, get-remove, eq_by_cmp, T, check, Caller, Config, same_key, get-with_entry, Bytes, Cache, entry_at, with_entry, key_cmp, nothing_said, write_only, found_in, holds, write_ask, is_write_given, entry_after, Change, Event, LoadAnswer, Op, WriteAnswer, EntryCall, callers_of, ProcessResult, Played, asks_invoking, change_due, Steps, Begins, after_commit, Commits, Withdraws, AllAsk, first_asked, reserves, State, is_key, is_reserved, new_reservation, without_key, IsOut, Ticket, ProcessClaim, asks_loader, asks_writer, asks_processor, JoinClaim, StepDone, First, Loader, Nobody, Processor, Writer, Reservation, Command, Outcome, Part, Premises, Progress, Loading, Processed, Processing, Writing, WritingEffect, Shown, WorldEvent, CallState, new_call, has_number, op_at, opened, settle, drop_call, Coherent, all_hold, with_stripe, with_phase, step_of, fault_in, without_call, new_load, new_write, new_process, new_part, with_part, without_part, Starts, Ends, Picks, after_answer, with_change, after_change, with_report, after_report, run_result, progress_after, after_process, may_leave, fits, changed_to, is_true_load, is_done, is_true_report, with_foreign_write, premises_hold, is_asked, is_due_in, IsHeld, Agrees, IsWrittenFor, LoadAgrees, ProgressAgrees, KeyAgrees, IsSoundWorld, Parts, join_key, Joins, WorldState, home, stripe_for, entry_in, cached_entry, empty_stripes, start, open_call, part_of, has_progress, waits_for_load, waits_for_process, waits_for_report, is_answered, is_untouched, has_changed, writer_change_in, writer_change, out_in, out_of, join_of, with_stored}
-use Rattle.jc_model.specs.declared.event.LoadAnswer.TheVariants as load
-use Rattle.jc_model.specs.declared.event.WriteAnswer.TheVariants as write
-use Rattle.jc_model.specs.declared.event.ProcessAnswer.TheVariants as process
-use Rattle.jc_stripe.specs.declared.begun.Begun.TheVariants as begun
-use Rattle.jc_world.specs.declared.event.Outcome.TheVariants as outcome
-use Rattle.jc_world.specs.declared.event.WorldEvent.TheVariants as event
-use Rattle.jc_world.proofs.Numbered.{some_of}
+use Rattle.jc_world.proofs.Common.{◌≡◌, ℕ, zero, suc, ◌+◌, Bool, true, false, cond, ◌&&◌, List, [], ◌∷◌, ◌++◌, is_some, is_none, IsSomeAnd, slice_get, slice_set, Some, None, Ok, Option, find, sym, refl, ap, ◌∙◌, subst, and_parts, and_from, nat_list_cmp_total, beq, texts_ties, get, insert, remove, get-empty, get-insert, get-remove, eq_by_cmp, T, check, Caller, Config, same_key, get-with_entry, Bytes, Cache, entry_at, with_entry, key_cmp, nothing_said, write_only, found_in, holds, write_ask, is_write_given, entry_after, Change, Event, LoadAnswer, Op, ProcessAnswer, WriteAnswer, EntryCall, callers_of, ProcessResult, Played, asks_invoking, change_due, Steps, Begins, after_commit, Commits, Withdraws, AllAsk, first_asked, reserves, State, is_key, is_reserved, new_reservation, without_key, IsOut, Ticket, ProcessClaim, asks_loader, asks_writer, asks_processor, JoinClaim, Begun, StepDone, First, Loader, Nobody, Processor, Writer, Reservation, Command, Outcome, Part, Premises, Progress, Loading, Processed, Processing, Writing, WritingEffect, Shown, WorldEvent, CallState, new_call, has_number, op_at, opened, settle, drop_call, Coherent, all_hold, with_stripe, with_phase, step_of, fault_in, without_call, new_load, new_write, new_process, new_part, with_part, without_part, Starts, Ends, Picks, after_answer, with_change, after_change, with_report, after_report, run_result, progress_after, after_process, may_leave, fits, changed_to, is_true_load, is_done, is_true_report, with_foreign_write, premises_hold, is_asked, is_due_in, IsHeld, Agrees, IsWrittenFor, LoadAgrees, ProgressAgrees, KeyAgrees, IsSoundWorld, Parts, join_key, Joins, WorldState, home, stripe_for, entry_in, cached_entry, empty_stripes, start, open_call, part_of, has_progress, waits_for_load, waits_for_process, waits_for_report, is_answered, is_untouched, has_changed, writer_change_in, writer_change, out_in, out_of, join_of, with_stored}
+use Rattle.jc_world.proofs.Lemmas.{denied, missing, HasParts, is_some_and, picking, at_stripe, stripe_put, home_stripe, split, tied, agrees_stepped, writes, loads_asked, writes_asked, loads, asks_nobody, found_more, out_reserved, was_free, writer_alone, new_out, found_left, processor_free, invoke_is, write_due, agrees_processed, agrees_effect, KeyChange, by_nothing, by_refusal, by_step, by_reservation, by_join, by_commit, by_withdrawal, by_answer, by_retry, some_of}
 use Rattle.jc_world.proofs.Holding.{call_on, is_part}
-use Rattle.jc_world.proofs.Halves.{HasParts}
-use Rattle.jc_world.proofs.Processors.{processor_free, invoke_is, write_due, agrees_processed, agrees_effect}
-use Rattle.jc_world.proofs.Places.{at_stripe, stripe_put, home_stripe}
-use Rattle.jc_world.proofs.Reservations.{found_more, out_reserved, was_free, writer_alone, new_out, found_left}
 use Rattle.jc_world.proofs.Maps.{keys_ordered, each_put}
-use Rattle.jc_world.proofs.Entries.{split, tied, agrees_stepped, writes, loads_asked, writes_asked, loads, asks_nobody}
-use Rattle.jc_world.proofs.Callers.{picking}
-use Rattle.jc_world.proofs.Facts.{denied, missing}
-use Rattle.jc_world.proofs.Shares.{is_some_and}
-use Rattle.jc_world.proofs.KeyChanges.{KeyChange, by_answer, by_commit, by_join, by_nothing, by_refusal, by_reservation, by_retry, by_step, by_withdrawal}
 
 -- 1. Small facts.
 
@@ -77,7 +62,7 @@ holds_same (Some x) value h = ap Some (same_key x value (sym (texts_ties x value
 
 -- what an honest loader found is what is stored
 true_found : (answer : LoadAnswer) (stored : Option Bytes) → is_true_load answer stored ≡ true → Agrees (found_in answer) stored
-true_found (load.Found value) stored h = holds_same stored value h
+true_found (LoadAnswer.Found value) stored h = holds_same stored value h
 true_found answer stored h = tt
 
 -- tests that answer alike are the same
@@ -326,7 +311,7 @@ parts_start config fits =
     }
 
 -- a call has begun
-pub parts_called : (w : WorldState) (call session : ℕ) (command : Command) → fits w (event.Call call session command) ≡ true → IsSoundWorld w
+pub parts_called : (w : WorldState) (call session : ℕ) (command : Command) → fits w (WorldEvent.Call call session command) ≡ true → IsSoundWorld w
     → HasParts (record w { last = Some call; calls = w.calls ++ opened (new_call call session command) })
 parts_called w call session command fit old =
     let more : List CallState = opened (new_call call session command) in
@@ -353,13 +338,30 @@ parts_over w call u calls is old = record {
   idle = λ f. absurd (begun_before w call u is old f);
 }
 
+-- the stripe of a key is another: the parts are still held, if those of that stripe are
+held_set : (w : WorldState) (key : Bytes) (from next : State) → stripe_for w key ≡ Some from → ((q : Bytes) (p : Part) → IsHeld from q p → IsHeld next q p) → IsSoundWorld w
+    → (q : Bytes) (p : Part) → get w.parts q ≡ Some p → HeldIn (slice_get (slice_set w.stripes (home w key) next) (home w q)) q p
+held_set w key from next at on old q p e = at_stripe w.stripes (home w key) (home w q) from next (λ o x. HeldIn o q p → HeldIn x q p) at (on q p) (λ h. h) (old.held q p e)
+
+-- and what is known of a key still holds, if it does at that stripe
+told_set : (w : WorldState) (key : Bytes) (from next : State) (q : Bytes) → stripe_for w key ≡ Some from
+    → (KeyAgrees (get w.parts q) (entry_at w.store q) (entry_at from.cache q) → KeyAgrees (get w.parts q) (entry_at w.store q) (entry_at next.cache q)) → KeyAgrees (get w.parts q) (entry_at w.store q) (cached_entry w q)
+    → KeyAgrees (get w.parts q) (entry_at w.store q) (entry_in (slice_get (slice_set w.stripes (home w key) next) (home w q)) q)
+told_set w key from next q at on =
+    at_stripe w.stripes (home w key) (home w q) from next (λ o x. KeyAgrees (get w.parts q) (entry_at w.store q) (entry_in o q) → KeyAgrees (get w.parts q) (entry_at w.store q) (entry_in x q)) at on (λ h. h)
+
+-- of a stripe with the same entries it does
+told_same : (w : WorldState) (key : Bytes) (from next : State) (q : Bytes) → stripe_for w key ≡ Some from → next.cache ≡ from.cache → KeyAgrees (get w.parts q) (entry_at w.store q) (cached_entry w q)
+    → KeyAgrees (get w.parts q) (entry_at w.store q) (entry_in (slice_get (slice_set w.stripes (home w key) next) (home w q)) q)
+told_same w key from next q at cache = told_set w key from next q at (λ h. subst (λ c. KeyAgrees (get w.parts q) (entry_at w.store q) (entry_at c q)) (sym cache) h)
+
 -- a step was appended
-held_stepped : (caller : Caller) (key : Bytes) (op : Op) (from next : State) (done : StepDone) (q : Bytes) (p : Part) → Begins from caller key op (begun.Done done) next → IsHeld from q p → IsHeld next q p
+held_stepped : (caller : Caller) (key : Bytes) (op : Op) (from next : State) (done : StepDone) (q : Bytes) (p : Part) → Begins from caller key op (Begun.Done done) next → IsHeld from q p → IsHeld next q p
 held_stepped caller key op from next done q p begins h =
     held_on from next q p (rw (ap (λ (s : State). s.reservations) begins.2.after) h.out) h
 
 -- and the entries that agreed with the store do so still
-agrees_begun : (caller : Caller) (key : Bytes) (op : Op) (from next : State) (done : StepDone) (q : Bytes) (stored : Option Bytes) → Begins from caller key op (begun.Done done) next
+agrees_begun : (caller : Caller) (key : Bytes) (op : Op) (from next : State) (done : StepDone) (q : Bytes) (stored : Option Bytes) → Begins from caller key op (Begun.Done done) next
     → from.config.write_through ≡ true → Agrees (entry_at from.cache q) stored → Agrees (entry_at next.cache q) stored
 agrees_begun caller key op from next done q stored begins on agrees =
     agrees_stepped from next caller key op nothing_said [] done q stored begins.2
@@ -369,25 +371,16 @@ agrees_begun caller key op from next done q stored begins on agrees =
 
 -- so the parts and the store say what they said
 parts_stepped : (w : WorldState) (call : ℕ) (u : CallState) (key : Bytes) (op : Op) (from next : State) (order : List Event) (calls : List CallState) (done : StepDone) → open_call w call ≡ Some u → stripe_for w key ≡ Some from
-    → Begins from u.caller key op (begun.Done done) next → IsSoundWorld w
+    → Begins from u.caller key op (Begun.Done done) next → IsSoundWorld w
     → HasParts (record w { stripes = slice_set w.stripes (home w key) next; order = order; calls = calls })
-parts_stepped w call u key op from next order calls done is at begins old =
-    let n : WorldState = record w { stripes = slice_set w.stripes (home w key) next; order = order; calls = calls } in
-    record {
-      held = λ q p e.
-          at_stripe w.stripes (home w key) (home w q) from next (λ o x. HeldIn o q p → HeldIn x q p) at
-          (held_stepped u.caller key op from next done q p begins)
-          (λ h. h)
-          (old.held q p e);
-      told = λ hold q.
-          let on : from.config.write_through ≡ true = ap (λ (c : Config). c.write_through) (config_at w (home w key) from at old) ∙ (and_parts w.config.write_through (premises_hold w.premises) hold).0 in
-          at_stripe w.stripes (home w key) (home w q) from next (λ o x. KeyAgrees (get w.parts q) (entry_at w.store q) (entry_in o q) → KeyAgrees (get w.parts q) (entry_at w.store q) (entry_in x q)) at
-          (told_on (get w.parts q) (entry_at w.store q) (entry_at from.cache q) (entry_at next.cache q) (agrees_begun u.caller key op from next done q (entry_at w.store q) begins on))
-          (λ h. h)
-          (old.told hold q);
-      cold = λ f. absurd (begun_before w call u is old f);
-      idle = λ f. absurd (begun_before w call u is old f);
-    }
+parts_stepped w call u key op from next order calls done is at begins old = record {
+  held = held_set w key from next at (λ q p. held_stepped u.caller key op from next done q p begins) old;
+  told = λ hold q.
+      let on : from.config.write_through ≡ true = ap (λ (c : Config). c.write_through) (config_at w (home w key) from at old) ∙ (and_parts w.config.write_through (premises_hold w.premises) hold).0 in
+      told_set w key from next q at (told_on (get w.parts q) (entry_at w.store q) (entry_at from.cache q) (entry_at next.cache q) (agrees_begun u.caller key op from next done q (entry_at w.store q) begins on)) (old.told hold q);
+  cold = λ f. absurd (begun_before w call u is old f);
+  idle = λ f. absurd (begun_before w call u is old f);
+}
 
 -- a key was reserved: its part is new, and the others are held on
 held_reserving : (from next : State) (r : Reservation) (q : Bytes) (p : Part) → next.reservations ≡ from.reservations ++ r ∷ [] → IsHeld from q p → IsHeld next q p
@@ -401,22 +394,13 @@ parts_reserving : (w : WorldState) (key : Bytes) (from next : State) (r : Reserv
     → HasParts (with_part (with_stripe w key next) key part)
 parts_reserving w key from next r part at free reservations cache one new used old =
     let n = with_part (with_stripe w key next) key part in
-    let on : AllHeld n w.parts = λ q p e.
-    at_stripe w.stripes (home w key) (home w q) from next (λ o x. HeldIn o q p → HeldIn x q p) at
-    (held_reserving from next r q p reservations)
-    (λ h. h)
-    (old.held q p e)
-    in
+    let on : AllHeld n w.parts = held_set w key from next at (λ q p. held_reserving from next r q p reservations) old in
     record {
       held = held_insert n w.parts key part on (is_some_and (stripe_for n key) (λ s. IsHeld s key part) next (stripe_put w.stripes (home w key) from next at) one);
       told = λ hold.
-          let all : AllTold n w.parts w.store = λ q.
-          at_stripe w.stripes (home w key) (home w q) from next (λ o x. KeyAgrees (get w.parts q) (entry_at w.store q) (entry_in o q) → KeyAgrees (get w.parts q) (entry_at w.store q) (entry_in x q)) at
-          (let C : Cache → Type 0 = λ c. KeyAgrees (get w.parts q) (entry_at w.store q) (entry_at c q) in λ h. subst C (sym cache) h)
-          (λ h. h)
-          (old.told hold q)
-          in
-          told_insert n w.parts w.store key part all (new (entry_at w.store key) (cached_entry n key) (rw (unheld w key from at free old) at (all key)));
+          let all : AllTold n w.parts w.store = λ q. told_same w key from next q at cache (old.told hold q) in
+          let N : Option Part → Type 0 = λ o. KeyAgrees o (entry_at w.store key) (cached_entry n key) in
+          told_insert n w.parts w.store key part all (new (entry_at w.store key) (cached_entry n key) (subst N (unheld w key from at free old) (all key)));
       cold = λ f. absurd (used f);
       idle = λ f. absurd (used f);
     }
@@ -430,31 +414,21 @@ held_new key from next p r free key_is reservations asked =
 -- a stripe is another, whose entries and reservations are the same
 parts_aside : (w : WorldState) (key : Bytes) (from next : State) (calls : List CallState) (joins : Joins) → stripe_for w key ≡ Some from → next.cache ≡ from.cache → next.reservations ≡ from.reservations → (is_none w.last ≡ true → ⊥) → IsSoundWorld w
     → HasParts (record w { stripes = slice_set w.stripes (home w key) next; calls = calls; joins = joins })
-parts_aside w key from next calls joins at cache reservations used old =
-    let n : WorldState = record w { stripes = slice_set w.stripes (home w key) next; calls = calls; joins = joins } in
-    record {
-      held = λ q p e.
-          at_stripe w.stripes (home w key) (home w q) from next (λ o x. HeldIn o q p → HeldIn x q p) at
-          (λ h. let R : List Reservation → Type 0 = λ rs. find (is_key p.reservation.key) rs ≡ Some p.reservation in held_on from next q p (subst R (sym reservations) h.out) h)
-          (λ h. h)
-          (old.held q p e);
-      told = λ hold q.
-          at_stripe w.stripes (home w key) (home w q) from next (λ o x. KeyAgrees (get w.parts q) (entry_at w.store q) (entry_in o q) → KeyAgrees (get w.parts q) (entry_at w.store q) (entry_in x q)) at
-          (let C : Cache → Type 0 = λ c. KeyAgrees (get w.parts q) (entry_at w.store q) (entry_at c q) in λ h. subst C (sym cache) h)
-          (λ h. h)
-          (old.told hold q);
-      cold = λ f. absurd (used f);
-      idle = λ f. absurd (used f);
-    }
+parts_aside w key from next calls joins at cache reservations used old = record {
+  held = held_set w key from next at (λ q p h. held_on from next q p (ap (find (is_key p.reservation.key)) reservations ∙ h.out) h) old;
+  told = λ hold q. told_same w key from next q at cache (old.told hold q);
+  cold = λ f. absurd (used f);
+  idle = λ f. absurd (used f);
+}
 
 -- 7. The last phase.
 
 -- a writer's report, once it is true, leaves the entry in agreement
-agrees_written : (op : Op) (entry stored : Option Bytes) (change : Change) (report : WriteAnswer) (was : Bool) → write_ask op entry process.NotAsked ≡ Some change → is_write_given report ≡ true
+agrees_written : (op : Op) (entry stored : Option Bytes) (change : Change) (report : WriteAnswer) (was : Bool) → write_ask op entry ProcessAnswer.NotAsked ≡ Some change → is_write_given report ≡ true
     → (was ≡ true → stored ≡ changed_to change) → (was ≡ false → Agrees entry stored) → is_done report ≡ was → Agrees (entry_after op entry (write_only report)) stored
-agrees_written op entry stored change write.NotAsked was asked given written unwritten honest = cc
-agrees_written op entry stored change (write.Failed code) was asked given written unwritten honest = unwritten (sym honest)
-agrees_written op entry stored change write.Done was asked given written unwritten honest =
+agrees_written op entry stored change WriteAnswer.NotAsked was asked given written unwritten honest = cc
+agrees_written op entry stored change (WriteAnswer.Failed code) was asked given written unwritten honest = unwritten (sym honest)
+agrees_written op entry stored change WriteAnswer.Done was asked given written unwritten honest =
     subst (λ o. Agrees o stored) (written (sym honest) ∙ sym (writes op entry change asked)) (agrees_same stored)
 
 -- what a commit leaves agrees with the store: a reservation still asks what it asked
@@ -549,10 +523,7 @@ parts_committed w call key part from next order calls done is answered at commit
           let leaves = agrees_ended from.config r part.progress r.op r.first (entry_at from.cache key) (entry_at w.store key) asks one.asked (sym (ap (has_progress is_answered) is) ∙ answered) on due told in
           subst B (sym same) (subst S (sym (stripe_put w.stripes (home w key) from next at)) (agrees_own key part from next done (entry_at w.store key) steps leaves)))
           (λ apart.
-          at_stripe w.stripes (home w key) (home w q) from next (λ o x. KeyAgrees (get w.parts q) (entry_at w.store q) (entry_in o q) → KeyAgrees (get w.parts q) (entry_at w.store q) (entry_in x q)) at
-          (told_on (get w.parts q) (entry_at w.store q) (entry_at from.cache q) (entry_at next.cache q) (agrees_other key part from next done q (entry_at w.store q) steps apart))
-          (λ h. h)
-          (all q)));
+          told_set w key from next q at (told_on (get w.parts q) (entry_at w.store q) (entry_at from.cache q) (entry_at next.cache q) (agrees_other key part from next done q (entry_at w.store q) steps apart)) (all q)));
       cold = λ f. absurd (worn w key part there old f);
       idle = λ f. absurd (worn w key part there old f);
     }

@@ -2,7 +2,6 @@
 --     begun_length, ended_length     a victim, a step, the steps that share its load, of at most all joiners, and an eviction of its key
 --     has_room                       an order that has room for them has it for what a phase puts down
 use Rattle.jc_world.proofs.Common.{◌≡◌, ℕ, suc, ◌+◌, ◌-◌, ◌≤◌, Bool, true, false, cond, List, [], ◌∷◌, ◌++◌, map, length, Some, None, filter, Option, ap, arith, length-append, length-map, Caller, JOINERS_MAX, STEP_PLACES, Bytes, Group, nothing_said, victim_events, evicted_events, step_event, shared_event, step_place, events_of, Cause, Op, Out, waits_for, callers_of, Joiner, new_group, Steps, Begins, after_commit, Commits, IsReached, State, Begun, StepDone, Reservation}
-use Rattle.jc_stripe.specs.declared.begun.Begun.TheVariants as begun
 
 -- at most one is evicted before a step
 victim_length : (victim : Option Bytes) → length (victim_events victim) ≤ 1
@@ -61,9 +60,9 @@ same_length old new same = let e = ap length same in record { grows = omega arit
 
 -- a first phase
 pub begun_length : (old new : State) (caller : Caller) (key : Bytes) (op : Op) (b : Begun) → Begins old caller key op b new → IsLonger old new
-begun_length old new caller key op (begun.Refused refusal) h = same_length old new (ap (λ (s : State). s.history) h.1)
-begun_length old new caller key op (begun.Done done) h = steps_length old new caller key op nothing_said [] done h.2 (omega arith)
-begun_length old new caller key op (begun.Joined join) h = same_length old new (ap (λ (s : State). s.history) h.3)
+begun_length old new caller key op (Begun.Refused refusal) h = same_length old new (ap (λ (s : State). s.history) h.1)
+begun_length old new caller key op (Begun.Done done) h = steps_length old new caller key op nothing_said [] done h.2 (omega arith)
+begun_length old new caller key op (Begun.Joined join) h = same_length old new (ap (λ (s : State). s.history) h.3)
 begun_length old new caller key op b h = same_length old new (ap (λ (s : State). s.history) h.4)
 
 -- a last phase

@@ -1,4 +1,5 @@
 pub mod Common
+pub mod Lemmas
 pub mod Facts
 pub mod Halves
 pub mod Shares

@@ -3,18 +3,10 @@
 --     total_step     each event raises that by one if it is an answer for the key, and else leaves it
 --     total_run      so a run raises it by its answers
 use Rattle.jc_world.proofs.Common.{◌≡◌, ℕ, ◌+◌, Bool, true, false, cond, ◌&&◌, List, [], ◌∷◌, ◌++◌, map, length, drop, ◌==◌, Some, None, count_by, Option, option_map, zip, sym, refl, ap, ◌∙◌, inl, inr, arith, drop-append_seam, not-true, and_parts, and_right, nat_list_cmp_total, sum_by-cons, sum_by-append, pointwise, texts_ties, get, insert, remove, get-empty, get-insert, get-remove, eq_by_cmp, Caller, Config, WriterFailed, Bytes, entry_at, key_cmp, Group, nothing_said, victim_events, evicted_events, step_event, shared_event, step_place, events_of, is_load_given, Cause, Change, Event, LoadAnswer, Op, Out, WriteAnswer, callers_of, ProcessResult, change_due, new_group, Steps, after_commit, reserves, State, JoinClaim, StepDone, Loader, Reservation, Outcome, Part, Progress, Loading, Processed, Processing, Writing, WritingEffect, Shown, WorldEvent, CallState, open_keys, step_of, with_met_by, new_load, new_write, new_process, new_part, Starts, Ends, Picks, with_change, with_report, reported_keys, keys_reported, run_result, progress_after, after_process, Happens, Step, Run, fits, start_with, is_answer, is_load, is_loaded, read_answer, load_from, report_for, IsSoundWorld, Parts, WorldState, stripe_for, part_of, has_progress, waits_for_load, waits_for_process, is_untouched, out_in, out_of}
-use Rattle.jc_world.specs.declared.event.Outcome.TheVariants as outcome
-use Rattle.jc_world.specs.declared.event.WorldEvent.TheVariants as event
-use Rattle.jc_world.proofs.Shares.{added}
-use Rattle.jc_world.proofs.Reservations.{was_free, writer_alone}
-use Rattle.jc_world.proofs.Processors.{processor_free}
-use Rattle.jc_world.proofs.Callers.{part_key}
-use Rattle.jc_world.proofs.Entries.{split}
+use Rattle.jc_world.proofs.Lemmas.{added, part_key, split, was_free, writer_alone, processor_free, KeyChange, by_nothing, by_refusal, by_step, by_reservation, by_join, by_commit, by_withdrawal, by_answer, by_retry, key_change, each_report}
 use Rattle.jc_world.proofs.Kept.{unheld}
-use Rattle.jc_world.proofs.Returns.{each_report}
 use Rattle.jc_world.proofs.Sounding.{Laws, sound_step}
 use Rattle.jc_world.proofs.Holding.{is_part}
-use Rattle.jc_world.proofs.KeyChanges.{KeyChange, by_answer, by_commit, by_join, by_nothing, by_refusal, by_reservation, by_retry, by_step, by_withdrawal, key_change}
 
 -- 1. What is counted.
 
@@ -216,24 +208,24 @@ total_key w new e key seen q (by_retry call join from to e_is join_is there h is
 
 -- by the kind of the event
 total_happens : (w new : WorldState) (e : WorldEvent) (seen : Shown) (q : Bytes) → fits w e ≡ true → Happens w e seen new → IsSoundWorld w → total new q ≡ one_if (is_answer q e seen.outcome) + total w q
-total_happens w new (event.Look call stripe) seen q fit h old = unanswered false (total new q) (total w q) refl (ap (λ (x : WorldState). total x q) h.9)
-total_happens w new (event.Read call key) seen q fit h old =
+total_happens w new (WorldEvent.Look call stripe) seen q fit h old = unanswered false (total new q) (total w q) refl (ap (λ (x : WorldState). total x q) h.9)
+total_happens w new (WorldEvent.Read call key) seen q fit h old =
     ap (λ (x : WorldState). total x q) h.3 ∙ total_answered w call key q h.0 (read_answer (entry_at w.store key)) h.1 fit (read_given (entry_at w.store key))
-    ∙ ap (λ (s : Shown). one_if (is_answer q (event.Read call key) s.outcome) + total w q) (sym h.2)
-total_happens w new (event.Say call key answer) seen q fit h old =
+    ∙ ap (λ (s : Shown). one_if (is_answer q (WorldEvent.Read call key) s.outcome) + total w q) (sym h.2)
+total_happens w new (WorldEvent.Say call key answer) seen q fit h old =
     let ok = and_parts (is_load_given answer) (has_progress waits_for_load (part_of w call key)) fit in
     ap (λ (x : WorldState). total x q) h.3 ∙ total_answered w call key q h.0 answer h.1 ok.1 ok.0
-    ∙ ap (λ (s : Shown). one_if (is_answer q (event.Say call key answer) s.outcome) + total w q) (sym h.2)
-total_happens w new (event.Process call key source calls fail) seen q fit h old =
+    ∙ ap (λ (s : Shown). one_if (is_answer q (WorldEvent.Say call key answer) s.outcome) + total w q) (sym h.2)
+total_happens w new (WorldEvent.Process call key source calls fail) seen q fit h old =
     let answer = load_from source (entry_at w.store key) in
     let done = run_result h.0.reservation answer calls fail in
     ap (λ (x : WorldState). total x q) h.3 ∙ total_processed w call key q h.0 done h.1 fit
-    ∙ ap (λ (s : Shown). one_if (is_answer q (event.Process call key source calls fail) s.outcome) + total w q) (sym h.2)
-total_happens w new (event.Change call key) seen q fit h old =
+    ∙ ap (λ (s : Shown). one_if (is_answer q (WorldEvent.Process call key source calls fail) s.outcome) + total w q) (sym h.2)
+total_happens w new (WorldEvent.Change call key) seen q fit h old =
     let there = is_part (get w.parts key) call h.0 h.2 in
     unanswered false (total new q) (total w q) refl
     (ap (λ (x : WorldState). total x q) h.5 ∙ ap (λ b. count_by (is_load q) w.order + one_if b) (loaded_inserted w.parts key q (record h.0 { progress = with_change h.0.progress }) (λ same. change_loads h.0.progress ∙ sym (loaded_at w key q h.0 there same))))
-total_happens w new (event.Report call left fault) seen q fit h old =
+total_happens w new (WorldEvent.Report call left fault) seen q fit h old =
     unanswered false (total new q) (total w q) refl
     (ap (λ (x : WorldState). total x q) h.3
     ∙ each_report (λ v. total v q ≡ total w q) call (report_for h.0.kind left fault)
@@ -242,14 +234,14 @@ total_happens w new (event.Report call left fault) seen q fit h old =
     let report = report_for h.0.kind left fault key in
     ap (λ b. count_by (is_load q) v.order + one_if b) (loaded_inserted v.parts key q (record part { progress = with_report part.progress report }) (λ same. report_loads part.progress report ∙ sym (loaded_at v key q part there same))) ∙ o)
     (with_met_by w call (option_map WriterFailed fault)) (keys_reported (reported_keys w.parts call (open_keys h.0))) refl)
-total_happens w new (event.Call call session command) seen q fit h old = unanswered false (total new q) (total w q) refl (ap (λ (x : WorldState). total x q) h.1)
-total_happens w new (event.Leave call) seen q fit h old = unanswered false (total new q) (total w q) refl (ap (λ (x : WorldState). total x q) h.1)
-total_happens w new (event.Foreign key value) seen q fit h old = unanswered false (total new q) (total w q) refl (ap (λ (x : WorldState). total x q) h.1)
+total_happens w new (WorldEvent.Call call session command) seen q fit h old = unanswered false (total new q) (total w q) refl (ap (λ (x : WorldState). total x q) h.1)
+total_happens w new (WorldEvent.Leave call) seen q fit h old = unanswered false (total new q) (total w q) refl (ap (λ (x : WorldState). total x q) h.1)
+total_happens w new (WorldEvent.Foreign key value) seen q fit h old = unanswered false (total new q) (total w q) refl (ap (λ (x : WorldState). total x q) h.1)
 total_happens w new e seen q fit h old = let k = key_change w new e seen refl h in unanswered false (total new q) (total w q) refl (total_key w new e k.0 seen q k.1 fit old)
 
 -- what doesn't fit is no answer
-unfit_answer : (q : Bytes) (e : WorldEvent) → is_answer q e outcome.Unfit ≡ false
-unfit_answer q (event.Read call key) = refl
+unfit_answer : (q : Bytes) (e : WorldEvent) → is_answer q e Outcome.Unfit ≡ false
+unfit_answer q (WorldEvent.Read call key) = refl
 unfit_answer q e = refl
 
 -- any event, also one that doesn't fit

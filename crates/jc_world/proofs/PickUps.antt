@@ -7,24 +7,12 @@
 --     resolves           so what a pick-up shows is what has become of the load
 --     answers_joins      the whole, from the join to the pick-up
 use Rattle.jc_world.proofs.Common.{◌≡◌, ℕ, Bool, true, false, cond, not, ◌&&◌, ◌||◌, List, [], ◌∷◌, ◌++◌, is_some, IsSomeAnd, ◌==◌, slice_get, slice_set, Some, None, Option, option_map, zip, sym, refl, ap, ◌∙◌, subst, inl, inr, append_assoc, append-nil, eq-eqb, and_from, or_parts, false_from_ne_true, nat_eq_equiv, nat_list_eq_equiv, pointwise, get, remove, list_any, stripe_of, Caller, Config, Bytes, Op, belongs_to_same, belongs_to, JoinState, Again, Answered, Waiting, Joiner, with_joiner, without_joiner, told_to, State, is_key, reservation_of, IsOut, asks_loader, JoinClaim, Reservation, Outcome, Over, Part, Shown, WorldEvent, CallState, op_at, with_stripe, not_over, with_join, Starts, Ends, Picks, Happens, Step, Run, fits, ends_join, is_last_pick_up, ends_load, Resolves, IsHeld, IsOwned, IsSoundWorld, JoinKey, join_key, Joins, WorldState, home, stripe_for, open_call, of_call, part_of, join_of, has_joined, is_joined}
-use Rattle.jc_world.specs.declared.event.Outcome.TheVariants as outcome
-use Rattle.jc_world.specs.declared.event.WorldEvent.TheVariants as event
-use Rattle.jc_world.proofs.Numbered.{some_of}
-use Rattle.jc_world.proofs.Places.{at_stripe_apart, stripe_put}
-use Rattle.jc_world.proofs.Shares.{is_some_and, found_test, fact_found}
-use Rattle.jc_world.proofs.Underway.{found_number, of_call-at, same_bytes}
-use Rattle.jc_world.proofs.Joiners.{joiner_of, find_kept, joined_last, join_at}
+use Rattle.jc_world.proofs.Lemmas.{is_some_and, found_test, fact_found, found_number, same_bytes, of_call-at, joiner_of, find_kept, joined_last, join_at, load_there, MayStart, may_start_at, part_key, at_stripe_apart, stripe_put, found_more, KeyChange, by_nothing, by_refusal, by_step, by_reservation, by_join, by_commit, by_withdrawal, by_answer, by_retry, StripeChange, by_key, beside_stripes, change_of, may_of, some_of, beside}
 use Rattle.jc_world.proofs.Maps.{joins_ordered, get-here, get-beside, get-left}
-use Rattle.jc_world.proofs.Reservations.{found_more}
 use Rattle.jc_world.proofs.Kept.{some_map}
-use Rattle.jc_world.proofs.Beginning.{MayStart, may_start_at}
-use Rattle.jc_world.proofs.Callers.{part_key}
-use Rattle.jc_world.proofs.LoadKeys.{load_there}
 use Rattle.jc_world.proofs.Joins.{no_joiner}
 use Rattle.jc_world.proofs.JoinedLoads.{Shows, step_shown, Tells, TellsOf, TellsIn, none_of_key, tells_on, tells_kept, tells_committed, tells_withdrawn}
 use Rattle.jc_world.proofs.Sounding.{Laws, sound_step, sound_run}
-use Rattle.jc_world.proofs.Beside.{beside}
-use Rattle.jc_world.proofs.KeyChanges.{KeyChange, StripeChange, beside_stripes, by_answer, by_commit, by_join, by_key, by_nothing, by_refusal, by_reservation, by_retry, by_step, by_withdrawal, change_of, may_of}
 
 -- 1. From world to world.
 
@@ -130,7 +118,7 @@ follows_key w new e key seen shows join r (by_commit call part from to x e_is pa
     let p = part.reservation in
     let after = h.1.after in
     subst (λ (p : WorldEvent × Shown). Follows new (shows ++ p ∷ []) join r) (sym (λ i. (e_is i, record { outcome = shows_it i; over = seen.over })))
-    (follows_set w new shows ((event.Commit call key, step_shown x seen.over) ∷ []) join r key from to f (ap (λ (x : WorldState). x.config) is) (ap (λ (x : WorldState). x.stripes) is) there
+    (follows_set w new shows ((WorldEvent.Commit call key, step_shown x seen.over) ∷ []) join r key from to f (ap (λ (x : WorldState). x.config) is) (ap (λ (x : WorldState). x.stripes) is) there
     (ap (λ (x : WorldState). join_of x join.caller.call join.key) is ∙ f.join_is)
     (λ apart. ap (λ b. b || false) (none_of_key r call key (step_shown x seen.over) (λ same. apart (ap (home w) (sym same ∙ f.key_is)))))
     (tells_committed (home w join.key) call key shows join p r from to x seen.over (old.shape.each (home w key) from there).reached h.0
@@ -138,9 +126,9 @@ follows_key w new e key seen shows join r (by_commit call part from to x e_is pa
     (ap (λ (s : State). s.reservations) after) (ap (λ (s : State). s.joiners) after)))
 follows_key w new e key seen shows join r (by_withdrawal call part from to e_is part_is there h is shows_it) fit last old f =
     subst (λ (p : WorldEvent × Shown). Follows new (shows ++ p ∷ []) join r) (sym (λ i. (e_is i, shows_it i)))
-    (follows_set w new shows ((event.Withdraw call key, not_over outcome.Withdrawn) ∷ []) join r key from to f (ap (λ (x : WorldState). x.config) is) (ap (λ (x : WorldState). x.stripes) is) there
+    (follows_set w new shows ((WorldEvent.Withdraw call key, not_over Outcome.Withdrawn) ∷ []) join r key from to f (ap (λ (x : WorldState). x.config) is) (ap (λ (x : WorldState). x.stripes) is) there
     (ap (λ (x : WorldState). join_of x join.caller.call join.key) is ∙ f.join_is)
-    (λ apart. ap (λ b. b || false) (none_of_key r call key (not_over outcome.Withdrawn) (λ same. apart (ap (home w) (sym same ∙ f.key_is)))))
+    (λ apart. ap (λ b. b || false) (none_of_key r call key (not_over Outcome.Withdrawn) (λ same. apart (ap (home w) (sym same ∙ f.key_is)))))
     (tells_withdrawn (home w join.key) call key shows join part.reservation r from to (old.shape.each (home w key) from there).reached h.0
     (of_call-at call (get w.parts key) part part_is).1 (part_key w call key part part_is old)
     (ap (λ (s : State). s.reservations) h.1) (ap (λ (s : State). s.joiners) h.1)))
@@ -154,8 +142,8 @@ follows_key w new e key seen shows join r (by_retry call other from to e_is foun
     (ap (λ (x : WorldState). x.config) is) (ap (λ (x : WorldState). x.stripes) is) (ap (λ (x : WorldState). x.joins) is) (ap (λ b. b || false) (ends r)) old f
 
 -- what doesn't fit ends no load
-unfit_ends : (r : Reservation) (e : WorldEvent) → ends_load r (e, not_over outcome.Unfit) ≡ false
-unfit_ends r (event.Commit call key) = refl
+unfit_ends : (r : Reservation) (e : WorldEvent) → ends_load r (e, not_over Outcome.Unfit) ≡ false
+unfit_ends r (WorldEvent.Commit call key) = refl
 unfit_ends r e = refl
 
 follows_step : (w new : WorldState) (e : WorldEvent) (seen : Shown) (shows : Shows) (join : JoinClaim) (r : Reservation) → Step w e seen new → is_last_pick_up join.caller.call join.key (e, seen) ≡ false → IsSoundWorld w → Follows w shows join r
@@ -231,11 +219,11 @@ known_at number shows join r s state is h =
 -- by what is shown of the pick-up
 resolves_picks : (w new : WorldState) (call : ℕ) (key : Bytes) (join : JoinClaim) (from to : State) (seen : Outcome) (shows : Shows) (r : Reservation) → stripe_for w key ≡ Some from → r.key ≡ key → TellsIn (home w key) shows join r from → IsSoundWorld w
     → Picks w call key join from to seen new → Resolves w shows r seen
-resolves_picks w new call key join from to (outcome.PickedUp seen) shows r there key_is told old h =
+resolves_picks w new call key join from to (Outcome.PickedUp seen) shows r there key_is told old h =
     let t = known_at (home w key) shows join r from (Answered seen.place seen.shared) h.0.1 told in
     (t.0, t.1, t.2, t.3 ∙ sym h.1, t.4)
-resolves_picks w new call key join from to outcome.Again shows r there key_is told old h = known_at (home w key) shows join r from Again h.0.1 told
-resolves_picks w new call key join from to outcome.Waits shows r there key_is told old h =
+resolves_picks w new call key join from to Outcome.Again shows r there key_is told old h = known_at (home w key) shows join r from Again h.0.1 told
+resolves_picks w new call key join from to Outcome.Waits shows r there key_is told old h =
     let out = known_at (home w key) shows join r from Waiting h.0.1 told in
     let part = part_of_out w key from r there key_is out.0 old in
     (part.0, part.1, part.2, out.1)
@@ -243,7 +231,7 @@ resolves_picks w new call key join from to seen shows r there key_is told old h 
 
 -- the pick-up fits, and shows that
 resolves : (w new : WorldState) (call : ℕ) (key : Bytes) (join : JoinClaim) (seen : Shown) (shows : Shows) (r : Reservation) → join.caller.call ≡ call → join.key ≡ key → Follows w shows join r → IsSoundWorld w
-    → Step w (event.PickUp call key) seen new → Resolves w shows r seen.outcome
+    → Step w (WorldEvent.PickUp call key) seen new → Resolves w shows r seen.outcome
 resolves w new call key join seen shows r call_is key_is f old (inl (fit, (other, found, from, there, to, picks, over))) =
     let e : Some other ≡ Some join = sym found ∙ (λ i. join_of w (sym call_is i) (sym key_is i)) ∙ f.join_is in
     let same : other ≡ join = cc in
@@ -264,9 +252,9 @@ IsAnswered old new key shows seen =
     (load : Part) × (part_of old load.reservation.caller.call key ≡ Some load) × (asks_loader load.reservation.first ≡ true) × (load.reservation.key ≡ key) × Resolves new shows load.reservation seen
 
 -- by what is shown of the first phase
-answers_started : Laws → (old joined new newer : WorldState) (call : ℕ) (key : Bytes) (u : CallState) (op : Op) (from to : State) (es : List WorldEvent) (ss : List Shown) (seen : Shown) → open_call old call ≡ Some u → op_at u key ≡ Some op → fits old (event.Start call key) ≡ true
-    → stripe_for old key ≡ Some from → Starts old u.caller key op from to outcome.Joins joined → IsSoundWorld old → IsSoundWorld joined → Run joined es ss new → list_any (is_last_pick_up call key) (zip es ss) ≡ false
-    → Step new (event.PickUp call key) seen newer → IsAnswered old new key (zip es ss) seen.outcome
+answers_started : Laws → (old joined new newer : WorldState) (call : ℕ) (key : Bytes) (u : CallState) (op : Op) (from to : State) (es : List WorldEvent) (ss : List Shown) (seen : Shown) → open_call old call ≡ Some u → op_at u key ≡ Some op → fits old (WorldEvent.Start call key) ≡ true
+    → stripe_for old key ≡ Some from → Starts old u.caller key op from to Outcome.Joins joined → IsSoundWorld old → IsSoundWorld joined → Run joined es ss new → list_any (is_last_pick_up call key) (zip es ss) ≡ false
+    → Step new (WorldEvent.PickUp call key) seen newer → IsAnswered old new key (zip es ss) seen.outcome
 answers_started laws old joined new newer call key u op from to es ss seen here op_is fit there (join, begins, is) sound_old sound_joined run none step =
     let may = may_start_at old call key u op fit here op_is sound_old in
     let load = load_there (reservation_of from key) join.load (can_join _ _ join.load begins.1) in
@@ -284,10 +272,10 @@ answers_started laws old joined new newer call key u op from to es ss seen here 
     let all = subst R (sym part.2) (ap (part_of old load.0.caller.call) (sym r_key) ∙ part.1, load.3, r_key, resolved) in
     (part.0, all.0, all.1, all.2, all.3)
 
-pub answers_joins : Laws → (old joined new newer : WorldState) (call : ℕ) (key : Bytes) (es : List WorldEvent) (ss : List Shown) (seen : Shown) → Step old (event.Start call key) (not_over outcome.Joins) joined → IsSoundWorld old → Run joined es ss new
-    → list_any (is_last_pick_up call key) (zip es ss) ≡ false → Step new (event.PickUp call key) seen newer → IsAnswered old new key (zip es ss) seen.outcome
+pub answers_joins : Laws → (old joined new newer : WorldState) (call : ℕ) (key : Bytes) (es : List WorldEvent) (ss : List Shown) (seen : Shown) → Step old (WorldEvent.Start call key) (not_over Outcome.Joins) joined → IsSoundWorld old → Run joined es ss new
+    → list_any (is_last_pick_up call key) (zip es ss) ≡ false → Step new (WorldEvent.PickUp call key) seen newer → IsAnswered old new key (zip es ss) seen.outcome
 answers_joins laws old joined new newer call key es ss seen (inl (fit, (u, op, here, op_is, from, there, to, starts, refuses, over))) sound_old run none step =
     answers_started laws old joined new newer call key u op from to es ss seen here op_is fit there starts sound_old
-    (sound_step laws old (event.Start call key) (not_over outcome.Joins) joined (inl (fit, (u, op, here, op_is, from, there, to, starts, refuses, over))) sound_old) run none step
+    (sound_step laws old (WorldEvent.Start call key) (not_over Outcome.Joins) joined (inl (fit, (u, op, here, op_is, from, there, to, starts, refuses, over))) sound_old) run none step
 answers_joins laws old joined new newer call key es ss seen (inr (unfit, shown_is, is)) sound_old run none step =
-    let t : outcome.Joins ≡ outcome.Unfit = ap (λ (s : Shown). s.outcome) shown_is in cc
+    let t : Outcome.Joins ≡ Outcome.Unfit = ap (λ (s : Shown). s.outcome) shown_is in cc

@@ -1,7 +1,6 @@
 -- A sound world in which no key is reserved, and that is coherent, is sound if the premises are taken to have held so far.
 use Rattle.jc_world.proofs.Common.{◌≡◌, Some, None, sym, ap, ◌∙◌, get, Bytes, Premises, Coherent, with_all_premises, IsSoundWorld, WorldState, has_progress, has_changed}
-use Rattle.jc_world.proofs.Halves.{HasParts, sound}
-use Rattle.jc_world.proofs.Beginning.{order_stored}
+use Rattle.jc_world.proofs.Lemmas.{HasParts, sound, order_stored}
 use Rattle.jc_world.proofs.Joins.{joins_stored}
 
 -- without a part each cached value is the store's

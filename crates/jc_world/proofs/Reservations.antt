@@ -1,6 +1,5 @@
 -- A reservation stays out when the stripe's reservations change.
 use Rattle.jc_world.proofs.Common.{◌≡◌, ℕ, Bool, true, false, cond, not, ◌&&◌, ◌||◌, List, [], ◌∷◌, ◌++◌, is_some, is_none, ◌==◌, Some, None, Option, find, sym, refl, ap, ◌∙◌, false_from_ne_true, nat_list_eq_equiv, find-append, pointwise, texts_ties, list_any, option_or, eq_by_cmp, Caller, Config, Refusal, same_key, Bytes, entry_at, key_cmp, always_if, Op, ContainsKey, Get, writer_for, first_by, first_asked, reserves, answers_at_once, load_joined, needs_free_key, places_needed, first_refusal, State, is_key, is_reserved, without_key, asks_writer, First, Loader, Nobody, Reservation}
-use Rattle.jc_types.specs.declared.refusal.Refusal.TheVariants as refusal
 use Rattle.jc_stripe.specs.Refusals.{has_room}
 use Rattle.jc_world.proofs.Joiners.{find_kept}
 
@@ -18,7 +17,7 @@ out_reserved key r (x ∷ xs) h =
     ] h
 
 -- only what needs no free key is not refused as busy
-pick : (room is_there needs : Bool) (other : Option Refusal) → cond (not room) (Some refusal.HistoryFull) (cond (is_there && needs) (Some refusal.Busy) other) ≡ None → is_there ≡ true → needs ≡ false
+pick : (room is_there needs : Bool) (other : Option Refusal) → cond (not room) (Some Refusal.HistoryFull) (cond (is_there && needs) (Some Refusal.Busy) other) ≡ None → is_there ≡ true → needs ≡ false
 pick true true false other h e = refl
 pick room is_there needs other h e = cc
 

@@ -6,18 +6,9 @@
 --     StayOut         from one world to a later one: that is so of all stripes
 --     stay_run        so it is in every run
 --     stays_held      so the entry of a key stays, if its reservation is the same
-use Rattle.jc_world.proofs.Common.{◌≡◌, ℕ, ◌<◌, ◌≤◌, Bool, true, false, cond, not, ◌⊎◌, List, [], ◌∷◌, ◌++◌, slice_get, slice_set, Some, None, filter, find, sym, refl, ap, ◌∙◌, subst, inl, inr, arith, get, stripe_of, Config, Bytes, entry_at, Op, KeepsReserved, IsReached, State, is_key, is_reserved, with_reservation, without_key, without_reservation, IsOut, Ticket, ProcessClaim, JoinClaim, Reservation, Outcome, Part, Shown, WorldEvent, CallState, step_of, Starts, Ends, Picks, Happens, Step, Run, is_appended, IsHeld, IsSoundWorld, WorldState, home, stripe_for, entry_in, cached_entry, out_of}
-use Rattle.jc_stripe.specs.declared.begun.Begun.TheVariants as begun
-use Rattle.jc_world.specs.declared.event.Outcome.TheVariants as outcome
-use Rattle.jc_world.specs.declared.event.WorldEvent.TheVariants as event
-use Rattle.jc_world.proofs.Numbered.{some_of}
-use Rattle.jc_world.proofs.Places.{at_stripe}
-use Rattle.jc_world.proofs.LoadKeys.{found_holds}
-use Rattle.jc_world.proofs.Reservations.{out_reserved, found_left}
-use Rattle.jc_world.proofs.Entries.{split}
-use Rattle.jc_world.proofs.Beside.{beside}
+use Rattle.jc_world.proofs.Common.{◌≡◌, ℕ, ◌<◌, ◌≤◌, Bool, true, false, cond, not, ◌⊎◌, List, [], ◌∷◌, ◌++◌, slice_get, slice_set, Some, None, filter, find, sym, refl, ap, ◌∙◌, subst, inl, inr, arith, get, stripe_of, Config, Bytes, entry_at, Op, KeepsReserved, IsReached, State, is_key, is_reserved, with_reservation, without_key, without_reservation, IsOut, Ticket, ProcessClaim, JoinClaim, Begun, Reservation, Outcome, Part, Shown, WorldEvent, CallState, step_of, Starts, Ends, Picks, Happens, Step, Run, is_appended, IsHeld, IsSoundWorld, WorldState, home, stripe_for, entry_in, cached_entry, out_of}
+use Rattle.jc_world.proofs.Lemmas.{found_holds, at_stripe, split, out_reserved, found_left, KeyChange, by_nothing, by_refusal, by_step, by_reservation, by_join, by_commit, by_withdrawal, by_answer, by_retry, StripeChange, by_key, beside_stripes, change_of, Move, no_move, quiet_move, step_move, move_step, some_of, beside}
 use Rattle.jc_world.proofs.Sounding.{Laws, sound_step}
-use Rattle.jc_world.proofs.KeyChanges.{KeyChange, Move, StripeChange, change_of, move_step, beside_stripes, by_key, by_answer, by_commit, by_join, by_nothing, by_refusal, by_reservation, by_retry, by_step, by_withdrawal, no_move, quiet_move, step_move}
 
 -- 1. Events that append no step.
 
@@ -147,7 +138,7 @@ stay_key kept w new e key seen (by_refusal u op refusal may is none ends) old = 
 stay_key kept w new e key seen (by_step u op from to x may there h home_is is shows ends) old =
     stay_set w new key from to (ap (λ (v : WorldState). v.config) is) (ap (λ (v : WorldState). v.stripes) is) there
     (stays_kept from to (ap (λ (s : State). s.next) h.2.after) (ap (λ (s : State). s.reservations) h.2.after)
-    (λ q out. kept.begins from to u.caller key op (begun.Done (step_of x)) q (old.shape.each (home w key) from there).reached h out))
+    (λ q out. kept.begins from to u.caller key op (Begun.Done (step_of x)) q (old.shape.each (home w key) from there).reached h out))
 stay_key kept w new e key seen (by_reservation u op from to p r may there h is none ends) old =
     stay_set w new key from to (ap (λ (v : WorldState). v.config) is) (ap (λ (v : WorldState). v.stripes) is) there (stays_reserving from to r h.after (ap (λ (x : Reservation). x.number) h.is))
 stay_key kept w new e key seen (by_join u op from to join may there h is none ends) old =

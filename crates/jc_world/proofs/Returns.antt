@@ -4,7 +4,6 @@
 --     returned        a return leads to such a world
 --     IsReport        an event is a writer's return
 use Rattle.jc_world.proofs.Common.{◌≡◌, ℕ, true, false, cond, List, [], ◌∷◌, Some, None, Option, refl, ap, ◌∙◌, Bytes, WriteAnswer, Part, Premises, WorldEvent, after_report, reported_at, after_reports, Parts, WorldState, part_of, waits_for_report}
-use Rattle.jc_world.specs.declared.event.WorldEvent.TheVariants as event
 
 -- the report for one key keeps this
 abbrev pub KeepsReport : (WorldState → Type 0) → ℕ → (Bytes → WriteAnswer) → Type 0
@@ -46,5 +45,5 @@ returned w new call answer keys is =
     record { parts = all.parts; premises = all.premises; is = is ∙ all.is }
 
 abbrev pub IsReport : WorldEvent → Type 0
-IsReport (event.Report call left fault) = Unit {0}
+IsReport (WorldEvent.Report call left fault) = Unit {0}
 IsReport e = ⊥

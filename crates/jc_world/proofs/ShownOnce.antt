@@ -4,34 +4,24 @@
 --     Gives          a phase raises that by one at the places that it answers, and leaves it at the others
 --     gives_done, gives_commit, gives_picked and so on      what each kind of phase answers
 --     owed_run        so a run raises it by the answers that it shows
-use Rattle.jc_world.proofs.Common.{◌≡◌, ℕ, zero, suc, ◌+◌, Bool, true, false, cond, ◌&&◌, List, [], ◌∷◌, ◌++◌, map, length, ◌==◌, slice_get, slice_set, Some, None, count_by, Option, sym, refl, ap, ◌∙◌, subst, inl, inr, arith, and-false, eqb-suc-suc, eqb-suc-zero, eqb-zero-suc, eqb-true, eqb-false, eq-eqb, and_parts, sum_by-cons, list_all, Caller, Config, Bytes, Group, nothing_said, victim_events, evicted_events, step_event, shared_event, step_place, events_of, of_stripe, Cause, Event, LoadAnswer, Op, Get, Out, Reply, callers_of, Joiner, joined_parks, withdrawn_parks, beginner_parks, commit_parks, committer_parks, sharers_park, picker_parks, picked_parks, others_park, again_parks_same, Extends, Grows, is_parked, MayBegin, new_group, Steps, Begins, after_commit, Commits, without_joiner, PicksUp, IsReached, State, JoinClaim, StepDone, Reservation, Outcome, Part, Shown, WorldEvent, CallState, new_call, step_of, Starts, Ends, Picks, Happens, Step, Run, fits, start_with, is_answer_at, joiners_in, joiners_at, times_shown, IsSoundWorld, WorldState, home, stripe_for, out_of}
-use Rattle.jc_model.specs.declared.event.Event.TheVariants as stripe
-use Rattle.jc_stripe.specs.declared.begun.Begun.TheVariants as begun
-use Rattle.jc_stripe.specs.declared.begun.Picked.TheVariants as picked
-use Rattle.jc_world.specs.declared.event.Outcome.TheVariants as outcome
-use Rattle.jc_world.specs.declared.event.WorldEvent.TheVariants as event
-use Rattle.jc_world.proofs.NewCalls.{begun_cases}
-use Rattle.jc_world.proofs.Shares.{added, share_stays}
-use Rattle.jc_world.proofs.Places.{stripe_put}
+use Rattle.jc_world.proofs.Common.{◌≡◌, ℕ, zero, suc, ◌+◌, Bool, true, false, cond, ◌&&◌, List, [], ◌∷◌, ◌++◌, map, length, ◌==◌, slice_get, slice_set, Some, None, count_by, Option, sym, refl, ap, ◌∙◌, subst, inl, inr, arith, and-false, eqb-suc-suc, eqb-suc-zero, eqb-zero-suc, eqb-true, eqb-false, eq-eqb, and_parts, sum_by-cons, list_all, Caller, Config, Bytes, Group, nothing_said, victim_events, evicted_events, step_event, shared_event, step_place, events_of, of_stripe, Cause, Event, LoadAnswer, Op, Get, Out, Reply, callers_of, Joiner, joined_parks, withdrawn_parks, beginner_parks, commit_parks, committer_parks, sharers_park, picker_parks, picked_parks, others_park, again_parks_same, Extends, Grows, is_parked, MayBegin, new_group, Steps, Begins, after_commit, Commits, without_joiner, PicksUp, IsReached, State, JoinClaim, Begun, Picked, StepDone, Reservation, Outcome, Part, Shown, WorldEvent, CallState, new_call, step_of, Starts, Ends, Picks, Happens, Step, Run, fits, start_with, is_answer_at, joiners_in, joiners_at, times_shown, IsSoundWorld, WorldState, home, stripe_for, out_of}
+use Rattle.jc_world.proofs.Lemmas.{added, share_stays, begun_cases, MayStart, begins_with, begins_at, stripe_put, AnswersNone, KeyChange, by_nothing, by_refusal, by_step, by_reservation, by_join, by_commit, by_withdrawal, by_answer, by_retry, StripeChange, by_key, beside_stripes, change_of, may_of, beside}
 use Rattle.jc_world.proofs.Merging.{other_set}
 use Rattle.jc_world.proofs.Loads.{one_if}
-use Rattle.jc_world.proofs.Beginning.{begins_at, MayStart, begins_with}
-use Rattle.jc_world.proofs.Beside.{beside}
 use Rattle.jc_world.proofs.Sounding.{Laws, sound_step}
 use Rattle.jc_world.proofs.Standing.{config_run, config_opened}
-use Rattle.jc_world.proofs.KeyChanges.{AnswersNone, KeyChange, StripeChange, change_of, may_of, beside_stripes, by_key, by_answer, by_commit, by_join, by_nothing, by_refusal, by_reservation, by_retry, by_step, by_withdrawal}
 
 -- 1. How often an answer is to have been shown.
 
 abbrev pub times_owed : List Joiner → Option Event → ℕ
 times_owed js None = 0
-times_owed js (Some (stripe.Step caller op key out shared reply)) = times_shown (is_parked js caller key)
-times_owed js (Some (stripe.Evict key cause)) = 0
+times_owed js (Some (Event.Step caller op key out shared reply)) = times_shown (is_parked js caller key)
+times_owed js (Some (Event.Evict key cause)) = 0
 
 -- other joiners that park the same of the event leave it
-owed_same : (js next : List Joiner) (o : Option Event) → ((c : Caller) (op : Op) (k : Bytes) (out : Out) (shared : Option ℕ) (reply : Reply) → o ≡ Some (stripe.Step c op k out shared reply) → is_parked next c k ≡ is_parked js c k)
+owed_same : (js next : List Joiner) (o : Option Event) → ((c : Caller) (op : Op) (k : Bytes) (out : Out) (shared : Option ℕ) (reply : Reply) → o ≡ Some (Event.Step c op k out shared reply) → is_parked next c k ≡ is_parked js c k)
     → times_owed next o ≡ times_owed js o
-owed_same js next (Some (stripe.Step c op k out shared reply)) same = ap times_shown (same c op k out shared reply refl)
+owed_same js next (Some (Event.Step c op k out shared reply)) same = ap times_shown (same c op k out shared reply refl)
 owed_same js next o same = refl
 
 -- after a group's step nothing is owed, if those that share its load are parked
@@ -64,7 +54,7 @@ group_owed js place group p free parked = go group.victim p
     go (Some key) (suc p) = from_step p ∙ ap one_if (sym (eqb-suc-suc 0 p))
 
 -- and so it is if the group follows a history of which as much is parked as before
-history_owed : (js next : List Joiner) (events more : List Event) (n p : ℕ) → ((i : ℕ) (c : Caller) (op : Op) (k : Bytes) (out : Out) (shared : Option ℕ) (reply : Reply) → slice_get events i ≡ Some (stripe.Step c op k out shared reply) → is_parked next c k ≡ is_parked js c k)
+history_owed : (js next : List Joiner) (events more : List Event) (n p : ℕ) → ((i : ℕ) (c : Caller) (op : Op) (k : Bytes) (out : Out) (shared : Option ℕ) (reply : Reply) → slice_get events i ≡ Some (Event.Step c op k out shared reply) → is_parked next c k ≡ is_parked js c k)
     → ((i : ℕ) → times_owed next (slice_get more i) ≡ one_if (n == i))
     → times_owed next (slice_get (events ++ more) p) ≡ one_if (length events + n == p) + times_owed js (slice_get events p)
 history_owed js next [] more n p same owed_is = owed_is p ∙ (let e : one_if (n == p) ≡ one_if (n == p) + 0 = omega arith in e) ∙ ap (λ m. one_if (m == p) + 0) (let e : n ≡ 0 + n = omega arith in e)
@@ -94,7 +84,7 @@ gives_none from to history same p =
 
 -- the step of a stripe is answered at its place
 gives_step : (js : List Joiner) (mid to : State) (caller : Caller) (key : Bytes) (op : Op) (out : Out) (callers : List Caller) (done : StepDone) → Steps mid caller key op out callers done to
-    → ((i : ℕ) (c : Caller) (op : Op) (k : Bytes) (out : Out) (shared : Option ℕ) (reply : Reply) → slice_get mid.history i ≡ Some (stripe.Step c op k out shared reply) → is_parked mid.joiners c k ≡ is_parked js c k)
+    → ((i : ℕ) (c : Caller) (op : Op) (k : Bytes) (out : Out) (shared : Option ℕ) (reply : Reply) → slice_get mid.history i ≡ Some (Event.Step c op k out shared reply) → is_parked mid.joiners c k ≡ is_parked js c k)
     → is_parked mid.joiners caller key ≡ false → list_all (λ c. is_parked mid.joiners c key) callers ≡ true
     → (p : ℕ) → times_owed to.joiners (slice_get to.history p) ≡ one_if (done.place == p) + times_owed js (slice_get mid.history p)
 gives_step js mid to caller key op out callers done steps same free parked p =
@@ -104,7 +94,7 @@ gives_step js mid to caller key op out callers done steps same free parked p =
     ∙ ap (λ n. one_if (n == p) + times_owed js (slice_get mid.history p)) (sym steps.place)
 
 -- a first phase that is done at once
-gives_done : (from to : State) (caller : Caller) (key : Bytes) (op : Op) (done : StepDone) → MayBegin from caller key → Begins from caller key op (begun.Done done) to → Gives from to (λ p. done.place == p)
+gives_done : (from to : State) (caller : Caller) (key : Bytes) (op : Op) (done : StepDone) → MayBegin from caller key → Begins from caller key op (Begun.Done done) to → Gives from to (λ p. done.place == p)
 gives_done from to caller key op done may begins =
     gives_step from.joiners from to caller key op nothing_said [] done begins.2 (λ i c op k out shared reply e. refl) (beginner_parks from caller key may) refl
 
@@ -116,7 +106,7 @@ gives_commit from to r out done reached commits =
     (committer_parks from r done.place reached commits.0) (sharers_park from r done.place reached commits.0)
 
 -- a pick-up that is answered
-gives_picked : (from to : State) (join : JoinClaim) (reply : Reply) (place shared : ℕ) → IsReached from → PicksUp from join (picked.Answer reply place shared) to → Gives from to (λ p. place == p)
+gives_picked : (from to : State) (join : JoinClaim) (reply : Reply) (place shared : ℕ) → IsReached from → PicksUp from join (Picked.Answer reply place shared) to → Gives from to (λ p. place == p)
 gives_picked from to join reply place shared reached h p =
     let next = without_joiner from join in
     let step = h.2 in
@@ -191,7 +181,7 @@ owed_key grows w new e key seen number place (by_nothing is none ends) fit old s
 owed_key grows w new e key seen number place (by_refusal u op refusal may is none ends) fit old sound = owed_still w new seen.outcome number place (none number place) (ap (λ (x : WorldState). owed x number place) is)
 owed_key grows w new e key seen number place (by_step u op from to x may there h home_is is shows ends) fit old sound =
     owed_grown w new key from to x.place number place there old sound (ap (λ (v : WorldState). v.config) is) (ap (λ (v : WorldState). v.stripes) is) (ap (λ (v : WorldState). v.order) is)
-    (grows.begins from to u.caller key op (begun.Done (step_of x)) h) (gives_done from to u.caller key op (step_of x) (begins_with w u key op from old there (may_of w e key u op may fit old)) h)
+    (grows.begins from to u.caller key op (Begun.Done (step_of x)) h) (gives_done from to u.caller key op (step_of x) (begins_with w u key op from old there (may_of w e key u op may fit old)) h)
     ∙ owed_answer w x.stripe key x.place number place home_is ∙ ap (λ o. one_if (is_answer_at number place o) + owed w number place) (sym shows)
 owed_key grows w new e key seen number place (by_reservation u op from to p r may there h is none ends) fit old sound =
     owed_quiet w new key from to seen.outcome number place there old sound (ap (λ (v : WorldState). v.config) is) (ap (λ (v : WorldState). v.stripes) is) (ap (λ (v : WorldState). v.order) is)
@@ -247,7 +237,7 @@ owed_opened config (e ∷ es) number place = owed_opened config es number place
 
 -- so what is owed was shown
 pub shown_once : Laws → Grows → (config : Config) (stored : List (Bytes × Bytes)) (new : WorldState) (es : List WorldEvent) (ss : List Shown) (number place : ℕ) (caller : Caller) (op : Op) (key : Bytes) (out : Out) (shared : Option ℕ) (reply : Reply)
-    → Run (start_with config stored) es ss new → IsSoundWorld (start_with config stored) → slice_get (of_stripe config.stripes number new.order) place ≡ Some (stripe.Step caller op key out shared reply)
+    → Run (start_with config stored) es ss new → IsSoundWorld (start_with config stored) → slice_get (of_stripe config.stripes number new.order) place ≡ Some (Event.Step caller op key out shared reply)
     → count_by (answers_at number place) ss ≡ times_shown (is_parked (joiners_at new number) caller key)
 shown_once laws grows config stored new es ss number place caller op key out shared reply run sound there =
     let total = owed_run laws grows (start_with config stored) new es ss number place run sound in

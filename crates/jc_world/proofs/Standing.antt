@@ -5,24 +5,10 @@
 --     AllStand       each answer that was shown is that of its call's step, and the call has begun before it
 --     stands_run     so a run of events keeps that
 use Rattle.jc_world.proofs.Common.{◌≡◌, ℕ, zero, suc, true, false, cond, not, List, [], ◌∷◌, ◌++◌, length, take, slice_get, slice_set, Some, None, Option, option_map, zip, sym, refl, ap, ◌∙◌, subst, subst₂, inl, inr, append_assoc, append-nil, arith, take-append_seam, and_from, nat_eq_equiv, take-append-le, filter-append, slice_get_within, get, insert, remove, get-empty, stripe_of, Caller, Config, Refusal, WriterFailed, Bytes, key_cmp, nothing_said, is_of_stripe, of_stripe, Op, Get, Out, Reply, callers_of, step_at, after_commit, State, Ticket, ProcessClaim, JoinClaim, Reservation, Command, Outcome, Part, Shown, WorldEvent, CallState, new_call, has_number, op_for, open_keys, is_going, has_too_many_keys, opened, going_on, with_met, settle, with_found, step_of, with_met_by, new_load, new_write, new_process, new_part, Starts, Ends, Picks, reported_keys, keys_reported, Happens, Step, Run, fits, start_with, report_for, IsReplyOfStep, Stands, is_answer_at, Each, IsSoundWorld, Parts, JoinKey, join_cmp, join_key, Joins, WorldState, home, stripe_for, open_call, part_of, out_of, join_of}
-use Rattle.jc_model.specs.declared.event.Event.TheVariants as stripe
-use Rattle.jc_world.specs.declared.event.Outcome.TheVariants as outcome
-use Rattle.jc_world.specs.declared.event.WorldEvent.TheVariants as event
 use Rattle.jc_model.specs.declared.event.Event.{Event as StripeEvent}
-use Rattle.jc_world.proofs.Shares.{each_filter, each_pushed, each_map, added, fact_found, still_at}
-use Rattle.jc_world.proofs.Underway.{found_number, of_call-at}
-use Rattle.jc_world.proofs.Looked.{Taken, taken_of, taken_met, each_replaced}
-use Rattle.jc_world.proofs.Settling.{Left, done_for, each_settled}
-use Rattle.jc_world.proofs.NewCalls.{begun_cases, begun_shown}
-use Rattle.jc_world.proofs.LoadKeys.{joins_get}
-use Rattle.jc_world.proofs.Joiners.{join_at}
-use Rattle.jc_world.proofs.Places.{stripe_put}
+use Rattle.jc_world.proofs.Lemmas.{still_at, each_map, fact_found, each_pushed, each_filter, added, found_number, of_call-at, done_for, Left, each_settled, begun_cases, begun_shown, Taken, taken_of, taken_met, each_replaced, join_at, joins_get, part_key, stripe_put, AnswersNone, IsStart, KeyChange, by_nothing, by_refusal, by_step, by_reservation, by_join, by_commit, by_withdrawal, by_answer, by_retry, key_change, StripeChange, by_key, beside_stripes, change_of, Move, no_move, quiet_move, step_move, move_step, each_report, beside}
 use Rattle.jc_world.proofs.Maps.{keys_ordered, joins_ordered, each_put, each_left}
-use Rattle.jc_world.proofs.Callers.{part_key}
-use Rattle.jc_world.proofs.Returns.{each_report}
-use Rattle.jc_world.proofs.Beside.{beside}
 use Rattle.jc_world.proofs.Sounding.{Laws, sound_step}
-use Rattle.jc_world.proofs.KeyChanges.{Move, move_step, no_move, quiet_move, step_move, AnswersNone, IsStart, KeyChange, StripeChange, key_change, beside_stripes, by_answer, by_commit, by_join, by_key, by_nothing, by_refusal, by_reservation, by_retry, by_step, by_withdrawal, change_of}
 
 -- 1. Places of lists.
 
@@ -90,11 +76,11 @@ answered_on w n shows call key reply number place shared later h =
     }
 
 stands_on : (w n : WorldState) (shows : List (WorldEvent × Shown)) (e : WorldEvent) (seen : Outcome) → IsLater w n → Stands w shows e seen → Stands n shows e seen
-stands_on w n shows (event.Start call key) (outcome.Stepped x) later h = answered_on w n shows call key x.reply x.stripe x.place None later h
-stands_on w n shows (event.Commit call key) (outcome.Stepped x) later h = answered_on w n shows call key x.reply x.stripe x.place None later h
-stands_on w n shows (event.PickUp call key) (outcome.PickedUp x) later h = answered_on w n shows call key x.reply x.stripe x.place (Some x.shared) later h
-stands_on w n shows e (outcome.Stepped x) later h = absurd h
-stands_on w n shows e (outcome.PickedUp x) later h = absurd h
+stands_on w n shows (WorldEvent.Start call key) (Outcome.Stepped x) later h = answered_on w n shows call key x.reply x.stripe x.place None later h
+stands_on w n shows (WorldEvent.Commit call key) (Outcome.Stepped x) later h = answered_on w n shows call key x.reply x.stripe x.place None later h
+stands_on w n shows (WorldEvent.PickUp call key) (Outcome.PickedUp x) later h = answered_on w n shows call key x.reply x.stripe x.place (Some x.shared) later h
+stands_on w n shows e (Outcome.Stepped x) later h = absurd h
+stands_on w n shows e (Outcome.PickedUp x) later h = absurd h
 stands_on w n shows e seen later h = tt
 
 -- 4. Which calls have begun.
@@ -102,7 +88,7 @@ stands_on w n shows e seen later h = tt
 -- a call of this caller that does this at this key is among what has happened
 abbrev pub BegunAs : List (WorldEvent × Shown) → Caller → Bytes → Op → Type 0
 BegunAs shows caller key op =
-    (at : ℕ) × (command : Command) × (seen : Shown) × (slice_get shows at ≡ Some (event.Call caller.call caller.session command, seen)) × (seen.outcome ≡ outcome.Begun) × (op_for (new_call caller.call caller.session command) key ≡ Some op)
+    (at : ℕ) × (command : Command) × (seen : Shown) × (slice_get shows at ≡ Some (WorldEvent.Call caller.call caller.session command, seen)) × (seen.outcome ≡ Outcome.Begun) × (op_for (new_call caller.call caller.session command) key ≡ Some op)
 
 abbrev IsBegun : List (WorldEvent × Shown) → CallState → Type 0
 IsBegun shows u = (key : Bytes) (op : Op) → op_for u key ≡ Some op → BegunAs shows u.caller key op
@@ -193,7 +179,7 @@ begun_key shows w new e key seen (by_retry call join from to e_is join_is there 
 
 -- of any event that fits, if it is among what has happened
 begun_happens : (shows : List (WorldEvent × Shown)) (w new : WorldState) (e : WorldEvent) (seen : Shown) → (at : ℕ) × (slice_get shows at ≡ Some (e, seen)) → Happens w e seen new → AllBegun shows w → AllBegun shows new
-begun_happens shows w new (event.Call call session command) seen last h old =
+begun_happens shows w new (WorldEvent.Call call session command) seen last h old =
     let one : CallState = new_call call session command in
     let begun : has_too_many_keys one ≡ false → IsBegun shows one = λ few key op is. (last.0, command, seen, last.1, ap (λ (s : Shown). s.outcome) h.0 ∙ begun_shown one few, is) in
     let none : Each (IsBegun shows) (w.calls ++ []) = subst (Each (IsBegun shows)) (sym (append-nil w.calls)) old.calls in
@@ -207,7 +193,7 @@ begun_happens shows w new (event.Call call session command) seen last h old =
     ] refl
     in
     subst (AllBegun shows) (sym h.1) (record { calls = calls; parts = old.parts; joins = old.joins })
-begun_happens shows w new (event.Look call stripe) seen last h old =
+begun_happens shows w new (WorldEvent.Look call stripe) seen last h old =
     let stripes = w.config.stripes in
     subst (AllBegun shows) (sym h.9)
     (record {
@@ -215,24 +201,24 @@ begun_happens shows w new (event.Look call stripe) seen last h old =
       parts = old.parts;
       joins = old.joins;
     })
-begun_happens shows w new (event.Read call key) seen last h old =
+begun_happens shows w new (WorldEvent.Read call key) seen last h old =
     subst (AllBegun shows) (sym h.3) (record { calls = old.calls; parts = parts_put shows w.parts key _ (part_begun shows w call key h.0 h.1 old) old.parts; joins = old.joins })
-begun_happens shows w new (event.Say call key answer) seen last h old =
+begun_happens shows w new (WorldEvent.Say call key answer) seen last h old =
     subst (AllBegun shows) (sym h.3) (record { calls = old.calls; parts = parts_put shows w.parts key _ (part_begun shows w call key h.0 h.1 old) old.parts; joins = old.joins })
-begun_happens shows w new (event.Process call key source calls fail) seen last h old =
+begun_happens shows w new (WorldEvent.Process call key source calls fail) seen last h old =
     subst (AllBegun shows) (sym h.3) (record { calls = old.calls; parts = parts_put shows w.parts key _ (part_begun shows w call key h.0 h.1 old) old.parts; joins = old.joins })
-begun_happens shows w new (event.Change call key) seen last h old =
+begun_happens shows w new (WorldEvent.Change call key) seen last h old =
     subst (AllBegun shows) (sym h.5) (record { calls = old.calls; parts = parts_put shows w.parts key _ (part_begun shows w call key h.0 h.2 old) old.parts; joins = old.joins })
-begun_happens shows w new (event.Report call left fault) seen last h old =
+begun_happens shows w new (WorldEvent.Report call left fault) seen last h old =
     let met = option_map WriterFailed fault in
     subst (AllBegun shows) (sym h.3)
     (each_report (AllBegun shows) call (report_for h.0.kind left fault)
     (λ v key part at waits o. record { calls = o.calls; parts = parts_put shows v.parts key _ (part_begun shows v call key part at o) o.parts; joins = o.joins })
     (with_met_by w call met) (keys_reported (reported_keys w.parts call (open_keys h.0)))
     (record { calls = each_replaced call (λ x. Some (with_met met x)) (IsBegun shows) h.0 w.calls h.1 (λ v goes b. begun_taken shows h.0 v (taken_met met h.0 v goes) b) old.calls; parts = old.parts; joins = old.joins }))
-begun_happens shows w new (event.Leave call) seen last h old =
+begun_happens shows w new (WorldEvent.Leave call) seen last h old =
     subst (AllBegun shows) (sym h.1) (record { calls = each_filter (IsBegun shows) (λ x. not (has_number call x)) w.calls old.calls; parts = old.parts; joins = old.joins })
-begun_happens shows w new (event.Foreign key value) seen last h old = subst (AllBegun shows) (sym h.1) (record { calls = old.calls; parts = old.parts; joins = old.joins })
+begun_happens shows w new (WorldEvent.Foreign key value) seen last h old = subst (AllBegun shows) (sym h.1) (record { calls = old.calls; parts = old.parts; joins = old.joins })
 begun_happens shows w new e seen last h old = let k = key_change w new e seen refl h in begun_key shows w new e k.0 seen k.1 old
 
 -- and of any event
@@ -249,7 +235,7 @@ begun_opened shows config (e ∷ es) = let rest = begun_opened shows config es i
 
 -- the answer of a call that has begun, with its step in the stripe of its key
 answered_at : (w new : WorldState) (shows : List (WorldEvent × Shown)) (caller : Caller) (key : Bytes) (op : Op) (out : Out) (shared : Option ℕ) (reply : Reply) (number place : ℕ) (to : State) → number ≡ home w key → IsLater w new
-    → slice_get new.stripes (home w key) ≡ Some to → IsSoundWorld new → slice_get to.history place ≡ Some (stripe.Step caller op key out shared reply) → BegunAs shows caller key op
+    → slice_get new.stripes (home w key) ≡ Some to → IsSoundWorld new → slice_get to.history place ≡ Some (StripeEvent.Step caller op key out shared reply) → BegunAs shows caller key op
     → IsReplyOfStep new shows caller.call key reply number place shared
 answered_at w new shows caller key op out shared reply number place to home_is later here sound step begun = record {
   session = caller.session;
@@ -272,11 +258,11 @@ answered_for w shows call n key k reply number place shared calls keys h =
 
 -- what shows no answer has nothing to stand for
 stands_silent : (w : WorldState) (shows : List (WorldEvent × Shown)) (e : WorldEvent) (seen : Outcome) → AnswersNone seen → Stands w shows e seen
-stands_silent w shows e (outcome.Stepped x) none = let t : true ≡ false = sym (and_from _ _ (nat_eq_equiv.refl x.stripe) (nat_eq_equiv.refl x.place)) ∙ none x.stripe x.place in cc
-stands_silent w shows e (outcome.PickedUp x) none = let t : true ≡ false = sym (and_from _ _ (nat_eq_equiv.refl x.stripe) (nat_eq_equiv.refl x.place)) ∙ none x.stripe x.place in cc
-stands_silent w shows (event.Start call key) seen none = tt
-stands_silent w shows (event.Commit call key) seen none = tt
-stands_silent w shows (event.PickUp call key) seen none = tt
+stands_silent w shows e (Outcome.Stepped x) none = let t : true ≡ false = sym (and_from _ _ (nat_eq_equiv.refl x.stripe) (nat_eq_equiv.refl x.place)) ∙ none x.stripe x.place in cc
+stands_silent w shows e (Outcome.PickedUp x) none = let t : true ≡ false = sym (and_from _ _ (nat_eq_equiv.refl x.stripe) (nat_eq_equiv.refl x.place)) ∙ none x.stripe x.place in cc
+stands_silent w shows (WorldEvent.Start call key) seen none = tt
+stands_silent w shows (WorldEvent.Commit call key) seen none = tt
+stands_silent w shows (WorldEvent.PickUp call key) seen none = tt
 stands_silent w shows e seen none = tt
 
 -- the stripe of a key, once a phase has set it

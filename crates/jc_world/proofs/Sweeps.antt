@@ -2,19 +2,8 @@
 --     sweeps_left, sweep_found      what is left of a call once a key is settled, and once it has taken keys
 --     sweeps_happens                any event that fits
 use Rattle.jc_world.proofs.Common.{◌≡◌, ℕ, true, false, cond, not, ◌||◌, List, [], ◌∷◌, ◌++◌, is_some, ◌==◌, Some, None, Option, find, sym, refl, ap, ◌∙◌, subst, append-nil, eqb-true, and_parts, or_right, nat_eq_equiv, list_any-append, is_some-lookup, pointwise, list_any, list_all, lookup, option_or, stripe_of, Caller, Config, Refusal, Bytes, Op, State, JoinClaim, Command, Outcome, Part, Shown, WorldEvent, at_each, SweepState, CallState, new_call, has_number, opened, going_on, with_met, settle, has_looked, has_looked_at_each, next_sweep, with_found, look, fault_in, with_met_by, Starts, Ends, Picks, Happens, fits, Each, Sweeps, IsSoundWorld, WorldState, open_call}
-use Rattle.jc_world.specs.declared.command.Command.TheVariants as command
-use Rattle.jc_world.specs.declared.event.Outcome.TheVariants as outcome
-use Rattle.jc_world.specs.declared.event.WorldEvent.TheVariants as event
-use Rattle.jc_world.proofs.Found.{lookup-found}
-use Rattle.jc_world.proofs.Looked.{each_replaced}
-use Rattle.jc_world.proofs.NewCalls.{opened_cases}
-use Rattle.jc_world.proofs.Returns.{IsReport}
-use Rattle.jc_world.proofs.Settling.{Left, going_is, each_settled}
-use Rattle.jc_world.proofs.Shares.{each_filter, each_pushed}
+use Rattle.jc_world.proofs.Lemmas.{each_pushed, each_filter, same_bytes, Left, going_is, each_settled, opened_cases, each_replaced, keys-at_each, lookup-found, KeyChange, by_nothing, by_refusal, by_step, by_reservation, by_join, by_commit, by_withdrawal, by_answer, by_retry, key_change, IsReport}
 use Rattle.jc_world.proofs.StripeKeys.{all_here}
-use Rattle.jc_world.proofs.TaskLists.{keys-at_each}
-use Rattle.jc_world.proofs.Underway.{same_bytes}
-use Rattle.jc_world.proofs.KeyChanges.{KeyChange, by_answer, by_commit, by_join, by_nothing, by_refusal, by_reservation, by_retry, by_step, by_withdrawal, key_change}
 
 -- 1. One call.
 
@@ -25,7 +14,7 @@ sweeps_left config call key u v left old s is q there =
 
 -- a call that has just begun has no keys, if it looks at the stripes
 sweeps_new : (config : Config) (call session : ℕ) (c : Command) → Sweeps config (new_call call session c)
-sweeps_new config call session (command.Single op key) s is q there = cc
+sweeps_new config call session (Command.Single op key) s is q there = cc
 sweeps_new config call session c s is q there = cc
 
 -- behind a look
@@ -101,15 +90,15 @@ pub sweeps_met : (w : WorldState) (call : ℕ) (met : Option Refusal) (u : CallS
 sweeps_met w call met u here old = each_replaced call (λ x. Some (with_met met x)) (Sweeps w.config) u w.calls here (λ v goes h. let is : with_met met u ≡ v = cc in subst (Sweeps w.config) is h) old
 
 pub sweeps_happens : (w new : WorldState) (e : WorldEvent) (seen : Shown) → fits w e ≡ true → Happens w e seen new → (IsReport e → IsSoundWorld new) → IsSoundWorld w → AllSweep new
-sweeps_happens w new (event.Call call session command) seen fit h back old = subst AllSweep (sym h.1) (sweeps_called w call session command old)
-sweeps_happens w new (event.Look call stripe) seen fit h back old =
+sweeps_happens w new (WorldEvent.Call call session command) seen fit h back old = subst AllSweep (sym h.1) (sweeps_called w call session command old)
+sweeps_happens w new (WorldEvent.Look call stripe) seen fit h back old =
     let own = all_here w stripe h.4 h.6 (old.shape.each stripe h.4 h.5) h.7 in
     subst AllSweep (sym h.9) (sweeps_looked w call stripe h.6 h.1 h.0 h.2 h.3 own old.sweeps)
-sweeps_happens w new (event.Change call key) seen fit h back old = subst AllSweep (sym h.5) old.sweeps
-sweeps_happens w new (event.Report call left fault) seen fit h back old = (back tt).sweeps
-sweeps_happens w new (event.Leave call) seen fit h back old = subst AllSweep (sym h.1) (each_filter (Sweeps w.config) (λ u. not (has_number call u)) w.calls old.sweeps)
-sweeps_happens w new (event.Foreign key value) seen fit h back old = subst AllSweep (sym h.1) old.sweeps
-sweeps_happens w new (event.Read call key) seen fit h back old = subst AllSweep (sym h.3) old.sweeps
-sweeps_happens w new (event.Say call key answer) seen fit h back old = subst AllSweep (sym h.3) old.sweeps
-sweeps_happens w new (event.Process call key source calls fail) seen fit h back old = subst AllSweep (sym h.3) old.sweeps
+sweeps_happens w new (WorldEvent.Change call key) seen fit h back old = subst AllSweep (sym h.5) old.sweeps
+sweeps_happens w new (WorldEvent.Report call left fault) seen fit h back old = (back tt).sweeps
+sweeps_happens w new (WorldEvent.Leave call) seen fit h back old = subst AllSweep (sym h.1) (each_filter (Sweeps w.config) (λ u. not (has_number call u)) w.calls old.sweeps)
+sweeps_happens w new (WorldEvent.Foreign key value) seen fit h back old = subst AllSweep (sym h.1) old.sweeps
+sweeps_happens w new (WorldEvent.Read call key) seen fit h back old = subst AllSweep (sym h.3) old.sweeps
+sweeps_happens w new (WorldEvent.Say call key answer) seen fit h back old = subst AllSweep (sym h.3) old.sweeps
+sweeps_happens w new (WorldEvent.Process call key source calls fail) seen fit h back old = subst AllSweep (sym h.3) old.sweeps
 sweeps_happens w new e seen fit h back old = let k = key_change w new e seen refl h in sweeps_key w new e k.0 seen k.1 old.sweeps

@@ -17,7 +17,6 @@
 --     first_settled, first_fits
 --                             once a key is settled, the first open one is found from where it was
 use Rattle.jc_world.proofs.Common.{◌≡◌, ℕ, zero, suc, ◌+◌, ◌<◌, ◌≤◌, Bool, true, false, cond, not, ◌&&◌, ◌||◌, List, [], ◌∷◌, ◌++◌, length, get_or, take, drop, is_some, ◌==◌, slice_get, Some, None, filter, Option, option_map, sym, refl, ap, ◌∙◌, subst, true≢false, zero-add, arith, and_parts, and_from, and_right, false_from_ne_true, nat_tests, map-append, take_more, IsDistinct-head, IsDistinct-tail, is_some-lookup, IsDistinct-keys_filter, slice_get_within, slice_get_read, get_or_from_slice_get, pointwise, list_any, list_all, AllByRecursion, IsDistinct, keys_of, lookup, set_value, option_flatten, insert_entry-new, IndexMap, insert_entry, Bytes, Op, Task, at_each, put_each_of, op_in, is_open, open_in, first_open}
-use Rattle.jc_model.specs.declared.event.Op.TheVariants as op
 use Rattle.jc_world.proofs.Underway.{same_bytes}
 
 -- 1. New keys.
@@ -75,14 +74,14 @@ at_each-more m one keys i key distinct lt is made =
 
 -- one entry more
 pub put_each_of-more : {S : Type 0} (m : IndexMap Bytes (Option Op) S) (entries : List (Bytes × Bytes)) (i : ℕ) (key value : Bytes) → IsDistinct (pointwise ◌==◌) (keys_of entries) → slice_get entries i ≡ Some (key, value)
-    → m.entries ≡ put_each_of (take i entries) → insert_entry (pointwise ◌==◌) m.entries key (Some (op.Put value)) ≡ put_each_of (take (i + 1) entries)
+    → m.entries ≡ put_each_of (take i entries) → insert_entry (pointwise ◌==◌) m.entries key (Some (Op.Put value)) ≡ put_each_of (take (i + 1) entries)
 put_each_of-more m entries i key value distinct at made =
     let lt = slice_get_within entries i (key, value) at in
     let is = sym (get_or_from_slice_get entries i (key, value) (key, value) at) in
-    new_last m key (Some (op.Put value))
+    new_last m key (Some (Op.Put value))
     (ap (λ es. list_any (pointwise ◌==◌ key) (keys_of es)) made ∙ ap (list_any (pointwise ◌==◌ key)) (keys-put_each_of (take i entries) ∙ take-keys i entries) ∙ absent (keys_of entries) i key distinct (key_at entries i key value at))
-    ∙ ap (λ es. es ++ (key, Some (op.Put value)) ∷ []) made
-    ∙ sym (ap put_each_of (take_more entries i (key, value) lt ∙ ap (λ x. take i entries ++ x ∷ []) (sym is)) ∙ map-append (λ (e : Bytes × Bytes). (e.0, Some (op.Put e.1))) (take i entries) ((key, value) ∷ []))
+    ∙ ap (λ es. es ++ (key, Some (Op.Put value)) ∷ []) made
+    ∙ sym (ap put_each_of (take_more entries i (key, value) lt ∙ ap (λ x. take i entries ++ x ∷ []) (sym is)) ∙ map-append (λ (e : Bytes × Bytes). (e.0, Some (Op.Put e.1))) (take i entries) ((key, value) ∷ []))
 
 -- 2. A key that is settled.
 

@@ -4,19 +4,10 @@
 --     keeps_other     what happens at a key keeps every other key of the call
 --     fit_together    what fits at keys that differ fits one after the other
 use Rattle.jc_world.proofs.Common.{◌≡◌, ℕ, Bool, true, false, cond, not, ◌&&◌, ◌||◌, List, [], ◌∷◌, ◌++◌, map, is_some, is_none, IsSomeAnd, ◌==◌, Some, None, Option, find, sym, refl, ap, ◌∙◌, subst, inl, append-nil, eqb-true, and_parts, and_from, or_right, nat_eq_equiv, nat_list_cmp_total, nat_list_eq_equiv, IsDistinct-head, IsDistinct-tail, pointwise, get, insert, remove, get-insert, list_any, list_all, AllByRecursion, IsDistinct, Refusal, is_among, Bytes, Cache, is_load_given, Change, Op, State, JoinClaim, Outcome, Part, Premises, Shown, WorldEvent, CallState, has_number, op_at, open_keys, is_turn, settle, Starts, Ends, Picks, with_change, after_change, Happens, AllFit, is_free, may_start, may_leave, waits_at, may_report, fits, Each, IsCallOf, IsSoundWorld, at_call, key_at, AreAt, FitTogether, Parts, JoinKey, join_key, WorldState, open_call, of_call, part_of, has_progress, waits_for_load, waits_for_report, has_joined, is_joined}
-use Rattle.jc_world.specs.declared.event.Outcome.TheVariants as outcome
-use Rattle.jc_world.specs.declared.event.WorldEvent.TheVariants as event
-use Rattle.jc_world.proofs.Beginning.{may_start_at, may_turn, part_turn}
-use Rattle.jc_world.proofs.Callers.{picking, picking_turn}
-use Rattle.jc_world.proofs.Entries.{split}
+use Rattle.jc_world.proofs.Lemmas.{is_some_and, found_number, same_bytes, of_call-at, IsTurnOf, still_called, may_start_at, may_turn, part_turn, picking, picking_turn, split, KeyChange, by_nothing, by_refusal, by_step, by_reservation, by_join, by_commit, by_withdrawal, by_answer, by_retry, start_change, end_change, pick_change, may_of, some_of}
 use Rattle.jc_world.proofs.Fitting.{none_fit, fits_then, one_fits, still_waits, unjoined_held}
 use Rattle.jc_world.proofs.Maps.{keys_ordered, joins_ordered, get-beside, get-left, get-gone}
-use Rattle.jc_world.proofs.Numbered.{some_of}
-use Rattle.jc_world.proofs.Settling.{IsTurnOf, still_called}
-use Rattle.jc_world.proofs.Shares.{is_some_and}
 use Rattle.jc_world.proofs.Sounding.{Laws, sound_step}
-use Rattle.jc_world.proofs.Underway.{found_number, of_call-at, same_bytes}
-use Rattle.jc_world.proofs.KeyChanges.{KeyChange, by_answer, by_commit, by_join, by_nothing, by_refusal, by_reservation, by_retry, by_step, by_withdrawal, end_change, may_of, pick_change, start_change}
 
 -- 1. What fits at a key of a call.
 
@@ -62,15 +53,15 @@ kept_part : (w mid : WorldState) (call other : ℕ) (key q : Bytes) → at_call 
 kept_part w mid call other key q at keeps = at_named call other key q (λ n k. part_of mid n k ≡ part_of w n k) (named call other key q at) keeps.part
 
 pub kept_fit : (w mid : WorldState) (call : ℕ) (e : WorldEvent) (q : Bytes) → key_at call e ≡ Some q → Keeps w mid call q → fits w e ≡ true → fits mid e ≡ true
-kept_fit w mid call (event.Start other key) q at keeps fit =
-    at_named call other key q (λ n k. fits w (event.Start n k) ≡ true → fits mid (event.Start n k) ≡ true) (named call other key q at) (kept_start w mid call q keeps) fit
-kept_fit w mid call (event.Read other key) q at keeps fit = ap (has_progress _) (kept_part w mid call other key q at keeps) ∙ fit
-kept_fit w mid call (event.Say other key answer) q at keeps fit = ap (λ o. is_load_given answer && has_progress waits_for_load o) (kept_part w mid call other key q at keeps) ∙ fit
-kept_fit w mid call (event.Change other key) q at keeps fit = ap (has_progress _) (kept_part w mid call other key q at keeps) ∙ fit
-kept_fit w mid call (event.Process other key source calls fail) q at keeps fit = ap (has_progress _) (kept_part w mid call other key q at keeps) ∙ fit
-kept_fit w mid call (event.Commit other key) q at keeps fit = ap (has_progress _) (kept_part w mid call other key q at keeps) ∙ fit
-kept_fit w mid call (event.Withdraw other key) q at keeps fit = ap (has_progress _) (kept_part w mid call other key q at keeps) ∙ fit
-kept_fit w mid call (event.PickUp other key) q at keeps fit =
+kept_fit w mid call (WorldEvent.Start other key) q at keeps fit =
+    at_named call other key q (λ n k. fits w (WorldEvent.Start n k) ≡ true → fits mid (WorldEvent.Start n k) ≡ true) (named call other key q at) (kept_start w mid call q keeps) fit
+kept_fit w mid call (WorldEvent.Read other key) q at keeps fit = ap (has_progress _) (kept_part w mid call other key q at keeps) ∙ fit
+kept_fit w mid call (WorldEvent.Say other key answer) q at keeps fit = ap (λ o. is_load_given answer && has_progress waits_for_load o) (kept_part w mid call other key q at keeps) ∙ fit
+kept_fit w mid call (WorldEvent.Change other key) q at keeps fit = ap (has_progress _) (kept_part w mid call other key q at keeps) ∙ fit
+kept_fit w mid call (WorldEvent.Process other key source calls fail) q at keeps fit = ap (has_progress _) (kept_part w mid call other key q at keeps) ∙ fit
+kept_fit w mid call (WorldEvent.Commit other key) q at keeps fit = ap (has_progress _) (kept_part w mid call other key q at keeps) ∙ fit
+kept_fit w mid call (WorldEvent.Withdraw other key) q at keeps fit = ap (has_progress _) (kept_part w mid call other key q at keeps) ∙ fit
+kept_fit w mid call (WorldEvent.PickUp other key) q at keeps fit =
     at_named call other key q (λ n k. is_joined mid n k ≡ is_joined w n k) (named call other key q at) keeps.joined ∙ fit
 kept_fit w mid call e q at keeps fit = cc
 
@@ -126,18 +117,18 @@ keeps_told w call key q part store premises apart = record { called = λ session
 
 -- the call of an event that is at a key
 pub keeps_other : (w mid : WorldState) (call : ℕ) (e : WorldEvent) (seen : Shown) (key q : Bytes) → key_at call e ≡ Some key → (q ≡ key → ⊥) → fits w e ≡ true → Happens w e seen mid → IsSoundWorld w → Keeps w mid call q
-keeps_other w mid call (event.Start other k) seen key q at apart fit h old =
-    keeps_key w mid call (event.Start other k) k q seen (start_change w mid (event.Start other k) h.0 k h.1 h.4 h.6 seen.outcome seen refl (λ r. refl) (record { call = other; e_is = refl; here = h.2; op_is = h.3 }) h.5 h.7) (λ same. apart (same ∙ (named call other k key at).1)) fit old
-keeps_other w mid call (event.Read other k) seen key q at apart fit h old = subst (λ m. Keeps w m call q) (sym h.3) (keeps_told w call k q _ _ _ (λ same. apart (same ∙ (named call other k key at).1)))
-keeps_other w mid call (event.Say other k answer) seen key q at apart fit h old = subst (λ m. Keeps w m call q) (sym h.3) (keeps_told w call k q _ _ _ (λ same. apart (same ∙ (named call other k key at).1)))
-keeps_other w mid call (event.Change other k) seen key q at apart fit h old = subst (λ m. Keeps w m call q) (sym h.5) (keeps_told w call k q _ _ _ (λ same. apart (same ∙ (named call other k key at).1)))
-keeps_other w mid call (event.Process other k source calls fail) seen key q at apart fit h old = subst (λ m. Keeps w m call q) (sym h.3) (keeps_told w call k q _ _ _ (λ same. apart (same ∙ (named call other k key at).1)))
-keeps_other w mid call (event.Commit other k) seen key q at apart fit h old =
-    keeps_key w mid call (event.Commit other k) k q seen (end_change w mid other k h.0 h.2 h.4 seen.outcome seen refl h.1 h.3 h.5) (λ same. apart (same ∙ (named call other k key at).1)) fit old
-keeps_other w mid call (event.Withdraw other k) seen key q at apart fit h old =
-    keeps_key w mid call (event.Withdraw other k) k q seen (by_withdrawal other h.0 h.2 h.4 refl h.1 h.3 h.5 h.7 h.6) (λ same. apart (same ∙ (named call other k key at).1)) fit old
-keeps_other w mid call (event.PickUp other k) seen key q at apart fit h old =
-    keeps_key w mid call (event.PickUp other k) k q seen (pick_change w mid other k h.0 h.2 h.4 seen.outcome seen refl h.1 h.3 h.5) (λ same. apart (same ∙ (named call other k key at).1)) fit old
+keeps_other w mid call (WorldEvent.Start other k) seen key q at apart fit h old =
+    keeps_key w mid call (WorldEvent.Start other k) k q seen (start_change w mid (WorldEvent.Start other k) h.0 k h.1 h.4 h.6 seen.outcome seen refl (λ r. refl) (record { call = other; e_is = refl; here = h.2; op_is = h.3 }) h.5 h.7) (λ same. apart (same ∙ (named call other k key at).1)) fit old
+keeps_other w mid call (WorldEvent.Read other k) seen key q at apart fit h old = subst (λ m. Keeps w m call q) (sym h.3) (keeps_told w call k q _ _ _ (λ same. apart (same ∙ (named call other k key at).1)))
+keeps_other w mid call (WorldEvent.Say other k answer) seen key q at apart fit h old = subst (λ m. Keeps w m call q) (sym h.3) (keeps_told w call k q _ _ _ (λ same. apart (same ∙ (named call other k key at).1)))
+keeps_other w mid call (WorldEvent.Change other k) seen key q at apart fit h old = subst (λ m. Keeps w m call q) (sym h.5) (keeps_told w call k q _ _ _ (λ same. apart (same ∙ (named call other k key at).1)))
+keeps_other w mid call (WorldEvent.Process other k source calls fail) seen key q at apart fit h old = subst (λ m. Keeps w m call q) (sym h.3) (keeps_told w call k q _ _ _ (λ same. apart (same ∙ (named call other k key at).1)))
+keeps_other w mid call (WorldEvent.Commit other k) seen key q at apart fit h old =
+    keeps_key w mid call (WorldEvent.Commit other k) k q seen (end_change w mid other k h.0 h.2 h.4 seen.outcome seen refl h.1 h.3 h.5) (λ same. apart (same ∙ (named call other k key at).1)) fit old
+keeps_other w mid call (WorldEvent.Withdraw other k) seen key q at apart fit h old =
+    keeps_key w mid call (WorldEvent.Withdraw other k) k q seen (by_withdrawal other h.0 h.2 h.4 refl h.1 h.3 h.5 h.7 h.6) (λ same. apart (same ∙ (named call other k key at).1)) fit old
+keeps_other w mid call (WorldEvent.PickUp other k) seen key q at apart fit h old =
+    keeps_key w mid call (WorldEvent.PickUp other k) k q seen (pick_change w mid other k h.0 h.2 h.4 seen.outcome seen refl h.1 h.3 h.5) (λ same. apart (same ∙ (named call other k key at).1)) fit old
 keeps_other w mid call e seen key q at apart fit h old = cc
 
 -- 3. Events at keys that differ.
@@ -231,7 +222,7 @@ free_then w call key keys q alone h =
           ap (λ o. is_among keys q || (is_none o && not (is_joined w call q))) (part_without w.parts q key call apart) ∙ h
     ] refl h
 
-goes_leaving : (call : ℕ) → Goes call (λ e. (k : Bytes) × (e ≡ event.Withdraw call k)) (IsLeaving call) (event.Leave call ∷ [])
+goes_leaving : (call : ℕ) → Goes call (λ e. (k : Bytes) × (e ≡ WorldEvent.Withdraw call k)) (IsLeaving call) (WorldEvent.Leave call ∷ [])
 goes_leaving call = record {
   step = λ w mid e seen key keys old is at fit h q.
       subst (λ e. key_at call e ≡ Some key → fits w e ≡ true → Happens w e seen mid → IsLeaving call keys mid) (sym is.1) (λ at fit h.
@@ -244,14 +235,14 @@ goes_leaving call = record {
             subst (λ x. (is_among keys k || (is_none (of_call call (get (remove w.parts x) k)) && not (is_joined w call k))) ≡ true) (sym mine.1)
             (free_then w call key keys k (subst (λ x. is_joined w call x ≡ false) mine.1 alone) t)) q.rest;
       })) at fit h;
-  end = λ w q. one_fits w (event.Leave call) (ap (may_leave w call) q.here ∙ all_more _ _ (open_keys q.u) (λ key t. t) q.rest);
+  end = λ w q. one_fits w (WorldEvent.Leave call) (ap (may_leave w call) q.here ∙ all_more _ _ (open_keys q.u) (λ key t. t) q.rest);
 }
 
-leaving_fits : Laws → (w : WorldState) → IsSoundWorld w → (call : ℕ) (u : CallState) (keys : List Bytes) → open_call w call ≡ Some u → IsDistinct (pointwise ◌==◌) keys → list_all (λ key. fits w (event.Withdraw call key)) keys ≡ true
-    → list_all (λ key. is_among keys key || is_free w call key) (open_keys u) ≡ true → AllFit w (map (event.Withdraw call) keys ++ event.Leave call ∷ [])
+leaving_fits : Laws → (w : WorldState) → IsSoundWorld w → (call : ℕ) (u : CallState) (keys : List Bytes) → open_call w call ≡ Some u → IsDistinct (pointwise ◌==◌) keys → list_all (λ key. fits w (WorldEvent.Withdraw call key)) keys ≡ true
+    → list_all (λ key. is_among keys key || is_free w call key) (open_keys u) ≡ true → AllFit w (map (WorldEvent.Withdraw call) keys ++ WorldEvent.Leave call ∷ [])
 leaving_fits laws w old call u keys here differ fit rest =
-    all_together laws call (λ e. (k : Bytes) × (e ≡ event.Withdraw call k)) (IsLeaving call) (event.Leave call ∷ []) (goes_leaving call) w keys (map (event.Withdraw call) keys) old
-    (are_mapped call keys (event.Withdraw call) (own_call call)) differ (each_mapped _ (event.Withdraw call) (λ key. (key, refl)) keys) (all_mapped (fits w) (event.Withdraw call) keys fit) (record { u = u; here = here; rest = rest })
+    all_together laws call (λ e. (k : Bytes) × (e ≡ WorldEvent.Withdraw call k)) (IsLeaving call) (WorldEvent.Leave call ∷ []) (goes_leaving call) w keys (map (WorldEvent.Withdraw call) keys) old
+    (are_mapped call keys (WorldEvent.Withdraw call) (own_call call)) differ (each_mapped _ (WorldEvent.Withdraw call) (λ key. (key, refl)) keys) (all_mapped (fits w) (WorldEvent.Withdraw call) keys fit) (record { u = u; here = here; rest = rest })
 
 -- 5. The writer's return, after its changes of the store.
 
@@ -281,19 +272,19 @@ report_kept w call key part change is h = go (open_call w call) h
     go None h = h
     go (Some u) h = any (open_keys u) h
 
-goes_reporting : (call : ℕ) (left : List Bytes) (fault : Option ℕ) → Goes call (λ e. (k : Bytes) × (e ≡ event.Change call k)) (λ keys w. fits w (event.Report call left fault) ≡ true) (event.Report call left fault ∷ [])
+goes_reporting : (call : ℕ) (left : List Bytes) (fault : Option ℕ) → Goes call (λ e. (k : Bytes) × (e ≡ WorldEvent.Change call k)) (λ keys w. fits w (WorldEvent.Report call left fault) ≡ true) (WorldEvent.Report call left fault ∷ [])
 goes_reporting call left fault = record {
   step = λ w mid e seen key keys old is at fit h q.
-      subst (λ e. Happens w e seen mid → fits mid (event.Report call left fault) ≡ true) (sym is.1) (λ h.
-      subst (λ m. fits m (event.Report call left fault) ≡ true) (sym h.5) (report_kept w call is.0 h.0 h.1 h.2 q)) h;
-  end = λ w q. one_fits w (event.Report call left fault) q;
+      subst (λ e. Happens w e seen mid → fits mid (WorldEvent.Report call left fault) ≡ true) (sym is.1) (λ h.
+      subst (λ m. fits m (WorldEvent.Report call left fault) ≡ true) (sym h.5) (report_kept w call is.0 h.0 h.1 h.2 q)) h;
+  end = λ w q. one_fits w (WorldEvent.Report call left fault) q;
 }
 
-reporting_fits : Laws → (w : WorldState) → IsSoundWorld w → (call : ℕ) (keys left : List Bytes) (fault : Option ℕ) → IsDistinct (pointwise ◌==◌) keys → list_all (λ key. fits w (event.Change call key)) keys ≡ true
-    → fits w (event.Report call left fault) ≡ true → AllFit w (map (event.Change call) keys ++ event.Report call left fault ∷ [])
+reporting_fits : Laws → (w : WorldState) → IsSoundWorld w → (call : ℕ) (keys left : List Bytes) (fault : Option ℕ) → IsDistinct (pointwise ◌==◌) keys → list_all (λ key. fits w (WorldEvent.Change call key)) keys ≡ true
+    → fits w (WorldEvent.Report call left fault) ≡ true → AllFit w (map (WorldEvent.Change call) keys ++ WorldEvent.Report call left fault ∷ [])
 reporting_fits laws w old call keys left fault differ fit reports =
-    all_together laws call (λ e. (k : Bytes) × (e ≡ event.Change call k)) (λ keys w. fits w (event.Report call left fault) ≡ true) (event.Report call left fault ∷ []) (goes_reporting call left fault) w keys (map (event.Change call) keys) old
-    (are_mapped call keys (event.Change call) (own_call call)) differ (each_mapped _ (event.Change call) (λ key. (key, refl)) keys) (all_mapped (fits w) (event.Change call) keys fit) reports
+    all_together laws call (λ e. (k : Bytes) × (e ≡ WorldEvent.Change call k)) (λ keys w. fits w (WorldEvent.Report call left fault) ≡ true) (WorldEvent.Report call left fault ∷ []) (goes_reporting call left fault) w keys (map (WorldEvent.Change call) keys) old
+    (are_mapped call keys (WorldEvent.Change call) (own_call call)) differ (each_mapped _ (WorldEvent.Change call) (λ key. (key, refl)) keys) (all_mapped (fits w) (WorldEvent.Change call) keys fit) reports
 
 pub fit_together : Laws → (w : WorldState) → IsSoundWorld w → FitTogether w
 fit_together laws w old = record {
