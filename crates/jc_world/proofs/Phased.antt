@@ -1,5 +1,6 @@
 -- What the machine of a world does in a first and a last phase is what the definitions say.
 use Rattle.jc_world.proofs.Common.{◌≡◌, ℕ, zero, suc, true, false, cond, ◌&&◌, List, [], ◌∷◌, ◌++◌, length, drop, is_some, IsSomeAnd, slice_get, slice_set, Some, None, Option, sym, refl, ap, ◌∙◌, subst, subst₂, append-nil, and_parts, get, insert, remove, Config, Refusal, Bytes, Change, Event, Op, Played, MayBegin, Begins, Commits, Withdraws, PicksUp, reserves, State, IsOut, IsJoined, Ticket, ProcessClaim, asks_writer, entry_seen, JoinClaim, Begun, Picked, StepDone, First, Loader, Nobody, Processor, Writer, Reservation, Outcome, Over, Part, PickedUp, Progress, Shown, Stepped, WorldEvent, puts_off, CallState, op_at, is_turn, settle, over_settled, step_of, not_over, fault_in, over_by, new_load, new_write, new_process, new_part, with_new_part, BeginsAs, Starts, RefusesAs, Happens, is_free, may_start, fits, is_due, IsHeld, IsSoundWorld, OrderedStripes, IsPhase, IsQuietPhase, Parts, join_key, Joins, WorldState, home, stripe_for, open_call, part_of, out_of, join_of}
+use Rattle.jc_world.specs.NewTickets.{IsNewTicket, HoldsTicket}
 use Rattle.jc_world.proofs.Lemmas.{missing, join_at, may_start_at, begins_at, was_free, writer_alone, processor_free, some_of}
 use Rattle.jc_world.proofs.Holding.{is_part}
 use Rattle.jc_world.proofs.Kept.{unheld, stripe_at}
@@ -111,16 +112,11 @@ started_refused v next call key u op refusal seen stripes order calls p shows ca
     ] refl shows calls_are)
 
 -- a key is reserved, and its stripe appends nothing
-reserved : (v next : WorldState) (key : Bytes) (phase : State → State → Type 0) (stripes : List State) (order : List Event) (progress : Progress) (r : Reservation) (q : Phased v (home v key) phase stripes order) → q.to.history ≡ q.from.history
-    → next ≡ record v { stripes = stripes; order = order; parts = insert v.parts key (new_part progress r) } → next ≡ with_new_part v key q.to progress r
-reserved v next key phase stripes order progress r q same next_is =
-    next_is ∙ (λ i. record v { stripes = q.stripes_are i; order = quiet_order v (home v key) phase stripes order q same i; parts = insert v.parts key (new_part progress r) })
-
-pub started_loads : (v next : WorldState) (call : ℕ) (key : Bytes) (u : CallState) (op : Op) (ticket : Ticket) (stripes : List State) (order : List Event) → StartPhase v call key u op (Begun.Load ticket) stripes order
-    → next ≡ record v { stripes = stripes; order = order; parts = insert v.parts key (new_part new_load ticket.reservation) } → Happens v (WorldEvent.Start call key) (not_over Outcome.Loads) next
-started_loads v next call key u op ticket stripes order p next_is =
-    started v next call key u op (Begun.Load ticket) (not_over Outcome.Loads) stripes order p
-    ((ticket, p.phase.made, reserved v next key _ stripes order new_load ticket.reservation p.phase (ap (λ (s : State). s.history) p.phase.made.4) next_is), tt, refl)
+reserved : (v next : WorldState) (key : Bytes) (phase : State → State → Type 0) (stripes : List State) (order : List Event) (parts : Parts) (progress : Progress) (r : Reservation) (q : Phased v (home v key) phase stripes order) → r.key ≡ key → q.to.history ≡ q.from.history
+    → parts ≡ insert v.parts r.key (new_part progress r) → next ≡ record v { stripes = stripes; order = order; parts = parts } → next ≡ with_new_part v key q.to progress r
+reserved v next key phase stripes order parts progress r q key_is same put next_is =
+    let parts_are = put ∙ ap (λ k. insert v.parts k (new_part progress r)) key_is in
+    next_is ∙ (λ i. record v { stripes = q.stripes_are i; order = quiet_order v (home v key) phase stripes order q same i; parts = parts_are i })
 
 -- a call has joined a load
 pub started_joins : (v next : WorldState) (call : ℕ) (key : Bytes) (u : CallState) (op : Op) (join : JoinClaim) (stripes : List State) (order : List Event) → StartPhase v call key u op (Begun.Joined join) stripes order
@@ -130,19 +126,25 @@ started_joins v next call key u op join stripes order p next_is =
     started v next call key u op (Begun.Joined join) (not_over Outcome.Joins) stripes order p
     ((join, p.phase.made, next_is ∙ (λ i. record v { stripes = p.phase.stripes_are i; order = quiet i; joins = insert v.joins (join_key join) join })), tt, refl)
 
-pub started_asks : (v next : WorldState) (call : ℕ) (key : Bytes) (u : CallState) (op : Op) (ticket : Ticket) (change : Change) (stripes : List State) (order : List Event) → StartPhase v call key u op (Begun.Write ticket) stripes order
-    → ticket.reservation.first ≡ Writer change
-    → next ≡ record v { stripes = stripes; order = order; parts = insert v.parts key (new_part new_write ticket.reservation) } → Happens v (WorldEvent.Start call key) (not_over (Outcome.Asks change)) next
-started_asks v next call key u op ticket change stripes order p first next_is =
-    started v next call key u op (Begun.Write ticket) (not_over (Outcome.Asks change)) stripes order p
-    ((ticket, p.phase.made, first, reserved v next key _ stripes order new_write ticket.reservation p.phase (ap (λ (s : State). s.history) p.phase.made.4) next_is), tt, refl)
-
-pub started_processes : (v next : WorldState) (call : ℕ) (key : Bytes) (u : CallState) (op : Op) (ticket : ProcessClaim) (entry : Option Bytes) (stripes : List State) (order : List Event) → StartPhase v call key u op (Begun.Process ticket) stripes order
-    → entry ≡ entry_seen ticket.reservation.first
-    → next ≡ record v { stripes = stripes; order = order; parts = insert v.parts key (new_part new_process ticket.reservation) } → Happens v (WorldEvent.Start call key) (not_over (Outcome.Processes entry)) next
-started_processes v next call key u op ticket entry stripes order p entry_is next_is =
-    started v next call key u op (Begun.Process ticket) (not_over (Outcome.Processes entry)) stripes order p
-    ((ticket, p.phase.made, entry_is, reserved v next key _ stripes order new_process ticket.reservation p.phase (ap (λ (s : State). s.history) p.phase.made.4) next_is), tt, refl)
+-- a key is reserved, its ticket is held, and it is shown who is asked
+pub started_ticket : (v next : WorldState) (call : ℕ) (key : Bytes) (u : CallState) (op : Op) (b : Begun) (seen : Shown) (stripes : List State) (order : List Event) (parts : Parts) → StartPhase v call key u op b stripes order
+    → HoldsTicket v.parts b seen parts
+    → next ≡ record v { stripes = stripes; order = order; parts = parts } → Happens v (WorldEvent.Start call key) seen next
+started_ticket v next call key u op (Begun.Load ticket) seen stripes order parts p (shown, put) next_is =
+    shown_as v v next (WorldEvent.Start call key) seen _ refl shown
+    (started v next call key u op (Begun.Load ticket) (not_over Outcome.Loads) stripes order p
+    ((ticket, p.phase.made, reserved v next key _ stripes order parts new_load ticket.reservation p.phase (ap (λ (t : Ticket). t.reservation.key) p.phase.made.3) (ap (λ (s : State). s.history) p.phase.made.4) put next_is), tt, refl))
+started_ticket v next call key u op (Begun.Write ticket) seen stripes order parts p (change, first, shown, put) next_is =
+    shown_as v v next (WorldEvent.Start call key) seen _ refl shown
+    (started v next call key u op (Begun.Write ticket) (not_over (Outcome.Asks change)) stripes order p
+    ((ticket, p.phase.made, first, reserved v next key _ stripes order parts new_write ticket.reservation p.phase (ap (λ (t : Ticket). t.reservation.key) p.phase.made.3) (ap (λ (s : State). s.history) p.phase.made.4) put next_is), tt, refl))
+started_ticket v next call key u op (Begun.Process ticket) seen stripes order parts p (shown, put) next_is =
+    shown_as v v next (WorldEvent.Start call key) seen _ refl shown
+    (started v next call key u op (Begun.Process ticket) (not_over (Outcome.Processes (entry_seen ticket.reservation.first))) stripes order p
+    ((ticket, p.phase.made, refl, reserved v next key _ stripes order parts new_process ticket.reservation p.phase (ap (λ (t : ProcessClaim). t.reservation.key) p.phase.made.3) (ap (λ (s : State). s.history) p.phase.made.4) put next_is), tt, refl))
+started_ticket v next call key u op (Begun.Done done) seen stripes order parts p h next_is = absurd h
+started_ticket v next call key u op (Begun.Joined join) seen stripes order parts p h next_is = absurd h
+started_ticket v next call key u op (Begun.Refused refusal) seen stripes order parts p h next_is = absurd h
 
 -- what has just joined had not joined before
 pub free_join : (v : WorldState) (call : ℕ) (u : CallState) (key : Bytes) (op : Op) (join : JoinClaim) (stripes : List State) (order : List Event) → StartPhase v call key u op (Begun.Joined join) stripes order
@@ -151,28 +153,33 @@ free_join v call u key op join stripes order p fit sound =
     ap (get v.joins) (λ i. join_key (p.phase.made.2 i))
     ∙ missing (join_of v u.caller.call key) (λ other e. let t : true ≡ false = sym (ap is_some e) ∙ (may_start_at v call key u op fit p.is p.op_is sound).alone in cc)
 
--- a key for which a ticket is given has no part yet
-pub free_load : (v : WorldState) (call : ℕ) (u : CallState) (key : Bytes) (op : Op) (ticket : Ticket) (stripes : List State) (order : List Event) → StartPhase v call key u op (Begun.Load ticket) stripes order → IsSoundWorld v
-    → (get v.parts key ≡ None) × (ticket.reservation.key ≡ key)
-free_load v call u key op ticket stripes order p sound =
+-- a ticket that was given is new: nothing was asked for it, and nothing is held of its key
+pub new_ticket : (v : WorldState) (call : ℕ) (u : CallState) (key : Bytes) (op : Op) (b : Begun) (stripes : List State) (order : List Event) → StartPhase v call key u op b stripes order → IsSoundWorld v
+    → ((done : StepDone) → b ≡ Begun.Done done → ⊥) → ((join : JoinClaim) → b ≡ Begun.Joined join → ⊥) → ((refusal : Refusal) → b ≡ Begun.Refused refusal → ⊥) → IsNewTicket v.parts b
+new_ticket v call u key op (Begun.Load ticket) stripes order p sound no_step no_join no_refusal =
+    let m = p.phase.made in (
+      ap (λ (t : Ticket). t.asked) m.3,
+      ap (λ (t : Ticket). get v.parts t.reservation.key) m.3 ∙ unheld v key p.phase.from p.phase.at (was_free p.phase.from u.caller key op Loader m.0 m.1 m.2 refl) sound,
+    )
+new_ticket v call u key op (Begun.Write ticket) stripes order p sound no_step no_join no_refusal =
     let m = p.phase.made in
-    (unheld v key p.phase.from p.phase.at (was_free p.phase.from u.caller key op Loader m.0 m.1 m.2 refl) sound, ap (λ (t : Ticket). t.reservation.key) m.3)
-
-pub free_write : (v : WorldState) (call : ℕ) (u : CallState) (key : Bytes) (op : Op) (ticket : Ticket) (stripes : List State) (order : List Event) → StartPhase v call key u op (Begun.Write ticket) stripes order → IsSoundWorld v
-    → (get v.parts key ≡ None) × (ticket.reservation.key ≡ key)
-free_write v call u key op ticket stripes order p sound =
-    let m = p.phase.made in
-    let first = ticket.reservation.first in
-    (unheld v key p.phase.from p.phase.at (was_free p.phase.from u.caller key op first m.0 (writer_alone p.phase.from key op first m.1 m.2) m.1 (writer_reserves first m.2)) sound, ap (λ (t : Ticket). t.reservation.key) m.3)
+    let first = ticket.reservation.first in (
+      ap (λ (t : Ticket). t.asked) m.3,
+      ap (λ (t : Ticket). get v.parts t.reservation.key) m.3 ∙ unheld v key p.phase.from p.phase.at (was_free p.phase.from u.caller key op first m.0 (writer_alone p.phase.from key op first m.1 m.2) m.1 (writer_reserves first m.2)) sound,
+    )
   where
     writer_reserves : (first : First) → asks_writer first ≡ true → reserves first ≡ true
     writer_reserves Nobody h = cc
     writer_reserves first h = refl
-
-pub free_process : (v : WorldState) (call : ℕ) (u : CallState) (key : Bytes) (op : Op) (ticket : ProcessClaim) (stripes : List State) (order : List Event) → StartPhase v call key u op (Begun.Process ticket) stripes order → IsSoundWorld v
-    → (get v.parts key ≡ None) × (ticket.reservation.key ≡ key)
-free_process v call u key op ticket stripes order p sound =
-    (unheld v key p.phase.from p.phase.at (processor_free p.phase.from p.phase.to u.caller key op ticket p.phase.made) sound, ap (λ (t : ProcessClaim). t.reservation.key) p.phase.made.3)
+new_ticket v call u key op (Begun.Process ticket) stripes order p sound no_step no_join no_refusal =
+    let m = p.phase.made in (
+      ap (λ (t : ProcessClaim). t.asked) m.3,
+      ap (λ (t : ProcessClaim). t.writer_asked) m.3,
+      ap (λ (t : ProcessClaim). get v.parts t.reservation.key) m.3 ∙ unheld v key p.phase.from p.phase.at (processor_free p.phase.from p.phase.to u.caller key op ticket m) sound,
+    )
+new_ticket v call u key op (Begun.Done done) stripes order p sound no_step no_join no_refusal = absurd (no_step done refl)
+new_ticket v call u key op (Begun.Joined join) stripes order p sound no_step no_join no_refusal = absurd (no_join join refl)
+new_ticket v call u key op (Begun.Refused refusal) stripes order p sound no_step no_join no_refusal = absurd (no_refusal refusal refl)
 
 -- 4. A last phase.
 

@@ -1,6 +1,7 @@
 use Rattle.jc_world.proofs.Common.{◌≡◌, ℕ, true, cond, List, IsSomeAnd, slice_get, Some, None, Option, find, option_copied, sym, refl, ap, ◌∙◌, subst, subst₂, get, insert, stripe_of, Caller, Bytes, Op, MayBegin, Begun, Outcome, Shown, WorldEvent, puts_off, CallState, has_number, op_at, settle, over_settled, not_over, new_load, new_write, new_process, new_part, BeginsAs, Happens, fits, world_of, IsSoundWorld, OrderedStripes, IsPhase, join_key, WorldState, open_call}
-use Rattle.jc_world.proofs.Phased.{start_open, may_begin_at, here, phased_from, shown_as, StartPhase, started_done, started_refused, started_loads, started_joins, started_asks, started_processes, free_load, free_write, free_process, free_join}
-use Rattle.jc_world.proofs.machine.Machine.start.Goals.{In-Some, After-begin, In-Load, In-Write, In-Process}
+use Rattle.jc_world.proofs.Phased.{start_open, may_begin_at, here, phased_from, shown_as, StartPhase, started_done, started_refused, started_joins, started_ticket, new_ticket, free_join}
+use Rattle.jc_world.specs.NewTickets.{IsNewTicket, HoldsTicket}
+use Rattle.jc_world.proofs.machine.Machine.start.Goals.{In-Some, After-begin}
 use Rattle.jc_world.proofs.machine.Machine.start.Goals as goal
 
 -- 1. What is known after a call.
@@ -26,16 +27,6 @@ ran c b is =
           (phased_from v c.reserve.new.self c.begin.new.self number (BeginsAs u.caller key op b) (ap (λ (s : OrderedStripes). s.stripes) same) (ap (λ (s : OrderedStripes). s.order) same) (subst₂ P c.caller-caller.ensures is c.begin.ensures));
     }
 
--- the key of a ticket has no part yet
-load_free : (c : In-Load) → (get (world_of c.self.inside).parts c.args.key.now ≡ None) × (c.in-Load.ticket.reservation.key ≡ c.args.key.now)
-load_free c = free_load (world_of c.self.inside) c.args.call _ c.args.key.now _ c.in-Load.ticket _ _ (ran c.before (Begun.Load c.in-Load.ticket) c.in-Load.is) (subst IsSoundWorld (sym c.self.view_is) c.requires.sound)
-
-write_free : (c : In-Write) → (get (world_of c.self.inside).parts c.args.key.now ≡ None) × (c.in-Write.ticket.reservation.key ≡ c.args.key.now)
-write_free c = free_write (world_of c.self.inside) c.args.call _ c.args.key.now _ c.in-Write.ticket _ _ (ran c.before (Begun.Write c.in-Write.ticket) c.in-Write.is) (subst IsSoundWorld (sym c.self.view_is) c.requires.sound)
-
-process_free : (c : In-Process) → (get (world_of c.self.inside).parts c.args.key.now ≡ None) × (c.in-Process.ticket.reservation.key ≡ c.args.key.now)
-process_free c = free_process (world_of c.self.inside) c.args.call _ c.args.key.now _ c.in-Process.ticket _ _ (ran c.before (Begun.Process c.in-Process.ticket) c.in-Process.is) (subst IsSoundWorld (sym c.self.view_is) c.requires.sound)
-
 -- 2. What the calls require.
 
 pub op_at_open-op-requires : goal.op_at_open-op-requires
@@ -55,14 +46,12 @@ begin-requires-clause-begins c =
     let at = subst P (sym c.self.view_is) (may_begin_at w c.args.call key u op c.requires.fits is c.op_at_open-op.ensures c.requires.sound) in
     subst (Q c.stripe_of-number.result c.reserve.new.self) (sym c.caller-caller.ensures) (subst (λ v. Q c.stripe_of-number.result v u.caller) (sym c.in_ok-reserve.ensures.same) (subst (λ n. Q n c.self.inside.stripes u.caller) (sym c.stripe_of-number.ensures) at))
 
-pub hold_load-requires-clause-free : goal.hold_load-requires-clause-free
-hold_load-requires-clause-free c = let free = load_free (goal.at.hold_load-requires-clause-free c).In-Load in (λ i. get (c.in_ok-make_room.ensures.parts i) (free.1 i)) ∙ free.0
-
-pub hold_write-requires-clause-free : goal.hold_write-requires-clause-free
-hold_write-requires-clause-free c = let free = write_free (goal.at.hold_write-requires-clause-free c).In-Write in (λ i. get (c.in_ok-make_room.ensures.parts i) (free.1 i)) ∙ free.0
-
-pub hold_process-entry-requires-clause-free : goal.hold_process-entry-requires-clause-free
-hold_process-entry-requires-clause-free c = let free = process_free (goal.at.hold_process-entry-requires-clause-free c).In-Process in (λ i. get (c.in_ok-make_room.ensures.parts i) (free.1 i)) ∙ free.0
+pub hold-requires-clause-new : goal.hold-requires-clause-new
+hold-requires-clause-new c =
+    let v : WorldState = world_of c.self.inside in
+    let b = c.begin.result in
+    let new = new_ticket v c.args.call _ c.args.key.now _ b _ _ (ran (goal.at.hold-requires-clause-new c).After-begin b refl) (subst IsSoundWorld (sym c.self.view_is) c.requires.sound) c.in_default-begin.not-Done c.in_default-begin.not-Joined c.in_default-begin.not-Refused in
+    subst (λ parts. IsNewTicket parts b) (sym c.in_ok-make_room.ensures.parts) new
 
 pub put_join-requires-clause-free : goal.put_join-requires-clause-free
 put_join-requires-clause-free c =
@@ -101,42 +90,6 @@ returns-in-Refused-clause-ok c =
     (c.refuse.ensures.calls ∙ (λ i. cond (puts_off (c.kind-kind.ensures i) refusal) v.calls (settle (c.caller-caller.ensures i).call key (Some refusal) v.calls)))
     (λ i. record v { stripes = c.begin.new.self.stripes; order = c.begin.new.self.order; calls = c.refuse.new.calls.items; parts = c.in_ok-make_room.ensures.parts i; joins = c.in_ok-make_join_room.ensures.joins i }))
 
-pub returns-in-Load-clause-ok : goal.returns-in-Load-clause-ok
-returns-in-Load-clause-ok c =
-    let v : WorldState = world_of c.self.inside in
-    let key = c.args.key.now in
-    let at = goal.at.returns-in-Load-clause-ok c in
-    let p = ran at.After-begin (Begun.Load c.in-Load.ticket) c.in-Load.is in
-    let put = c.hold_load.ensures ∙ (λ i. insert (c.in_ok-make_room.ensures.parts i) ((load_free at.In-Load).1 i) (new_part new_load c.in-Load.ticket.reservation)) in
-    let next = world_of (record c.self.inside { stripes = c.begin.new.self; held = c.hold_load.new.held; joins = c.make_join_room.new.joins }) in
-    shown_as _ v next (WorldEvent.Start c.args.call key) _ _ c.self.view_is c.show.ensures
-    (started_loads v next c.args.call key _ _ c.in-Load.ticket _ _ p
-    (λ i. record v { stripes = c.begin.new.self.stripes; order = c.begin.new.self.order; parts = put i; joins = c.in_ok-make_join_room.ensures.joins i }))
-
-pub returns-in-Write-clause-ok : goal.returns-in-Write-clause-ok
-returns-in-Write-clause-ok c =
-    let v : WorldState = world_of c.self.inside in
-    let key = c.args.key.now in
-    let at = goal.at.returns-in-Write-clause-ok c in
-    let p = ran at.After-begin (Begun.Write c.in-Write.ticket) c.in-Write.is in
-    let put = c.hold_write.ensures.parts ∙ (λ i. insert (c.in_ok-make_room.ensures.parts i) ((write_free at.In-Write).1 i) (new_part new_write c.in-Write.ticket.reservation)) in
-    let next = world_of (record c.self.inside { stripes = c.begin.new.self; held = c.hold_write.new.held; joins = c.make_join_room.new.joins }) in
-    shown_as _ v next (WorldEvent.Start c.args.call key) _ _ c.self.view_is c.show-in-Write.ensures
-    (started_asks v next c.args.call key _ _ c.in-Write.ticket c.hold_write.result _ _ p c.hold_write.ensures.change
-    (λ i. record v { stripes = c.begin.new.self.stripes; order = c.begin.new.self.order; parts = put i; joins = c.in_ok-make_join_room.ensures.joins i }))
-
-pub returns-in-Process-clause-ok : goal.returns-in-Process-clause-ok
-returns-in-Process-clause-ok c =
-    let v : WorldState = world_of c.self.inside in
-    let key = c.args.key.now in
-    let at = goal.at.returns-in-Process-clause-ok c in
-    let p = ran at.After-begin (Begun.Process c.in-Process.ticket) c.in-Process.is in
-    let put = c.hold_process-entry.ensures.parts ∙ (λ i. insert (c.in_ok-make_room.ensures.parts i) ((process_free at.In-Process).1 i) (new_part new_process c.in-Process.ticket.reservation)) in
-    let next = world_of (record c.self.inside { stripes = c.begin.new.self; held = c.hold_process-entry.new.held; joins = c.make_join_room.new.joins }) in
-    shown_as _ v next (WorldEvent.Start c.args.call key) _ _ c.self.view_is c.show-in-Process.ensures
-    (started_processes v next c.args.call key _ _ c.in-Process.ticket c.hold_process-entry.result _ _ p c.hold_process-entry.ensures.entry
-    (λ i. record v { stripes = c.begin.new.self.stripes; order = c.begin.new.self.order; parts = put i; joins = c.in_ok-make_join_room.ensures.joins i }))
-
 pub returns-in-Joined-clause-ok : goal.returns-in-Joined-clause-ok
 returns-in-Joined-clause-ok c =
     let v : WorldState = world_of c.self.inside in
@@ -144,6 +97,17 @@ returns-in-Joined-clause-ok c =
     let p = ran (goal.at.returns-in-Joined-clause-ok c).After-begin (Begun.Joined c.in-Joined.join) c.in-Joined.is in
     let put = c.put_join.ensures ∙ ap (λ m. insert m (join_key c.in-Joined.join) c.in-Joined.join) c.in_ok-make_join_room.ensures.joins in
     let next = world_of (record c.self.inside { stripes = c.begin.new.self; held = c.make_room.new.held; joins = c.put_join.new.joins }) in
-    shown_as _ v next (WorldEvent.Start c.args.call key) _ _ c.self.view_is c.show-in-Joined.ensures
+    shown_as _ v next (WorldEvent.Start c.args.call key) _ _ c.self.view_is c.show.ensures
     (started_joins v next c.args.call key _ _ c.in-Joined.join _ _ p
     (λ i. record v { stripes = c.begin.new.self.stripes; order = c.begin.new.self.order; joins = put i; parts = c.in_ok-make_room.ensures.parts i }))
+
+pub returns-in_default-begin-clause-ok : goal.returns-in_default-begin-clause-ok
+returns-in_default-begin-clause-ok c =
+    let v : WorldState = world_of c.self.inside in
+    let key = c.args.key.now in
+    let b = c.begin.result in
+    let p = ran (goal.at.returns-in_default-begin-clause-ok c).After-begin b refl in
+    let next = world_of (record c.self.inside { stripes = c.begin.new.self; held = c.hold.new.held; joins = c.make_join_room.new.joins }) in
+    shown_as _ v next (WorldEvent.Start c.args.call key) _ _ c.self.view_is refl
+    (started_ticket v next c.args.call key _ _ b c.hold.new.seen _ _ next.parts p (subst (λ parts. HoldsTicket parts b c.hold.new.seen next.parts) c.in_ok-make_room.ensures.parts c.hold.ensures)
+    (λ i. record v { stripes = c.begin.new.self.stripes; order = c.begin.new.self.order; parts = next.parts; joins = c.in_ok-make_join_room.ensures.joins i }))
