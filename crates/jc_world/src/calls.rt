@@ -202,9 +202,21 @@ fn end_at(calls: &mut Vec<OpenCall>, place: usize) -> Option<Over>
     let u = &calls[place];
     let over = u.over();
     if !u.is_going() {
-        let _over = calls.remove(place);
+        take_out(calls, place);
     }
     over
+}
+
+/// Takes the call at a place out. The last one, which a call of one key mostly is, is let go where it is, and not moved first.
+fn take_out(calls: &mut Vec<OpenCall>, place: usize)
+    requires { place < length calls.old.items }
+    ensures { calls.new.items ≡ remove calls.old.items place }
+{
+    if place + 1 == calls.len() {
+        calls.truncate(place);
+    } else {
+        let _over = calls.remove(place);
+    }
 }
 
 /// A call meets this fault, or none.
