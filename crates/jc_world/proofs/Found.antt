@@ -5,22 +5,9 @@
 --     found_new              one key more, which is new
 --     first_found            the first open key keeps its place
 --     first_kept             and stays the first
-use Rattle.std.proofs.Common.{◌≡◌, ◌==◌, ◌<◌, ℕ, zero, suc, Bool, true, false, cond, List, [], ◌∷◌, ◌++◌, filter, take, length, slice_get, Option, None, Some, is_none, refl, sym, ap, ◌∙◌}
-use Rattle.std.specs.Prelude.{get_or}
-use Rattle.std.specs.List.{list_all, list_any, IsDistinct}
-use Rattle.std.specs.Map.{keys_of, lookup}
-use Rattle.std.specs.Option.{option_flatten, option_or}
-use Rattle.std.specs.Cmp.Lexicographic.{pointwise}
-use Rattle.std.proofs.lemmas.Bool.{and_parts}
-use Rattle.std.proofs.lemmas.Map.Made.{is_some-lookup}
-use Rattle.std.proofs.lemmas.Option.{slice_get_read}
+use Rattle.jc_world.proofs.Common.{◌≡◌, ℕ, zero, suc, ◌<◌, Bool, true, false, cond, List, [], ◌∷◌, ◌++◌, length, get_or, take, is_none, ◌==◌, slice_get, Some, None, filter, Option, sym, refl, ap, ◌∙◌, and_parts, is_some-lookup, slice_get_read, pointwise, list_any, list_all, IsDistinct, keys_of, lookup, option_or, option_flatten, none_is, Bytes, Op, Task, at_each, op_in, is_open, open_in, first_open, are_new}
 use Rattle.jc_types.proofs.CallerLemmas.{none_from}
-use Rattle.jc_model.proofs.CallerLemmas.{none_is}
-use Rattle.jc_model.specs.declared.event.Op.{Op}
-use Rattle.jc_model.specs.Cache.{Bytes}
 use Rattle.jc_outside.proofs.CallerLemmas.{new_at}
-use Rattle.jc_world.specs.Calls.{Task, at_each, op_in, is_open, open_in}
-use Rattle.jc_world.specs.OpenCalls.{first_open, are_new}
 use Rattle.jc_world.proofs.TaskLists.{keys-at_each, first_each}
 
 -- 1. Looking a key up.
