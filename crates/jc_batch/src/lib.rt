@@ -2,17 +2,20 @@
 //! `CacheWriter.writeAll`, `deleteAll`).
 //!
 //! A batch is made with all its room before the first phase of the bulk call. It is filled while keys are reserved, its collection
-//! goes to the writer, and what the writer leaves there splits its keys. Neither filling nor splitting takes memory.
+//! goes to the writer, and what the writer leaves there splits its keys. Neither filling nor splitting takes memory. What a bulk call
+//! returns of its keys is filled in the same way ([`insert_new`]).
 #![tactic(auto)]
 
 mod batch;
 mod batch_keys;
 mod delete_batch;
 mod leftover;
+mod new_entry;
 mod write_batch;
 
 pub use batch::Batch;
 pub use batch_keys::{BatchKeys, Split};
 pub use delete_batch::DeleteBatch;
 pub use leftover::Leftover;
+pub use new_entry::insert_new;
 pub use write_batch::WriteBatch;

@@ -5,6 +5,7 @@ ghost use Rattle.jc_model.specs.Batches.{is_among};
 ghost use Rattle.jc_batch.specs.Batch.{with_item, empty_batch};
 
 use crate::batch_keys::BatchKeys;
+use crate::new_entry::insert_new;
 use indexmap::IndexMap;
 use jc_types::{Key, Value};
 use std::alloc::{AllocError, Global};
@@ -56,10 +57,7 @@ impl WriteBatch {
         requires new { is_among (keys_of self.old.items) key ≡ false }
         ensures { self.new ≡ with_item self.old (key, value) }
     {
-        match self.entries.insert(key, value) {
-            Ok(_old) => {}
-            Err(_failed) => unreachable!(),
-        }
+        insert_new(&mut self.entries, &key, value);
         self.keys.push(key);
     }
 

@@ -8,7 +8,7 @@
 --     may_call_next, may_call    and so may the session
 --     runs_from       the rounds of the session's next call
 --     carried_out     after the last one: the call is carried out
-use Rattle.std.proofs.Common.{◌≡◌, ◌==◌, ◌&&◌, ◌||◌, ◌≤◌, ◌++◌, inl, Option, None, ℕ, zero, suc, List, [], ◌∷◌, All, length, cond, Bool, true, false, not, Result, Ok, Err, nat_lt, refl, sym, ap, ◌∙◌, subst, arith}
+use Rattle.std.proofs.Common.{◌≡◌, ◌==◌, ◌&&◌, ◌||◌, ◌≤◌, ◌++◌, inl, Option, None, ℕ, zero, suc, List, [], ◌∷◌, All, length, cond, Bool, true, false, not, Result, Ok, Err, nat_lt, refl, sym, ap, ◌∙◌, subst, arith, append-nil}
 use Rattle.std.proofs.lemmas.Bool.{and_parts, eqb-true}
 use Rattle.std.proofs.lemmas.Bool.Decides.{nat_tests}
 use Rattle.std.proofs.lemmas.List.Elements.{All-nil, All-cons}
@@ -56,7 +56,6 @@ use Rattle.jc_bulk.specs.Underway.{IsUnderway}
 use Rattle.jc_bulk.proofs.Places.{IsOver, new_turns, new_keys, new_progress, new_open, each_new, many_waiting, none_failed_yet, all_over}
 use Rattle.jc_bulk.proofs.SoFar.{IsTurnAt, as_many_keys}
 use Rattle.jc_bulk.proofs.Turns.{one_state}
-use Rattle.jc_bulk.proofs.Under.{no_more}
 
 -- 1. Before the first round.
 
@@ -276,6 +275,6 @@ module _ {I J : Type 0} {D : I → Type 0} {E : J → Type 0} (loads_all : LoadA
           calls = all.1;
           one = all.2;
           account = all.3;
-          cause_is = all.4 (no_more (failures (all_waiting (length targets))) ∙ none_failed_yet (length targets));
+          cause_is = all.4 (append-nil (failures (all_waiting (length targets))) ∙ none_failed_yet (length targets));
         },
       )

@@ -2,17 +2,15 @@
 --     still_absent     a key that isn't among those that failed, and isn't the one that has just ended, isn't among them afterwards
 --     clears_push      where it ended at some keys, and then at one more, it ended at all of these
 --     ops_push         these are the keys, each with its operation
---     failed_push      and these are those that failed
 --     clears           so the call clears every key that was looked at
 --     then_ok, then_err    what follows of a result
 --     all_full         each of them for the history's room
---     leaves_both      what other sessions need stays, also after one key more
 use Rattle.std.proofs.Common.{◌≡◌, ◌==◌, ◌||◌, false, List, [], ◌∷◌, ◌++◌, subst, All, IfOk, IfErr, Result, Ok, Err, refl, sym, ap, ◌∙◌}
 use Rattle.std.specs.List.{list_any}
 use Rattle.std.specs.Map.{keys_of}
 use Rattle.std.specs.Cmp.Lexicographic.{pointwise}
 use Rattle.std.proofs.lemmas.List.{map-append}
-use Rattle.std.proofs.lemmas.List.Elements.{filter_map-append, All-append, All-cons, All-nil}
+use Rattle.std.proofs.lemmas.List.Elements.{All-append, All-cons, All-nil}
 use Rattle.std.proofs.lemmas.List.Folds.{list_any-append}
 use Rattle.jc_types.specs.declared.caller.Caller.{Caller}
 use Rattle.jc_types.specs.declared.refusal.Refusal.{Refusal}
@@ -26,8 +24,7 @@ use Rattle.jc_stripe.specs.State.{State}
 use Rattle.jc_session.specs.declared.session.Session.{Session}
 use Rattle.jc_cache.specs.Caches.{CacheState}
 use Rattle.jc_cache.specs.Calls.{next_call, ClearsAt}
-use Rattle.jc_cache.specs.Sessions.{LeavesSessions}
-use Rattle.jc_cache.specs.Whole.{Ends}
+use Rattle.jc_cache.specs.Whole.{EndsCall}
 use Rattle.jc_bulk.specs.Bulk.{AreLooked, clear_ops}
 use Rattle.jc_bulk.specs.Clearing.{ClearsEach, Clears}
 use Rattle.jc_bulk.specs.Ends.{KeyEnd, key_ops, failed_entries}
@@ -58,19 +55,12 @@ module _ {I J : Type 0} {D : I → Type 0} {E : J → Type 0} where
       (n, u, subst (λ x. ClearsAt x s key ended n u) each.0 (subst (λ x. ClearsAt m x key ended n u) each.1 one), (refl, refl))
   clears_push c m n s t u (e ∷ ends) key ended each one = (each.0, each.1, each.2, clears_push each.0 m n each.1 t u ends key ended each.3 one)
 
-  pub leaves_both : (old mid new : CacheState) (start now : Session I J D E) → now.caller ≡ start.caller → LeavesSessions start old mid → LeavesSessions now mid new → LeavesSessions start old new
-  leaves_both old mid new start now same first second other differs may =
-      second other (ap (λ w. other.caller.session == w.session) same ∙ differs) (first other differs may)
-
 pub ops_push : (ends : List KeyEnd) (keys : List Bytes) (key : Bytes) (ended : Result Reply Refusal) → key_ops ends ≡ clear_ops keys
     → key_ops (ends ++ record { key = key; op = Clear; ended = ended } ∷ []) ≡ clear_ops (keys ++ key ∷ [])
 ops_push ends keys key ended same =
     map-append _ ends (record { key = key; op = Clear; ended = ended } ∷ [])
     ∙ ap (λ ops. ops ++ (key, Clear) ∷ []) same
     ∙ sym (map-append _ keys (key ∷ []))
-
-pub failed_push : (ends : List KeyEnd) (e : KeyEnd) (failed now : List (Bytes × Refusal)) → failed ≡ failed_entries ends → now ≡ failed ++ failed_entries (e ∷ []) → now ≡ failed_entries (ends ++ e ∷ [])
-failed_push ends e failed now was is = is ∙ ap (λ es. es ++ failed_entries (e ∷ [])) was ∙ sym (filter_map-append _ ends (e ∷ []))
 
 module _ {I J : Type 0} {D : I → Type 0} {E : J → Type 0} where
   pub clears : (cache new : CacheState) (session mid after : Session I J D E) (keys now : List Bytes) (ends : List KeyEnd) → AreLooked cache.stripes keys → now ≡ keys → mid ≡ next_call session
@@ -95,12 +85,12 @@ then_err (Err e) f h = f e h
 is_unit : (r : Reply) (key : Bytes) → r ≡ reply.Unit → All (λ (e : Bytes × Refusal). e.1 ≡ HistoryFull) (failed_entries (record { key = key; op = Clear; ended = Ok r } ∷ []))
 is_unit r key is = subst (λ x. All (λ (e : Bytes × Refusal). e.1 ≡ HistoryFull) (failed_entries (record { key = key; op = Clear; ended = Ok x } ∷ []))) (sym is) (All-nil (λ (e : Bytes × Refusal). e.1 ≡ HistoryFull))
 
-full_end : (a b : State) (caller : Caller) (key : Bytes) (ended : Result Reply Refusal) → Ends a caller key Clear nothing_said ended b → IfErr ended (λ why. why ≡ HistoryFull)
+full_end : (a b : State) (caller : Caller) (key : Bytes) (ended : Result Reply Refusal) → EndsCall a caller key Clear nothing_said ended b → IfErr ended (λ why. why ≡ HistoryFull)
     → All (λ (e : Bytes × Refusal). e.1 ≡ HistoryFull) (failed_entries (record { key = key; op = Clear; ended = ended } ∷ []))
 full_end a b caller key (Ok r) ends why = is_unit r key (sym ends.1.reply_is ∙ ends.1.steps.reply)
 full_end a b caller key (Err refusal) ends why = All-cons (λ (e : Bytes × Refusal). e.1 ≡ HistoryFull) (key, refusal) [] why (All-nil (λ (e : Bytes × Refusal). e.1 ≡ HistoryFull))
 
-pub all_full : (a b : State) (caller : Caller) (key : Bytes) (ended : Result Reply Refusal) (failed now : List (Bytes × Refusal)) → Ends a caller key Clear nothing_said ended b → IfErr ended (λ why. why ≡ HistoryFull)
+pub all_full : (a b : State) (caller : Caller) (key : Bytes) (ended : Result Reply Refusal) (failed now : List (Bytes × Refusal)) → EndsCall a caller key Clear nothing_said ended b → IfErr ended (λ why. why ≡ HistoryFull)
     → All (λ (e : Bytes × Refusal). e.1 ≡ HistoryFull) failed → now ≡ failed ++ failed_entries (record { key = key; op = Clear; ended = ended } ∷ []) → All (λ (e : Bytes × Refusal). e.1 ≡ HistoryFull) now
 all_full a b caller key ended failed now ends why full is =
     subst (All (λ (e : Bytes × Refusal). e.1 ≡ HistoryFull)) (sym is) (All-append (λ (e : Bytes × Refusal). e.1 ≡ HistoryFull) failed (failed_entries (record { key = key; op = Clear; ended = ended } ∷ [])) full (full_end a b caller key ended ends why))

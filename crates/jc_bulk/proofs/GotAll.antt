@@ -3,7 +3,7 @@
 --     keys_loaded     what was asked for
 --     said_loaded     what was said of a key
 --     got_all         after the last round: the call is carried out
-use Rattle.std.proofs.Common.{◌≡◌, ◌==◌, ◌≤◌, ◌++◌, ℕ, suc, List, [], ◌∷◌, Bool, true, false, cond, length, Option, refl, sym, ap, ◌∙◌, subst}
+use Rattle.std.proofs.Common.{◌≡◌, ◌==◌, ◌≤◌, ◌++◌, ℕ, suc, List, [], ◌∷◌, Bool, true, false, cond, length, Option, refl, sym, ap, ◌∙◌, subst, append-nil}
 use Rattle.std.proofs.lemmas.List.{length-map}
 use Rattle.std.proofs.lemmas.List.Elements.{All-from_recursion}
 use Rattle.std.specs.List.{AllByRecursion, IsDistinct, list_all}
@@ -28,7 +28,6 @@ use Rattle.jc_bulk.specs.KeyProgress.{IsCauseIn, failures}
 use Rattle.jc_bulk.specs.RoundCalls.{Load, Round, LoadAll, WriteAll, IsRoundOf, CallsInRounds, keys_in_all, said_in, faults_in, loads_in}
 use Rattle.jc_bulk.specs.Rounds.{LoadRound, LoadsInRounds, AreFewEach, keys_in, said_in_loads}
 use Rattle.jc_bulk.proofs.CarriedOut.{all_keys, once_only}
-use Rattle.jc_bulk.proofs.Under.{no_more}
 
 -- 1. The keys.
 
@@ -103,5 +102,5 @@ module _ {I J : Type 0} {D : I → Type 0} {E : J → Type 0} (loads_all : LoadA
           };
           one = λ few. subst (λ n. n ≤ 1) (sym (many_loads rounds all)) (c.one (subst (AreFewEach cache.config) (sym keys_are) few));
         },
-        subst (IsCauseIn cause) (ap (λ rs. failures ps ++ rs) (no_faults rounds all) ∙ no_more (failures ps)) c.cause_is,
+        subst (IsCauseIn cause) (ap (λ rs. failures ps ++ rs) (no_faults rounds all) ∙ append-nil (failures ps)) c.cause_is,
       )

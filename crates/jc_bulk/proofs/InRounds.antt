@@ -12,7 +12,7 @@
 --     new_target, untouched      a key that waits isn't reserved, and has no step of the call
 --     one_answered          the first of the calls that were answered
 --     some_left, none_left    while a key is reserved, a call is out; once none is, none is
-use Rattle.std.proofs.Common.{◌≡◌, ◌==◌, ◌&&◌, ◌<◌, ◌≤◌, ◌-◌, ◌++◌, ◌⊎◌, inr, ℕ, zero, suc, List, [], ◌∷◌, length, map, drop, set, cond, true, false, not, Some, Ok, slice_get, sym, ap, ◌∙◌, subst, refl, arith}
+use Rattle.std.proofs.Common.{◌≡◌, ◌==◌, ◌&&◌, ◌<◌, ◌≤◌, ◌-◌, ◌++◌, ◌⊎◌, inr, ℕ, zero, suc, List, [], ◌∷◌, length, map, drop, set, cond, true, false, not, Some, Ok, slice_get, sym, ap, ◌∙◌, subst, refl, arith, append-nil}
 use Rattle.std.proofs.lemmas.Bool.{or_parts}
 use Rattle.std.proofs.lemmas.List.{length-map}
 use Rattle.std.proofs.lemmas.List.Folds.{list_any-append, list_all-append}
@@ -51,18 +51,17 @@ use Rattle.jc_bulk.proofs.Places.{stay_set, stay_refused, turn_there, all_closed
 use Rattle.jc_bulk.proofs.SoFar.{IsTurnAt, key_at, as_many_keys, begun_so_far, refused_so_far, open_after}
 use Rattle.jc_bulk.proofs.Starting.{keys_same}
 use Rattle.jc_bulk.proofs.Turns.{waits_closed, own_set}
-use Rattle.jc_bulk.proofs.Under.{no_more}
 
 -- 1. Keys that are reserved.
 
 pub fresh_push : (asked ks : List Bytes) (key : Bytes) (p : Progress) → list_all (λ k. not (is_among asked k)) ks ≡ true → is_among asked key ≡ false
     → list_all (λ k. not (is_among asked k)) (ks ++ cons_option (key_if_open key p) []) ≡ true
-fresh_push asked ks key Waiting h away = ap (list_all (λ k. not (is_among asked k))) (no_more ks) ∙ h
+fresh_push asked ks key Waiting h away = ap (list_all (λ k. not (is_among asked k))) (append-nil ks) ∙ h
 fresh_push asked ks key Reserved h away =
     list_all-append (λ k. not (is_among asked k)) ks (key ∷ [])
     ∙ ap (λ b. b && list_all (λ k. not (is_among asked k)) (key ∷ [])) h
     ∙ ap (λ b. not b && true) away
-fresh_push asked ks key (Ended e) h away = ap (list_all (λ k. not (is_among asked k))) (no_more ks) ∙ h
+fresh_push asked ks key (Ended e) h away = ap (list_all (λ k. not (is_among asked k))) (append-nil ks) ∙ h
 
 one_less : {A : Type 0} (x : A) (xs ys : List A) → ys ≡ x ∷ xs → length ys - 1 ≡ length xs
 one_less x xs ys is = omega (arith, ap length is)

@@ -1,14 +1,14 @@
 -- What a bulk call returns of its keys, as it is added key by key.
 --     get_ends_push    how the keys ended, with one key more
---     failed_push, found_push    what failed and what was found, with one key more
---     failed_absent, found_absent    a key that isn't among the keys is not among these
+--     entries_push     the entries of what is said of the ends, with one key more
+--     entries_absent   a key that isn't among the keys is not among these
 --     failed_written   what failed, by the keys alone
 --     failed_more, failed_new, failed_whole    the entries that failed: of one key more, none of the next key, and of all
 --     failures_are     the failures are those of the entries that failed
 --     cause_among      so the cause is one of theirs
 --     no_failure       if there is none, no entry failed
 --     any_err          what is so of every error
-use Rattle.std.proofs.Common.{◌≡◌, ◌==◌, ◌||◌, ◌<◌, ◌≤◌, ◌+◌, ◌++◌, inl, ℕ, List, [], ◌∷◌, length, map, take, get_or, min, false, Option, None, Some, option_map, Result, Ok, Err, IfErr, slice_get, append_assoc, refl, sym, ap, ◌∙◌, subst, arith}
+use Rattle.std.proofs.Common.{◌≡◌, ◌==◌, ◌||◌, ◌<◌, ◌≤◌, ◌+◌, ◌++◌, inl, ℕ, List, [], ◌∷◌, length, map, take, get_or, min, false, Option, None, Some, option_map, Result, Ok, Err, IfErr, slice_get, append_assoc, refl, sym, ap, ◌∙◌, subst, arith, append-nil}
 use Rattle.std.proofs.lemmas.Bool.{or_parts}
 use Rattle.std.proofs.lemmas.List.{take_all, take_more, length-take}
 use Rattle.std.proofs.lemmas.List.Elements.{filter_map-append}
@@ -18,23 +18,23 @@ use Rattle.std.specs.Map.{keys_of}
 use Rattle.std.specs.Cmp.Lexicographic.{pointwise}
 use Rattle.jc_types.specs.declared.refusal.Refusal.{Refusal}
 use Rattle.jc_model.specs.declared.event.Op.{Op}
+use Rattle.jc_model.specs.declared.event.Reply.{Reply}
 use Rattle.jc_model.specs.Batches.{is_among}
 use Rattle.jc_model.specs.Cache.{Bytes}
+use Rattle.jc_outside.proofs.CallerLemmas.{not_before}
 use Rattle.jc_bulk.specs.declared.round.Progress.{Progress}
 use Rattle.jc_bulk.specs.declared.round.Progress.TheVariants as progress
 use Rattle.jc_bulk.specs.Bulk.{CauseAmong, HasNoCause}
-use Rattle.jc_bulk.specs.Ends.{KeyEnd, key_ends, refusal_in, reply_value, failed_entries, found_entries}
+use Rattle.jc_bulk.specs.Ends.{KeyEnd, key_ends, refusal_in, entries_by, failed_entries}
 use Rattle.jc_bulk.specs.KeyProgress.{IsCauseIn, failures}
 use Rattle.jc_bulk.specs.Getting.{get_end, get_ends}
-use Rattle.jc_bulk.proofs.Under.{no_more}
 use Rattle.jc_bulk.proofs.SoFar.{as_many_keys}
-use Rattle.jc_bulk.proofs.Turns.{absent}
 
 -- 1. One key more.
 
 ends_push : (keys : List Bytes) (ps : List Progress) (key : Bytes) (p : Progress) → length ps ≡ length keys
     → get_ends (keys ++ key ∷ []) (ps ++ p ∷ []) ≡ get_ends keys ps ++ get_end key p
-ends_push [] [] key p many = no_more (get_end key p)
+ends_push [] [] key p many = append-nil (get_end key p)
 ends_push [] (e ∷ ps) key p many = cc
 ends_push (k ∷ keys) [] key p many = cc
 ends_push (k ∷ keys) (e ∷ ps) key p many =
@@ -48,11 +48,8 @@ get_ends_push keys ps i key p many near =
     (λ j. get_ends (take_more keys i key near j) (take_more ps i p (omega (arith, many, near)) j))
     ∙ ends_push (take i keys) (take i ps) (get_or keys i key) (get_or ps i p) same
 
-pub failed_push : (failed : List (Bytes × Refusal)) (ends more : List KeyEnd) → failed ≡ failed_entries ends → failed ++ failed_entries more ≡ failed_entries (ends ++ more)
-failed_push failed ends more is = ap (λ es. es ++ failed_entries more) is ∙ sym (filter_map-append (λ (e : KeyEnd). option_map (λ r. (e.key, r)) (refusal_in e.ended)) ends more)
-
-pub found_push : (found : List (Bytes × Bytes)) (ends more : List KeyEnd) → found ≡ found_entries ends → found ++ found_entries more ≡ found_entries (ends ++ more)
-found_push found ends more is = ap (λ es. es ++ found_entries more) is ∙ sym (filter_map-append (λ (e : KeyEnd). option_map (λ v. (e.key, v)) (reply_value e.ended)) ends more)
+pub entries_push : {V : Type 0} (said : Result Reply Refusal → Option V) (found : List (Bytes × V)) (ends more : List KeyEnd) → found ≡ entries_by said ends → found ++ entries_by said more ≡ entries_by said (ends ++ more)
+entries_push said found ends more is = ap (λ es. es ++ entries_by said more) is ∙ sym (filter_map-append (λ (e : KeyEnd). option_map (λ v. (e.key, v)) (said e.ended)) ends more)
 
 -- 2. A key that is new.
 
@@ -61,23 +58,15 @@ told_absent : {V : Type 0} (o : Option V) (k q : Bytes) (entries : List (Bytes �
 told_absent None k q entries apart none = none
 told_absent (Some v) k q entries apart none = ap (λ b. b || list_any (pointwise ◌==◌ q) (keys_of entries)) apart ∙ none
 
-pub failed_absent : (keys : List Bytes) (ps : List Progress) (q : Bytes) → is_among keys q ≡ false → list_any (pointwise ◌==◌ q) (keys_of (failed_entries (get_ends keys ps))) ≡ false
-failed_absent [] ps q away = refl
-failed_absent (k ∷ keys) [] q away = refl
-failed_absent (k ∷ keys) (progress.Waiting ∷ ps) q away = failed_absent keys ps q (or_parts (pointwise ◌==◌ q k) (is_among keys q) away).1
-failed_absent (k ∷ keys) (progress.Reserved ∷ ps) q away = failed_absent keys ps q (or_parts (pointwise ◌==◌ q k) (is_among keys q) away).1
-failed_absent (k ∷ keys) (progress.Ended x ∷ ps) q away =
+pub entries_absent : {V : Type 0} (said : Result Reply Refusal → Option V) (keys : List Bytes) (ps : List Progress) (q : Bytes) → is_among keys q ≡ false
+    → list_any (pointwise ◌==◌ q) (keys_of (entries_by said (get_ends keys ps))) ≡ false
+entries_absent said [] ps q away = refl
+entries_absent said (k ∷ keys) [] q away = refl
+entries_absent said (k ∷ keys) (progress.Waiting ∷ ps) q away = entries_absent said keys ps q (or_parts (pointwise ◌==◌ q k) (is_among keys q) away).1
+entries_absent said (k ∷ keys) (progress.Reserved ∷ ps) q away = entries_absent said keys ps q (or_parts (pointwise ◌==◌ q k) (is_among keys q) away).1
+entries_absent said (k ∷ keys) (progress.Ended x ∷ ps) q away =
     let parts = or_parts (pointwise ◌==◌ q k) (is_among keys q) away in
-    told_absent (refusal_in x) k q (failed_entries (get_ends keys ps)) parts.0 (failed_absent keys ps q parts.1)
-
-pub found_absent : (keys : List Bytes) (ps : List Progress) (q : Bytes) → is_among keys q ≡ false → list_any (pointwise ◌==◌ q) (keys_of (found_entries (get_ends keys ps))) ≡ false
-found_absent [] ps q away = refl
-found_absent (k ∷ keys) [] q away = refl
-found_absent (k ∷ keys) (progress.Waiting ∷ ps) q away = found_absent keys ps q (or_parts (pointwise ◌==◌ q k) (is_among keys q) away).1
-found_absent (k ∷ keys) (progress.Reserved ∷ ps) q away = found_absent keys ps q (or_parts (pointwise ◌==◌ q k) (is_among keys q) away).1
-found_absent (k ∷ keys) (progress.Ended x ∷ ps) q away =
-    let parts = or_parts (pointwise ◌==◌ q k) (is_among keys q) away in
-    told_absent (reply_value x) k q (found_entries (get_ends keys ps)) parts.0 (found_absent keys ps q parts.1)
+    told_absent (said x) k q (entries_by said (get_ends keys ps)) parts.0 (entries_absent said keys ps q parts.1)
 
 -- 3. What failed, of keys with their operations.
 
@@ -97,12 +86,12 @@ failed_more targets ps i key p failed many near at is so_far =
     let early = get_ends (take i keys) (take i ps) in
     let more : get_ends (take (i + 1) keys) (take (i + 1) ps) ≡ early ++ get_end key p =
     get_ends_push keys ps i key p (many ∙ sym (as_many_keys targets)) (omega (arith, near, many, as_many_keys targets)) ∙ (λ j. early ++ get_end (here j) (sym is j)) in
-    failed_push failed early (get_end key p) so_far ∙ ap failed_entries (sym more)
+    entries_push refusal_in failed early (get_end key p) so_far ∙ ap failed_entries (sym more)
 
 pub failed_new : (keys : List Bytes) (ps : List Progress) (i : ℕ) (key : Bytes) (failed : List (Bytes × Refusal))
     → IsDistinct (pointwise ◌==◌) keys → slice_get keys i ≡ Some key → failed ≡ failed_entries (get_ends (take i keys) (take i ps)) → list_any (pointwise ◌==◌ key) (keys_of failed) ≡ false
 failed_new keys ps i key failed d at so_far =
-    ap (λ es. list_any (pointwise ◌==◌ key) (keys_of es)) so_far ∙ failed_absent (take i keys) (take i ps) key (absent keys i key d at)
+    ap (λ es. list_any (pointwise ◌==◌ key) (keys_of es)) so_far ∙ entries_absent refusal_in (take i keys) (take i ps) key (not_before keys i key d at)
 
 pub failed_whole : (targets : List (Bytes × Op)) (ps : List Progress) (i : ℕ) (failed : List (Bytes × Refusal)) → length ps ≡ length targets → length ps ≤ i
     → failed ≡ failed_entries (get_ends (take i (keys_of targets)) (take i ps)) → failed ≡ failed_entries (key_ends targets ps)

@@ -6,7 +6,6 @@ mod Starting
 mod Phased
 mod Refusing
 mod OnePhase
-mod KeyEnds
 mod ClearingKeys
 mod LookingAtAll
 mod Asking

@@ -5,7 +5,7 @@
 --     put_off_for, refused_for    why a key is put off, and why it is refused for good
 --     same_session        the first reservation that is out is of the call's session
 --     committed_adds      a last phase adds its step
-use Rattle.std.proofs.Common.{◌≡◌, ◌++◌, List, [], ◌∷◌, true, false, None, Some, Err, sym, ap, ◌∙◌, subst}
+use Rattle.std.proofs.Common.{◌≡◌, ◌++◌, List, [], ◌∷◌, true, false, None, Some, Err, sym, ap, ◌∙◌, subst, append-nil}
 use Rattle.std.proofs.lemmas.Bool.{and_parts}
 use Rattle.std.specs.List.{list_all, cons_option}
 use Rattle.jc_types.specs.Stripes.{stripe_of}
@@ -42,7 +42,6 @@ use Rattle.jc_bulk.proofs.Phased.{begins_after, commits_after, adds_at}
 use Rattle.jc_bulk.proofs.Phases.{is_caller}
 use Rattle.jc_bulk.proofs.Refusing.{refused_full, put_off_out}
 use Rattle.jc_bulk.proofs.Starting.{keys_same, one_more}
-use Rattle.jc_bulk.proofs.Under.{no_more}
 
 -- 1. A first phase, from `old` to `new`.
 
@@ -53,7 +52,7 @@ after_phase law old new caller calls key op b under away made = law.begins old n
 pub still_underway : StaysUnderway → (old new : CacheState) (caller : Caller) (calls : List ReservedState) (key : Bytes) (op : Op) (b : Begun) → IsUnderway old caller (reservations_in calls) → is_among (reserved_keys calls) key ≡ false
     → MakesPhaseAt key caller.session old new (λ a c. Begins a caller key op b c) → reservation_begun b ≡ None → IsUnderway new caller (reservations_in calls)
 still_underway law old new caller calls key op b under away made none =
-    subst (IsUnderway new caller) (ap (λ o. reservations_in calls ++ cons_option o []) none ∙ no_more (reservations_in calls)) (after_phase law old new caller calls key op b under away made)
+    subst (IsUnderway new caller) (ap (λ o. reservations_in calls ++ cons_option o []) none ∙ append-nil (reservations_in calls)) (after_phase law old new caller calls key op b under away made)
 
 pub reserved_underway : StaysUnderway → (old new : CacheState) (caller : Caller) (calls later : List ReservedState) (call : ReservedState) (key : Bytes) (op : Op) (b : Begun) → IsUnderway old caller (reservations_in calls)
     → is_among (reserved_keys calls) key ≡ false → MakesPhaseAt key caller.session old new (λ a c. Begins a caller key op b c) → reservation_begun b ≡ Some call.reservation → later ≡ calls ++ call ∷ []

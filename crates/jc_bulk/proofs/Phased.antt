@@ -2,7 +2,7 @@
 --     begins_after, commits_after    a stripe after a first phase, and after a commit, comes after the one before
 --     stays_after                    a stripe that stays comes after itself
 --     adds_at                        a phase at the stripe of a key adds its steps to the cache
-use Rattle.std.proofs.Common.{◌≡◌, ◌≤◌, ◌<◌, ◌+◌, ◌++◌, ℕ, List, [], length, Option, Some, slice_get, get_or, set, refl, sym, ap, ◌∙◌, subst, arith, length-set, get_or-set_same, get_or-set_other}
+use Rattle.std.proofs.Common.{◌≡◌, ◌≤◌, ◌<◌, ◌+◌, ◌++◌, ℕ, List, [], length, Option, Some, slice_get, get_or, set, refl, sym, ap, ◌∙◌, subst, arith, length-set, get_or-set_same, get_or-set_other, append-nil}
 use Rattle.std.proofs.lemmas.Option.{slice_get_within, slice_get-get_or, get_or_from_slice_get}
 use mathlib.Core.Logic.{dite}
 use native.Mathlib.Decide.{ℕ_discrete}
@@ -23,7 +23,6 @@ use Rattle.jc_cache.specs.Begun.{MakesPhaseAt}
 use Rattle.jc_cache.specs.Caches.{CacheState, IsStripeOf}
 use Rattle.jc_bulk.specs.Phased.{ComesAfter, AddsSteps}
 use Rattle.jc_bulk.specs.Recorded.{steps_of}
-use Rattle.jc_bulk.proofs.Under.{no_more}
 
 -- 1. A stripe.
 
@@ -57,7 +56,7 @@ stays_after s t e = record {
       opening = ap (λ (x : State). x.opening) e;
     };
     more = [];
-    history = ap (λ (x : State). x.history) e ∙ sym (no_more s.history);
+    history = ap (λ (x : State). x.history) e ∙ sym (append-nil s.history);
   };
   next = same_or_more s.next t.next (ap (λ (x : State). x.next) e);
 }

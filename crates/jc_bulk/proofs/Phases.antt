@@ -2,7 +2,7 @@
 --     is_caller         whose a reservation is
 --     no_load           a free key has no load to join
 --     stays_underway    what they leave of it
-use Rattle.std.proofs.Common.{◌≡◌, ◌==◌, ◌&&◌, ◌||◌, ◌++◌, ◌+◌, ◌<◌, ◌⊎◌, inl, inr, ℕ, List, [], ◌∷◌, Bool, true, false, not, cond, nat_lt, Option, None, Some, is_none, find, IsSomeAnd, refl, sym, ap, ◌∙◌, subst}
+use Rattle.std.proofs.Common.{◌≡◌, ◌==◌, ◌&&◌, ◌||◌, ◌++◌, ◌+◌, ◌<◌, ◌⊎◌, inl, inr, ℕ, List, [], ◌∷◌, Bool, true, false, not, cond, nat_lt, Option, None, Some, is_none, find, IsSomeAnd, refl, sym, ap, ◌∙◌, subst, append-nil}
 use Rattle.std.proofs.lemmas.Bool.{and_parts, eqb-true}
 use Rattle.std.proofs.lemmas.List.Folds.{list_all-append}
 use Rattle.std.specs.List.{list_all, list_any}
@@ -29,7 +29,7 @@ use Rattle.jc_bulk.specs.Recorded.{is_by}
 use Rattle.jc_bulk.specs.Underway.{IsUnder}
 use Rattle.jc_bulk.specs.Laws.{StaysUnderway, out_after, keys_out, IsNoJoin}
 use Rattle.jc_bulk.proofs.Steps.{early}
-use Rattle.jc_bulk.proofs.Under.{may_begin, is_free, under_step, under_reserved, not_reserved, no_more, is_out, under_commit, not_committed, same_number}
+use Rattle.jc_bulk.proofs.Under.{may_begin, is_free, under_step, under_reserved, not_reserved, is_out, under_commit, not_committed, same_number}
 
 -- 1. One stripe.
 
@@ -54,7 +54,7 @@ joins_not load n none some = cc
 
 here_begins : (config : Config) (caller : Caller) (out : List Reservation) (i : ℕ) (before after : State) (key : Bytes) (op : Op) (b : Begun) → i ≡ stripe_of key config.stripes
     → is_among (keys_out out) key ≡ false → Begins before caller key op b after → IsUnder config caller out i before → IsUnder config caller (out_after out b) i after
-here_begins config caller out i before after key op (begun.Done done) i_is away h under = subst (λ rs. IsUnder config caller rs i after) (sym (no_more out)) (under_step config caller out i before after key op _ done (early before caller key op h.0) under h.2)
+here_begins config caller out i before after key op (begun.Done done) i_is away h under = subst (λ rs. IsUnder config caller rs i after) (sym (append-nil out)) (under_step config caller out i before after key op _ done (early before caller key op h.0) under h.2)
 here_begins config caller out i before after key op (begun.Load ticket) i_is away h under =
     under_reserved config caller out i before after ticket.reservation under (i_is ∙ ap (λ (t : Ticket). stripe_of t.reservation.key config.stripes) (sym h.3)) h.4
 here_begins config caller out i before after key op (begun.Write ticket) i_is away h under =
@@ -64,19 +64,19 @@ here_begins config caller out i before after key op (begun.Process ticket) i_is 
 here_begins config caller out i before after key op (begun.Joined join) i_is away h under =
     absurd (joins_not (load_joined before key op) join.load (no_load before key op (is_free config caller out i before key under away)) h.1)
 here_begins config caller out i before after key op (begun.Refused refusal) i_is away h under =
-    subst (λ rs. IsUnder config caller rs i after) (sym (no_more out)) (subst (IsUnder config caller out i) (sym h.1) under)
+    subst (λ rs. IsUnder config caller rs i after) (sym (append-nil out)) (subst (IsUnder config caller out i) (sym h.1) under)
 
 other_begins : (config : Config) (caller : Caller) (out : List Reservation) (j : ℕ) (s before after : State) (key : Bytes) (op : Op) (b : Begun) → (j ≡ stripe_of key config.stripes → ⊥)
     → Begins before caller key op b after → IsUnder config caller out j s → IsUnder config caller (out_after out b) j s
-other_begins config caller out j s before after key op (begun.Done done) apart h under = subst (λ rs. IsUnder config caller rs j s) (sym (no_more out)) under
+other_begins config caller out j s before after key op (begun.Done done) apart h under = subst (λ rs. IsUnder config caller rs j s) (sym (append-nil out)) under
 other_begins config caller out j s before after key op (begun.Load ticket) apart h under =
     not_reserved config caller out j s ticket.reservation under (λ e. apart (e ∙ ap (λ (t : Ticket). stripe_of t.reservation.key config.stripes) h.3))
 other_begins config caller out j s before after key op (begun.Write ticket) apart h under =
     not_reserved config caller out j s ticket.reservation under (λ e. apart (e ∙ ap (λ (t : Ticket). stripe_of t.reservation.key config.stripes) h.3))
 other_begins config caller out j s before after key op (begun.Process ticket) apart h under =
     not_reserved config caller out j s ticket.reservation under (λ e. apart (e ∙ ap (λ (t : ProcessClaim). stripe_of t.reservation.key config.stripes) h.3))
-other_begins config caller out j s before after key op (begun.Joined join) apart h under = subst (λ rs. IsUnder config caller rs j s) (sym (no_more out)) under
-other_begins config caller out j s before after key op (begun.Refused refusal) apart h under = subst (λ rs. IsUnder config caller rs j s) (sym (no_more out)) under
+other_begins config caller out j s before after key op (begun.Joined join) apart h under = subst (λ rs. IsUnder config caller rs j s) (sym (append-nil out)) under
+other_begins config caller out j s before after key op (begun.Refused refusal) apart h under = subst (λ rs. IsUnder config caller rs j s) (sym (append-nil out)) under
 
 by_caller : (caller : Caller) (r : Reservation) → r.caller ≡ caller → is_by caller r ≡ true
 by_caller caller r e =
@@ -88,12 +88,12 @@ by_more caller out r all e = list_all-append (is_by caller) out (r ∷ []) ∙ a
 
 by_begins : (before after : State) (caller : Caller) (out : List Reservation) (key : Bytes) (op : Op) (b : Begun) → list_all (is_by caller) out ≡ true → Begins before caller key op b after
     → list_all (is_by caller) (out_after out b) ≡ true
-by_begins before after caller out key op (begun.Done done) all h = ap (list_all (is_by caller)) (no_more out) ∙ all
+by_begins before after caller out key op (begun.Done done) all h = ap (list_all (is_by caller)) (append-nil out) ∙ all
 by_begins before after caller out key op (begun.Load ticket) all h = by_more caller out ticket.reservation all (ap (λ (t : Ticket). t.reservation.caller) h.3)
 by_begins before after caller out key op (begun.Write ticket) all h = by_more caller out ticket.reservation all (ap (λ (t : Ticket). t.reservation.caller) h.3)
 by_begins before after caller out key op (begun.Process ticket) all h = by_more caller out ticket.reservation all (ap (λ (t : ProcessClaim). t.reservation.caller) h.3)
-by_begins before after caller out key op (begun.Joined join) all h = ap (list_all (is_by caller)) (no_more out) ∙ all
-by_begins before after caller out key op (begun.Refused refusal) all h = ap (list_all (is_by caller)) (no_more out) ∙ all
+by_begins before after caller out key op (begun.Joined join) all h = ap (list_all (is_by caller)) (append-nil out) ∙ all
+by_begins before after caller out key op (begun.Refused refusal) all h = ap (list_all (is_by caller)) (append-nil out) ∙ all
 
 pub is_caller : (caller : Caller) (r : Reservation) → is_by caller r ≡ true → r.caller ≡ caller
 is_caller caller r h =
@@ -137,7 +137,7 @@ early_begins before after caller out key op (begun.Load ticket) was h = inr (ear
 early_begins before after caller out key op (begun.Write ticket) was h = inr (early before caller key op h.0)
 early_begins before after caller out key op (begun.Process ticket) was h = inr (early before caller key op h.0)
 early_begins before after caller out key op (begun.Joined join) was h = inr (early before caller key op h.0)
-early_begins before after caller out key op (begun.Refused refusal) (inl none) h = inl (no_more out ∙ none)
+early_begins before after caller out key op (begun.Refused refusal) (inl none) h = inl (append-nil out ∙ none)
 early_begins before after caller out key op (begun.Refused refusal) (inr below) h = inr below
 
 below_last : (caller : Caller) (r : Reservation) (rest : List Reservation) → ((r ∷ rest ≡ []) ⊎ (caller.call < last_number)) → caller.call < last_number

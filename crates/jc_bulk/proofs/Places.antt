@@ -25,6 +25,7 @@ use Rattle.jc_types.specs.declared.refusal.Refusal.{Refusal}
 use Rattle.jc_model.specs.declared.event.Reply.{Reply}
 use Rattle.jc_model.specs.Batches.{is_among}
 use Rattle.jc_model.specs.Cache.{Bytes}
+use Rattle.jc_outside.proofs.CallerLemmas.{at_place}
 use Rattle.jc_bulk.specs.declared.round.Progress.{Progress}
 use Rattle.jc_bulk.specs.declared.round.Progress.TheVariants.{Waiting, Reserved, Ended}
 use Rattle.jc_bulk.specs.KeyProgress.{StayEnded, StillWaits, is_closed, is_waiting, waiting, all_waiting, refused_if_waiting, failures}
@@ -86,33 +87,34 @@ closed_from [] (suc place) h = refl
 closed_from (x ∷ ps) zero h = h
 closed_from (x ∷ ps) (suc place) h = closed_from ps place (and_parts (is_closed x) (list_all is_closed ps) h).1
 
-no_more_wait : (old new : List Progress) → length new ≡ length old → ((i : ℕ) → StillWaits new i → StillWaits old i) → waiting new ≤ waiting old
+-- one place more in front, which waits only if it did: `k` fewer wait than before, as of the others
+front_waits : (k : ℕ) (x y : Progress) (old new : List Progress) → (Some y ≡ Some Waiting → Some x ≡ Some Waiting) → k + waiting new ≤ waiting old → k + waiting (y ∷ new) ≤ waiting (x ∷ old)
+front_waits k Waiting Waiting old new waited less = omega (arith, less)
+front_waits k Waiting Reserved old new waited less = omega (arith, less)
+front_waits k Waiting (Ended e) old new waited less = omega (arith, less)
+front_waits k Reserved Waiting old new waited less = let no : Some Reserved ≡ Some Waiting = waited refl in cc
+front_waits k Reserved Reserved old new waited less = less
+front_waits k Reserved (Ended e) old new waited less = less
+front_waits k (Ended d) Waiting old new waited less = let no : Some (Ended d) ≡ Some Waiting = waited refl in cc
+front_waits k (Ended d) Reserved old new waited less = less
+front_waits k (Ended d) (Ended e) old new waited less = less
+
+no_more_wait : (old new : List Progress) → length new ≡ length old → ((i : ℕ) → StillWaits new i → StillWaits old i) → 0 + waiting new ≤ waiting old
 no_more_wait [] [] many waited = omega arith
 no_more_wait [] (y ∷ new) many waited = cc
 no_more_wait (x ∷ old) [] many waited = cc
 no_more_wait (x ∷ old) (y ∷ new) many waited =
     let fewer : length new ≡ length old = cc in
-    by x y (waited 0) (no_more_wait old new fewer (λ i. waited (suc i)))
-  where
-    by : (x y : Progress) → (Some y ≡ Some Waiting → Some x ≡ Some Waiting) → waiting new ≤ waiting old → waiting (y ∷ new) ≤ waiting (x ∷ old)
-    by Waiting Waiting w less = omega (arith, less)
-    by Waiting Reserved w less = omega (arith, less)
-    by Waiting (Ended e) w less = omega (arith, less)
-    by Reserved Waiting w less = let no : Some Reserved ≡ Some Waiting = w refl in cc
-    by Reserved Reserved w less = less
-    by Reserved (Ended e) w less = less
-    by (Ended d) Waiting w less = let no : Some (Ended d) ≡ Some Waiting = w refl in cc
-    by (Ended d) Reserved w less = less
-    by (Ended d) (Ended e) w less = less
+    front_waits 0 x y old new (waited 0) (no_more_wait old new fewer (λ i. waited (suc i)))
 
-fewer_of : (old new : List Progress) (from : ℕ) → length new ≡ length old → ((i : ℕ) → StillWaits new i → StillWaits old i) → StillWaits old from → (StillWaits new from → ⊥) → waiting new < waiting old
+fewer_of : (old new : List Progress) (from : ℕ) → length new ≡ length old → ((i : ℕ) → StillWaits new i → StillWaits old i) → StillWaits old from → (StillWaits new from → ⊥) → 1 + waiting new ≤ waiting old
 fewer_of [] new from many waited was not_now = cc
 fewer_of (x ∷ old) [] from many waited was not_now = cc
 fewer_of (x ∷ old) (y ∷ new) zero many waited was not_now =
     let fewer : length new ≡ length old = cc in
     by x y was not_now (no_more_wait old new fewer (λ i. waited (suc i)))
   where
-    by : (x y : Progress) → Some x ≡ Some Waiting → (Some y ≡ Some Waiting → ⊥) → waiting new ≤ waiting old → waiting (y ∷ new) < waiting (x ∷ old)
+    by : (x y : Progress) → Some x ≡ Some Waiting → (Some y ≡ Some Waiting → ⊥) → 0 + waiting new ≤ waiting old → 1 + waiting (y ∷ new) ≤ waiting (x ∷ old)
     by Waiting Waiting w never less = absurd (never refl)
     by Waiting Reserved w never less = omega (arith, less)
     by Waiting (Ended e) w never less = omega (arith, less)
@@ -120,21 +122,10 @@ fewer_of (x ∷ old) (y ∷ new) zero many waited was not_now =
     by (Ended d) y w never less = cc
 fewer_of (x ∷ old) (y ∷ new) (suc from) many waited was not_now =
     let fewer : length new ≡ length old = cc in
-    by x y (waited 0) (fewer_of old new from fewer (λ i. waited (suc i)) was not_now)
-  where
-    by : (x y : Progress) → (Some y ≡ Some Waiting → Some x ≡ Some Waiting) → waiting new < waiting old → waiting (y ∷ new) < waiting (x ∷ old)
-    by Waiting Waiting w less = omega (arith, less)
-    by Waiting Reserved w less = omega (arith, less)
-    by Waiting (Ended e) w less = omega (arith, less)
-    by Reserved Waiting w less = let no : Some Reserved ≡ Some Waiting = w refl in cc
-    by Reserved Reserved w less = less
-    by Reserved (Ended e) w less = less
-    by (Ended d) Waiting w less = let no : Some (Ended d) ≡ Some Waiting = w refl in cc
-    by (Ended d) Reserved w less = less
-    by (Ended d) (Ended e) w less = less
+    front_waits 1 x y old new (waited 0) (fewer_of old new from fewer (λ i. waited (suc i)) was not_now)
 
 pub fewer_wait : (old new : List Progress) (from : ℕ) → StayEnded old new → StillWaits old from → (StillWaits new from → ⊥) → waiting new < waiting old
-fewer_wait old new from stay was not_now = fewer_of old new from stay.many stay.waited was not_now
+fewer_wait old new from stay was not_now = omega (arith, fewer_of old new from stay.many stay.waited was not_now)
 
 pub none_failed_yet : (n : ℕ) → failures (all_waiting n) ≡ []
 none_failed_yet zero = refl
@@ -235,11 +226,6 @@ pub all_apart : (key : Bytes) (keys : List Bytes) → is_among keys key ≡ fals
 all_apart key [] none = tt
 all_apart key (k ∷ keys) none = let parts = or_parts (pointwise ◌==◌ key k) (is_among keys key) none in (parts.0, all_apart key keys parts.1)
 
-pub key_apart : (P : Bytes → Type 0) (keys : List Bytes) (place : ℕ) (key : Bytes) → AllByRecursion P keys → slice_get keys place ≡ Some key → P key
-key_apart P [] place key all at = cc
-key_apart P (k ∷ keys) zero key all at = let same : k ≡ key = cc in subst P same all.0
-key_apart P (k ∷ keys) (suc place) key all at = key_apart P keys place key all.1 at
-
 others_set : (P Q : Turn → Type 0) (turns : List Turn) (key : Bytes) → AllByRecursion (λ y. pointwise ◌==◌ key y ≡ false) (turn_keys turns) → AllByRecursion P turns
     → ((t : Turn) → pointwise ◌==◌ t.key key ≡ false → P t → Q t) → AllByRecursion Q turns
 others_set P Q [] key apart all other = tt
@@ -254,7 +240,7 @@ turns_set P Q (t ∷ turns) zero key p d at all other one =
       others_set P Q turns key (subst (λ k. AllByRecursion (λ y. pointwise ◌==◌ k y ≡ false) (turn_keys turns)) same (IsDistinct-head (pointwise ◌==◌) t.key (turn_keys turns) d)) all.1 other,
     )
 turns_set P Q (t ∷ turns) (suc place) key p d at all other one = (
-  other t (key_apart (λ y. pointwise ◌==◌ t.key y ≡ false) (turn_keys turns) place key (IsDistinct-head (pointwise ◌==◌) t.key (turn_keys turns) d) at) all.0,
+  other t (at_place (λ y. pointwise ◌==◌ t.key y ≡ false) (turn_keys turns) place key (IsDistinct-head (pointwise ◌==◌) t.key (turn_keys turns) d) at) all.0,
   turns_set P Q turns place key p (IsDistinct-tail (pointwise ◌==◌) t.key (turn_keys turns) d) at all.1 other one,
 )
 

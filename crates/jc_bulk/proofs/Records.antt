@@ -1,6 +1,6 @@
 -- What the phases of a bulk call add to its steps.
 --     records    the law of its steps
-use Rattle.std.proofs.Common.{◌≡◌, ◌==◌, ◌&&◌, ◌++◌, ℕ, List, [], ◌∷◌, Bool, true, false, cond, None, refl, sym, ap, ◌∙◌, subst, ◌⊎◌, inl, inr}
+use Rattle.std.proofs.Common.{◌≡◌, ◌==◌, ◌&&◌, ◌++◌, ℕ, List, [], ◌∷◌, Bool, true, false, cond, None, refl, sym, ap, ◌∙◌, subst, ◌⊎◌, inl, inr, append-nil}
 use Rattle.std.proofs.lemmas.Bool.{and_parts}
 use Rattle.std.specs.List.{list_all}
 use Rattle.std.specs.Cmp.Lexicographic.{pointwise, same_text}
@@ -27,7 +27,6 @@ use Rattle.jc_bulk.specs.Recorded.{steps_of, is_by}
 use Rattle.jc_bulk.specs.Underway.{IsUnder}
 use Rattle.jc_bulk.specs.Laws.{Records, events_begun}
 use Rattle.jc_bulk.proofs.Steps.{steps_after}
-use Rattle.jc_bulk.proofs.Under.{no_more}
 use Rattle.jc_bulk.proofs.Phases.{is_caller}
 
 -- 1. A key of another stripe.
@@ -59,7 +58,7 @@ no_steps caller key q op (begun.Refused refusal) n apart = refl
 -- 2. At the stripe of the key.
 
 same_history : (caller : Caller) (q : Bytes) (before after : State) → after.history ≡ before.history → steps_of caller q after.history ≡ steps_of caller q before.history ++ []
-same_history caller q before after same = ap (steps_of caller q) same ∙ sym (no_more (steps_of caller q before.history))
+same_history caller q before after same = ap (steps_of caller q) same ∙ sym (append-nil (steps_of caller q before.history))
 
 here_begins : (caller : Caller) (key q : Bytes) (op : Op) (b : Begun) (before after : State) → Begins before caller key op b after
     → steps_of caller q after.history ≡ steps_of caller q before.history ++ steps_of caller q (events_begun caller key op b)
@@ -87,7 +86,7 @@ at_one caller q before after s t more same e =
 
 at_another : (caller : Caller) (q : Bytes) (s t : State) (more : List Event) → t ≡ s → more ≡ [] → steps_of caller q t.history ≡ steps_of caller q s.history ++ more
 at_another caller q s t more same none =
-    ap (λ (x : State). steps_of caller q x.history) same ∙ sym (no_more (steps_of caller q s.history)) ∙ ap (λ xs. steps_of caller q s.history ++ xs) (sym none)
+    ap (λ (x : State). steps_of caller q x.history) same ∙ sym (append-nil (steps_of caller q s.history)) ∙ ap (λ xs. steps_of caller q s.history ++ xs) (sym none)
 
 begin_record : (old new : CacheState) (caller : Caller) (key : Bytes) (op : Op) (b : Begun) (q : Bytes) (s t : State) → (made : MakesPhaseAt key caller.session old new (λ a c. Begins a caller key op b c))
     → (((s ≡ made.before) × (t ≡ made.after)) ⊎ ((stripe_of q old.config.stripes ≡ stripe_of key old.config.stripes → ⊥) × (t ≡ s)))

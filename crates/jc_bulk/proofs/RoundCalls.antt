@@ -6,7 +6,7 @@
 --     calls_both               rounds, and then more of them
 --     is_asked                 if a call is out, the session has the one who is asked
 --     outs_are, none_answered  calls that were answered, with what was said outside
-use Rattle.std.proofs.Common.{◌≡◌, ◌==◌, ◌&&◌, ◌++◌, ◌⊎◌, inl, inr, ℕ, zero, suc, List, [], ◌∷◌, length, map, cond, true, false, not, Option, Some, slice_get, refl, sym, ap, ◌∙◌, subst, arith}
+use Rattle.std.proofs.Common.{◌≡◌, ◌==◌, ◌&&◌, ◌++◌, ◌⊎◌, inl, inr, ℕ, zero, suc, List, [], ◌∷◌, length, map, cond, true, false, not, Option, Some, slice_get, refl, sym, ap, ◌∙◌, subst, arith, append-nil}
 use Rattle.std.proofs.lemmas.Bool.{and_parts, or_parts}
 use Rattle.std.proofs.lemmas.Grind.{flat_map-append}
 use Rattle.std.proofs.lemmas.List.Folds.{list_any-append, list_all-append}
@@ -38,7 +38,6 @@ use Rattle.jc_bulk.specs.Starting.{change_wanted}
 use Rattle.jc_bulk.specs.Turns.{Turn, open_keys}
 use Rattle.jc_bulk.proofs.AskedKeys.{IsAwayIfEnded, away_all, among_self, is_new, all_both, distinct_both, open_among, open_distinct, unasked_after, answers_same}
 use Rattle.jc_bulk.proofs.SoFar.{same_target}
-use Rattle.jc_bulk.proofs.Under.{no_more}
 
 -- 1. What was said outside.
 
@@ -159,9 +158,9 @@ round_over kind rounds r targets old new caller ps later calls d is some stay wa
     let asks : keys_asked r ≡ reserved_keys calls = asks_for kind calls r is in
     let asked : reserved_keys calls ≡ open_keys turns = was.so_far.keys_open in
     let more : keys_in_all (rounds ++ r ∷ []) ≡ keys_in_all rounds ++ open_keys turns =
-    flat_map-append keys_asked rounds (r ∷ []) ∙ ap (λ ks. keys_in_all rounds ++ ks) (no_more (keys_asked r) ∙ asks ∙ asked) in
+    flat_map-append keys_asked rounds (r ∷ []) ∙ ap (λ ks. keys_in_all rounds ++ ks) (append-nil (keys_asked r) ∙ asks ∙ asked) in
     let changed : changes_in_all (rounds ++ r ∷ []) ≡ changes_in_all rounds ++ changes_asked r =
-    flat_map-append changes_asked rounds (r ∷ []) ∙ ap (λ cs. changes_in_all rounds ++ cs) (no_more (changes_asked r)) in
+    flat_map-append changes_asked rounds (r ∷ []) ∙ ap (λ cs. changes_in_all rounds ++ cs) (append-nil (changes_asked r)) in
     record {
       so_far = so_far;
       asked = ap (list_all (is_among keys)) more
@@ -183,7 +182,7 @@ round_over kind rounds r targets old new caller ps later calls d is some stay wa
 pub nothing_asked : (kind : CallKind) (rounds : List Round) (targets : List (Bytes × Op)) (cache : CacheState) (caller : Caller) (ps : List Progress) (calls : List ReservedState) → calls ≡ []
     → IsInRounds kind rounds targets cache caller ps calls → IsInRounds kind (rounds ++ []) targets cache caller ps []
 nothing_asked kind rounds targets cache caller ps calls none was =
-    subst (λ rs. IsInRounds kind rs targets cache caller ps []) (sym (no_more rounds)) (subst (IsInRounds kind rounds targets cache caller ps) none was)
+    subst (λ rs. IsInRounds kind rs targets cache caller ps []) (sym (append-nil rounds)) (subst (IsInRounds kind rounds targets cache caller ps) none was)
 
 -- 6. The calls outside.
 

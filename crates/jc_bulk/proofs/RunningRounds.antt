@@ -7,7 +7,7 @@
 --     runs_refused   in place of a round, the keys that wait are refused
 --     runs_one       one round: its first phases, and what follows of them
 --     later_round    a later round comes only if some stripe has more of the keys than may be reserved there
-use Rattle.std.proofs.Common.{◌≡◌, ◌==◌, ◌<◌, ◌≤◌, ◌++◌, ◌⊎◌, inl, inr, ℕ, zero, suc, List, [], ◌∷◌, length, get_or, slice_get, Option, None, Some, append_assoc, refl, sym, ap, ◌∙◌, subst, arith}
+use Rattle.std.proofs.Common.{◌≡◌, ◌==◌, ◌<◌, ◌≤◌, ◌++◌, ◌⊎◌, inl, inr, ℕ, zero, suc, List, [], ◌∷◌, length, get_or, slice_get, Option, None, Some, append_assoc, refl, sym, ap, ◌∙◌, subst, arith, append-nil}
 use Rattle.std.proofs.lemmas.List.Elements.{filter_map-append}
 use Rattle.std.proofs.lemmas.Option.{slice_get-get_or, slice_get_within}
 use Rattle.std.specs.List.{cons_option, IsAmong, IsDistinct}
@@ -42,7 +42,6 @@ use Rattle.jc_bulk.proofs.Places.{stay_both}
 use Rattle.jc_bulk.proofs.RoundCalls.{calls_both}
 use Rattle.jc_bulk.proofs.SoFar.{as_many_keys}
 use Rattle.jc_bulk.proofs.Turns.{both_after_all, both_leave, same_after_all}
-use Rattle.jc_bulk.proofs.Under.{no_more}
 
 -- 1. The cause.
 
@@ -100,16 +99,16 @@ cause_after ps fs gs rounds more None None (Some r) mid last stay_first stay_the
     (among_second (failures gs) (faults_in (rounds ++ more)) r
     (subst (λ rs. IsAmong rs r) (sym (faults_both rounds more)) (among_second (faults_in rounds) (faults_in more) r (subst (λ rs. IsAmong rs r) (sym faults) (zero, (omega arith, refl))))))
 cause_after ps fs gs rounds more None None None mid last stay_first stay_then noted is ends faults h =
-    let none : faults_in (rounds ++ more) ≡ [] = faults_both rounds more ∙ ap (λ rs. faults_in rounds ++ rs) faults ∙ no_more (faults_in rounds) ∙ (none_either (failures ps) (faults_in rounds) h).1 in
-    subst (λ rs. IsCauseIn last (failures gs ++ rs)) (sym none) (subst (IsCauseIn last) (sym (no_more (failures gs))) (subst (λ o. IsFirstCause o (failures gs) last) is ends))
+    let none : faults_in (rounds ++ more) ≡ [] = faults_both rounds more ∙ ap (λ rs. faults_in rounds ++ rs) faults ∙ append-nil (faults_in rounds) ∙ (none_either (failures ps) (faults_in rounds) h).1 in
+    subst (λ rs. IsCauseIn last (failures gs ++ rs)) (sym none) (subst (IsCauseIn last) (sym (append-nil (failures gs))) (subst (λ o. IsFirstCause o (failures gs) last) is ends))
 
 pub cause_refused : (ps later : List Progress) (rounds : List Round) (cause last : Option Refusal) → StayEnded ps later → IsFirstCause cause (failures later) last
     → IsCauseIn cause (failures ps ++ faults_in rounds) → IsCauseIn last (failures later ++ faults_in rounds)
 cause_refused ps later rounds (Some r) last stay noted h =
     subst (λ o. IsCauseIn o (failures later ++ faults_in rounds)) (sym noted)
-    (subst (λ rs. IsAmong (failures later ++ faults_in rs) r) (no_more rounds) (still_among ps later rounds [] r stay h))
+    (subst (λ rs. IsAmong (failures later ++ faults_in rs) r) (append-nil rounds) (still_among ps later rounds [] r stay h))
 cause_refused ps later rounds None last stay noted h =
-    subst (λ rs. IsCauseIn last (failures later ++ rs)) (sym (none_either (failures ps) (faults_in rounds) h).1) (subst (IsCauseIn last) (sym (no_more (failures later))) noted)
+    subst (λ rs. IsCauseIn last (failures later ++ rs)) (sym (none_either (failures ps) (faults_in rounds) h).1) (subst (IsCauseIn last) (sym (append-nil (failures later))) noted)
 
 -- 2. Rounds.
 
@@ -147,8 +146,8 @@ module _ {I J : Type 0} {D : I → Type 0} {E : J → Type 0} (loads_all : LoadA
       [],
       (refl, refl),
       λ few. omega arith,
-      subst (λ rs. IsInRounds kind rs targets a s.caller fs []) (sym (no_more rounds)) (so_far rounds was),
-      λ cause. subst (λ rs. IsCauseIn y (failures fs ++ faults_in rs)) (sym (no_more rounds)) (cause_refused es fs rounds x y stay noted cause),
+      subst (λ rs. IsInRounds kind rs targets a s.caller fs []) (sym (append-nil rounds)) (so_far rounds was),
+      λ cause. subst (λ rs. IsCauseIn y (failures fs ++ faults_in rs)) (sym (append-nil rounds)) (cause_refused es fs rounds x y stay noted cause),
     );
     stay = stay;
     grows = same_after_all a;

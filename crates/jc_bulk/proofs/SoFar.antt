@@ -6,7 +6,7 @@
 --     open_after           the keys that are reserved after a key has begun
 --     refused_so_far       the account of the call after each key that waits is refused
 --     committed_so_far     the account after the last phase at the first of its keys that is reserved
-use Rattle.std.proofs.Common.{◌≡◌, ◌==◌, ◌++◌, inl, inr, ℕ, zero, suc, List, [], ◌∷◌, length, map, take, drop, set, true, false, true≢false, None, Some, Ok, Err, slice_get, refl, sym, ap, ◌∙◌, subst}
+use Rattle.std.proofs.Common.{◌≡◌, ◌==◌, ◌++◌, inl, inr, ℕ, zero, suc, List, [], ◌∷◌, length, map, take, drop, set, true, false, true≢false, None, Some, Ok, Err, slice_get, refl, sym, ap, ◌∙◌, subst, append-nil}
 use Rattle.std.proofs.lemmas.Cmp.{nat_list_eq_equiv}
 use Rattle.std.proofs.lemmas.List.{map-append}
 use Rattle.std.proofs.lemmas.Map.Keys.{IsDistinct-head, IsDistinct-tail}
@@ -23,6 +23,7 @@ use Rattle.jc_model.specs.declared.event.Reply.{Reply}
 use Rattle.jc_model.specs.Batches.{is_among}
 use Rattle.jc_model.specs.Cache.{Bytes}
 use Rattle.jc_model.specs.Group.{nothing_said}
+use Rattle.jc_outside.proofs.CallerLemmas.{at_place}
 use Rattle.jc_stripe.specs.State.{State}
 use Rattle.jc_stripe.specs.declared.ticket.Reservation.{Reservation}
 use Rattle.jc_session.specs.declared.mark.Mark.{Mark}
@@ -40,9 +41,8 @@ use Rattle.jc_bulk.specs.Underway.{IsUnderway}
 use Rattle.jc_bulk.specs.SoFar.{IsTarget, HasEndedAt, IsCallAt, AreTurns, IsSoFar}
 use Rattle.jc_bulk.specs.Rounds.{IsCrowded}
 use Rattle.jc_bulk.proofs.Crowded.{config_there}
-use Rattle.jc_bulk.proofs.Turns.{IsAway, at_place, near_later, may_later, one_state, own_step, no_step, all_push, others_kept, refused_turn, refused_keys, refused_progress, refused_open}
-use Rattle.jc_bulk.proofs.Places.{turn_set, keys_set, progress_set, turn_there, key_apart, all_apart, turns_set, open_begun, first_open, open_ended}
-use Rattle.jc_bulk.proofs.Under.{no_more}
+use Rattle.jc_bulk.proofs.Turns.{IsAway, near_later, may_later, one_state, own_step, no_step, all_push, others_kept, refused_turn, refused_keys, refused_progress, refused_open}
+use Rattle.jc_bulk.proofs.Places.{turn_set, keys_set, progress_set, turn_there, all_apart, turns_set, open_begun, first_open, open_ended}
 
 -- 1. The keys of the call, with their operations.
 
@@ -89,11 +89,11 @@ pub turn_kept : (caller : Caller) (targets : List (Bytes × Op)) (said : Out) (e
     → (op : Op) (state : State) → IsTarget targets key op → IsStripeOf new key state → HasEndedAt state caller (keys_of targets) said key op p
 turn_kept caller targets said events old new key p adds none was op state target is =
     let b = adds.stripes key state is in
-    ends_kept b.0 state caller (keys_of targets) said key op p b.2 (b.3 ∙ ap (λ xs. steps_of caller key b.0.history ++ xs) none ∙ no_more (steps_of caller key b.0.history)) (was op b.0 target b.1)
+    ends_kept b.0 state caller (keys_of targets) said key op p b.2 (b.3 ∙ ap (λ xs. steps_of caller key b.0.history ++ xs) none ∙ append-nil (steps_of caller key b.0.history)) (was op b.0 target b.1)
 
 -- a key that is none of the call's differs from each of them
 pub apart_from : (targets : List (Bytes × Op)) (place : ℕ) (key q : Bytes) → slice_get (keys_of targets) place ≡ Some key → is_among (keys_of targets) q ≡ false → pointwise ◌==◌ q key ≡ false
-apart_from targets place key q at none = key_apart (λ y. pointwise ◌==◌ q y ≡ false) (keys_of targets) place key (all_apart q (keys_of targets) none) at
+apart_from targets place key q at none = at_place (λ y. pointwise ◌==◌ q y ≡ false) (keys_of targets) place key (all_apart q (keys_of targets) none) at
 
 -- 3. A key that begins.
 
@@ -141,12 +141,12 @@ calls_after mark caller targets key op Waiting old new target h all = subst (All
 
 pub open_after : (mark : Mark) (caller : Caller) (key : Bytes) (op : Op) (x : Progress) (old new : List ReservedState) → StartsCall mark caller key op x old new
     → reserved_keys new ≡ reserved_keys old ++ cons_option (key_if_open key x) []
-open_after mark caller key op (Ended ended) old new h = ap reserved_keys h ∙ sym (no_more (reserved_keys old))
+open_after mark caller key op (Ended ended) old new h = ap reserved_keys h ∙ sym (append-nil (reserved_keys old))
 open_after mark caller key op Reserved old new h =
     ap reserved_keys h.2
     ∙ map-append (λ (c : ReservedState). c.reservation.key) old (h.0 ∷ [])
     ∙ ap (λ k. reserved_keys old ++ k ∷ []) h.1.0.key_is
-open_after mark caller key op Waiting old new h = ap reserved_keys h ∙ sym (no_more (reserved_keys old))
+open_after mark caller key op Waiting old new h = ap reserved_keys h ∙ sym (append-nil (reserved_keys old))
 
 pub begun_so_far : (said : Bytes → Out) (targets : List (Bytes × Op)) (old new : CacheState) (caller : Caller) (progress : List Progress) (calls calls' : List ReservedState) (place : ℕ) (key : Bytes) (op : Op) (x : Progress) (s : State)
     → IsSoFar said targets old caller progress calls → IsDistinct (pointwise ◌==◌) (keys_of targets) → slice_get targets place ≡ Some (key, op) → StillWaits progress place → list_all is_closed (drop place progress) ≡ true

@@ -8,19 +8,18 @@
 --     not_open, waits_closed     a key that isn't the call's isn't reserved, and neither is one that waits
 --     own_set                    how many steps the session has made, as a key ends
 --     begun_counted              what the session counts, after a key has begun
---     at_place, absent, key_there    a key is at its place, and isn't among those before it
+--     same_some                  what two `Some` hold
 --     both_after_all, both_leave, both_counted    two phases, one after the other
 --     same_after_all             none
 --     refused_keys, refused_progress, refused_open, refused_counted    after those that wait are refused: the turns, and what the session
 --                                counts
 --     open_once                  the key of the first turn that is reserved is no other's
-use Rattle.std.proofs.Common.{◌≡◌, ◌==◌, ◌≤◌, ◌<◌, ◌+◌, ◌*◌, ◌&&◌, ◌||◌, inl, inr, ℕ, zero, suc, List, [], ◌∷◌, ◌++◌, length, length-append, append_assoc, map, take, set, get_or, cond, Bool, true, false, not, None, Some, Ok, Err, nat_le, nat_lt, slice_get, refl, sym, ap, ◌∙◌, subst, arith}
+use Rattle.std.proofs.Common.{◌≡◌, ◌==◌, ◌≤◌, ◌<◌, ◌+◌, ◌*◌, ◌&&◌, ◌||◌, inl, inr, ℕ, zero, suc, List, [], ◌∷◌, ◌++◌, length, length-append, append_assoc, map, set, cond, Bool, true, false, not, None, Some, Ok, Err, nat_le, nat_lt, slice_get, refl, sym, ap, ◌∙◌, subst, arith, append-nil}
 use Rattle.std.proofs.lemmas.Bool.{or_parts}
 use Rattle.std.proofs.lemmas.Bool.Decides.{nat_tests}
 use Rattle.std.proofs.lemmas.Cmp.{nat_list_eq_equiv}
 use Rattle.std.proofs.lemmas.List.{length-map}
 use Rattle.std.proofs.lemmas.Map.Keys.{IsDistinct-head, IsDistinct-tail}
-use Rattle.std.proofs.lemmas.Option.{slice_get-get_or}
 use Rattle.std.specs.List.{AllByRecursion, IsDistinct, cons_option}
 use Rattle.std.specs.Cmp.Lexicographic.{pointwise}
 use Rattle.jc_types.specs.declared.caller.Caller.{Caller}
@@ -34,6 +33,7 @@ use Rattle.jc_model.specs.declared.event.Out.{Out}
 use Rattle.jc_model.specs.declared.event.Reply.{Reply}
 use Rattle.jc_model.specs.Batches.{is_among}
 use Rattle.jc_model.specs.Cache.{Bytes}
+use Rattle.jc_outside.proofs.CallerLemmas.{at_place}
 use Rattle.jc_stripe.specs.Refusals.{last_number}
 use Rattle.jc_stripe.specs.State.{State}
 use Rattle.jc_session.specs.Counting.{one_more}
@@ -51,9 +51,9 @@ use Rattle.jc_bulk.specs.Turns.{Turn, AreCounted, turn_keys, turn_progress, open
 use Rattle.jc_bulk.specs.Phased.{ComesAfter, AddsSteps, LeavesCalls, counts_started}
 use Rattle.jc_bulk.specs.Recorded.{steps_of}
 use Rattle.jc_bulk.specs.Rounds.{IsCrowded}
-use Rattle.jc_bulk.proofs.Places.{key_apart, apart_all}
+use Rattle.jc_bulk.proofs.Places.{apart_all}
 use Rattle.jc_bulk.proofs.Steps.{next_number}
-use Rattle.jc_bulk.proofs.Under.{no_more, same_number}
+use Rattle.jc_bulk.proofs.Under.{same_number}
 
 -- 1. What stays so.
 
@@ -132,7 +132,7 @@ pub others_kept : (caller : Caller) (events : List Event) (old new : CacheState)
     → ((state : State) → IsStripeOf old q state → steps_of caller q state.history ≡ []) → (state : State) → IsStripeOf new q state → steps_of caller q state.history ≡ []
 others_kept caller events old new q adds away none state is =
     let b = adds.stripes q state is in
-    b.3 ∙ ap (λ xs. steps_of caller q b.0.history ++ xs) away ∙ no_more (steps_of caller q b.0.history) ∙ none b.0 b.1
+    b.3 ∙ ap (λ xs. steps_of caller q b.0.history ++ xs) away ∙ append-nil (steps_of caller q b.0.history) ∙ none b.0 b.1
 
 pub after_all : (caller : Caller) (events : List Event) (old new : CacheState) → AddsSteps caller events old new → ComesAfterAll old new
 after_all caller events old new adds = record {
@@ -168,7 +168,7 @@ waits_closed (t ∷ turns) zero key d at is =
     ∙ not_open turns t.key (apart_all t.key (turn_keys turns) (IsDistinct-head (pointwise ◌==◌) t.key (turn_keys turns) d))
 waits_closed (t ∷ turns) (suc place) key d at is =
     not_here key t.key t.progress (open_keys turns)
-    (nat_list_eq_equiv.symm key t.key ∙ key_apart (λ y. pointwise ◌==◌ t.key y ≡ false) (turn_keys turns) place key (IsDistinct-head (pointwise ◌==◌) t.key (turn_keys turns) d) at)
+    (nat_list_eq_equiv.symm key t.key ∙ at_place (λ y. pointwise ◌==◌ t.key y ≡ false) (turn_keys turns) place key (IsDistinct-head (pointwise ◌==◌) t.key (turn_keys turns) d) at)
     (waits_closed turns place key (IsDistinct-tail (pointwise ◌==◌) t.key (turn_keys turns) d) at is)
 
 -- 5. What the session counts.
@@ -235,29 +235,10 @@ begun_counted key first counts ps calls calls' place progress.Waiting few at is 
     let many = same_many calls calls' is in
     counted ∙ (λ i. record first { own = sym own i; reservations = many i })
 
--- 6. The keys in order.
-
-pub at_place : {X : Type 0} (P : X → Type 0) (xs : List X) (i : ℕ) (x : X) → AllByRecursion P xs → slice_get xs i ≡ Some x → P x
-at_place P [] i x all at = cc
-at_place P (y ∷ ys) zero x all at = let is : y ≡ x = cc in subst P is all.0
-at_place P (y ∷ ys) (suc i) x all at = at_place P ys i x all.1 at
-
--- a key isn't among those before it, if all differ
-pub absent : (keys : List Bytes) (i : ℕ) (key : Bytes) → IsDistinct (pointwise ◌==◌) keys → slice_get keys i ≡ Some key → is_among (take i keys) key ≡ false
-absent [] zero key d at = refl
-absent [] (suc i) key d at = refl
-absent (x ∷ keys) zero key d at = refl
-absent (x ∷ keys) (suc i) key d at =
-    let no : pointwise ◌==◌ x key ≡ false = at_place (λ y. pointwise ◌==◌ x y ≡ false) keys i key (IsDistinct-head (pointwise ◌==◌) x keys d) at in
-    ap (λ b. b || is_among (take i keys) key) (nat_list_eq_equiv.symm key x ∙ no) ∙ absent keys i key (IsDistinct-tail (pointwise ◌==◌) x keys d) at
-
 pub same_some : {X : Type 0} (x y : X) → Some x ≡ Some y → x ≡ y
 same_some x y e = cc
 
-pub key_there : (keys : List Bytes) (i : ℕ) (key : Bytes) → i < length keys → key ≡ get_or keys i key → slice_get keys i ≡ Some key
-key_there keys i key lt is = slice_get-get_or keys i key lt ∙ ap Some (sym is)
-
--- 7. One phase after another.
+-- 6. One phase after another.
 
 both_after : (a b c : State) → ComesAfter a b → ComesAfter b c → ComesAfter a c
 both_after a b c first second = record {
@@ -300,7 +281,7 @@ same_after_all a = record {
       extends = record {
         same = record { config = refl; stripe = refl; origin = refl; opening = refl };
         more = [];
-        history = sym (no_more after.history);
+        history = sym (append-nil after.history);
       };
       next = omega arith;
     },
@@ -310,7 +291,7 @@ same_after_all a = record {
 pub both_counted : {I J : Type 0} {D : I → Type 0} {E : J → Type 0} (a b c : Session I J D E) → b ≡ record a { counts = b.counts } → c ≡ record b { counts = c.counts } → c ≡ record a { counts = c.counts }
 both_counted {I} {J} {D} {E} a b c first second = second ∙ ap (λ (s : Session I J D E). record s { counts = c.counts }) first
 
--- 8. Keys that are refused since a later round has no memory.
+-- 7. Keys that are refused since a later round has no memory.
 
 abbrev pub refused_turn : Turn → Turn
 refused_turn t = record { key = t.key; progress = refused_if_waiting t.progress }
@@ -341,7 +322,7 @@ own_refused own (progress.Ended e ∷ ps) = own_refused (own_after own e) ps
 pub refused_counted : (first counts : Counts) (ps : List Progress) (out : ℕ) → AreCounted first ps out counts → AreCounted first (map refused_if_waiting ps) out counts
 refused_counted first counts ps out counted = counted ∙ (λ i. record first { own = sym (own_refused first.own ps) i; reservations = out })
 
--- 9. The first key that is reserved.
+-- 8. The first key that is reserved.
 
 -- it is reserved once
 pub open_once : (turns : List Turn) (k : Bytes) (ks : List Bytes) → IsDistinct (pointwise ◌==◌) (turn_keys turns) → open_keys turns ≡ k ∷ ks → is_among ks k ≡ false

@@ -1,12 +1,12 @@
 -- A stripe while a bulk call is under way: who may begin, and what a phase leaves.
---     same_number, no_more          a number is itself; nothing more
+--     same_number                   a number is itself
 --     may_begin                     a key of the call that has no step and no reservation may begin
 --     is_free                       such a key is free
 --     under_step                    a step leaves the reservations
 --     under_reserved, not_reserved  a reservation more is one at its stripe alone
 --     is_out                        the first one that is out is out at its stripe
 --     under_commit, not_committed   its commit ends it at its stripe alone
-use Rattle.std.proofs.Common.{◌≡◌, ◌==◌, ◌&&◌, ◌||◌, ◌<◌, ℕ, List, [], ◌∷◌, ◌++◌, filter, find, map, cond, Bool, true, false, not, Some, refl, sym, ap, ◌∙◌, subst, arith}
+use Rattle.std.proofs.Common.{◌≡◌, ◌==◌, ◌&&◌, ◌||◌, ◌<◌, ℕ, List, [], ◌∷◌, ◌++◌, filter, find, map, cond, Bool, true, false, not, Some, refl, sym, ap, ◌∙◌, subst, arith, append-nil}
 use Rattle.std.proofs.lemmas.Bool.{and_parts, eqb-true}
 use Rattle.std.proofs.lemmas.Bool.Decides.{nat_tests}
 use Rattle.std.proofs.lemmas.Cmp.{nat_list_eq_equiv}
@@ -110,16 +110,12 @@ under_reserved config caller out i old new r under i_is is = record {
   numbers = ap (λ (s : State). list_all (is_before_call caller.session (one_more caller.call)) s.history) is ∙ under.numbers;
 }
 
-pub no_more : {A : Type 0} (xs : List A) → xs ++ [] ≡ xs
-no_more [] = refl
-no_more (x ∷ xs) = ap (λ ys. x ∷ ys) (no_more xs)
-
 pub not_reserved : (config : Config) (caller : Caller) (out : List Reservation) (i : ℕ) (s : State) (r : Reservation) → IsUnder config caller out i s → (i ≡ stripe_of r.key config.stripes → ⊥)
     → IsUnder config caller (out ++ r ∷ []) i s
 not_reserved config caller out i s r under apart = record {
   config_is = under.config_is;
   stripe_is = under.stripe_is;
-  reservations = under.reservations ∙ sym (filter-append (at_stripe config i) out (r ∷ []) ∙ ap (λ rs. filter (at_stripe config i) out ++ rs) (filter_one config i r false (other_number _ _ apart)) ∙ no_more _);
+  reservations = under.reservations ∙ sym (filter-append (at_stripe config i) out (r ∷ []) ∙ ap (λ rs. filter (at_stripe config i) out ++ rs) (filter_one config i r false (other_number _ _ apart)) ∙ append-nil _);
   joiners = under.joiners;
   numbers = under.numbers;
 }

@@ -4,6 +4,7 @@
 --     key_end, key_ends    how a key ended, if it is over, and how these keys did, in their order
 --     refusal_in      the fault or refusal that a key ended in, if it did
 --     reply_value     the value that a key's step replied, if it did
+--     entries_by      each key of whose end something is said, with that, in the call's order
 --     failed_entries  each key that ended in a fault or a refusal, with it, in the call's order
 --     found_entries   each key whose step replied a value, with it, in the call's order
 --     is_near_full    a stripe's history has no room for a step more beside as many reservations as may be out, or a number is at its end
@@ -65,11 +66,14 @@ reply_value (Ok (reply.Value value)) = value
 reply_value (Ok (reply.Flag flag)) = None
 reply_value (Ok reply.Unit) = None
 
+abbrev pub entries_by : {V : Type 0} → (Result Reply Refusal → Option V) → List KeyEnd → List (Bytes × V)
+entries_by said ends = filter_map (λ (e : KeyEnd). option_map (λ v. (e.key, v)) (said e.ended)) ends
+
 abbrev pub failed_entries : List KeyEnd → List (Bytes × Refusal)
-failed_entries ends = filter_map (λ (e : KeyEnd). option_map (λ r. (e.key, r)) (refusal_in e.ended)) ends
+failed_entries ends = entries_by refusal_in ends
 
 abbrev pub found_entries : List KeyEnd → List (Bytes × Bytes)
-found_entries ends = filter_map (λ (e : KeyEnd). option_map (λ v. (e.key, v)) (reply_value e.ended)) ends
+found_entries ends = entries_by reply_value ends
 
 -- 2. What became of a key.
 

@@ -16,10 +16,10 @@ ghost use Rattle.jc_bulk.specs.Rounds.{LoadRound};
 
 use crate::carrying::{CallEnd, Room, carry_out};
 use crate::fault::BulkFault;
-use crate::results::insert_found;
 use crate::round::Progress;
 use crate::targets::Targets;
 use indexmap::{IndexMap, IndexSet};
+use jc_batch::insert_new;
 use jc_cache::{Cache, Session};
 use jc_model::Reply;
 use jc_types::{BULK_KEYS_MAX, Key, Refusal, Value};
@@ -146,7 +146,7 @@ fn add_value(key: &Key, progress: &Progress, found: &mut IndexMap<Key, Value>)
     ensures room { spare found.old ≤ spare found.new + 1 }
 {
     match progress {
-        Progress::Ended(Ok(Reply::Value(Some(value)))) => insert_found(found, key, *value),
+        Progress::Ended(Ok(Reply::Value(Some(value)))) => insert_new(found, key, *value),
         Progress::Ended(Ok(Reply::Value(None) | Reply::Flag(_) | Reply::Unit)) => {}
         Progress::Ended(Ok(Reply::Fault(_)) | Err(_)) => {}
         Progress::Waiting | Progress::Reserved => {}

@@ -10,6 +10,7 @@ ghost use Rattle.jc_bulk.specs.KeyProgress.{refused_if_waiting, failure_at, fail
 
 use crate::round::Progress;
 use indexmap::IndexMap;
+use jc_batch::insert_new;
 use jc_model::Reply;
 use jc_types::{Key, Refusal, Value};
 use std::alloc::{AllocError, Global};
@@ -122,19 +123,6 @@ fn failure_of(progress: &Progress) -> Option<Refusal>
     }
 }
 
-/// Adds a key that failed. It takes no memory.
-pub(crate) fn insert_failed(failed: &mut IndexMap<Key, Refusal>, key: &Key, refusal: Refusal)
-    requires new { list_any (pointwise ◌==◌ key.now) (keys_of failed.old.entries) ≡ false }
-    requires room { 0 < spare failed.old }
-    ensures entries { failed.new.entries ≡ failed.old.entries ++ (key.now, refusal) ∷ [] }
-    ensures room { spare failed.old ≤ spare failed.new + 1 }
-{
-    match failed.insert(*key, refusal) {
-        Ok(_old) => {}
-        Err(_failed) => unreachable!(),
-    }
-}
-
 /// Adds a key if it failed. It takes no memory.
 pub(crate) fn insert_if_failed(
     failed: &mut IndexMap<Key, Refusal>,
@@ -148,20 +136,7 @@ pub(crate) fn insert_if_failed(
     ensures room { spare failed.old ≤ spare failed.new + 1 }
 {
     match ended {
-        Ok(Reply::Fault(refusal)) | Err(refusal) => insert_failed(failed, key, *refusal),
+        Ok(Reply::Fault(refusal)) | Err(refusal) => insert_new(failed, key, *refusal),
         Ok(Reply::Value(_) | Reply::Flag(_) | Reply::Unit) => {}
-    }
-}
-
-/// Adds a key that has a value. It takes no memory.
-pub(crate) fn insert_found(found: &mut IndexMap<Key, Value>, key: &Key, value: Value)
-    requires new { list_any (pointwise ◌==◌ key.now) (keys_of found.old.entries) ≡ false }
-    requires room { 0 < spare found.old }
-    ensures entries { found.new.entries ≡ found.old.entries ++ (key.now, value) ∷ [] }
-    ensures room { spare found.old ≤ spare found.new + 1 }
-{
-    match found.insert(*key, value) {
-        Ok(_old) => {}
-        Err(_failed) => unreachable!(),
     }
 }

@@ -4,9 +4,11 @@
 --     wanted_keys, write_keys, delete_keys    the keys of these changes, of writes and of deletes
 --     loads_are, writes_are       the done values of one call outside are those of its tickets
 --     loaded_said, written_said   they give each call its answer
+--     none_asked                  calls of which none is left have neither ticket nor ask
 --     loads_keys                  one call outside, whose keys are said in another way
 --     loads_none, writes_none     calls of which none is left have neither ticket nor done value
-use Rattle.std.proofs.Common.{◌≡◌, ℕ, List, [], ◌∷◌, Option, Some, length, map, refl, ap, subst}
+use Rattle.std.proofs.Common.{◌≡◌, ℕ, List, [], ◌∷◌, Option, Some, length, map, refl, sym, ap, ◌∙◌, subst}
+use Rattle.std.proofs.lemmas.List.{length-map}
 use Rattle.jc_model.specs.Cache.{Bytes}
 use Rattle.std.specs.Map.{keys_of}
 use Rattle.jc_model.specs.declared.event.Change.{Change}
@@ -15,12 +17,14 @@ use Rattle.jc_model.specs.declared.event.LoadAnswer.{LoadAnswer}
 use Rattle.jc_model.specs.declared.event.WriteAnswer.{WriteAnswer}
 use Rattle.jc_outside.specs.CallingAll.{loads_done, writes_done, asked_changes, LoadAllRelation, LoadsAllOnce}
 use Rattle.jc_outside.specs.Done.{LoadResult, WriteResult}
+use Rattle.jc_outside.specs.declared.done.Origin.{Origin}
+use Rattle.jc_outside.specs.declared.done.Origin.TheVariants.{Live}
 use Rattle.jc_stripe.specs.declared.ticket.Reservation.{Reservation}
 use Rattle.jc_stripe.specs.Tickets.{Ticket, change_asked}
 use Rattle.jc_session.specs.declared.mark.Mark.{Mark}
 use Rattle.jc_cache.specs.Outstanding.{ReservedState}
 use Rattle.jc_cache.specs.OutstandingAll.{reserved_by, reserved_keys, wanted_changes, with_answers}
-use Rattle.jc_cache.specs.OutstandingInside.{AreLoaded, loaded_calls, AreWritten, written_calls}
+use Rattle.jc_cache.specs.OutstandingInside.{AreDone, done_calls, AreLoaded, loaded_calls, AreWritten, written_calls}
 
 pub keys_are : (tickets : List (Mark × Ticket)) → map (λ (r : Reservation). r.key) (map (λ t. t.1.reservation) tickets) ≡ reserved_keys (map reserved_by tickets)
 keys_are [] = refl
@@ -43,17 +47,43 @@ pub delete_keys : (keys : List Bytes) → map (λ (c : Bytes × Option Change). 
 delete_keys [] = refl
 delete_keys (k ∷ ks) = ap (λ rest. k ∷ rest) (delete_keys ks)
 
--- 1. Loads.
+-- 1. Done values of either kind, by what each is of and what it says.
+
+module _ {D W : Type 0} (ask : D → Reservation) (origin : D → Origin) (answer : D → W) where
+  all_done : (done : Reservation → D) → ((r : Reservation) → ask (done r) ≡ r) → ((r : Reservation) → origin (done r) ≡ Live) → (tickets : List (Mark × Ticket))
+      → AreDone ask origin tickets (map done (map (λ t. t.1.reservation) tickets))
+  all_done done asks live [] = tt
+  all_done done asks live (t ∷ ts) = (asks t.1.reservation, live t.1.reservation, all_done done asks live ts)
+
+  calls_said : (done : Reservation → D) (said : Bytes → W) → ((r : Reservation) → answer (done r) ≡ said r.key) → (tickets : List (Mark × Ticket))
+      → done_calls answer tickets (map done (map (λ t. t.1.reservation) tickets)) ≡ with_answers said (map reserved_by tickets)
+  calls_said done said says [] = refl
+  calls_said done said says (t ∷ ts) = λ i. record { cache = t.0; reservation = t.1.reservation; answer = says t.1.reservation i } ∷ calls_said done said says ts i
+
+  none_done : (tickets : List (Mark × Ticket)) (done : List D) → AreDone ask origin tickets done → done_calls answer tickets done ≡ [] → (length tickets ≡ 0) × (length done ≡ 0)
+  none_done [] [] are none = (refl, refl)
+  none_done [] (d ∷ ds) are none = absurd are
+  none_done (t ∷ ts) [] are none = absurd are
+  none_done (t ∷ ts) (d ∷ ds) are none = cc
+
+-- calls of which none is left, before they are answered
+pub none_asked : (tickets : List (Mark × Ticket)) (asks : List Reservation) (calls : List ReservedState) → asks ≡ map (λ t. t.1.reservation) tickets → map reserved_by tickets ≡ calls → calls ≡ []
+    → (length tickets ≡ 0) × (length asks ≡ 0)
+none_asked tickets asks calls asks_are calls_are none =
+    let no_ticket : length tickets ≡ 0 = sym (length-map tickets reserved_by) ∙ ap length (calls_are ∙ none) in
+    (no_ticket, ap length asks_are ∙ length-map tickets (λ t. t.1.reservation) ∙ no_ticket)
+
+-- 2. Loads.
 
 pub loads_are : (said : Bytes → LoadAnswer) (tickets : List (Mark × Ticket))
     → AreLoaded tickets (loads_done (λ (r : Reservation). r.key) said (map (λ t. t.1.reservation) tickets))
-loads_are said [] = tt
-loads_are said (t ∷ ts) = (refl, refl, loads_are said ts)
+loads_are said = all_done (λ (d : LoadResult Reservation). d.ask) (λ (d : LoadResult Reservation). d.origin) (λ (d : LoadResult Reservation). d.answer)
+    (λ r. record { ask = r; origin = Live; answer = said r.key }) (λ r. refl) (λ r. refl)
 
 pub loaded_said : (said : Bytes → LoadAnswer) (tickets : List (Mark × Ticket))
     → loaded_calls tickets (loads_done (λ (r : Reservation). r.key) said (map (λ t. t.1.reservation) tickets)) ≡ with_answers said (map reserved_by tickets)
-loaded_said said [] = refl
-loaded_said said (t ∷ ts) = ap (λ cs. record { cache = t.0; reservation = t.1.reservation; answer = said t.1.reservation.key } ∷ cs) (loaded_said said ts)
+loaded_said said = calls_said (λ (d : LoadResult Reservation). d.ask) (λ (d : LoadResult Reservation). d.origin) (λ (d : LoadResult Reservation). d.answer)
+    (λ r. record { ask = r; origin = Live; answer = said r.key }) said (λ r. refl)
 
 pub loads_keys : {L : Type 0} (loads_all : LoadAllRelation L) (state : L → List ℕ) (old new : Option L) (said : Bytes → LoadAnswer) (keys same : List Bytes) → keys ≡ same
     → LoadsAllOnce loads_all state old keys said new → LoadsAllOnce loads_all state old same said new
@@ -61,26 +91,20 @@ loads_keys loads_all state old new said keys same is once = subst (λ ks. LoadsA
 
 pub loads_none : (tickets : List (Mark × Ticket)) (done : List (LoadResult Reservation)) → AreLoaded tickets done → loaded_calls tickets done ≡ []
     → (length tickets ≡ 0) × (length done ≡ 0)
-loads_none [] [] are none = (refl, refl)
-loads_none [] (d ∷ ds) are none = absurd are
-loads_none (t ∷ ts) [] are none = absurd are
-loads_none (t ∷ ts) (d ∷ ds) are none = cc
+loads_none = none_done (λ (d : LoadResult Reservation). d.ask) (λ (d : LoadResult Reservation). d.origin) (λ (d : LoadResult Reservation). d.answer)
 
--- 2. Writes.
+-- 3. Writes.
 
 pub writes_are : (said : Bytes → WriteAnswer) (tickets : List (Mark × Ticket))
     → AreWritten tickets (writes_done (λ (r : Reservation). r.key) said (map (λ t. t.1.reservation) tickets))
-writes_are said [] = tt
-writes_are said (t ∷ ts) = (refl, refl, writes_are said ts)
+writes_are said = all_done (λ (d : WriteResult Reservation). d.ask) (λ (d : WriteResult Reservation). d.origin) (λ (d : WriteResult Reservation). d.answer)
+    (λ r. record { ask = r; origin = Live; answer = said r.key }) (λ r. refl) (λ r. refl)
 
 pub written_said : (said : Bytes → WriteAnswer) (tickets : List (Mark × Ticket))
     → written_calls tickets (writes_done (λ (r : Reservation). r.key) said (map (λ t. t.1.reservation) tickets)) ≡ with_answers said (map reserved_by tickets)
-written_said said [] = refl
-written_said said (t ∷ ts) = ap (λ cs. record { cache = t.0; reservation = t.1.reservation; answer = said t.1.reservation.key } ∷ cs) (written_said said ts)
+written_said said = calls_said (λ (d : WriteResult Reservation). d.ask) (λ (d : WriteResult Reservation). d.origin) (λ (d : WriteResult Reservation). d.answer)
+    (λ r. record { ask = r; origin = Live; answer = said r.key }) said (λ r. refl)
 
 pub writes_none : (tickets : List (Mark × Ticket)) (done : List (WriteResult Reservation)) → AreWritten tickets done → written_calls tickets done ≡ []
     → (length tickets ≡ 0) × (length done ≡ 0)
-writes_none [] [] are none = (refl, refl)
-writes_none [] (d ∷ ds) are none = absurd are
-writes_none (t ∷ ts) [] are none = absurd are
-writes_none (t ∷ ts) (d ∷ ds) are none = cc
+writes_none = none_done (λ (d : WriteResult Reservation). d.ask) (λ (d : WriteResult Reservation). d.origin) (λ (d : WriteResult Reservation). d.answer)

@@ -3,8 +3,10 @@
 --     later_call    what is before a call is before the next one
 --     one_of_two    a stripe is that of the key, before and after, or it is another one and stays
 --     each_phase    it stays true, or something else becomes true, if it does at that stripe and at every other one
+--     leaves_sessions_both
+--                   what other sessions need stays, also after one call more
 --     stripe_was    a stripe, once that of a key has changed, is that one, or was so before
-use Rattle.std.proofs.Common.{◌≡◌, ◌<◌, ◌+◌, ◌⊎◌, inl, inr, ℕ, true, List, length, set, get_or, Option, None, Some, IsSomeAnd, slice_get, refl, sym, ap, ◌∙◌, subst, arith, length-set, get_or-set_same, get_or-set_other}
+use Rattle.std.proofs.Common.{◌≡◌, ◌==◌, ◌<◌, ◌+◌, ◌⊎◌, inl, inr, ℕ, true, List, length, set, get_or, Option, None, Some, IsSomeAnd, slice_get, refl, sym, ap, ◌∙◌, subst, arith, length-set, get_or-set_same, get_or-set_other}
 use Rattle.std.proofs.lemmas.Option.{slice_get_within, slice_get-get_or, get_or_from_slice_get}
 use mathlib.Core.Logic.{dite}
 use native.Mathlib.Decide.{ℕ_discrete}
@@ -13,8 +15,10 @@ use Rattle.jc_model.specs.Cache.{Bytes}
 use Rattle.std.specs.List.{list_all}
 use Rattle.jc_stripe.specs.OwnSteps.{HasNoCallFrom, is_before_call}
 use Rattle.jc_stripe.specs.State.{State}
+use Rattle.jc_session.specs.declared.session.Session.{Session}
 use Rattle.jc_cache.specs.Begun.{MakesPhaseAt}
 use Rattle.jc_cache.specs.Caches.{CacheState, EachStripe, IsStripeOf, IsAt}
+use Rattle.jc_cache.specs.Sessions.{LeavesSessions}
 use Rattle.jc_cache.proofs.Stripes.{all_at, later_numbers}
 
 pub at_key : (P : ℕ → State → Type 0) (cache : CacheState) (key : Bytes) (s : State) → EachStripe P cache.stripes → IsStripeOf cache key s → P (stripe_of key cache.config.stripes) s
@@ -82,3 +86,8 @@ stripe_was key q old new a b t at now =
     dite (ℕ_discrete j k)
     (λ e. inl (ap (λ n. slice_get old.stripes n) e ∙ at.was, same_state (set old.stripes k (Some b)) j k t b e here (at_set old.stripes k b near)))
     (λ ne. inr (at_other old.stripes j k b t ne here))
+
+module _ {I J : Type 0} {D : I → Type 0} {E : J → Type 0} where
+  pub leaves_sessions_both : (old mid new : CacheState) (start now : Session I J D E) → now.caller ≡ start.caller → LeavesSessions start old mid → LeavesSessions now mid new → LeavesSessions start old new
+  leaves_sessions_both old mid new start now same first second other differs may =
+      second other (ap (λ w. other.caller.session == w.session) same ∙ differs) (first other differs may)

@@ -27,7 +27,7 @@ use Rattle.jc_cache.specs.Begun.{MakesPhaseAt}
 use Rattle.jc_cache.specs.Caches.{CacheState, IsIdleCache, HasNoCallsFrom}
 use Rattle.jc_cache.specs.Calls.{ClearsAt}
 use Rattle.jc_cache.specs.Sessions.{IsOf, MayCall, MayCallAt, LeavesSessions}
-use Rattle.jc_cache.specs.Whole.{Ends, own_after}
+use Rattle.jc_cache.specs.Whole.{EndsCall, own_after}
 use Rattle.jc_cache.proofs.CallerLemmas.{at_key, each_phase}
 use Rattle.jc_cache.proofs.ManyKeys.{calls_after, numbers_stay}
 use Rattle.jc_cache.proofs.Stripes.{idle_after, still_own}
@@ -35,22 +35,22 @@ use Rattle.jc_cache.proofs.WholeCalls.{done_step}
 
 -- 1. What the first phase gives.
 
-pub ends_done : (a b : State) (caller : Caller) (key : Bytes) (done : StepDone) → Begins a caller key Clear (begun.Done done) b → Ends a caller key Clear nothing_said (Ok done.reply) b
+pub ends_done : (a b : State) (caller : Caller) (key : Bytes) (done : StepDone) → Begins a caller key Clear (begun.Done done) b → EndsCall a caller key Clear nothing_said (Ok done.reply) b
 ends_done a b caller key done h = (h.0, done_step _ _ _ _ _ _ h)
 
-pub ends_refused : (a b : State) (caller : Caller) (key : Bytes) (why : Refusal) → Begins a caller key Clear (begun.Refused why) b → Ends a caller key Clear nothing_said (Err why) b
+pub ends_refused : (a b : State) (caller : Caller) (key : Bytes) (why : Refusal) → Begins a caller key Clear (begun.Refused why) b → EndsCall a caller key Clear nothing_said (Err why) b
 ends_refused a b caller key why h = (h.0, refl, h.1)
 
 -- 2. What the call leaves.
 
 idle_cache : {phase : State → State → Type 0} (old new : CacheState) (caller : Caller) (key : Bytes) (ended : Result Reply Refusal) → (made : MakesPhaseAt key caller.session old new phase)
-    → Ends made.before caller key Clear nothing_said ended made.after → IsIdleCache old → IsIdleCache new
+    → EndsCall made.before caller key Clear nothing_said ended made.after → IsIdleCache old → IsIdleCache new
 idle_cache old new caller key ended made ends idle =
     each_phase (λ i s. IsIdle s) (λ i s. IsIdle s) key caller.session old new made idle (idle_after made.before made.after caller key Clear nothing_said ended ends) (λ j s apart h. h)
 
 module _ {I J : Type 0} {D : I → Type 0} {E : J → Type 0} where
   sessions_stay : {phase : State → State → Type 0} (old new : CacheState) (session : Session I J D E) (key : Bytes) (ended : Result Reply Refusal) → (made : MakesPhaseAt key session.caller.session old new phase)
-      → Ends made.before session.caller key Clear nothing_said ended made.after → IsIdleCache old → LeavesSessions session old new
+      → EndsCall made.before session.caller key Clear nothing_said ended made.after → IsIdleCache old → LeavesSessions session old new
   sessions_stay old new session key ended made ends idle other differs may = record {
     own = still_own old new other (ap (λ (z : CacheState). z.mark) made.at.now) (ap (λ (z : CacheState). z.config) made.at.now)
         (subst (λ g. old.given ≤ g) (sym (ap (λ (z : CacheState). z.given) made.at.now)) (le_refl old.given)) may.own;
@@ -61,7 +61,7 @@ module _ {I J : Type 0} {D : I → Type 0} {E : J → Type 0} where
   }
 
   pub clears_at : {phase : State → State → Type 0} (old new : CacheState) (session after : Session I J D E) (key : Bytes) (ended : Result Reply Refusal) → (made : MakesPhaseAt key session.caller.session old new phase)
-      → Ends made.before session.caller key Clear nothing_said ended made.after → after ≡ record session { counts = record session.counts { own = own_after session.counts.own ended } }
+      → EndsCall made.before session.caller key Clear nothing_said ended made.after → after ≡ record session { counts = record session.counts { own = own_after session.counts.own ended } }
       → IsIdleCache old → ClearsAt old session key ended new after
   clears_at old new session after key ended made ends left idle = record {
     before = made.before;
@@ -73,7 +73,7 @@ module _ {I J : Type 0} {D : I → Type 0} {E : J → Type 0} where
   }
 
   pub may_call : (old new : CacheState) (session after : Session I J D E) (key : Bytes) (ended : Result Reply Refusal) {phase : State → State → Type 0} → (made : MakesPhaseAt key session.caller.session old new phase)
-      → Ends made.before session.caller key Clear nothing_said ended made.after → after ≡ record session { counts = record session.counts { own = own_after session.counts.own ended } }
+      → EndsCall made.before session.caller key Clear nothing_said ended made.after → after ≡ record session { counts = record session.counts { own = own_after session.counts.own ended } }
       → IsOf new after → MayCall old session → MayCall new after
   may_call old new session after key ended made ends left own may =
       let n = session.caller.session in
@@ -89,7 +89,7 @@ module _ {I J : Type 0} {D : I → Type 0} {E : J → Type 0} where
       }
 
 pub others_may : {phase : State → State → Type 0} (old new : CacheState) (caller : Caller) (key q : Bytes) (ended : Result Reply Refusal) → (made : MakesPhaseAt key caller.session old new phase)
-    → Ends made.before caller key Clear nothing_said ended made.after → pointwise ◌==◌ key q ≡ false → MayCallAt old caller q → MayCallAt new caller q
+    → EndsCall made.before caller key Clear nothing_said ended made.after → pointwise ◌==◌ key q ≡ false → MayCallAt old caller q → MayCallAt new caller q
 others_may old new caller key q ended made ends apart may =
     calls_after old new made.before made.after caller key q Clear nothing_said ended made.at ends apart may
 
@@ -108,7 +108,7 @@ full true false free true many why h r w = cc
 full true false free false many why h r w = cc
 
 pub is_full : {phase : State → State → Type 0} (old new : CacheState) (caller : Caller) (key : Bytes) (why : Refusal) → (made : MakesPhaseAt key caller.session old new phase)
-    → Ends made.before caller key Clear nothing_said (Err why) made.after → IsIdleCache old → why ≡ HistoryFull
+    → EndsCall made.before caller key Clear nothing_said (Err why) made.after → IsIdleCache old → why ≡ HistoryFull
 is_full old new caller key why made ends idle =
     let s = made.before in
     let none : IsIdle s = at_key (λ i s. IsIdle s) old key s idle made.at.was in

@@ -9,3 +9,4 @@ pub mod Unasked
 pub mod Answered
 pub mod ManyKeys
 pub mod Clearing
+pub mod FirstCalls

@@ -29,7 +29,7 @@ use Rattle.jc_session.specs.declared.session.Session.{Session}
 use Rattle.jc_cache.specs.Caches.{CacheState, IsStripeOf, IsAt}
 use Rattle.jc_cache.specs.Calls.{next_call}
 use Rattle.jc_cache.specs.Sessions.{MayCall, MayCallAt}
-use Rattle.jc_cache.specs.Whole.{Ends}
+use Rattle.jc_cache.specs.Whole.{EndsCall}
 use Rattle.jc_cache.proofs.CallerLemmas.{stripe_was}
 use Rattle.jc_cache.proofs.Stripes.{each_then, low, more_numbers, same_number}
 
@@ -59,7 +59,7 @@ comes false less same this s t = refl
 comes true true same this s t = refl
 comes true false same this s t = ap (λ b. b && not this) s ∙ ap not t
 
-pub begins_after : (a b : State) (caller : Caller) (key q : Bytes) (op : Op) (out : Out) (ended : Result Reply Refusal) → Ends a caller key op out ended b → pointwise ◌==◌ key q ≡ false
+pub begins_after : (a b : State) (caller : Caller) (key q : Bytes) (op : Op) (out : Out) (ended : Result Reply Refusal) → EndsCall a caller key op out ended b → pointwise ◌==◌ key q ≡ false
     → MayBegin a caller q → MayBegin b caller q
 begins_after a b caller key q op out (Ok reply) ends apart may =
     let steps = ends.1.steps in
@@ -73,7 +73,7 @@ begins_after a b caller key q op out (Ok reply) ends apart may =
     }
 begins_after a b caller key q op out (Err refusal) ends apart may = subst (λ s. MayBegin s caller q) (sym ends.2) may
 
-pub calls_after : (old new : CacheState) (a b : State) (caller : Caller) (key q : Bytes) (op : Op) (out : Out) (ended : Result Reply Refusal) → IsAt key old new a b → Ends a caller key op out ended b
+pub calls_after : (old new : CacheState) (a b : State) (caller : Caller) (key q : Bytes) (op : Op) (out : Out) (ended : Result Reply Refusal) → IsAt key old new a b → EndsCall a caller key op out ended b
     → pointwise ◌==◌ key q ≡ false → MayCallAt old caller q → MayCallAt new caller q
 calls_after old new a b caller key q op out ended at ends apart may t now = by (stripe_was key q old new a b t at now)
   where
@@ -87,7 +87,7 @@ is_before : (session : Bool) (n : ℕ) → (not session || nat_lt n (n + 1)) ≡
 is_before true n = grind (arith, nat_tests)
 is_before false n = refl
 
-pub numbers_stay : (a b : State) (caller : Caller) (key : Bytes) (op : Op) (out : Out) (ended : Result Reply Refusal) → Ends a caller key op out ended b
+pub numbers_stay : (a b : State) (caller : Caller) (key : Bytes) (op : Op) (out : Out) (ended : Result Reply Refusal) → EndsCall a caller key op out ended b
     → HasNoCallFrom a caller.session (one_more caller.call) → HasNoCallFrom b caller.session (one_more caller.call)
 numbers_stay a b caller key op out (Ok reply) ends none =
     let steps = ends.1.steps in

@@ -41,7 +41,7 @@ use Rattle.jc_session.specs.declared.mark.Mark.{Mark}
 use Rattle.jc_session.specs.declared.session.Session.{Session}
 use Rattle.jc_cache.specs.Sessions.{IsOf, MayCall}
 use Rattle.jc_session.specs.Counting.{one_more}
-use Rattle.jc_cache.specs.Whole.{Ends, LeavesOthers}
+use Rattle.jc_cache.specs.Whole.{EndsCall, LeavesOthers}
 use Rattle.jc_cache.specs.Caches.{CacheState, EachStripe, IsIdleCache, HasNoCallsFrom, IsStripeOf, new_stripe, IsAt}
 use Rattle.jc_cache.specs.Begun.{MakesPhaseAt}
 use Rattle.jc_stripe.specs.Reached.{IsReached}
@@ -154,13 +154,13 @@ pub low : (a : State) (caller : Caller) (key : Bytes) (op : Op) → first_refusa
 low a caller key op h = (and_parts _ _ (and_parts _ _ (has_room_of _ _ _ h)).0).1
 
 -- the next number is free after a call
-pub numbers_after : (a b : State) (caller : Caller) (key : Bytes) (op : Op) (out : Out) (ended : Result Reply Refusal) → Ends a caller key op out ended b
+pub numbers_after : (a b : State) (caller : Caller) (key : Bytes) (op : Op) (out : Out) (ended : Result Reply Refusal) → EndsCall a caller key op out ended b
     → HasNoCallFrom a caller.session caller.call → HasNoCallFrom b caller.session (caller.call + 1) → HasNoCallFrom b caller.session (one_more caller.call)
 numbers_after a b caller key op out (Ok reply) ends old new = subst (HasNoCallFrom b caller.session) (sym (ap (λ t. cond t (caller.call + 1) caller.call) (low a caller key op ends.0))) new
 numbers_after a b caller key op out (Err refusal) ends old new =
     more_numbers b caller.session caller.call (subst (λ s. HasNoCallFrom s caller.session caller.call) (sym ends.2) old)
 
-pub idle_after : (a b : State) (caller : Caller) (key : Bytes) (op : Op) (out : Out) (ended : Result Reply Refusal) → Ends a caller key op out ended b → IsIdle a → IsIdle b
+pub idle_after : (a b : State) (caller : Caller) (key : Bytes) (op : Op) (out : Out) (ended : Result Reply Refusal) → EndsCall a caller key op out ended b → IsIdle a → IsIdle b
 idle_after a b caller key op out (Ok reply) ends idle = let on = ends.1.steps.after in
     record { reservations = ap (λ s. s.reservations) on ∙ idle.reservations; joiners = ap (λ s. s.joiners) on ∙ idle.joiners }
 idle_after a b caller key op out (Err refusal) ends idle = subst IsIdle (sym ends.2) idle

@@ -24,7 +24,7 @@ use Rattle.jc_stripe.specs.State.{State}
 use Rattle.jc_session.specs.Boxed.{boxed}
 use Rattle.jc_session.specs.Counting.{one_more}
 use Rattle.jc_session.specs.declared.session.Session.{Session}
-use Rattle.jc_cache.specs.Whole.{Ends, AsksLoader, AsksWriter, RunsProcessor, change_wanted, own_after}
+use Rattle.jc_cache.specs.Whole.{EndsCall, AsksLoader, AsksWriter, RunsProcessor, change_wanted, own_after}
 use Rattle.jc_cache.specs.Caches.{CacheState, IsAt}
 use Rattle.jc_cache.specs.Sessions.{LeavesSessions}
 
@@ -40,7 +40,7 @@ pub record CallsAt
   pub after : State
   pub out : Out
   pub at : IsAt key cache cache' before after
-  pub ends : Ends before session.caller key op out ended after
+  pub ends : EndsCall before session.caller key op out ended after
   pub loader : AsksLoader (boxed loads) (boxed load_state) session.hands.outside.loader key out.load session'.hands.outside.loader
   pub writer : AsksWriter (boxed writes) (boxed write_state) session.hands.outside.writer key (change_wanted before key op out.process) out.write session'.hands.outside.writer
   pub left : session' ≡ record session { counts = record session.counts { own = own_after session.counts.own ended }; hands = session'.hands }
@@ -62,7 +62,7 @@ pub record ClearsAt
   pub before : State
   pub after : State
   pub at : IsAt key cache cache' before after
-  pub ends : Ends before session.caller key Clear nothing_said ended after
+  pub ends : EndsCall before session.caller key Clear nothing_said ended after
   pub left : session' ≡ record session { counts = record session.counts { own = own_after session.counts.own ended } }
   pub sessions : LeavesSessions session cache cache'
 

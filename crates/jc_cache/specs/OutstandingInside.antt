@@ -3,9 +3,10 @@
 --     batch_room      for how many more changes there is room in a batch
 --     is_delete       whether a batch is one of deletes
 --     IsWriteCalls    the tickets, their asks and the batch of their changes, in one order, with room for so many more; nothing is answered
---     AreLoaded       each done value is of its ticket's ask, and was given by a running cache's loader
---     loaded_calls    tickets and their done values as calls that were answered
---     AreWritten, written_calls    the same of a writer
+--     AreDone         each done value is of its ticket's ask, and was given outside a running cache
+--     done_calls      tickets and their done values as calls that were answered
+--     AreLoaded, loaded_calls      these of a loader
+--     AreWritten, written_calls    these of a writer
 use Rattle.std.specs.Prelude.{◌≡◌, ◌≤◌, ◌+◌, ℕ, List, [], ◌∷◌, map, Bool, true, false, vec_len, vec_capacity}
 use Rattle.std.specs.Global.{Vec}
 use Rattle.jc_model.specs.declared.event.LoadAnswer.{LoadAnswer}
@@ -17,6 +18,7 @@ use Rattle.jc_batch.specs.declared.batch.Batch.{Batch}
 use Rattle.jc_batch.specs.declared.batch.Batch.TheVariants.{Writes, Deletes}
 use Rattle.jc_outside.specs.CallingAll.{asked_changes}
 use Rattle.jc_outside.specs.Done.{LoadResult, WriteResult}
+use Rattle.jc_outside.specs.declared.done.Origin.{Origin}
 use Rattle.jc_outside.specs.declared.done.Origin.TheVariants.{Live}
 use Rattle.jc_stripe.specs.declared.ticket.Reservation.{Reservation}
 use Rattle.jc_stripe.specs.Tickets.{Ticket, change_asked}
@@ -47,24 +49,25 @@ pub record IsWriteCalls (tickets : Vec (Mark × Ticket)) (asks : Vec Reservation
   pub done_room : vec_len asks + batch_room batch ≤ vec_capacity done
   pub done_none : done.items ≡ []
 
+abbrev pub AreDone : {D : Type 0} → (D → Reservation) → (D → Origin) → List (Mark × Ticket) → List D → Type 0
+AreDone ask origin [] [] = Unit {0}
+AreDone ask origin [] (d ∷ ds) = ⊥
+AreDone ask origin (t ∷ ts) [] = ⊥
+AreDone ask origin (t ∷ ts) (d ∷ ds) = (ask d ≡ t.1.reservation) × (origin d ≡ Live) × AreDone ask origin ts ds
+
+abbrev pub done_calls : {D W : Type 0} → (D → W) → List (Mark × Ticket) → List D → List (AnsweredState W)
+done_calls answer [] ds = []
+done_calls answer (t ∷ ts) [] = []
+done_calls answer (t ∷ ts) (d ∷ ds) = record { cache = t.0; reservation = t.1.reservation; answer = answer d } ∷ done_calls answer ts ds
+
 abbrev pub AreLoaded : List (Mark × Ticket) → List (LoadResult Reservation) → Type 0
-AreLoaded [] [] = Unit {0}
-AreLoaded [] (d ∷ ds) = ⊥
-AreLoaded (t ∷ ts) [] = ⊥
-AreLoaded (t ∷ ts) (d ∷ ds) = (d.ask ≡ t.1.reservation) × (d.origin ≡ Live) × AreLoaded ts ds
+AreLoaded tickets done = AreDone (λ (d : LoadResult Reservation). d.ask) (λ (d : LoadResult Reservation). d.origin) tickets done
 
 abbrev pub loaded_calls : List (Mark × Ticket) → List (LoadResult Reservation) → List (AnsweredState LoadAnswer)
-loaded_calls [] ds = []
-loaded_calls (t ∷ ts) [] = []
-loaded_calls (t ∷ ts) (d ∷ ds) = record { cache = t.0; reservation = t.1.reservation; answer = d.answer } ∷ loaded_calls ts ds
+loaded_calls tickets done = done_calls (λ (d : LoadResult Reservation). d.answer) tickets done
 
 abbrev pub AreWritten : List (Mark × Ticket) → List (WriteResult Reservation) → Type 0
-AreWritten [] [] = Unit {0}
-AreWritten [] (d ∷ ds) = ⊥
-AreWritten (t ∷ ts) [] = ⊥
-AreWritten (t ∷ ts) (d ∷ ds) = (d.ask ≡ t.1.reservation) × (d.origin ≡ Live) × AreWritten ts ds
+AreWritten tickets done = AreDone (λ (d : WriteResult Reservation). d.ask) (λ (d : WriteResult Reservation). d.origin) tickets done
 
 abbrev pub written_calls : List (Mark × Ticket) → List (WriteResult Reservation) → List (AnsweredState WriteAnswer)
-written_calls [] ds = []
-written_calls (t ∷ ts) [] = []
-written_calls (t ∷ ts) (d ∷ ds) = record { cache = t.0; reservation = t.1.reservation; answer = d.answer } ∷ written_calls ts ds
+written_calls tickets done = done_calls (λ (d : WriteResult Reservation). d.answer) tickets done

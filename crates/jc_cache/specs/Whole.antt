@@ -1,7 +1,7 @@
 -- A whole call, between whose phases nobody else takes its stripe.
 --     next_after       the number of the next reservation after a call: the next one if the call had to reserve its key
 --     OneStep          the stripe appends the group of one step, which nobody shares, with this reply
---     Ends             how a call ends: with one step, or refused as its first phase refuses it, and then nothing is asked and nothing
+--     EndsCall         how a call ends: with one step, or refused as its first phase refuses it, and then nothing is asked and nothing
 --                      changes
 --     change_wanted    the change of the store that the writer table asks for, by what a processor answered, with write-through on
 --     AsksLoader       what a step's answer says of the loader: it was called once, with this key, and answered this; or it is untouched
@@ -48,9 +48,9 @@ pub record OneStep (old : State) (caller : Caller) (key : Bytes) (op : Op) (out 
   pub reply_is : done.reply ≡ reply
   pub steps : Steps (record old { next = next_after old key op }) caller key op out [] done new
 
-abbrev pub Ends : State → Caller → Bytes → Op → Out → Result Reply Refusal → State → Type 0
-Ends old caller key op out (Ok reply) new = (first_refusal old caller key op ≡ None) × OneStep old caller key op out reply new
-Ends old caller key op out (Err refusal) new = (first_refusal old caller key op ≡ Some refusal) × (out ≡ nothing_said) × (new ≡ old)
+abbrev pub EndsCall : State → Caller → Bytes → Op → Out → Result Reply Refusal → State → Type 0
+EndsCall old caller key op out (Ok reply) new = (first_refusal old caller key op ≡ None) × OneStep old caller key op out reply new
+EndsCall old caller key op out (Err refusal) new = (first_refusal old caller key op ≡ Some refusal) × (out ≡ nothing_said) × (new ≡ old)
 
 -- 2. The loader and the writer.
 
@@ -83,7 +83,7 @@ pub record IsCall
   pub out : Out
   pub found : finds before
   pub left : leaves after
-  pub ends : Ends before old.caller key op out ended after
+  pub ends : EndsCall before old.caller key op out ended after
   pub loader : AsksLoader (boxed loads) (boxed load_state) old.hands.outside.loader key out.load new.hands.outside.loader
   pub writer : AsksWriter (boxed writes) (boxed write_state) old.hands.outside.writer key (change_wanted before key op out.process) out.write new.hands.outside.writer
   pub held : new.hands.held ≡ 0

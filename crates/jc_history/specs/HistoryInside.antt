@@ -1,7 +1,11 @@
 -- What the fields of a history mean. No contract of a public call cites this.
 --     past_of     the past that the fields mean
 --     IsStored    the past is within its limit, each event is complete, and there is room for all that the past may hold
-use Rattle.std.specs.Prelude.{◌≤◌, ◌*◌, All, length, vec_capacity}
+--     CanAppend   each event is complete, and there is room for one more
+--     AppendsEvent    this event is appended: it is the last one, and each is complete
+use Rattle.std.specs.Prelude.{◌≡◌, ℕ, ◌≤◌, ◌<◌, ◌+◌, ◌*◌, ◌^◌, ◌++◌, ◌∷◌, [], All, length, vec_len, vec_capacity}
+use Rattle.std.specs.Global.{Vec}
+use Rattle.jc_model.specs.declared.event.Event.{Event}
 use Rattle.jc_history.specs.declared.encoding.TheConstants.{EVENT_ROOM}
 use Rattle.jc_history.specs.declared.history.History.TheInside.{Inside}
 use Rattle.jc_history.specs.Past.{Past, IsWithinLimit}
@@ -18,3 +22,19 @@ pub record IsStored (h : Inside) : Type 0 where
   pub few : length h.bytes.items ≤ length h.starts.items * EVENT_ROOM
   pub bytes_room : h.limit * EVENT_ROOM ≤ vec_capacity h.bytes
   pub starts_room : h.limit ≤ vec_capacity h.starts
+
+-- each event is complete, and there is room for one more
+pub record CanAppend (bytes starts : Vec ℕ) : Type 0 where
+  pub complete : All (IsComplete bytes.items) starts.items
+  pub bytes_room : vec_len bytes + EVENT_ROOM ≤ vec_capacity bytes
+  pub starts_room : vec_len starts < vec_capacity starts
+  pub small : vec_len bytes < 2 ^ 32
+
+-- this event is appended: it is the last one, and each is complete
+pub record AppendsEvent (bytes starts : Vec ℕ) (event : Event) (bytes' starts' : Vec ℕ) : Type 0 where
+  pub events : events_at bytes'.items starts'.items ≡ events_at bytes.items starts.items ++ event ∷ []
+  pub complete : All (IsComplete bytes'.items) starts'.items
+  pub few : vec_len bytes' ≤ vec_len bytes + EVENT_ROOM
+  pub bytes_room : vec_capacity bytes ≤ vec_capacity bytes'
+  pub len : vec_len starts' ≡ vec_len starts + 1
+  pub starts_room : vec_capacity starts' ≡ vec_capacity starts

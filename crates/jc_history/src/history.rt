@@ -7,6 +7,7 @@ ghost use Rattle.std.specs.Prelude.{◌≡◌, ◌+◌, ◌<◌, ◌≤◌, ◌^
 ghost use Rattle.std.specs.Prelude.{IfOk, OnOk, OnErr, All, if◌then◌else◌, slice_get, slice_range};
 ghost use Rattle.jc_history.specs.Past.{places_used, IsWithinLimit, promise, unpromise, push, reply_in};
 ghost use Rattle.jc_history.specs.Stored.{events_at, IsComplete};
+ghost use Rattle.jc_history.specs.HistoryInside.{CanAppend, AppendsEvent};
 
 use crate::decoding::{decode_event, decode_reply_of_step};
 use crate::encoding::{EVENT_ROOM, encode_event, encode_step};
@@ -163,17 +164,8 @@ impl History {
 
 /// Appends the bytes of an event, and the index at which they start.
 fn append_event(bytes: &mut Vec<u8>, starts: &mut Vec<u32>, event: &Event)
-    requires complete { All (IsComplete bytes.old.items) starts.old.items }
-    requires bytes_room { vec_len bytes.old + EVENT_ROOM ≤ vec_capacity bytes.old }
-    requires starts_room { vec_len starts.old < vec_capacity starts.old }
-    requires small { vec_len bytes.old < 2 ^ 32 }
-    ensures events { events_at bytes.new.items starts.new.items
-        ≡ events_at bytes.old.items starts.old.items ++ event.now ∷ [] }
-    ensures complete { All (IsComplete bytes.new.items) starts.new.items }
-    ensures few { vec_len bytes.new ≤ vec_len bytes.old + EVENT_ROOM }
-    ensures bytes_room { vec_capacity bytes.old ≤ vec_capacity bytes.new }
-    ensures len { vec_len starts.new ≡ vec_len starts.old + 1 }
-    ensures starts_room { vec_capacity starts.new ≡ vec_capacity starts.old }
+    requires { CanAppend bytes.old starts.old }
+    ensures { AppendsEvent bytes.old starts.old event.now bytes.new starts.new }
 {
     starts.push_reserved(bytes.len() as u32);
     encode_event(bytes, event);
@@ -181,17 +173,8 @@ fn append_event(bytes: &mut Vec<u8>, starts: &mut Vec<u32>, event: &Event)
 
 /// Appends the bytes of a step, and the index at which they start.
 fn append_step(bytes: &mut Vec<u8>, starts: &mut Vec<u32>, step: &LentStep)
-    requires complete { All (IsComplete bytes.old.items) starts.old.items }
-    requires bytes_room { vec_len bytes.old + EVENT_ROOM ≤ vec_capacity bytes.old }
-    requires starts_room { vec_len starts.old < vec_capacity starts.old }
-    requires small { vec_len bytes.old < 2 ^ 32 }
-    ensures events { events_at bytes.new.items starts.new.items
-        ≡ events_at bytes.old.items starts.old.items ++ step.now ∷ [] }
-    ensures complete { All (IsComplete bytes.new.items) starts.new.items }
-    ensures few { vec_len bytes.new ≤ vec_len bytes.old + EVENT_ROOM }
-    ensures bytes_room { vec_capacity bytes.old ≤ vec_capacity bytes.new }
-    ensures len { vec_len starts.new ≡ vec_len starts.old + 1 }
-    ensures starts_room { vec_capacity starts.new ≡ vec_capacity starts.old }
+    requires { CanAppend bytes.old starts.old }
+    ensures { AppendsEvent bytes.old starts.old step.now bytes.new starts.new }
 {
     starts.push_reserved(bytes.len() as u32);
     encode_step(bytes, step);

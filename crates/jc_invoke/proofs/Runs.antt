@@ -1,8 +1,7 @@
 -- A call at many keys, one key more.
 --     runs_push    where it ended at some keys, and then at one more, it ended at all of these
 --     as_many      each key ended in one way
---     leaves_both  what other sessions need stays, also after one key more
-use Rattle.std.proofs.Common.{◌≡◌, ◌==◌, ℕ, List, [], ◌∷◌, ◌++◌, length, suc, Result, refl, ap, ◌∙◌, subst}
+use Rattle.std.proofs.Common.{◌≡◌, ℕ, List, [], ◌∷◌, ◌++◌, length, suc, Result, refl, ap, subst}
 use Rattle.jc_types.specs.declared.refusal.Refusal.{Refusal}
 use Rattle.jc_model.specs.declared.event.Reply.{Reply}
 use Rattle.jc_model.specs.Cache.{Bytes}
@@ -11,7 +10,6 @@ use Rattle.jc_mutentry.specs.Running.{ProcessRelation}
 use Rattle.jc_session.specs.declared.session.Session.{Session}
 use Rattle.jc_cache.specs.Caches.{CacheState}
 use Rattle.jc_cache.specs.Calls.{InvokesAt}
-use Rattle.jc_cache.specs.Sessions.{LeavesSessions}
 use Rattle.jc_invoke.specs.ManyKeys.{IsRefusedFull, InvokesEach}
 
 module _ {I J P : Type 0} {D : I → Type 0} {E : J → Type 0}
@@ -42,8 +40,3 @@ module _ {I J P : Type 0} {D : I → Type 0} {E : J → Type 0}
   as_many c m s t p q args [] (e ∷ ends) each = absurd each
   as_many c m s t p q args (k ∷ keys) [] each = absurd each
   as_many c m s t p q args (k ∷ keys) (e ∷ ends) each = ap suc (as_many each.0 m each.1 t each.2 q args keys ends each.5)
-
-module _ {I J : Type 0} {D : I → Type 0} {E : J → Type 0} where
-  pub leaves_both : (old mid new : CacheState) (start now : Session I J D E) → now.caller ≡ start.caller → LeavesSessions start old mid → LeavesSessions now mid new → LeavesSessions start old new
-  leaves_both old mid new start now same first second other differs may =
-      second other (ap (λ w. other.caller.session == w.session) same ∙ differs) (first other differs may)

@@ -13,6 +13,7 @@ ghost use Rattle.jc_cache.specs.Calls.{next_call};
 ghost use Rattle.jc_invoke.specs.ManyKeys.{InvokesEach, result_entry, result_entries, IsRefusedWhole};
 
 use indexmap::{IndexMap, IndexSet};
+use jc_batch::insert_new;
 use jc_cache::{Cache, value_of};
 use jc_mutentry::EntryProcessor;
 use jc_session::Session;
@@ -108,24 +109,8 @@ fn push_ended(
     ensures room { spare results.old ≤ spare results.new + 1 }
 {
     match ended {
-        Ok(Some(value)) => push_result(results, key, Ok(value)),
+        Ok(Some(value)) => insert_new(results, key, Ok(value)),
         Ok(None) => {}
-        Err(refusal) => push_result(results, key, Err(refusal)),
-    }
-}
-
-fn push_result(
-    results: &mut IndexMap<Key, Result<Value, Refusal>>,
-    key: &Key,
-    answer: Result<Value, Refusal>,
-)
-    requires new { list_any (pointwise ◌==◌ key.now) (keys_of results.old.entries) ≡ false }
-    requires room { 0 < spare results.old }
-    ensures entries { results.new.entries ≡ results.old.entries ++ (key.now, answer) ∷ [] }
-    ensures room { spare results.old ≤ spare results.new + 1 }
-{
-    match results.insert(*key, answer) {
-        Ok(_old) => {}
-        Err(_failed) => unreachable!(),
+        Err(refusal) => insert_new(results, key, Err(refusal)),
     }
 }

@@ -2,7 +2,7 @@
 ghost use Rattle.std.specs.Prelude.{◌≡◌, ◌≤◌, ◌↔◌, ◌==◌, [], IsTrue, IsSome, IfSome, OnSome, IfNone, length, nat_le, position};
 ghost use Rattle.std.specs.Cmp.Lexicographic.{pointwise};
 ghost use Rattle.jc_types.specs.declared.limits.TheConstants.{RESERVATIONS_MAX, LAST_NUMBER};
-ghost use Rattle.jc_reserve.specs.Table.{keys_of};
+ghost use Rattle.jc_reserve.specs.Table.{keys_held};
 ghost use Rattle.jc_reserve.specs.Reserving.{has_key, is_held, reservation_at, CanReserve, with_reservation, without_reservation};
 ghost use Rattle.jc_reserve.specs.IsReservationTable.{IsReservationTable};
 
@@ -112,7 +112,7 @@ impl<T: Copy + Default> Reservations<T> {
 
     /// The reserved keys in the order of reserving: those whose entries can't be evicted.
     pub fn keys(&self) -> &[Key]
-        ensures keys { result.now ≡ keys_of self.now.held }
+        ensures keys { result.now ≡ keys_held self.now.held }
         ensures table { IsReservationTable self.now }
     {
         &self.keys

@@ -22,7 +22,7 @@ use Rattle.jc_world.specs.Together.{at_call, key_at, looks, AreAt, FitTogether}
 use Rattle.jc_script.specs.declared.line.Act.{Act}
 use Rattle.jc_script.specs.declared.line.Act.TheVariants.{Read, ReadFail, Say, Apply, ApplyFail, ApplyLie, End, Drop, More, Take, Process}
 use Rattle.jc_script.specs.Words.{said_after}
-use Rattle.jc_script.specs.LineEvents.{event_at, events_of, is_asked, is_meant, is_started, is_time, key_events, keys_of_act, leaves, left_keys}
+use Rattle.jc_script.specs.LineEvents.{event_at, events_of_act, is_asked, is_meant, is_started, is_time, key_events, keys_of_act, leaves, left_keys}
 
 -- ---- a call under way
 
@@ -213,7 +213,7 @@ starts_fit w together call u here free differ work =
 
 -- the events of an act fit if it is the time for it
 pub act_fits : (w : WorldState) → FitTogether w → (call : ℕ) (act : Act) (u : CallState) (keys : List Bytes) → open_call w call ≡ Some u → keys ≡ keys_of_act act u → IsDistinct (pointwise ◌==◌) keys
-    → is_time w call act keys (key_events w call act keys) ≡ true → AllFit w (events_of w call act keys)
+    → is_time w call act keys (key_events w call act keys) ≡ true → AllFit w (events_of_act w call act keys)
 act_fits w together call Read u keys here is differ time = alone_fit w together call Read keys differ (all_of_kept _ (event_at call Read) (fits w) (λ key h. h) keys)
 act_fits w together call (ReadFail code) u keys here is differ time = alone_fit w together call (ReadFail code) keys differ (all_of_kept _ (event_at call (ReadFail code)) (fits w) (λ key h. h) keys)
 act_fits w together call (Say pairs) u keys here is differ time = alone_fit w together call (Say pairs) keys differ (all_of_kept _ (event_at call (Say pairs)) (fits w) (λ key h. and_from _ _ (said_given pairs key Nothing refl) h) keys)

@@ -29,7 +29,7 @@ use Rattle.jc_script.specs.declared.grammar.LineKind.{LineKind}
 use Rattle.jc_script.specs.declared.grammar.LineKind.TheVariants as kind
 use Rattle.jc_script.specs.declared.line.Line.TheVariants.{OfCall}
 use Rattle.jc_script.specs.Printing.{value_text}
-use Rattle.jc_script.specs.Words.{◌>>=◌, words_of, number_of, caller_of, key_of, value_of, value_or_none_of, pairs_of, distinct_pairs_of, keys_of}
+use Rattle.jc_script.specs.Words.{◌>>=◌, words_of, number_of, caller_of, key_of, value_of, value_or_none_of, pairs_of, distinct_pairs_of, distinct_keys_of}
 use Rattle.jc_script.specs.Lines.{form_named, line_named, flags_of, takes_words, bare_op, valued_op, bare_of, valued_of, value_alone_of, replace_if_of, begin_with, bulk_named, bulk_takes, bulk_of, bulk_with, has_but_shape, left_of, apply_of, apply_fail_of, command_of, open_of, set_of, begin_of, number_alone, lone_act, coded_act, coded_of, process_of, say_of, foreign_of, line_of, are_words, parsed, is_plain, is_comment, some_line, read_line}
 use Rattle.jc_script.specs.Spelled.{IsNumber, IsSession, session_text, IsValue, IsKey, AreKeys, AreLeft, HasKeys, IsOperation, SaysWords, IsSpellable, LinesAreSpelled, spelling, line_words, operation_words, bulk_words, left_words, pair_text, flag_words}
 use Rattle.jc_script.specs.ProcessWords.{without_load, has_process_shape, source_of, calls_of, source_words}
@@ -184,21 +184,21 @@ some_keys words keys shaped h =
 bulk_said : (n : BulkName) (words : List (List ℕ)) → bulk_takes n (length words) ≡ true → IfOk (bulk_of n words) (SaysBulk n words)
 unfolding form_word
 bulk_said name.GetAll words shaped =
-    ok_then (keys_of words) _ (SaysKeys words) (SaysBulk name.GetAll words) (keys_read words) (λ keys h.
+    ok_then (distinct_keys_of words) _ (SaysKeys words) (SaysBulk name.GetAll words) (keys_read words) (λ keys h.
     (some_keys words keys shaped h, ap (λ behind. codes "getall" ∷ behind) h.1))
 bulk_said name.PutAll words shaped =
     let some : 1 ≤ length words = ltb-true 0 (length words) shaped in
     ok_then (distinct_pairs_of words) _ (SaysDistinctPairs words) (SaysBulk name.PutAll words) (distinct_pairs_read words) (λ pairs h.
     ((subst (λ (count : ℕ). 1 ≤ count) (ap length h.1 ∙ length-map pairs pair_text) some, h.0, h.2), ap (λ behind. codes "putall" ∷ behind) h.1))
 bulk_said name.RemoveAll words shaped =
-    ok_then (keys_of words) _ (SaysKeys words) (SaysBulk name.RemoveAll words) (keys_read words) (λ keys h.
+    ok_then (distinct_keys_of words) _ (SaysKeys words) (SaysBulk name.RemoveAll words) (keys_read words) (λ keys h.
     (some_keys words keys shaped h, ap (λ behind. codes "removeall" ∷ behind) h.1))
 bulk_said name.RemoveEvery [] shaped = (tt, refl)
 bulk_said name.RemoveEvery (x ∷ more) shaped = tt
 bulk_said name.Clear [] shaped = (tt, refl)
 bulk_said name.Clear (x ∷ more) shaped = tt
 bulk_said name.InvokeAll words shaped =
-    ok_then (keys_of words) _ (SaysKeys words) (SaysBulk name.InvokeAll words) (keys_read words) (λ keys h.
+    ok_then (distinct_keys_of words) _ (SaysKeys words) (SaysBulk name.InvokeAll words) (keys_read words) (λ keys h.
     (some_keys words keys shaped h, ap (λ behind. codes "invokeall" ∷ behind) h.1))
 
 bulk_read : (call session : ℕ) (n : BulkName) (words : List (List ℕ)) → IsNumber call → IsSession session → takes_words (form.Bulk n) (length words) ≡ true
@@ -306,7 +306,7 @@ left_read least [] shaped = (tt, refl)
 left_read least (word ∷ words) shaped =
     let both = and_parts (bytes_eq word (codes "but")) (nat_le least (length words)) shaped in
     let many : least ≤ length words = leb-true least (length words) both.1 in
-    ok_then (keys_of words) _ (SaysKeys words) (SaysLeft least (word ∷ words)) (keys_read words) (λ keys h.
+    ok_then (distinct_keys_of words) _ (SaysKeys words) (SaysLeft least (word ∷ words)) (keys_read words) (λ keys h.
     ((rw h.1 at many, h.0, h.2), rw ((bytes_eq-Decides word (codes "but")).0 both.0, h.1) refl))
 
 apply_read : (words : List (List ℕ)) → IfOk (apply_of words) (SaysLine kind.Apply words)

@@ -1,7 +1,7 @@
 -- A call of one key that begins: its begin and its first phase are played as one list.
 --     all_text         what is printed of two events, each for itself
 --     begins_single    the call has begun, and made its first phase
-use Rattle.std.proofs.Common.{◌≡◌, ◌∙◌, ◌++◌, ℕ, List, [], ◌∷◌, true, Option, Some, refl, sym, ap, subst, append-nil}
+use Rattle.std.proofs.Common.{◌≡◌, ◌∙◌, ◌++◌, ℕ, List, [], ◌∷◌, true, Some, refl, sym, ap, subst, append-nil}
 use Rattle.std.proofs.lemmas.Bool.{and_from, and_parts}
 use Rattle.jc_model.specs.declared.event.Op.{Op}
 use Rattle.jc_model.specs.Cache.{Bytes}
@@ -9,7 +9,6 @@ use Rattle.jc_world.specs.declared.command.Command.TheVariants.{Single}
 use Rattle.jc_world.specs.declared.event.Shown.{Shown}
 use Rattle.jc_world.specs.declared.event.WorldEvent.{WorldEvent}
 use Rattle.jc_world.specs.declared.event.WorldEvent.TheVariants as event
-use Rattle.jc_world.specs.Calls.{CallState}
 use Rattle.jc_world.specs.World.{WorldState, open_call}
 use Rattle.jc_world.specs.Fits.{fits}
 use Rattle.jc_world.specs.Events.{Run, all_fit}

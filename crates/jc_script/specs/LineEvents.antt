@@ -17,7 +17,7 @@
 --     is_left         the writer was asked for a key, and the act says that it leaves it
 --     left_keys       the keys that the writer was asked for and leaves, as an act says
 --     end_of_act      the event of the whole call that comes after them: the writer's return, or the call's leaving
---     events_of       the events that an act stands for
+--     events_of_act   the events that an act stands for
 --     is_about_one    there is an event at a key
 --     is_time         whether it is the time for an act, by the call's keys and the events at those that it is about. The writer returns
 --                     if some key is asked of it and not reported. Any other act but a call's leaving is about some key. Each key
@@ -169,8 +169,8 @@ end_of_act w call More keys = []
 end_of_act w call Take keys = []
 end_of_act w call (Process source calls fail) keys = []
 
-abbrev pub events_of : WorldState → ℕ → Act → List Bytes → List WorldEvent
-events_of w call act keys = key_events w call act keys ++ end_of_act w call act keys
+abbrev pub events_of_act : WorldState → ℕ → Act → List Bytes → List WorldEvent
+events_of_act w call act keys = key_events w call act keys ++ end_of_act w call act keys
 
 abbrev pub is_about_one : List WorldEvent → Bool
 is_about_one [] = false

@@ -1,7 +1,7 @@
 -- The kinds of line: first the shape of the whole line, then its words from the left. A definition whose name ends in `_of` takes
 -- the words that follow a first word or a name, and gives what they ask for or their fault.
 --     Gives                         what a function returned is what the definition says, unless an allocation failed
---     with_value                    the same of a function that leaves its value in a place: the result with that value
+--     ok_with                       the same of a function that leaves its value in a place: the result with that value
 --     with_line                     the same of a line: a flag says whether the line asks for anything
 --     bulk_named, form_named        the call of many keys that a word names; the operation
 --     act_named                     the kind of line of a call, that a first word names
@@ -67,7 +67,7 @@ use Rattle.jc_script.specs.declared.grammar.Coded.{Coded}
 use Rattle.jc_script.specs.declared.grammar.Coded.TheVariants as coded
 use Rattle.jc_script.specs.declared.grammar.LineKind.{LineKind}
 use Rattle.jc_script.specs.declared.grammar.LineKind.TheVariants as line
-use Rattle.jc_script.specs.Words.{◌>>=◌, words_of, number_of, caller_of, key_of, value_of, value_or_none_of, pairs_of, distinct_pairs_of, keys_of}
+use Rattle.jc_script.specs.Words.{◌>>=◌, words_of, number_of, caller_of, key_of, value_of, value_or_none_of, pairs_of, distinct_pairs_of, distinct_keys_of}
 use Rattle.jc_script.specs.ProcessWords.{without_load, has_process_shape, source_of, calls_of}
 
 abbrev pub Gives : {X : Type 0} → Result X ReadError → Result X Fault → Type 0
@@ -76,9 +76,9 @@ Gives (Err errors.Memory) said = Unit {0}
 Gives (Err (errors.Fault fault)) said = said ≡ Err fault
 
 -- the same of a function that leaves its value in a place
-abbrev pub with_value : {X E : Type 0} → X → Result (Unit {0}) E → Result X E
-with_value x (Ok u) = Ok x
-with_value x (Err e) = Err e
+abbrev pub ok_with : {X E : Type 0} → X → Result (Unit {0}) E → Result X E
+ok_with x (Ok u) = Ok x
+ok_with x (Err e) = Err e
 
 -- the same of a line: a flag says whether the line asks for anything
 abbrev pub with_line : {E : Type 0} → Line → Result Bool E → Result (Option Line) E
@@ -218,12 +218,12 @@ bulk_alone call [] = Ok call
 bulk_alone call (x ∷ more) = Err BadLine
 
 abbrev pub bulk_of : BulkName → List (List ℕ) → Result BulkCall Fault
-bulk_of name.GetAll words = keys_of words >>= λ keys. Ok (bulk.GetAll keys)
+bulk_of name.GetAll words = distinct_keys_of words >>= λ keys. Ok (bulk.GetAll keys)
 bulk_of name.PutAll words = distinct_pairs_of words >>= λ pairs. Ok (bulk.PutAll pairs)
-bulk_of name.RemoveAll words = keys_of words >>= λ keys. Ok (bulk.RemoveAll keys)
+bulk_of name.RemoveAll words = distinct_keys_of words >>= λ keys. Ok (bulk.RemoveAll keys)
 bulk_of name.RemoveEvery words = bulk_alone bulk.RemoveEvery words
 bulk_of name.Clear words = bulk_alone bulk.Clear words
-bulk_of name.InvokeAll words = keys_of words >>= λ keys. Ok (bulk.InvokeAll keys)
+bulk_of name.InvokeAll words = distinct_keys_of words >>= λ keys. Ok (bulk.InvokeAll keys)
 
 -- 3. Lines, from the words after the first.
 
@@ -310,7 +310,7 @@ has_but_shape least (word ∷ words) = bytes_eq word (codes "but") && nat_le lea
 -- the words' shape is known
 abbrev pub left_of : List (List ℕ) → Result (Option (List Bytes)) Fault
 left_of [] = Ok None
-left_of (word ∷ words) = keys_of words >>= λ keys. Ok (Some keys)
+left_of (word ∷ words) = distinct_keys_of words >>= λ keys. Ok (Some keys)
 
 -- a call's number, and maybe the keys that are left, at least one
 unfoldable pub apply_of : List (List ℕ) → Result Line Fault

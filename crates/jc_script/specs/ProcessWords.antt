@@ -1,7 +1,8 @@
 -- The words of a `process` line, after the call's number: how the loader answers, the processor's calls, and a code.
 --     Calls                     the calls of a processor so far, and the code with which it fails, if the line has one
 --     begins_with               a word begins with this text
---     is_load, is_call, is_fail     a word says how the loader answers; it is a call on the entry; it says that the processor fails
+--     is_load_word, is_call, is_fail
+--                               a word says how the loader answers; it is a call on the entry; it says that the processor fails
 --     are_calls_from, are_calls     no word but calls, and at the end a failure; the same, whether the end has come or not
 --     without_load              the words after the one for the loader, if there is one
 --     has_process_shape         the words have this shape
@@ -29,8 +30,8 @@ Calls = List EntryCall × Option ℕ
 abbrev pub begins_with : List ℕ → List ℕ → Bool
 begins_with text word = bytes_eq (take (length text) word) text
 
-abbrev pub is_load : List ℕ → Bool
-is_load word = begins_with (codes "loadfail=") word || begins_with (codes "loadsay=") word
+abbrev pub is_load_word : List ℕ → Bool
+is_load_word word = begins_with (codes "loadfail=") word || begins_with (codes "loadsay=") word
 
 abbrev pub is_call : List ℕ → Bool
 is_call word = bytes_eq word (codes "get") || bytes_eq word (codes "exists") || bytes_eq word (codes "remove") || begins_with (codes "set=") word
@@ -47,7 +48,7 @@ are_calls words = are_calls_from false words
 
 abbrev pub without_load : List (List ℕ) → List (List ℕ)
 without_load [] = []
-without_load (word ∷ words) = if is_load word then words else word ∷ words
+without_load (word ∷ words) = if is_load_word word then words else word ∷ words
 
 abbrev pub has_process_shape : List (List ℕ) → Bool
 has_process_shape words = are_calls (without_load words)

@@ -14,7 +14,7 @@
 --                              nothing
 --     fault_read, fault_of     the fault of a line, if it has one, from what was read of it, and from its bytes
 --     pieces_of                what is between the line feeds; the last piece has none after it
---     Ends                     what the last piece prints, and how the script ends: a piece with bytes is a cut line
+--     EndsScript               what the last piece prints, and how the script ends: a piece with bytes is a cut line
 --     Transcript               from a state and a line on, the pieces print this and end so
 --     IsTranscript             the same of a whole script
 use Rattle.std.specs.Prelude.{◌≡◌, ◌==◌, ◌⊎◌, ℕ, ◌+◌, List, [], ◌∷◌, ◌++◌, Bool, true, IsTrue, Option, None, Some, Result, Ok, Err, codes}
@@ -41,7 +41,7 @@ use Rattle.jc_script.specs.declared.run.RunEnd.{RunEnd}
 use Rattle.jc_script.specs.declared.run.RunEnd.TheVariants.{Clean, LineFault}
 use Rattle.jc_script.specs.Lines.{read_line}
 use Rattle.jc_script.specs.Faults.{state_fault}
-use Rattle.jc_script.specs.LineEvents.{single, bulk_call, start_events, events_of, keys_of_act, load_fault}
+use Rattle.jc_script.specs.LineEvents.{single, bulk_call, start_events, events_of_act, keys_of_act, load_fault}
 use Rattle.jc_script.specs.Printing.{texts, fails_text, audit_text, fault_line}
 
 -- a world, once it was opened
@@ -88,7 +88,7 @@ PlaysBulk w number session call text new =
 abbrev pub PlaysAct : WorldState → ℕ → Act → Option CallState → List ℕ → State → Type 0
 PlaysAct w number act None text new = ⊥
 PlaysAct w number act (Some u) text new =
-    PlaysCall w number (events_of w number act (keys_of_act act u)) (load_fault act) text new
+    PlaysCall w number (events_of_act w number act (keys_of_act act u)) (load_fault act) text new
 
 abbrev pub PlaysForeign : WorldState → Bytes → Option Bytes → List ℕ → State → Type 0
 PlaysForeign w key value text None = ⊥
@@ -151,13 +151,13 @@ abbrev pub pieces_of : List ℕ → List (List ℕ)
 pieces_of input = slice_split (λ b. b == 10) input
 
 -- a last piece with bytes is a cut line
-abbrev pub Ends : ℕ → List ℕ → List ℕ → RunEnd → Type 0
-Ends n [] out end = (out ≡ []) × (end ≡ Clean)
-Ends n (b ∷ bs) out end = (out ≡ fault_line n CutLine) × (end ≡ LineFault n)
+abbrev pub EndsScript : ℕ → List ℕ → List ℕ → RunEnd → Type 0
+EndsScript n [] out end = (out ≡ []) × (end ≡ Clean)
+EndsScript n (b ∷ bs) out end = (out ≡ fault_line n CutLine) × (end ≡ LineFault n)
 
 abbrev pub Transcript : State → ℕ → List (List ℕ) → List ℕ → RunEnd → Type 0
 Transcript old n [] out end = ⊥
-Transcript old n (last ∷ []) out end = Ends n last out end
+Transcript old n (last ∷ []) out end = EndsScript n last out end
 Transcript old n (line ∷ next ∷ more) out end =
     ((text : List ℕ) × (rest : List ℕ) × (new : State) × Prints old line text new × Transcript new (n + 1) (next ∷ more) rest end × (out ≡ text ++ rest))
     ⊎ ((fault : Fault) × (fault_of old line ≡ Some fault) × (out ≡ fault_line n fault) × (end ≡ LineFault n))

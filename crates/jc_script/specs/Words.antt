@@ -11,6 +11,7 @@
 --     value_of                 a value: the same letters, or a tilde for the empty one
 --     some_value               a value that is there, or its fault
 --     value_or_none_of         a value, or a dash for none
+--     words_onto               each word in turn, onto what was read of the words before it
 --     Pairs                    keys with their values, in the order of a line
 --     equals_at                the place of the first equals sign of a word, if it has one
 --     key_part, value_part     what is before that sign, and the value after it
@@ -22,7 +23,8 @@
 --                              once
 --     with_key, key_onto       the keys so far, with one more, and with that of one more word: one that is among them already is a
 --                              fault
---     keys_from, keys_of       the keys so far with those of more words, and the keys of some words
+--     keys_from, distinct_keys_of
+--                              the keys so far with those of more words, and the keys of some words
 --     said_after, said         what pairs say of a key, after an answer so far, and from the beginning: the last pair with it
 --                              counts
 use Rattle.std.specs.Prelude.{◌==◌, ℕ, ◌+◌, ◌-◌, ◌*◌, List, [], ◌∷◌, ◌++◌, length, map, take, drop, Option, Some, None, Bool, true, ◌&&◌, ◌||◌, nat_lt, nat_le, Result, Ok, Err, if◌then◌else◌, codes}
@@ -90,6 +92,11 @@ some_value (Err fault) = Err fault
 abbrev pub value_or_none_of : List ℕ → Result (Option Bytes) Fault
 value_or_none_of word = if bytes_eq word (codes "-") then Ok None else some_value (value_of word)
 
+-- each word in turn, onto what was read of the words before it
+abbrev pub words_onto : {A : Type 0} → (A → List ℕ → Result A Fault) → A → List (List ℕ) → Result A Fault
+words_onto onto so_far [] = Ok so_far
+words_onto onto so_far (word ∷ words) = onto so_far word >>= λ more. words_onto onto more words
+
 -- pairs: a key, an equals sign and a value, cut at the first sign
 
 abbrev pub Pairs : Type 0
@@ -117,8 +124,7 @@ pair_onto pairs word = do
   Ok (pairs ++ (key, value) ∷ [])
 
 abbrev pub pairs_from : Pairs → List (List ℕ) → Result Pairs Fault
-pairs_from pairs [] = Ok pairs
-pairs_from pairs (word ∷ words) = pair_onto pairs word >>= λ more. pairs_from more words
+pairs_from pairs words = words_onto pair_onto pairs words
 
 abbrev pub pairs_of : List (List ℕ) → Result Pairs Fault
 pairs_of words = pairs_from [] words
@@ -132,8 +138,7 @@ distinct_pair_onto pairs word = do
   Ok (pairs ++ (key, value) ∷ [])
 
 abbrev pub distinct_pairs_from : Pairs → List (List ℕ) → Result Pairs Fault
-distinct_pairs_from pairs [] = Ok pairs
-distinct_pairs_from pairs (word ∷ words) = distinct_pair_onto pairs word >>= λ more. distinct_pairs_from more words
+distinct_pairs_from pairs words = words_onto distinct_pair_onto pairs words
 
 abbrev pub distinct_pairs_of : List (List ℕ) → Result Pairs Fault
 distinct_pairs_of words = distinct_pairs_from [] words
@@ -148,11 +153,10 @@ key_onto keys word = do
   with_key keys key
 
 abbrev pub keys_from : List Bytes → List (List ℕ) → Result (List Bytes) Fault
-keys_from keys [] = Ok keys
-keys_from keys (word ∷ words) = key_onto keys word >>= λ more. keys_from more words
+keys_from keys words = words_onto key_onto keys words
 
-abbrev pub keys_of : List (List ℕ) → Result (List Bytes) Fault
-keys_of words = keys_from [] words
+abbrev pub distinct_keys_of : List (List ℕ) → Result (List Bytes) Fault
+distinct_keys_of words = keys_from [] words
 
 -- a later pair with the key takes the place of an answer so far
 abbrev pub said_after : LoadAnswer → Pairs → Bytes → LoadAnswer

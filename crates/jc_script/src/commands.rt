@@ -1,6 +1,6 @@
 //! Operations as words: their names, and what follows a name.
 ghost use Rattle.std.specs.Prelude.{◌≡◌, map, length};
-ghost use Rattle.jc_script.specs.Lines.{Gives, with_value, form_named, bulk_named, takes_words, bare_op, valued_op, bare_of, valued_of};
+ghost use Rattle.jc_script.specs.Lines.{Gives, ok_with, form_named, bulk_named, takes_words, bare_op, valued_op, bare_of, valued_of};
 ghost use Rattle.jc_script.specs.Lines.{value_alone_of, replace_if_of, command_of, begin_with, bulk_takes, bulk_alone, bulk_of, bulk_with};
 
 use crate::fault::{Fault, ReadError};
@@ -177,7 +177,7 @@ fn begin_bare(
     words: &[&[u8]],
     line: &mut Line,
 ) -> Result<(), Fault>
-    ensures { with_value line.new result ≡ begin_with call session (bare_of bare (map (λ w. w.now) words.now)) }
+    ensures { ok_with line.new result ≡ begin_with call session (bare_of bare (map (λ w. w.now) words.now)) }
 {
     match words {
         [k] => {
@@ -198,7 +198,7 @@ fn begin_valued(
     words: &[&[u8]],
     line: &mut Line,
 ) -> Result<(), Fault>
-    ensures { with_value line.new result ≡ begin_with call session (valued_of valued (map (λ w. w.now) words.now)) }
+    ensures { ok_with line.new result ≡ begin_with call session (valued_of valued (map (λ w. w.now) words.now)) }
 {
     match words {
         [k, v] => {
@@ -223,7 +223,7 @@ fn value_alone(words: &[&[u8]]) -> Result<Value, Fault>
 #[tactic(auto, unfolding(crate::specs::Lines::replace_if_of))]
 #[inline(never)]
 fn begin_replace_if(call: u32, session: u32, words: &[&[u8]], line: &mut Line) -> Result<(), Fault>
-    ensures { with_value line.new result ≡ begin_with call session (replace_if_of (map (λ w. w.now) words.now)) }
+    ensures { ok_with line.new result ≡ begin_with call session (replace_if_of (map (λ w. w.now) words.now)) }
 {
     match words {
         [k, v, rest @ ..] => {
@@ -269,7 +269,7 @@ fn begin_bulk(
     words: &[&[u8]],
     line: &mut Line,
 ) -> Result<(), ReadError>
-    ensures { Gives (with_value line.new result) (bulk_with call session (bulk_of name (map (λ w. w.now) words.now))) }
+    ensures { Gives (ok_with line.new result) (bulk_with call session (bulk_of name (map (λ w. w.now) words.now))) }
 {
     let bulk = read_bulk(alloc, name, words)?;
     *line = Line::BeginBulk(call, session, bulk);
@@ -285,7 +285,7 @@ pub fn begin_command(
     words: &[&[u8]],
     line: &mut Line,
 ) -> Result<(), ReadError>
-    ensures { Gives (with_value line.new result) (command_of call session form (map (λ w. w.now) words.now)) }
+    ensures { Gives (ok_with line.new result) (command_of call session form (map (λ w. w.now) words.now)) }
 {
     match form {
         Form::Bare(bare) => Ok(begin_bare(call, session, bare, words, line)?),

@@ -1,7 +1,7 @@
 //! The kinds of line, and what each asks for.
 ghost use Rattle.std.specs.Prelude.{◌≡◌, map, length, IfOk};
 ghost use Rattle.std.specs.List.{list_all};
-ghost use Rattle.jc_script.specs.Lines.{Gives, with_value, with_line, act_named, line_named, flags_of, open_of, set_of};
+ghost use Rattle.jc_script.specs.Lines.{Gives, ok_with, with_line, act_named, line_named, flags_of, open_of, set_of};
 ghost use Rattle.jc_script.specs.Lines.{begin_of, number_alone, lone_act, lone_of, coded_act, coded_of, process_of, say_of};
 ghost use Rattle.jc_script.specs.Lines.{has_but_shape, left_of, apply_of, apply_fail_of};
 ghost use Rattle.jc_script.specs.Lines.{foreign_of, audit_of, line_of, are_words, parsed, is_plain, is_comment, read_line};
@@ -135,7 +135,7 @@ fn flags(words: &[&[u8]]) -> Result<(bool, bool), Fault>
 #[tactic(auto, unfolding(crate::specs::Lines::open_of))]
 #[inline(never)]
 fn open(words: &[&[u8]], line: &mut Line) -> Result<(), Fault>
-    ensures { with_value line.new result ≡ open_of (map (λ w. w.now) words.now) }
+    ensures { ok_with line.new result ≡ open_of (map (λ w. w.now) words.now) }
 {
     match words {
         [s, c, h, rest @ ..] => {
@@ -159,7 +159,7 @@ fn open(words: &[&[u8]], line: &mut Line) -> Result<(), Fault>
 #[tactic(auto, unfolding(crate::specs::Lines::set_of))]
 #[inline(never)]
 fn set(words: &[&[u8]], line: &mut Line) -> Result<(), Fault>
-    ensures { with_value line.new result ≡ set_of (map (λ w. w.now) words.now) }
+    ensures { ok_with line.new result ≡ set_of (map (λ w. w.now) words.now) }
 {
     match words {
         [k, v] => {
@@ -173,7 +173,7 @@ fn set(words: &[&[u8]], line: &mut Line) -> Result<(), Fault>
 
 #[tactic(auto, unfolding(crate::specs::Lines::begin_of))]
 fn begin(alloc: Global, words: &[&[u8]], line: &mut Line) -> Result<(), ReadError>
-    ensures { Gives (with_value line.new result) (begin_of (map (λ w. w.now) words.now)) }
+    ensures { Gives (ok_with line.new result) (begin_of (map (λ w. w.now) words.now)) }
 {
     match words {
         [n, who, name, rest @ ..] => {
@@ -212,7 +212,7 @@ fn act_lone(lone: Lone) -> Act
 
 #[inline(never)]
 fn lone_line(lone: Lone, words: &[&[u8]], line: &mut Line) -> Result<(), Fault>
-    ensures { with_value line.new result ≡ lone_of lone (map (λ w. w.now) words.now) }
+    ensures { ok_with line.new result ≡ lone_of lone (map (λ w. w.now) words.now) }
 {
     let n = lone_number(words)?;
     *line = Line::OfCall(n, act_lone(lone));
@@ -231,7 +231,7 @@ fn act_coded(coded: Coded, code: u32) -> Act
 #[tactic(auto, unfolding(crate::specs::Lines::coded_of))]
 #[inline(never)]
 fn coded_line(coded: Coded, words: &[&[u8]], line: &mut Line) -> Result<(), Fault>
-    ensures { with_value line.new result ≡ coded_of coded (map (λ w. w.now) words.now) }
+    ensures { ok_with line.new result ≡ coded_of coded (map (λ w. w.now) words.now) }
 {
     match words {
         [n, rest @ ..] => {
@@ -270,7 +270,7 @@ fn left(alloc: Global, words: &[&[u8]]) -> Result<Option<Keys>, ReadError>
 #[tactic(auto, unfolding(crate::specs::Lines::apply_of))]
 #[inline(never)]
 fn apply(alloc: Global, words: &[&[u8]], line: &mut Line) -> Result<(), ReadError>
-    ensures { Gives (with_value line.new result) (apply_of (map (λ w. w.now) words.now)) }
+    ensures { Gives (ok_with line.new result) (apply_of (map (λ w. w.now) words.now)) }
 {
     match words {
         [n, rest @ ..] => {
@@ -289,7 +289,7 @@ fn apply(alloc: Global, words: &[&[u8]], line: &mut Line) -> Result<(), ReadErro
 #[tactic(auto, unfolding(crate::specs::Lines::apply_fail_of))]
 #[inline(never)]
 fn apply_fail(alloc: Global, words: &[&[u8]], line: &mut Line) -> Result<(), ReadError>
-    ensures { Gives (with_value line.new result) (apply_fail_of (map (λ w. w.now) words.now)) }
+    ensures { Gives (ok_with line.new result) (apply_fail_of (map (λ w. w.now) words.now)) }
 {
     match words {
         [n, c, rest @ ..] => {
@@ -309,7 +309,7 @@ fn apply_fail(alloc: Global, words: &[&[u8]], line: &mut Line) -> Result<(), Rea
 #[tactic(auto, unfolding(crate::specs::Lines::say_of))]
 #[inline(never)]
 fn say(alloc: Global, words: &[&[u8]], line: &mut Line) -> Result<(), ReadError>
-    ensures { Gives (with_value line.new result) (say_of (map (λ w. w.now) words.now)) }
+    ensures { Gives (ok_with line.new result) (say_of (map (λ w. w.now) words.now)) }
 {
     match words {
         [n, rest @ ..] => {
@@ -325,7 +325,7 @@ fn say(alloc: Global, words: &[&[u8]], line: &mut Line) -> Result<(), ReadError>
 #[tactic(auto, unfolding(crate::specs::Lines::process_of))]
 #[inline(never)]
 fn process(alloc: Global, words: &[&[u8]], line: &mut Line) -> Result<(), ReadError>
-    ensures { Gives (with_value line.new result) (process_of (map (λ w. w.now) words.now)) }
+    ensures { Gives (ok_with line.new result) (process_of (map (λ w. w.now) words.now)) }
 {
     match words {
         [n, rest @ ..] => {
@@ -345,7 +345,7 @@ fn process(alloc: Global, words: &[&[u8]], line: &mut Line) -> Result<(), ReadEr
 #[tactic(auto, unfolding(crate::specs::Lines::foreign_of))]
 #[inline(never)]
 fn foreign(words: &[&[u8]], line: &mut Line) -> Result<(), Fault>
-    ensures { with_value line.new result ≡ foreign_of (map (λ w. w.now) words.now) }
+    ensures { ok_with line.new result ≡ foreign_of (map (λ w. w.now) words.now) }
 {
     match words {
         [k, v] => {
@@ -358,7 +358,7 @@ fn foreign(words: &[&[u8]], line: &mut Line) -> Result<(), Fault>
 }
 
 fn audit(words: &[&[u8]], line: &mut Line) -> Result<(), Fault>
-    ensures { with_value line.new result ≡ audit_of (map (λ w. w.now) words.now) }
+    ensures { ok_with line.new result ≡ audit_of (map (λ w. w.now) words.now) }
 {
     match words {
         [] => {
@@ -375,7 +375,7 @@ fn line_after(
     words: &[&[u8]],
     line: &mut Line,
 ) -> Result<(), ReadError>
-    ensures { Gives (with_value line.new result) (line_of kind (map (λ w. w.now) words.now)) }
+    ensures { Gives (ok_with line.new result) (line_of kind (map (λ w. w.now) words.now)) }
 {
     match kind {
         LineKind::Open => Ok(open(words, line)?),
@@ -405,7 +405,7 @@ fn none_empty(words: &[&[u8]]) -> bool
 
 #[tactic(auto, unfolding(crate::specs::Lines::parsed))]
 fn parse(alloc: Global, words: &[&[u8]], line: &mut Line) -> Result<(), ReadError>
-    ensures { Gives (with_value line.new result) (parsed (map (λ w. w.now) words.now)) }
+    ensures { Gives (ok_with line.new result) (parsed (map (λ w. w.now) words.now)) }
 {
     match words {
         [] => Err(ReadError::Fault(Fault::BadLine)),

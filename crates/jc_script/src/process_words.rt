@@ -1,7 +1,7 @@
 //! The words of a `process` line after the call's number: how the loader answers, the processor's calls, and a code.
 ghost use Rattle.std.specs.Prelude.{◌≡◌, ◌&&◌, ◌||◌, drop, map, not};
-ghost use Rattle.jc_script.specs.Lines.{Gives, with_value};
-ghost use Rattle.jc_script.specs.ProcessWords.{begins_with, is_load, is_call, is_fail, are_calls, without_load};
+ghost use Rattle.jc_script.specs.Lines.{Gives, ok_with};
+ghost use Rattle.jc_script.specs.ProcessWords.{begins_with, is_load_word, is_call, is_fail, are_calls, without_load};
 ghost use Rattle.jc_script.specs.ProcessWords.{has_process_shape, source_of, call_of, with_word, calls_of};
 
 use crate::fault::{Fault, ReadError};
@@ -19,8 +19,8 @@ fn begins_with(text: &str, word: &[u8]) -> bool
     text.len() <= word.len() && &word[..text.len()] == text
 }
 
-fn is_load(word: &[u8]) -> bool
-    ensures { result ≡ is_load word.now }
+fn is_load_word(word: &[u8]) -> bool
+    ensures { result ≡ is_load_word word.now }
 {
     begins_with("loadfail=", word) || begins_with("loadsay=", word)
 }
@@ -63,7 +63,7 @@ pub fn without_load<'a, 'b>(words: &'a [&'b [u8]]) -> &'a [&'b [u8]]
     ensures { map (λ w. w.now) result.now ≡ without_load (map (λ w. w.now) words.now) }
 {
     match words {
-        [first, rest @ ..] => { if is_load(first) { rest } else { words } }
+        [first, rest @ ..] => { if is_load_word(first) { rest } else { words } }
         _ => words,
     }
 }
@@ -122,7 +122,7 @@ fn read_call(word: &[u8]) -> Result<EntryCall, Fault>
 
 /// One word more: a code, or a call.
 fn add_word(calls: &mut EntryCalls, fail: &mut Option<u32>, word: &[u8]) -> Result<(), ReadError>
-    ensures { Gives (with_value (calls.new, fail.new) result) (with_word calls.old fail.old word.now) }
+    ensures { Gives (ok_with (calls.new, fail.new) result) (with_word calls.old fail.old word.now) }
 {
     let _types: Option<Value> = None;
     if is_fail(word) {

@@ -4,9 +4,9 @@ ghost use Rattle.std.specs.Str.{bytes_eq};
 ghost use Rattle.std.specs.List.{list_all};
 ghost use Rattle.jc_types.specs.declared.limits.TheConstants.{VALUE_MAX};
 ghost use Rattle.jc_script.specs.Words.{words_of, is_letter, is_text, digits_from, number_of, caller_of, key_of, value_of};
-ghost use Rattle.jc_script.specs.Words.{value_or_none_of, equals_at, key_part, value_part, pair_onto, pairs_of, with_key, key_onto, keys_of};
+ghost use Rattle.jc_script.specs.Words.{value_or_none_of, equals_at, key_part, value_part, pair_onto, pairs_of, with_key, key_onto, distinct_keys_of};
 ghost use Rattle.jc_script.specs.Words.{distinct_pair_onto, distinct_pairs_of};
-ghost use Rattle.jc_script.specs.Lines.{Gives, with_value};
+ghost use Rattle.jc_script.specs.Lines.{Gives, ok_with};
 
 use crate::distinct_pairs::DistinctPairs;
 use crate::fault::{Fault, ReadError};
@@ -181,7 +181,7 @@ fn back(at: Option<usize>, word: &[u8]) -> Result<Value, Fault>
 
 #[tactic(auto, unfolding(crate::specs::Words::pair_onto))]
 fn add_pair(pairs: &mut Pairs, word: &[u8]) -> Result<(), ReadError>
-    ensures { Gives (with_value pairs.new result) (pair_onto pairs.old word.now) }
+    ensures { Gives (ok_with pairs.new result) (pair_onto pairs.old word.now) }
 {
     let at = equals_sign(word);
     let key = key(front(at, word))?;
@@ -192,7 +192,7 @@ fn add_pair(pairs: &mut Pairs, word: &[u8]) -> Result<(), ReadError>
 
 #[tactic(auto, unfolding(crate::specs::Words::distinct_pair_onto))]
 fn add_distinct_pair(pairs: &mut DistinctPairs, word: &[u8]) -> Result<(), ReadError>
-    ensures { Gives (with_value pairs.new result) (distinct_pair_onto pairs.old word.now) }
+    ensures { Gives (ok_with pairs.new result) (distinct_pair_onto pairs.old word.now) }
 {
     let at = equals_sign(word);
     let key = key(front(at, word))?;
@@ -227,7 +227,7 @@ pub fn pairs(alloc: Global, words: &[&[u8]]) -> Result<Pairs, ReadError>
 }
 
 fn add_new(keys: &mut Keys, key: Key) -> Result<(), ReadError>
-    ensures { Gives (with_value keys.new result) (with_key keys.old key) }
+    ensures { Gives (ok_with keys.new result) (with_key keys.old key) }
 {
     let is_new = keys.add(key)?;
     if is_new {
@@ -239,7 +239,7 @@ fn add_new(keys: &mut Keys, key: Key) -> Result<(), ReadError>
 
 #[tactic(auto, unfolding(crate::specs::Words::key_onto))]
 fn add_key(keys: &mut Keys, word: &[u8]) -> Result<(), ReadError>
-    ensures { Gives (with_value keys.new result) (key_onto keys.old word.now) }
+    ensures { Gives (ok_with keys.new result) (key_onto keys.old word.now) }
 {
     let key = key(word)?;
     add_new(keys, key)
@@ -247,7 +247,7 @@ fn add_key(keys: &mut Keys, word: &[u8]) -> Result<(), ReadError>
 
 /// The keys that the words say, each once.
 pub fn keys(alloc: Global, words: &[&[u8]]) -> Result<Keys, ReadError>
-    ensures { Gives result (keys_of (map (λ w. w.now) words.now)) }
+    ensures { Gives result (distinct_keys_of (map (λ w. w.now) words.now)) }
 {
     let mut keys = Keys::new(alloc);
     for word in words {

@@ -1,6 +1,6 @@
 //! Counts of calls.
 ghost use Rattle.std.specs.Prelude.{◌≡◌};
-ghost use Rattle.jc_store.specs.Counts.{after_call, one_more};
+ghost use Rattle.jc_store.specs.Counts.{after_call, one_more_call};
 
 /// A call of a loader or a writer, by its method.
 #[derive(Clone, Copy, Debug, PartialEq, Eq)]
@@ -64,7 +64,7 @@ impl Counts {
 }
 
 fn add_one(count: &mut u64)
-    ensures { count.new ≡ one_more count.old }
+    ensures { count.new ≡ one_more_call count.old }
 {
     *count = count.saturating_add(1);
 }

@@ -10,6 +10,7 @@ use Rattle.jc_types.proofs.CallerLemmas.{all_imply, all_filter}
 use Rattle.jc_types.specs.declared.config.Config.{Config}
 use Rattle.jc_model.specs.Cache.{Bytes, Cache, entry_at}
 use Rattle.jc_inflight.specs.declared.joiner.Joiner.{Joiner}
+use Rattle.jc_inflight.specs.Joining.{belongs_to}
 use Rattle.jc_inflight.proofs.CallerLemmas.{call_of}
 use Rattle.jc_stripe.specs.State.{is_key, without_key}
 use Rattle.jc_stripe.specs.Refusals.{first_asked}
@@ -30,7 +31,26 @@ all_both p q (x ∷ xs) g h =
     let qs = and_parts (q x) (list_all q xs) h in
     and_from _ _ (and_from _ _ ps.0 qs.0) (all_both p q xs ps.1 qs.1)
 
--- 2. Reservations.
+-- 2. What holds of each pair, of one and of each later one.
+
+module _ {A : Type 0} (test : A → A → Bool) (pairs : List A → Bool) (first : (x : A) (xs : List A) → pairs (x ∷ xs) ≡ (list_all (test x) xs && pairs xs)) where
+  pairs-push : ((x y : A) → test x y ≡ test y x) → pairs [] ≡ true → (xs : List A) (x : A) → pairs xs ≡ true → list_all (test x) xs ≡ true → pairs (xs ++ x ∷ []) ≡ true
+  pairs-push turned none [] x all one = first x [] ∙ none
+  pairs-push turned none (y ∷ xs) x all one =
+      let parts = and_parts (list_all (test y) xs) (pairs xs) (sym (first y xs) ∙ all) in
+      let ones = and_parts (test x y) (list_all (test x) xs) one in
+      first y (xs ++ x ∷ []) ∙ and_from _ _ (all-push (test y) xs x parts.0 (turned y x ∙ ones.0)) (pairs-push turned none xs x parts.1 ones.1)
+
+  pairs_kept : (q : A → Bool) (xs : List A) → pairs xs ≡ true → pairs (filter q xs) ≡ true
+  pairs_kept q [] h = h
+  pairs_kept q (x ∷ xs) h =
+      let parts = and_parts (list_all (test x) xs) (pairs xs) (sym (first x xs) ∙ h) in
+      elim (q x) as (λ b. pairs (cond b (x ∷ filter q xs) (filter q xs)) ≡ true) [
+        | true ↦ first x (filter q xs) ∙ and_from _ _ (all_filter (test x) q xs parts.0) (pairs_kept q xs parts.1)
+        | false ↦ pairs_kept q xs parts.1
+      ]
+
+-- 3. Reservations.
 
 -- the test of two calls goes both ways
 turned : (s t c d : ℕ) (k l : Bytes) → (not (s == t) || ((c == d) && not (pointwise ◌==◌ k l))) ≡ (not (t == s) || ((d == c) && not (pointwise ◌==◌ l k)))
@@ -40,23 +60,13 @@ pub beside_turned : (r x : Reservation) → is_other_call r.caller r.key x ≡ i
 beside_turned r x = turned x.caller.session r.caller.session x.caller.call r.caller.call x.key r.key
 
 pub beside-push : (rs : List Reservation) (r : Reservation) → are_beside rs ≡ true → list_all (is_other_call r.caller r.key) rs ≡ true → are_beside (rs ++ r ∷ []) ≡ true
-beside-push [] r all one = refl
-beside-push (x ∷ xs) r all one =
-    let parts = and_parts (list_all (is_other_call x.caller x.key) xs) (are_beside xs) all in
-    let ones = and_parts (is_other_call r.caller r.key x) (list_all (is_other_call r.caller r.key) xs) one in
-    and_from _ _ (all-push (is_other_call x.caller x.key) xs r parts.0 (beside_turned x r ∙ ones.0)) (beside-push xs r parts.1 ones.1)
+beside-push = pairs-push (λ (r : Reservation). is_other_call r.caller r.key) are_beside (λ r rs. refl) beside_turned refl
 
 pub all_left : (p : Reservation → Bool) (key : Bytes) (rs : List Reservation) → list_all p rs ≡ true → list_all p (without_key key rs) ≡ true
 all_left p key rs h = all_filter p (λ r. not (is_key key r)) rs h
 
 pub beside_left : (key : Bytes) (rs : List Reservation) → are_beside rs ≡ true → are_beside (without_key key rs) ≡ true
-beside_left key [] h = refl
-beside_left key (x ∷ xs) h =
-    let parts = and_parts (list_all (is_other_call x.caller x.key) xs) (are_beside xs) h in
-    elim (not (is_key key x)) as (λ b. are_beside (cond b (x ∷ without_key key xs) (without_key key xs)) ≡ true) [
-      | true ↦ and_from _ _ (all_left (is_other_call x.caller x.key) key xs parts.0) (beside_left key xs parts.1)
-      | false ↦ beside_left key xs parts.1
-    ]
+beside_left key = pairs_kept (λ (r : Reservation). is_other_call r.caller r.key) are_beside (λ r rs. refl) (λ r. not (is_key key r))
 
 pub ask-push : (config : Config) (cache : Cache) (rs : List Reservation) (r : Reservation) → AllAsk config cache rs → first_asked config r.op (entry_at cache r.key) ≡ r.first → AllAsk config cache (rs ++ r ∷ [])
 ask-push config cache [] r all asks = (asks, tt)
@@ -108,7 +118,7 @@ none_left key (x ∷ xs) =
       | false ↦ λ e. ap (λ t. t || list_any (is_key key) (without_key key xs)) e ∙ none_left key xs
     ] refl
 
--- 3. Joiners.
+-- 4. Joiners.
 
 pub apart_turned : (i j : Joiner) → is_other_join i.caller i.key j ≡ is_other_join j.caller j.key i
 apart_turned i j = turned j.caller.session i.caller.session j.caller.call i.caller.call j.key i.key
@@ -117,20 +127,22 @@ pub between_turned : (r : Reservation) (j : Joiner) → is_other_join r.caller r
 between_turned r j = turned j.caller.session r.caller.session j.caller.call r.caller.call j.key r.key
 
 pub apart-push : (js : List Joiner) (j : Joiner) → are_apart js ≡ true → list_all (is_other_join j.caller j.key) js ≡ true → are_apart (js ++ j ∷ []) ≡ true
-apart-push [] j all one = refl
-apart-push (x ∷ xs) j all one =
-    let parts = and_parts (list_all (is_other_join x.caller x.key) xs) (are_apart xs) all in
-    let ones = and_parts (is_other_join j.caller j.key x) (list_all (is_other_join j.caller j.key) xs) one in
-    and_from _ _ (all-push (is_other_join x.caller x.key) xs j parts.0 (apart_turned x j ∙ ones.0)) (apart-push xs j parts.1 ones.1)
+apart-push = pairs-push (λ (j : Joiner). is_other_join j.caller j.key) are_apart (λ j js. refl) apart_turned refl
 
 pub apart_kept : (q : Joiner → Bool) (js : List Joiner) → are_apart js ≡ true → are_apart (filter q js) ≡ true
-apart_kept q [] h = refl
-apart_kept q (x ∷ xs) h =
-    let parts = and_parts (list_all (is_other_join x.caller x.key) xs) (are_apart xs) h in
-    elim (q x) as (λ b. are_apart (cond b (x ∷ filter q xs) (filter q xs)) ≡ true) [
-      | true ↦ and_from _ _ (all_filter (is_other_join x.caller x.key) q xs parts.0) (apart_kept q xs parts.1)
-      | false ↦ apart_kept q xs parts.1
-    ]
+apart_kept = pairs_kept (λ (j : Joiner). is_other_join j.caller j.key) are_apart (λ j js. refl)
+
+-- whoever is another call has not joined
+other_call : (a b p : Bool) → (not a || (b && not p)) ≡ true → ((a && b) && p) ≡ false
+other_call true true true h = sym h
+other_call true true false h = refl
+other_call true false p h = refl
+other_call false b p h = refl
+
+pub belongs_to_no_other : (caller : Caller) (key : Bytes) (j : Joiner) → is_other_join caller key j ≡ true → belongs_to caller key j ≡ false
+belongs_to_no_other caller key j h =
+    ap (λ b. ((j.caller.session == caller.session) && (j.caller.call == caller.call)) && b) (nat_list_eq_equiv.symm key j.key)
+    ∙ other_call (j.caller.session == caller.session) (j.caller.call == caller.call) (pointwise ◌==◌ j.key key) h
 
 -- a joiner more beside each reservation
 pub between-push : (rs : List Reservation) (js : List Joiner) (j : Joiner) → all_apart rs js ≡ true → list_all (is_other_call j.caller j.key) rs ≡ true → all_apart rs (js ++ j ∷ []) ≡ true
@@ -157,7 +169,7 @@ between_others rs j js h =
     all_imply (λ r. list_all (is_other_join r.caller r.key) (j ∷ js)) (λ r. list_all (is_other_join r.caller r.key) js) rs
     (λ r e. (and_parts (is_other_join r.caller r.key j) (list_all (is_other_join r.caller r.key) js) e).1) h
 
--- 4. Joiners of the same calls.
+-- 5. Joiners of the same calls.
 
 abbrev call_apart : Caller → Bytes → Caller × Bytes → Bool
 call_apart caller key c = not (c.0.session == caller.session) || ((c.0.call == caller.call) && not (pointwise ◌==◌ c.1 key))

@@ -10,7 +10,8 @@
 --     others_park                         it parks of the steps at other places what was parked
 --     again_parks_same                    a pick-up that is told to retry parks what was parked
 --     invokes                             only an `Invoke` is given a processor's ticket
---     answering_asks, loads_asked         what answers at once asks nobody, and what asks the loader first loads a key whole
+--     asks_none, answering_asks           where there is nothing to write, and what answers at once, asks nobody
+--     loads_asked                         what asks the loader first loads a key whole
 --     writer_reserves, processor_reserves what asks a writer or a processor first reserves its key
 --     next_begun                          a first phase doesn't make the next number of a reservation less
 --     without_none                        the reservations without a key that none of them has
@@ -57,7 +58,7 @@ use Rattle.jc_stripe.specs.Phases.{MayBegin, Begins, Steps, new_group, with_join
 use Rattle.jc_stripe.specs.Reached.{IsReached, may_share}
 use Rattle.jc_stripe.specs.OnePhase.{is_parked}
 use Rattle.jc_stripe.proofs.Settled.{claim_left, keyed_callers}
-pub use Rattle.jc_stripe.proofs.Refusing.{answering_asks, writer_reserves, processor_reserves}
+pub use Rattle.jc_stripe.proofs.Refusing.{asks_none, answering_asks, writer_reserves, processor_reserves}
 pub use Rattle.jc_stripe.proofs.Settled.{loads_asked}
 pub use Rattle.jc_stripe.proofs.Numbering.{without_none}
 pub use Rattle.jc_stripe.proofs.Uniform.{next_begun}

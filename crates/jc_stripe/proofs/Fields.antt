@@ -4,7 +4,7 @@ use Rattle.std.proofs.lemmas.List.{length-map}
 use Rattle.std.specs.List.{list_any}
 use Rattle.std.specs.Option.{option_map}
 use Rattle.jc_model.specs.Cache.{Bytes}
-use Rattle.jc_reserve.specs.Table.{Table, keys_of}
+use Rattle.jc_reserve.specs.Table.{Table, keys_held}
 use Rattle.jc_reserve.specs.Reserving.{has_key, is_held, reservation_at}
 use Rattle.jc_stripe.specs.declared.ticket.Note.{Note}
 use Rattle.jc_stripe.specs.State.{is_key, without_key}
@@ -55,6 +55,6 @@ push-reserved_of (x ∷ xs) h = ap (λ rs. note_reservation x ∷ rs) (push-rese
 pub length-reserved_of : (held : List (Held Note)) → length (map note_reservation held) ≡ length held
 length-reserved_of held = length-map held note_reservation
 
-pub pinned-reserved_of : (held : List (Held Note)) → pinned (map note_reservation held) ≡ keys_of held
+pub pinned-reserved_of : (held : List (Held Note)) → pinned (map note_reservation held) ≡ keys_held held
 pinned-reserved_of [] = refl
 pinned-reserved_of (h ∷ hs) = ap (λ keys. h.key ∷ keys) (pinned-reserved_of hs)

@@ -9,7 +9,7 @@ use Rattle.jc_model.specs.Table.{answers_fit}
 use Rattle.jc_model.specs.Group.{Group, events_of, nothing_said}
 use Rattle.jc_entries.specs.ByUse.{ByUse}
 use Rattle.jc_history.specs.Past.{Past, promise}
-use Rattle.jc_reserve.specs.Table.{Table, keys_of}
+use Rattle.jc_reserve.specs.Table.{Table, keys_held}
 use Rattle.jc_reserve.specs.Reserving as reserving
 use Rattle.jc_inflight.specs.declared.joiner.Joiner.{Joiner}
 use Rattle.jc_inflight.specs.Joining.{callers_of, waits_for}
@@ -46,14 +46,14 @@ done_at i entries history = record i { entries = entries; history = history }
 -- what is known of it
 pub record IsDone (i : Inside) (caller : Caller) (key : Bytes) (op : Op) (entries : ByUse) (promised_in history : Past) (keys : List Bytes) (made : NewGroup) (done : StepDone) (kept : ℕ) : Type 0 where
   pub sound : IsStripe i
-  pub keys_are : keys ≡ keys_of i.reservations.held
+  pub keys_are : keys ≡ keys_held i.reservations.held
   pub is : IsMade (state_of i) caller key op nothing_said made
   pub keeps : AppliesStep i.entries keys key op nothing_said made.victim made.evicted entries
   pub promises : promised_in ≡ promise kept i.history
   pub told : IsTold (length promised_in.events) made [] done
   pub put : history ≡ append_group (group_events (length promised_in.events) made []) kept promised_in
 
-done_entries : (i : Inside) (keys : List Bytes) → IsStripe i → keys ≡ keys_of i.reservations.held → AreEntries (state_of i) i.entries keys
+done_entries : (i : Inside) (keys : List Bytes) → IsStripe i → keys ≡ keys_held i.reservations.held → AreEntries (state_of i) i.entries keys
 done_entries i keys sound keys_are = record { list = sound.by_use; capacity = sound.capacity; cache = refl; pinned = keys_are ∙ sym (pinned-reserved_of i.reservations.held); used = sound.state.used }
 
 pub done_steps : (i : Inside) (caller : Caller) (key : Bytes) (op : Op) (entries : ByUse) (promised_in history : Past) (keys : List Bytes) (made : NewGroup) (done : StepDone) (kept : ℕ) → IsDone i caller key op entries promised_in history keys made done kept
@@ -103,7 +103,7 @@ pub record IsCommit (i : Inside) (r : Reservation) (out : Out) (entries : ByUse)
   pub found : IsOut (state_of i) r
   pub said : AnswersFirst i.config r.first out
   pub released : table ≡ reserving.without_reservation i.reservations r.key
-  pub keys_are : keys ≡ keys_of table.held
+  pub keys_are : keys ≡ keys_held table.held
   pub is : IsMade (state_of i) r.caller r.key r.op out made
   pub keeps : AppliesStep i.entries keys r.key r.op out made.victim made.evicted entries
   pub told : IsTold (length i.history.events) made (callers_of r.number i.joiners) done
@@ -111,7 +111,7 @@ pub record IsCommit (i : Inside) (r : Reservation) (out : Out) (entries : ByUse)
   pub joiners : js ≡ after_resolve r.number done.place i.joiners
   pub kept_is : kept ≡ STEP_PLACES + count_by (waits_for r.number) i.joiners
 
-commit_entries : (i : Inside) (r : Reservation) (place : ℕ) (table : Table Note) (keys : List Bytes) → IsStripe i → table ≡ reserving.without_reservation i.reservations r.key → keys ≡ keys_of table.held
+commit_entries : (i : Inside) (r : Reservation) (place : ℕ) (table : Table Note) (keys : List Bytes) → IsStripe i → table ≡ reserving.without_reservation i.reservations r.key → keys ≡ keys_held table.held
     → AreEntries (after_commit (state_of i) r place) i.entries keys
 commit_entries i r place table keys sound released keys_are =
     let used = sound.state.used in
@@ -119,7 +119,7 @@ commit_entries i r place table keys sound released keys_are =
       list = sound.by_use;
       capacity = sound.capacity;
       cache = refl;
-      pinned = keys_are ∙ ap (λ (t : Table Note). keys_of t.held) released ∙ sym (pinned-reserved_of (reserving.without_reservation i.reservations r.key).held) ∙ ap pinned (left-reserved_of r.key i.reservations.held);
+      pinned = keys_are ∙ ap (λ (t : Table Note). keys_held t.held) released ∙ sym (pinned-reserved_of (reserving.without_reservation i.reservations r.key).held) ∙ ap pinned (left-reserved_of r.key i.reservations.held);
       used = record { once = used.once; own = used.own; cache = used.cache };
     }
 
@@ -174,7 +174,7 @@ commit_few load js place waiting made w =
 
 -- what it appends fits into the places that it needs
 pub done_few : (i : Inside) (caller : Caller) (key : Bytes) (op : Op) (entries : ByUse) (keys : List Bytes) (made : NewGroup) (place : ℕ) → IsStripe i
-    → first_asked i.config op (entry_at (state_of i).cache key) ≡ Nobody → keys ≡ keys_of i.reservations.held → IsMade (state_of i) caller key op nothing_said made
+    → first_asked i.config op (entry_at (state_of i).cache key) ≡ Nobody → keys ≡ keys_held i.reservations.held → IsMade (state_of i) caller key op nothing_said made
     → AppliesStep i.entries keys key op nothing_said made.victim made.evicted entries → length (group_events place made []) ≤ places_needed (needs_free_key (state_of i) key op)
 done_few i caller key op entries keys made place sound nobody keys_are is keeps =
     let m : State = state_of i in

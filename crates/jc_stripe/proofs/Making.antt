@@ -1,9 +1,8 @@
 -- What each phase makes of a stripe's fields keeps them sound.
-use Rattle.std.proofs.Common.{◌≡◌, ◌≤◌, ◌<◌, ◌+◌, ◌-◌, ◌==◌, ◌&&◌, ◌||◌, ℕ, suc, List, [], ◌∷◌, map, length, count_by, Bool, true, false, cond, not, IsTrue, ◌↔◌, Some, None, find, refl, sym, ap, ◌∙◌, subst, arith, AllPairs, All, if◌then◌else◌}
+use Rattle.std.proofs.Common.{◌≡◌, ◌≤◌, ◌<◌, ◌+◌, ◌-◌, ◌||◌, ℕ, suc, List, [], ◌∷◌, map, length, count_by, Bool, true, false, cond, not, IsTrue, ◌↔◌, Some, None, find, refl, sym, ap, ◌∙◌, subst, arith, AllPairs, All, if◌then◌else◌}
 use Rattle.std.specs.List.{list_any, list_all}
 use Rattle.std.specs.Bool.{OnTrue}
-use Rattle.std.specs.Cmp.Lexicographic.{pointwise, texts_ties}
-use Rattle.std.proofs.lemmas.Cmp.{nat_list_eq_equiv}
+use Rattle.std.specs.Cmp.Lexicographic.{texts_ties}
 use Rattle.std.proofs.lemmas.List.{length-append}
 use Rattle.std.proofs.lemmas.Bool.{and_parts}
 use Rattle.jc_model.specs.declared.event.Op.{Op}
@@ -30,6 +29,7 @@ use Rattle.jc_stripe.specs.Refusals.{first_refusal, first_asked, needs_reservati
 use Rattle.jc_stripe.specs.Phases.{MayBegin, is_other_join, with_joiner, after_withdrawal}
 use Rattle.jc_stripe.specs.Reached.{IsReached}
 use Rattle.jc_stripe.specs.Inside.{IsStripe, state_of, note_reservation}
+use Rattle.jc_stripe.proofs.Beside.{belongs_to_no_other}
 use Rattle.jc_stripe.proofs.Inner.{used_of}
 use Rattle.jc_stripe.proofs.Fields.{push-reserved_of, length-reserved_of, left-reserved_of, held-reserved_of}
 use Rattle.jc_stripe.proofs.Refusing.{not_refused, few_out, was_free, ticket_places, next_below, join_places, few_joined}
@@ -81,19 +81,12 @@ sound-reserved i caller key op first table history sound t h reached =
 
 -- 2. A join.
 
-not_of : (a b c : Bool) → (not a || (b && not c)) ≡ true → (a && b && c) ≡ false
-not_of true true true h = cc
-not_of true true false h = refl
-not_of true false c h = cc
-not_of false b c h = refl
-
 -- a call that may begin hasn't joined
 pub not_joined : (caller : Caller) (key : Bytes) (js : List Joiner) → list_all (is_other_join caller key) js ≡ true → has_joined caller key js ≡ false
 not_joined caller key [] h = refl
 not_joined caller key (j ∷ js) h =
     let parts = and_parts (is_other_join caller key j) (list_all (is_other_join caller key) js) h in
-    let one : belongs_to caller key j ≡ false = ap (λ b. (j.caller.session == caller.session) && (j.caller.call == caller.call) && b) (nat_list_eq_equiv.symm key j.key) ∙ not_of (j.caller.session == caller.session) (j.caller.call == caller.call) (pointwise ◌==◌ j.key key) parts.0 in
-    ap (λ b. b || has_joined caller key js) one ∙ not_joined caller key js parts.1
+    ap (λ b. b || has_joined caller key js) (belongs_to_no_other caller key j parts.0) ∙ not_joined caller key js parts.1
 
 pub sound-joined : (i : Inside) (caller : Caller) (load : ℕ) (key : Bytes) (js : List Joiner) (history : Past) → IsStripe i → js ≡ joining.with_joiner caller key load i.joiners → history ≡ promise HIT_PLACES i.history
     → IsReached (with_joiner (state_of i) (record { caller = caller; key = key; load = load })) → IsStripe (record i { joiners = js; history = history })

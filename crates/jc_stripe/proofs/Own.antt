@@ -2,7 +2,7 @@
 --     own_left     the law
 use Rattle.std.proofs.Common.{◌≡◌, ◌==◌, ◌&&◌, ◌||◌, ◌+◌, ℕ, List, [], ◌∷◌, ◌++◌, map, length, filter, Bool, true, false, cond, not, None, Some, refl, sym, ap, ◌∙◌, arith, append_assoc, slice_get, find, option_map}
 use Rattle.std.proofs.lemmas.Bool.{eqb-true, and_parts}
-use Rattle.std.proofs.lemmas.Cmp.{nat_list_eq_equiv, nat_eq_equiv}
+use Rattle.std.proofs.lemmas.Cmp.{nat_eq_equiv}
 use Rattle.std.proofs.lemmas.List.{length-append}
 use Rattle.std.specs.List.{list_all}
 use Rattle.std.specs.Cmp.Lexicographic.{pointwise, same_text}
@@ -28,6 +28,7 @@ use Rattle.jc_stripe.specs.Phases.{new_group, after_commit, is_other_join, Steps
 use Rattle.jc_stripe.specs.Reached.{IsReached, are_apart}
 use Rattle.jc_stripe.specs.OnePhase.{is_answered, is_parked, is_own_step, own_steps}
 use Rattle.jc_stripe.specs.OwnSteps.{AddsOwn, OwnSteps}
+use Rattle.jc_stripe.proofs.Beside.{belongs_to_no_other}
 use Rattle.jc_stripe.proofs.OwnPick.{none_parked, parked_other, picks_own}
 use Rattle.jc_stripe.proofs.Settled.{keyed_callers}
 use Rattle.jc_stripe.proofs.ParkedSteps.{joiners_call, own-parked, own-answered, own-victim, own-evicted, own-shared, filter-append, all_parked, parked-callers, parked-joined, parked-dissolved}
@@ -35,18 +36,11 @@ use Rattle.jc_stripe.proofs.SharedSteps.{stands_at}
 
 -- 1. A call of its own has nothing parked.
 
-apart_one : (a b p : Bool) → (not a || (b && not p)) ≡ true → ((a && b) && p) ≡ false
-apart_one true true true h = sym h
-apart_one true true false h = refl
-apart_one true false p h = refl
-apart_one false b p h = refl
-
 pub unparked : (c : Caller) (k : Bytes) (js : List Joiner) → list_all (is_other_join c k) js ≡ true → is_parked js c k ≡ false
 unparked c k [] h = refl
 unparked c k (j ∷ js) h =
     let parts = and_parts (is_other_join c k j) (list_all (is_other_join c k) js) h in
-    let here : belongs_to c k j ≡ false = ap (λ b. ((j.caller.session == c.session) && (j.caller.call == c.call)) && b) (nat_list_eq_equiv.symm k j.key) ∙ apart_one (j.caller.session == c.session) (j.caller.call == c.call) (pointwise ◌==◌ j.key k) parts.0 in
-    ap (λ b. (b && is_answered j.state) || is_parked js c k) here ∙ unparked c k js parts.1
+    ap (λ b. (b && is_answered j.state) || is_parked js c k) (belongs_to_no_other c k j parts.0) ∙ unparked c k js parts.1
 
 apart_answered : (c : Caller) (k : Bytes) (load step place : ℕ) (js : List Joiner) → list_all (is_other_join c k) (answered_from load step place js) ≡ list_all (is_other_join c k) js
 apart_answered c k load step place [] = refl

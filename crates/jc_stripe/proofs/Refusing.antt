@@ -76,10 +76,12 @@ fewer_than m n h = grind (arith, nat_tests)
 
 -- 2. Who answers at once, and who joins.
 
-asks_none : (b : Bool) → writer_for (cond b None None) ≡ Nobody
+-- if there is nothing to write, nobody is asked
+pub asks_none : (b : Bool) → writer_for (cond b None None) ≡ Nobody
 asks_none true = refl
 asks_none false = refl
 
+-- a `Get` that answers at once asks nobody
 get_asks : (read write : Bool) (entry : Option Bytes) → (is_some entry || not read) ≡ true → first_by (always_if (read && is_none entry)) (cond write None None) ≡ Nobody
 get_asks true write (Some x) h = asks_none write
 get_asks true write None h = cc

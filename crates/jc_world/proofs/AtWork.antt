@@ -1,14 +1,6 @@
 -- The keys at which a call works differ, and it may work at each of them.
-use Rattle.std.proofs.Common.{◌≡◌, ◌==◌, ◌∙◌, ◌&&◌, Bool, true, false, cond, List, [], ◌∷◌, Option, None, Some, filter, is_some, option_to_list, slice_get, refl, ap}
-use Rattle.std.specs.List.{AllByRecursion, IsDistinct, list_all}
-use Rattle.std.specs.Map.{keys_of, lookup}
-use Rattle.std.specs.Option.{option_flatten}
-use Rattle.std.specs.Cmp.Lexicographic.{pointwise}
-use Rattle.std.proofs.lemmas.Bool.{and_from, and_parts}
-use Rattle.std.proofs.lemmas.Cmp.{nat_list_eq_equiv}
-use Rattle.std.proofs.lemmas.Map.Keys.{IsDistinct-head, IsDistinct-tail}
-use Rattle.jc_model.specs.Cache.{Bytes}
-use Rattle.jc_world.specs.Calls.{CallState, Task, is_at, is_open, keys_at_work, may_work, op_in, open_in, takes_turns}
+use Rattle.jc_world.proofs.Common.{◌≡◌, Bool, true, false, cond, ◌&&◌, List, [], ◌∷◌, is_some, ◌==◌, slice_get, Some, None, filter, Option, option_to_list, refl, ap, ◌∙◌, and_parts, and_from, nat_list_eq_equiv, IsDistinct-head, IsDistinct-tail, pointwise, list_all, AllByRecursion, IsDistinct, keys_of, lookup, option_flatten, Bytes, Task, takes_turns, CallState, op_in, is_open, open_in, keys_at_work, may_work}
+use Rattle.jc_world.specs.Calls.{is_at}
 use Rattle.jc_world.proofs.TaskLists.{open_distinct}
 
 -- the operation of an open key is found by the key

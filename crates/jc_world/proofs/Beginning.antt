@@ -3,36 +3,8 @@
 --     order_start, order_called      at the start, and once a call has begun
 --     may_start_at, begins_at        the conditions on a first phase
 --     may_turn, part_turn            a call may work at a key that it starts, and at one that it has reserved
-use Rattle.std.proofs.Common.{◌≡◌, ◌==◌, ◌&&◌, ◌||◌, ◌+◌, ℕ, zero, suc, List, [], ◌∷◌, ◌++◌, length, Ok, Bool, true, false, cond, not, Option, None, Some, IsSomeAnd, find, slice_get, is_none, is_some, refl, sym, ap, ◌∙◌, subst, arith, add-zero, zero-add, append-nil}
-use Rattle.std.specs.Cmp.Lexicographic.{pointwise}
-use Rattle.std.proofs.lemmas.Bool.{eq-eqb, eqb-true, and_parts, and_from, or_left, or_right, false_from_ne_true, not-true}
-use Rattle.std.proofs.lemmas.Cmp.{nat_list_cmp_total}
-use Rattle.std.specs.FinMap.{get, insert, get-insert, len-empty}
+use Rattle.jc_world.proofs.Common.{◌≡◌, ℕ, zero, suc, ◌+◌, Bool, true, false, cond, not, ◌&&◌, ◌||◌, List, [], ◌∷◌, ◌++◌, length, is_some, is_none, IsSomeAnd, ◌==◌, slice_get, Some, None, Ok, Option, find, sym, refl, ap, ◌∙◌, subst, append-nil, add-zero, zero-add, arith, not-true, eqb-true, eq-eqb, and_parts, and_from, or_left, or_right, false_from_ne_true, nat_list_cmp_total, pointwise, get, insert, len-empty, get-insert, all_filter, is_session, check, stripe_of, Caller, Config, Bytes, Cache, key_cmp, may_come, is_of_stripe, of_stripe, Op, Get, belongs_to, Joiner, may_come_all, is_other_call, is_other_join, MayBegin, IsReached, State, is_of, is_key, Reservation, Command, Part, Premises, WorldEvent, CallState, new_call, has_number, op_at, op_for, is_turn, opened, is_playable, is_new, is_free, may_start, fits, IsStripe, is_up_to, has_parked_answer, is_served_in, is_served, FitsKey, FitsCall, CallsFit, IsHeld, IsCallOf, IsOwned, AllOwned, IsCalled, AllCalled, IsSoundWorld, Parts, WorldState, home, stripe_for, empty_stripe, empty_stripes, start, is_busy, open_call, part_of, is_joined}
 use Rattle.jc_world.proofs.Numbered.{some_of}
-use Rattle.jc_types.proofs.CallerLemmas.{all_filter}
-use Rattle.jc_types.specs.declared.caller.Caller.{Caller}
-use Rattle.jc_types.specs.declared.config.Config.{Config}
-use Rattle.jc_types.specs.Limits.{check, is_session}
-use Rattle.jc_types.specs.Stripes.{stripe_of}
-use Rattle.jc_model.specs.declared.event.Op.{Op}
-use Rattle.jc_model.specs.declared.event.Op.TheVariants.{Get}
-use Rattle.jc_model.specs.Cache.{Bytes, Cache, key_cmp}
-use Rattle.jc_model.specs.Legal.{is_of_stripe, may_come}
-use Rattle.jc_stripe.specs.declared.ticket.Reservation.{Reservation}
-use Rattle.jc_inflight.specs.declared.joiner.Joiner.{Joiner}
-use Rattle.jc_inflight.specs.Joining.{belongs_to as is_joiner_of}
-use Rattle.jc_stripe.specs.State.{State, is_key, is_of}
-use Rattle.jc_stripe.specs.Phases.{MayBegin, is_other_call, is_other_join as is_join_apart}
-use Rattle.jc_stripe.specs.Reached.{IsReached}
-use Rattle.jc_stripe.specs.OwnSteps.{may_come_all}
-use Rattle.jc_world.specs.declared.command.Command.{Command}
-use Rattle.jc_world.specs.declared.event.Part.{Part}
-use Rattle.jc_world.specs.declared.event.Premises.{Premises}
-use Rattle.jc_world.specs.Calls.{CallState, has_number, op_at, op_for, is_turn, new_call, opened}
-use Rattle.jc_world.specs.declared.event.WorldEvent.TheVariants as event
-use Rattle.jc_world.specs.World.{WorldState, Parts, home, stripe_for, empty_stripe, empty_stripes, start, is_busy, open_call, part_of, is_joined}
-use Rattle.jc_world.specs.Fits.{is_playable, is_new, is_free, may_start, fits}
-use Rattle.jc_world.specs.Sound.{IsStripe, is_up_to, has_parked_answer, is_served_in, is_served, FitsKey, FitsCall, CallsFit, IsCallOf, IsHeld, IsOwned, AllOwned, IsCalled, AllCalled, IsSoundWorld}
 use Rattle.jc_world.proofs.Halves.{HasOrder}
 use Rattle.jc_world.proofs.Shares.{found_test, shape_same, fact_found, each_map, each_test}
 use Rattle.jc_world.proofs.Underway.{found_number, fits_found, calls_on, calls_all, elsewhere_found, up_self, up_more, numbers_more, comes_new, calls_pushed, each_found, find_pushed, same_bytes, of_call-none}
@@ -61,8 +33,7 @@ pub fits_left : (w n : WorldState) (call : ℕ) (key : Bytes) (u v : CallState) 
 fits_left w n call key u v left last order served h = record {
   number = (λ i. is_up_to (last i) (left.caller_is i).call) ∙ h.number;
   keys = λ q op is.
-      let P : Caller → Type 0 = λ c. FitsKey n c q op in
-      subst P (sym left.caller_is) (fits_key w n u.caller q op order (served q op is) (h.keys q op (left.was q op is)));
+      rw left.caller_is (fits_key w n u.caller q op order (served q op is) (h.keys q op (left.was q op is)));
 }
 
 -- and so does what is left of a call that has taken keys
@@ -70,8 +41,7 @@ pub fits_taken : (w n : WorldState) (u v : CallState) → Taken u v → n.last �
 fits_taken w n u v taken last order served h = record {
   number = (λ i. is_up_to (last i) (taken.caller_is i).call) ∙ h.number;
   keys = λ q op is.
-      let P : Caller → Type 0 = λ c. FitsKey n c q op in
-      subst P (sym taken.caller_is) (fits_key w n u.caller q op order (served q op is) (h.keys q op (taken.was q op is)));
+      rw taken.caller_is (fits_key w n u.caller q op order (served q op is) (h.keys q op (taken.was q op is)));
 }
 
 -- a call fits a world of the same order and the same last number, in which it is served if it was
@@ -86,17 +56,22 @@ pub calls_same : (w n : WorldState) (calls : List CallState) → n.last ≡ w.la
 calls_same w n calls last order served fit =
     calls_all w n calls (λ u h. fits_same w n u last order (λ q op is. served u.caller q) h) fit
 
--- the store changes
-pub order_stored : (w : WorldState) (store : Cache) (premises : Premises) → IsSoundWorld w → HasOrder (record w { store = store; premises = premises })
-order_stored w store premises old =
-    let new : WorldState = record w { store = store; premises = premises } in
+-- the stripes, the order and the last number are the same: the calls fit, and each reservation is owned as before
+pub order_beside : (w : WorldState) (calls : List CallState) (parts : Parts) (store : Cache) (premises : Premises) → CallsFit (record w { calls = calls; parts = parts; store = store; premises = premises }) calls
+    → ((r : Reservation) → IsOwned w r → IsOwned (record w { calls = calls; parts = parts; store = store; premises = premises }) r) → IsSoundWorld w → HasOrder (record w { calls = calls; parts = parts; store = store; premises = premises })
+order_beside w calls parts store premises fit owned old =
+    let new : WorldState = record w { calls = calls; parts = parts; store = store; premises = premises } in
     record {
       shape = shape_same w new refl refl refl old.shape;
       order = old.order;
       numbers = old.numbers;
-      calls = calls_same w new w.calls refl refl (λ c q h. h) old.calls;
-      owned = λ n s here. each_map (IsOwned w) (IsOwned new) s.reservations (λ r h. record { part = h.part; call = h.call }) (old.owned n s here);
+      calls = fit;
+      owned = λ n s here. each_map (IsOwned w) (IsOwned new) s.reservations owned (old.owned n s here);
     }
+
+-- the store changes
+pub order_stored : (w : WorldState) (store : Cache) (premises : Premises) → IsSoundWorld w → HasOrder (record w { store = store; premises = premises })
+order_stored w store premises old = order_beside w w.calls w.parts store premises (calls_same w (record w { store = store; premises = premises }) w.calls refl refl (λ c q h. h) old.calls) (λ r h. record { part = h.part; call = h.call }) old
 
 -- a key's part stays, of the same call
 pub owned_part : (parts : Parts) (key q : Bytes) (part : Part) (call : ℕ) → IsSomeAnd (get parts q) (λ p. p.reservation.caller.call ≡ call) → (q ≡ key → part.reservation.caller.call ≡ call) → IsSomeAnd (get (insert parts key part) q) (λ p. p.reservation.caller.call ≡ call)
@@ -110,21 +85,14 @@ pub order_parted : (w : WorldState) (key : Bytes) (old part : Part) (premises : 
     → HasOrder (record w { parts = insert w.parts key part; premises = premises; store = store })
 order_parted w key old part premises store there same was =
     let new : WorldState = record w { parts = insert w.parts key part; premises = premises; store = store } in
-    record {
-      shape = shape_same w new refl refl refl was.shape;
-      order = was.order;
-      numbers = was.numbers;
-      calls = calls_same w new w.calls refl refl (λ c q h. h) was.calls;
-      owned = λ n s here. each_map (IsOwned w) (IsOwned new) s.reservations
-          (λ r h. record {
-            part = owned_part w.parts key r.key part r.caller.call h.part (λ e.
-                let found = some_of (get w.parts r.key) (λ p. p.reservation.caller.call ≡ r.caller.call) h.part in
-                let is : found.0 ≡ old = let t : Some found.0 ≡ Some old = sym found.1 ∙ ap (get w.parts) e ∙ there in cc in
-                same ∙ ap (λ (p : Part). p.reservation.caller.call) (sym is) ∙ found.2);
-            call = h.call;
-          })
-          (was.owned n s here);
-    }
+    order_beside w w.calls (insert w.parts key part) store premises (calls_same w new w.calls refl refl (λ c q h. h) was.calls)
+    (λ r h. record {
+      part = owned_part w.parts key r.key part r.caller.call h.part (λ e.
+          let found = some_of (get w.parts r.key) (λ p. p.reservation.caller.call ≡ r.caller.call) h.part in
+          let is : found.0 ≡ old = let t : Some found.0 ≡ Some old = sym found.1 ∙ ap (get w.parts) e ∙ there in cc in
+          same ∙ ap (λ (p : Part). p.reservation.caller.call) (sym is) ∙ found.2);
+      call = h.call;
+    }) was
 
 -- 2. The start.
 
@@ -219,7 +187,7 @@ order_more w call more is fit old =
     }
 
 -- a session begins a call
-pub order_called : (w : WorldState) (call session : ℕ) (command : Command) → fits w (event.Call call session command) ≡ true → IsSoundWorld w
+pub order_called : (w : WorldState) (call session : ℕ) (command : Command) → fits w (WorldEvent.Call call session command) ≡ true → IsSoundWorld w
     → HasOrder (record w { last = Some call; calls = w.calls ++ opened (new_call call session command) })
 order_called w call session command fit old =
     let u : CallState = new_call call session command in
@@ -249,7 +217,7 @@ pub record MayStart (w : WorldState) (u : CallState) (key : Bytes) (op : Op) : T
   pub alone : is_joined w u.caller.call key ≡ false
 
 -- so if a start fits
-pub may_start_at : (w : WorldState) (call : ℕ) (key : Bytes) (u : CallState) (op : Op) → fits w (event.Start call key) ≡ true → open_call w call ≡ Some u → op_at u key ≡ Some op → IsSoundWorld w → MayStart w u key op
+pub may_start_at : (w : WorldState) (call : ℕ) (key : Bytes) (u : CallState) (op : Op) → fits w (WorldEvent.Start call key) ≡ true → open_call w call ≡ Some u → op_at u key ≡ Some op → IsSoundWorld w → MayStart w u key op
 may_start_at w call key u op fit is op_is old =
     let tests = and_parts (is_some (op_at u key) && is_turn u key) (is_free w call key) (sym (ap (may_start w call key) is) ∙ fit) in
     let parts = and_parts (is_none (part_of w call key)) (not (is_joined w call key)) tests.1 in
@@ -300,10 +268,10 @@ beside_own w u key op r old may h =
     ] refl
 
 -- and so is each joiner
-apart_own : (w : WorldState) (u : CallState) (key : Bytes) (op : Op) (m : ℕ) (j : Joiner) → IsSoundWorld w → MayStart w u key op → IsCalled w m j → is_join_apart u.caller key j ≡ true
+apart_own : (w : WorldState) (u : CallState) (key : Bytes) (op : Op) (m : ℕ) (j : Joiner) → IsSoundWorld w → MayStart w u key op → IsCalled w m j → is_other_join u.caller key j ≡ true
 apart_own w u key op m j old may h =
     let call = some_of (open_call w j.caller.call) (IsCallOf j.caller.session j.key Get) h.call in
-    elim (u.caller.call == j.caller.call) as (λ b. (u.caller.call == j.caller.call) ≡ b → is_join_apart u.caller key j ≡ true) [
+    elim (u.caller.call == j.caller.call) as (λ b. (u.caller.call == j.caller.call) ≡ b → is_other_join u.caller key j ≡ true) [
       | true ↦ λ e.
           let mine : j.caller.call ≡ u.caller.call = sym (eqb-true u.caller.call j.caller.call e) in
           apart_or (not (j.caller.session == u.caller.session)) j.caller.call u.caller.call j.key key mine (other_key w u.caller.call key j.caller.call j.key may.alone h.join mine)
@@ -317,8 +285,8 @@ unserved w caller key free old = go (stripe_for w key) refl
     none_found : (s : State) (o : Option Joiner) → joiner_of caller key s.joiners ≡ o → AllCalled w (home w key) s.joiners → has_parked_answer o ≡ false
     none_found s None e called = refl
     none_found s (Some j) e called =
-        let h = fact_found (IsCalled w (home w key)) (is_joiner_of caller key) s.joiners j e called in
-        let test = and_parts ((j.caller.session == caller.session) && (j.caller.call == caller.call)) (pointwise ◌==◌ key j.key) (found_test (is_joiner_of caller key) s.joiners j e) in
+        let h = fact_found (IsCalled w (home w key)) (belongs_to caller key) s.joiners j e called in
+        let test = and_parts ((j.caller.session == caller.session) && (j.caller.call == caller.call)) (pointwise ◌==◌ key j.key) (found_test (belongs_to caller key) s.joiners j e) in
         let same : j.caller.call ≡ caller.call = eqb-true j.caller.call caller.call (and_parts (j.caller.session == caller.session) (j.caller.call == caller.call) test.0).1 in
         absurd (other_key w caller.call key j.caller.call j.key free h.join same (sym (same_bytes key j.key test.1)))
 
@@ -340,10 +308,10 @@ begins_with w u key op from old there may =
           ap (λ h. may_come_all h u.caller key) (sym at.share)
           ∙ all_filter (λ e. may_come e u.caller key) (is_of_stripe w.config.stripes (home w key)) w.order (may.fit.comes (unserved w u.caller key may.alone old));
       beside = each_test (IsOwned w) (is_other_call u.caller key) from.reservations (λ r h. beside_own w u key op r old may h) (old.owned (home w key) from there);
-      apart = each_test (IsCalled w (home w key)) (is_join_apart u.caller key) from.joiners (λ j h. apart_own w u key op (home w key) j old may h) (old.called (home w key) from there);
+      apart = each_test (IsCalled w (home w key)) (is_other_join u.caller key) from.joiners (λ j h. apart_own w u key op (home w key) j old may h) (old.called (home w key) from there);
     }
 
 -- the same, if a start fits
-pub begins_at : (w : WorldState) (call : ℕ) (key : Bytes) (u : CallState) (op : Op) (from : State) → fits w (event.Start call key) ≡ true → open_call w call ≡ Some u → op_at u key ≡ Some op → stripe_for w key ≡ Some from → IsSoundWorld w
+pub begins_at : (w : WorldState) (call : ℕ) (key : Bytes) (u : CallState) (op : Op) (from : State) → fits w (WorldEvent.Start call key) ≡ true → open_call w call ≡ Some u → op_at u key ≡ Some op → stripe_for w key ≡ Some from → IsSoundWorld w
     → MayBegin from u.caller key
 begins_at w call key u op from fit is op_is there old = begins_with w u key op from old there (may_start_at w call key u op fit is op_is old)

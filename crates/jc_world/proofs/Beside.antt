@@ -1,11 +1,5 @@
 -- What a writer's return leaves as it was: all of the world but its parts, its premises, and what its call has met.
-use Rattle.std.proofs.Common.{◌≡◌, ℕ, List, Option, option_map}
-use Rattle.jc_types.specs.declared.refusal.Refusal.TheVariants.{WriterFailed}
-use Rattle.jc_model.specs.Cache.{Bytes}
-use Rattle.jc_world.specs.Calls.{CallState, open_keys}
-use Rattle.jc_world.specs.Premises.{report_for}
-use Rattle.jc_world.specs.World.{WorldState}
-use Rattle.jc_world.specs.Events.{with_met_by, after_reports, reported_keys, keys_reported}
+use Rattle.jc_world.proofs.Common.{◌≡◌, ℕ, List, Option, option_map, WriterFailed, Bytes, CallState, open_keys, with_met_by, reported_keys, keys_reported, after_reports, report_for, WorldState}
 use Rattle.jc_world.proofs.Returns.{IsBeside, returned}
 
 -- the writer of a call has returned

@@ -1,62 +1,11 @@
 -- Each event keeps the callers' order.
---     order_over, order_started, order_ended, order_withdrawn, order_picks, order_left     after each kind of event
+--     order_key                       after each kind of change at a key
 --     order_happens, order_opened     after any event that fits, and after an entry of the store's opening
 --     order_is, has_shares            the order is one legal history over all stripes, and each stripe's history is its part of it
-use Rattle.std.proofs.Common.{inl, inr, ◌⊎◌, ◌≡◌, ◌==◌, ◌&&◌, ◌||◌, ◌+◌, ◌%◌, ◌<◌, ℕ, zero, suc, sum, List, [], ◌∷◌, ◌++◌, length, Bool, true, false, cond, not, Option, None, Some, IsSomeAnd, option_map, find, slice_get, slice_set, is_none, nat_lt, refl, sym, ap, ◌∙◌, subst, arith}
-use Rattle.std.specs.List.{list_all}
-use Rattle.std.specs.Ordering.{eq_by_cmp}
-use Rattle.std.specs.Cmp.{eq_by_cmp_equiv}
-use Rattle.std.specs.Cmp.Lexicographic.{pointwise, texts_ties}
-use Rattle.std.proofs.lemmas.Bool.{eqb-true, and_parts, false_from_ne_true, not-true}
-use Rattle.std.proofs.lemmas.Cmp.{nat_list_cmp_total, nat_list_eq_equiv}
-use Rattle.std.specs.FinMap.{get, insert, remove, get-insert, get-remove, empty, from_entries}
+use Rattle.jc_world.proofs.Common.{◌≡◌, ℕ, zero, suc, ◌+◌, ◌%◌, ◌<◌, Bool, true, false, cond, not, ◌&&◌, ◌||◌, ◌⊎◌, List, [], ◌∷◌, ◌++◌, length, is_none, IsSomeAnd, nat_lt, ◌==◌, slice_get, slice_set, Some, None, sum, Option, option_map, find, sym, refl, ap, ◌∙◌, subst, inl, inr, arith, not-true, eqb-true, and_parts, false_from_ne_true, nat_list_cmp_total, nat_list_eq_equiv, eq_by_cmp_equiv, pointwise, texts_ties, empty, get, insert, remove, from_entries, get-insert, get-remove, list_all, eq_by_cmp, all_imply, Caller, Config, Refusal, empty_opens, Bytes, Cache, key_cmp, nothing_said, events_of, of_stripe, IsHistory, Event, Op, Get, Out, belongs_to, is_waiting, waits_for, callers_of, after_resolve, JoinState, Again, Answered, Waiting, Joiner, StaysReached, IsSameStripe, Extends, may_come_all, new_group, Steps, with_joiner, Begins, after_commit, Commits, Withdraws, without_joiner, PicksUp, JoinFits, IsReached, reserves, State, is_of, is_key, is_reserved, with_reservation, without_key, IsOut, Ticket, ProcessClaim, JoinClaim, Begun, Picked, StepDone, Loader, Reservation, Outcome, Part, Premises, Progress, Shown, WorldEvent, cache_in, cache_at, IsOrder, HasShares, SweepState, CallState, has_number, op_at, op_for, open_keys, is_turn, going_on, with_met, replaced, settle, drop_call, with_found, with_stripe, with_phase, step_of, fault_in, with_settled, with_met_by, without_call, with_look, new_load, new_write, new_process, new_part, with_part, without_part, with_join, without_join, Starts, Ends, Picks, Happens, is_free, may_leave, fits, IsStripe, is_up_to, has_answer, has_parked_answer, is_served_in, is_served, FitsKey, FitsCall, CallsFit, Each, IsHeld, IsCallOf, IsOwned, AllOwned, IsCalled, IsSoundWorld, Parts, Joins, WorldState, home, stripe_for, open_call, part_of, out_of, join_of, is_joined, with_stored}
 use Rattle.jc_world.proofs.Numbered.{some_of}
-use Rattle.jc_types.proofs.CallerLemmas.{all_imply}
-use Rattle.jc_types.specs.declared.caller.Caller.{Caller}
-use Rattle.jc_types.specs.declared.refusal.Refusal.{Refusal}
-use Rattle.jc_types.specs.declared.config.Config.{Config}
-use Rattle.jc_model.specs.declared.event.Op.{Op}
-use Rattle.jc_model.specs.declared.event.Op.TheVariants.{Get}
-use Rattle.jc_model.specs.declared.event.Out.{Out}
-use Rattle.jc_model.specs.declared.event.Event.{Event}
-use Rattle.jc_model.specs.Cache.{Bytes, Cache, key_cmp}
-use Rattle.jc_model.specs.Group.{nothing_said, events_of}
-use Rattle.jc_model.specs.Legal.{IsHistory, of_stripe}
-use Rattle.jc_model.proofs.CallerLemmas.{empty_opens}
-use Rattle.jc_stripe.specs.declared.ticket.Reservation.{Reservation}
-use Rattle.jc_stripe.specs.declared.begun.StepDone.{StepDone}
-use Rattle.jc_stripe.specs.declared.begun.Begun.TheVariants as begun
-use Rattle.jc_stripe.specs.declared.ticket.First.TheVariants.{Loader}
-use Rattle.jc_inflight.specs.declared.joiner.Joiner.{Joiner}
-use Rattle.jc_inflight.specs.declared.joiner.JoinState.{JoinState}
-use Rattle.jc_inflight.specs.declared.joiner.JoinState.TheVariants.{Waiting, Answered, Again}
-use Rattle.jc_inflight.specs.Joining.{belongs_to as is_joiner_of, is_waiting, waits_for, callers_of}
-use Rattle.jc_inflight.specs.Resolving.{after_resolve as resolved}
 use Rattle.jc_inflight.specs.Taking.{without_joiner as without}
-use Rattle.jc_stripe.specs.declared.begun.Picked.{Picked}
-use Rattle.jc_stripe.specs.declared.begun.Picked.TheVariants as picked
-use Rattle.jc_stripe.specs.Tickets.{Ticket, ProcessClaim, JoinClaim}
-use Rattle.jc_stripe.specs.State.{State, is_key, is_of, is_reserved, with_reservation, without_key, IsOut}
-use Rattle.jc_stripe.specs.Refusals.{reserves}
-use Rattle.jc_stripe.specs.Phases.{Begins, Commits, Withdraws, PicksUp, Steps, new_group, after_commit, with_joiner, without_joiner}
-use Rattle.jc_stripe.specs.Laws.{IsSameStripe, Extends, StaysReached}
-use Rattle.jc_stripe.specs.Reached.{IsReached, JoinFits}
-use Rattle.jc_stripe.specs.OwnSteps.{may_come_all}
-use Rattle.jc_world.specs.declared.event.Part.{Part}
-use Rattle.jc_world.specs.declared.event.Progress.{Progress}
-use Rattle.jc_world.specs.declared.event.Premises.{Premises}
-use Rattle.jc_world.specs.declared.event.Shown.{Shown}
-use Rattle.jc_world.specs.declared.event.Outcome.{Outcome}
-use Rattle.jc_world.specs.declared.event.Outcome.TheVariants as outcome
-use Rattle.jc_world.specs.Calls.{CallState, SweepState, has_number, open_keys, op_at, op_for, is_turn, settle, going_on, with_found, with_met, replaced}
-use Rattle.jc_world.specs.declared.event.WorldEvent.{WorldEvent}
-use Rattle.jc_world.specs.declared.event.WorldEvent.TheVariants as event
-use Rattle.jc_world.specs.World.{WorldState, Parts, home, stripe_for, open_call, part_of, Joins, is_joined, join_of, out_of, with_stored}
-use Rattle.jc_world.specs.Fits.{is_free, may_leave, fits}
-use Rattle.jc_world.specs.Events.{fault_in, with_met_by, with_stripe, with_phase, with_settled, without_call, with_look, new_load, new_write, new_part, with_part, without_part, with_join, without_join, step_of, Starts, Ends, Picks, Happens, new_process}
-use Rattle.jc_world.specs.Audit.{cache_in, cache_at, IsOrder, HasShares}
-use Rattle.jc_world.specs.Sound.{IsStripe, is_up_to, has_answer, has_parked_answer, is_served_in, is_served, FitsKey, FitsCall, CallsFit, IsCallOf, IsHeld, IsOwned, AllOwned, IsCalled, IsSoundWorld, Each}
-use Rattle.jc_world.proofs.Halves.{HasOrder, order_half, order_half}
+use Rattle.jc_world.proofs.Halves.{HasOrder, order_half}
 use Rattle.jc_world.proofs.Returns.{IsReport}
 use Rattle.jc_world.proofs.Places.{at_stripe, stripe_put}
 use Rattle.jc_world.proofs.Reservations.{out_reserved, was_free, writer_alone}
@@ -67,9 +16,10 @@ use Rattle.jc_world.proofs.Looked.{Taken, taken_of, taken_met, taken_on, calls_r
 use Rattle.jc_world.proofs.Settling.{open_now, Left, done_for, IsTurnOf, still_called, calls_settled}
 use Rattle.jc_world.proofs.LoadKeys.{key_of_load, each_fits}
 use Rattle.jc_world.proofs.Joiners.{joiner_of, unanswered, told_resolved, told_waiting, told_dissolved, told_pushed, find_kept, each_own, each_caller, each_both, join_at, joined_no_part}
-use Rattle.jc_world.proofs.Beginning.{unless, fits_left, fits_same, fits_taken, calls_same, order_stored, owned_part, order_parted, order_called, MayStart, may_start_at, may_turn, part_turn, not_own, apart_or, unserved, begins_with}
+use Rattle.jc_world.proofs.Beginning.{unless, fits_left, fits_same, fits_taken, calls_same, order_stored, owned_part, order_parted, order_called, MayStart, may_start_at, may_turn, part_turn, not_own, apart_or, unserved, begins_with, order_beside}
 use Rattle.jc_world.proofs.Facts.{same_found}
 use Rattle.jc_world.proofs.Entries.{tied}
+use Rattle.jc_world.proofs.KeyChanges.{KeyChange, by_answer, by_commit, by_join, by_nothing, by_refusal, by_reservation, by_retry, by_step, by_withdrawal, key_change, may_of}
 
 -- 1. A key that is settled.
 
@@ -88,39 +38,27 @@ call_kept w call key met r other turn h = still_called call key met r.caller.cal
 -- a first phase was refused, and the key has its last refusal
 order_refused : (w : WorldState) (u : CallState) (key : Bytes) (op : Op) (met : Option Refusal) → MayStart w u key op → IsSoundWorld w → HasOrder (with_settled w u.caller.call key met)
 order_refused w u key op met may old =
-    let new : WorldState = with_settled w u.caller.call key met in
-    record {
-      shape = shape_same w new refl refl refl old.shape;
-      order = old.order;
-      numbers = old.numbers;
-      calls = calls_settled w new u.caller.call key met (IsFound w) w.calls (λ x v left found h. fits_left w new u.caller.call key x v left refl refl (λ q o is k. k) h) (each_found w w.calls old.calls) old.calls;
-      owned = λ n s here. each_map (IsOwned w) (IsOwned new) s.reservations
-          (λ r h. record { part = h.part; call = call_kept w u.caller.call key met r (not_own w u.caller.call key r may.none h) (may_turn w u key op may) h })
-          (old.owned n s here);
-    }
+    let call = u.caller.call in
+    let new : WorldState = with_settled w call key met in
+    order_beside w (settle call key met w.calls) w.parts w.store w.premises
+    (calls_settled w new call key met (IsFound w) w.calls (λ x v left found h. fits_left w new call key x v left refl refl (λ q o is k. k) h) (each_found w w.calls old.calls) old.calls)
+    (λ r h. record { part = h.part; call = call_kept w call key met r (not_own w call key r may.none h) (may_turn w u key op may) h }) old
 
 -- a call leaves: no reservation is of it
 order_over : (w : WorldState) (call : ℕ) (u : CallState) → list_all (is_free w call) (open_keys u) ≡ true → open_call w call ≡ Some u → IsSoundWorld w → HasOrder (without_call w call)
 order_over w call u free is old =
     let new : WorldState = without_call w call in
-    record {
-      shape = shape_same w new refl refl refl old.shape;
-      order = old.order;
-      numbers = old.numbers;
-      calls = calls_filter w new (is_other call) (IsFound w) w.calls (λ v other found h. fits_same w new v refl refl (λ q o is k. k) h) (each_found w w.calls old.calls) old.calls;
-      owned = λ n s here. each_map (IsOwned w) (IsOwned new) s.reservations
-          (λ r h.
-          let P : Option CallState → Type 0 = λ o. IsSomeAnd o (IsCallOf r.caller.session r.key r.op) in
-          let v = some_of (open_call w r.caller.call) (IsCallOf r.caller.session r.key r.op) h.call in
-          let apart = false_from_ne_true (call == r.caller.call) (λ e.
-          let mine : r.caller.call ≡ call = sym (eqb-true call r.caller.call e) in
-          let same : v.0 ≡ u = same_found (open_call w call) v.0 u (ap (open_call w) (sym mine) ∙ v.1) is in
-          let one = open_now (is_free w call) u r.key r.op (ap (λ (x : CallState). op_at x r.key) (sym same) ∙ v.2.1) free in
-          not_own w call r.key r (and_parts (is_none (part_of w call r.key)) (not (is_joined w call r.key)) one).0 h mine refl)
-          in
-          record { part = h.part; call = subst P (sym (find_over call r.caller.call w.calls apart)) h.call })
-          (old.owned n s here);
-    }
+    order_beside w (drop_call call w.calls) w.parts w.store w.premises
+    (calls_filter w new (is_other call) (IsFound w) w.calls (λ v other found h. fits_same w new v refl refl (λ q o is k. k) h) (each_found w w.calls old.calls) old.calls)
+    (λ r h.
+    let v = some_of (open_call w r.caller.call) (IsCallOf r.caller.session r.key r.op) h.call in
+    let apart = false_from_ne_true (call == r.caller.call) (λ e.
+    let mine : r.caller.call ≡ call = sym (eqb-true call r.caller.call e) in
+    let same : v.0 ≡ u = same_found (open_call w call) v.0 u (ap (open_call w) (sym mine) ∙ v.1) is in
+    let one = open_now (is_free w call) u r.key r.op (ap (λ (x : CallState). op_at x r.key) (sym same) ∙ v.2.1) free in
+    not_own w call r.key r (and_parts (is_none (part_of w call r.key)) (not (is_joined w call r.key)) one).0 h mine refl)
+    in
+    record { part = h.part; call = rw (find_over call r.caller.call w.calls apart) h.call }) old
 
 -- 2. A step.
 
@@ -210,8 +148,7 @@ order_stepped w key from to call met parts old there g reached put keeps owned =
       order = added_order w.order from to g reached old.order
           (by_map put_of (λ who k. may_come_all w.order who k ≡ true) g.more
           (λ who k p.
-          let F : Caller → Type 0 = λ c. FitsKey w c k p.op in
-          (subst F (put_caller w new call key who k p) ((fit who k p).keys k p.op (done_for p.v k p.op p.op_is))).comes p.unserved) put);
+          (rw (put_caller w new call key who k p) at ((fit who k p).keys k p.op (done_for p.v k p.op p.op_is))).comes p.unserved) put);
       numbers = numbers_added w.last w.order from to g old.numbers
           (by_map put_of (λ who k. is_up_to w.last who.call ≡ true) g.more (λ who k p. ap (is_up_to w.last) (sym (found_number who.call w.calls p.v p.here)) ∙ (fit who k p).number) put);
       calls = calls_settled w new call key met (IsFound w) w.calls
@@ -219,9 +156,8 @@ order_stepped w key from to call met parts old there g reached put keeps owned =
           record {
             number = ap (λ (c : Caller). is_up_to w.last c.call) left.caller_is ∙ h.number;
             keys = λ q op is.
-                let F : Caller → Type 0 = λ c. FitsKey new c q op in
                 let k = h.keys q op (left.was q op is) in
-                subst F (sym left.caller_is)
+                rw left.caller_is
                 (record {
                   comes = λ e. comes_added w.order from to u.caller q g (k.comes (unless (is_served w u.caller q) (is_served new u.caller q) (served_set w key from to there keeps u.caller q) e))
                       (by_map put_of (λ who x. comes_behind who x u.caller q ≡ true) g.more (λ who x p. put_behind w new call key u v q op who x old.calls found left is e p) put);
@@ -238,14 +174,14 @@ same_told : (from to : State) → to.joiners ≡ from.joiners → KeepsParked fr
 same_told from to same caller key h = ap (λ js. has_parked_answer (joiner_of caller key js)) same ∙ h
 
 -- the key is settled, with its step
-order_done : StaysReached → (w : WorldState) (u : CallState) (key : Bytes) (op : Op) (met : Option Refusal) (from to : State) (done : StepDone) → stripe_for w key ≡ Some from → Begins from u.caller key op (begun.Done done) to
+order_done : StaysReached → (w : WorldState) (u : CallState) (key : Bytes) (op : Op) (met : Option Refusal) (from to : State) (done : StepDone) → stripe_for w key ≡ Some from → Begins from u.caller key op (Begun.Done done) to
     → MayStart w u key op → IsSoundWorld w → HasOrder (with_settled (with_phase w key from to) u.caller.call key met)
 unfolding goes
 order_done stays w u key op met from to done there begins may old =
     let call = u.caller.call in
     let new : WorldState = with_settled (with_phase w key from to) call key met in
     let at = old.shape.each (home w key) from there in
-    let reached = stays.begins from to u.caller key op (begun.Done done) at.reached (begins_with w u key op from old there may) begins in
+    let reached = stays.begins from to u.caller key op (Begun.Done done) at.reached (begins_with w u key op from old there may) begins in
     let g = goes from from to u.caller key op nothing_said [] done (record { config = refl; stripe = refl; origin = refl; opening = refl }) refl begins.2 in
     let one : IsPut w new call key u.caller key = record { v = u; here = may.here; session_is = refl; op = op; op_is = may.op_is; unserved = unserved w u.caller key may.alone old; over = inl (refl, refl) } in
     let kept : (rs : List Reservation) → AllOwned w rs → AllOwned new rs = λ rs. each_map (IsOwned w) (IsOwned new) rs (λ r h. record { part = h.part; call = call_kept w call key met r (not_own w call key r may.none h) (may_turn w u key op may) h }) in
@@ -329,50 +265,13 @@ order_joins w key from to join there is reached old =
     order_aside w key from to new.joins there (ap (λ (s : State). s.config) is) (ap (λ (s : State). s.stripe) is) (ap (λ (s : State). s.origin) is) (ap (λ (s : State). s.history) is) (ap (λ (s : State). s.reservations) is) reached
     (calls_same w new w.calls refl refl (served_set w key from to there keeps) old.calls) old
 
--- 5. The first phase.
-
--- by what is shown of the first phase
-starts : StaysReached → (w new : WorldState) (u : CallState) (key : Bytes) (op : Op) (from to : State) (seen : Outcome) → stripe_for w key ≡ Some from → Starts w u.caller key op from to seen new → MayStart w u key op → IsSoundWorld w → HasOrder new
-starts stays w new u key op from to (outcome.Refused refusal) there h may old = subst HasOrder (sym h.1) (order_refused w u key op (Some refusal) may old)
-starts stays w new u key op from to (outcome.PutOff refusal) there h may old = subst HasOrder (sym h.1) (order_half w old)
-starts stays w new u key op from to (outcome.Stepped seen) there h may old = subst HasOrder (sym h.2) (order_done stays w u key op (fault_in seen.reply) from to (step_of seen) there h.0 may old)
-starts stays w new u key op from to outcome.Loads there h may old =
-    let at = old.shape.each (home w key) from there in
-    let reached = stays.begins from to u.caller key op (begun.Load h.0) at.reached (begins_with w u key op from old there may) h.1 in
-    let free = was_free from u.caller key op Loader h.1.0 h.1.1 h.1.2 refl in
-    subst HasOrder (sym h.2)
-    (order_reserved w u key op from to new_load h.0.reservation there free (ap (λ (t : Ticket). t.reservation.caller) h.1.3) (ap (λ (t : Ticket). t.reservation.key) h.1.3) (ap (λ (t : Ticket). t.reservation.op) h.1.3) h.1.4 reached may old)
-starts stays w new u key op from to (outcome.Asks change) there h may old =
-    let at = old.shape.each (home w key) from there in
-    let reached = stays.begins from to u.caller key op (begun.Write h.0) at.reached (begins_with w u key op from old there may) h.1 in
-    let free = was_free from u.caller key op h.0.reservation.first h.1.0 (writer_alone from key op h.0.reservation.first h.1.1 h.1.2) h.1.1 (ap reserves h.2) in
-    subst HasOrder (sym h.3)
-    (order_reserved w u key op from to new_write h.0.reservation there free (ap (λ (t : Ticket). t.reservation.caller) h.1.3) (ap (λ (t : Ticket). t.reservation.key) h.1.3) (ap (λ (t : Ticket). t.reservation.op) h.1.3) h.1.4 reached may old)
-starts stays w new u key op from to (outcome.Processes entry) there h may old =
-    let at = old.shape.each (home w key) from there in
-    let reached = stays.begins from to u.caller key op (begun.Process h.0) at.reached (begins_with w u key op from old there may) h.1 in
-    let free = processor_free from to u.caller key op h.0 h.1 in
-    subst HasOrder (sym h.3)
-    (order_reserved w u key op from to new_process h.0.reservation there free (ap (λ (t : ProcessClaim). t.reservation.caller) h.1.3) (ap (λ (t : ProcessClaim). t.reservation.key) h.1.3) (ap (λ (t : ProcessClaim). t.reservation.op) h.1.3) h.1.4 reached may old)
-starts stays w new u key op from to outcome.Joins there h may old =
-    let at = old.shape.each (home w key) from there in
-    let reached = stays.begins from to u.caller key op (begun.Joined h.0) at.reached (begins_with w u key op from old there may) h.1 in
-    subst HasOrder (sym h.2) (order_joins w key from to h.0 there h.1.3 reached old)
-starts stays w new u key op from to seen there h may old = absurd h
-
--- a first phase
-pub order_started : StaysReached → (w new : WorldState) (call : ℕ) (key : Bytes) (u : CallState) (op : Op) (from to : State) (seen : Outcome) → fits w (event.Start call key) ≡ true → open_call w call ≡ Some u → op_at u key ≡ Some op → stripe_for w key ≡ Some from
-    → Starts w u.caller key op from to seen new → IsSoundWorld w → HasOrder new
-order_started stays w new call key u op from to seen fit is op_is there h old = starts stays w new u key op from to seen there h (may_start_at w call key u op fit is op_is old) old
-
--- 6. The last phase.
+-- 5. The last phase.
 
 -- another key's reservation keeps its part
 part_kept : (w : WorldState) (key : Bytes) (r : Reservation) → is_key key r ≡ false → IsOwned w r → IsSomeAnd (get (remove w.parts key) r.key) (λ p. p.reservation.caller.call ≡ r.caller.call)
 part_kept w key r apart h =
-    let P : Option Part → Type 0 = λ o. IsSomeAnd o (λ p. p.reservation.caller.call ≡ r.caller.call) in
     let other : eq_by_cmp key_cmp r.key key ≡ false = (eq_by_cmp_equiv nat_list_cmp_total).symm r.key key ∙ sym (texts_ties key r.key) ∙ apart in
-    subst P (sym (get-remove nat_list_cmp_total w.parts key r.key ∙ ap (λ b. cond b None (get w.parts r.key)) other)) h.part
+    rw (get-remove nat_list_cmp_total w.parts key r.key ∙ ap (λ b. cond b None (get w.parts r.key)) other) h.part
 
 -- the reservations of another stripe are of other keys
 other_stripe : (w : WorldState) (key : Bytes) (n : ℕ) (s : State) (rs : List Reservation) → IsStripe w n s → (home w key ≡ n → ⊥) → list_all (λ r. is_of s r.key) rs ≡ true → list_all (λ r. not (is_key key r)) rs ≡ true
@@ -404,13 +303,13 @@ pub record Ending (w : WorldState) (call : ℕ) (key : Bytes) (met : Option Refu
   pub left : to.reservations ≡ without_key key from.reservations
 
 -- each joiner that waits for the load gets its answer
-caller_put : (w : WorldState) (key : Bytes) (from to : State) (met : Option Refusal) (call load place : ℕ) (j : Joiner) (k : Bytes) → stripe_for w key ≡ Some from → to.joiners ≡ resolved load place from.joiners
+caller_put : (w : WorldState) (key : Bytes) (from to : State) (met : Option Refusal) (call load place : ℕ) (j : Joiner) (k : Bytes) → stripe_for w key ≡ Some from → to.joiners ≡ after_resolve load place from.joiners
     → joiner_of j.caller j.key from.joiners ≡ Some j → IsCalled w (home w key) j → j.key ≡ k → waits_for load j ≡ true → IsPut w (ended_world w key from to call met) call key j.caller k
 caller_put w key from to met call load place j k there joiners own h key_is waits =
     let n = ended_world w key from to call met in
     let v = some_of (open_call w j.caller.call) (IsCallOf j.caller.session j.key Get) h.call in
     let before : is_served w j.caller j.key ≡ has_parked_answer (Some j) = ap (λ o. is_served_in o j.caller j.key) (ap (slice_get w.stripes) h.home_is ∙ there) ∙ ap has_parked_answer own in
-    let after : is_served n j.caller j.key ≡ has_parked_answer (joiner_of j.caller j.key (resolved load place from.joiners)) =
+    let after : is_served n j.caller j.key ≡ has_parked_answer (joiner_of j.caller j.key (after_resolve load place from.joiners)) =
     ap (λ o. is_served_in o j.caller j.key) (ap (slice_get n.stripes) h.home_is ∙ stripe_put w.stripes (home w key) from to there) ∙ ap (λ js. has_parked_answer (joiner_of j.caller j.key js)) joiners
     in
     record {
@@ -436,7 +335,7 @@ ending w call key met part from to done is part_call r_key there out steps owned
     let n = ended_world w key from to call met in
     let alone : is_joined w r.caller.call r.key ≡ false = (λ i. is_joined w (part_call i) (r_key i)) ∙ false_from_ne_true (is_joined w call key) (λ t. let e : Some part ≡ None = sym is ∙ joined_no_part w call key t old.joins in cc) in
     let one : IsPut w n call key r.caller r.key = record { v = u.0; here = u.1; session_is = u.2.0; op = r.op; op_is = u.2.1; unserved = unserved w r.caller r.key alone old; over = inl (part_call, r_key) } in
-    let joiners : to.joiners ≡ resolved r.number done.place from.joiners = ap (λ (s : State). s.joiners) steps.after in
+    let joiners : to.joiners ≡ after_resolve r.number done.place from.joiners = ap (λ (s : State). s.joiners) steps.after in
     let at = old.shape.each (home w key) from there in
     let P : Caller → Type 0 = λ c. IsPut w n call key c r.key in
     let J : Joiner → Type 0 = λ j. JoinFits from j j.state × IsCalled w (home w key) j in
@@ -473,17 +372,7 @@ order_commit w call key met from to old there turn e reached =
       call = call_kept w call key met r (λ mine at. let t : true ≡ false = sym (ap (pointwise ◌==◌ key) at ∙ nat_list_eq_equiv.refl key) ∙ apart in cc) turn h;
     }) old)
 
--- by what is shown of the last phase
-pub order_ended : StaysReached → (w new : WorldState) (call : ℕ) (key : Bytes) (part : Part) (from to : State) (seen : Outcome) → part_of w call key ≡ Some part → stripe_for w key ≡ Some from → Ends w call key part from to seen new → IsSoundWorld w → HasOrder new
-order_ended stays w new call key part from to (outcome.Stepped seen) is there h old =
-    let at = old.shape.each (home w key) from there in
-    let e = ending_at w call key (fault_in seen.reply) part from to (step_of seen) is there h.0 old in
-    let reached = stays.commits from to part.reservation (out_of part) (step_of seen) at.reached h.0 in
-    let mine = of_call-at call (get w.parts key) part is in
-    subst HasOrder (sym h.2) (order_commit w call key (fault_in seen.reply) from to old there (part_turn w call key part mine.0 mine.1 old) e reached)
-order_ended stays w new call key part from to seen is there h old = absurd h
-
--- 7. A reservation is given back, and an answer picked up.
+-- 6. A reservation is given back, and an answer picked up.
 
 -- a reservation is given back
 pub order_withdrawn : StaysReached → (w : WorldState) (key : Bytes) (claim : Reservation) (from to : State) → claim.key ≡ key → stripe_for w key ≡ Some from → Withdraws from claim to → IsSoundWorld w → HasOrder (without_part (with_stripe w key to) key)
@@ -506,8 +395,8 @@ order_withdrawn stays w key claim from to key_is there h old =
 -- what is parked for another call, or at another key, stays if one has its answer
 told_without : (one other : Caller) (key k : Bytes) (js : List Joiner) → (other.call ≡ one.call → k ≡ key → ⊥) → has_parked_answer (joiner_of other k js) ≡ true → has_parked_answer (joiner_of other k (without one key js)) ≡ true
 told_without one other key k js apart h =
-    ap has_parked_answer (find_kept (is_joiner_of other k) (λ j. not (is_joiner_of one key j)) js (λ x t.
-    ap not (false_from_ne_true (is_joiner_of one key x) (λ e.
+    ap has_parked_answer (find_kept (belongs_to other k) (λ j. not (belongs_to one key j)) js (λ x t.
+    ap not (false_from_ne_true (belongs_to one key x) (λ e.
     let mine = and_parts ((x.caller.session == other.session) && (x.caller.call == other.call)) (pointwise ◌==◌ k x.key) t in
     let its = and_parts ((x.caller.session == one.session) && (x.caller.call == one.call)) (pointwise ◌==◌ key x.key) e in
     let my_call : x.caller.call ≡ other.call = eqb-true x.caller.call other.call (and_parts (x.caller.session == other.session) (x.caller.call == other.call) mine.0).1 in
@@ -587,12 +476,11 @@ again_untold (Some j) h = go j.state (same_some j.state Again h)
     same_some x y e = cc
 
     go : (s : JoinState) → s ≡ Again → has_answer s ≡ false
-    go Waiting h = refl
     go (Answered place shared) h = cc
-    go Again h = refl
+    go s h = refl
 
 -- a call is told to retry
-order_again : StaysReached → (w : WorldState) (call : ℕ) (key : Bytes) (join : JoinClaim) (from to : State) → join_of w call key ≡ Some join → stripe_for w key ≡ Some from → PicksUp from join picked.Again to → IsSoundWorld w
+order_again : StaysReached → (w : WorldState) (call : ℕ) (key : Bytes) (join : JoinClaim) (from to : State) → join_of w call key ≡ Some join → stripe_for w key ≡ Some from → PicksUp from join Picked.Again to → IsSoundWorld w
     → HasOrder (without_join (with_stripe w key to) call key)
 order_again stays w call key join from to joined there picks old =
     let new : WorldState = without_join (with_stripe w key to) call key in
@@ -613,16 +501,8 @@ order_again stays w call key join from to joined there picks old =
     let t : true ≡ false = sym h ∙ (λ i. is_served w (same i).caller (at i)) ∙ untold in cc) h
     in
     order_aside w key from to new.joins there (ap (λ (s : State). s.config) is) (ap (λ (s : State). s.stripe) is) (ap (λ (s : State). s.origin) is) (ap (λ (s : State). s.history) is) (ap (λ (s : State). s.reservations) is)
-    (stays.picks_up from to join picked.Again at.reached picks)
+    (stays.picks_up from to join Picked.Again at.reached picks)
     (calls_on w new (IsFound w) w.calls (λ v found h. fits_same w new v refl refl (served v found) h) (each_found w w.calls old.calls) old.calls) old
-
--- by what is shown of it
-pub order_picks : StaysReached → (w new : WorldState) (call : ℕ) (key : Bytes) (join : JoinClaim) (from to : State) (seen : Outcome) → join_of w call key ≡ Some join → stripe_for w key ≡ Some from → Picks w call key join from to seen new → IsSoundWorld w → HasOrder new
-order_picks stays w new call key join from to (outcome.PickedUp seen) joined there h old =
-    subst HasOrder (sym h.2) (order_picked stays w call key (fault_in seen.reply) join from to (picked.Answer seen.reply seen.place seen.shared) joined there h.0 h.0.3 old)
-order_picks stays w new call key join from to outcome.Again joined there h old = subst HasOrder (sym h.1) (order_again stays w call key join from to joined there h.0 old)
-order_picks stays w new call key join from to outcome.Waits joined there h old = subst HasOrder (sym h.1) (order_half w old)
-order_picks stays w new call key join from to seen joined there h old = absurd h
 
 -- a call leaves
 pub order_left : (w : WorldState) (call : ℕ) → may_leave w call (open_call w call) ≡ true → IsSoundWorld w → HasOrder (without_call w call)
@@ -644,17 +524,11 @@ order_taken : (w : WorldState) (call : ℕ) (left : CallState → Option CallSta
     → IsSoundWorld w → HasOrder (record w { calls = replaced call left w.calls })
 order_taken w call left u here taken called old =
     let new : WorldState = record w { calls = replaced call left w.calls } in
-    record {
-      shape = shape_same w new refl refl refl old.shape;
-      order = old.order;
-      numbers = old.numbers;
-      calls = calls_replaced w new call left u w.calls here (λ v goes. (taken v goes).caller_is)
-          (λ x h. fits_same w new x refl refl (λ q op is k. k) h)
-          (λ v goes h. fits_taken w new u v (taken v goes) refl refl (λ q op is k. k) h) old.calls;
-      owned = λ n s here_s. each_map (IsOwned w) (IsOwned new) s.reservations
-          (λ r h. record { part = h.part; call = called r.caller.call r.caller.session r.key r.op h.call })
-          (old.owned n s here_s);
-    }
+    order_beside w (replaced call left w.calls) w.parts w.store w.premises
+    (calls_replaced w new call left u w.calls here (λ v goes. (taken v goes).caller_is)
+    (λ x h. fits_same w new x refl refl (λ q op is k. k) h)
+    (λ v goes h. fits_taken w new u v (taken v goes) refl refl (λ q op is k. k) h) old.calls)
+    (λ r h. record { part = h.part; call = called r.caller.call r.caller.session r.key r.op h.call }) old
 
 order_looked : (w : WorldState) (call stripe : ℕ) (keys : List Bytes) (s : SweepState) (u : CallState) → open_call w call ≡ Some u → u.sweep ≡ Some s → IsSoundWorld w → HasOrder (with_look w call stripe keys s)
 order_looked w call stripe keys s u here sweeps old =
@@ -669,7 +543,7 @@ met_called w call met u here number session q op h = still_replaced call (λ x. 
 pub order_met : (w : WorldState) (call : ℕ) (met : Option Refusal) (u : CallState) → open_call w call ≡ Some u → IsSoundWorld w → HasOrder (with_met_by w call met)
 order_met w call met u here old = order_taken w call (λ x. Some (with_met met x)) u here (λ v goes. taken_met met u v goes) (met_called w call met u here) old
 
--- 8. An event that fits.
+-- 7. An event that fits.
 
 -- a call's part stays
 pub order_part : (w : WorldState) (call : ℕ) (key : Bytes) (old part : Part) (premises : Premises) (store : Cache) → part_of w call key ≡ Some old → part.reservation.caller.call ≡ old.reservation.caller.call → IsSoundWorld w
@@ -680,27 +554,49 @@ order_part w call key old part premises store is same was = order_parted w key o
 pub part_key : (w : WorldState) (call : ℕ) (key : Bytes) (part : Part) → part_of w call key ≡ Some part → IsSoundWorld w → part.reservation.key ≡ key
 part_key w call key part is old = (some_of (stripe_for w key) (λ s. IsHeld s key part) (old.held key part (of_call-at call (get w.parts key) part is).0)).2.key_is
 
+-- by the kind of the change at a key
+order_key : StaysReached → (w new : WorldState) (e : WorldEvent) (key : Bytes) (seen : Shown) → KeyChange w new e key seen → fits w e ≡ true → IsSoundWorld w → HasOrder new
+order_key stays w new e key seen (by_nothing is none ends) fit old = subst HasOrder (sym is) (order_half w old)
+order_key stays w new e key seen (by_refusal u op refusal start is none ends) fit old = subst HasOrder (sym is) (order_refused w u key op (Some refusal) (may_of w e key u op start fit old) old)
+order_key stays w new e key seen (by_step u op from to x start there h home_is is shows ends) fit old =
+    subst HasOrder (sym is) (order_done stays w u key op (fault_in x.reply) from to (step_of x) there h (may_of w e key u op start fit old) old)
+order_key stays w new e key seen (by_reservation u op from to p r start there h is none ends) fit old =
+    let may = may_of w e key u op start fit old in
+    let reached = stays.begins from to u.caller key op h.b (old.shape.each (home w key) from there).reached (begins_with w u key op from old there may) h.begins in
+    subst HasOrder (sym is)
+    (order_reserved w u key op from to p r there h.free (ap (λ (x : Reservation). x.caller) h.is) (ap (λ (x : Reservation). x.key) h.is) (ap (λ (x : Reservation). x.op) h.is) h.after reached may old)
+order_key stays w new e key seen (by_join u op from to join start there h is none ends) fit old =
+    let may = may_of w e key u op start fit old in
+    let reached = stays.begins from to u.caller key op (Begun.Joined join) (old.shape.each (home w key) from there).reached (begins_with w u key op from old there may) h in
+    subst HasOrder (sym is) (order_joins w key from to join there h.3 reached old)
+order_key stays w new e key seen (by_commit call part from to x e_is part_is there h home_is is shows) fit old =
+    let end = ending_at w call key (fault_in x.reply) part from to (step_of x) part_is there h old in
+    let reached = stays.commits from to part.reservation (out_of part) (step_of x) (old.shape.each (home w key) from there).reached h in
+    let mine = of_call-at call (get w.parts key) part part_is in
+    subst HasOrder (sym is) (order_commit w call key (fault_in x.reply) from to old there (part_turn w call key part mine.0 mine.1 old) end reached)
+order_key stays w new e key seen (by_withdrawal call part from to e_is part_is there h is shows) fit old = subst HasOrder (sym is) (order_withdrawn stays w key part.reservation from to (part_key w call key part part_is old) there h old)
+order_key stays w new e key seen (by_answer call join from to x e_is join_is there h home_is is shows ends) fit old =
+    subst HasOrder (sym is) (order_picked stays w call key (fault_in x.reply) join from to (Picked.Answer x.reply x.place x.shared) join_is there h h.3 old)
+order_key stays w new e key seen (by_retry call join from to e_is join_is there h is shows ends) fit old = subst HasOrder (sym is) (order_again stays w call key join from to join_is there h old)
+
 -- by the kind of the event
 pub order_happens : StaysReached → (w new : WorldState) (e : WorldEvent) (seen : Shown) → fits w e ≡ true → Happens w e seen new → (IsReport e → IsSoundWorld new) → IsSoundWorld w → HasOrder new
-order_happens stays w new (event.Call call session command) seen fit h back old = subst HasOrder (sym h.1) (order_called w call session command fit old)
-order_happens stays w new (event.Look call stripe) seen fit h back old = subst HasOrder (sym h.9) (order_looked w call stripe h.6 h.1 h.0 h.2 h.3 old)
-order_happens stays w new (event.Start call key) seen fit h back old = order_started stays w new call key h.0 h.1 h.4 h.6 seen.outcome fit h.2 h.3 h.5 h.7 old
-order_happens stays w new (event.Read call key) seen fit h back old = subst HasOrder (sym h.3) (order_part w call key h.0 _ _ w.store h.1 refl old)
-order_happens stays w new (event.Say call key answer) seen fit h back old = subst HasOrder (sym h.3) (order_part w call key h.0 _ _ w.store h.1 refl old)
-order_happens stays w new (event.Process call key source calls fail) seen fit h back old = subst HasOrder (sym h.3) (order_part w call key h.0 _ _ w.store h.1 refl old)
-order_happens stays w new (event.Change call key) seen fit h back old = subst HasOrder (sym h.5) (order_part w call key h.0 _ w.premises _ h.2 refl old)
-order_happens stays w new (event.Report call left fault) seen fit h back old = order_half new (back tt)
-order_happens stays w new (event.Commit call key) seen fit h back old = order_ended stays w new call key h.0 h.2 h.4 seen.outcome h.1 h.3 h.5 old
-order_happens stays w new (event.Withdraw call key) seen fit h back old = subst HasOrder (sym h.7) (order_withdrawn stays w key h.0.reservation h.2 h.4 (part_key w call key h.0 h.1 old) h.3 h.5 old)
-order_happens stays w new (event.Leave call) seen fit h back old = subst HasOrder (sym h.1) (order_left w call fit old)
-order_happens stays w new (event.PickUp call key) seen fit h back old = order_picks stays w new call key h.0 h.2 h.4 seen.outcome h.1 h.3 h.5 old
-order_happens stays w new (event.Foreign key value) seen fit h back old = subst HasOrder (sym h.1) (order_stored w _ _ old)
+order_happens stays w new (WorldEvent.Call call session command) seen fit h back old = subst HasOrder (sym h.1) (order_called w call session command fit old)
+order_happens stays w new (WorldEvent.Look call stripe) seen fit h back old = subst HasOrder (sym h.9) (order_looked w call stripe h.6 h.1 h.0 h.2 h.3 old)
+order_happens stays w new (WorldEvent.Read call key) seen fit h back old = subst HasOrder (sym h.3) (order_part w call key h.0 _ _ w.store h.1 refl old)
+order_happens stays w new (WorldEvent.Say call key answer) seen fit h back old = subst HasOrder (sym h.3) (order_part w call key h.0 _ _ w.store h.1 refl old)
+order_happens stays w new (WorldEvent.Process call key source calls fail) seen fit h back old = subst HasOrder (sym h.3) (order_part w call key h.0 _ _ w.store h.1 refl old)
+order_happens stays w new (WorldEvent.Change call key) seen fit h back old = subst HasOrder (sym h.5) (order_part w call key h.0 _ w.premises _ h.2 refl old)
+order_happens stays w new (WorldEvent.Report call left fault) seen fit h back old = order_half new (back tt)
+order_happens stays w new (WorldEvent.Leave call) seen fit h back old = subst HasOrder (sym h.1) (order_left w call fit old)
+order_happens stays w new (WorldEvent.Foreign key value) seen fit h back old = subst HasOrder (sym h.1) (order_stored w _ _ old)
+order_happens stays w new e seen fit h back old = let k = key_change w new e seen refl h in order_key stays w new e k.0 seen k.1 fit old
 
 -- an entry that the store has from the start
 pub order_opened : (w : WorldState) (key value : Bytes) → IsSoundWorld w → HasOrder (with_stored w key value)
 order_opened w key value old = order_stored w (with_stored w key value).store w.premises old
 
--- 9. The whole history.
+-- 8. The whole history.
 
 -- there is something at each place
 there_is : {A : Type 0} (xs : List A) (n : ℕ) → n < length xs → (x : A) × (slice_get xs n ≡ Some x)
@@ -711,11 +607,7 @@ there_is (x ∷ xs) (suc n) h = there_is xs n (omega arith)
 -- a stripe's part of the order is a legal history
 history_of_stripe : (w : WorldState) (n : ℕ) (s : State) → slice_get w.stripes n ≡ Some s → IsStripe w n s → IsHistory w.config empty (of_stripe w.config.stripes n w.order) (cache_at w n)
 history_of_stripe w n s there at =
-    let A : Config → Type 0 = λ c. IsHistory c (from_entries s.opening) s.history s.cache in
-    let B : List (Bytes × Bytes) → Type 0 = λ o. IsHistory w.config (from_entries o) s.history s.cache in
-    let C : List Event → Type 0 = λ h. IsHistory w.config empty h s.cache in
-    let D : Option State → Type 0 = λ o. IsHistory w.config empty (of_stripe w.config.stripes n w.order) (cache_in o) in
-    subst D (sym there) (subst C (sym at.share) (subst B at.reached.opening (subst A at.config_is at.reached.legal)))
+    rw there (rw at.share (rw at.reached.opening at (rw at.config_is at at.reached.legal)))
 
 -- and so is the whole order
 pub order_is : (w : WorldState) → IsSoundWorld w → IsOrder w

@@ -4,42 +4,9 @@
 --     picked         one join less, once it has its answer
 --     never_waits    if no key is reserved, no joiner waits
 --     held_out, joins_out    what is out in a world that is sound
-use Rattle.std.proofs.Common.{inl, inr, ◌⊎◌, ◌≡◌, ◌==◌, ◌&&◌, ◌+◌, ℕ, List, [], ◌∷◌, length, Bool, true, false, cond, not, Option, None, Some, IsSomeAnd, is_some, option_map, slice_get, slice_set, get_or, ◌<◌, arith, refl, sym, ap, ◌∙◌, subst, find as find_in}
-use Rattle.std.specs.List.{list_all}
-use Rattle.std.specs.Ordering.{eq_by_cmp}
-use Rattle.std.specs.Cmp.{eq_by_cmp_equiv}
-use Rattle.std.specs.Cmp.Lexicographic.{pointwise, texts_ties}
-use Rattle.std.proofs.lemmas.Bool.{eqb-true, and_parts, and_from, not-true, false_from_ne_true}
-use Rattle.std.proofs.lemmas.Cmp.{nat_list_cmp_total}
-use Rattle.std.specs.FinMap.{get, remove, empty, get-remove, get-empty}
-use Rattle.jc_types.proofs.CallerLemmas.{all_filter, all_imply}
-use Rattle.jc_types.specs.declared.config.Config.{Config}
-use Rattle.jc_types.specs.Stripes.{stripe_of}
-use Rattle.jc_model.specs.declared.event.Out.{Out}
-use Rattle.jc_model.specs.Cache.{Bytes, key_cmp}
-use Rattle.jc_inflight.specs.declared.joiner.Joiner.{Joiner}
-use Rattle.jc_inflight.specs.declared.joiner.JoinState.TheVariants.{Waiting}
-use Rattle.jc_inflight.specs.Joining.{belongs_to as is_joiner_of}
-use Rattle.jc_stripe.specs.declared.begun.StepDone.{StepDone}
-use Rattle.jc_stripe.specs.declared.begun.Picked.{Picked}
-use Rattle.jc_stripe.specs.declared.begun.Picked.TheVariants as picked
-use Rattle.jc_stripe.specs.declared.ticket.Reservation.{Reservation}
-use Rattle.jc_stripe.specs.Tickets.{JoinClaim}
-use Rattle.jc_stripe.specs.State.{State, is_of, is_key, without_key, IsOut, IsJoined}
-use Rattle.jc_stripe.specs.Phases.{Commits, Withdraws, PicksUp, without_joiner}
-use Rattle.jc_stripe.specs.Reached.{JoinFits, AllJoin, IsReached}
-use Rattle.jc_stripe.specs.Laws.{StaysReached}
-use Rattle.jc_world.specs.declared.event.Part.{Part}
-use Rattle.jc_world.specs.World.{WorldState, Parts, JoinKey, Joins, join_key, stripe_for}
-use Rattle.jc_world.specs.Sound.{IsSoundWorld, IsHeld, IsOwned}
-use Rattle.jc_world.specs.Ending.{IsLeft, AreLeft, out_at, IsPartOut, HasHeld, IsJoinOut, HasJoins, NoneReserved}
-use Rattle.jc_world.proofs.Numbered.{within, at_index, some_of}
-use Rattle.jc_world.proofs.Places.{at_stripe}
-use Rattle.jc_world.proofs.Shares.{set_cases, length-slice_set, each_test}
-use Rattle.jc_world.proofs.Underway.{others_left, same_bytes}
+use Rattle.jc_world.proofs.Common.{◌≡◌, ℕ, ◌+◌, ◌<◌, Bool, true, false, cond, not, ◌&&◌, ◌⊎◌, List, [], ◌∷◌, length, get_or, is_some, IsSomeAnd, ◌==◌, slice_get, slice_set, Some, None, Option, option_map, find, sym, refl, ap, ◌∙◌, subst, inl, inr, arith, not-true, eqb-true, and_parts, and_from, false_from_ne_true, nat_list_cmp_total, eq_by_cmp_equiv, pointwise, texts_ties, empty, get, remove, get-empty, get-remove, list_all, eq_by_cmp, all_imply, all_filter, stripe_of, Config, Bytes, key_cmp, Out, belongs_to, Waiting, Joiner, StaysReached, Commits, Withdraws, without_joiner, PicksUp, JoinFits, AllJoin, IsReached, State, is_of, is_key, without_key, IsOut, IsJoined, JoinClaim, Picked, StepDone, Reservation, Part, IsLeft, AreLeft, out_at, IsPartOut, HasHeld, IsJoinOut, HasJoins, NoneReserved, IsHeld, IsOwned, IsSoundWorld, Parts, JoinKey, join_key, Joins, WorldState, stripe_for}
+use Rattle.jc_world.proofs.Lemmas.{set_cases, length-slice_set, each_test, others_left, same_bytes, find_kept, joined_resolved, joined_dissolved, at_stripe, found_left, some_of, within, at_index}
 use Rattle.jc_world.proofs.Maps.{joins_ordered, each_left}
-use Rattle.jc_world.proofs.Reservations.{found_left}
-use Rattle.jc_world.proofs.Joiners.{joiner_of, find_kept, joined_resolved, joined_dissolved}
 
 -- 1. A reservation that is over.
 
@@ -60,8 +27,7 @@ committed stays from to r out done reached h = record {
   origin_is = ap (λ (s : State). s.origin) h.1.after;
   left = ap (λ (s : State). s.reservations) h.1.after;
   joins = λ j t.
-      let J : List Joiner → Type 0 = λ js. IsSomeAnd (joiner_of j.caller j.key js) (λ x. x.load ≡ j.load) in
-      subst J (sym (ap (λ (s : State). s.joiners) h.1.after)) (joined_resolved (λ x. x.load ≡ j.load) r.number done.place (done.place + 1) j.caller j.key from.joiners (λ place x k. k) t);
+      rw (ap (λ (s : State). s.joiners) h.1.after) (joined_resolved (λ x. x.load ≡ j.load) r.number done.place (done.place + 1) j.caller j.key from.joiners (λ place x k. k) t);
   reached = stays.commits from to r out done reached h;
 }
 
@@ -73,8 +39,7 @@ given_back stays from to r reached h = record {
   origin_is = ap (λ (s : State). s.origin) h.1;
   left = ap (λ (s : State). s.reservations) h.1;
   joins = λ j t.
-      let J : List Joiner → Type 0 = λ js. IsSomeAnd (joiner_of j.caller j.key js) (λ x. x.load ≡ j.load) in
-      subst J (sym (ap (λ (s : State). s.joiners) h.1)) (joined_dissolved (λ x. x.load ≡ j.load) r.number j.caller j.key from.joiners (λ x k. k) t);
+      rw (ap (λ (s : State). s.joiners) h.1) (joined_dissolved (λ x. x.load ≡ j.load) r.number j.caller j.key from.joiners (λ x k. k) t);
   reached = stays.withdraws from to r reached h;
 }
 
@@ -111,8 +76,7 @@ still_out config ss n from to key q part at is apart =
     let F : State → Type 0 = λ s. (part.reservation.key ≡ q) × IsOut s part.reservation in
     at_stripe ss n (stripe_of q config.stripes) from to (λ o y. IsSomeAnd o F → IsSomeAnd y F) at
     (λ h.
-    let R : List Reservation → Type 0 = λ rs. find_in (is_key part.reservation.key) rs ≡ Some part.reservation in
-    (h.0, subst R (sym is.left) (found_left part.reservation.key key from.reservations (ap (λ k. eq_by_cmp key_cmp k key) h.0 ∙ apart) ∙ h.1)))
+    (h.0, rw is.left (found_left part.reservation.key key from.reservations (ap (λ k. eq_by_cmp key_cmp k key) h.0 ∙ apart) ∙ h.1)))
     (λ h. h)
 
 -- each reservation of another key is still held
@@ -170,36 +134,36 @@ none_reserved config ss parts none h = λ n s at. nothing s.reservations (h.back
 -- 2. A join that has its answer.
 
 -- if no key is reserved, no joiner waits
-never : (s : State) (p : Joiner → Bool) (js : List Joiner) → s.reservations ≡ [] → AllJoin s js → option_map (λ (j : Joiner). j.state) (find_in p js) ≡ Some Waiting → ⊥
+never : (s : State) (p : Joiner → Bool) (js : List Joiner) → s.reservations ≡ [] → AllJoin s js → option_map (λ (j : Joiner). j.state) (find p js) ≡ Some Waiting → ⊥
 never s p [] none fits h = cc
 never s p (x ∷ xs) none fits h =
-    elim (p x) as (λ b. option_map (λ (j : Joiner). j.state) (cond b (Some x) (find_in p xs)) ≡ Some Waiting → ⊥) [
+    elim (p x) as (λ b. option_map (λ (j : Joiner). j.state) (cond b (Some x) (find p xs)) ≡ Some Waiting → ⊥) [
       | true ↦ λ h.
           let is : x.state ≡ Waiting = cc in
           let finds : JoinFits s x Waiting = subst (JoinFits s x) is fits.0 in
-          let t : None ≡ Some x.load = ap (λ (rs : List Reservation). Rattle.jc_stripe.specs.Refusals.load_at (find_in (is_key x.key) rs)) (sym none) ∙ finds.load in cc
+          let t : None ≡ Some x.load = ap (λ (rs : List Reservation). Rattle.jc_stripe.specs.Refusals.load_at (find (is_key x.key) rs)) (sym none) ∙ finds.load in cc
       | false ↦ λ h. never s p xs none fits.1 h
     ] h
 
-pub never_waits : (s to : State) (join back : JoinClaim) → IsReached s → s.reservations ≡ [] → PicksUp s join (picked.NotYet back) to → ⊥
-never_waits s to join back reached none h = never s (is_joiner_of join.caller join.key) s.joiners none reached.joins h.1
+pub never_waits : (s to : State) (join back : JoinClaim) → IsReached s → s.reservations ≡ [] → PicksUp s join (Picked.NotYet back) to → ⊥
+never_waits s to join back reached none h = never s (belongs_to join.caller join.key) s.joiners none reached.joins h.1
 
 -- so a pick-up takes the joiner out
 pub picked_left : (from to : State) (join : JoinClaim) (p : Picked) → IsReached from → from.reservations ≡ [] → PicksUp from join p to → to ≡ without_joiner from join
-picked_left from to join (picked.Answer reply place shared_with) reached none h = h.3
-picked_left from to join picked.Again reached none h = h.2
-picked_left from to join (picked.NotYet back) reached none h = absurd (never_waits from to join back reached none h)
+picked_left from to join (Picked.Answer reply place shared_with) reached none h = h.3
+picked_left from to join Picked.Again reached none h = h.2
+picked_left from to join (Picked.NotYet back) reached none h = absurd (never_waits from to join back reached none h)
 
 -- a joiner of another call or key stays
 other_joined : (from : State) (join j : JoinClaim) → (join_key j ≡ join_key join → ⊥) → IsJoined from j → IsJoined (without_joiner from join) j
 other_joined from join j apart h =
     let J : Option Joiner → Type 0 = λ o. IsSomeAnd o (λ x. x.load ≡ j.load) in
-    subst J (sym (find_kept (is_joiner_of j.caller j.key) (λ x. not (is_joiner_of join.caller join.key x)) from.joiners (λ x t. ap not (false_from_ne_true (is_joiner_of join.caller join.key x) (λ e.
+    subst J (sym (find_kept (belongs_to j.caller j.key) (λ x. not (belongs_to join.caller join.key x)) from.joiners (λ x t. ap not (false_from_ne_true (belongs_to join.caller join.key x) (λ e.
     let mine = parts_of_test j x t in
     let same = parts_of_test join x e in
     apart (λ i. ((sym mine.0 ∙ same.0) i, (sym mine.1 ∙ same.1) i))))))) h
   where
-    parts_of_test : (j : JoinClaim) (x : Joiner) → is_joiner_of j.caller j.key x ≡ true → (x.caller.call ≡ j.caller.call) × (x.key ≡ j.key)
+    parts_of_test : (j : JoinClaim) (x : Joiner) → belongs_to j.caller j.key x ≡ true → (x.caller.call ≡ j.caller.call) × (x.key ≡ j.key)
     parts_of_test j x t =
         let parts = and_parts ((x.caller.session == j.caller.session) && (x.caller.call == j.caller.call)) (pointwise ◌==◌ j.key x.key) t in
         (eqb-true x.caller.call j.caller.call (and_parts (x.caller.session == j.caller.session) (x.caller.call == j.caller.call) parts.0).1, sym (same_bytes j.key x.key parts.1))

@@ -3,36 +3,10 @@
 --     due_run                    the progress of a key once its processor has run
 --     dues_reported              the writer has returned for a key
 --     dues_happens               any event that fits
-use Rattle.std.proofs.Common.{◌≡◌, ℕ, true, Option, None, Some, is_none, is_some, option_map, refl, sym, ap, ◌∙◌, subst}
-use Rattle.std.specs.FinMap.{get, insert, remove, get-empty}
-use Rattle.jc_types.specs.declared.caller.Caller.{Caller}
-use Rattle.jc_types.specs.declared.config.Config.{Config}
-use Rattle.jc_model.specs.declared.event.Op.{Op}
-use Rattle.jc_model.specs.declared.event.Change.{Change}
-use Rattle.jc_model.specs.declared.event.WriteAnswer.{WriteAnswer}
-use Rattle.jc_model.specs.Cache.{Bytes, key_cmp, entry_at}
-use Rattle.jc_mutentry.specs.Done.{ProcessResult}
-use Rattle.jc_stripe.specs.declared.ticket.Reservation.{Reservation}
-use Rattle.jc_stripe.specs.Effects.{change_due}
-use Rattle.jc_stripe.specs.State.{State}
-use Rattle.jc_stripe.specs.Tickets.{JoinClaim}
-use Rattle.jc_types.specs.declared.refusal.Refusal.TheVariants.{WriterFailed}
-use Rattle.jc_world.specs.declared.event.Part.{Part}
-use Rattle.jc_world.specs.declared.event.Progress.{Progress}
-use Rattle.jc_world.specs.declared.event.Progress.TheVariants.{Loading, Writing, Processing, Processed, WritingEffect}
-use Rattle.jc_world.specs.declared.event.Shown.{Shown}
-use Rattle.jc_world.specs.declared.event.Outcome.{Outcome}
-use Rattle.jc_world.specs.declared.event.Outcome.TheVariants as outcome
-use Rattle.jc_world.specs.declared.event.WorldEvent.{WorldEvent}
-use Rattle.jc_world.specs.declared.event.WorldEvent.TheVariants as event
-use Rattle.jc_world.specs.World.{WorldState, Parts, start, part_of}
-use Rattle.jc_world.specs.Calls.{open_keys}
-use Rattle.jc_world.specs.Premises.{load_from, report_for}
-use Rattle.jc_world.specs.Events.{with_met_by, with_change, with_report, new_load, new_write, new_process, new_part, run_result, progress_after, after_report, reported_keys, keys_reported, Starts, Ends, Picks, Happens}
-use Rattle.jc_world.specs.Sound.{is_due_in, is_due, AllDue}
+use Rattle.jc_world.proofs.Common.{◌≡◌, ℕ, true, is_some, is_none, Some, None, Option, option_map, sym, refl, ap, ◌∙◌, subst, get, insert, remove, get-empty, Caller, Config, WriterFailed, Bytes, entry_at, key_cmp, Change, Op, WriteAnswer, ProcessResult, change_due, State, JoinClaim, Reservation, Outcome, Part, Progress, Loading, Processed, Processing, Writing, WritingEffect, Shown, WorldEvent, open_keys, with_met_by, new_load, new_write, new_process, new_part, Starts, Ends, Picks, with_change, with_report, after_report, reported_keys, keys_reported, run_result, progress_after, Happens, load_from, report_for, is_due_in, is_due, AllDue, Parts, WorldState, start, part_of}
 use Rattle.jc_world.proofs.Holding.{is_part}
 use Rattle.jc_world.proofs.Maps.{keys_ordered, each_put, each_left}
-use Rattle.jc_world.proofs.Returns.{each_report}
+use Rattle.jc_world.proofs.Lemmas.{KeyChange, by_nothing, by_refusal, by_step, by_reservation, by_join, by_commit, by_withdrawal, by_answer, by_retry, key_change, each_report}
 
 -- 1. One part more, and one less.
 
@@ -46,17 +20,11 @@ dues_remove config parts key all = each_left keys_ordered (λ q part. is_due con
 
 due_change : (config : Config) (r : Reservation) (p : Progress) → is_due_in config r p ≡ true → is_due_in config r (with_change p) ≡ true
 due_change config r (Loading answer) h = h
-due_change config r (Writing is_changed report) h = h
-due_change config r Processing h = h
-due_change config r (Processed loaded process) h = h
-due_change config r (WritingEffect loaded process is_changed report) h = h
+due_change config r p h = h
 
 due_report : (config : Config) (r : Reservation) (p : Progress) (report : WriteAnswer) → is_due_in config r p ≡ true → is_due_in config r (with_report p report) ≡ true
 due_report config r (Loading answer) report h = h
-due_report config r (Writing is_changed was) report h = h
-due_report config r Processing report h = h
-due_report config r (Processed loaded process) report h = h
-due_report config r (WritingEffect loaded process is_changed was) report h = h
+due_report config r p report h = h
 
 due_run : (config : Config) (r : Reservation) (done : ProcessResult Reservation) → is_due_in config r (progress_after (change_due config done) done) ≡ true
 due_run config r done = go (change_due config done) refl
@@ -73,49 +41,38 @@ AllDueAt w = AllDue w.config w.parts
 due_of : (w : WorldState) (call : ℕ) (key : Bytes) (part : Part) → part_of w call key ≡ Some part → AllDueAt w → is_due w.config part ≡ true
 due_of w call key part is old = old key part (is_part (get w.parts key) call part is)
 
-dues_started : (w new : WorldState) (caller : Caller) (key : Bytes) (op : Op) (from to : State) (seen : Outcome) → Starts w caller key op from to seen new → AllDueAt w → AllDueAt new
-dues_started w new caller key op from to (outcome.Refused refusal) h old = subst AllDueAt (sym h.1) old
-dues_started w new caller key op from to (outcome.PutOff refusal) h old = subst AllDueAt (sym h.1) old
-dues_started w new caller key op from to (outcome.Stepped seen) h old = subst AllDueAt (sym h.2) old
-dues_started w new caller key op from to outcome.Loads h old = subst AllDueAt (sym h.2) (dues_insert w.config w.parts key (new_part new_load h.0.reservation) old refl)
-dues_started w new caller key op from to (outcome.Asks change) h old = subst AllDueAt (sym h.3) (dues_insert w.config w.parts key (new_part new_write h.0.reservation) old refl)
-dues_started w new caller key op from to (outcome.Processes entry) h old = subst AllDueAt (sym h.3) (dues_insert w.config w.parts key (new_part new_process h.0.reservation) old refl)
-dues_started w new caller key op from to outcome.Joins h old = subst AllDueAt (sym h.2) old
-dues_started w new caller key op from to seen h old = absurd h
-
-dues_ended : (w new : WorldState) (call : ℕ) (key : Bytes) (part : Part) (from to : State) (seen : Outcome) → Ends w call key part from to seen new → AllDueAt w → AllDueAt new
-dues_ended w new call key part from to (outcome.Stepped seen) h old = subst AllDueAt (sym h.2) (dues_remove w.config w.parts key old)
-dues_ended w new call key part from to seen h old = absurd h
-
-dues_picks : (w new : WorldState) (call : ℕ) (key : Bytes) (join : JoinClaim) (from to : State) (seen : Outcome) → Picks w call key join from to seen new → AllDueAt w → AllDueAt new
-dues_picks w new call key join from to (outcome.PickedUp seen) h old = subst AllDueAt (sym h.2) old
-dues_picks w new call key join from to outcome.Again h old = subst AllDueAt (sym h.1) old
-dues_picks w new call key join from to outcome.Waits h old = subst AllDueAt (sym h.1) old
-dues_picks w new call key join from to seen h old = absurd h
+-- by the kind of the change at a key
+dues_key : (w new : WorldState) (e : WorldEvent) (key : Bytes) (seen : Shown) → KeyChange w new e key seen → AllDueAt w → AllDueAt new
+dues_key w new e key seen (by_nothing is none ends) old = subst AllDueAt (sym is) old
+dues_key w new e key seen (by_refusal u op refusal may is none ends) old = subst AllDueAt (sym is) old
+dues_key w new e key seen (by_step u op from to x may there h home_is is shows ends) old = subst AllDueAt (sym is) old
+dues_key w new e key seen (by_reservation u op from to p r may there h is none ends) old = subst AllDueAt (sym is) (dues_insert w.config w.parts key (new_part p r) old (h.due w.config))
+dues_key w new e key seen (by_join u op from to join may there h is none ends) old = subst AllDueAt (sym is) old
+dues_key w new e key seen (by_commit call part from to x e_is part_is there h home_is is shows) old = subst AllDueAt (sym is) (dues_remove w.config w.parts key old)
+dues_key w new e key seen (by_withdrawal call part from to e_is part_is there h is shows) old = subst AllDueAt (sym is) (dues_remove w.config w.parts key old)
+dues_key w new e key seen (by_answer call join from to x e_is join_is there h home_is is shows ends) old = subst AllDueAt (sym is) old
+dues_key w new e key seen (by_retry call join from to e_is join_is there h is shows ends) old = subst AllDueAt (sym is) old
 
 -- the writer has returned for a key
 pub dues_reported : (w : WorldState) (call : ℕ) (key : Bytes) (part : Part) (report : WriteAnswer) → part_of w call key ≡ Some part → AllDueAt w → AllDueAt (after_report w key part report)
 dues_reported w call key part report at old = dues_insert w.config w.parts key _ old (due_report w.config part.reservation part.progress report (due_of w call key part at old))
 
 pub dues_happens : (w new : WorldState) (e : WorldEvent) (seen : Shown) → Happens w e seen new → AllDueAt w → AllDueAt new
-dues_happens w new (event.Call call session command) seen h old = subst AllDueAt (sym h.1) old
-dues_happens w new (event.Look call stripe) seen h old = subst AllDueAt (sym h.9) old
-dues_happens w new (event.Start call key) seen h old = dues_started w new h.0.caller key h.1 h.4 h.6 seen.outcome h.7 old
-dues_happens w new (event.Read call key) seen h old = subst AllDueAt (sym h.3) (dues_insert w.config w.parts key _ old refl)
-dues_happens w new (event.Say call key answer) seen h old = subst AllDueAt (sym h.3) (dues_insert w.config w.parts key _ old refl)
-dues_happens w new (event.Process call key source calls fail) seen h old =
+dues_happens w new (WorldEvent.Look call stripe) seen h old = subst AllDueAt (sym h.9) old
+dues_happens w new (WorldEvent.Read call key) seen h old = subst AllDueAt (sym h.3) (dues_insert w.config w.parts key _ old refl)
+dues_happens w new (WorldEvent.Say call key answer) seen h old = subst AllDueAt (sym h.3) (dues_insert w.config w.parts key _ old refl)
+dues_happens w new (WorldEvent.Process call key source calls fail) seen h old =
     let r = h.0.reservation in
     subst AllDueAt (sym h.3) (dues_insert w.config w.parts key _ old (due_run w.config r (run_result r (load_from source (entry_at w.store key)) calls fail)))
-dues_happens w new (event.Change call key) seen h old =
+dues_happens w new (WorldEvent.Change call key) seen h old =
     subst AllDueAt (sym h.5) (dues_insert w.config w.parts key _ old (due_change w.config h.0.reservation h.0.progress (due_of w call key h.0 h.2 old)))
-dues_happens w new (event.Report call left fault) seen h old =
+dues_happens w new (WorldEvent.Report call left fault) seen h old =
     let answer = report_for h.0.kind left fault in
     subst AllDueAt (sym h.3) (each_report AllDueAt call answer (λ v key part at waits o. dues_reported v call key part (answer key) at o) (with_met_by w call (option_map WriterFailed fault)) (keys_reported (reported_keys w.parts call (open_keys h.0))) old)
-dues_happens w new (event.Commit call key) seen h old = dues_ended w new call key h.0 h.2 h.4 seen.outcome h.5 old
-dues_happens w new (event.Withdraw call key) seen h old = subst AllDueAt (sym h.7) (dues_remove w.config w.parts key old)
-dues_happens w new (event.Leave call) seen h old = subst AllDueAt (sym h.1) old
-dues_happens w new (event.PickUp call key) seen h old = dues_picks w new call key h.0 h.2 h.4 seen.outcome h.5 old
-dues_happens w new (event.Foreign key value) seen h old = subst AllDueAt (sym h.1) old
+dues_happens w new (WorldEvent.Call call session command) seen h old = subst AllDueAt (sym h.1) old
+dues_happens w new (WorldEvent.Leave call) seen h old = subst AllDueAt (sym h.1) old
+dues_happens w new (WorldEvent.Foreign key value) seen h old = subst AllDueAt (sym h.1) old
+dues_happens w new e seen h old = let k = key_change w new e seen refl h in dues_key w new e k.0 seen k.1 old
 
 -- nothing is reserved at the start
 pub dues_start : (config : Config) → AllDueAt (start config)

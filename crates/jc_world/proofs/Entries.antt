@@ -1,35 +1,5 @@
 -- What a step leaves of each entry, and what of that the store says.
-use Rattle.std.proofs.Common.{◌≡◌, ◌==◌, ◌&&◌, List, Bool, true, false, cond, Option, None, Some, is_some, is_none, refl, sym, ap, ◌∙◌, subst}
-use Rattle.std.specs.Ordering.{eq_by_cmp}
-use Rattle.std.proofs.lemmas.Cmp.{nat_list_cmp_total}
-use Rattle.std.specs.FinMap.{remove, len, get-remove}
-use Rattle.std.proofs.lemmas.Bool.{and_parts}
-use Rattle.jc_types.specs.declared.caller.Caller.{Caller}
-use Rattle.jc_types.specs.declared.config.Config.{Config}
-use Rattle.jc_model.specs.declared.event.Op.{Op}
-use Rattle.jc_model.specs.declared.event.Op.TheVariants.{Get, ContainsKey, Put, GetAndPut, PutIfAbsent, Remove, RemoveIf, GetAndRemove, Replace, ReplaceIf, GetAndReplace, Clear, LoadAll, Invoke}
-use Rattle.jc_model.specs.declared.event.Out.{Out}
-use Rattle.jc_model.specs.declared.event.Change.{Change}
-use Rattle.jc_model.specs.declared.event.Change.TheVariants.{Write, Delete}
-use Rattle.jc_model.specs.declared.event.LoadAnswer.{LoadAnswer}
-use Rattle.jc_model.specs.declared.event.LoadAnswer.TheVariants as load
-use Rattle.jc_model.specs.declared.event.WriteAnswer.TheVariants as write
-use Rattle.jc_model.specs.declared.event.ProcessAnswer.TheVariants as process
-use Rattle.jc_model.specs.declared.event.Cause.{Cause}
-use Rattle.jc_model.specs.Cache.{Bytes, Cache, key_cmp, entry_at, with_entry}
-use Rattle.jc_model.specs.Table.{entry_after, write_ask, holds, entry_without_fault, ask_if, always_if}
-use Rattle.jc_model.specs.Group.{nothing_said, without_victim, without_own, write_only, load_only}
-use Rattle.jc_model.specs.Lawful.{loads_whole}
-use Rattle.jc_model.specs.Processor.{found_in}
-use Rattle.jc_model.proofs.CallerLemmas.{none_is, get-with_entry}
-use Rattle.jc_stripe.specs.declared.begun.StepDone.{StepDone}
-use Rattle.jc_stripe.specs.State.{State}
-use Rattle.jc_stripe.specs.Refusals.{first_asked, first_by, writer_for}
-use Rattle.jc_stripe.specs.OrderOfUse.{least_used}
-use Rattle.jc_stripe.specs.Phases.{Steps, new_group, overflows, victim}
-use Rattle.jc_stripe.specs.declared.ticket.First.TheVariants.{Nobody, Loader, Writer}
-use Rattle.jc_world.specs.Premises.{changed_to}
-use Rattle.jc_world.specs.Sound.{Agrees}
+use Rattle.jc_world.proofs.Common.{◌≡◌, Bool, true, false, cond, ◌&&◌, List, is_some, is_none, ◌==◌, Some, None, Option, sym, refl, ap, ◌∙◌, subst, and_parts, nat_list_cmp_total, remove, len, get-remove, eq_by_cmp, Caller, Config, none_is, get-with_entry, Bytes, Cache, entry_at, with_entry, key_cmp, nothing_said, load_only, write_only, without_victim, without_own, loads_whole, found_in, holds, always_if, ask_if, write_ask, entry_without_fault, entry_after, Cause, Change, Delete, Write, LoadAnswer, Op, Clear, Get, GetAndPut, GetAndRemove, GetAndReplace, Invoke, LoadAll, Put, PutIfAbsent, Remove, RemoveIf, Replace, ReplaceIf, Out, ProcessAnswer, WriteAnswer, least_used, overflows, victim, new_group, Steps, writer_for, first_by, first_asked, State, StepDone, Loader, Nobody, Writer, changed_to, Agrees}
 use Rattle.jc_world.proofs.Maps as map
 
 -- by cases on whether two keys are one
@@ -68,9 +38,8 @@ none_if false entry h = refl
 
 -- a step that has a victim finds its key missing, so it finds without the victim what it found with it
 found_without : (cache : Cache) (key : Bytes) (b : Bool) (victim : Option Bytes) → (b ≡ true → entry_at cache key ≡ None) → entry_at (without_victim cache (cond b victim None)) key ≡ entry_at cache key
-found_without cache key false victim h = refl
-found_without cache key true None h = refl
 found_without cache key true (Some other) h = get-remove nat_list_cmp_total cache other key ∙ none_if (eq_by_cmp key_cmp key other) (entry_at cache key) (h refl)
+found_without cache key b victim h = refl
 
 -- a step that inserts into a full stripe finds its key missing
 came : (a b c : Bool) → ((a && b) && c) ≡ true → a ≡ true
@@ -86,7 +55,6 @@ found_before s key op out =
 pub agrees_stepped : (old new : State) (caller : Caller) (key : Bytes) (op : Op) (out : Out) (callers : List Caller) (done : StepDone) (q : Bytes) (stored : Option Bytes) → Steps old caller key op out callers done new
     → Agrees (cond (eq_by_cmp key_cmp q key) (entry_after op (entry_at old.cache key) out) (entry_at old.cache q)) stored → Agrees (entry_at new.cache q) stored
 agrees_stepped old new caller key op out callers done q stored steps h =
-    let P : State → Type 0 = λ s. Agrees (entry_at s.cache q) stored in
     let Q : Option Bytes → Type 0 = λ o. Agrees o stored in
     let group = new_group old caller key op out callers steps.short in
     let left : Cache = without_victim old.cache (victim old key op out) in
@@ -96,7 +64,7 @@ agrees_stepped old new caller key op out callers done q stored steps h =
     (λ same h. subst Q (ap (λ e. entry_after op e out) (sym found)) h)
     (λ apart h. agrees_without old.cache (victim old key op out) q stored h) h
     in
-    subst P (sym steps.after)
+    rw steps.after
     (agrees_evicted (with_entry left key (entry_after op (entry_at left key) out)) key group.evicted q stored (subst Q (sym (get-with_entry left key (entry_after op (entry_at left key) out) q)) made))
 
 -- 2. The tables: what a write leaves is what was asked for.
@@ -119,18 +87,15 @@ to : (asks change : Change) → Some asks ≡ Some change → changed_to asks �
 to asks change h = ap changed_to (same_some asks change h)
 
 -- if the writer did as it was asked, the operation leaves what the store then holds
-pub writes : (op : Op) (entry : Option Bytes) (change : Change) → write_ask op entry process.NotAsked ≡ Some change → entry_without_fault op entry (write_only write.Done) ≡ changed_to change
+pub writes : (op : Op) (entry : Option Bytes) (change : Change) → write_ask op entry ProcessAnswer.NotAsked ≡ Some change → entry_without_fault op entry (write_only WriteAnswer.Done) ≡ changed_to change
 writes (Put value) entry change h = to (Write value) change h
 writes (GetAndPut value) entry change h = to (Write value) change h
 writes (PutIfAbsent value) None change h = to (Write value) change h
-writes (PutIfAbsent value) (Some x) change h = not_asked change _ h
 writes Remove entry change h = to Delete change h
 writes (RemoveIf old) entry change h = writes_if (holds entry old) entry None Delete change refl h
 writes GetAndRemove entry change h = to Delete change h
-writes (Replace value) None change h = not_asked change _ h
 writes (Replace value) (Some x) change h = to (Write value) change h
 writes (ReplaceIf old value) entry change h = writes_if (holds entry old) entry (Some value) (Write value) change refl h
-writes (GetAndReplace value) None change h = not_asked change _ h
 writes (GetAndReplace value) (Some x) change h = to (Write value) change h
 writes op entry change h = not_asked change _ h
 
@@ -139,8 +104,7 @@ writes op entry change h = not_asked change _ h
 -- a writer that is asked is asked for this
 writer_is : (b : Bool) (asks : Option Change) (change : Change) → writer_for (cond b asks None) ≡ Writer change → asks ≡ Some change
 writer_is true (Some asks) change h = cc
-writer_is true None change h = cc
-writer_is false asks change h = cc
+writer_is b asks change h = cc
 
 -- if the writer table is read, no loader is asked
 no_loader : (b : Bool) (asks : Option Change) (A : Type 0) → writer_for (cond b asks None) ≡ Loader → A
@@ -157,35 +121,34 @@ no_writer false false change A h = cc
 -- with write-through on, nobody is asked only if there is nothing to write
 unasked : (b : Bool) (asks : Option Change) → writer_for (cond b asks None) ≡ Nobody → b ≡ true → asks ≡ None
 unasked true None h on = refl
-unasked true (Some asks) h on = cc
-unasked false asks h on = cc
+unasked b asks h on = cc
 
 -- the loader is asked first by what loads
 pub loads_asked : (config : Config) (op : Op) (entry : Option Bytes) → first_asked config op entry ≡ Loader → loads_whole op ≡ true
 loads_asked config Get entry h = refl
 loads_asked config (LoadAll replace) entry h = refl
 loads_asked config Invoke entry h = cc
-loads_asked config op entry h = no_loader config.write_through (write_ask op entry process.NotAsked) _ h
+loads_asked config op entry h = no_loader config.write_through (write_ask op entry ProcessAnswer.NotAsked) _ h
 
 -- the writer is asked first for what the operation asks for
-pub writes_asked : (config : Config) (op : Op) (entry : Option Bytes) (change : Change) → first_asked config op entry ≡ Writer change → write_ask op entry process.NotAsked ≡ Some change
+pub writes_asked : (config : Config) (op : Op) (entry : Option Bytes) (change : Change) → first_asked config op entry ≡ Writer change → write_ask op entry ProcessAnswer.NotAsked ≡ Some change
 writes_asked config Get entry change h = no_writer _ config.write_through change _ h
 writes_asked config (LoadAll replace) entry change h = no_writer _ config.write_through change _ h
 writes_asked config Invoke entry change h = cc
-writes_asked config op entry change h = writer_is config.write_through (write_ask op entry process.NotAsked) change h
+writes_asked config op entry change h = writer_is config.write_through (write_ask op entry ProcessAnswer.NotAsked) change h
 
 -- 4. What agrees with the store still does.
 
 -- a load keeps an entry, or makes it what was found
 pub loads : (op : Op) (entry : Option Bytes) (answer : LoadAnswer) (stored : Option Bytes) → loads_whole op ≡ true → Agrees entry stored → Agrees (found_in answer) stored → Agrees (entry_after op entry (load_only answer)) stored
-loads Get entry load.NotAsked stored h kept found = kept
-loads Get entry (load.Found value) stored h kept found = found
-loads Get entry load.Nothing stored h kept found = kept
-loads Get entry (load.Failed code) stored h kept found = kept
-loads (LoadAll replace) entry load.NotAsked stored h kept found = kept
-loads (LoadAll replace) entry (load.Found value) stored h kept found = found
-loads (LoadAll replace) entry load.Nothing stored h kept found = kept
-loads (LoadAll replace) entry (load.Failed code) stored h kept found = kept
+loads Get entry LoadAnswer.NotAsked stored h kept found = kept
+loads Get entry (LoadAnswer.Found value) stored h kept found = found
+loads Get entry LoadAnswer.Nothing stored h kept found = kept
+loads Get entry (LoadAnswer.Failed code) stored h kept found = kept
+loads (LoadAll replace) entry LoadAnswer.NotAsked stored h kept found = kept
+loads (LoadAll replace) entry (LoadAnswer.Found value) stored h kept found = found
+loads (LoadAll replace) entry LoadAnswer.Nothing stored h kept found = kept
+loads (LoadAll replace) entry (LoadAnswer.Failed code) stored h kept found = kept
 loads op entry answer stored h kept found = cc
 
 -- what is not written keeps the entry
@@ -194,13 +157,10 @@ keeps_if true asks entry next stored h kept = cc
 keeps_if false asks entry next stored h kept = kept
 
 -- an operation with nothing to write keeps the entry or takes it out
-keeps : (op : Op) (entry stored : Option Bytes) → write_ask op entry process.NotAsked ≡ None → Agrees entry stored → Agrees (entry_after op entry nothing_said) stored
-keeps Get entry stored h kept = kept
-keeps ContainsKey entry stored h kept = kept
+keeps : (op : Op) (entry stored : Option Bytes) → write_ask op entry ProcessAnswer.NotAsked ≡ None → Agrees entry stored → Agrees (entry_after op entry nothing_said) stored
 keeps (Put value) entry stored h kept = cc
 keeps (GetAndPut value) entry stored h kept = cc
 keeps (PutIfAbsent value) None stored h kept = cc
-keeps (PutIfAbsent value) (Some x) stored h kept = kept
 keeps Remove entry stored h kept = tt
 keeps (RemoveIf old) entry stored h kept = keeps_if (holds entry old) Delete entry None stored h kept
 keeps GetAndRemove entry stored h kept = tt
@@ -210,12 +170,11 @@ keeps (ReplaceIf old value) entry stored h kept = keeps_if (holds entry old) (Wr
 keeps (GetAndReplace value) None stored h kept = tt
 keeps (GetAndReplace value) (Some x) stored h kept = cc
 keeps Clear entry stored h kept = tt
-keeps (LoadAll replace) entry stored h kept = kept
-keeps Invoke entry stored h kept = kept
+keeps op entry stored h kept = kept
 
 -- a call that asks nobody, with write-through on, keeps the entry or takes it out
 pub asks_nobody : (config : Config) (op : Op) (entry stored : Option Bytes) → config.write_through ≡ true → first_asked config op entry ≡ Nobody → Agrees entry stored → Agrees (entry_after op entry nothing_said) stored
 asks_nobody config Get entry stored on h kept = kept
 asks_nobody config (LoadAll replace) entry stored on h kept = kept
 asks_nobody config Invoke entry stored on h kept = kept
-asks_nobody config op entry stored on h kept = keeps op entry stored (unasked config.write_through (write_ask op entry process.NotAsked) h on) kept
+asks_nobody config op entry stored on h kept = keeps op entry stored (unasked config.write_through (write_ask op entry ProcessAnswer.NotAsked) h on) kept

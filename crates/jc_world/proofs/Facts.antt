@@ -1,7 +1,7 @@
 -- Small facts of tests and of what is found.
 --     denied                        a test whose converse holds doesn't hold
 --     missing, same_found           what is not found is none, and what is found twice is one
-use Rattle.std.proofs.Common.{◌≡◌, ◌∙◌, Bool, true, false, not, Option, None, Some, refl, sym}
+use Rattle.jc_world.proofs.Common.{◌≡◌, Bool, true, false, not, Some, None, Option, sym, refl, ◌∙◌}
 
 -- a test whose converse holds doesn't hold
 pub denied : (b : Bool) → not b ≡ true → b ≡ true → ⊥

@@ -6,74 +6,38 @@
 --     start_fits     a call's first phase, after its beginning
 --     looks_fit_all  the looks of a call
 --     rest_fits      what follows in a line, if its first event fits
-use Rattle.std.proofs.Common.{◌≡◌, ◌||◌, ◌+◌, ◌<◌, ◌≤◌, ℕ, zero, suc, List, [], ◌∷◌, ◌++◌, true, false, cond, not, Option, None, Some, IsSomeAnd, find, inl, inr, refl, sym, ap, ◌∙◌, subst, arith, is_none, is_some, nat_lt, nat_le}
-use Rattle.std.specs.Option.{option_or}
-use Rattle.std.specs.FinMap.{get}
-use Rattle.std.proofs.lemmas.Bool.{eq-eqb, and_parts, and_from, false_from_ne_true, lt-ltb}
-use Rattle.std.proofs.lemmas.Bool.Decides.{nat_tests}
-use Rattle.std.proofs.lemmas.Cmp.{nat_eq_equiv}
-use Rattle.std.proofs.lemmas.List.Folds.{find-append}
-use Rattle.std.specs.List.{list_any}
-use Rattle.jc_types.specs.declared.caller.Caller.{Caller}
-use Rattle.jc_model.specs.declared.event.Op.{Op}
-use Rattle.jc_model.specs.declared.event.Op.TheVariants.{Get}
-use Rattle.jc_model.specs.Cache.{Bytes}
-use Rattle.jc_stripe.specs.State.{State}
-use Rattle.jc_stripe.specs.Tickets.{JoinClaim}
-use Rattle.jc_world.specs.declared.event.Part.{Part}
-use Rattle.jc_world.specs.declared.event.Progress.{Progress}
-use Rattle.jc_world.specs.declared.event.Progress.TheVariants.{Loading, Writing, Processing, Processed, WritingEffect}
-use Rattle.jc_world.specs.declared.command.Command.{Command}
-use Rattle.jc_world.specs.declared.command.Command.TheVariants as command
-use Rattle.jc_world.specs.Calls.{CallState, SweepState, has_looked, has_looked_at_each, has_number, has_too_many_keys, at_each, is_going, is_open, op_at, opened, new_call, going_on, sweep_of, with_found}
-use Rattle.jc_world.specs.declared.event.Shown.{Shown}
-use Rattle.jc_world.specs.declared.event.Outcome.{Outcome}
-use Rattle.jc_world.specs.declared.event.Outcome.TheVariants as outcome
-use Rattle.jc_world.specs.declared.event.WorldEvent.{WorldEvent}
-use Rattle.jc_world.specs.declared.event.WorldEvent.TheVariants as event
-use Rattle.jc_world.specs.World.{WorldState, open_call, of_call, part_of, waits_for_report, is_joined, is_untouched, has_progress}
-use Rattle.jc_world.specs.Fits.{fits, is_new, is_free, is_to_look, may_look}
-use Rattle.jc_world.specs.Events.{with_look, Starts, Ends, Picks, Happens, is_fit, AllFit, with_change}
-use Rattle.jc_world.specs.Together.{looks}
-use Rattle.jc_world.specs.Sound.{is_up_to, IsCallOf, IsSoundWorld}
+use Rattle.jc_world.proofs.Common.{◌≡◌, ℕ, zero, suc, ◌+◌, ◌<◌, ◌≤◌, true, false, cond, not, ◌||◌, List, [], ◌∷◌, ◌++◌, is_some, is_none, IsSomeAnd, nat_lt, nat_le, Some, None, Option, find, sym, refl, ap, ◌∙◌, subst, inl, inr, arith, lt-ltb, eq-eqb, and_parts, and_from, false_from_ne_true, nat_tests, nat_eq_equiv, find-append, get, list_any, option_or, Caller, Bytes, Op, Get, State, JoinClaim, Command, Outcome, Part, Progress, Loading, Shown, WorldEvent, at_each, SweepState, sweep_of, CallState, new_call, has_number, op_at, is_open, is_going, has_too_many_keys, opened, going_on, has_looked, has_looked_at_each, with_found, with_look, Starts, Ends, Picks, with_change, Happens, is_fit, AllFit, is_new, is_free, is_to_look, may_look, fits, is_up_to, IsCallOf, IsSoundWorld, looks, WorldState, open_call, of_call, part_of, has_progress, waits_for_report, is_untouched, is_joined}
 use Rattle.jc_world.proofs.Holding.{call_on}
-use Rattle.jc_world.proofs.Looked.{found_replaced}
+use Rattle.jc_world.proofs.Lemmas.{missing, same_found, found_number, fits_found, of_call-at, begun_cases, found_replaced, join_there, joined_no_part}
 use Rattle.jc_world.proofs.Unseen.{missed, unseen, seen_below}
-use Rattle.jc_world.proofs.Underway.{found_number, fits_found, of_call-at}
-use Rattle.jc_world.proofs.Joiners.{join_there, joined_no_part}
-use Rattle.jc_world.proofs.NewCalls.{begun_cases}
-use Rattle.jc_world.proofs.Facts.{missing, same_found}
 
 -- 1. What fits is shown as no fault.
 
 -- a phase is no fault
 started_fits : (w new : WorldState) (caller : Caller) (key : Bytes) (op : Op) (from to : State) (o : Outcome) → Starts w caller key op from to o new → is_fit o ≡ true
-started_fits w new caller key op from to outcome.Unfit h = absurd h
+started_fits w new caller key op from to Outcome.Unfit h = absurd h
 started_fits w new caller key op from to o h = refl
 
 ended_fits : (w new : WorldState) (call : ℕ) (key : Bytes) (part : Part) (from to : State) (o : Outcome) → Ends w call key part from to o new → is_fit o ≡ true
-ended_fits w new call key part from to outcome.Unfit h = absurd h
+ended_fits w new call key part from to Outcome.Unfit h = absurd h
 ended_fits w new call key part from to o h = refl
 
 picked_fits : (w new : WorldState) (call : ℕ) (key : Bytes) (join : JoinClaim) (from to : State) (o : Outcome) → Picks w call key join from to o new → is_fit o ≡ true
-picked_fits w new call key join from to outcome.Unfit h = absurd h
+picked_fits w new call key join from to Outcome.Unfit h = absurd h
 picked_fits w new call key join from to o h = refl
 
 -- what happens is none
 fit_shown : (old new : WorldState) (e : WorldEvent) (seen : Shown) → Happens old e seen new → is_fit seen.outcome ≡ true
-fit_shown old new (event.Call call session command) seen h = ap (λ (s : Shown). is_fit s.outcome) h.0 ∙ begun_cases (new_call call session command) (λ s. is_fit s.outcome ≡ true) refl refl
-fit_shown old new (event.Look call stripe) seen h = ap (λ (s : Shown). is_fit s.outcome) h.8
-fit_shown old new (event.Start call key) seen h = started_fits old new h.0.caller key h.1 h.4 h.6 seen.outcome h.7
-fit_shown old new (event.Read call key) seen h = ap (λ (s : Shown). is_fit s.outcome) h.2
-fit_shown old new (event.Say call key answer) seen h = ap (λ (s : Shown). is_fit s.outcome) h.2
-fit_shown old new (event.Process call key source calls fail) seen h = ap (λ (s : Shown). is_fit s.outcome) h.2
-fit_shown old new (event.Change call key) seen h = ap (λ (s : Shown). is_fit s.outcome) h.4
-fit_shown old new (event.Report call left fault) seen h = ap (λ (s : Shown). is_fit s.outcome) h.2
-fit_shown old new (event.Commit call key) seen h = ended_fits old new call key h.0 h.2 h.4 seen.outcome h.5
-fit_shown old new (event.Withdraw call key) seen h = ap (λ (s : Shown). is_fit s.outcome) h.6
-fit_shown old new (event.Leave call) seen h = ap (λ (s : Shown). is_fit s.outcome) h.0
-fit_shown old new (event.PickUp call key) seen h = picked_fits old new call key h.0 h.2 h.4 seen.outcome h.5
-fit_shown old new (event.Foreign key value) seen h = ap (λ (s : Shown). is_fit s.outcome) h.0
+fit_shown old new (WorldEvent.Call call session command) seen h = ap (λ (s : Shown). is_fit s.outcome) h.0 ∙ begun_cases (new_call call session command) (λ s. is_fit s.outcome ≡ true) refl refl
+fit_shown old new (WorldEvent.Look call stripe) seen h = ap (λ (s : Shown). is_fit s.outcome) h.8
+fit_shown old new (WorldEvent.Start call key) seen h = started_fits old new h.0.caller key h.1 h.4 h.6 seen.outcome h.7
+fit_shown old new (WorldEvent.Change call key) seen h = ap (λ (s : Shown). is_fit s.outcome) h.4
+fit_shown old new (WorldEvent.Commit call key) seen h = ended_fits old new call key h.0 h.2 h.4 seen.outcome h.5
+fit_shown old new (WorldEvent.Withdraw call key) seen h = ap (λ (s : Shown). is_fit s.outcome) h.6
+fit_shown old new (WorldEvent.Leave call) seen h = ap (λ (s : Shown). is_fit s.outcome) h.0
+fit_shown old new (WorldEvent.PickUp call key) seen h = picked_fits old new call key h.0 h.2 h.4 seen.outcome h.5
+fit_shown old new (WorldEvent.Foreign key value) seen h = ap (λ (s : Shown). is_fit s.outcome) h.0
+fit_shown old new e seen h = ap (λ (s : Shown). is_fit s.outcome) h.2
 
 -- there is nothing that doesn't fit
 pub none_fit : (w : WorldState) → AllFit w []
@@ -100,10 +64,7 @@ still_waits call o part is waits =
   where
     unchanged : (p : Progress) → waits_for_report (with_change p) ≡ waits_for_report p
     unchanged (Loading answer) = refl
-    unchanged (Writing is_changed report) = refl
-    unchanged Processing = refl
-    unchanged (Processed loaded process) = refl
-    unchanged (WritingEffect loaded process is_changed report) = refl
+    unchanged p = refl
 
 -- 3. A call that has just begun.
 
@@ -138,7 +99,7 @@ new_free w call key new old =
 
 -- 4. A call that takes the keys that are cached.
 
-look_now : (w : WorldState) (call stripe : ℕ) (u : CallState) (s : SweepState) → open_call w call ≡ Some u → u.sweep ≡ Some s → stripe < w.config.stripes → has_looked s.looked stripe ≡ false → fits w (event.Look call stripe) ≡ true
+look_now : (w : WorldState) (call stripe : ℕ) (u : CallState) (s : SweepState) → open_call w call ≡ Some u → u.sweep ≡ Some s → stripe < w.config.stripes → has_looked s.looked stripe ≡ false → fits w (WorldEvent.Look call stripe) ≡ true
 look_now w call stripe u s here sweeps within fresh =
     ap (may_look w.config.stripes stripe) here ∙ and_from _ _ (lt-ltb stripe w.config.stripes within) (ap (is_to_look stripe) sweeps ∙ ap not fresh)
 
@@ -151,7 +112,7 @@ looked_next w call stripe keys s u here more =
     (v, found_replaced call (λ x. going_on (with_found w.config.stripes stripe keys s x)) u v w.calls here (ap (λ b. going_on (next (cond b None (Some (record s { looked = s.looked ++ stripe ∷ [] }))))) more) refl, refl)
 
 -- what a look leaves
-look_leaves : (w mid : WorldState) (call stripe : ℕ) (u : CallState) (s : SweepState) (seen : Shown) → open_call w call ≡ Some u → u.sweep ≡ Some s → (h : Happens w (event.Look call stripe) seen mid) → mid ≡ with_look w call stripe h.6 s
+look_leaves : (w mid : WorldState) (call stripe : ℕ) (u : CallState) (s : SweepState) (seen : Shown) → open_call w call ≡ Some u → u.sweep ≡ Some s → (h : Happens w (WorldEvent.Look call stripe) seen mid) → mid ≡ with_look w call stripe h.6 s
 look_leaves w mid call stripe u s seen here sweeps h =
     let same_u : h.0 ≡ u = same_found (open_call w call) h.0 u h.2 here in
     let same_s : h.1 ≡ s = same_found u.sweep h.1 s (ap (λ (x : CallState). x.sweep) (sym same_u) ∙ h.3) sweeps in
@@ -160,28 +121,23 @@ look_leaves w mid call stripe u s seen here sweeps h =
 looks_fit : (call count from : ℕ) (w : WorldState) (u : CallState) (s : SweepState) → open_call w call ≡ Some u → u.sweep ≡ Some s → ((i : ℕ) → has_looked s.looked i ≡ true → i < from) → from + count ≤ w.config.stripes → AllFit w (looks call from count)
 looks_fit call zero from w u s here sweeps below few = none_fit w
 looks_fit call (suc zero) from w u s here sweeps below few =
-    one_fits w (event.Look call from) (look_now w call from u s here sweeps (omega (arith, few)) (unseen s.looked from below))
+    one_fits w (WorldEvent.Look call from) (look_now w call from u s here sweeps (omega (arith, few)) (unseen s.looked from below))
 looks_fit call (suc (suc count)) from w u s here sweeps below few =
     let next = seen_below s.looked from below in
     let more = missed (s.looked ++ from ∷ []) (from + 1) w.config.stripes (unseen (s.looked ++ from ∷ []) (from + 1) next) (omega (arith, few)) in
     let rest : (from + 1) + suc count ≤ w.config.stripes = omega (arith, few) in
-    fits_then w (event.Look call from) (looks call (from + 1) (suc count)) (look_now w call from u s here sweeps (omega (arith, few)) (unseen s.looked from below)) (λ seen mid h.
+    fits_then w (WorldEvent.Look call from) (looks call (from + 1) (suc count)) (look_now w call from u s here sweeps (omega (arith, few)) (unseen s.looked from below)) (λ seen mid h.
     let v = looked_next w call from h.6 s u here more in
     subst (λ m. AllFit m (looks call (from + 1) (suc count))) (sym (look_leaves w mid call from u s seen here sweeps h))
     (looks_fit call (suc count) (from + 1) (with_look w call from h.6 s) v.0 (record s { looked = s.looked ++ from ∷ [] }) v.1 v.2 next rest))
 
 -- a call that looks at the stripes names no key, and has looked at none
 sweeping : (call session : ℕ) (c : Command) (s : SweepState) → sweep_of c ≡ Some s → (has_too_many_keys (new_call call session c) ≡ false) × (s.looked ≡ [])
-sweeping call session (command.Single op key) s is = cc
-sweeping call session (command.GetAll keys) s is = cc
-sweeping call session (command.PutAll entries) s is = cc
-sweeping call session (command.RemoveAll keys) s is = cc
-sweeping call session command.RemoveEvery s is = (refl, cc)
-sweeping call session command.Clear s is = (refl, cc)
-sweeping call session (command.LoadAll replace keys) s is = cc
-sweeping call session (command.InvokeAll keys) s is = cc
+sweeping call session Command.RemoveEvery s is = (refl, cc)
+sweeping call session Command.Clear s is = (refl, cc)
+sweeping call session c s is = cc
 
-pub looks_begun : (w : WorldState) → IsSoundWorld w → (call session : ℕ) (c : Command) (s : SweepState) → fits w (event.Call call session c) ≡ true → sweep_of c ≡ Some s → AllFit w (event.Call call session c ∷ looks call 0 w.config.stripes)
+pub looks_begun : (w : WorldState) → IsSoundWorld w → (call session : ℕ) (c : Command) (s : SweepState) → fits w (WorldEvent.Call call session c) ≡ true → sweep_of c ≡ Some s → AllFit w (WorldEvent.Call call session c ∷ looks call 0 w.config.stripes)
 looks_begun w old call session c s fit sweeps =
     let u : CallState = new_call call session c in
     let new : is_new w.last call ≡ true = (and_parts _ _ (and_parts _ _ fit).0).1 in
@@ -194,7 +150,7 @@ looks_begun w old call session c s fit sweeps =
     ∙ find-append (has_number call) w.calls (u ∷ []) ∙ ap (λ o. option_or o (find (has_number call) (u ∷ []))) (new_under w call new old) ∙ ap (λ b. cond b (Some u) None) (nat_eq_equiv.refl call)
     in
     let next : WorldState = record w { last = Some call; calls = w.calls ++ opened u } in
-    fits_then w (event.Call call session c) (looks call 0 w.config.stripes) fit (λ seen mid happens.
+    fits_then w (WorldEvent.Call call session c) (looks call 0 w.config.stripes) fit (λ seen mid happens.
     subst (λ m. AllFit m (looks call 0 w.config.stripes)) (sym happens.1)
     (looks_fit call w.config.stripes 0 next u s here sweeps (none_seen s.looked facts.1) (all_left w.config.stripes)))
   where

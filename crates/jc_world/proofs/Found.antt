@@ -5,21 +5,10 @@
 --     found_new              one key more, which is new
 --     first_found            the first open key keeps its place
 --     first_kept             and stays the first
-use Rattle.std.proofs.Common.{◌≡◌, ◌==◌, ◌<◌, ℕ, zero, suc, Bool, true, false, cond, List, [], ◌∷◌, ◌++◌, filter, take, length, slice_get, Option, None, Some, is_none, refl, sym, ap, ◌∙◌}
-use Rattle.std.specs.Prelude.{get_or}
-use Rattle.std.specs.List.{list_all, list_any, IsDistinct}
-use Rattle.std.specs.Map.{keys_of, lookup}
-use Rattle.std.specs.Option.{option_flatten, option_or}
-use Rattle.std.specs.Cmp.Lexicographic.{pointwise}
-use Rattle.std.proofs.lemmas.Bool.{and_parts}
-use Rattle.std.proofs.lemmas.Map.Made.{is_some-lookup}
-use Rattle.std.proofs.lemmas.Option.{slice_get_read}
-use Rattle.jc_model.proofs.CallerLemmas.{none_is}
-use Rattle.jc_model.specs.declared.event.Op.{Op}
-use Rattle.jc_model.specs.Cache.{Bytes}
-use Rattle.jc_world.specs.Calls.{Task, at_each, op_in, is_open, open_in}
-use Rattle.jc_world.specs.OpenCalls.{first_open, are_new}
-use Rattle.jc_world.proofs.TaskLists.{absent, none_from, keys-at_each, first_each}
+use Rattle.jc_world.proofs.Common.{◌≡◌, ℕ, zero, suc, ◌<◌, Bool, true, false, cond, List, [], ◌∷◌, ◌++◌, length, get_or, take, is_none, ◌==◌, slice_get, Some, None, filter, Option, sym, refl, ap, ◌∙◌, and_parts, is_some-lookup, slice_get_read, pointwise, list_any, list_all, IsDistinct, keys_of, lookup, option_or, option_flatten, none_is, Bytes, Op, Task, at_each, op_in, is_open, open_in, first_open, are_new}
+use Rattle.jc_types.proofs.CallerLemmas.{none_from}
+use Rattle.jc_outside.proofs.CallerLemmas.{new_at}
+use Rattle.jc_world.proofs.TaskLists.{keys-at_each, first_each}
 
 -- 1. Looking a key up.
 
@@ -57,7 +46,7 @@ found_new tasks one keys i key new distinct lt is =
     let at : slice_get keys i ≡ Some key = slice_get_read keys (length keys) i key refl lt is in
     let before : lookup test tasks ≡ None = none_is _ (all_at (λ k. is_none (lookup (pointwise ◌==◌ k) tasks)) keys i key new at) in
     let found : lookup test (at_each one (take i keys)) ≡ None =
-    none_from _ (is_some-lookup test (at_each one (take i keys)) ∙ ap (list_any test) (keys-at_each one (take i keys)) ∙ absent keys i key distinct at) in
+    none_from _ (is_some-lookup test (at_each one (take i keys)) ∙ ap (list_any test) (keys-at_each one (take i keys)) ∙ new_at keys i key distinct lt is) in
     lookup-found test tasks (at_each one (take i keys)) ∙ ap (λ o. option_or o (lookup test (at_each one (take i keys)))) before ∙ found
 
 -- 3. The first open key.

@@ -1,14 +1,5 @@
 -- What is true of a world, in three parts: what its order and its calls say, what its parts and its store say, and what its joins say.
-use Rattle.std.proofs.Common.{◌≡◌, ℕ, [], true, None, Some, is_none, IsSomeAnd, slice_get}
-use Rattle.std.specs.List.{list_all}
-use Rattle.std.specs.FinMap.{get}
-use Rattle.jc_model.specs.Cache.{Bytes, entry_at}
-use Rattle.jc_model.specs.Legal.{in_order}
-use Rattle.jc_stripe.specs.State.{State}
-use Rattle.jc_world.specs.declared.event.Part.{Part}
-use Rattle.jc_world.specs.World.{WorldState, stripe_for, cached_entry}
-use Rattle.jc_world.specs.Coherent.{all_hold}
-use Rattle.jc_world.specs.Sound.{IsShaped, number_up_to, CallsFit, IsHeld, AllDue, AllOwned, AllWaitedFor, AllCalled, KeyAgrees, Each, Sweeps, IsSoundWorld}
+use Rattle.jc_world.proofs.Common.{◌≡◌, ℕ, true, [], is_none, IsSomeAnd, slice_get, Some, None, get, list_all, Bytes, entry_at, in_order, State, Part, all_hold, IsShaped, number_up_to, CallsFit, Each, AllDue, IsHeld, AllOwned, AllWaitedFor, AllCalled, KeyAgrees, Sweeps, IsSoundWorld, WorldState, stripe_for, cached_entry}
 
 pub record HasOrder (w : WorldState) : Type 0 where
   pub shape : IsShaped w

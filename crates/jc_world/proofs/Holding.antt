@@ -1,19 +1,6 @@
 -- What is known of a held key whose event fits.
-use Rattle.std.proofs.Common.{◌≡◌, ◌==◌, ◌&&◌, not, Bool, true, false, cond, Option, Some, None, IsSomeAnd, sym, subst, ap, ◌∙◌, refl, ℕ}
-use Rattle.std.specs.FinMap.{get}
-use Rattle.jc_model.specs.Cache.{Bytes}
-use Rattle.jc_model.specs.Table.{is_write_given}
-use Rattle.jc_stripe.specs.State.{is_key}
-use Rattle.jc_world.specs.Calls.{CallState, op_at}
-use Rattle.jc_world.specs.declared.event.Part.{Part}
-use Rattle.jc_world.specs.declared.event.Progress.{Progress}
-use Rattle.jc_world.specs.declared.event.Progress.TheVariants.{Loading, Writing, Processing, Processed, WritingEffect}
-use Rattle.jc_world.specs.declared.event.WorldEvent.TheVariants as event
-use Rattle.jc_world.specs.World.{WorldState, home, stripe_for, open_call, of_call, part_of, is_answered, is_untouched, has_progress, is_unasked}
-use Rattle.jc_world.specs.Fits.{fits}
-use Rattle.jc_world.specs.Sound.{IsHeld, IsSoundWorld, IsOwned, IsCallOf}
-use Rattle.jc_world.proofs.Numbered.{some_of}
-use Rattle.jc_world.proofs.Shares.{fact_found}
+use Rattle.jc_world.proofs.Common.{◌≡◌, ℕ, Bool, true, false, cond, not, ◌&&◌, IsSomeAnd, ◌==◌, Some, None, Option, sym, refl, ap, ◌∙◌, get, Bytes, is_write_given, is_key, Part, Progress, Loading, Processing, Writing, WorldEvent, op_at, fits, IsHeld, IsCallOf, IsOwned, IsSoundWorld, WorldState, home, stripe_for, open_call, of_call, part_of, has_progress, is_answered, is_unasked, is_untouched}
+use Rattle.jc_world.proofs.Lemmas.{fact_found, some_of}
 
 pub is_part : (o : Option Part) (call : ℕ) (part : Part) → of_call call o ≡ Some part → o ≡ Some part
 is_part None call part h = cc
@@ -32,32 +19,29 @@ of_key test o call none h = go (of_call call o) refl h
 untouched_open : (p : Progress) → is_untouched p ≡ true → is_unasked p ≡ true
 untouched_open (Loading answer) h = h
 untouched_open Processing h = refl
-untouched_open (Processed loaded process) h = cc
-untouched_open (WritingEffect loaded process is_changed report) h = cc
 untouched_open (Writing is_changed report) h = not_given is_changed (is_write_given report) h
   where
     not_given : (c b : Bool) → (not c && not b) ≡ true → not b ≡ true
     not_given true b h = cc
     not_given false b h = h
+untouched_open p h = cc
 
 -- a call whose commit fits has its key, and so what is held of that is its part
-pub fits_commit : (v w : WorldState) (call : ℕ) (key : Bytes) → v ≡ w → fits w (event.Commit call key) ≡ true → (part : Part) × (part_of v call key ≡ Some part) × (get v.parts key ≡ Some part) × (has_progress is_answered (get v.parts key) ≡ true)
+pub fits_commit : (v w : WorldState) (call : ℕ) (key : Bytes) → v ≡ w → fits w (WorldEvent.Commit call key) ≡ true → (part : Part) × (part_of v call key ≡ Some part) × (get v.parts key ≡ Some part) × (has_progress is_answered (get v.parts key) ≡ true)
 fits_commit v w call key same fit =
-    let A : WorldState → Type 0 = λ x. has_progress is_answered (part_of x call key) ≡ true in
-    of_key (has_progress is_answered) (get v.parts key) call (λ h. cc) (subst A (sym same) fit)
+    of_key (has_progress is_answered) (get v.parts key) call (λ h. cc) (rw same fit)
 
-pub may_commit : (v w : WorldState) (call : ℕ) (key : Bytes) (part : Part) → v ≡ w → fits w (event.Commit call key) ≡ true → get v.parts key ≡ Some part → (part_of v call key ≡ Some part) × (has_progress is_answered (Some part) ≡ true)
+pub may_commit : (v w : WorldState) (call : ℕ) (key : Bytes) (part : Part) → v ≡ w → fits w (WorldEvent.Commit call key) ≡ true → get v.parts key ≡ Some part → (part_of v call key ≡ Some part) × (has_progress is_answered (Some part) ≡ true)
 may_commit v w call key part same fit there =
     let one = fits_commit v w call key same fit in
     (one.1 ∙ sym one.2 ∙ there, ap (has_progress is_answered) (sym there) ∙ one.3)
 
 -- and so has a call that may withdraw
-pub fits_withdrawal : (v w : WorldState) (call : ℕ) (key : Bytes) → v ≡ w → fits w (event.Withdraw call key) ≡ true → (part : Part) × (part_of v call key ≡ Some part) × (get v.parts key ≡ Some part) × (has_progress is_untouched (get v.parts key) ≡ true)
+pub fits_withdrawal : (v w : WorldState) (call : ℕ) (key : Bytes) → v ≡ w → fits w (WorldEvent.Withdraw call key) ≡ true → (part : Part) × (part_of v call key ≡ Some part) × (get v.parts key ≡ Some part) × (has_progress is_untouched (get v.parts key) ≡ true)
 fits_withdrawal v w call key same fit =
-    let A : WorldState → Type 0 = λ x. has_progress is_untouched (part_of x call key) ≡ true in
-    of_key (has_progress is_untouched) (get v.parts key) call (λ h. cc) (subst A (sym same) fit)
+    of_key (has_progress is_untouched) (get v.parts key) call (λ h. cc) (rw same fit)
 
-pub may_withdraw : (v w : WorldState) (call : ℕ) (key : Bytes) (part : Part) → v ≡ w → fits w (event.Withdraw call key) ≡ true → get v.parts key ≡ Some part → (part_of v call key ≡ Some part) × (has_progress is_unasked (Some part) ≡ true)
+pub may_withdraw : (v w : WorldState) (call : ℕ) (key : Bytes) (part : Part) → v ≡ w → fits w (WorldEvent.Withdraw call key) ≡ true → get v.parts key ≡ Some part → (part_of v call key ≡ Some part) × (has_progress is_unasked (Some part) ≡ true)
 may_withdraw v w call key part same fit there =
     let one = fits_withdrawal v w call key same fit in
     (one.1 ∙ sym one.2 ∙ there, untouched_open part.progress (ap (has_progress is_untouched) (sym there) ∙ one.3))
@@ -69,5 +53,4 @@ call_on w key part there old =
     let held = some_of (stripe_for w key) (λ s. IsHeld s key part) (old.held key part there) in
     let own = fact_found (IsOwned w) (is_key r.key) held.0.reservations r held.2.out (old.owned (home w key) held.0 held.1) in
     let call = some_of (open_call w r.caller.call) (IsCallOf r.caller.session r.key r.op) own.call in
-    let P : Option CallState → Type 0 = λ o. IsSomeAnd o (λ u. op_at u key ≡ Some r.op) in
-    subst P (sym call.1) (ap (op_at call.0) (sym held.2.key_is) ∙ call.2.1)
+    rw call.1 (ap (op_at call.0) (sym held.2.key_is) ∙ call.2.1)

@@ -4,35 +4,8 @@
 --     found_next     the stripes that are left, once one was gone through
 --     agrees         an entry of a coherent world doesn't differ
 --     none_differ    so none does
-use Rattle.std.specs.Prelude.{T}
-use Rattle.std.proofs.Common.{◌≡◌, ◌==◌, ◌+◌, ◌<◌, ℕ, zero, suc, length, List, [], ◌∷◌, ◌++◌, Bool, true, false, cond, not, ◌&&◌, Option, None, Some, IfSome, filter, map, slice_get, get_or, drop, add-one, drop-cons, refl, sym, ap, ◌∙◌, subst, arith}
-use Rattle.std.specs.List.{list_all}
-use Rattle.std.specs.declared.cmp.Ordering.{Ordering}
-use Rattle.std.specs.declared.cmp.Ordering.TheVariants.{Less, Equal, Greater}
-use Rattle.std.specs.Ordering.{eq_by_cmp, is_lt, is_eq}
-use Rattle.std.specs.Cmp.{eq_by_cmp_equiv}
-use Rattle.std.specs.Cmp.Lexicographic.{texts_ties}
-use Rattle.std.specs.FinMap.{get, remove, find, is_sorted, entries, entries_sorted, from_entries, get-remove, get-empty, get-entries, get-from_entries}
-use Rattle.std.specs.FinMap.Entries.{below_all}
-use Rattle.std.proofs.lemmas.Bool.{ne_eqb, and_parts, and_right}
-use Rattle.std.proofs.lemmas.Cmp.{nat_list_cmp_total}
-use Rattle.std.proofs.lemmas.List.Folds.{list_all-append}
-use Rattle.jc_types.specs.declared.config.Config.{Config}
-use Rattle.jc_types.specs.Stripes.{stripe_of}
-use Rattle.jc_model.specs.declared.event.Event.{Event}
-use Rattle.jc_model.specs.declared.event.Cause.{Cause}
-use Rattle.jc_model.specs.Cache.{Bytes, Cache, key_cmp, entry_at}
-use Rattle.jc_model.specs.Table.{holds, seq_entry}
-use Rattle.jc_model.specs.Group.{Group, victim_events, step_event, shared_event, step_place, evicted_events, events_of, history_of, without_victim, cache_before_step, cache_after_step, without_own, cache_after_group, cache_after_groups}
-use Rattle.jc_model.specs.Legal.{event_key}
-use Rattle.jc_model.proofs.CallerLemmas.{same_key, get-with_entry}
-use Rattle.jc_stripe.specs.State.{State, is_of}
-use Rattle.jc_stripe.specs.Reached.{IsReached, is_own}
-use Rattle.jc_world.specs.World.{WorldState, home, cached_entry, entry_in, has_changed, has_progress}
-use Rattle.jc_world.specs.Sound.{IsSoundWorld}
-use Rattle.jc_world.specs.Coherent.{Coherent}
-use Rattle.jc_world.specs.Audit.{IsCache, differs, differing}
-use Rattle.jc_world.specs.Gathered.{or_else, found_after}
+use Rattle.jc_world.proofs.Common.{◌≡◌, ℕ, zero, suc, ◌+◌, ◌<◌, Bool, true, false, cond, not, ◌&&◌, List, [], ◌∷◌, ◌++◌, map, length, get_or, drop, ◌==◌, slice_get, Some, None, filter, Option, sym, refl, ap, ◌∙◌, add-one, arith, drop-cons, ne_eqb, and_parts, and_right, nat_list_cmp_total, list_all-append, eq_by_cmp_equiv, texts_ties, is_sorted, entries, entries_sorted, get, remove, from_entries, get-empty, get-remove, get-from_entries, below_all, list_all, is_eq, is_lt, eq_by_cmp, T, Ordering, Less, stripe_of, Config, same_key, get-with_entry, Bytes, Cache, entry_at, key_cmp, Group, victim_events, evicted_events, step_event, shared_event, step_place, events_of, history_of, without_victim, cache_before_step, cache_after_step, without_own, cache_after_group, cache_after_groups, event_key, holds, seq_entry, Cause, Event, is_own, IsReached, State, is_of, IsCache, differs, differing, Coherent, or_else, found_after, IsSoundWorld, WorldState, home, entry_in, cached_entry, has_progress, has_changed}
+use Rattle.std.specs.FinMap.{find, get-entries}
 
 -- 1. What a group leaves at other keys.
 
@@ -148,8 +121,7 @@ is_true false h = absurd h
 -- what is less isn't equal
 less_not_equal : (r : Ordering) → is_lt r ≡ true → is_eq r ≡ false
 less_not_equal Less h = refl
-less_not_equal Equal h = cc
-less_not_equal Greater h = cc
+less_not_equal r h = cc
 
 -- a key below all of a list isn't in it
 none_below : (key : Bytes) (es : List (Bytes × Bytes)) → below_all key_cmp key es ≡ true → find key_cmp key es ≡ None
@@ -187,8 +159,7 @@ held_apart stored value false h = ap (λ b. not b && true) (held_true stored val
 -- an entry that a coherent world caches doesn't differ
 pub agrees : (w : WorldState) (key value : Bytes) → Coherent w → cached_entry w key ≡ Some value → differs w (key, value) ≡ false
 agrees w key value coherent is =
-    let P : Option Bytes → Type 0 = λ o. IfSome o (λ v. entry_at w.store key ≡ Some v) in
-    held_apart (entry_at w.store key) value (has_progress has_changed (get w.parts key)) (λ unchanged. subst P is (coherent key unchanged))
+    held_apart (entry_at w.store key) value (has_progress has_changed (get w.parts key)) (λ unchanged. rw is at (coherent key unchanged))
 
 -- so none of them does
 pub none_differ : (w : WorldState) (cache : Cache) → IsCache w cache → Coherent w → differing w (entries cache) ≡ []

@@ -3,42 +3,9 @@
 --     TellsIn            a stripe has the joiner of a join, whose state tells that of the load
 --     tells_kept         it does later, if the joiners are the same or more, and the load stays out
 --     tells_committed, tells_withdrawn      it does where any load is over
-use Rattle.std.proofs.Common.{◌≡◌, ◌==◌, ◌<◌, ◌&&◌, ◌||◌, ◌+◌, ℕ, List, [], ◌∷◌, ◌++◌, length, Bool, true, false, cond, Option, Some, IsSomeAnd, find, slice_get, refl, sym, ap, ◌∙◌, subst, arith}
-use Rattle.std.specs.List.{list_any}
-use Rattle.std.specs.Cmp.Lexicographic.{pointwise}
-use Rattle.std.proofs.Math.Seq.{take-append_seam}
-use Rattle.std.proofs.lemmas.List.{take-append-le}
-use Rattle.std.proofs.lemmas.List.Folds.{list_any-append}
-use Rattle.std.proofs.lemmas.Option.{slice_get_within}
-use Rattle.std.proofs.lemmas.Bool.{eq-eqb, eqb-true, and_parts, false_from_ne_true}
-use Rattle.jc_world.proofs.Shares.{still_at}
-use Rattle.jc_types.specs.declared.caller.Caller.{Caller}
-use Rattle.jc_model.specs.Cache.{Bytes}
-use Rattle.jc_inflight.specs.declared.joiner.Joiner.{Joiner}
-use Rattle.jc_inflight.specs.declared.joiner.JoinState.{JoinState}
-use Rattle.jc_inflight.specs.declared.joiner.JoinState.TheVariants.{Waiting, Answered, Again}
-use Rattle.jc_inflight.specs.Joining.{belongs_to, is_waiting, waits_for}
-use Rattle.jc_inflight.specs.Resolving.{with_answer, answered_from, after_resolve}
-use Rattle.jc_inflight.specs.Dissolving.{after_dissolve}
-use Rattle.jc_stripe.specs.declared.ticket.Reservation.{Reservation}
-use Rattle.jc_stripe.specs.Tickets.{JoinClaim}
-use Rattle.jc_stripe.specs.State.{State, is_key, without_key, IsOut}
-use Rattle.jc_stripe.specs.Reached.{IsReached}
-use Rattle.jc_world.specs.declared.event.Shown.{Shown}
-use Rattle.jc_world.specs.declared.event.Over.{Over}
-use Rattle.jc_world.specs.declared.event.Outcome.{Outcome}
-use Rattle.jc_world.specs.declared.event.Outcome.TheVariants as outcome
-use Rattle.jc_world.specs.declared.event.Stepped.{Stepped}
-use Rattle.jc_world.specs.declared.event.WorldEvent.{WorldEvent}
-use Rattle.jc_world.specs.declared.event.WorldEvent.TheVariants as event
-use Rattle.jc_world.specs.Events.{is_fit, not_over}
-use Rattle.jc_world.specs.PickUps.{ends_load, IsEnd}
-use Rattle.jc_world.proofs.Underway.{same_bytes}
-use Rattle.jc_world.proofs.Joiners.{joiner_of, joined_front}
-use Rattle.jc_world.proofs.Reservations.{found_left}
-use Rattle.jc_world.proofs.Entries.{split}
+use Rattle.jc_world.proofs.Common.{◌≡◌, ℕ, ◌+◌, ◌<◌, Bool, true, false, cond, ◌&&◌, ◌||◌, List, [], ◌∷◌, ◌++◌, length, IsSomeAnd, ◌==◌, slice_get, Some, Option, find, sym, refl, ap, ◌∙◌, subst, arith, take-append_seam, eqb-true, eq-eqb, and_parts, false_from_ne_true, take-append-le, list_any-append, slice_get_within, pointwise, list_any, Caller, Bytes, after_dissolve, belongs_to, is_waiting, waits_for, with_answer, answered_from, after_resolve, JoinState, Again, Answered, Waiting, Joiner, IsReached, State, is_key, without_key, IsOut, JoinClaim, Reservation, Outcome, Over, Shown, Stepped, WorldEvent, not_over, is_fit, ends_load, IsEnd}
+use Rattle.jc_world.proofs.Lemmas.{still_at, same_bytes, joiner_of, joined_front, same_number, split, found_left}
 use Rattle.jc_world.proofs.Kept.{some_map}
-use Rattle.jc_world.proofs.LoadKeys.{same_number}
 
 -- what was shown so far, each with its event
 abbrev pub Shows : Type 0
@@ -46,14 +13,14 @@ Shows = List (WorldEvent × Shown)
 
 -- a step that was shown, and what was over with it
 abbrev pub step_shown : Stepped → Option Over → Shown
-step_shown step over = record { outcome = outcome.Stepped step; over = over }
+step_shown step over = record { outcome = Outcome.Stepped step; over = over }
 
 -- 1. What the state of a joiner tells.
 
 abbrev pub Tells : ℕ → Shows → State → Reservation → JoinState → Type 0
 Tells number shows s r Waiting = IsOut s r × (list_any (ends_load r) shows ≡ false)
-Tells number shows s r (Answered place shared) = (at : ℕ) × (step : Stepped) × IsEnd shows r at (event.Commit r.caller.call r.key) (outcome.Stepped step) × (step.stripe ≡ number) × (step.place ≡ shared)
-Tells number shows s r Again = (at : ℕ) × IsEnd shows r at (event.Withdraw r.caller.call r.key) outcome.Withdrawn
+Tells number shows s r (Answered place shared) = (at : ℕ) × (step : Stepped) × IsEnd shows r at (WorldEvent.Commit r.caller.call r.key) (Outcome.Stepped step) × (step.stripe ≡ number) × (step.place ≡ shared)
+Tells number shows s r Again = (at : ℕ) × IsEnd shows r at (WorldEvent.Withdraw r.caller.call r.key) Outcome.Withdrawn
 
 -- of a joiner of this load
 abbrev pub TellsOf : ℕ → Shows → State → Reservation → Joiner → Type 0
@@ -93,16 +60,14 @@ tells_on number shows more s t r Again on (at, end) = (at, end_more shows more r
 -- a joiner that waits tells that the load is out
 tells_out : (number : ℕ) (shows : Shows) (s : State) (r : Reservation) (state : JoinState) → is_waiting state ≡ true → Tells number shows s r state → IsOut s r × (list_any (ends_load r) shows ≡ false)
 tells_out number shows s r Waiting waits h = h
-tells_out number shows s r (Answered place shared) waits h = cc
-tells_out number shows s r Again waits h = cc
+tells_out number shows s r state waits h = cc
 
 -- the joiners are the same, or there are more after them
 pub tells_kept : (number : ℕ) (shows more : Shows) (join : JoinClaim) (r : Reservation) (s t : State) (behind : List Joiner) → t.joiners ≡ s.joiners ++ behind → list_any (ends_load r) more ≡ false → (IsOut s r → IsOut t r)
     → TellsIn number shows join r s → TellsIn number (shows ++ more) join r t
 tells_kept number shows more join r s t behind joiners none out h =
     let Q : Joiner → Type 0 = TellsOf number (shows ++ more) t r in
-    let J : List Joiner → Type 0 = λ js. IsSomeAnd (joiner_of join.caller join.key js) Q in
-    subst J (sym joiners)
+    rw joiners
     (joined_front Q (belongs_to join.caller join.key) s.joiners behind
     (some_map (joiner_of join.caller join.key s.joiners) (TellsOf number shows s r) Q (λ j k. (k.0, tells_on number shows more s t r j.state (λ waits o. (out o, none)) k.1)) h))
 
@@ -181,35 +146,33 @@ load_over number shows p r from j reached over waits (load, told) =
 -- a load was committed
 pub tells_committed : (number call : ℕ) (key : Bytes) (shows : Shows) (join : JoinClaim) (p r : Reservation) (from to : State) (seen : Stepped) (end : Option Over) → IsReached from → IsOut from p → p.caller.call ≡ call → p.key ≡ key → (r.key ≡ key → seen.stripe ≡ number)
     → to.reservations ≡ without_key p.key from.reservations → to.joiners ≡ after_resolve p.number seen.place from.joiners
-    → TellsIn number shows join r from → TellsIn number (shows ++ (event.Commit call key, step_shown seen end) ∷ []) join r to
+    → TellsIn number shows join r from → TellsIn number (shows ++ (WorldEvent.Commit call key, step_shown seen end) ∷ []) join r to
 tells_committed number call key shows join p r from to seen end reached over call_is key_is stripe_is left joiners h =
-    let more : Shows = (event.Commit call key, step_shown seen end) ∷ [] in
+    let more : Shows = (WorldEvent.Commit call key, step_shown seen end) ∷ [] in
     let Q : Joiner → Type 0 = TellsOf number (shows ++ more) to r in
-    let J : List Joiner → Type 0 = λ js. IsSomeAnd (joiner_of join.caller join.key js) Q in
-    subst J (sym joiners)
+    subst (λ js. IsSomeAnd (joiner_of join.caller join.key js) Q) (sym joiners)
     (resolved_by (TellsOf number shows from r) Q p.number seen.place (seen.place + 1) join.caller join.key from.joiners
     (λ place j waits k.
     let one = load_over number shows p r from j reached over waits k in
     let call_of : call ≡ r.caller.call = sym call_is ∙ ap (λ (x : Reservation). x.caller.call) one.0 in
     let key_of : key ≡ r.key = sym key_is ∙ ap (λ (x : Reservation). x.key) one.0 in
-    let E : WorldEvent → Type 0 = λ e. IsEnd (shows ++ more) r (length shows) e (outcome.Stepped seen) in
-    (k.0, (length shows, seen, subst E (λ i. event.Commit (call_of i) (key_of i)) (end_last shows r (event.Commit call key) (step_shown seen end) one.1), stripe_is (sym key_of), refl)))
+    let E : WorldEvent → Type 0 = λ e. IsEnd (shows ++ more) r (length shows) e (Outcome.Stepped seen) in
+    (k.0, (length shows, seen, subst E (λ i. WorldEvent.Commit (call_of i) (key_of i)) (end_last shows r (WorldEvent.Commit call key) (step_shown seen end) one.1), stripe_is (sym key_of), refl)))
     (λ j other k. tells_past number shows more p r from to j over left (λ apart. ap (λ b. b || false) (none_of_key r call key (step_shown seen end) (λ same. apart (same ∙ sym key_is)))) other k) h)
 
 -- a load was withdrawn
 pub tells_withdrawn : (number call : ℕ) (key : Bytes) (shows : Shows) (join : JoinClaim) (p r : Reservation) (from to : State) → IsReached from → IsOut from p → p.caller.call ≡ call → p.key ≡ key
     → to.reservations ≡ without_key p.key from.reservations → to.joiners ≡ after_dissolve p.number from.joiners
-    → TellsIn number shows join r from → TellsIn number (shows ++ (event.Withdraw call key, not_over outcome.Withdrawn) ∷ []) join r to
+    → TellsIn number shows join r from → TellsIn number (shows ++ (WorldEvent.Withdraw call key, not_over Outcome.Withdrawn) ∷ []) join r to
 tells_withdrawn number call key shows join p r from to reached over call_is key_is left joiners h =
-    let more : Shows = (event.Withdraw call key, not_over outcome.Withdrawn) ∷ [] in
+    let more : Shows = (WorldEvent.Withdraw call key, not_over Outcome.Withdrawn) ∷ [] in
     let Q : Joiner → Type 0 = TellsOf number (shows ++ more) to r in
-    let J : List Joiner → Type 0 = λ js. IsSomeAnd (joiner_of join.caller join.key js) Q in
-    subst J (sym joiners)
+    subst (λ js. IsSomeAnd (joiner_of join.caller join.key js) Q) (sym joiners)
     (dissolved_by (TellsOf number shows from r) Q p.number join.caller join.key from.joiners
     (λ j waits k.
     let one = load_over number shows p r from j reached over waits k in
     let call_of : call ≡ r.caller.call = sym call_is ∙ ap (λ (x : Reservation). x.caller.call) one.0 in
     let key_of : key ≡ r.key = sym key_is ∙ ap (λ (x : Reservation). x.key) one.0 in
-    let E : WorldEvent → Type 0 = λ e. IsEnd (shows ++ more) r (length shows) e outcome.Withdrawn in
-    (k.0, (length shows, subst E (λ i. event.Withdraw (call_of i) (key_of i)) (end_last shows r (event.Withdraw call key) (not_over outcome.Withdrawn) one.1))))
-    (λ j other k. tells_past number shows more p r from to j over left (λ apart. ap (λ b. b || false) (none_of_key r call key (not_over outcome.Withdrawn) (λ same. apart (same ∙ sym key_is)))) other k) h)
+    let E : WorldEvent → Type 0 = λ e. IsEnd (shows ++ more) r (length shows) e Outcome.Withdrawn in
+    (k.0, (length shows, subst E (λ i. WorldEvent.Withdraw (call_of i) (key_of i)) (end_last shows r (WorldEvent.Withdraw call key) (not_over Outcome.Withdrawn) one.1))))
+    (λ j other k. tells_past number shows more p r from to j over left (λ apart. ap (λ b. b || false) (none_of_key r call key (not_over Outcome.Withdrawn) (λ same. apart (same ∙ sym key_is)))) other k) h)

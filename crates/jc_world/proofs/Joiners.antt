@@ -3,28 +3,7 @@
 --     told_waiting      a commit parks an answer for each that waits for its load
 --     join_at, join_there       a join that is found, and one that is there, with what is true of it
 --     other_key         a call that has not joined the load of a key is at another key, if it has joined there
-use Rattle.std.proofs.Common.{◌≡◌, ◌==◌, ◌&&◌, ◌||◌, ◌+◌, ℕ, List, [], ◌∷◌, ◌++◌, Bool, true, false, cond, not, Option, None, Some, IsSomeAnd, find, filter, map, refl, sym, ap, ◌∙◌, subst, is_some}
-use Rattle.std.specs.List.{list_all}
-use Rattle.std.specs.Ordering.{eq_by_cmp}
-use Rattle.std.specs.Cmp.Lexicographic.{pointwise}
-use Rattle.std.specs.FinMap.{get, insert, remove, get-insert, get-remove}
-use Rattle.std.proofs.lemmas.Bool.{and_parts, and_from, false_from_ne_true}
-use Rattle.std.proofs.lemmas.Cmp.{nat_list_cmp_total, nat_eq_equiv, nat_list_eq_equiv}
-use Rattle.jc_types.specs.declared.caller.Caller.{Caller}
-use Rattle.jc_model.specs.Cache.{Bytes, key_cmp}
-use Rattle.jc_model.proofs.CallerLemmas.{same_key}
-use Rattle.jc_inflight.specs.declared.joiner.Joiner.{Joiner}
-use Rattle.jc_inflight.specs.declared.joiner.JoinState.{JoinState}
-use Rattle.jc_inflight.specs.declared.joiner.JoinState.TheVariants.{Waiting, Answered, Again}
-use Rattle.jc_inflight.specs.Joining.{belongs_to, is_waiting, waits_for, callers_of}
-use Rattle.jc_inflight.specs.Resolving.{with_answer, answered_from}
-use Rattle.jc_inflight.specs.Dissolving.{after_dissolve as dissolved}
-use Rattle.jc_stripe.specs.Tickets.{JoinClaim}
-use Rattle.jc_stripe.specs.Phases.{is_other_join}
-use Rattle.jc_stripe.specs.Reached.{are_apart}
-use Rattle.jc_world.specs.declared.event.Part.{Part}
-use Rattle.jc_world.specs.World.{WorldState, Parts, JoinKey, of_call, part_of, join_of, is_joined}
-use Rattle.jc_world.specs.Sound.{has_answer, has_parked_answer, IsWaitedFor, AllWaitedFor, AllCalled, Each}
+use Rattle.jc_world.proofs.Common.{◌≡◌, ℕ, ◌+◌, Bool, true, false, cond, not, ◌&&◌, ◌||◌, List, [], ◌∷◌, ◌++◌, map, is_some, IsSomeAnd, ◌==◌, Some, None, filter, Option, find, sym, refl, ap, ◌∙◌, subst, and_parts, and_from, false_from_ne_true, nat_eq_equiv, nat_list_cmp_total, nat_list_eq_equiv, pointwise, get, insert, remove, get-insert, get-remove, list_all, eq_by_cmp, Caller, same_key, Bytes, key_cmp, after_dissolve, belongs_to, is_waiting, waits_for, callers_of, with_answer, answered_from, JoinState, Again, Waiting, Joiner, is_other_join, are_apart, JoinClaim, Part, has_answer, has_parked_answer, Each, IsWaitedFor, AllWaitedFor, AllCalled, Parts, JoinKey, WorldState, of_call, part_of, join_of, is_joined}
 
 -- the joiner of a caller at a key
 abbrev pub joiner_of : Caller → Bytes → List Joiner → Option Joiner
@@ -35,8 +14,7 @@ joiner_of caller key joiners = find (belongs_to caller key) joiners
 -- what waits has no answer
 pub unanswered : (s : JoinState) → is_waiting s ≡ true → has_answer s ≡ true → ⊥
 unanswered Waiting h k = cc
-unanswered (Answered place shared) h k = cc
-unanswered Again h k = cc
+unanswered s h k = cc
 
 -- an answer that is parked stays if others are parked
 pub told_resolved : (load step place : ℕ) (caller : Caller) (key : Bytes) (js : List Joiner) → has_parked_answer (joiner_of caller key js) ≡ true → has_parked_answer (joiner_of caller key (answered_from load step place js)) ≡ true
@@ -71,16 +49,16 @@ told_waiting load step place caller key (x ∷ xs) j h waits =
     ] refl
 
 -- an answer that is parked stays if a load is withdrawn
-pub told_dissolved : (load : ℕ) (caller : Caller) (key : Bytes) (js : List Joiner) → has_parked_answer (joiner_of caller key js) ≡ true → has_parked_answer (joiner_of caller key (dissolved load js)) ≡ true
+pub told_dissolved : (load : ℕ) (caller : Caller) (key : Bytes) (js : List Joiner) → has_parked_answer (joiner_of caller key js) ≡ true → has_parked_answer (joiner_of caller key (after_dissolve load js)) ≡ true
 told_dissolved load caller key [] h = h
 told_dissolved load caller key (x ∷ xs) h =
     let p = belongs_to caller key in
-    elim (waits_for load x) as (λ b. waits_for load x ≡ b → has_parked_answer (find p (cond b (record x { state = Again }) x ∷ dissolved load xs)) ≡ true) [
-      | true ↦ λ e. elim (p x) as (λ b. has_parked_answer (cond b (Some x) (find p xs)) ≡ true → has_parked_answer (cond b (Some (record x { state = Again })) (find p (dissolved load xs))) ≡ true) [
+    elim (waits_for load x) as (λ b. waits_for load x ≡ b → has_parked_answer (find p (cond b (record x { state = Again }) x ∷ after_dissolve load xs)) ≡ true) [
+      | true ↦ λ e. elim (p x) as (λ b. has_parked_answer (cond b (Some x) (find p xs)) ≡ true → has_parked_answer (cond b (Some (record x { state = Again })) (find p (after_dissolve load xs))) ≡ true) [
         | true ↦ λ h. absurd (unanswered x.state (and_parts (x.load == load) (is_waiting x.state) e).1 h)
         | false ↦ λ h. told_dissolved load caller key xs h
       ] h
-      | false ↦ λ e. elim (p x) as (λ b. has_parked_answer (cond b (Some x) (find p xs)) ≡ true → has_parked_answer (cond b (Some x) (find p (dissolved load xs))) ≡ true) [
+      | false ↦ λ e. elim (p x) as (λ b. has_parked_answer (cond b (Some x) (find p xs)) ≡ true → has_parked_answer (cond b (Some x) (find p (after_dissolve load xs))) ≡ true) [
         | true ↦ λ h. h
         | false ↦ λ h. told_dissolved load caller key xs h
       ] h
@@ -162,16 +140,16 @@ joined_resolved P load step place caller key (x ∷ xs) f h =
     ]
 
 -- or are to retry
-pub joined_dissolved : (P : Joiner → Type 0) (load : ℕ) (caller : Caller) (key : Bytes) (js : List Joiner) → ((x : Joiner) → P x → P (record x { state = Again })) → IsSomeAnd (joiner_of caller key js) P → IsSomeAnd (joiner_of caller key (dissolved load js)) P
+pub joined_dissolved : (P : Joiner → Type 0) (load : ℕ) (caller : Caller) (key : Bytes) (js : List Joiner) → ((x : Joiner) → P x → P (record x { state = Again })) → IsSomeAnd (joiner_of caller key js) P → IsSomeAnd (joiner_of caller key (after_dissolve load js)) P
 joined_dissolved P load caller key [] f h = h
 joined_dissolved P load caller key (x ∷ xs) f h =
     let p = belongs_to caller key in
-    elim (waits_for load x) as (λ b. IsSomeAnd (find p (cond b (record x { state = Again }) x ∷ dissolved load xs)) P) [
-      | true ↦ elim (p x) as (λ b. IsSomeAnd (cond b (Some x) (find p xs)) P → IsSomeAnd (cond b (Some (record x { state = Again })) (find p (dissolved load xs))) P) [
+    elim (waits_for load x) as (λ b. IsSomeAnd (find p (cond b (record x { state = Again }) x ∷ after_dissolve load xs)) P) [
+      | true ↦ elim (p x) as (λ b. IsSomeAnd (cond b (Some x) (find p xs)) P → IsSomeAnd (cond b (Some (record x { state = Again })) (find p (after_dissolve load xs))) P) [
         | true ↦ λ h. f x h
         | false ↦ λ h. joined_dissolved P load caller key xs f h
       ] h
-      | false ↦ elim (p x) as (λ b. IsSomeAnd (cond b (Some x) (find p xs)) P → IsSomeAnd (cond b (Some x) (find p (dissolved load xs))) P) [
+      | false ↦ elim (p x) as (λ b. IsSomeAnd (cond b (Some x) (find p xs)) P → IsSomeAnd (cond b (Some x) (find p (after_dissolve load xs))) P) [
         | true ↦ λ h. h
         | false ↦ λ h. joined_dissolved P load caller key xs f h
       ] h
@@ -200,10 +178,10 @@ called_resolved w m load step place (x ∷ xs) h =
     ]
 
 -- and those that are told to retry
-pub called_dissolved : (w : WorldState) (m load : ℕ) (js : List Joiner) → AllCalled w m js → AllCalled w m (dissolved load js)
+pub called_dissolved : (w : WorldState) (m load : ℕ) (js : List Joiner) → AllCalled w m js → AllCalled w m (after_dissolve load js)
 called_dissolved w m load [] h = tt
 called_dissolved w m load (x ∷ xs) h =
-    elim (waits_for load x) as (λ b. AllCalled w m (cond b (record x { state = Again }) x ∷ dissolved load xs)) [
+    elim (waits_for load x) as (λ b. AllCalled w m (cond b (record x { state = Again }) x ∷ after_dissolve load xs)) [
       | true ↦ (record { home_is = h.0.home_is; join = h.0.join; call = h.0.call }, called_dissolved w m load xs h.1)
       | false ↦ (h.0, called_dissolved w m load xs h.1)
     ]
@@ -258,5 +236,4 @@ pub part_other : (o : Option Part) (old : Part) (call : ℕ) → o ≡ Some old 
 part_other None old call is none = cc
 part_other (Some p) old call is none =
     let same : p ≡ old = cc in
-    let P : Part → Type 0 = λ x. (x.reservation.caller.call == call) ≡ false in
-    subst P same (elim (p.reservation.caller.call == call) as (λ b. cond b (Some p) None ≡ None → b ≡ false) [ true ↦ λ h. cc | false ↦ λ h. refl ] none)
+    rw same at (elim (p.reservation.caller.call == call) as (λ b. cond b (Some p) None ≡ None → b ≡ false) [ true ↦ λ h. cc | false ↦ λ h. refl ] none)

@@ -1,61 +1,17 @@
 -- Each event keeps what the joins and the joiners of a world say.
---     joins_called, joins_over, joins_phase, joins_joined, joins_picks, joins_parted, joins_stored     by the kind of the event
+--     joins_called, joins_taken, joins_parted, joins_stored     what changes the calls, a part or the store alone
+--     joins_phase, joins_joined, joins_picked, joins_key        by the kind of the change at a key
 --     joins_start, joins_happens       before anything has happened, and after any event that fits
-use Rattle.std.proofs.Common.{◌≡◌, ◌==◌, ◌&&◌, ◌+◌, ℕ, List, [], ◌∷◌, ◌++◌, Ok, Bool, true, false, not, Option, None, Some, IsSomeAnd, find, slice_get, slice_set, is_none, is_some, refl, sym, ap, ◌∙◌, subst}
-use Rattle.std.specs.List.{list_all}
-use Rattle.std.specs.Cmp.Lexicographic.{pointwise}
-use Rattle.std.specs.FinMap.{get, insert, remove, get-empty}
-use Rattle.std.proofs.lemmas.Bool.{eq-eqb, eqb-true, and_parts, and_from, false_from_ne_true}
-use Rattle.std.proofs.lemmas.Cmp.{nat_eq_equiv, nat_list_eq_equiv}
-use Rattle.jc_world.proofs.Numbered.{some_of}
-use Rattle.jc_types.specs.declared.caller.Caller.{Caller}
-use Rattle.jc_types.specs.declared.refusal.Refusal.{Refusal}
-use Rattle.jc_types.specs.declared.config.Config.{Config}
-use Rattle.jc_types.specs.Limits.{check}
-use Rattle.jc_model.specs.declared.event.Event.{Event}
-use Rattle.jc_model.specs.declared.event.Op.{Op}
-use Rattle.jc_model.specs.declared.event.Op.TheVariants.{Get}
-use Rattle.jc_model.specs.Cache.{Bytes, Cache}
-use Rattle.jc_model.proofs.CallerLemmas.{none_is}
-use Rattle.jc_inflight.specs.declared.joiner.Joiner.{Joiner}
-use Rattle.jc_inflight.specs.declared.joiner.JoinState.TheVariants.{Waiting}
-use Rattle.jc_inflight.specs.Joining.{belongs_to as is_joiner_of}
-use Rattle.jc_inflight.specs.Resolving.{after_resolve as resolved}
+use Rattle.jc_world.proofs.Common.{◌≡◌, ℕ, ◌+◌, Bool, true, false, not, ◌&&◌, List, [], ◌∷◌, ◌++◌, is_some, is_none, IsSomeAnd, ◌==◌, slice_get, slice_set, Some, None, Ok, Option, find, sym, refl, ap, ◌∙◌, subst, eqb-true, eq-eqb, and_parts, and_from, false_from_ne_true, nat_eq_equiv, nat_list_eq_equiv, pointwise, get, insert, remove, get-empty, list_all, check, Caller, Config, Refusal, none_is, Bytes, Cache, Event, Op, Get, belongs_to, after_resolve, Waiting, Joiner, with_joiner, Withdraws, without_joiner, State, IsJoined, Ticket, ProcessClaim, JoinClaim, Reservation, Command, Outcome, Part, Premises, Shown, WorldEvent, SweepState, CallState, new_call, has_number, op_at, open_keys, is_turn, opened, settle, drop_call, with_stripe, with_phase, fault_in, with_settled, with_met_by, without_call, with_look, new_load, new_write, new_process, new_part, without_part, with_join, Starts, Ends, Picks, Happens, is_free, may_leave, fits, IsCallOf, IsWaitedFor, AllWaitedFor, IsCalled, AllCalled, IsSoundWorld, Parts, JoinKey, join_cmp, join_key, WorldState, home, stripe_for, start, open_call, of_call, part_of, join_of, is_joined}
+use Rattle.jc_world.proofs.Lemmas.{denied, missing, joins_half, is_some_and, set_cases, found_test, each_map, fact_found, each_pushed, each_kept, find_over, find_pushed, same_bytes, of_call-at, open_now, IsTurnOf, still_called, joiner_of, find_kept, joined_resolved, joined_dissolved, joined_front, joined_last, called_resolved, called_dissolved, joined_no_part, other_key, none_inserted, none_removed, part_other, joins_get, start_is, MayStart, may_start_at, may_turn, part_turn, Picking, picking, picking_turn, looked_called, met_called, at_stripe, stripe_put, KeyChange, by_nothing, by_refusal, by_step, by_reservation, by_join, by_commit, by_withdrawal, by_answer, by_retry, key_change, may_of, some_of, IsReport}
 use Rattle.jc_inflight.specs.Taking.{without_joiner as without}
-use Rattle.jc_stripe.specs.declared.ticket.Reservation.{Reservation}
-use Rattle.jc_stripe.specs.Tickets.{Ticket, ProcessClaim, JoinClaim}
-use Rattle.jc_stripe.specs.State.{State, IsJoined}
-use Rattle.jc_stripe.specs.Phases.{Withdraws, with_joiner, without_joiner}
-use Rattle.jc_world.specs.declared.command.Command.{Command}
-use Rattle.jc_world.specs.declared.event.Part.{Part}
-use Rattle.jc_world.specs.declared.event.Premises.{Premises}
-use Rattle.jc_world.specs.declared.event.Shown.{Shown}
-use Rattle.jc_world.specs.declared.event.Outcome.{Outcome}
-use Rattle.jc_world.specs.declared.event.Outcome.TheVariants as outcome
-use Rattle.jc_world.specs.Calls.{CallState, SweepState, has_number, open_keys, op_at, is_turn, opened, settle, drop_call, new_call}
-use Rattle.jc_world.specs.declared.event.WorldEvent.{WorldEvent}
-use Rattle.jc_world.specs.declared.event.WorldEvent.TheVariants as event
-use Rattle.jc_world.specs.World.{WorldState, Parts, home, stripe_for, start, open_call, of_call, part_of, JoinKey, join_cmp, join_key, join_of, is_joined}
-use Rattle.jc_world.specs.Fits.{is_free, may_leave, fits}
-use Rattle.jc_world.specs.Events.{fault_in, with_met_by, with_stripe, with_phase, with_settled, without_call, with_look, new_load, new_write, new_part, without_part, with_join, Starts, Ends, Picks, Happens, new_process}
-use Rattle.jc_world.specs.Sound.{IsWaitedFor, AllWaitedFor, IsCalled, AllCalled, IsSoundWorld, IsCallOf}
-use Rattle.jc_world.proofs.Halves.{HasJoins, joins_half}
-use Rattle.jc_world.proofs.Returns.{IsReport}
-use Rattle.jc_world.proofs.Places.{at_stripe, stripe_put}
-use Rattle.jc_world.proofs.Shares.{is_some_and, set_cases, found_test, fact_found, each_kept, each_map, each_pushed}
-use Rattle.jc_world.proofs.Underway.{find_over, find_pushed, of_call-at, same_bytes}
-use Rattle.jc_world.proofs.Settling.{open_now, still_called, IsTurnOf}
-use Rattle.jc_world.proofs.LoadKeys.{joins_get}
-use Rattle.jc_world.proofs.Joiners.{joiner_of, joined_resolved, joined_dissolved, joined_front, joined_last, find_kept, called_resolved, called_dissolved, joined_no_part, other_key, none_inserted, none_removed, part_other}
+use Rattle.jc_world.proofs.Halves.{HasJoins}
 use Rattle.jc_world.proofs.Maps.{joins_ordered, get-here, get-left, still-there, each_put, each_left}
-use Rattle.jc_world.proofs.Beginning.{MayStart, may_start_at, may_turn, part_turn, start_is}
-use Rattle.jc_world.proofs.Callers.{looked_called, met_called, Picking, picking, picking_turn}
-use Rattle.jc_world.proofs.Facts.{denied, missing}
 
 -- 1. What stays.
 
 -- a joiner is of its session, its call and its key
-joiner_is : (caller : Caller) (key : Bytes) (j : Joiner) → is_joiner_of caller key j ≡ true → (j.caller.session ≡ caller.session) × (j.caller.call ≡ caller.call) × (j.key ≡ key)
+joiner_is : (caller : Caller) (key : Bytes) (j : Joiner) → belongs_to caller key j ≡ true → (j.caller.session ≡ caller.session) × (j.caller.call ≡ caller.call) × (j.key ≡ key)
 joiner_is caller key j h =
     let parts = and_parts ((j.caller.session == caller.session) && (j.caller.call == caller.call)) (pointwise ◌==◌ key j.key) h in
     let pair = and_parts (j.caller.session == caller.session) (j.caller.call == caller.call) parts.0 in
@@ -77,56 +33,44 @@ called_set : (w n : WorldState) (key : Bytes) (from to : State) → stripe_for w
     → ((m : ℕ) (js : List Joiner) → (home w key ≡ m → ⊥) → AllCalled w m js → AllCalled n m js) → IsSoundWorld w
     → (m : ℕ) (s : State) → slice_get (slice_set w.stripes (home w key) to) m ≡ Some s → AllCalled n m s.joiners
 called_set w n key from to there here rest old m s =
-    let P : ℕ → Type 0 = λ m. AllCalled n m s.joiners in
-    let Q : State → Type 0 = λ s. AllCalled n (home w key) s.joiners in
-    set_cases w.stripes (home w key) m to s (λ same is. subst P same (subst Q is (here (old.called (home w key) from there)))) (λ apart at. rest m s.joiners apart (old.called m s at))
+    set_cases w.stripes (home w key) m to s (λ same is. rw same at (rw is at (here (old.called (home w key) from there)))) (λ apart at. rest m s.joiners apart (old.called m s at))
 
 -- 2. What leaves the stripes.
 
+-- the stripes and the joins are the same, and the calls that have joined continue without a part
+joins_beside : (w : WorldState) (last : Option ℕ) (calls : List CallState) (parts : Parts) (store : Cache) (premises : Premises)
+    → ((number session : ℕ) (q : Bytes) → is_joined w number q ≡ true → IsSomeAnd (open_call w number) (IsCallOf session q Get) → IsSomeAnd (find (has_number number) calls) (IsCallOf session q Get))
+    → ((number : ℕ) (q : Bytes) → part_of w number q ≡ None → of_call number (get parts q) ≡ None) → IsSoundWorld w
+    → HasJoins (record w { last = last; calls = calls; parts = parts; store = store; premises = premises })
+joins_beside w last calls parts store premises still none old =
+    let new : WorldState = record w { last = last; calls = calls; parts = parts; store = store; premises = premises } in
+    record {
+      joins = kept_joins w new (λ j t h. record { out = h.out; call = still j.caller.call j.caller.session j.key t h.call; no_part = none j.caller.call j.key h.no_part }) old;
+      called = λ m s at. each_map (IsCalled w m) (IsCalled new m) s.joiners (λ j h. record { home_is = h.home_is; join = h.join; call = still j.caller.call j.caller.session j.key h.join h.call }) (old.called m s at);
+    }
+
 -- the store changes
 pub joins_stored : (w : WorldState) (store : Cache) (premises : Premises) → IsSoundWorld w → HasJoins (record w { store = store; premises = premises })
-joins_stored w store premises old =
-    let new : WorldState = record w { store = store; premises = premises } in
-    record {
-      joins = kept_joins w new (λ j t h. record { out = h.out; call = h.call; no_part = h.no_part }) old;
-      called = λ m s at. each_map (IsCalled w m) (IsCalled new m) s.joiners (λ j h. record { home_is = h.home_is; join = h.join; call = h.call }) (old.called m s at);
-    }
+joins_stored w store premises old = joins_beside w w.last w.calls w.parts store premises (λ number session q t h. h) (λ number q h. h) old
 
 -- a key's part stays
 pub joins_parted : (w : WorldState) (call : ℕ) (key : Bytes) (was part : Part) (premises : Premises) (store : Cache) → part_of w call key ≡ Some was → part.reservation.caller.call ≡ was.reservation.caller.call → IsSoundWorld w
     → HasJoins (record w { parts = insert w.parts key part; premises = premises; store = store })
 joins_parted w call key was part premises store is same old =
-    let new : WorldState = record w { parts = insert w.parts key part; premises = premises; store = store } in
     let there = (of_call-at call (get w.parts key) was is).0 in
-    record {
-      joins = kept_joins w new
-          (λ j t h. record {
-            out = h.out;
-            call = h.call;
-            no_part = none_inserted w.parts key j.key part j.caller.call h.no_part (λ e. ap (λ c. c == j.caller.call) same ∙ part_other (get w.parts key) was j.caller.call there (ap (λ k. of_call j.caller.call (get w.parts k)) (sym e) ∙ h.no_part));
-          }) old;
-      called = λ m s at. each_map (IsCalled w m) (IsCalled new m) s.joiners (λ j h. record { home_is = h.home_is; join = h.join; call = h.call }) (old.called m s at);
-    }
+    joins_beside w w.last w.calls (insert w.parts key part) store premises (λ number session q t h. h)
+    (λ number q none. none_inserted w.parts key q part number none (λ e. ap (λ c. c == number) same ∙ part_other (get w.parts key) was number there (ap (λ k. of_call number (get w.parts k)) (sym e) ∙ none))) old
 
 -- a call begins
 joins_called : (w : WorldState) (call session : ℕ) (command : Command) → IsSoundWorld w → HasJoins (record w { last = Some call; calls = w.calls ++ opened (new_call call session command) })
 joins_called w call session command old =
     let more : List CallState = opened (new_call call session command) in
-    let new : WorldState = record w { last = Some call; calls = w.calls ++ more } in
-    record {
-      joins = kept_joins w new (λ j t h. record { out = h.out; call = find_pushed (has_number j.caller.call) w.calls more (IsCallOf j.caller.session j.key Get) h.call; no_part = h.no_part }) old;
-      called = λ m s at. each_map (IsCalled w m) (IsCalled new m) s.joiners (λ j h. record { home_is = h.home_is; join = h.join; call = find_pushed (has_number j.caller.call) w.calls more (IsCallOf j.caller.session j.key Get) h.call }) (old.called m s at);
-    }
+    joins_beside w (Some call) (w.calls ++ more) w.parts w.store w.premises (λ number session q t h. find_pushed (has_number number) w.calls more (IsCallOf session q Get) h) (λ number q h. h) old
 
 -- a call has taken keys, or has met something, and each continues at each of its keys
 joins_taken : (w : WorldState) (calls : List CallState)
     → ((number session : ℕ) (q : Bytes) (op : Op) → IsSomeAnd (open_call w number) (IsCallOf session q op) → IsSomeAnd (find (has_number number) calls) (IsCallOf session q op)) → IsSoundWorld w → HasJoins (record w { calls = calls })
-joins_taken w calls still old =
-    let new : WorldState = record w { calls = calls } in
-    record {
-      joins = kept_joins w new (λ j t h. record { out = h.out; call = still j.caller.call j.caller.session j.key Get h.call; no_part = h.no_part }) old;
-      called = λ m s at. each_map (IsCalled w m) (IsCalled new m) s.joiners (λ j h. record { home_is = h.home_is; join = h.join; call = still j.caller.call j.caller.session j.key Get h.call }) (old.called m s at);
-    }
+joins_taken w calls still old = joins_beside w w.last calls w.parts w.store w.premises (λ number session q t h. still number session q Get h) (λ number q h. h) old
 
 joins_looked : (w : WorldState) (call stripe : ℕ) (keys : List Bytes) (s : SweepState) (u : CallState) → open_call w call ≡ Some u → u.sweep ≡ Some s → IsSoundWorld w → HasJoins (with_look w call stripe keys s)
 joins_looked w call stripe keys s u here sweeps old = joins_taken w (with_look w call stripe keys s).calls (looked_called w call stripe keys s u here sweeps) old
@@ -142,17 +86,12 @@ still_under w call key met free turn number session q joined h = still_called ca
 -- a first phase was refused, and the key has its last refusal
 joins_refused : (w : WorldState) (call : ℕ) (key : Bytes) (met : Option Refusal) → is_joined w call key ≡ false → IsTurnOf w.calls call key → IsSoundWorld w → HasJoins (with_settled w call key met)
 joins_refused w call key met free turn old =
-    let new = with_settled w call key met in
-    record {
-      joins = kept_joins w new (λ j t h. record { out = h.out; call = still_under w call key met free turn j.caller.call j.caller.session j.key t h.call; no_part = h.no_part }) old;
-      called = λ m s at. each_map (IsCalled w m) (IsCalled new m) s.joiners (λ j h. record { home_is = h.home_is; join = h.join; call = still_under w call key met free turn j.caller.call j.caller.session j.key h.join h.call }) (old.called m s at);
-    }
+    joins_beside w w.last (settle call key met w.calls) w.parts w.store w.premises (λ number session q t h. still_under w call key met free turn number session q t h) (λ number q h. h) old
 
 -- a call without any join goes
 still_beside : (w : WorldState) (call : ℕ) (u : CallState) → open_call w call ≡ Some u → list_all (is_free w call) (open_keys u) ≡ true → (number session : ℕ) (q : Bytes) → is_joined w number q ≡ true
     → IsSomeAnd (open_call w number) (IsCallOf session q Get) → IsSomeAnd (find (has_number number) (drop_call call w.calls)) (IsCallOf session q Get)
 still_beside w call u is free number session q joined h =
-    let P : Option CallState → Type 0 = λ o. IsSomeAnd o (IsCallOf session q Get) in
     let v = some_of (open_call w number) (IsCallOf session q Get) h in
     let apart = false_from_ne_true (call == number) (λ e.
     let mine : number ≡ call = sym (eqb-true call number e) in
@@ -160,7 +99,7 @@ still_beside w call u is free number session q joined h =
     let same : v.0 ≡ u = cc in
     let one = open_now (is_free w call) u q Get (ap (λ (x : CallState). op_at x q) (sym same) ∙ v.2.1) free in
     denied (is_joined w call q) (and_parts (is_none (part_of w call q)) (not (is_joined w call q)) one).1 (ap (λ n. is_joined w n q) (sym mine) ∙ joined)) in
-    subst P (sym (find_over call number w.calls apart)) h
+    rw (find_over call number w.calls apart) h
 
 -- 3. A phase that changes no join.
 
@@ -207,8 +146,8 @@ none_reserved w call key part call_is free number q joined none =
 -- a call without a join has no joiner
 pub no_joiner : (w : WorldState) (key : Bytes) (from : State) (join : JoinClaim) → stripe_for w key ≡ Some from → is_joined w join.caller.call join.key ≡ false → IsSoundWorld w → joiner_of join.caller join.key from.joiners ≡ None
 no_joiner w key from join there free old = missing (joiner_of join.caller join.key from.joiners) (λ x e.
-    let its = joiner_is join.caller join.key x (found_test (is_joiner_of join.caller join.key) from.joiners x e) in
-    let had = (fact_found (IsCalled w (home w key)) (is_joiner_of join.caller join.key) from.joiners x e (old.called (home w key) from there)).join in
+    let its = joiner_is join.caller join.key x (found_test (belongs_to join.caller join.key) from.joiners x e) in
+    let had = (fact_found (IsCalled w (home w key)) (belongs_to join.caller join.key) from.joiners x e (old.called (home w key) from there)).join in
     let t : true ≡ false = sym had ∙ (λ i. is_joined w (its.1 i) (its.2 i)) ∙ free in cc)
 
 -- the call has joined a load
@@ -219,7 +158,7 @@ joins_joined w u key op from to join there join_is to_is get_is may old =
     let next : Joiner = record { caller = join.caller; key = join.key; load = join.load; state = Waiting } in
     let joiners : to.joiners ≡ from.joiners ++ next ∷ [] = ap (λ (s : State). s.joiners) to_is in
     let J : JoinClaim → List Joiner → Type 0 = λ j js. IsSomeAnd (joiner_of j.caller j.key js) (λ x. x.load ≡ j.load) in
-    let keeps : (j : JoinClaim) → IsJoined from j → IsJoined to j = λ j t. subst (J j) (sym joiners) (joined_front (λ x. x.load ≡ j.load) (is_joiner_of j.caller j.key) from.joiners (next ∷ []) t) in
+    let keeps : (j : JoinClaim) → IsJoined from j → IsJoined to j = λ j t. subst (J j) (sym joiners) (joined_front (λ x. x.load ≡ j.load) (belongs_to j.caller j.key) from.joiners (next ∷ []) t) in
     let session_is : join.caller.session ≡ u.caller.session = ap (λ (j : JoinClaim). j.caller.session) join_is in
     let call_is : join.caller.call ≡ u.caller.call = ap (λ (j : JoinClaim). j.caller.call) join_is in
     let key_is : join.key ≡ key = ap (λ (j : JoinClaim). j.key) join_is in
@@ -235,7 +174,7 @@ joins_joined w u key op from to join there join_is to_is get_is may old =
     let waits : IsWaitedFor new join = record {
       out = is_some_and (stripe_for new join.key) F to (ap (λ k. slice_get new.stripes (home w k)) key_is ∙ stripe_put w.stripes (home w key) from to there)
           (subst (J join) (sym joiners)
-          (joined_last (λ x. x.load ≡ join.load) (is_joiner_of join.caller join.key) from.joiners next alone
+          (joined_last (λ x. x.load ≡ join.load) (belongs_to join.caller join.key) from.joiners next alone
           (and_from _ _ (and_from _ _ (nat_eq_equiv.refl join.caller.session) (nat_eq_equiv.refl join.caller.call)) (nat_list_eq_equiv.refl join.key)) refl));
       call = its_call;
       no_part = (λ i. part_of w (call_is i) (key_is i)) ∙ none_is (part_of w u.caller.call key) may.none;
@@ -248,64 +187,11 @@ joins_joined w u key op from to join there join_is to_is get_is may old =
           (λ m js apart h. each_map (IsCalled w m) (IsCalled new m) js (on m) h) old;
     }
 
--- by what is shown of the first phase
-joins_started : (w new : WorldState) (u : CallState) (key : Bytes) (op : Op) (from to : State) (seen : Outcome) → stripe_for w key ≡ Some from → Starts w u.caller key op from to seen new → MayStart w u key op → IsSoundWorld w → HasJoins new
-joins_started w new u key op from to (outcome.Refused refusal) there h may old = subst HasJoins (sym h.1) (joins_refused w u.caller.call key (Some refusal) may.alone (may_turn w u key op may) old)
-joins_started w new u key op from to (outcome.PutOff refusal) there h may old = subst HasJoins (sym h.1) (record { joins = old.joins; called = old.called })
-joins_started w new u key op from to (outcome.Stepped seen) there h may old =
-    let same : to.joiners ≡ from.joiners = ap (λ (s : State). s.joiners) h.0.2.after in
-    subst HasJoins (sym h.2)
-    (joins_phase w key from to (with_phase w key from to).order (settle u.caller.call key (fault_in seen.reply) w.calls) w.parts there (same_joiners from to same) (same_called (home w key) from to same)
-    (λ number session q t k. still_under w u.caller.call key (fault_in seen.reply) may.alone (may_turn w u key op may) number session q t k) (λ number q t k. k) old)
-joins_started w new u key op from to outcome.Loads there h may old =
-    let same : to.joiners ≡ from.joiners = ap (λ (s : State). s.joiners) h.1.4 in
-    let part = new_part new_load h.0.reservation in
-    subst HasJoins (sym h.2)
-    (joins_phase w key from to w.order w.calls (insert w.parts key part) there (same_joiners from to same) (same_called (home w key) from to same) (λ number session q t k. k)
-    (none_reserved w u.caller.call key part (ap (λ (t : Ticket). t.reservation.caller.call) h.1.3) may.alone) old)
-joins_started w new u key op from to (outcome.Asks change) there h may old =
-    let same : to.joiners ≡ from.joiners = ap (λ (s : State). s.joiners) h.1.4 in
-    let part = new_part new_write h.0.reservation in
-    subst HasJoins (sym h.3)
-    (joins_phase w key from to w.order w.calls (insert w.parts key part) there (same_joiners from to same) (same_called (home w key) from to same) (λ number session q t k. k)
-    (none_reserved w u.caller.call key part (ap (λ (t : Ticket). t.reservation.caller.call) h.1.3) may.alone) old)
-joins_started w new u key op from to (outcome.Processes entry) there h may old =
-    let same : to.joiners ≡ from.joiners = ap (λ (s : State). s.joiners) h.1.4 in
-    let part = new_part new_process h.0.reservation in
-    subst HasJoins (sym h.3)
-    (joins_phase w key from to w.order w.calls (insert w.parts key part) there (same_joiners from to same) (same_called (home w key) from to same) (λ number session q t k. k)
-    (none_reserved w u.caller.call key part (ap (λ (t : ProcessClaim). t.reservation.caller.call) h.1.3) may.alone) old)
-joins_started w new u key op from to outcome.Joins there h may old = subst HasJoins (sym h.2) (joins_joined w u key op from to h.0 there h.1.2 h.1.3 (joins_get from key op h.0.load h.1.1) may old)
-joins_started w new u key op from to seen there h may old = absurd h
-
--- 5. The last phase, and a reservation that is given back.
+-- 5. The last phase.
 
 -- a call with a part has no join of its key
 unjoined_part : (w : WorldState) (call : ℕ) (key : Bytes) (part : Part) → part_of w call key ≡ Some part → IsSoundWorld w → is_joined w call key ≡ false
 unjoined_part w call key part is old = false_from_ne_true (is_joined w call key) (λ t. let e : Some part ≡ None = sym is ∙ joined_no_part w call key t old.joins in cc)
-
--- by what is shown of the last phase
-joins_ended : (w new : WorldState) (call : ℕ) (key : Bytes) (part : Part) (from to : State) (seen : Outcome) → part_of w call key ≡ Some part → stripe_for w key ≡ Some from → Ends w call key part from to seen new → IsSoundWorld w → HasJoins new
-joins_ended w new call key part from to (outcome.Stepped seen) is there h old =
-    let joiners : to.joiners ≡ resolved part.reservation.number seen.place from.joiners = ap (λ (s : State). s.joiners) h.0.1.after in
-    let free = unjoined_part w call key part is old in
-    let at = of_call-at call (get w.parts key) part is in
-    let turn = part_turn w call key part at.0 at.1 old in
-    subst HasJoins (sym h.2)
-    (joins_phase w key from to (with_phase w key from to).order (settle call key (fault_in seen.reply) w.calls) (remove w.parts key) there
-    (λ j t. let J : List Joiner → Type 0 = λ js. IsSomeAnd (joiner_of j.caller j.key js) (λ x. x.load ≡ j.load) in subst J (sym joiners) (joined_resolved (λ x. x.load ≡ j.load) part.reservation.number seen.place (seen.place + 1) j.caller j.key from.joiners (λ place x k. k) t))
-    (λ n t. subst (AllCalled n (home w key)) (sym joiners) (called_resolved n (home w key) part.reservation.number seen.place (seen.place + 1) from.joiners t))
-    (λ number session q t k. still_under w call key (fault_in seen.reply) free turn number session q t k) (λ number q t k. none_removed w.parts key q number k) old)
-joins_ended w new call key part from to seen is there h old = absurd h
-
--- a reservation is given back
-joins_withdrawn : (w : WorldState) (key : Bytes) (claim : Reservation) (from to : State) → stripe_for w key ≡ Some from → Withdraws from claim to → IsSoundWorld w → HasJoins (without_part (with_stripe w key to) key)
-joins_withdrawn w key claim from to there h old =
-    let joiners = ap (λ (s : State). s.joiners) h.1 in
-    joins_phase w key from to w.order w.calls (remove w.parts key) there
-    (λ j t. let J : List Joiner → Type 0 = λ js. IsSomeAnd (joiner_of j.caller j.key js) (λ x. x.load ≡ j.load) in subst J (sym joiners) (joined_dissolved (λ x. x.load ≡ j.load) claim.number j.caller j.key from.joiners (λ x k. k) t))
-    (λ n t. subst (AllCalled n (home w key)) (sym joiners) (called_dissolved n (home w key) claim.number from.joiners t))
-    (λ number session q t k. k) (λ number q t k. none_removed w.parts key q number k) old
 
 -- 6. An answer is picked up.
 
@@ -335,12 +221,12 @@ joins_picked : (w : WorldState) (call : ℕ) (key : Bytes) (join : JoinClaim) (f
 joins_picked w call key join from to calls joined there is go old =
     let new : WorldState = record w { stripes = slice_set w.stripes (home w key) to; joins = remove w.joins (call, key); calls = calls } in
     let p = picking w call key join joined old in
-    let its : Joiner → Bool = is_joiner_of join.caller join.key in
+    let its : Joiner → Bool = belongs_to join.caller join.key in
     let joiners : to.joiners ≡ without join.caller join.key from.joiners = ap (λ (s : State). s.joiners) is in
     let out : (j : JoinClaim) → (j.caller.call ≡ call → j.key ≡ key → ⊥) → IsJoined from j → IsJoined to j = λ j other h.
     let J : Option Joiner → Type 0 = λ o. IsSomeAnd o (λ x. x.load ≡ j.load) in
     subst J (sym (ap (joiner_of j.caller j.key) joiners
-    ∙ find_kept (is_joiner_of j.caller j.key) (λ x. not (its x)) from.joiners (λ x t. ap not (false_from_ne_true (its x) (λ e.
+    ∙ find_kept (belongs_to j.caller j.key) (λ x. not (its x)) from.joiners (λ x t. ap not (false_from_ne_true (its x) (λ e.
     let mine = joiner_is j.caller j.key x t in
     let same = joiner_is join.caller join.key x e in
     other (sym mine.1 ∙ same.1 ∙ p.call_is) (sym mine.2 ∙ same.2 ∙ p.join_key)))))) h
@@ -370,14 +256,51 @@ joins_picked w call key join from to calls joined there is go old =
           (λ m js apart h. each_map (IsCalled w m) (IsCalled new m) js (λ j k. on m j (λ e f g. apart (ap (home w) (sym e) ∙ k.home_is)) k) h) old;
     }
 
--- by what is shown of a pick-up
-joins_picks : (w new : WorldState) (call : ℕ) (key : Bytes) (join : JoinClaim) (from to : State) (seen : Outcome) → join_of w call key ≡ Some join → stripe_for w key ≡ Some from → Picks w call key join from to seen new → IsSoundWorld w → HasJoins new
-joins_picks w new call key join from to (outcome.PickedUp seen) joined there h old = subst HasJoins (sym h.2) (joins_picked w call key join from to (settle call key (fault_in seen.reply) w.calls) joined there h.0.3 (others_go_on w call key (fault_in seen.reply) (picking_turn w call key join (picking w call key join joined old))) old)
-joins_picks w new call key join from to outcome.Again joined there h old = subst HasJoins (sym h.1) (joins_picked w call key join from to w.calls joined there h.0.2 (all_go_on w call key) old)
-joins_picks w new call key join from to outcome.Waits joined there h old = subst HasJoins (sym h.1) (record { joins = old.joins; called = old.called })
-joins_picks w new call key join from to seen joined there h old = absurd h
+-- 7. By the kind of the change at a key.
 
--- 7. Before anything has happened, and any event that fits.
+joins_key : (w new : WorldState) (e : WorldEvent) (key : Bytes) (seen : Shown) → KeyChange w new e key seen → fits w e ≡ true → IsSoundWorld w → HasJoins new
+joins_key w new e key seen (by_nothing is none ends) fit old = subst HasJoins (sym is) (joins_half w old)
+joins_key w new e key seen (by_refusal u op refusal start is none ends) fit old =
+    let may = may_of w e key u op start fit old in
+    subst HasJoins (sym is) (joins_refused w u.caller.call key (Some refusal) may.alone (may_turn w u key op may) old)
+joins_key w new e key seen (by_step u op from to x start there h home_is is shows ends) fit old =
+    let may = may_of w e key u op start fit old in
+    let same : to.joiners ≡ from.joiners = ap (λ (s : State). s.joiners) h.2.after in
+    subst HasJoins (sym is)
+    (joins_phase w key from to (with_phase w key from to).order (settle u.caller.call key (fault_in x.reply) w.calls) w.parts there (same_joiners from to same) (same_called (home w key) from to same)
+    (λ number session q t k. still_under w u.caller.call key (fault_in x.reply) may.alone (may_turn w u key op may) number session q t k) (λ number q t k. k) old)
+joins_key w new e key seen (by_reservation u op from to p r start there h is none ends) fit old =
+    let same : to.joiners ≡ from.joiners = ap (λ (s : State). s.joiners) h.after in
+    subst HasJoins (sym is)
+    (joins_phase w key from to w.order w.calls (insert w.parts key (new_part p r)) there (same_joiners from to same) (same_called (home w key) from to same) (λ number session q t k. k)
+    (none_reserved w u.caller.call key (new_part p r) (ap (λ (x : Reservation). x.caller.call) h.is) (may_of w e key u op start fit old).alone) old)
+joins_key w new e key seen (by_join u op from to join start there h is none ends) fit old =
+    subst HasJoins (sym is) (joins_joined w u key op from to join there h.2 h.3 (joins_get from key op join.load h.1) (may_of w e key u op start fit old) old)
+joins_key w new e key seen (by_commit call part from to x e_is part_is there h home_is is shows) fit old =
+    let joiners : to.joiners ≡ after_resolve part.reservation.number x.place from.joiners = ap (λ (s : State). s.joiners) h.1.after in
+    let free = unjoined_part w call key part part_is old in
+    let at = of_call-at call (get w.parts key) part part_is in
+    let turn = part_turn w call key part at.0 at.1 old in
+    let J : JoinClaim → List Joiner → Type 0 = λ j js. IsSomeAnd (joiner_of j.caller j.key js) (λ x. x.load ≡ j.load) in
+    subst HasJoins (sym is)
+    (joins_phase w key from to (with_phase w key from to).order (settle call key (fault_in x.reply) w.calls) (remove w.parts key) there
+    (λ j t. subst (J j) (sym joiners) (joined_resolved (λ x. x.load ≡ j.load) part.reservation.number x.place (x.place + 1) j.caller j.key from.joiners (λ place x k. k) t))
+    (λ n t. subst (AllCalled n (home w key)) (sym joiners) (called_resolved n (home w key) part.reservation.number x.place (x.place + 1) from.joiners t))
+    (λ number session q t k. still_under w call key (fault_in x.reply) free turn number session q t k) (λ number q t k. none_removed w.parts key q number k) old)
+joins_key w new e key seen (by_withdrawal call part from to e_is part_is there h is shows) fit old =
+    let joiners = ap (λ (s : State). s.joiners) h.1 in
+    let J : JoinClaim → List Joiner → Type 0 = λ j js. IsSomeAnd (joiner_of j.caller j.key js) (λ x. x.load ≡ j.load) in
+    subst HasJoins (sym is)
+    (joins_phase w key from to w.order w.calls (remove w.parts key) there
+    (λ j t. subst (J j) (sym joiners) (joined_dissolved (λ x. x.load ≡ j.load) part.reservation.number j.caller j.key from.joiners (λ x k. k) t))
+    (λ n t. subst (AllCalled n (home w key)) (sym joiners) (called_dissolved n (home w key) part.reservation.number from.joiners t))
+    (λ number session q t k. k) (λ number q t k. none_removed w.parts key q number k) old)
+joins_key w new e key seen (by_answer call join from to x e_is join_is there h home_is is shows ends) fit old =
+    subst HasJoins (sym is) (joins_picked w call key join from to (settle call key (fault_in x.reply) w.calls) join_is there h.3 (others_go_on w call key (fault_in x.reply) (picking_turn w call key join (picking w call key join join_is old))) old)
+joins_key w new e key seen (by_retry call join from to e_is join_is there h is shows ends) fit old =
+    subst HasJoins (sym is) (joins_picked w call key join from to w.calls join_is there h.2 (all_go_on w call key) old)
+
+-- 8. Before anything has happened, and any event that fits.
 
 -- before anything has happened
 pub joins_start : (config : Config) → check config ≡ Ok tt → HasJoins (start config)
@@ -393,25 +316,18 @@ joins_left w call fit old = go (open_call w call) refl
     go : (o : Option CallState) → open_call w call ≡ o → HasJoins (without_call w call)
     go None e = let t : false ≡ true = ap (may_leave w call) (sym e) ∙ fit in cc
     go (Some u) e =
-        let new = without_call w call in
-        let free = sym (ap (may_leave w call) e) ∙ fit in
-        record {
-          joins = kept_joins w new (λ j t h. record { out = h.out; call = still_beside w call u e free j.caller.call j.caller.session j.key t h.call; no_part = h.no_part }) old;
-          called = λ m s at. each_map (IsCalled w m) (IsCalled new m) s.joiners (λ j h. record { home_is = h.home_is; join = h.join; call = still_beside w call u e free j.caller.call j.caller.session j.key h.join h.call }) (old.called m s at);
-        }
+        joins_beside w w.last (drop_call call w.calls) w.parts w.store w.premises
+        (λ number session q t h. still_beside w call u e (sym (ap (may_leave w call) e) ∙ fit) number session q t h) (λ number q h. h) old
 
 -- by the kind of the event
 pub joins_happens : (w new : WorldState) (e : WorldEvent) (seen : Shown) → fits w e ≡ true → Happens w e seen new → (IsReport e → IsSoundWorld new) → IsSoundWorld w → HasJoins new
-joins_happens w new (event.Call call session command) seen fit h back old = subst HasJoins (sym h.1) (joins_called w call session command old)
-joins_happens w new (event.Look call stripe) seen fit h back old = subst HasJoins (sym h.9) (joins_looked w call stripe h.6 h.1 h.0 h.2 h.3 old)
-joins_happens w new (event.Start call key) seen fit h back old = joins_started w new h.0 key h.1 h.4 h.6 seen.outcome h.5 h.7 (may_start_at w call key h.0 h.1 fit h.2 h.3 old) old
-joins_happens w new (event.Read call key) seen fit h back old = subst HasJoins (sym h.3) (joins_parted w call key h.0 _ _ w.store h.1 refl old)
-joins_happens w new (event.Say call key answer) seen fit h back old = subst HasJoins (sym h.3) (joins_parted w call key h.0 _ _ w.store h.1 refl old)
-joins_happens w new (event.Process call key source calls fail) seen fit h back old = subst HasJoins (sym h.3) (joins_parted w call key h.0 _ _ w.store h.1 refl old)
-joins_happens w new (event.Change call key) seen fit h back old = subst HasJoins (sym h.5) (joins_parted w call key h.0 _ w.premises _ h.2 refl old)
-joins_happens w new (event.Report call left fault) seen fit h back old = joins_half new (back tt)
-joins_happens w new (event.Commit call key) seen fit h back old = joins_ended w new call key h.0 h.2 h.4 seen.outcome h.1 h.3 h.5 old
-joins_happens w new (event.Withdraw call key) seen fit h back old = subst HasJoins (sym h.7) (joins_withdrawn w key h.0.reservation h.2 h.4 h.3 h.5 old)
-joins_happens w new (event.Leave call) seen fit h back old = subst HasJoins (sym h.1) (joins_left w call fit old)
-joins_happens w new (event.PickUp call key) seen fit h back old = joins_picks w new call key h.0 h.2 h.4 seen.outcome h.1 h.3 h.5 old
-joins_happens w new (event.Foreign key value) seen fit h back old = subst HasJoins (sym h.1) (joins_stored w _ _ old)
+joins_happens w new (WorldEvent.Call call session command) seen fit h back old = subst HasJoins (sym h.1) (joins_called w call session command old)
+joins_happens w new (WorldEvent.Look call stripe) seen fit h back old = subst HasJoins (sym h.9) (joins_looked w call stripe h.6 h.1 h.0 h.2 h.3 old)
+joins_happens w new (WorldEvent.Read call key) seen fit h back old = subst HasJoins (sym h.3) (joins_parted w call key h.0 _ _ w.store h.1 refl old)
+joins_happens w new (WorldEvent.Say call key answer) seen fit h back old = subst HasJoins (sym h.3) (joins_parted w call key h.0 _ _ w.store h.1 refl old)
+joins_happens w new (WorldEvent.Process call key source calls fail) seen fit h back old = subst HasJoins (sym h.3) (joins_parted w call key h.0 _ _ w.store h.1 refl old)
+joins_happens w new (WorldEvent.Change call key) seen fit h back old = subst HasJoins (sym h.5) (joins_parted w call key h.0 _ w.premises _ h.2 refl old)
+joins_happens w new (WorldEvent.Report call left fault) seen fit h back old = joins_half new (back tt)
+joins_happens w new (WorldEvent.Leave call) seen fit h back old = subst HasJoins (sym h.1) (joins_left w call fit old)
+joins_happens w new (WorldEvent.Foreign key value) seen fit h back old = subst HasJoins (sym h.1) (joins_stored w _ _ old)
+joins_happens w new e seen fit h back old = let k = key_change w new e seen refl h in joins_key w new e k.0 seen k.1 fit old

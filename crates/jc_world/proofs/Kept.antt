@@ -1,69 +1,8 @@
 -- Each event keeps what the parts and the store of a world say.
-use Rattle.std.proofs.Common.{◌≡◌, ◌&&◌, ◌+◌, ℕ, zero, suc, List, [], ◌∷◌, ◌++◌, Bool, true, false, cond, Option, None, Some, is_none, is_some, IsSomeAnd, Ok, find, refl, sym, ap, ◌∙◌, subst, slice_get, slice_set}
-use Rattle.std.specs.Ordering.{eq_by_cmp}
-use Rattle.std.specs.Cmp.Lexicographic.{texts_ties}
-use Rattle.std.proofs.lemmas.Cmp.{nat_list_cmp_total}
-use Rattle.std.proofs.lemmas.Bool.{and_parts, and_from}
-use Rattle.std.specs.FinMap.{get, insert, remove, get-empty, get-insert, get-remove}
-use Rattle.std.specs.Bool.{beq}
-use Rattle.jc_world.proofs.Numbered.{some_of}
-use Rattle.jc_types.specs.declared.caller.Caller.{Caller}
-use Rattle.jc_types.specs.declared.config.Config.{Config}
-use Rattle.jc_types.specs.Limits.{check}
-use Rattle.jc_model.specs.declared.event.Op.{Op}
-use Rattle.jc_model.specs.declared.event.Event.{Event}
-use Rattle.jc_model.specs.declared.event.Change.{Change}
-use Rattle.jc_model.specs.declared.event.LoadAnswer.{LoadAnswer}
-use Rattle.jc_model.specs.declared.event.LoadAnswer.TheVariants as load
-use Rattle.jc_model.specs.declared.event.WriteAnswer.{WriteAnswer}
-use Rattle.jc_model.specs.declared.event.WriteAnswer.TheVariants as write
-use Rattle.jc_model.specs.declared.event.ProcessAnswer.TheVariants as process
-use Rattle.jc_model.specs.Cache.{Bytes, Cache, key_cmp, entry_at, with_entry}
-use Rattle.jc_model.specs.Table.{entry_after, write_ask, holds, is_write_given}
-use Rattle.jc_model.specs.Group.{nothing_said, write_only}
-use Rattle.jc_model.specs.Processor.{found_in}
-use Rattle.jc_model.proofs.CallerLemmas.{same_key, get-with_entry}
-use Rattle.jc_inflight.specs.Joining.{callers_of}
-use Rattle.jc_stripe.specs.declared.ticket.Reservation.{Reservation}
-use Rattle.jc_stripe.specs.Tickets.{Ticket, ProcessClaim, JoinClaim, asks_loader, asks_writer, asks_processor}
-use Rattle.jc_mutentry.specs.Done.{ProcessResult}
-use Rattle.jc_outside.specs.declared.done.Origin.TheVariants.{Played}
-use Rattle.jc_model.specs.declared.processor.EntryCall.{EntryCall}
-use Rattle.jc_stripe.specs.Effects.{change_due}
-use Rattle.jc_stripe.specs.State.{State, without_key, is_reserved, is_key, new_reservation, IsOut}
-use Rattle.jc_stripe.specs.Phases.{Begins, Commits, Withdraws, Steps, after_commit}
-use Rattle.jc_stripe.specs.Refusals.{reserves, first_asked}
-use Rattle.jc_stripe.specs.declared.begun.StepDone.{StepDone}
-use Rattle.jc_stripe.specs.Reached.{AllAsk}
-use Rattle.jc_stripe.specs.declared.begun.Begun.TheVariants as begun
-use Rattle.jc_stripe.specs.declared.ticket.First.{First}
-use Rattle.jc_stripe.specs.declared.ticket.First.TheVariants.{Nobody, Loader, Writer, Processor}
-use Rattle.jc_world.specs.declared.command.Command.{Command}
-use Rattle.jc_world.specs.Calls.{CallState, has_number, op_at, opened, settle, drop_call, new_call}
-use Rattle.jc_world.specs.declared.event.Part.{Part}
-use Rattle.jc_world.specs.declared.event.Progress.{Progress}
-use Rattle.jc_world.specs.declared.event.Progress.TheVariants.{Loading, Writing, Processing, Processed, WritingEffect}
-use Rattle.jc_world.specs.declared.event.Premises.{Premises}
-use Rattle.jc_world.specs.declared.event.Outcome.{Outcome}
-use Rattle.jc_world.specs.declared.event.Outcome.TheVariants as outcome
-use Rattle.jc_world.specs.declared.event.WorldEvent.TheVariants as event
-use Rattle.jc_world.specs.World.{WorldState, Parts, home, stripe_for, cached_entry, entry_in, empty_stripes, start, open_call, part_of, waits_for_load, waits_for_report, is_answered, is_untouched, has_changed, out_in, Joins, join_key, join_of, out_of, with_stored, has_progress, waits_for_process, writer_change_in, writer_change}
-use Rattle.jc_world.specs.Premises.{changed_to, is_true_load, is_done, is_true_report, with_foreign_write, premises_hold}
-use Rattle.jc_world.specs.Fits.{fits, may_leave}
-use Rattle.jc_world.specs.Events.{fault_in, run_result, progress_after, after_process, after_answer, after_change, after_report, new_load, new_write, new_process, new_part, with_change, with_report, with_stripe, with_phase, without_call, with_part, without_part, step_of, Starts, Ends, Picks}
-use Rattle.jc_world.specs.Coherent.{Coherent, all_hold}
-use Rattle.jc_world.specs.Sound.{is_due_in, is_asked, IsHeld, Agrees, LoadAgrees, ProgressAgrees, KeyAgrees, IsWrittenFor, IsSoundWorld}
+use Rattle.jc_world.proofs.Common.{◌≡◌, ℕ, zero, suc, ◌+◌, Bool, true, false, cond, ◌&&◌, List, [], ◌∷◌, ◌++◌, is_some, is_none, IsSomeAnd, slice_get, slice_set, Some, None, Ok, Option, find, sym, refl, ap, ◌∙◌, subst, and_parts, and_from, nat_list_cmp_total, beq, texts_ties, get, insert, remove, get-empty, get-insert, get-remove, eq_by_cmp, T, check, Caller, Config, same_key, get-with_entry, Bytes, Cache, entry_at, with_entry, key_cmp, nothing_said, write_only, found_in, holds, write_ask, is_write_given, entry_after, Change, Event, LoadAnswer, Op, ProcessAnswer, WriteAnswer, EntryCall, callers_of, ProcessResult, Played, asks_invoking, change_due, Steps, Begins, after_commit, Commits, Withdraws, AllAsk, first_asked, reserves, State, is_key, is_reserved, new_reservation, without_key, IsOut, Ticket, ProcessClaim, asks_loader, asks_writer, asks_processor, JoinClaim, Begun, StepDone, First, Loader, Nobody, Processor, Writer, Reservation, Command, Outcome, Part, Premises, Progress, Loading, Processed, Processing, Writing, WritingEffect, Shown, WorldEvent, CallState, new_call, has_number, op_at, opened, settle, drop_call, Coherent, all_hold, with_stripe, with_phase, step_of, fault_in, without_call, new_load, new_write, new_process, new_part, with_part, without_part, Starts, Ends, Picks, after_answer, with_change, after_change, with_report, after_report, run_result, progress_after, after_process, may_leave, fits, changed_to, is_true_load, is_done, is_true_report, with_foreign_write, premises_hold, is_asked, is_due_in, IsHeld, Agrees, IsWrittenFor, LoadAgrees, ProgressAgrees, KeyAgrees, IsSoundWorld, Parts, join_key, Joins, WorldState, home, stripe_for, entry_in, cached_entry, empty_stripes, start, open_call, part_of, has_progress, waits_for_load, waits_for_process, waits_for_report, is_answered, is_untouched, has_changed, writer_change_in, writer_change, out_in, out_of, join_of, with_stored}
+use Rattle.jc_world.proofs.Lemmas.{denied, missing, HasParts, is_some_and, picking, at_stripe, stripe_put, home_stripe, split, tied, agrees_stepped, writes, loads_asked, writes_asked, loads, asks_nobody, found_more, out_reserved, was_free, writer_alone, new_out, found_left, processor_free, invoke_is, write_due, agrees_processed, agrees_effect, KeyChange, by_nothing, by_refusal, by_step, by_reservation, by_join, by_commit, by_withdrawal, by_answer, by_retry, some_of}
 use Rattle.jc_world.proofs.Holding.{call_on, is_part}
-use Rattle.jc_world.proofs.Halves.{HasParts}
-use Rattle.jc_stripe.proofs.CallerLemmas.{asks_invoking}
-use Rattle.jc_world.proofs.Processors.{processor_free, invoke_is, write_due, agrees_processed, agrees_effect}
-use Rattle.jc_world.proofs.Places.{at_stripe, stripe_put, home_stripe}
-use Rattle.jc_world.proofs.Reservations.{found_more, out_reserved, was_free, writer_alone, new_out, found_left}
 use Rattle.jc_world.proofs.Maps.{keys_ordered, each_put}
-use Rattle.jc_world.proofs.Entries.{split, tied, agrees_stepped, writes, loads_asked, writes_asked, loads, asks_nobody}
-use Rattle.jc_world.proofs.Callers.{picking}
-use Rattle.jc_world.proofs.Facts.{denied, missing}
-use Rattle.jc_world.proofs.Shares.{is_some_and}
 
 -- 1. Small facts.
 
@@ -123,17 +62,14 @@ holds_same (Some x) value h = ap Some (same_key x value (sym (texts_ties x value
 
 -- what an honest loader found is what is stored
 true_found : (answer : LoadAnswer) (stored : Option Bytes) → is_true_load answer stored ≡ true → Agrees (found_in answer) stored
-true_found load.NotAsked stored h = tt
-true_found (load.Found value) stored h = holds_same stored value h
-true_found load.Nothing stored h = tt
-true_found (load.Failed code) stored h = tt
+true_found (LoadAnswer.Found value) stored h = holds_same stored value h
+true_found answer stored h = tt
 
 -- tests that answer alike are the same
 same_test : (a b : Bool) → beq a b ≡ true → b ≡ a
-same_test true true h = refl
 same_test true false h = cc
 same_test false true h = cc
-same_test false false h = refl
+same_test a b h = refl
 
 -- what a key's part, its entry and the store say, if the entry is changed
 told_on : (o : Option Part) (stored entry next : Option Bytes) → (Agrees entry stored → Agrees next stored) → KeyAgrees o stored entry → KeyAgrees o stored next
@@ -142,16 +78,14 @@ told_on (Some part) stored entry next f h = go part.progress h
   where
     go : (p : Progress) → ProgressAgrees p part.reservation.first stored entry → ProgressAgrees p part.reservation.first stored next
     go (Loading answer) h = record { loaded = h.loaded; unwritten = f h.unwritten }
-    go (Writing is_changed report) h = record { written = h.written; unwritten = λ e. f (h.unwritten e); honest = h.honest }
     go Processing h = f h
     go (Processed loaded process) h = record { loaded = h.loaded; unwritten = f h.unwritten }
-    go (WritingEffect loaded process is_changed report) h = record { written = h.written; unwritten = λ e. f (h.unwritten e); honest = h.honest }
+    go p h = record { written = h.written; unwritten = λ e. f (h.unwritten e); honest = h.honest }
 
 -- nothing cached and no part say nothing
 told_none : (o : Option Part) (stored entry : Option Bytes) → o ≡ None → entry ≡ None → KeyAgrees o stored entry
 told_none None stored None h k = tt
-told_none None stored (Some x) h k = cc
-told_none (Some part) stored entry h k = cc
+told_none o stored entry h k = cc
 
 -- what is known of a key with this part
 told_at : (o : Option Part) (part : Part) (stored entry : Option Bytes) → o ≡ Some part → KeyAgrees o stored entry → ProgressAgrees part.progress part.reservation.first stored entry
@@ -159,11 +93,10 @@ told_at o part stored entry e h = let P : Option Part → Type 0 = λ o. KeyAgre
 
 -- as long as the writer hasn't changed the store, the entry agrees with it
 unwritten_in : (p : Progress) (first : First) (stored entry : Option Bytes) → has_changed p ≡ false → ProgressAgrees p first stored entry → Agrees entry stored
-unwritten_in (Loading answer) first stored entry e h = h.unwritten
 unwritten_in (Writing is_changed report) first stored entry e h = h.unwritten e
 unwritten_in Processing first stored entry e h = h
-unwritten_in (Processed loaded process) first stored entry e h = h.unwritten
 unwritten_in (WritingEffect loaded process is_changed report) first stored entry e h = h.unwritten e
+unwritten_in p first stored entry e h = h.unwritten
 
 -- 2. What is known of a sound world.
 
@@ -210,8 +143,7 @@ held_insert w parts key new all one = each_put keys_ordered (λ q part. HeldIn (
 -- what is known of a further part, and of all the others
 told_insert : (w : WorldState) (parts : Parts) (store : Cache) (key : Bytes) (new : Part) → AllTold w parts store → ProgressAgrees new.progress new.reservation.first (entry_at store key) (cached_entry w key) → AllTold w (insert parts key new) store
 told_insert w parts store key new all one q =
-    let P : Option Part → Type 0 = λ o. KeyAgrees o (entry_at store q) (cached_entry w q) in
-    subst P (sym (get-insert nat_list_cmp_total parts key new q))
+    rw (get-insert nat_list_cmp_total parts key new q)
     (split q key (λ b. KeyAgrees (cond b (Some new) (get parts q)) (entry_at store q) (cached_entry w q))
     (λ same. let Q : Bytes → Type 0 = λ k. ProgressAgrees new.progress new.reservation.first (entry_at store k) (cached_entry w k) in subst Q (sym same) one)
     (λ apart. all q))
@@ -221,50 +153,32 @@ told_insert w parts store key new all one q =
 -- an answer that was due is of whom was asked, and so is a report
 load_asked_of : (p : Progress) (first : First) (answer : LoadAnswer) → waits_for_load p ≡ true → is_asked p first ≡ true → is_asked (Loading answer) first ≡ true
 load_asked_of (Loading was) first answer due h = h
-load_asked_of (Writing is_changed report) first answer due h = cc
-load_asked_of Processing first answer due h = cc
-load_asked_of (Processed loaded process) first answer due h = cc
-load_asked_of (WritingEffect loaded process is_changed report) first answer due h = cc
+load_asked_of p first answer due h = cc
 
 run_asked_of : (p : Progress) (first : First) (change : Option Change) (done : ProcessResult Reservation) → waits_for_process p ≡ true → is_asked p first ≡ true → is_asked (progress_after change done) first ≡ true
-run_asked_of (Loading answer) first change done due h = cc
-run_asked_of (Writing is_changed report) first change done due h = cc
 run_asked_of Processing first None done due h = h
 run_asked_of Processing first (Some change) done due h = h
-run_asked_of (Processed loaded process) first change done due h = cc
-run_asked_of (WritingEffect loaded process is_changed report) first change done due h = cc
+run_asked_of p first change done due h = cc
 
 change_asked_of : (p : Progress) (first : First) → is_asked p first ≡ true → is_asked (with_change p) first ≡ true
 change_asked_of (Loading answer) first h = h
-change_asked_of (Writing is_changed report) first h = h
-change_asked_of Processing first h = h
-change_asked_of (Processed loaded process) first h = h
-change_asked_of (WritingEffect loaded process is_changed report) first h = h
+change_asked_of p first h = h
 
 report_asked_of : (p : Progress) (first : First) (report : WriteAnswer) → is_asked p first ≡ true → is_asked (with_report p report) first ≡ true
 report_asked_of (Loading answer) first report h = h
-report_asked_of (Writing is_changed was) first report h = h
-report_asked_of Processing first report h = h
-report_asked_of (Processed loaded process) first report h = h
-report_asked_of (WritingEffect loaded process is_changed was) first report h = h
+report_asked_of p first report h = h
 
 -- what is known once the loader has answered
 told_load : (p : Progress) (first : First) (answer : LoadAnswer) (stored entry : Option Bytes) → waits_for_load p ≡ true → Agrees (found_in answer) stored → ProgressAgrees p first stored entry → LoadAgrees answer stored entry
 told_load (Loading was) first answer stored entry due found h = record { loaded = found; unwritten = h.unwritten }
-told_load (Writing is_changed report) first answer stored entry due found h = cc
-told_load Processing first answer stored entry due found h = cc
-told_load (Processed loaded process) first answer stored entry due found h = cc
-told_load (WritingEffect loaded process is_changed report) first answer stored entry due found h = cc
+told_load p first answer stored entry due found h = cc
 
 -- once the processor has run
 told_run : (p : Progress) (first : First) (change : Option Change) (done : ProcessResult Reservation) (stored entry : Option Bytes) → waits_for_process p ≡ true → Agrees (found_in done.load) stored → ProgressAgrees p first stored entry
     → ProgressAgrees (progress_after change done) first stored entry
-told_run (Loading answer) first change done stored entry due found h = cc
-told_run (Writing is_changed report) first change done stored entry due found h = cc
 told_run Processing first None done stored entry due found h = record { loaded = found; unwritten = h }
 told_run Processing first (Some change) done stored entry due found h = record { written = λ e. absurd (let t : false ≡ true = e in cc); unwritten = λ e. h; honest = λ e. absurd (let t : false ≡ true = e in cc) }
-told_run (Processed loaded process) first change done stored entry due found h = cc
-told_run (WritingEffect loaded process is_changed report) first change done stored entry due found h = cc
+told_run p first change done stored entry due found h = cc
 
 -- once the writer has changed the store
 told_change : (p : Progress) (first : First) (change : Change) (entry : Option Bytes) → waits_for_report p ≡ true → writer_change_in first p ≡ Some change → ProgressAgrees (with_change p) first (changed_to change) entry
@@ -284,11 +198,9 @@ told_change (WritingEffect loaded process is_changed report) first change entry 
 
 -- and once it has returned
 told_report : (p : Progress) (first : First) (report : WriteAnswer) (stored entry : Option Bytes) → waits_for_report p ≡ true → is_true_report report (has_changed p) ≡ true → ProgressAgrees p first stored entry → ProgressAgrees (with_report p report) first stored entry
-told_report (Loading answer) first report stored entry due honest h = cc
 told_report (Writing is_changed was) first report stored entry due honest h = record { written = h.written; unwritten = h.unwritten; honest = λ e. same_test is_changed (is_done report) honest }
-told_report Processing first report stored entry due honest h = cc
-told_report (Processed loaded process) first report stored entry due honest h = cc
 told_report (WritingEffect loaded process is_changed was) first report stored entry due honest h = record { written = h.written; unwritten = h.unwritten; honest = λ e. same_test is_changed (is_done report) honest }
+told_report p first report stored entry due honest h = cc
 
 -- a held key stays held: whom it asked stays, and what is then known of all keys holds
 parts_progressed : (w : WorldState) (call : ℕ) (key : Bytes) (part : Part) (p : Progress) (store : Cache) (premises : Premises) → part_of w call key ≡ Some part
@@ -341,10 +253,8 @@ parts_changed w call key part change is asks waits old =
     let due : waits_for_report part.progress ≡ true = sym (ap (has_progress waits_for_report) is) ∙ waits in
     parts_progressed w call key part new.progress store w.premises is (change_asked_of part.progress part.reservation.first)
     (λ h q.
-    let P : Option Part → Type 0 = λ o. KeyAgrees o (entry_at store q) (cached_entry w q) in
-    let Q : Option Bytes → Type 0 = λ s. KeyAgrees (cond (eq_by_cmp key_cmp q key) (Some new) (get w.parts q)) s (cached_entry w q) in
-    subst P (sym (get-insert nat_list_cmp_total w.parts key new q))
-    (subst Q (sym (get-with_entry w.store key (changed_to change) q))
+    rw (get-insert nat_list_cmp_total w.parts key new q)
+    (rw (get-with_entry w.store key (changed_to change) q)
     (split q key (λ b. KeyAgrees (cond b (Some new) (get w.parts q)) (cond b (changed_to change) (entry_at w.store q)) (cached_entry w q))
     (λ same. told_change part.progress part.reservation.first change (cached_entry w q) due asks)
     (λ apart. old.told h q)))) old
@@ -401,7 +311,7 @@ parts_start config fits =
     }
 
 -- a call has begun
-pub parts_called : (w : WorldState) (call session : ℕ) (command : Command) → fits w (event.Call call session command) ≡ true → IsSoundWorld w
+pub parts_called : (w : WorldState) (call session : ℕ) (command : Command) → fits w (WorldEvent.Call call session command) ≡ true → IsSoundWorld w
     → HasParts (record w { last = Some call; calls = w.calls ++ opened (new_call call session command) })
 parts_called w call session command fit old =
     let more : List CallState = opened (new_call call session command) in
@@ -428,14 +338,30 @@ parts_over w call u calls is old = record {
   idle = λ f. absurd (begun_before w call u is old f);
 }
 
+-- the stripe of a key is another: the parts are still held, if those of that stripe are
+held_set : (w : WorldState) (key : Bytes) (from next : State) → stripe_for w key ≡ Some from → ((q : Bytes) (p : Part) → IsHeld from q p → IsHeld next q p) → IsSoundWorld w
+    → (q : Bytes) (p : Part) → get w.parts q ≡ Some p → HeldIn (slice_get (slice_set w.stripes (home w key) next) (home w q)) q p
+held_set w key from next at on old q p e = at_stripe w.stripes (home w key) (home w q) from next (λ o x. HeldIn o q p → HeldIn x q p) at (on q p) (λ h. h) (old.held q p e)
+
+-- and what is known of a key still holds, if it does at that stripe
+told_set : (w : WorldState) (key : Bytes) (from next : State) (q : Bytes) → stripe_for w key ≡ Some from
+    → (KeyAgrees (get w.parts q) (entry_at w.store q) (entry_at from.cache q) → KeyAgrees (get w.parts q) (entry_at w.store q) (entry_at next.cache q)) → KeyAgrees (get w.parts q) (entry_at w.store q) (cached_entry w q)
+    → KeyAgrees (get w.parts q) (entry_at w.store q) (entry_in (slice_get (slice_set w.stripes (home w key) next) (home w q)) q)
+told_set w key from next q at on =
+    at_stripe w.stripes (home w key) (home w q) from next (λ o x. KeyAgrees (get w.parts q) (entry_at w.store q) (entry_in o q) → KeyAgrees (get w.parts q) (entry_at w.store q) (entry_in x q)) at on (λ h. h)
+
+-- of a stripe with the same entries it does
+told_same : (w : WorldState) (key : Bytes) (from next : State) (q : Bytes) → stripe_for w key ≡ Some from → next.cache ≡ from.cache → KeyAgrees (get w.parts q) (entry_at w.store q) (cached_entry w q)
+    → KeyAgrees (get w.parts q) (entry_at w.store q) (entry_in (slice_get (slice_set w.stripes (home w key) next) (home w q)) q)
+told_same w key from next q at cache = told_set w key from next q at (λ h. subst (λ c. KeyAgrees (get w.parts q) (entry_at w.store q) (entry_at c q)) (sym cache) h)
+
 -- a step was appended
-held_stepped : (caller : Caller) (key : Bytes) (op : Op) (from next : State) (done : StepDone) (q : Bytes) (p : Part) → Begins from caller key op (begun.Done done) next → IsHeld from q p → IsHeld next q p
+held_stepped : (caller : Caller) (key : Bytes) (op : Op) (from next : State) (done : StepDone) (q : Bytes) (p : Part) → Begins from caller key op (Begun.Done done) next → IsHeld from q p → IsHeld next q p
 held_stepped caller key op from next done q p begins h =
-    let R : List Reservation → Type 0 = λ rs. find (is_key p.reservation.key) rs ≡ Some p.reservation in
-    held_on from next q p (subst R (sym (ap (λ (s : State). s.reservations) begins.2.after)) h.out) h
+    held_on from next q p (rw (ap (λ (s : State). s.reservations) begins.2.after) h.out) h
 
 -- and the entries that agreed with the store do so still
-agrees_begun : (caller : Caller) (key : Bytes) (op : Op) (from next : State) (done : StepDone) (q : Bytes) (stored : Option Bytes) → Begins from caller key op (begun.Done done) next
+agrees_begun : (caller : Caller) (key : Bytes) (op : Op) (from next : State) (done : StepDone) (q : Bytes) (stored : Option Bytes) → Begins from caller key op (Begun.Done done) next
     → from.config.write_through ≡ true → Agrees (entry_at from.cache q) stored → Agrees (entry_at next.cache q) stored
 agrees_begun caller key op from next done q stored begins on agrees =
     agrees_stepped from next caller key op nothing_said [] done q stored begins.2
@@ -445,31 +371,21 @@ agrees_begun caller key op from next done q stored begins on agrees =
 
 -- so the parts and the store say what they said
 parts_stepped : (w : WorldState) (call : ℕ) (u : CallState) (key : Bytes) (op : Op) (from next : State) (order : List Event) (calls : List CallState) (done : StepDone) → open_call w call ≡ Some u → stripe_for w key ≡ Some from
-    → Begins from u.caller key op (begun.Done done) next → IsSoundWorld w
+    → Begins from u.caller key op (Begun.Done done) next → IsSoundWorld w
     → HasParts (record w { stripes = slice_set w.stripes (home w key) next; order = order; calls = calls })
-parts_stepped w call u key op from next order calls done is at begins old =
-    let n : WorldState = record w { stripes = slice_set w.stripes (home w key) next; order = order; calls = calls } in
-    record {
-      held = λ q p e.
-          at_stripe w.stripes (home w key) (home w q) from next (λ o x. HeldIn o q p → HeldIn x q p) at
-          (held_stepped u.caller key op from next done q p begins)
-          (λ h. h)
-          (old.held q p e);
-      told = λ hold q.
-          let on : from.config.write_through ≡ true = ap (λ (c : Config). c.write_through) (config_at w (home w key) from at old) ∙ (and_parts w.config.write_through (premises_hold w.premises) hold).0 in
-          at_stripe w.stripes (home w key) (home w q) from next (λ o x. KeyAgrees (get w.parts q) (entry_at w.store q) (entry_in o q) → KeyAgrees (get w.parts q) (entry_at w.store q) (entry_in x q)) at
-          (told_on (get w.parts q) (entry_at w.store q) (entry_at from.cache q) (entry_at next.cache q) (agrees_begun u.caller key op from next done q (entry_at w.store q) begins on))
-          (λ h. h)
-          (old.told hold q);
-      cold = λ f. absurd (begun_before w call u is old f);
-      idle = λ f. absurd (begun_before w call u is old f);
-    }
+parts_stepped w call u key op from next order calls done is at begins old = record {
+  held = held_set w key from next at (λ q p. held_stepped u.caller key op from next done q p begins) old;
+  told = λ hold q.
+      let on : from.config.write_through ≡ true = ap (λ (c : Config). c.write_through) (config_at w (home w key) from at old) ∙ (and_parts w.config.write_through (premises_hold w.premises) hold).0 in
+      told_set w key from next q at (told_on (get w.parts q) (entry_at w.store q) (entry_at from.cache q) (entry_at next.cache q) (agrees_begun u.caller key op from next done q (entry_at w.store q) begins on)) (old.told hold q);
+  cold = λ f. absurd (begun_before w call u is old f);
+  idle = λ f. absurd (begun_before w call u is old f);
+}
 
 -- a key was reserved: its part is new, and the others are held on
 held_reserving : (from next : State) (r : Reservation) (q : Bytes) (p : Part) → next.reservations ≡ from.reservations ++ r ∷ [] → IsHeld from q p → IsHeld next q p
 held_reserving from next r q p reservations h =
-    let R : List Reservation → Type 0 = λ rs. find (is_key p.reservation.key) rs ≡ Some p.reservation in
-    held_on from next q p (subst R (sym reservations) (found_more (is_key p.reservation.key) from.reservations (r ∷ []) p.reservation h.out)) h
+    held_on from next q p (rw reservations (found_more (is_key p.reservation.key) from.reservations (r ∷ []) p.reservation h.out)) h
 
 -- so there is one part more
 parts_reserving : (w : WorldState) (key : Bytes) (from next : State) (r : Reservation) (part : Part) → stripe_for w key ≡ Some from → is_reserved from key ≡ false
@@ -478,21 +394,11 @@ parts_reserving : (w : WorldState) (key : Bytes) (from next : State) (r : Reserv
     → HasParts (with_part (with_stripe w key next) key part)
 parts_reserving w key from next r part at free reservations cache one new used old =
     let n = with_part (with_stripe w key next) key part in
-    let on : AllHeld n w.parts = λ q p e.
-    at_stripe w.stripes (home w key) (home w q) from next (λ o x. HeldIn o q p → HeldIn x q p) at
-    (held_reserving from next r q p reservations)
-    (λ h. h)
-    (old.held q p e)
-    in
+    let on : AllHeld n w.parts = held_set w key from next at (λ q p. held_reserving from next r q p reservations) old in
     record {
       held = held_insert n w.parts key part on (is_some_and (stripe_for n key) (λ s. IsHeld s key part) next (stripe_put w.stripes (home w key) from next at) one);
       told = λ hold.
-          let all : AllTold n w.parts w.store = λ q.
-          at_stripe w.stripes (home w key) (home w q) from next (λ o x. KeyAgrees (get w.parts q) (entry_at w.store q) (entry_in o q) → KeyAgrees (get w.parts q) (entry_at w.store q) (entry_in x q)) at
-          (let C : Cache → Type 0 = λ c. KeyAgrees (get w.parts q) (entry_at w.store q) (entry_at c q) in λ h. subst C (sym cache) h)
-          (λ h. h)
-          (old.told hold q)
-          in
+          let all : AllTold n w.parts w.store = λ q. told_same w key from next q at cache (old.told hold q) in
           let N : Option Part → Type 0 = λ o. KeyAgrees o (entry_at w.store key) (cached_entry n key) in
           told_insert n w.parts w.store key part all (new (entry_at w.store key) (cached_entry n key) (subst N (unheld w key from at free old) (all key)));
       cold = λ f. absurd (used f);
@@ -503,96 +409,27 @@ parts_reserving w key from next r part at free reservations cache one new used o
 held_new : (key : Bytes) (from next : State) (p : Progress) (r : Reservation) → is_reserved from key ≡ false → r.key ≡ key → next.reservations ≡ from.reservations ++ r ∷ [] → is_asked p r.first ≡ true
     → IsHeld next key (new_part p r)
 held_new key from next p r free key_is reservations asked =
-    let P : List Reservation → Type 0 = λ rs. find (is_key r.key) rs ≡ Some r in
-    record { key_is = key_is; out = subst P (sym reservations) (new_out from r (ap (is_reserved from) key_is ∙ free)); asked = asked }
-
--- the key is reserved, and the loader is asked
-parts_loads : (w : WorldState) (call : ℕ) (u : CallState) (key : Bytes) (op : Op) (from next : State) (ticket : Ticket) → open_call w call ≡ Some u → stripe_for w key ≡ Some from
-    → Begins from u.caller key op (begun.Load ticket) next → IsSoundWorld w → HasParts (with_part (with_stripe w key next) key (new_part new_load ticket.reservation))
-parts_loads w call u key op from next ticket is at begins old =
-    let r = ticket.reservation in
-    let part = new_part new_load r in
-    let n = with_part (with_stripe w key next) key part in
-    let r_is : r ≡ new_reservation from u.caller key op Loader = ap (λ (t : Ticket). t.reservation) begins.3 in
-    let free = was_free from u.caller key op Loader begins.0 begins.1 begins.2 refl in
-    let reservations = ap (λ (s : State). s.reservations) begins.4 in
-    parts_reserving w key from next r part at free reservations (ap (λ (s : State). s.cache) begins.4)
-    (held_new key from next new_load r free (ap (λ (x : Reservation). x.key) r_is) reservations (ap (λ (x : Reservation). asks_loader x.first) r_is))
-    (λ stored entry agrees. record { loaded = tt; unwritten = agrees }) (begun_before w call u is old) old
-
--- the key is reserved, and the writer is asked
-parts_asks : (w : WorldState) (call : ℕ) (u : CallState) (key : Bytes) (op : Op) (from next : State) (ticket : Ticket) (change : Change) → open_call w call ≡ Some u → stripe_for w key ≡ Some from
-    → Begins from u.caller key op (begun.Write ticket) next → ticket.reservation.first ≡ Writer change → IsSoundWorld w → HasParts (with_part (with_stripe w key next) key (new_part new_write ticket.reservation))
-parts_asks w call u key op from next ticket change is at begins first old =
-    let r = ticket.reservation in
-    let part = new_part new_write r in
-    let n = with_part (with_stripe w key next) key part in
-    let r_is : r ≡ new_reservation from u.caller key op r.first = ap (λ (t : Ticket). t.reservation) begins.3 in
-    let free = was_free from u.caller key op r.first begins.0 (writer_alone from key op r.first begins.1 begins.2) begins.1 (ap reserves first) in
-    let reservations = ap (λ (s : State). s.reservations) begins.4 in
-    parts_reserving w key from next r part at free reservations (ap (λ (s : State). s.cache) begins.4)
-    (held_new key from next new_write r free (ap (λ (x : Reservation). x.key) r_is) reservations (ap asks_writer first))
-    (λ stored entry agrees. record { written = λ e. absurd (let t : false ≡ true = e in cc); unwritten = λ e. agrees; honest = λ e. absurd (let t : false ≡ true = e in cc) }) (begun_before w call u is old) old
-
--- the key is reserved, and the processor is asked
-parts_processes : (w : WorldState) (call : ℕ) (u : CallState) (key : Bytes) (op : Op) (from next : State) (ticket : ProcessClaim) → open_call w call ≡ Some u → stripe_for w key ≡ Some from
-    → Begins from u.caller key op (begun.Process ticket) next → IsSoundWorld w → HasParts (with_part (with_stripe w key next) key (new_part new_process ticket.reservation))
-parts_processes w call u key op from next ticket is at begins old =
-    let r = ticket.reservation in
-    let part = new_part new_process r in
-    let r_is : r ≡ new_reservation from u.caller key op r.first = ap (λ (t : ProcessClaim). t.reservation) begins.3 in
-    let free = processor_free from next u.caller key op ticket begins in
-    let reservations = ap (λ (s : State). s.reservations) begins.4 in
-    parts_reserving w key from next r part at free reservations (ap (λ (s : State). s.cache) begins.4)
-    (held_new key from next new_process r free (ap (λ (x : Reservation). x.key) r_is) reservations begins.2)
-    (λ stored entry agrees. agrees) (begun_before w call u is old) old
+    record { key_is = key_is; out = rw reservations (new_out from r (ap (is_reserved from) key_is ∙ free)); asked = asked }
 
 -- a stripe is another, whose entries and reservations are the same
 parts_aside : (w : WorldState) (key : Bytes) (from next : State) (calls : List CallState) (joins : Joins) → stripe_for w key ≡ Some from → next.cache ≡ from.cache → next.reservations ≡ from.reservations → (is_none w.last ≡ true → ⊥) → IsSoundWorld w
     → HasParts (record w { stripes = slice_set w.stripes (home w key) next; calls = calls; joins = joins })
-parts_aside w key from next calls joins at cache reservations used old =
-    let n : WorldState = record w { stripes = slice_set w.stripes (home w key) next; calls = calls; joins = joins } in
-    record {
-      held = λ q p e.
-          at_stripe w.stripes (home w key) (home w q) from next (λ o x. HeldIn o q p → HeldIn x q p) at
-          (λ h. let R : List Reservation → Type 0 = λ rs. find (is_key p.reservation.key) rs ≡ Some p.reservation in held_on from next q p (subst R (sym reservations) h.out) h)
-          (λ h. h)
-          (old.held q p e);
-      told = λ hold q.
-          at_stripe w.stripes (home w key) (home w q) from next (λ o x. KeyAgrees (get w.parts q) (entry_at w.store q) (entry_in o q) → KeyAgrees (get w.parts q) (entry_at w.store q) (entry_in x q)) at
-          (let C : Cache → Type 0 = λ c. KeyAgrees (get w.parts q) (entry_at w.store q) (entry_at c q) in λ h. subst C (sym cache) h)
-          (λ h. h)
-          (old.told hold q);
-      cold = λ f. absurd (used f);
-      idle = λ f. absurd (used f);
-    }
-
--- the first phase of a key
-pub parts_started : (w new : WorldState) (call : ℕ) (key : Bytes) (u : CallState) (op : Op) (from to : State) (seen : Outcome) → open_call w call ≡ Some u → stripe_for w key ≡ Some from
-    → Starts w u.caller key op from to seen new → IsSoundWorld w → HasParts new
-parts_started w new call key u op from to (outcome.Refused refusal) is at (begins, leaves) old = subst HasParts (sym leaves) (parts_over w call u (settle u.caller.call key (Some refusal) w.calls) is old)
-parts_started w new call key u op from to (outcome.PutOff refusal) is at (begins, leaves) old = subst HasParts (sym leaves) (record { held = old.held; told = old.told; cold = old.cold; idle = old.idle })
-parts_started w new call key u op from to (outcome.Stepped seen) is at (begins, shows, leaves) old =
-    subst HasParts (sym leaves) (parts_stepped w call u key op from to (with_phase w key from to).order (settle u.caller.call key (fault_in seen.reply) w.calls) (step_of seen) is at begins old)
-parts_started w new call key u op from to outcome.Loads is at (ticket, begins, leaves) old = subst HasParts (sym leaves) (parts_loads w call u key op from to ticket is at begins old)
-parts_started w new call key u op from to (outcome.Asks change) is at (ticket, begins, first, leaves) old = subst HasParts (sym leaves) (parts_asks w call u key op from to ticket change is at begins first old)
-parts_started w new call key u op from to (outcome.Processes entry) is at (ticket, begins, shows, leaves) old =
-    subst HasParts (sym leaves) (parts_processes w call u key op from to ticket is at begins old)
-parts_started w new call key u op from to outcome.Joins is at (join, begins, leaves) old =
-    subst HasParts (sym leaves)
-    (parts_aside w key from to w.calls (insert w.joins (join_key join) join) at (ap (λ (s : State). s.cache) begins.3) (ap (λ (s : State). s.reservations) begins.3) (begun_before w call u is old) old)
-parts_started w new call key u op from to seen is at h old = absurd h
+parts_aside w key from next calls joins at cache reservations used old = record {
+  held = held_set w key from next at (λ q p h. held_on from next q p (ap (find (is_key p.reservation.key)) reservations ∙ h.out) h) old;
+  told = λ hold q. told_same w key from next q at cache (old.told hold q);
+  cold = λ f. absurd (used f);
+  idle = λ f. absurd (used f);
+}
 
 -- 7. The last phase.
 
 -- a writer's report, once it is true, leaves the entry in agreement
-agrees_written : (op : Op) (entry stored : Option Bytes) (change : Change) (report : WriteAnswer) (was : Bool) → write_ask op entry process.NotAsked ≡ Some change → is_write_given report ≡ true
+agrees_written : (op : Op) (entry stored : Option Bytes) (change : Change) (report : WriteAnswer) (was : Bool) → write_ask op entry ProcessAnswer.NotAsked ≡ Some change → is_write_given report ≡ true
     → (was ≡ true → stored ≡ changed_to change) → (was ≡ false → Agrees entry stored) → is_done report ≡ was → Agrees (entry_after op entry (write_only report)) stored
-agrees_written op entry stored change write.NotAsked was asked given written unwritten honest = cc
-agrees_written op entry stored change (write.Failed code) was asked given written unwritten honest = unwritten (sym honest)
-agrees_written op entry stored change write.Done was asked given written unwritten honest =
-    let P : Option Bytes → Type 0 = λ o. Agrees o stored in
-    subst P (written (sym honest) ∙ sym (writes op entry change asked)) (agrees_same stored)
+agrees_written op entry stored change WriteAnswer.NotAsked was asked given written unwritten honest = cc
+agrees_written op entry stored change (WriteAnswer.Failed code) was asked given written unwritten honest = unwritten (sym honest)
+agrees_written op entry stored change WriteAnswer.Done was asked given written unwritten honest =
+    subst (λ o. Agrees o stored) (written (sym honest) ∙ sym (writes op entry change asked)) (agrees_same stored)
 
 -- what a commit leaves agrees with the store: a reservation still asks what it asked
 agrees_ended : (config : Config) (r : Reservation) (p : Progress) (op : Op) (first : First) (entry stored : Option Bytes) → first_asked config op entry ≡ first → is_asked p first ≡ true → is_answered p ≡ true → config.write_through ≡ true → is_due_in config r p ≡ true
@@ -600,23 +437,15 @@ agrees_ended : (config : Config) (r : Reservation) (p : Progress) (op : Op) (fir
 agrees_ended config r (Loading answer) op Loader entry stored asks asked over on due h = loads op entry answer stored (loads_asked config op entry asks) h.unwritten h.loaded
 agrees_ended config r (Writing is_changed report) op (Writer change) entry stored asks asked over on due h =
     agrees_written op entry stored change report is_changed (writes_asked config op entry change asks) over h.written h.unwritten (h.honest over)
-agrees_ended config r (Loading answer) op Nobody entry stored asks asked over on due h = cc
-agrees_ended config r (Loading answer) op (Writer change) entry stored asks asked over on due h = cc
-agrees_ended config r (Loading answer) op (Processor seen loads) entry stored asks asked over on due h = cc
-agrees_ended config r (Writing is_changed report) op Nobody entry stored asks asked over on due h = cc
-agrees_ended config r (Writing is_changed report) op Loader entry stored asks asked over on due h = cc
-agrees_ended config r (Writing is_changed report) op (Processor seen loads) entry stored asks asked over on due h = cc
-agrees_ended config r Processing op first entry stored asks asked over on due h = cc
 agrees_ended config r (Processed loaded process) op first entry stored asks asked over on due h =
     let done : ProcessResult Reservation = record { ask = r; origin = Played; load = loaded; process = process } in
-    let A : Op → Type 0 = λ o. Agrees (entry_after o entry (record { load = loaded; write = write.NotAsked; process = process })) stored in
-    subst A (sym (invoke_is op (asks_invoking config op entry (ap asks_processor asks ∙ asked))))
+    rw (invoke_is op (asks_invoking config op entry (ap asks_processor asks ∙ asked)))
     (agrees_processed loaded process entry stored (ap is_none (sym (write_due config done on)) ∙ due) h)
 agrees_ended config r (WritingEffect loaded process is_changed report) op first entry stored asks asked over on due h =
     let done : ProcessResult Reservation = record { ask = r; origin = Played; load = loaded; process = process } in
-    let A : Op → Type 0 = λ o. Agrees (entry_after o entry (record { load = loaded; write = report; process = process })) stored in
-    subst A (sym (invoke_is op (asks_invoking config op entry (ap asks_processor asks ∙ asked))))
+    rw (invoke_is op (asks_invoking config op entry (ap asks_processor asks ∙ asked)))
     (agrees_effect loaded process is_changed report entry stored (ap is_some (sym (write_due config done on)) ∙ due) over h)
+agrees_ended config r p op first entry stored asks asked over on due h = cc
 
 -- the reservation that is found asks what it asked
 asks_found : (config : Config) (cache : Cache) (key : Bytes) (rs : List Reservation) (r : Reservation) → find (is_key key) rs ≡ Some r → AllAsk config cache rs → first_asked config r.op (entry_at cache r.key) ≡ r.first
@@ -634,8 +463,7 @@ others_out from key q p apart h = found_left p.reservation.key key from.reservat
 -- a commit keeps the reservations of the other keys
 held_ended : (key : Bytes) (from next : State) (q : Bytes) (p : Part) → next.reservations ≡ without_key key from.reservations → eq_by_cmp key_cmp q key ≡ false → IsHeld from q p → IsHeld next q p
 held_ended key from next q p left apart h =
-    let R : List Reservation → Type 0 = λ rs. find (is_key p.reservation.key) rs ≡ Some p.reservation in
-    held_on from next q p (subst R (sym left) (others_out from key q p apart h)) h
+    held_on from next q p (rw left (others_out from key q p apart h)) h
 
 -- so are their parts held
 held_removed : (w : WorldState) (key : Bytes) (from next : State) (q : Bytes) (p : Part) → stripe_for w key ≡ Some from → next.reservations ≡ without_key key from.reservations → IsSoundWorld w → get (remove w.parts key) q ≡ Some p
@@ -681,8 +509,7 @@ parts_committed w call key part from next order calls done is answered at commit
       held = λ q p e. held_removed w key from next q p at left old e;
       told = λ hold q.
           let all = old.told hold in
-          let P : Option Part → Type 0 = λ o. KeyAgrees o (entry_at w.store q) (cached_entry n q) in
-          subst P (sym (get-remove nat_list_cmp_total w.parts key q))
+          subst (λ o. KeyAgrees o (entry_at w.store q) (cached_entry n q)) (sym (get-remove nat_list_cmp_total w.parts key q))
           (split q key (λ b. KeyAgrees (cond b None (get w.parts q)) (entry_at w.store q) (cached_entry n q))
           (λ same.
           let B : Bytes → Type 0 = λ k. Agrees (cached_entry n k) (entry_at w.store k) in
@@ -696,31 +523,18 @@ parts_committed w call key part from next order calls done is answered at commit
           let leaves = agrees_ended from.config r part.progress r.op r.first (entry_at from.cache key) (entry_at w.store key) asks one.asked (sym (ap (has_progress is_answered) is) ∙ answered) on due told in
           subst B (sym same) (subst S (sym (stripe_put w.stripes (home w key) from next at)) (agrees_own key part from next done (entry_at w.store key) steps leaves)))
           (λ apart.
-          at_stripe w.stripes (home w key) (home w q) from next (λ o x. KeyAgrees (get w.parts q) (entry_at w.store q) (entry_in o q) → KeyAgrees (get w.parts q) (entry_at w.store q) (entry_in x q)) at
-          (told_on (get w.parts q) (entry_at w.store q) (entry_at from.cache q) (entry_at next.cache q) (agrees_other key part from next done q (entry_at w.store q) steps apart))
-          (λ h. h)
-          (all q)));
+          told_set w key from next q at (told_on (get w.parts q) (entry_at w.store q) (entry_at from.cache q) (entry_at next.cache q) (agrees_other key part from next done q (entry_at w.store q) steps apart)) (all q)));
       cold = λ f. absurd (worn w key part there old f);
       idle = λ f. absurd (worn w key part there old f);
     }
-
--- the last phase of a call
-pub parts_ended : (w new : WorldState) (call : ℕ) (key : Bytes) (part : Part) (from to : State) (seen : Outcome) → fits w (event.Commit call key) ≡ true → part_of w call key ≡ Some part → stripe_for w key ≡ Some from
-    → Ends w call key part from to seen new → IsSoundWorld w → HasParts new
-parts_ended w new call key part from to (outcome.Stepped seen) fit is at (commits, shows, leaves) old =
-    subst HasParts (sym leaves) (parts_committed w call key part from to (with_phase w key from to).order (settle call key (fault_in seen.reply) w.calls) (step_of seen) is fit at commits old)
-parts_ended w new call key part from to seen fit is at h old = absurd h
 
 -- 8. A reservation is given back, a call leaves, and an answer is picked up.
 
 -- of what is untouched the store is as it was
 unchanged : (p : Progress) → is_untouched p ≡ true → has_changed p ≡ false
-unchanged (Loading answer) h = refl
 unchanged (Writing true report) h = cc
-unchanged (Writing false report) h = refl
-unchanged Processing h = refl
-unchanged (Processed loaded process) h = refl
 unchanged (WritingEffect loaded process is_changed report) h = cc
+unchanged p h = refl
 
 -- a reservation is given back, and with it its part
 pub parts_withdrawn : (w : WorldState) (call : ℕ) (key : Bytes) (part : Part) (from next : State) → has_progress is_untouched (part_of w call key) ≡ true → part_of w call key ≡ Some part → stripe_for w key ≡ Some from
@@ -737,14 +551,11 @@ parts_withdrawn w call key part from next fit is at withdraws old =
     record {
       held = λ q p e. held_removed w key from next q p at left old e;
       told = λ hold q.
-          let P : Option Part → Type 0 = λ o. KeyAgrees o (entry_at w.store q) (cached_entry n q) in
-          let C : Option Bytes → Type 0 = λ c. KeyAgrees (cond (eq_by_cmp key_cmp q key) None (get w.parts q)) (entry_at w.store q) c in
-          subst P (sym (get-remove nat_list_cmp_total w.parts key q))
-          (subst C (sym (same q))
+          rw (get-remove nat_list_cmp_total w.parts key q)
+          (rw (same q)
           (split q key (λ b. KeyAgrees (cond b None (get w.parts q)) (entry_at w.store q) (cached_entry w q))
           (λ e.
-          let T : Option Part → Type 0 = λ o. KeyAgrees o (entry_at w.store q) (cached_entry w q) in
-          unwritten_in part.progress part.reservation.first (entry_at w.store q) (cached_entry w q) (unchanged part.progress (sym (ap (has_progress is_untouched) is) ∙ fit)) (subst T (ap (get w.parts) e ∙ there) (old.told hold q)))
+          unwritten_in part.progress part.reservation.first (entry_at w.store q) (cached_entry w q) (unchanged part.progress (sym (ap (has_progress is_untouched) is) ∙ fit)) (rw (ap (get w.parts) e ∙ there) at (old.told hold q)))
           (λ apart. old.told hold q)));
       cold = λ f. absurd (worn w key part there old f);
       idle = λ f. absurd (worn w key part there old f);
@@ -762,20 +573,31 @@ parts_left w call fit old = go (open_call w call) refl
 pub parts_half : (w : WorldState) → IsSoundWorld w → HasParts w
 parts_half w h = record { held = h.held; told = h.told; cold = h.cold; idle = h.idle }
 
--- by what is shown of a pick-up
-pub parts_picks : (w new : WorldState) (call : ℕ) (key : Bytes) (join : JoinClaim) (from to : State) (seen : Outcome) → join_of w call key ≡ Some join → stripe_for w key ≡ Some from → Picks w call key join from to seen new → IsSoundWorld w → HasParts new
-parts_picks w new call key join from to (outcome.PickedUp seen) joined at h old =
-    let p = picking w call key join joined old in
-    let is = h.0.3 in
-    subst HasParts (sym h.2)
-    (parts_aside w key from to (settle call key (fault_in seen.reply) w.calls) (remove w.joins (call, key)) at (ap (λ (s : State). s.cache) is) (ap (λ (s : State). s.reservations) is) (begun_before w call p.u p.here old) old)
-parts_picks w new call key join from to outcome.Again joined at h old =
-    let p = picking w call key join joined old in
-    let is = h.0.2 in
-    subst HasParts (sym h.1)
-    (parts_aside w key from to w.calls (remove w.joins (call, key)) at (ap (λ (s : State). s.cache) is) (ap (λ (s : State). s.reservations) is) (begun_before w call p.u p.here old) old)
-parts_picks w new call key join from to outcome.Waits joined at h old = subst HasParts (sym h.1) (parts_half w old)
-parts_picks w new call key join from to seen joined at h old = absurd h
+-- by the kind of the change at a key
+pub parts_key : (w new : WorldState) (e : WorldEvent) (key : Bytes) (seen : Shown) → KeyChange w new e key seen → fits w e ≡ true → IsSoundWorld w → HasParts new
+parts_key w new e key seen (by_nothing is none ends) fit old = subst HasParts (sym is) (parts_half w old)
+parts_key w new e key seen (by_refusal u op refusal may is none ends) fit old = subst HasParts (sym is) (parts_over w may.call u (settle u.caller.call key (Some refusal) w.calls) may.here old)
+parts_key w new e key seen (by_step u op from to x may there h home_is is shows ends) fit old =
+    subst HasParts (sym is) (parts_stepped w may.call u key op from to (with_phase w key from to).order (settle u.caller.call key (fault_in x.reply) w.calls) (step_of x) may.here there h old)
+parts_key w new e key seen (by_reservation u op from to p r may there h is none ends) fit old =
+    let reservations = ap (λ (s : State). s.reservations) h.after in
+    subst HasParts (sym is)
+    (parts_reserving w key from to r (new_part p r) there h.free reservations (ap (λ (s : State). s.cache) h.after)
+    (held_new key from to p r h.free (ap (λ (x : Reservation). x.key) h.is) reservations h.asked) h.untold (begun_before w may.call u may.here old) old)
+parts_key w new e key seen (by_join u op from to join may there h is none ends) fit old =
+    subst HasParts (sym is)
+    (parts_aside w key from to w.calls (insert w.joins (join_key join) join) there (ap (λ (s : State). s.cache) h.3) (ap (λ (s : State). s.reservations) h.3) (begun_before w may.call u may.here old) old)
+parts_key w new e key seen (by_commit call part from to x e_is part_is there h home_is is shows) fit old =
+    subst HasParts (sym is) (parts_committed w call key part from to (with_phase w key from to).order (settle call key (fault_in x.reply) w.calls) (step_of x) part_is (ap (fits w) (sym e_is) ∙ fit) there h old)
+parts_key w new e key seen (by_withdrawal call part from to e_is part_is there h is shows) fit old = subst HasParts (sym is) (parts_withdrawn w call key part from to (ap (fits w) (sym e_is) ∙ fit) part_is there h old)
+parts_key w new e key seen (by_answer call join from to x e_is join_is there h home_is is shows ends) fit old =
+    let p = picking w call key join join_is old in
+    subst HasParts (sym is)
+    (parts_aside w key from to (settle call key (fault_in x.reply) w.calls) (remove w.joins (call, key)) there (ap (λ (s : State). s.cache) h.3) (ap (λ (s : State). s.reservations) h.3) (begun_before w call p.u p.here old) old)
+parts_key w new e key seen (by_retry call join from to e_is join_is there h is shows ends) fit old =
+    let p = picking w call key join join_is old in
+    subst HasParts (sym is)
+    (parts_aside w key from to w.calls (remove w.joins (call, key)) there (ap (λ (s : State). s.cache) h.2) (ap (λ (s : State). s.reservations) h.2) (begun_before w call p.u p.here old) old)
 
 -- 9. A sound world is coherent, as long as the premises held.
 

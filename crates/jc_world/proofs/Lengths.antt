@@ -1,24 +1,7 @@
 -- How many events a phase appends.
 --     begun_length, ended_length     a victim, a step, the steps that share its load, of at most all joiners, and an eviction of its key
 --     has_room                       an order that has room for them has it for what a phase puts down
-use Rattle.std.proofs.Common.{◌≡◌, ◌+◌, ◌≤◌, ℕ, suc, List, [], ◌∷◌, ◌++◌, length, map, filter, Bool, true, false, cond, Option, None, Some, ap, arith, length-append, ◌-◌}
-use Rattle.std.proofs.lemmas.List.{length-map}
-use Rattle.jc_types.specs.declared.caller.Caller.{Caller}
-use Rattle.jc_types.specs.declared.limits.TheConstants.{STEP_PLACES, JOINERS_MAX}
-use Rattle.jc_model.specs.declared.event.Op.{Op}
-use Rattle.jc_model.specs.declared.event.Out.{Out}
-use Rattle.jc_model.specs.declared.event.Cause.{Cause}
-use Rattle.jc_model.specs.Cache.{Bytes}
-use Rattle.jc_model.specs.Group.{Group, nothing_said, victim_events, step_event, step_place, shared_event, evicted_events, events_of}
-use Rattle.jc_inflight.specs.declared.joiner.Joiner.{Joiner}
-use Rattle.jc_inflight.specs.Joining.{waits_for, callers_of}
-use Rattle.jc_stripe.specs.declared.begun.Begun.{Begun}
-use Rattle.jc_stripe.specs.declared.begun.Begun.TheVariants as begun
-use Rattle.jc_stripe.specs.declared.begun.StepDone.{StepDone}
-use Rattle.jc_stripe.specs.declared.ticket.Reservation.{Reservation}
-use Rattle.jc_stripe.specs.State.{State}
-use Rattle.jc_stripe.specs.Phases.{Steps, Begins, Commits, new_group, after_commit}
-use Rattle.jc_stripe.specs.Reached.{IsReached}
+use Rattle.jc_world.proofs.Common.{◌≡◌, ℕ, suc, ◌+◌, ◌-◌, ◌≤◌, Bool, true, false, cond, List, [], ◌∷◌, ◌++◌, map, length, Some, None, filter, Option, ap, arith, length-append, length-map, Caller, JOINERS_MAX, STEP_PLACES, Bytes, Group, nothing_said, victim_events, evicted_events, step_event, shared_event, step_place, events_of, Cause, Op, Out, waits_for, callers_of, Joiner, new_group, Steps, Begins, after_commit, Commits, IsReached, State, Begun, StepDone, Reservation}
 
 -- at most one is evicted before a step
 victim_length : (victim : Option Bytes) → length (victim_events victim) ≤ 1
@@ -77,12 +60,10 @@ same_length old new same = let e = ap length same in record { grows = omega arit
 
 -- a first phase
 pub begun_length : (old new : State) (caller : Caller) (key : Bytes) (op : Op) (b : Begun) → Begins old caller key op b new → IsLonger old new
-begun_length old new caller key op (begun.Refused refusal) h = same_length old new (ap (λ (s : State). s.history) h.1)
-begun_length old new caller key op (begun.Done done) h = steps_length old new caller key op nothing_said [] done h.2 (omega arith)
-begun_length old new caller key op (begun.Load ticket) h = same_length old new (ap (λ (s : State). s.history) h.4)
-begun_length old new caller key op (begun.Write ticket) h = same_length old new (ap (λ (s : State). s.history) h.4)
-begun_length old new caller key op (begun.Process ticket) h = same_length old new (ap (λ (s : State). s.history) h.4)
-begun_length old new caller key op (begun.Joined join) h = same_length old new (ap (λ (s : State). s.history) h.3)
+begun_length old new caller key op (Begun.Refused refusal) h = same_length old new (ap (λ (s : State). s.history) h.1)
+begun_length old new caller key op (Begun.Done done) h = steps_length old new caller key op nothing_said [] done h.2 (omega arith)
+begun_length old new caller key op (Begun.Joined join) h = same_length old new (ap (λ (s : State). s.history) h.3)
+begun_length old new caller key op b h = same_length old new (ap (λ (s : State). s.history) h.4)
 
 -- a last phase
 pub ended_length : (old new : State) (r : Reservation) (out : Out) (done : StepDone) → IsReached old → Commits old r out done new → IsLonger old new

@@ -1,3 +1,5 @@
+pub mod Common
+pub mod Lemmas
 pub mod Facts
 pub mod Halves
 pub mod Shares
@@ -23,6 +25,7 @@ pub mod Reservations
 pub mod Processors
 pub mod Dues
 pub mod Kept
+pub mod KeyChanges
 pub mod Maps
 pub mod Numbered
 pub mod Returns

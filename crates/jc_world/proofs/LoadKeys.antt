@@ -5,25 +5,7 @@
 --     key_of_load       a joiner that waits for a load is at its key
 --     joins_get         only a `Get` joins a load
 --     each_fits         each joiner of a stripe fits
-use Rattle.std.proofs.Common.{◌≡◌, ◌==◌, ℕ, suc, List, [], ◌∷◌, Bool, true, false, cond, Option, None, Some, find, refl, sym, ap, ◌∙◌, subst, arith}
-use Rattle.std.specs.List.{All, AllPairs}
-use Rattle.std.proofs.lemmas.List.Elements.{All-head, All-tail}
-use Rattle.std.proofs.lemmas.Bool.{eq-eqb, eqb-true, and_parts}
-use Rattle.jc_model.specs.declared.event.Op.{Op}
-use Rattle.jc_model.specs.declared.event.Op.TheVariants.{Get}
-use Rattle.jc_model.specs.Cache.{Bytes}
-use Rattle.jc_inflight.specs.declared.joiner.Joiner.{Joiner}
-use Rattle.jc_inflight.specs.declared.joiner.JoinState.{JoinState}
-use Rattle.jc_inflight.specs.declared.joiner.JoinState.TheVariants.{Waiting, Answered, Again}
-use Rattle.jc_inflight.specs.Joining.{is_waiting, waits_for}
-use Rattle.jc_stripe.specs.declared.ticket.First.{First}
-use Rattle.jc_stripe.specs.declared.ticket.First.TheVariants.{Nobody, Loader, Writer, Processor}
-use Rattle.jc_stripe.specs.declared.ticket.Reservation.{Reservation}
-use Rattle.jc_stripe.specs.Tickets.{asks_loader}
-use Rattle.jc_stripe.specs.State.{State, is_key, reservation_of, IsOut}
-use Rattle.jc_stripe.specs.Refusals.{load_of, load_at, load_joined}
-use Rattle.jc_stripe.specs.Reached.{IsReached, JoinFits, AllJoin}
-use Rattle.jc_world.specs.Sound.{Each}
+use Rattle.jc_world.proofs.Common.{◌≡◌, ℕ, suc, Bool, true, false, cond, List, [], ◌∷◌, ◌==◌, Some, None, Option, find, sym, refl, ap, ◌∙◌, subst, arith, eqb-true, eq-eqb, and_parts, All-head, All-tail, All, AllPairs, Bytes, Op, Get, is_waiting, waits_for, JoinState, Waiting, Joiner, JoinFits, AllJoin, IsReached, load_of, load_at, load_joined, State, is_key, reservation_of, IsOut, asks_loader, First, Loader, Reservation, Each}
 use Rattle.jc_world.proofs.Shares.{found_test}
 use Rattle.jc_world.proofs.Underway.{same_bytes}
 
@@ -62,10 +44,8 @@ load_there None load h = cc
 load_there (Some r) load h = let at = asked r.first r.number h in (r, refl, at.0, at.1)
   where
     asked : (first : First) (number : ℕ) → load_of first number ≡ Some load → (number ≡ load) × (asks_loader first ≡ true)
-    asked Nobody number h = cc
     asked Loader number h = (cc, refl)
-    asked (Writer change) number h = cc
-    asked (Processor seen loads) number h = cc
+    asked first number h = cc
 
 -- only a `Get` joins a load
 pub joins_get : (s : State) (key : Bytes) (op : Op) (load : ℕ) → load_joined s key op ≡ Some load → op ≡ Get
@@ -86,5 +66,4 @@ key_of_load s r j reached out fits waits = let parts = and_parts (j.load == r.nu
         let load = load_there (reservation_of s j.key) j.load f.load in
         let one = same_number (is_key r.key) (is_key j.key) s.reservations r load.0 reached.numbered.numbers out load.1 (sym (eqb-true j.load r.number number) ∙ sym load.2) in
         same_bytes j.key load.0.key (found_test (is_key j.key) s.reservations load.0 load.1) ∙ ap (λ (x : Reservation). x.key) (sym one)
-    go number (Answered place shared) w f = cc
-    go number Again w f = cc
+    go number state w f = cc

@@ -2,59 +2,9 @@
 --     total          how many steps of a key have an answer of their own, and one more if one is kept
 --     total_step     each event raises that by one if it is an answer for the key, and else leaves it
 --     total_run      so a run raises it by its answers
-use Rattle.std.proofs.Common.{inl, inr, ◌≡◌, ◌==◌, ◌&&◌, ◌+◌, ℕ, List, [], ◌∷◌, ◌++◌, length, map, drop, zip, count_by, Bool, true, false, cond, Option, None, Some, option_map, refl, sym, ap, ◌∙◌, arith}
-use Rattle.std.specs.Ordering.{eq_by_cmp}
-use Rattle.std.specs.Cmp.Lexicographic.{pointwise, texts_ties}
-use Rattle.std.specs.FinMap.{get, insert, remove, get-empty, get-insert, get-remove}
-use Rattle.std.proofs.lemmas.Cmp.{nat_list_cmp_total}
-use Rattle.std.proofs.lemmas.List.Sums.{sum_by-cons, sum_by-append}
-use Rattle.std.proofs.Math.Seq.{drop-append_seam}
-use Rattle.std.proofs.lemmas.Bool.{and_parts, not-true, and_right}
-use Rattle.jc_types.specs.declared.caller.Caller.{Caller}
-use Rattle.jc_types.specs.declared.config.Config.{Config}
-use Rattle.jc_model.specs.declared.event.Op.{Op}
-use Rattle.jc_model.specs.declared.event.Out.{Out}
-use Rattle.jc_model.specs.declared.event.Event.{Event}
-use Rattle.jc_model.specs.declared.event.Cause.{Cause}
-use Rattle.jc_model.specs.declared.event.LoadAnswer.{LoadAnswer}
-use Rattle.jc_model.specs.declared.event.WriteAnswer.{WriteAnswer}
-use Rattle.jc_model.specs.Cache.{Bytes, key_cmp, entry_at}
-use Rattle.jc_model.specs.Table.{is_load_given}
-use Rattle.jc_model.specs.Group.{Group, nothing_said, victim_events, step_event, step_place, shared_event, evicted_events, events_of}
-use Rattle.jc_inflight.specs.Joining.{callers_of}
-use Rattle.jc_stripe.specs.declared.ticket.First.TheVariants.{Loader}
-use Rattle.jc_stripe.specs.Tickets.{JoinClaim}
-use Rattle.jc_stripe.specs.declared.begun.StepDone.{StepDone}
-use Rattle.jc_stripe.specs.Refusals.{reserves}
-use Rattle.jc_stripe.specs.State.{State}
-use Rattle.jc_stripe.specs.Phases.{Steps, new_group, after_commit}
-use Rattle.jc_world.specs.Calls.{CallState, open_keys}
-use Rattle.jc_types.specs.declared.refusal.Refusal.TheVariants.{WriterFailed}
-use Rattle.jc_world.specs.declared.event.Part.{Part}
-use Rattle.jc_world.specs.declared.event.Progress.{Progress}
-use Rattle.jc_world.specs.declared.event.Progress.TheVariants.{Loading, Writing, Processing, Processed, WritingEffect}
-use Rattle.jc_world.specs.declared.event.Shown.{Shown}
-use Rattle.jc_world.specs.declared.event.Outcome.{Outcome}
-use Rattle.jc_world.specs.declared.event.Outcome.TheVariants as outcome
-use Rattle.jc_world.specs.declared.event.WorldEvent.{WorldEvent}
-use Rattle.jc_world.specs.declared.event.WorldEvent.TheVariants as event
-use Rattle.jc_world.specs.World.{WorldState, Parts, stripe_for, part_of, waits_for_load, waits_for_process, is_untouched, out_in, out_of, has_progress}
-use Rattle.jc_world.specs.Premises.{read_answer, load_from, report_for}
-use Rattle.jc_model.specs.declared.event.Change.{Change}
-use Rattle.jc_mutentry.specs.Done.{ProcessResult}
-use Rattle.jc_stripe.specs.declared.ticket.Reservation.{Reservation}
-use Rattle.jc_stripe.specs.Effects.{change_due}
-use Rattle.jc_world.specs.Fits.{fits}
-use Rattle.jc_world.specs.Events.{with_met_by, run_result, progress_after, after_process, new_load, new_write, new_process, new_part, with_change, with_report, step_of, reported_keys, keys_reported, Starts, Ends, Picks, Happens, Step, Run}
-use Rattle.jc_world.specs.Sound.{IsSoundWorld}
-use Rattle.jc_world.specs.Headline.{start_with, is_answer, is_load, is_loaded}
-use Rattle.jc_world.proofs.Shares.{added}
-use Rattle.jc_world.proofs.Reservations.{was_free, writer_alone}
-use Rattle.jc_world.proofs.Processors.{processor_free}
-use Rattle.jc_world.proofs.Callers.{part_key}
-use Rattle.jc_world.proofs.Entries.{split}
+use Rattle.jc_world.proofs.Common.{◌≡◌, ℕ, ◌+◌, Bool, true, false, cond, ◌&&◌, List, [], ◌∷◌, ◌++◌, map, length, drop, ◌==◌, Some, None, count_by, Option, option_map, zip, sym, refl, ap, ◌∙◌, inl, inr, arith, drop-append_seam, not-true, and_parts, and_right, nat_list_cmp_total, sum_by-cons, sum_by-append, pointwise, texts_ties, get, insert, remove, get-empty, get-insert, get-remove, eq_by_cmp, Caller, Config, WriterFailed, Bytes, entry_at, key_cmp, Group, nothing_said, victim_events, evicted_events, step_event, shared_event, step_place, events_of, is_load_given, Cause, Change, Event, LoadAnswer, Op, Out, WriteAnswer, callers_of, ProcessResult, change_due, new_group, Steps, after_commit, reserves, State, JoinClaim, StepDone, Loader, Reservation, Outcome, Part, Progress, Loading, Processed, Processing, Writing, WritingEffect, Shown, WorldEvent, CallState, open_keys, step_of, with_met_by, new_load, new_write, new_process, new_part, Starts, Ends, Picks, with_change, with_report, reported_keys, keys_reported, run_result, progress_after, after_process, Happens, Step, Run, fits, start_with, is_answer, is_load, is_loaded, read_answer, load_from, report_for, IsSoundWorld, Parts, WorldState, stripe_for, part_of, has_progress, waits_for_load, waits_for_process, is_untouched, out_in, out_of}
+use Rattle.jc_world.proofs.Lemmas.{added, part_key, split, was_free, writer_alone, processor_free, KeyChange, by_nothing, by_refusal, by_step, by_reservation, by_join, by_commit, by_withdrawal, by_answer, by_retry, key_change, each_report}
 use Rattle.jc_world.proofs.Kept.{unheld}
-use Rattle.jc_world.proofs.Returns.{each_report}
 use Rattle.jc_world.proofs.Sounding.{Laws, sound_step}
 use Rattle.jc_world.proofs.Holding.{is_part}
 
@@ -141,21 +91,17 @@ no_answer o part is waits = go part.progress (sym (ap (has_progress waits_for_lo
   where
     go : (p : Progress) → waits_for_load p ≡ true → is_load_given (out_in p).load ≡ false
     go (Loading answer) h = not-true (is_load_given answer) h
-    go (Writing is_changed report) h = refl
-    go Processing h = refl
     go (Processed loaded process) h = cc
     go (WritingEffect loaded process is_changed report) h = cc
+    go p h = refl
 
 -- a processor that is waited for has had none
 no_run : (o : Option Part) (part : Part) → o ≡ Some part → has_progress waits_for_process o ≡ true → is_load_given (out_of part).load ≡ false
 no_run o part is waits = go part.progress (sym (ap (has_progress waits_for_process) is) ∙ waits)
   where
     go : (p : Progress) → waits_for_process p ≡ true → is_load_given (out_in p).load ≡ false
-    go (Loading answer) h = cc
-    go (Writing is_changed report) h = cc
     go Processing h = refl
-    go (Processed loaded process) h = cc
-    go (WritingEffect loaded process is_changed report) h = cc
+    go p h = cc
 
 -- what is untouched has none
 no_touch : (o : Option Part) (part : Part) → o ≡ Some part → has_progress is_untouched o ≡ true → is_load_given (out_of part).load ≡ false
@@ -163,25 +109,18 @@ no_touch o part is untouched = go part.progress (sym (ap (has_progress is_untouc
   where
     go : (p : Progress) → is_untouched p ≡ true → is_load_given (out_in p).load ≡ false
     go (Loading answer) h = not-true (is_load_given answer) h
-    go (Writing is_changed report) h = refl
-    go Processing h = refl
     go (Processed loaded process) h = cc
     go (WritingEffect loaded process is_changed report) h = cc
+    go p h = refl
 
 -- what the writer does is no answer of the loader
 change_loads : (p : Progress) → is_load_given (out_in (with_change p)).load ≡ is_load_given (out_in p).load
 change_loads (Loading answer) = refl
-change_loads (Writing is_changed report) = refl
-change_loads Processing = refl
-change_loads (Processed loaded process) = refl
-change_loads (WritingEffect loaded process is_changed report) = refl
+change_loads p = refl
 
 report_loads : (p : Progress) (report : WriteAnswer) → is_load_given (out_in (with_report p report)).load ≡ is_load_given (out_in p).load
 report_loads (Loading answer) report = refl
-report_loads (Writing is_changed was) report = refl
-report_loads Processing report = refl
-report_loads (Processed loaded process) report = refl
-report_loads (WritingEffect loaded process is_changed was) report = refl
+report_loads p report = refl
 
 -- what a processor's loader answered is kept
 run_loads : (change : Option Change) (done : ProcessResult Reservation) → is_load_given (out_in (progress_after change done)).load ≡ is_load_given done.load
@@ -226,88 +165,67 @@ total_processed w call key q part done is waits =
     (λ apart. omega arith)
     ∙ ap (λ b. one_if (b && given) + total w q) (sym (texts_ties q key))
 
--- the first phase
-total_started : (w new : WorldState) (u : CallState) (key : Bytes) (op : Op) (from to : State) (seen : Outcome) (q : Bytes) → stripe_for w key ≡ Some from → Starts w u.caller key op from to seen new → IsSoundWorld w → total new q ≡ total w q
-total_started w new u key op from to (outcome.Refused refusal) q there h old = ap (λ (x : WorldState). total x q) h.1
-total_started w new u key op from to (outcome.PutOff refusal) q there h old = ap (λ (x : WorldState). total x q) h.1
-total_started w new u key op from to (outcome.Stepped seen) q there h old =
-    let steps = h.0.2 in
-    let added_is = step_loads from to u.caller key op nothing_said [] (step_of seen) q steps in
+-- by the kind of the change at a key: what was kept of a load is in the step of its commit
+total_key : (w new : WorldState) (e : WorldEvent) (key : Bytes) (seen : Shown) (q : Bytes) → KeyChange w new e key seen → fits w e ≡ true → IsSoundWorld w → total new q ≡ total w q
+total_key w new e key seen q (by_nothing is none ends) fit old = ap (λ (x : WorldState). total x q) is
+total_key w new e key seen q (by_refusal u op refusal may is none ends) fit old = ap (λ (x : WorldState). total x q) is
+total_key w new e key seen q (by_step u op from to x may there h home_is is shows ends) fit old =
+    let steps = h.2 in
+    let added_is = step_loads from to u.caller key op nothing_said [] (step_of x) q steps in
     let none : one_if (pointwise ◌==◌ q key && false) ≡ 0 = ap one_if (and_right (pointwise ◌==◌ q key) false refl) in
     let more = none_append q w.order (added from to) in
     let kept = one_if (is_loaded (get w.parts q)) in
     let grows : count_by (is_load q) (w.order ++ added from to) + kept ≡ count_by (is_load q) w.order + kept = ap (λ n. n + kept) (let e : count_by (is_load q) (w.order ++ added from to) ≡ count_by (is_load q) w.order = omega arith in e) in
-    ap (λ (x : WorldState). total x q) h.2 ∙ grows
-total_started w new u key op from to outcome.Loads q there h old =
-    let part = new_part new_load h.0.reservation in
-    let free = was_free from u.caller key op Loader h.1.0 h.1.1 h.1.2 refl in
-    let none = unheld w key from there free old in
-    ap (λ (x : WorldState). total x q) h.2
-    ∙ ap (λ b. count_by (is_load q) w.order + one_if b) (loaded_inserted w.parts key q part (λ same. sym (ap is_loaded (ap (get w.parts) same ∙ none))))
-total_started w new u key op from to (outcome.Asks change) q there h old =
-    let part = new_part new_write h.0.reservation in
-    let free = was_free from u.caller key op h.0.reservation.first h.1.0 (writer_alone from key op h.0.reservation.first h.1.1 h.1.2) h.1.1 (ap reserves h.2) in
-    let none = unheld w key from there free old in
-    ap (λ (x : WorldState). total x q) h.3
-    ∙ ap (λ b. count_by (is_load q) w.order + one_if b) (loaded_inserted w.parts key q part (λ same. sym (ap is_loaded (ap (get w.parts) same ∙ none))))
-total_started w new u key op from to (outcome.Processes entry) q there h old =
-    let part = new_part new_process h.0.reservation in
-    let none = unheld w key from there (processor_free from to u.caller key op h.0 h.1) old in
-    ap (λ (x : WorldState). total x q) h.3
-    ∙ ap (λ b. count_by (is_load q) w.order + one_if b) (loaded_inserted w.parts key q part (λ same. sym (ap is_loaded (ap (get w.parts) same ∙ none))))
-total_started w new u key op from to outcome.Joins q there h old = ap (λ (x : WorldState). total x q) h.2
-total_started w new u key op from to seen q there h old = absurd h
-
--- the last phase: what was kept is in the step
-total_ended : (w new : WorldState) (call : ℕ) (key : Bytes) (part : Part) (from to : State) (seen : Outcome) (q : Bytes) → part_of w call key ≡ Some part → part.reservation.key ≡ key → Ends w call key part from to seen new → total new q ≡ total w q
-total_ended w new call key part from to (outcome.Stepped seen) q is key_is h =
+    ap (λ (x : WorldState). total x q) is ∙ grows
+total_key w new e key seen q (by_reservation u op from to p r may there h is silent ends) fit old =
+    let none = unheld w key from there h.free old in
+    ap (λ (x : WorldState). total x q) is
+    ∙ ap (λ b. count_by (is_load q) w.order + one_if b) (loaded_inserted w.parts key q (new_part p r) (λ same. h.unloaded ∙ sym (ap is_loaded (ap (get w.parts) same ∙ none))))
+total_key w new e key seen q (by_join u op from to join may there h is none ends) fit old = ap (λ (x : WorldState). total x q) is
+total_key w new e key seen q (by_commit call part from to x e_is part_is at h home_is is shows) fit old =
     let r = part.reservation in
-    let there = is_part (get w.parts key) call part is in
-    let mid = after_commit from r seen.place in
+    let there = is_part (get w.parts key) call part part_is in
+    let mid = after_commit from r x.place in
     let added_is : count_by (is_load q) (added from to) ≡ one_if (pointwise ◌==◌ q key && is_load_given (out_of part).load) =
-    step_loads mid to r.caller r.key r.op (out_of part) (callers_of r.number from.joiners) (step_of seen) q h.0.1 ∙ ap (λ k. one_if (pointwise ◌==◌ q k && is_load_given (out_of part).load)) key_is in
+    step_loads mid to r.caller r.key r.op (out_of part) (callers_of r.number from.joiners) (step_of x) q h.1 ∙ ap (λ k. one_if (pointwise ◌==◌ q k && is_load_given (out_of part).load)) (part_key w call key part part_is old) in
     let tied = ap (λ b. one_if (b && is_load_given (out_of part).load)) (texts_ties q key) in
     let more = none_append q w.order (added from to) in
     let n = count_by (is_load q) w.order in
     let grows : count_by (is_load q) (w.order ++ added from to) ≡ n + one_if (eq_by_cmp key_cmp q key && is_load_given (out_of part).load) = omega arith in
     let P : Bool → Type 0 = λ b. (n + one_if (b && is_load_given (out_of part).load)) + one_if (is_loaded (cond b None (get w.parts q))) ≡ n + one_if (is_loaded (get w.parts q)) in
-    ap (λ (x : WorldState). total x q) h.2
+    ap (λ (v : WorldState). total v q) is
     ∙ ap (λ m. m + one_if (is_loaded (get (remove w.parts key) q))) grows
     ∙ ap (λ o. (n + one_if (eq_by_cmp key_cmp q key && is_load_given (out_of part).load)) + one_if (is_loaded o)) (get-remove nat_list_cmp_total w.parts key q)
     ∙ split q key P
     (λ same. let was : one_if (is_loaded (get w.parts q)) ≡ one_if (is_load_given (out_of part).load) = ap one_if (loaded_at w key q part there same) in omega arith)
     (λ apart. omega arith)
-total_ended w new call key part from to seen q is key_is h = absurd h
-
--- an answer is picked up
-total_picks : (w new : WorldState) (call : ℕ) (key : Bytes) (join : JoinClaim) (from to : State) (seen : Outcome) (q : Bytes) → Picks w call key join from to seen new → total new q ≡ total w q
-total_picks w new call key join from to (outcome.PickedUp seen) q h = ap (λ (x : WorldState). total x q) h.2
-total_picks w new call key join from to outcome.Again q h = ap (λ (x : WorldState). total x q) h.1
-total_picks w new call key join from to outcome.Waits q h = ap (λ (x : WorldState). total x q) h.1
-total_picks w new call key join from to seen q h = absurd h
+total_key w new e key seen q (by_withdrawal call part from to e_is part_is at h is shows) fit old =
+    let there = is_part (get w.parts key) call part part_is in
+    ap (λ (x : WorldState). total x q) is
+    ∙ ap (λ b. count_by (is_load q) w.order + one_if b) (loaded_removed w.parts key q (λ same. loaded_at w key q part there same ∙ no_touch (part_of w call key) part part_is (ap (fits w) (sym e_is) ∙ fit)))
+total_key w new e key seen q (by_answer call join from to x e_is join_is there h home_is is shows ends) fit old = ap (λ (v : WorldState). total v q) is
+total_key w new e key seen q (by_retry call join from to e_is join_is there h is shows ends) fit old = ap (λ (v : WorldState). total v q) is
 
 -- by the kind of the event
 total_happens : (w new : WorldState) (e : WorldEvent) (seen : Shown) (q : Bytes) → fits w e ≡ true → Happens w e seen new → IsSoundWorld w → total new q ≡ one_if (is_answer q e seen.outcome) + total w q
-total_happens w new (event.Call call session command) seen q fit h old = unanswered false (total new q) (total w q) refl (ap (λ (x : WorldState). total x q) h.1)
-total_happens w new (event.Look call stripe) seen q fit h old = unanswered false (total new q) (total w q) refl (ap (λ (x : WorldState). total x q) h.9)
-total_happens w new (event.Start call key) seen q fit h old = unanswered false (total new q) (total w q) refl (total_started w new h.0 key h.1 h.4 h.6 seen.outcome q h.5 h.7 old)
-total_happens w new (event.Read call key) seen q fit h old =
+total_happens w new (WorldEvent.Look call stripe) seen q fit h old = unanswered false (total new q) (total w q) refl (ap (λ (x : WorldState). total x q) h.9)
+total_happens w new (WorldEvent.Read call key) seen q fit h old =
     ap (λ (x : WorldState). total x q) h.3 ∙ total_answered w call key q h.0 (read_answer (entry_at w.store key)) h.1 fit (read_given (entry_at w.store key))
-    ∙ ap (λ (s : Shown). one_if (is_answer q (event.Read call key) s.outcome) + total w q) (sym h.2)
-total_happens w new (event.Say call key answer) seen q fit h old =
+    ∙ ap (λ (s : Shown). one_if (is_answer q (WorldEvent.Read call key) s.outcome) + total w q) (sym h.2)
+total_happens w new (WorldEvent.Say call key answer) seen q fit h old =
     let ok = and_parts (is_load_given answer) (has_progress waits_for_load (part_of w call key)) fit in
     ap (λ (x : WorldState). total x q) h.3 ∙ total_answered w call key q h.0 answer h.1 ok.1 ok.0
-    ∙ ap (λ (s : Shown). one_if (is_answer q (event.Say call key answer) s.outcome) + total w q) (sym h.2)
-total_happens w new (event.Process call key source calls fail) seen q fit h old =
+    ∙ ap (λ (s : Shown). one_if (is_answer q (WorldEvent.Say call key answer) s.outcome) + total w q) (sym h.2)
+total_happens w new (WorldEvent.Process call key source calls fail) seen q fit h old =
     let answer = load_from source (entry_at w.store key) in
     let done = run_result h.0.reservation answer calls fail in
     ap (λ (x : WorldState). total x q) h.3 ∙ total_processed w call key q h.0 done h.1 fit
-    ∙ ap (λ (s : Shown). one_if (is_answer q (event.Process call key source calls fail) s.outcome) + total w q) (sym h.2)
-total_happens w new (event.Change call key) seen q fit h old =
+    ∙ ap (λ (s : Shown). one_if (is_answer q (WorldEvent.Process call key source calls fail) s.outcome) + total w q) (sym h.2)
+total_happens w new (WorldEvent.Change call key) seen q fit h old =
     let there = is_part (get w.parts key) call h.0 h.2 in
     unanswered false (total new q) (total w q) refl
     (ap (λ (x : WorldState). total x q) h.5 ∙ ap (λ b. count_by (is_load q) w.order + one_if b) (loaded_inserted w.parts key q (record h.0 { progress = with_change h.0.progress }) (λ same. change_loads h.0.progress ∙ sym (loaded_at w key q h.0 there same))))
-total_happens w new (event.Report call left fault) seen q fit h old =
+total_happens w new (WorldEvent.Report call left fault) seen q fit h old =
     unanswered false (total new q) (total w q) refl
     (ap (λ (x : WorldState). total x q) h.3
     ∙ each_report (λ v. total v q ≡ total w q) call (report_for h.0.kind left fault)
@@ -316,21 +234,14 @@ total_happens w new (event.Report call left fault) seen q fit h old =
     let report = report_for h.0.kind left fault key in
     ap (λ b. count_by (is_load q) v.order + one_if b) (loaded_inserted v.parts key q (record part { progress = with_report part.progress report }) (λ same. report_loads part.progress report ∙ sym (loaded_at v key q part there same))) ∙ o)
     (with_met_by w call (option_map WriterFailed fault)) (keys_reported (reported_keys w.parts call (open_keys h.0))) refl)
-total_happens w new (event.Commit call key) seen q fit h old = unanswered false (total new q) (total w q) refl (total_ended w new call key h.0 h.2 h.4 seen.outcome q h.1 (part_key w call key h.0 h.1 old) h.5)
-total_happens w new (event.Withdraw call key) seen q fit h old =
-    let there = is_part (get w.parts key) call h.0 h.1 in
-    unanswered false (total new q) (total w q) refl
-    (ap (λ (x : WorldState). total x q) h.7
-    ∙ ap (λ b. count_by (is_load q) w.order + one_if b) (loaded_removed w.parts key q (λ same. loaded_at w key q h.0 there same ∙ no_touch (part_of w call key) h.0 h.1 fit)))
-total_happens w new (event.Leave call) seen q fit h old = unanswered false (total new q) (total w q) refl (ap (λ (x : WorldState). total x q) h.1)
-total_happens w new (event.PickUp call key) seen q fit h old = unanswered false (total new q) (total w q) refl (total_picks w new call key h.0 h.2 h.4 seen.outcome q h.5)
-total_happens w new (event.Foreign key value) seen q fit h old = unanswered false (total new q) (total w q) refl (ap (λ (x : WorldState). total x q) h.1)
+total_happens w new (WorldEvent.Call call session command) seen q fit h old = unanswered false (total new q) (total w q) refl (ap (λ (x : WorldState). total x q) h.1)
+total_happens w new (WorldEvent.Leave call) seen q fit h old = unanswered false (total new q) (total w q) refl (ap (λ (x : WorldState). total x q) h.1)
+total_happens w new (WorldEvent.Foreign key value) seen q fit h old = unanswered false (total new q) (total w q) refl (ap (λ (x : WorldState). total x q) h.1)
+total_happens w new e seen q fit h old = let k = key_change w new e seen refl h in unanswered false (total new q) (total w q) refl (total_key w new e k.0 seen q k.1 fit old)
 
 -- what doesn't fit is no answer
-unfit_answer : (q : Bytes) (e : WorldEvent) → is_answer q e outcome.Unfit ≡ false
-unfit_answer q (event.Read call key) = refl
-unfit_answer q (event.Say call key answer) = refl
-unfit_answer q (event.Process call key source calls fail) = refl
+unfit_answer : (q : Bytes) (e : WorldEvent) → is_answer q e Outcome.Unfit ≡ false
+unfit_answer q (WorldEvent.Read call key) = refl
 unfit_answer q e = refl
 
 -- any event, also one that doesn't fit
@@ -347,13 +258,12 @@ answers q es ss = count_by (λ (e : WorldEvent × Shown). is_answer q e.0 e.1.ou
 -- and so a run
 pub total_run : Laws → (w new : WorldState) (es : List WorldEvent) (ss : List Shown) (q : Bytes) → Run w es ss new → IsSoundWorld w → total new q ≡ answers q es ss + total w q
 total_run laws w new [] [] q run old = let e : total new q ≡ total w q = ap (λ (x : WorldState). total x q) run in omega arith
-total_run laws w new [] (s ∷ ss) q run old = absurd run
-total_run laws w new (e ∷ es) [] q run old = absurd run
 total_run laws w new (e ∷ es) (s ∷ ss) q (mid, step, rest) old =
     let one = total_step w mid e s q step old in
     let more = total_run laws mid new es ss q rest (sound_step laws w e s mid step old) in
     let split_off : answers q (e ∷ es) (s ∷ ss) ≡ one_if (is_answer q e s.outcome) + answers q es ss = sum_by-cons (λ (x : WorldEvent × Shown). cond (is_answer q x.0 x.1.outcome) 1 0) (e, s) (zip es ss) in
     omega arith
+total_run laws w new es ss q run old = absurd run
 
 -- nothing was counted before anything has happened
 pub total_opened : (config : Config) (stored : List (Bytes × Bytes)) (q : Bytes) → total (start_with config stored) q ≡ 0

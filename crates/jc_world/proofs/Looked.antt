@@ -12,21 +12,9 @@
 --                      a call that has changed is put in its place, or taken out if it is over, and what is said of its end
 --     put_at           one that stays under way is put in its place
 --     none_replaced    where no call has the number, nothing changes
-use Rattle.std.proofs.Common.{◌≡◌, ◌==◌, ◌+◌, ℕ, zero, suc, List, [], ◌∷◌, ◌++◌, Bool, true, false, cond, Option, None, Some, IsSomeAnd, find, position, slice_get, slice_set, refl, sym, ap, ◌∙◌, subst, arith}
-use Rattle.std.specs.List.{list_all, cons_option, position_from, remove}
-use Rattle.std.proofs.lemmas.Iterator.Adapters.{position_from-zero}
-use Rattle.std.specs.Map.{lookup}
-use Rattle.std.specs.Option.{option_or}
-use Rattle.std.specs.Cmp.Lexicographic.{pointwise}
-use Rattle.std.proofs.lemmas.Bool.{and_parts, and_from}
-use Rattle.jc_types.specs.declared.caller.Caller.{Caller}
-use Rattle.jc_types.specs.declared.refusal.Refusal.{Refusal}
-use Rattle.jc_model.specs.declared.event.Op.{Op}
-use Rattle.jc_model.specs.Cache.{Bytes}
-use Rattle.jc_world.specs.Calls.{CallState, SweepState, has_looked_at_each, has_number, at_each, op_at, op_found, op_or_found, op_for, open_keys, open_in, is_at, is_turn, takes_turns, is_going, going_on, over_of, next_sweep, with_found, with_met, replaced}
-use Rattle.jc_world.specs.declared.event.Over.{Over}
-use Rattle.jc_world.specs.World.{WorldState}
-use Rattle.jc_world.specs.Sound.{is_apart, FitsCall, CallsFit, IsCallOf, Each}
+use Rattle.jc_world.proofs.Common.{◌≡◌, ℕ, zero, suc, ◌+◌, Bool, true, false, cond, List, [], ◌∷◌, ◌++◌, IsSomeAnd, ◌==◌, slice_get, slice_set, Some, None, Option, position, find, sym, refl, ap, ◌∙◌, subst, arith, and_parts, and_from, position_from-zero, pointwise, list_all, cons_option, position_from, lookup, option_or, Caller, Refusal, Bytes, Op, Over, at_each, SweepState, takes_turns, CallState, has_number, op_at, op_found, op_or_found, op_for, open_in, open_keys, is_turn, is_going, going_on, over_of, with_met, replaced, has_looked_at_each, next_sweep, with_found, is_apart, FitsCall, CallsFit, Each, IsCallOf, WorldState}
+use Rattle.std.specs.List.{remove}
+use Rattle.jc_world.specs.Calls.{is_at}
 use Rattle.jc_world.proofs.Facts.{same_found}
 use Rattle.jc_world.proofs.Found.{lookup-found, op_of_found, still_done, first_kept}
 use Rattle.jc_world.proofs.Settling.{going_is, none_left, apart_of, apart_from, goes_behind, goes_here}
@@ -234,9 +222,8 @@ place_at call left calls i h =
     subst (IsPlaceOf call left calls) is found.2
 
 pub remove_set : (calls : List CallState) (i : ℕ) (v : CallState) → remove (slice_set calls i v) i ≡ remove calls i
-remove_set [] i v = refl
-remove_set (x ∷ xs) zero v = refl
 remove_set (x ∷ xs) (suc i) v = ap (λ cs. x ∷ cs) (remove_set xs i v)
+remove_set calls i v = refl
 
 -- a call that has changed is put in its place, or taken out if it is over
 left_is : (f : CallState → CallState) (u x v : CallState) → u ≡ x → v ≡ f x → (b : Bool) → is_going v ≡ b → going_on (f u) ≡ cond b (Some v) None

@@ -1,42 +1,19 @@
--- Finite maps whose keys are ordered: what a look-up says after an insertion and a removal; and the maps that index maps mean.
---     IsKeyOrder             an order is total, and only equal keys tie
---     keys_ordered           that of keys is one
---     joins_ordered          and so is that of calls and keys
---     tied, split            a key ties with itself; by cases on whether two keys are one
---     get-here, get-gone     what was inserted is there, and what was removed is not
---     get-beside, get-left   another key has what it had
---     still-there            what was there is there
---     each_put, each_left    what is true of all that is there stays so
---     insert-there           what is there, inserted once more, changes nothing
---     insert-back            nor if it was removed first
---     find-entries, put-entries, remove-entries, popped
---                            a look-up of an index map, an insertion, a removal, and what was popped
---     nothing_at             an index map with no entry has nothing at any key
+-- The maps of a world: what is so of all finite maps whose keys are ordered, and the order of calls and keys.
+--     joins_ordered               the order of calls and keys is one of keys
 --     is_join_key, joins_tied     the test of calls and keys, and that it is of their order
-use Rattle.std.proofs.Common.{◌≡◌, ◌==◌, ◌&&◌, List, [], ◌∷◌, ◌++◌, None, Some, Bool, true, false, cond, is_some, refl, sym, ap, subst, ◌∙◌}
-use Rattle.std.specs.declared.cmp.Ordering.{Ordering}
+use Rattle.std.proofs.Common.{◌≡◌, ◌==◌, ◌&&◌, Bool, ap, ◌∙◌}
 use Rattle.std.specs.Ordering.{eq_by_cmp, is_eq, nat_cmp}
-use Rattle.std.specs.Cmp.{IsTotalOrder, eq_by_cmp_equiv, Equal-is, tied_then, both_tied, then_total, on_total, unsigned_ties}
+use Rattle.std.specs.Cmp.{Equal-is, tied_then, both_tied, then_total, on_total, unsigned_ties}
 use Rattle.std.specs.Cmp.Lexicographic.{pointwise, texts_ties}
+use Rattle.std.specs.FinMap.{IsAntisymmetric, nat_cmp-IsAntisymmetric}
 use Rattle.std.proofs.lemmas.Bool.{and_parts}
 use Rattle.std.proofs.lemmas.Cmp.{nat_cmp_total, nat_list_cmp_total}
 use Rattle.std.proofs.lemmas.Map.Lookups.{exact_bytes}
-use Rattle.std.specs.Map.{lookup}
-use Rattle.std.specs.FinMap as map
-use Rattle.std.specs.FinMap.{FinMap, IsAntisymmetric, nat_cmp-IsAntisymmetric, find, insert, remove, same_map, from_entries, get-from_entries, get-insert, get-remove}
-use Rattle.std.proofs.lemmas.List.{nil_from_length}
-use Rattle.indexmap.specs.IndexMap.{IndexMap, get, index_map_len, Updates}
 use Rattle.jc_model.specs.Cache.{key_cmp}
+use Rattle.jc_outside.proofs.CallerLemmas.{IsKeyOrder}
 use Rattle.jc_world.specs.World.{JoinKey, join_cmp}
-
--- 1. Orders of keys.
-
-pub record IsKeyOrder {K : Type 0} (R : K → K → Ordering) : Type 0 where
-  pub total : IsTotalOrder R
-  pub exact : IsAntisymmetric R
-
-pub keys_ordered : IsKeyOrder key_cmp
-keys_ordered = record { total = nat_list_cmp_total; exact = exact_bytes }
+pub use Rattle.jc_outside.proofs.CallerLemmas.{keys_ordered, tied, split, get-here, get-gone, get-beside, get-left, still-there, each_put, each_left, insert-there, insert-back}
+pub use Rattle.jc_outside.proofs.CallerLemmas.{find-entries, put-entries, remove-entries, popped, nothing_at}
 
 exact_joins : IsAntisymmetric join_cmp
 exact_joins p q e =
@@ -47,103 +24,6 @@ exact_joins p q e =
 
 pub joins_ordered : IsKeyOrder join_cmp
 joins_ordered = record { total = then_total (on_total (λ at. at.0) nat_cmp_total) (on_total (λ at. at.1) nat_list_cmp_total); exact = exact_joins }
-
-module _ {K : Type 0} {R : K → K → Ordering} (o : IsKeyOrder R) where
-  pub tied : (k : K) → eq_by_cmp R k k ≡ true
-  tied k = (eq_by_cmp_equiv o.total).refl k
-
-  pub split : (q k : K) (P : Bool → Type 0) → (q ≡ k → P true) → (eq_by_cmp R q k ≡ false → P false) → P (eq_by_cmp R q k)
-  split q k P here there =
-      elim (eq_by_cmp R q k) as (λ b. eq_by_cmp R q k ≡ b → P b) [ true ↦ λ e. here (o.exact q k ((Equal-is (R q k)).0 e)) | false ↦ λ e. there e ] refl
-
-  apart : (q k : K) → (q ≡ k → ⊥) → eq_by_cmp R q k ≡ false
-  apart q k other = split q k (λ b. b ≡ false) (λ same. absurd (other same)) (λ e. refl)
-
--- 2. What a look-up says.
-
-module _ {K X : Type 0} {R : K → K → Ordering} (o : IsKeyOrder R) where
-  pub get-here : (m : FinMap R X) (k : K) (v : X) → map.get (insert m k v) k ≡ Some v
-  get-here m k v = get-insert o.total m k v k ∙ ap (λ b. cond b (Some v) (map.get m k)) (tied o k)
-
-  pub get-gone : (m : FinMap R X) (k : K) → map.get (remove m k) k ≡ None
-  get-gone m k = get-remove o.total m k k ∙ ap (λ b. cond b None (map.get m k)) (tied o k)
-
-  pub get-beside : (m : FinMap R X) (k : K) (v : X) (q : K) → (q ≡ k → ⊥) → map.get (insert m k v) q ≡ map.get m q
-  get-beside m k v q other = get-insert o.total m k v q ∙ ap (λ b. cond b (Some v) (map.get m q)) (apart o q k other)
-
-  pub get-left : (m : FinMap R X) (k q : K) → (q ≡ k → ⊥) → map.get (remove m k) q ≡ map.get m q
-  get-left m k q other = get-remove o.total m k q ∙ ap (λ b. cond b None (map.get m q)) (apart o q k other)
-
-  pub still-there : (m : FinMap R X) (k : K) (v : X) (q : K) → is_some (map.get m q) ≡ true → is_some (map.get (insert m k v) q) ≡ true
-  still-there m k v q there =
-      ap is_some (get-insert o.total m k v q) ∙ elim (eq_by_cmp R q k) as (λ b. is_some (cond b (Some v) (map.get m q)) ≡ true) [ true ↦ refl | false ↦ there ]
-
-  pub each_put : (P : K → X → Type 0) (m : FinMap R X) (k : K) (v : X) → P k v → ((q : K) (x : X) → map.get m q ≡ Some x → P q x) → (q : K) (x : X) → map.get (insert m k v) q ≡ Some x → P q x
-  each_put P m k v one all q x is =
-      split o q k (λ b. cond b (Some v) (map.get m q) ≡ Some x → P q x)
-      (λ same e. let it : v ≡ x = cc in subst (λ p. P p x) (sym same) (subst (P k) it one))
-      (λ other e. all q x e)
-      (sym (get-insert o.total m k v q) ∙ is)
-
-  pub each_left : (P : K → X → Type 0) (m : FinMap R X) (k : K) → ((q : K) (x : X) → (q ≡ k → ⊥) → map.get m q ≡ Some x → P q x) → (q : K) (x : X) → map.get (remove m k) q ≡ Some x → P q x
-  each_left P m k all q x is =
-      split o q k (λ b. cond b None (map.get m q) ≡ Some x → P q x)
-      (λ same e. cc)
-      (λ other e. all q x (λ same. let t : true ≡ false = sym (tied o k) ∙ ap (λ p. eq_by_cmp R p k) (sym same) ∙ other in cc) e)
-      (sym (get-remove o.total m k q) ∙ is)
-
-  pub insert-there : (m : FinMap R X) (k : K) (v : X) → map.get m k ≡ Some v → insert m k v ≡ m
-  insert-there m k v there = same_map o.total o.exact _ _ (λ q.
-      get-insert o.total m k v q
-      ∙ split o q k (λ b. cond b (Some v) (map.get m q) ≡ map.get m q) (λ same. sym (ap (map.get m) same ∙ there)) (λ other. refl))
-
-  pub insert-back : (m : FinMap R X) (k : K) (v : X) → map.get m k ≡ Some v → insert (remove m k) k v ≡ m
-  insert-back m k v there = same_map o.total o.exact _ _ (λ q.
-      get-insert o.total (remove m k) k v q
-      ∙ split o q k (λ b. cond b (Some v) (map.get (remove m k) q) ≡ map.get m q) (λ same. sym (ap (map.get m) same ∙ there))
-      (λ other. get-remove o.total m k q ∙ ap (λ b. cond b None (map.get m q)) other))
-
--- 3. Index maps.
-
-module _ {K X : Type 0} where
-  -- one that was pushed is found, if it wasn't there
-  pub lookup-push : (test : K → Bool) (es : List (K × X)) (k : K) (v : X) → lookup test es ≡ None → test k ≡ true → lookup test (es ++ (k, v) ∷ []) ≡ Some v
-  lookup-push test [] k v none t = ap (λ b. cond b (Some v) None) t
-  lookup-push test (e ∷ es) k v none t =
-      elim (test e.0) as (λ b. cond b (Some e.1) (lookup test es) ≡ None → cond b (Some e.1) (lookup test (es ++ (k, v) ∷ [])) ≡ Some v) [ true ↦ λ h. cc | false ↦ λ h. lookup-push test es k v h t ] none
-
-module _ {K : Type 0} {R : K → K → Ordering} (o : IsKeyOrder R) (eq : K → K → Bool) (ties : (p q : K) → eq p q ≡ eq_by_cmp R p q) where
-  turned : (k q : K) → eq k q ≡ eq_by_cmp R q k
-  turned k q = ties k q ∙ (eq_by_cmp_equiv o.total).symm k q
-
-  found : {X : Type 0} (es : List (K × X)) (q : K) → lookup (eq q) es ≡ find R q es
-  found [] q = refl
-  found (e ∷ es) q = λ i. cond (ties q e.0 i) (Some e.1) (found es q i)
-
-module _ {K X S : Type 0} {R : K → K → Ordering} (o : IsKeyOrder R) (eq : K → K → Bool) (ties : (p q : K) → eq p q ≡ eq_by_cmp R p q) where
-  pub find-entries : (m : IndexMap K X S) (q : K) → get eq m q ≡ map.get (from_entries {R = R} m.entries) q
-  find-entries m q = found o eq ties m.entries q ∙ sym (get-from_entries o.total m.entries q)
-
-  pub put-entries : (m n : IndexMap K X S) (k : K) (v : X) → Updates eq m n k (Some v) → from_entries {R = R} n.entries ≡ insert (from_entries m.entries) k v
-  put-entries m n k v u = same_map o.total o.exact _ _ (λ q.
-      sym (find-entries n q) ∙ u.0 q ∙ (λ i. cond (turned o eq ties k q i) (Some v) (find-entries m q i))
-      ∙ sym (get-insert o.total (from_entries m.entries) k v q))
-
-  pub remove-entries : (m n : IndexMap K X S) (k : K) → Updates eq m n k None → from_entries {R = R} n.entries ≡ remove (from_entries m.entries) k
-  remove-entries m n k u = same_map o.total o.exact _ _ (λ q.
-      sym (find-entries n q) ∙ u.0 q ∙ (λ i. cond (turned o eq ties k q i) None (find-entries m q i))
-      ∙ sym (get-remove o.total (from_entries m.entries) k q))
-
-  pub popped : (m n : IndexMap K X S) (k : K) (v : X) → m.entries ≡ n.entries ++ (k, v) ∷ [] → Updates eq m n k None → map.get (from_entries {R = R} m.entries) k ≡ Some v
-  popped m n k v is u =
-      sym (find-entries m k) ∙ ap (lookup (eq k)) is
-      ∙ lookup-push (eq k) n.entries k v u.1 (ties k k ∙ tied o k)
-
-  -- a map with no entry has nothing at any key
-  pub nothing_at : (m : IndexMap K X S) (q : K) → index_map_len m ≡ 0 → map.get (from_entries {R = R} m.entries) q ≡ None
-  nothing_at m q none = get-from_entries o.total m.entries q ∙ ap (find R q) (nil_from_length m.entries none)
-
--- 4. The test of calls and keys.
 
 abbrev pub is_join_key : JoinKey → JoinKey → Bool
 is_join_key p q = (p.0 == q.0) && pointwise ◌==◌ p.1 q.1

@@ -5,30 +5,8 @@
 --     stays_merged       a stripe whose history stays: so does the order
 --     merged_next        one turn more: the next event of its stripe is at the end
 --     merged_length      there are as many events as turns
-use Rattle.std.proofs.Common.{◌≡◌, ◌==◌, ◌∙◌, ◌+◌, ◌-◌, ◌≤◌, ◌<◌, ℕ, zero, suc, List, [], ◌∷◌, ◌++◌, Bool, true, false, cond, Some, IsSomeAnd, Ok, length, take, drop, replicate, get_or, slice_get, slice_set, refl, sym, ap, subst, arith, append_assoc, append-nil, length-append}
-use Rattle.std.proofs.Math.Seq.{drop-append_seam}
-use Rattle.std.proofs.lemmas.Bool.Decides.{nat_tests}
-use Rattle.std.proofs.lemmas.Bool.{eqb-true}
-use Rattle.std.proofs.lemmas.List.{take_more, take-append-drop, get_or-set_same, get_or-set_other}
-use Rattle.std.proofs.lemmas.List.Sums.{sum_by-cons, sum_by-append, count_by_more_yes, count_by_more_no}
-use Rattle.std.proofs.lemmas.Option.{slice_get_read}
-use Rattle.std.proofs.lemmas.Cmp.{nat_eq_equiv}
-use Rattle.jc_types.specs.declared.limits.TheConstants.{STRIPES_MAX}
-use Rattle.jc_model.specs.declared.event.Event.{Event}
-use Rattle.jc_stripe.specs.State.{State}
-use Rattle.jc_types.specs.declared.config.Config.{Config}
-use Rattle.jc_types.specs.Limits.{check}
-use Rattle.jc_world.specs.World.{empty_stripes}
-use Rattle.jc_world.proofs.Places.{few_stripes, stripe_put}
-use Rattle.jc_world.proofs.Beginning.{empty_count}
-use Rattle.jc_stripe.specs.Laws.{Extends}
-use Rattle.jc_stripe.specs.Phases.{PicksUp}
-use Rattle.jc_stripe.specs.Tickets.{JoinClaim}
-use Rattle.jc_stripe.specs.declared.begun.Picked.{Picked}
-use Rattle.jc_stripe.specs.declared.begun.Picked.TheVariants as picked
-use Rattle.jc_world.specs.declared.stripes.Stripes.TheInside.{Inside}
-use Rattle.jc_world.proofs.Numbered.{at_index}
-use Rattle.jc_world.specs.Turns.{OrderedStripes, IsPhase, IsQuietPhase, ordered_stripes, IsMergeable, history_in, history_at, turns_of, after_turn, merge, AreTurns}
+use Rattle.jc_world.proofs.Common.{◌≡◌, ℕ, zero, suc, ◌+◌, ◌-◌, ◌<◌, ◌≤◌, Bool, true, false, cond, List, [], ◌∷◌, ◌++◌, length, get_or, take, drop, replicate, IsSomeAnd, ◌==◌, slice_get, slice_set, Some, Ok, sym, refl, ap, ◌∙◌, subst, append_assoc, append-nil, arith, length-append, drop-append_seam, eqb-true, nat_tests, nat_eq_equiv, take-append-drop, get_or-set_same, get_or-set_other, take_more, sum_by-cons, sum_by-append, count_by_more_yes, count_by_more_no, slice_get_read, check, Config, STRIPES_MAX, Event, Extends, PicksUp, State, JoinClaim, Picked, Inside, history_in, history_at, turns_of, after_turn, merge, OrderedStripes, IsPhase, IsQuietPhase, ordered_stripes, AreTurns, IsMergeable, empty_stripes}
+use Rattle.jc_world.proofs.Lemmas.{empty_count, stripe_put, few_stripes, at_index}
 
 -- 1. Turns.
 
@@ -104,8 +82,7 @@ others_length (x ∷ xs) n h = omega arith
 -- the first turn is of a stripe that has an event left
 has_first : (left : ℕ → List Event) (turn : ℕ) (turns : List ℕ) → ((number : ℕ) → turns_of number (turn ∷ turns) ≤ length (left number)) → 1 + turns_of turn turns ≤ length (left turn)
 has_first left turn turns each =
-    let Q : ℕ → Type 0 = λ n. n ≤ length (left turn) in
-    subst Q (count_one turn turn turns ∙ ap (λ b. cond b 1 0 + turns_of turn turns) (nat_eq_equiv.refl turn)) (each turn)
+    rw (count_one turn turn turns ∙ ap (λ b. cond b 1 0 + turns_of turn turns) (nat_eq_equiv.refl turn)) at (each turn)
 
 within_turn : (b : Bool) (n : ℕ) (xs : List Event) → cond b 1 0 + n ≤ length xs → n ≤ length (cond b (drop 1 xs) xs)
 within_turn true n xs h = others_length xs n (omega arith)
@@ -113,8 +90,7 @@ within_turn false n xs h = omega arith
 
 within_after : (left : ℕ → List Event) (turn : ℕ) (turns : List ℕ) → ((number : ℕ) → turns_of number (turn ∷ turns) ≤ length (left number)) → (number : ℕ) → turns_of number turns ≤ length (after_turn left turn number)
 within_after left turn turns each number =
-    let Q : ℕ → Type 0 = λ n. n ≤ length (left number) in
-    within_turn (turn == number) (turns_of number turns) (left number) (subst Q (count_one number turn turns) (each number))
+    within_turn (turn == number) (turns_of number turns) (left number) (rw (count_one number turn turns) at (each number))
 
 longer_after : (left left' : ℕ → List Event) (turn : ℕ) → 1 ≤ length (left turn) → Longer left left' → Longer (after_turn left turn) (after_turn left' turn)
 longer_after left left' turn some longer number =
@@ -138,14 +114,12 @@ merged_same left left' (turn ∷ turns) each longer =
 -- 4. A stripe that appends.
 
 pub other_set : (stripes : List State) (n m : ℕ) (to : State) → (n == m) ≡ false → slice_get (slice_set stripes n to) m ≡ slice_get stripes m
-other_set [] n m to h = refl
 other_set (s ∷ ss) zero zero to h = cc
-other_set (s ∷ ss) zero (suc m) to h = refl
-other_set (s ∷ ss) (suc n) zero to h = refl
 other_set (s ∷ ss) (suc n) (suc m) to h = other_set ss n m to (next n m h)
   where
     next : (n m : ℕ) → (suc n == suc m) ≡ false → (n == m) ≡ false
     next n m h = grind (arith, nat_tests)
+other_set stripes n m to h = refl
 
 -- what each history is then
 history_set : (stripes : List State) (n m : ℕ) (from to : State) (more : List Event) → slice_get stripes n ≡ Some from → to.history ≡ from.history ++ more → history_at (slice_set stripes n to) m ≡ history_at stripes m ++ cond (n == m) more []
@@ -224,8 +198,7 @@ is_at s now number from P is h read = at_index s.items.items number from P (subs
 pub phase_made : (s : Inside) (now : OrderedStripes) (number count : ℕ) (from to : State) (phase : State → State → Type 0) (turns : List ℕ) (next : OrderedStripes) → ordered_stripes s ≡ now → IsMergeable s → slice_get s.items.items number ≡ Some from → Extends from to → count ≡ length from.history → phase from to
     → turns ≡ s.turns.items ++ replicate (length to.history - count) number → next.stripes ≡ slice_set s.items.items number to → next.order ≡ merge (history_at (slice_set s.items.items number to)) turns → IsPhase now number phase next
 phase_made s now number count from to phase turns next is ok at longer counted made given stripes_are order_are =
-    let P : OrderedStripes → Type 0 = λ v. IsPhase v number phase next in
-    subst P is (record {
+    subst (λ v. IsPhase v number phase next) is (record {
       from = from;
       at = at;
       to = to;
@@ -246,16 +219,14 @@ quiet_made s now number from to phase next is at same made stripes_are order_are
 
 -- a pick-up appends nothing
 pub picked_same : (from to : State) (join : JoinClaim) (p : Picked) → PicksUp from join p to → to.history ≡ from.history
-picked_same from to join (picked.Answer reply place shared_with) h = ap (λ (s : State). s.history) h.3
-picked_same from to join picked.Again h = ap (λ (s : State). s.history) h.2
-picked_same from to join (picked.NotYet back) h = ap (λ (s : State). s.history) h.3
+picked_same from to join Picked.Again h = ap (λ (s : State). s.history) h.2
+picked_same from to join p h = ap (λ (s : State). s.history) h.3
 
 -- 7. Empty stripes.
 
 no_history : (config : Config) (number count m : ℕ) → history_at (empty_stripes config number count) m ≡ []
-no_history config number zero m = refl
-no_history config number (suc count) zero = refl
 no_history config number (suc count) (suc m) = no_history config (number + 1) count m
+no_history config number count m = refl
 
 pub starts_mergeable : (s : Inside) (config : Config) → check config ≡ Ok tt → s.items.items ≡ empty_stripes config 0 config.stripes → s.turns.items ≡ [] → IsMergeable s
 starts_mergeable s config fits empty none = record {

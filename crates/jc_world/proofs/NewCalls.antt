@@ -2,12 +2,7 @@
 --     opened_cases       what is so of it under way, and of no call, is so of what was opened
 --     begun_cases        what is so of a begun call's showing, and of a refusal's, is so of what was shown
 --     begun_shown        one that isn't refused whole has begun
-use Rattle.std.proofs.Common.{◌≡◌, List, [], ◌∷◌, true, false, cond, ap}
-use Rattle.jc_types.specs.declared.refusal.Refusal.TheVariants.{TooManyKeys}
-use Rattle.jc_world.specs.Calls.{CallState, has_too_many_keys, is_going, opened, over_of}
-use Rattle.jc_world.specs.declared.event.Shown.{Shown}
-use Rattle.jc_world.specs.declared.event.Outcome.TheVariants as outcome
-use Rattle.jc_world.specs.Events.{not_over, shown_begun}
+use Rattle.jc_world.proofs.Common.{◌≡◌, true, false, cond, List, [], ◌∷◌, ap, TooManyKeys, Outcome, Shown, CallState, is_going, has_too_many_keys, opened, over_of, not_over, shown_begun}
 
 pub opened_cases : (u : CallState) (P : List CallState → Type 0) → P (u ∷ []) → P [] → P (opened u)
 opened_cases u P one none =
@@ -16,8 +11,8 @@ opened_cases u P one none =
       | false ↦ elim (is_going u) as (λ b. P (cond b (u ∷ []) [])) [ true ↦ one | false ↦ none ]
     ]
 
-pub begun_cases : (u : CallState) (P : Shown → Type 0) → P (record { outcome = outcome.Begun; over = over_of u }) → P (not_over (outcome.Refused TooManyKeys)) → P (shown_begun u)
-begun_cases u P begun refused = elim (has_too_many_keys u) as (λ b. P (cond b (not_over (outcome.Refused TooManyKeys)) (record { outcome = outcome.Begun; over = over_of u }))) [ true ↦ refused | false ↦ begun ]
+pub begun_cases : (u : CallState) (P : Shown → Type 0) → P (record { outcome = Outcome.Begun; over = over_of u }) → P (not_over (Outcome.Refused TooManyKeys)) → P (shown_begun u)
+begun_cases u P begun refused = elim (has_too_many_keys u) as (λ b. P (cond b (not_over (Outcome.Refused TooManyKeys)) (record { outcome = Outcome.Begun; over = over_of u }))) [ true ↦ refused | false ↦ begun ]
 
-pub begun_shown : (u : CallState) → has_too_many_keys u ≡ false → (shown_begun u).outcome ≡ outcome.Begun
-begun_shown u few = ap (λ (s : Shown). s.outcome) (ap (λ b. cond b (not_over (outcome.Refused TooManyKeys)) (record { outcome = outcome.Begun; over = over_of u })) few)
+pub begun_shown : (u : CallState) → has_too_many_keys u ≡ false → (shown_begun u).outcome ≡ Outcome.Begun
+begun_shown u few = ap (λ (s : Shown). s.outcome) (ap (λ b. cond b (not_over (Outcome.Refused TooManyKeys)) (record { outcome = Outcome.Begun; over = over_of u })) few)

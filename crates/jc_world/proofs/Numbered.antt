@@ -1,9 +1,5 @@
 -- Stripes in a list, by their numbers.
-use Rattle.std.proofs.Common.{◌≡◌, ◌∙◌, ℕ, suc, ◌+◌, ◌-◌, ◌<◌, List, [], ◌∷◌, ◌++◌, length, get_or, Option, Some, None, IsSomeAnd, slice_get, refl, sym, ap, arith, append_assoc}
-use Rattle.std.proofs.lemmas.Option.{slice_get_read, slice_get_within}
-use Rattle.jc_types.specs.declared.config.Config.{Config}
-use Rattle.jc_stripe.specs.State.{State}
-use Rattle.jc_world.specs.World.{empty_stripe, empty_stripes}
+use Rattle.jc_world.proofs.Common.{◌≡◌, ℕ, suc, ◌+◌, ◌-◌, ◌<◌, List, [], ◌∷◌, ◌++◌, length, get_or, IsSomeAnd, slice_get, Some, None, Option, sym, refl, ap, ◌∙◌, append_assoc, arith, slice_get_within, slice_get_read, Config, State, empty_stripe, empty_stripes}
 
 -- what is there, by a condition on it
 pub some_of : {A : Type 0} (o : Option A) (P : A → Type 0) → IsSomeAnd o P → (x : A) × (o ≡ Some x) × P x

@@ -1,28 +1,12 @@
 -- How a call begins: its looks fit behind its begin, and then it is free of every key; a call of one key is then under way, and may
 -- make its first phase.
-use Rattle.std.proofs.Common.{◌≡◌, ◌∙◌, ℕ, zero, suc, ◌+◌, List, [], ◌∷◌, ◌++◌, Bool, true, false, cond, None, Some, find, is_some, inl, inr, refl, sym, ap, subst}
-use Rattle.jc_model.specs.Cache.{Bytes}
-use Rattle.std.specs.Option.{option_flatten, option_or}
-use Rattle.std.proofs.lemmas.Cmp.{nat_eq_equiv, nat_list_eq_equiv}
-use Rattle.std.proofs.lemmas.List.Folds.{find-append}
-use Rattle.jc_model.specs.declared.event.Op.{Op}
-use Rattle.jc_world.specs.declared.command.Command.{Command}
-use Rattle.jc_world.specs.declared.command.Command.TheVariants as command
-use Rattle.jc_world.specs.declared.event.Shown.{Shown}
-use Rattle.jc_world.specs.declared.event.WorldEvent.TheVariants as event
-use Rattle.jc_world.specs.Calls.{CallState, has_number, may_work, new_call, sweep_of}
-use Rattle.jc_world.specs.World.{WorldState, is_free_of, open_call}
-use Rattle.jc_world.specs.Fits.{fits, is_new, is_free, may_start}
-use Rattle.jc_world.specs.Events.{AllFit, Run, Step}
-use Rattle.jc_world.specs.Sound.{IsSoundWorld}
-use Rattle.jc_world.specs.Together.{looks, opening_events, BeginFits}
-use Rattle.std.proofs.lemmas.Bool.{and_from, and_parts}
+use Rattle.jc_world.proofs.Common.{◌≡◌, ℕ, zero, suc, ◌+◌, Bool, true, false, cond, List, [], ◌∷◌, ◌++◌, is_some, Some, None, find, sym, refl, ap, ◌∙◌, subst, inl, inr, and_parts, and_from, nat_eq_equiv, nat_list_eq_equiv, find-append, option_or, option_flatten, Bytes, Op, Command, Shown, WorldEvent, sweep_of, CallState, new_call, has_number, may_work, Step, Run, AllFit, is_new, is_free, may_start, fits, IsSoundWorld, looks, opening_events, BeginFits, WorldState, open_call, is_free_of}
 use Rattle.jc_world.proofs.Fitting.{fits_then, looks_begun, new_free, new_under, one_fits}
 
-opening : (w : WorldState) → IsSoundWorld w → (call session : ℕ) (command : Command) → fits w (event.Call call session command) ≡ true → AllFit w (opening_events call session command w.config.stripes)
+opening : (w : WorldState) → IsSoundWorld w → (call session : ℕ) (command : Command) → fits w (WorldEvent.Call call session command) ≡ true → AllFit w (opening_events call session command w.config.stripes)
 opening w old call session command fit =
-    elim (sweep_of command) as (λ o. sweep_of command ≡ o → AllFit w (event.Call call session command ∷ cond (is_some o) (looks call 0 w.config.stripes) [])) [
-      | None ↦ λ e. one_fits w (event.Call call session command) fit
+    elim (sweep_of command) as (λ o. sweep_of command ≡ o → AllFit w (WorldEvent.Call call session command ∷ cond (is_some o) (looks call 0 w.config.stripes) [])) [
+      | None ↦ λ e. one_fits w (WorldEvent.Call call session command) fit
       | (Some sweep) ↦ λ e. looks_begun w old call session command sweep fit e
     ] refl
 
@@ -34,20 +18,19 @@ record Beside (w new : WorldState) : Type 0 where
 beside_then : (a b c : WorldState) → Beside a b → Beside b c → Beside a c
 beside_then a b c first next = record { parts = next.parts ∙ first.parts; joins = next.joins ∙ first.joins }
 
-beside_call : (w new : WorldState) (call session : ℕ) (command : Command) (seen : Shown) → Step w (event.Call call session command) seen new → Beside w new
+beside_call : (w new : WorldState) (call session : ℕ) (command : Command) (seen : Shown) → Step w (WorldEvent.Call call session command) seen new → Beside w new
 beside_call w new call session command seen (inl (fit, happens)) = record { parts = λ i. (happens.1 i).parts; joins = λ i. (happens.1 i).joins }
 beside_call w new call session command seen (inr (unfit, shows, is)) = record { parts = λ i. (is i).parts; joins = λ i. (is i).joins }
 
-beside_look : (w new : WorldState) (call stripe : ℕ) (seen : Shown) → Step w (event.Look call stripe) seen new → Beside w new
+beside_look : (w new : WorldState) (call stripe : ℕ) (seen : Shown) → Step w (WorldEvent.Look call stripe) seen new → Beside w new
 beside_look w new call stripe seen (inl (fit, happens)) = record { parts = λ i. (happens.9 i).parts; joins = λ i. (happens.9 i).joins }
 beside_look w new call stripe seen (inr (unfit, shows, is)) = record { parts = λ i. (is i).parts; joins = λ i. (is i).joins }
 
 beside_looks : (call from count : ℕ) (w new : WorldState) (seen : List Shown) → Run w (looks call from count) seen new → Beside w new
 beside_looks call from zero w new [] run = record { parts = λ i. (run i).parts; joins = λ i. (run i).joins }
-beside_looks call from zero w new (s ∷ ss) run = absurd run
-beside_looks call from (suc count) w new [] run = absurd run
 beside_looks call from (suc count) w new (s ∷ ss) run =
     beside_then w run.0 new (beside_look w run.0 call from s run.1) (beside_looks call (from + 1) count run.0 new ss run.2)
+beside_looks call from count w new seen run = absurd run
 
 beside_opening : (w new : WorldState) (call session : ℕ) (command : Command) (seen : List Shown) → Run w (opening_events call session command w.config.stripes) seen new → Beside w new
 beside_opening w new call session command [] run = absurd run
@@ -58,7 +41,7 @@ beside_opening w new call session command (s ∷ ss) run =
     rest true more = beside_looks call 0 w.config.stripes run.0 new ss more
     rest false more = beside_looks call 0 0 run.0 new ss more
 
-free : (w : WorldState) → IsSoundWorld w → (call session : ℕ) (command : Command) (seen : List Shown) (begun : WorldState) (key : Bytes) → fits w (event.Call call session command) ≡ true
+free : (w : WorldState) → IsSoundWorld w → (call session : ℕ) (command : Command) (seen : List Shown) (begun : WorldState) (key : Bytes) → fits w (WorldEvent.Call call session command) ≡ true
     → Run w (opening_events call session command w.config.stripes) seen begun → is_free begun call key ≡ true
 free w old call session command seen begun key fit run =
     let beside = beside_opening w begun call session command seen run in
@@ -66,37 +49,37 @@ free w old call session command seen begun key fit run =
     (λ i. is_free_of (beside.parts i) (beside.joins i) call key) ∙ new_free w call key new old
 
 -- a call of one key is under way once it has begun
-found_new : (w : WorldState) → IsSoundWorld w → (call session : ℕ) (op : Op) (key : Bytes) → fits w (event.Call call session (command.Single op key)) ≡ true
-    → find (has_number call) (w.calls ++ new_call call session (command.Single op key) ∷ []) ≡ Some (new_call call session (command.Single op key))
+found_new : (w : WorldState) → IsSoundWorld w → (call session : ℕ) (op : Op) (key : Bytes) → fits w (WorldEvent.Call call session (Command.Single op key)) ≡ true
+    → find (has_number call) (w.calls ++ new_call call session (Command.Single op key) ∷ []) ≡ Some (new_call call session (Command.Single op key))
 found_new w old call session op key fit =
-    let u : CallState = new_call call session (command.Single op key) in
+    let u : CallState = new_call call session (Command.Single op key) in
     let new : is_new w.last call ≡ true = (and_parts _ _ (and_parts _ _ fit).0).1 in
     find-append (has_number call) w.calls (u ∷ []) ∙ ap (λ o. option_or o (find (has_number call) (u ∷ []))) (new_under w call new old) ∙ ap (λ b. cond b (Some u) None) (nat_eq_equiv.refl call)
 
 -- and may work at its key
-works_at : (call session : ℕ) (op : Op) (key : Bytes) → may_work (new_call call session (command.Single op key)) key ≡ true
+works_at : (call session : ℕ) (op : Op) (key : Bytes) → may_work (new_call call session (Command.Single op key)) key ≡ true
 works_at call session op key = and_from _ _ (ap (λ b. is_some (option_flatten (cond b (Some (Some op)) None))) (nat_list_eq_equiv.refl key)) (nat_list_eq_equiv.refl key)
 
-single : (w : WorldState) → IsSoundWorld w → (call session : ℕ) (op : Op) (key : Bytes) → fits w (event.Call call session (command.Single op key)) ≡ true
-    → AllFit w (event.Call call session (command.Single op key) ∷ event.Start call key ∷ [])
+single : (w : WorldState) → IsSoundWorld w → (call session : ℕ) (op : Op) (key : Bytes) → fits w (WorldEvent.Call call session (Command.Single op key)) ≡ true
+    → AllFit w (WorldEvent.Call call session (Command.Single op key) ∷ WorldEvent.Start call key ∷ [])
 single w old call session op key fit =
-    let u : CallState = new_call call session (command.Single op key) in
+    let u : CallState = new_call call session (Command.Single op key) in
     let new : is_new w.last call ≡ true = (and_parts _ _ (and_parts _ _ fit).0).1 in
     let next : WorldState = record w { last = Some call; calls = w.calls ++ u ∷ [] } in
-    fits_then w (event.Call call session (command.Single op key)) (event.Start call key ∷ []) fit (λ seen mid happens.
-    subst (λ m. AllFit m (event.Start call key ∷ [])) (sym happens.1)
-    (one_fits next (event.Start call key)
+    fits_then w (WorldEvent.Call call session (Command.Single op key)) (WorldEvent.Start call key ∷ []) fit (λ seen mid happens.
+    subst (λ m. AllFit m (WorldEvent.Start call key ∷ [])) (sym happens.1)
+    (one_fits next (WorldEvent.Start call key)
     (ap (may_start next call key) (found_new w old call session op key fit)
     ∙ and_from _ _ (works_at call session op key) (new_free w call key new old))))
 
-underway : (w : WorldState) → IsSoundWorld w → (call session : ℕ) (op : Op) (key : Bytes) (seen : List Shown) (begun : WorldState) → fits w (event.Call call session (command.Single op key)) ≡ true
-    → Run w (event.Call call session (command.Single op key) ∷ []) seen begun → open_call begun call ≡ Some (new_call call session (command.Single op key))
+underway : (w : WorldState) → IsSoundWorld w → (call session : ℕ) (op : Op) (key : Bytes) (seen : List Shown) (begun : WorldState) → fits w (WorldEvent.Call call session (Command.Single op key)) ≡ true
+    → Run w (WorldEvent.Call call session (Command.Single op key) ∷ []) seen begun → open_call begun call ≡ Some (new_call call session (Command.Single op key))
 underway w old call session op key [] begun fit run = absurd run
 underway w old call session op key (s ∷ t ∷ ss) begun fit run = absurd run.2
 underway w old call session op key (s ∷ []) begun fit (next, step, is) =
     ap (λ x. open_call x call) is ∙ by step
   where
-    by : Step w (event.Call call session (command.Single op key)) s next → open_call next call ≡ Some (new_call call session (command.Single op key))
+    by : Step w (WorldEvent.Call call session (Command.Single op key)) s next → open_call next call ≡ Some (new_call call session (Command.Single op key))
     by (inl (fit_now, happens)) = ap (λ x. open_call x call) happens.1 ∙ found_new w old call session op key fit
     by (inr (unfit, shows, same)) = let t : true ≡ false = sym fit ∙ unfit in cc
 

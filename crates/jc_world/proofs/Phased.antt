@@ -1,59 +1,23 @@
 -- What the machine of a world does in a first and a last phase is what the definitions say.
-use Rattle.std.proofs.Common.{false, ◌≡◌, ◌&&◌, ◌∙◌, cond, ℕ, zero, suc, List, [], ◌∷◌, ◌++◌, length, drop, Option, Some, None, IsSomeAnd, is_some, true, slice_get, slice_set, refl, sym, ap, subst, append-nil}
-use Rattle.std.specs.FinMap.{get, insert, remove}
-use Rattle.jc_model.specs.Cache.{Bytes}
-use Rattle.jc_model.specs.declared.event.Change.{Change}
-use Rattle.jc_model.specs.declared.event.Event.{Event}
-use Rattle.jc_model.specs.declared.event.Op.{Op}
-use Rattle.std.proofs.lemmas.Bool.{and_parts}
-use Rattle.jc_stripe.specs.Tickets.{Ticket, ProcessClaim, JoinClaim, asks_writer, entry_seen}
-use Rattle.jc_stripe.specs.State.{State, IsOut, IsJoined}
-use Rattle.jc_stripe.specs.Refusals.{reserves}
-use Rattle.jc_stripe.specs.Phases.{MayBegin, Begins, Commits, Withdraws, PicksUp}
-use Rattle.jc_stripe.specs.declared.begun.Picked.{Picked}
-use Rattle.jc_stripe.specs.declared.begun.Picked.TheVariants as picked
-use Rattle.jc_stripe.specs.declared.begun.Begun.{Begun}
-use Rattle.jc_stripe.specs.declared.begun.Begun.TheVariants as begun
-use Rattle.jc_stripe.specs.declared.ticket.Reservation.{Reservation}
-use Rattle.jc_stripe.specs.declared.begun.StepDone.{StepDone}
-use Rattle.jc_stripe.specs.declared.ticket.First.{First}
-use Rattle.jc_stripe.specs.declared.ticket.First.TheVariants.{Nobody, Loader, Writer, Processor}
-use Rattle.jc_outside.specs.declared.done.Origin.TheVariants.{Played}
-use Rattle.jc_types.specs.declared.config.Config.{Config}
-use Rattle.jc_types.specs.declared.refusal.Refusal.{Refusal}
-use Rattle.jc_world.specs.Calls.{CallState, op_at, is_turn, over_settled, puts_off, settle}
-use Rattle.jc_world.specs.declared.event.Part.{Part}
-use Rattle.jc_world.specs.declared.event.Progress.{Progress}
-use Rattle.jc_world.specs.declared.event.Stepped.{Stepped}
-use Rattle.jc_world.specs.declared.event.PickedUp.{PickedUp}
-use Rattle.jc_world.specs.declared.event.WorldEvent.TheVariants as event
-use Rattle.jc_world.specs.declared.event.Over.{Over}
-use Rattle.jc_world.specs.declared.event.Shown.{Shown}
-use Rattle.jc_world.specs.declared.event.Outcome.TheVariants as outcome
-use Rattle.jc_world.specs.World.{WorldState, Parts, home, stripe_for, open_call, part_of, Joins, join_key, join_of, out_of}
-use Rattle.jc_world.specs.Fits.{fits, is_free, may_start}
-use Rattle.jc_world.specs.Events.{fault_in, not_over, over_by, Happens, Starts, RefusesAs, step_of, with_new_part, new_load, new_write, new_part, BeginsAs, new_process}
-use Rattle.jc_world.specs.Sound.{IsHeld, IsSoundWorld, is_due}
-use Rattle.jc_world.specs.Turns.{OrderedStripes, IsPhase, IsQuietPhase}
-use Rattle.jc_world.proofs.Numbered.{some_of}
+use Rattle.jc_world.proofs.Common.{◌≡◌, ℕ, zero, suc, true, false, cond, ◌&&◌, List, [], ◌∷◌, ◌++◌, length, drop, is_some, IsSomeAnd, slice_get, slice_set, Some, None, Option, sym, refl, ap, ◌∙◌, subst, subst₂, append-nil, and_parts, get, insert, remove, Config, Refusal, Bytes, Change, Event, Op, Played, MayBegin, Begins, Commits, Withdraws, PicksUp, reserves, State, IsOut, IsJoined, Ticket, ProcessClaim, asks_writer, entry_seen, JoinClaim, Begun, Picked, StepDone, First, Loader, Nobody, Processor, Writer, Reservation, Outcome, Over, Part, PickedUp, Progress, Shown, Stepped, WorldEvent, puts_off, CallState, op_at, is_turn, settle, over_settled, step_of, not_over, fault_in, over_by, new_load, new_write, new_process, new_part, with_new_part, BeginsAs, Starts, RefusesAs, Happens, is_free, may_start, fits, is_due, IsHeld, IsSoundWorld, OrderedStripes, IsPhase, IsQuietPhase, Parts, join_key, Joins, WorldState, home, stripe_for, open_call, part_of, out_of, join_of}
+use Rattle.jc_world.specs.NewTickets.{IsNewTicket, HoldsTicket}
+use Rattle.jc_world.proofs.Lemmas.{missing, join_at, may_start_at, begins_at, was_free, writer_alone, processor_free, some_of}
 use Rattle.jc_world.proofs.Holding.{is_part}
-use Rattle.jc_world.proofs.Reservations.{was_free, writer_alone}
-use Rattle.jc_world.proofs.Processors.{processor_free}
-use Rattle.jc_world.proofs.Joiners.{join_at}
-use Rattle.jc_world.proofs.Beginning.{begins_at, may_start_at}
-use Rattle.jc_world.proofs.Facts.{missing}
 use Rattle.jc_world.proofs.Kept.{unheld, stripe_at}
+
+-- what is shown of the world that is viewed is what happened
+pub shown_as : (old v next : WorldState) (e : WorldEvent) (seen now : Shown) → v ≡ old → seen ≡ now → Happens v e now next → Happens old e seen next
+shown_as old v next e seen now view is h = subst₂ (λ w s. Happens w e s next) view (sym is) h
 
 -- 1. Before the first phase.
 
-pub may_begin_at : (w : WorldState) (call : ℕ) (key : Bytes) (u : CallState) (op : Op) → fits w (event.Start call key) ≡ true → open_call w call ≡ Some u → op_at u key ≡ Some op → IsSoundWorld w → IsSomeAnd (stripe_for w key) (λ s. MayBegin s u.caller key)
+pub may_begin_at : (w : WorldState) (call : ℕ) (key : Bytes) (u : CallState) (op : Op) → fits w (WorldEvent.Start call key) ≡ true → open_call w call ≡ Some u → op_at u key ≡ Some op → IsSoundWorld w → IsSomeAnd (stripe_for w key) (λ s. MayBegin s u.caller key)
 may_begin_at w call key u op fit is op_is sound =
     let s = stripe_at w key sound in
-    let P : Option State → Type 0 = λ o. IsSomeAnd o (λ s. MayBegin s u.caller key) in
-    subst P (sym s.1) (begins_at w call key u op s.0 fit is op_is s.1 sound)
+    rw s.1 (begins_at w call key u op s.0 fit is op_is s.1 sound)
 
 -- the key of a call that starts is open in it
-pub start_open : (w : WorldState) (call : ℕ) (key : Bytes) (u : CallState) → fits w (event.Start call key) ≡ true → open_call w call ≡ Some u → is_some (op_at u key) ≡ true
+pub start_open : (w : WorldState) (call : ℕ) (key : Bytes) (u : CallState) → fits w (WorldEvent.Start call key) ≡ true → open_call w call ≡ Some u → is_some (op_at u key) ≡ true
 start_open w call key u fit is = (and_parts (is_some (op_at u key)) (is_turn u key) (and_parts (is_some (op_at u key) && is_turn u key) (is_free w call key) (sym (ap (may_start w call key) is) ∙ fit)).0).0
 
 -- 2. The stripe that a phase has changed.
@@ -81,27 +45,29 @@ phased_from v old new number phase stripes order p = record {
 -- 3. A first phase.
 
 -- a phase at the stripe of a key
-here : (v : WorldState) (key : Bytes) (number : ℕ) (phase : State → State → Type 0) (stripes : List State) (order : List Event) → number ≡ home v key → Phased v number phase stripes order → Phased v (home v key) phase stripes order
+pub here : (v : WorldState) (key : Bytes) (number : ℕ) (phase : State → State → Type 0) (stripes : List State) (order : List Event) → number ≡ home v key → Phased v number phase stripes order → Phased v (home v key) phase stripes order
 here v key number phase stripes order home_is p = let P : ℕ → Type 0 = λ n. Phased v n phase stripes order in subst P home_is p
 
--- what is left is as the first phase's definition says
-started : (v next : WorldState) (call : ℕ) (key : Bytes) (u : CallState) (op : Op) (number : ℕ) (b : Begun) (seen : Shown) (stripes : List State) (order : List Event) → open_call v call ≡ Some u → op_at u key ≡ Some op → number ≡ home v key
-    → Phased v number (BeginsAs u.caller key op b) stripes order
-    → ((q : Phased v (home v key) (BeginsAs u.caller key op b) stripes order) → Starts v u.caller key op q.from q.to seen.outcome next × RefusesAs u.kind seen.outcome × (seen.over ≡ over_by v u.caller.call key seen.outcome)) → Happens v (event.Start call key) seen next
-started v next call key u op number b seen stripes order is op_is home_is p by =
-    let q = here v key number (BeginsAs u.caller key op b) stripes order home_is p in
-    let h = by q in (u, op, is, op_is, q.from, q.at, q.to, h.0, h.1, h.2)
+-- what a machine knows once it has run a first phase: the call, its operation, and what was begun at the stripe of the key
+pub record StartPhase (v : WorldState) (call : ℕ) (key : Bytes) (u : CallState) (op : Op) (b : Begun) (stripes : List State) (order : List Event) : Type 0 where
+  pub is : open_call v call ≡ Some u
+  pub op_is : op_at u key ≡ Some op
+  pub phase : Phased v (home v key) (BeginsAs u.caller key op b) stripes order
 
-pub started_done : (v next : WorldState) (call : ℕ) (key : Bytes) (u : CallState) (op : Op) (number : ℕ) (done : StepDone) (seen : Stepped) (met : Option Refusal) (over : Option Over) (stripes : List State) (order : List Event) → open_call v call ≡ Some u → op_at u key ≡ Some op → number ≡ home v key
-    → Phased v number (BeginsAs u.caller key op (begun.Done done)) stripes order → step_of seen ≡ done → seen.stripe ≡ number
+-- what is left is as the first phase's definition says
+started : (v next : WorldState) (call : ℕ) (key : Bytes) (u : CallState) (op : Op) (b : Begun) (seen : Shown) (stripes : List State) (order : List Event) → (p : StartPhase v call key u op b stripes order)
+    → Starts v u.caller key op p.phase.from p.phase.to seen.outcome next × RefusesAs u.kind seen.outcome × (seen.over ≡ over_by v u.caller.call key seen.outcome) → Happens v (WorldEvent.Start call key) seen next
+started v next call key u op b seen stripes order p h = (u, op, p.is, p.op_is, p.phase.from, p.phase.at, p.phase.to, h.0, h.1, h.2)
+
+pub started_done : (v next : WorldState) (call : ℕ) (key : Bytes) (u : CallState) (op : Op) (done : StepDone) (seen : Stepped) (met : Option Refusal) (over : Option Over) (stripes : List State) (order : List Event)
+    → StartPhase v call key u op (Begun.Done done) stripes order → step_of seen ≡ done → seen.stripe ≡ home v key
     → met ≡ fault_in done.reply → over ≡ over_settled u.caller.call key met v.calls
-    → next ≡ record v { stripes = stripes; order = order; calls = settle u.caller.call key met v.calls } → Happens v (event.Start call key) (record { outcome = outcome.Stepped seen; over = over }) next
-started_done v next call key u op number done seen met over stripes order is op_is home_is p shows stripe_is met_is over_is next_is =
+    → next ≡ record v { stripes = stripes; order = order; calls = settle u.caller.call key met v.calls } → Happens v (WorldEvent.Start call key) (record { outcome = Outcome.Stepped seen; over = over }) next
+started_done v next call key u op done seen met over stripes order p shows stripe_is met_is over_is next_is =
     let same : met ≡ fault_in seen.reply = met_is ∙ sym (ap (λ (d : StepDone). fault_in d.reply) shows) in
-    started v next call key u op number (begun.Done done) (record { outcome = outcome.Stepped seen; over = over }) stripes order is op_is home_is p (λ q.
-    let B : StepDone → Type 0 = λ d. Begins q.from u.caller key op (begun.Done d) q.to in
-    let left = next_is ∙ (λ i. record v { stripes = q.stripes_are i; order = q.order_is i; calls = settle u.caller.call key (same i) v.calls }) in
-    ((subst B (sym shows) q.made, stripe_is ∙ home_is, left), tt, over_is ∙ ap (λ m. over_settled u.caller.call key m v.calls) same))
+    let left = next_is ∙ (λ i. record v { stripes = p.phase.stripes_are i; order = p.phase.order_is i; calls = settle u.caller.call key (same i) v.calls }) in
+    started v next call key u op (Begun.Done done) (record { outcome = Outcome.Stepped seen; over = over }) stripes order p
+    ((rw shows p.phase.made, stripe_is, left), tt, over_is ∙ ap (λ m. over_settled u.caller.call key m v.calls) same)
 
 -- a refused call leaves its stripe
 same_set : (xs : List State) (i : ℕ) (x y : State) → slice_get xs i ≡ Some x → y ≡ x → slice_set xs i y ≡ xs
@@ -117,108 +83,103 @@ none_new order xs ys e = ap (λ zs. order ++ drop (length ys) zs) e ∙ ap (λ z
     gone [] = refl
     gone (z ∷ zs) = gone zs
 
+-- so a phase that appends nothing leaves the order
+quiet_order : (v : WorldState) (number : ℕ) (phase : State → State → Type 0) (stripes : List State) (order : List Event) → (q : Phased v number phase stripes order) → q.to.history ≡ q.from.history → order ≡ v.order
+quiet_order v number phase stripes order q same = q.order_is ∙ none_new v.order q.to.history q.from.history same
+
 -- the last refusal of a key, and what is over with it
 abbrev pub refused_with : WorldState → CallState → Bytes → Refusal → Shown
-refused_with v u key refusal = record { outcome = outcome.Refused refusal; over = over_settled u.caller.call key (Some refusal) v.calls }
+refused_with v u key refusal = record { outcome = Outcome.Refused refusal; over = over_settled u.caller.call key (Some refusal) v.calls }
 
 -- a call was refused at a key, and is to try again there, or has its last refusal
-pub started_refused : (v next : WorldState) (call : ℕ) (key : Bytes) (u : CallState) (op : Op) (number : ℕ) (refusal : Refusal) (seen : Shown) (stripes : List State) (order : List Event) (calls : List CallState) → open_call v call ≡ Some u → op_at u key ≡ Some op → number ≡ home v key
-    → Phased v number (BeginsAs u.caller key op (begun.Refused refusal)) stripes order
-    → seen ≡ cond (puts_off u.kind refusal) (not_over (outcome.PutOff refusal)) (refused_with v u key refusal)
+pub started_refused : (v next : WorldState) (call : ℕ) (key : Bytes) (u : CallState) (op : Op) (refusal : Refusal) (seen : Shown) (stripes : List State) (order : List Event) (calls : List CallState)
+    → StartPhase v call key u op (Begun.Refused refusal) stripes order
+    → seen ≡ cond (puts_off u.kind refusal) (not_over (Outcome.PutOff refusal)) (refused_with v u key refusal)
     → calls ≡ cond (puts_off u.kind refusal) v.calls (settle u.caller.call key (Some refusal) v.calls)
-    → next ≡ record v { stripes = stripes; order = order; calls = calls } → Happens v (event.Start call key) seen next
-started_refused v next call key u op number refusal seen stripes order calls is op_is home_is p shows calls_are next_is =
-    started v next call key u op number (begun.Refused refusal) seen stripes order is op_is home_is p (λ q.
+    → next ≡ record v { stripes = stripes; order = order; calls = calls } → Happens v (WorldEvent.Start call key) seen next
+started_refused v next call key u op refusal seen stripes order calls p shows calls_are next_is =
+    let q = p.phase in
     let left : (cs : List CallState) → calls ≡ cs → next ≡ record v { calls = cs } = λ cs e. next_is ∙ (λ i. record v {
       stripes = (q.stripes_are ∙ same_set v.stripes (home v key) q.from q.to q.at q.made.1) i;
-      order = (q.order_is ∙ none_new v.order q.to.history q.from.history (ap (λ (s : State). s.history) q.made.1)) i;
+      order = quiet_order v (home v key) _ stripes order q (ap (λ (s : State). s.history) q.made.1) i;
       calls = e i;
     }) in
     let Goal : Shown → Type 0 = λ x. Starts v u.caller key op q.from q.to x.outcome next × RefusesAs u.kind x.outcome × (x.over ≡ over_by v u.caller.call key x.outcome) in
-    elim (puts_off u.kind refusal) as (λ b. puts_off u.kind refusal ≡ b → seen ≡ cond b (not_over (outcome.PutOff refusal)) (refused_with v u key refusal) → calls ≡ cond b v.calls (settle u.caller.call key (Some refusal) v.calls) → Goal seen) [
+    started v next call key u op (Begun.Refused refusal) seen stripes order p
+    (elim (puts_off u.kind refusal) as (λ b. puts_off u.kind refusal ≡ b → seen ≡ cond b (not_over (Outcome.PutOff refusal)) (refused_with v u key refusal) → calls ≡ cond b v.calls (settle u.caller.call key (Some refusal) v.calls) → Goal seen) [
       | true ↦ λ e s c. subst Goal (sym s) ((q.made, left v.calls c), e, refl)
       | false ↦ λ e s c. subst Goal (sym s) ((q.made, left (settle u.caller.call key (Some refusal) v.calls) c), e, refl)
     ] refl shows calls_are)
 
 -- a key is reserved, and its stripe appends nothing
-reserved : (v next : WorldState) (key : Bytes) (phase : State → State → Type 0) (stripes : List State) (order : List Event) (parts : Parts) (progress : Progress) (r : Reservation) (q : Phased v (home v key) phase stripes order) → q.to.history ≡ q.from.history
-    → parts ≡ insert v.parts key (new_part progress r) → next ≡ record v { stripes = stripes; order = order; parts = parts } → next ≡ with_new_part v key q.to progress r
-reserved v next key phase stripes order parts progress r q same parts_are next_is =
-    next_is ∙ (λ i. record v { stripes = q.stripes_are i; order = (q.order_is ∙ none_new v.order q.to.history q.from.history same) i; parts = parts_are i })
-
-pub started_loads : (v next : WorldState) (call : ℕ) (key : Bytes) (u : CallState) (op : Op) (number : ℕ) (ticket : Ticket) (stripes : List State) (order : List Event) (parts : Parts) → open_call v call ≡ Some u → op_at u key ≡ Some op → number ≡ home v key
-    → Phased v number (BeginsAs u.caller key op (begun.Load ticket)) stripes order → parts ≡ insert v.parts key (new_part new_load ticket.reservation)
-    → next ≡ record v { stripes = stripes; order = order; parts = parts } → Happens v (event.Start call key) (not_over outcome.Loads) next
-started_loads v next call key u op number ticket stripes order parts is op_is home_is p parts_are next_is =
-    started v next call key u op number (begun.Load ticket) (not_over outcome.Loads) stripes order is op_is home_is p (λ q.
-    ((ticket, q.made, reserved v next key _ stripes order parts new_load ticket.reservation q (ap (λ (s : State). s.history) q.made.4) parts_are next_is), tt, refl))
+reserved : (v next : WorldState) (key : Bytes) (phase : State → State → Type 0) (stripes : List State) (order : List Event) (parts : Parts) (progress : Progress) (r : Reservation) (q : Phased v (home v key) phase stripes order) → r.key ≡ key → q.to.history ≡ q.from.history
+    → parts ≡ insert v.parts r.key (new_part progress r) → next ≡ record v { stripes = stripes; order = order; parts = parts } → next ≡ with_new_part v key q.to progress r
+reserved v next key phase stripes order parts progress r q key_is same put next_is =
+    let parts_are = put ∙ ap (λ k. insert v.parts k (new_part progress r)) key_is in
+    next_is ∙ (λ i. record v { stripes = q.stripes_are i; order = quiet_order v (home v key) phase stripes order q same i; parts = parts_are i })
 
 -- a call has joined a load
-pub started_joins : (v next : WorldState) (call : ℕ) (key : Bytes) (u : CallState) (op : Op) (number : ℕ) (join : JoinClaim) (stripes : List State) (order : List Event) (joins : Joins) → open_call v call ≡ Some u → op_at u key ≡ Some op → number ≡ home v key
-    → Phased v number (BeginsAs u.caller key op (begun.Joined join)) stripes order → joins ≡ insert v.joins (join_key join) join
-    → next ≡ record v { stripes = stripes; order = order; joins = joins } → Happens v (event.Start call key) (not_over outcome.Joins) next
-started_joins v next call key u op number join stripes order joins is op_is home_is p joins_are next_is =
-    started v next call key u op number (begun.Joined join) (not_over outcome.Joins) stripes order is op_is home_is p (λ q.
-    let quiet = q.order_is ∙ none_new v.order q.to.history q.from.history (ap (λ (s : State). s.history) q.made.3) in
-    ((join, q.made, next_is ∙ (λ i. record v { stripes = q.stripes_are i; order = quiet i; joins = joins_are i })), tt, refl))
+pub started_joins : (v next : WorldState) (call : ℕ) (key : Bytes) (u : CallState) (op : Op) (join : JoinClaim) (stripes : List State) (order : List Event) → StartPhase v call key u op (Begun.Joined join) stripes order
+    → next ≡ record v { stripes = stripes; order = order; joins = insert v.joins (join_key join) join } → Happens v (WorldEvent.Start call key) (not_over Outcome.Joins) next
+started_joins v next call key u op join stripes order p next_is =
+    let quiet = quiet_order v (home v key) _ stripes order p.phase (ap (λ (s : State). s.history) p.phase.made.3) in
+    started v next call key u op (Begun.Joined join) (not_over Outcome.Joins) stripes order p
+    ((join, p.phase.made, next_is ∙ (λ i. record v { stripes = p.phase.stripes_are i; order = quiet i; joins = insert v.joins (join_key join) join })), tt, refl)
 
-pub started_asks : (v next : WorldState) (call : ℕ) (key : Bytes) (u : CallState) (op : Op) (number : ℕ) (ticket : Ticket) (change : Change) (stripes : List State) (order : List Event) (parts : Parts) → open_call v call ≡ Some u → op_at u key ≡ Some op → number ≡ home v key
-    → Phased v number (BeginsAs u.caller key op (begun.Write ticket)) stripes order → ticket.reservation.first ≡ Writer change → parts ≡ insert v.parts key (new_part new_write ticket.reservation)
-    → next ≡ record v { stripes = stripes; order = order; parts = parts } → Happens v (event.Start call key) (not_over (outcome.Asks change)) next
-started_asks v next call key u op number ticket change stripes order parts is op_is home_is p first parts_are next_is =
-    started v next call key u op number (begun.Write ticket) (not_over (outcome.Asks change)) stripes order is op_is home_is p (λ q.
-    ((ticket, q.made, first, reserved v next key _ stripes order parts new_write ticket.reservation q (ap (λ (s : State). s.history) q.made.4) parts_are next_is), tt, refl))
+-- a key is reserved, its ticket is held, and it is shown who is asked
+pub started_ticket : (v next : WorldState) (call : ℕ) (key : Bytes) (u : CallState) (op : Op) (b : Begun) (seen : Shown) (stripes : List State) (order : List Event) (parts : Parts) → StartPhase v call key u op b stripes order
+    → HoldsTicket v.parts b seen parts
+    → next ≡ record v { stripes = stripes; order = order; parts = parts } → Happens v (WorldEvent.Start call key) seen next
+started_ticket v next call key u op (Begun.Load ticket) seen stripes order parts p (shown, put) next_is =
+    shown_as v v next (WorldEvent.Start call key) seen _ refl shown
+    (started v next call key u op (Begun.Load ticket) (not_over Outcome.Loads) stripes order p
+    ((ticket, p.phase.made, reserved v next key _ stripes order parts new_load ticket.reservation p.phase (ap (λ (t : Ticket). t.reservation.key) p.phase.made.3) (ap (λ (s : State). s.history) p.phase.made.4) put next_is), tt, refl))
+started_ticket v next call key u op (Begun.Write ticket) seen stripes order parts p (change, first, shown, put) next_is =
+    shown_as v v next (WorldEvent.Start call key) seen _ refl shown
+    (started v next call key u op (Begun.Write ticket) (not_over (Outcome.Asks change)) stripes order p
+    ((ticket, p.phase.made, first, reserved v next key _ stripes order parts new_write ticket.reservation p.phase (ap (λ (t : Ticket). t.reservation.key) p.phase.made.3) (ap (λ (s : State). s.history) p.phase.made.4) put next_is), tt, refl))
+started_ticket v next call key u op (Begun.Process ticket) seen stripes order parts p (shown, put) next_is =
+    shown_as v v next (WorldEvent.Start call key) seen _ refl shown
+    (started v next call key u op (Begun.Process ticket) (not_over (Outcome.Processes (entry_seen ticket.reservation.first))) stripes order p
+    ((ticket, p.phase.made, refl, reserved v next key _ stripes order parts new_process ticket.reservation p.phase (ap (λ (t : ProcessClaim). t.reservation.key) p.phase.made.3) (ap (λ (s : State). s.history) p.phase.made.4) put next_is), tt, refl))
+started_ticket v next call key u op (Begun.Done done) seen stripes order parts p h next_is = absurd h
+started_ticket v next call key u op (Begun.Joined join) seen stripes order parts p h next_is = absurd h
+started_ticket v next call key u op (Begun.Refused refusal) seen stripes order parts p h next_is = absurd h
 
-pub started_processes : (v next : WorldState) (call : ℕ) (key : Bytes) (u : CallState) (op : Op) (number : ℕ) (ticket : ProcessClaim) (entry : Option Bytes) (stripes : List State) (order : List Event) (parts : Parts) → open_call v call ≡ Some u → op_at u key ≡ Some op → number ≡ home v key
-    → Phased v number (BeginsAs u.caller key op (begun.Process ticket)) stripes order → entry ≡ entry_seen ticket.reservation.first → parts ≡ insert v.parts key (new_part new_process ticket.reservation)
-    → next ≡ record v { stripes = stripes; order = order; parts = parts } → Happens v (event.Start call key) (not_over (outcome.Processes entry)) next
-started_processes v next call key u op number ticket entry stripes order parts is op_is home_is p entry_is parts_are next_is =
-    started v next call key u op number (begun.Process ticket) (not_over (outcome.Processes entry)) stripes order is op_is home_is p (λ q.
-    ((ticket, q.made, entry_is, reserved v next key _ stripes order parts new_process ticket.reservation q (ap (λ (s : State). s.history) q.made.4) parts_are next_is), tt, refl))
-
--- a key for which a ticket is given has no part yet
 -- what has just joined had not joined before
-pub free_join : (v : WorldState) (call : ℕ) (u : CallState) (key : Bytes) (op : Op) (number : ℕ) (join : JoinClaim) (stripes : List State) (order : List Event) → open_call v call ≡ Some u → op_at u key ≡ Some op
-    → Phased v number (BeginsAs u.caller key op (begun.Joined join)) stripes order → fits v (event.Start call key) ≡ true → IsSoundWorld v → get v.joins (join_key join) ≡ None
-free_join v call u key op number join stripes order is op_is p fit sound =
-    ap (get v.joins) (λ i. join_key (p.made.2 i))
-    ∙ missing (join_of v u.caller.call key) (λ other e. let t : true ≡ false = sym (ap is_some e) ∙ (may_start_at v call key u op fit is op_is sound).alone in cc)
+pub free_join : (v : WorldState) (call : ℕ) (u : CallState) (key : Bytes) (op : Op) (join : JoinClaim) (stripes : List State) (order : List Event) → StartPhase v call key u op (Begun.Joined join) stripes order
+    → fits v (WorldEvent.Start call key) ≡ true → IsSoundWorld v → get v.joins (join_key join) ≡ None
+free_join v call u key op join stripes order p fit sound =
+    ap (get v.joins) (λ i. join_key (p.phase.made.2 i))
+    ∙ missing (join_of v u.caller.call key) (λ other e. let t : true ≡ false = sym (ap is_some e) ∙ (may_start_at v call key u op fit p.is p.op_is sound).alone in cc)
 
-pub free_load : (v : WorldState) (u : CallState) (key : Bytes) (op : Op) (number : ℕ) (ticket : Ticket) (stripes : List State) (order : List Event) → number ≡ home v key → Phased v number (BeginsAs u.caller key op (begun.Load ticket)) stripes order → IsSoundWorld v
-    → (get v.parts key ≡ None) × (ticket.reservation.key ≡ key) × (ticket.asked ≡ false)
-free_load v u key op number ticket stripes order home_is p sound =
-    let At : ℕ → Type 0 = λ n. slice_get v.stripes n ≡ Some p.from in (
-      unheld v key p.from (subst At home_is p.at) (was_free p.from u.caller key op Loader p.made.0 p.made.1 p.made.2 refl) sound,
-      ap (λ (t : Ticket). t.reservation.key) p.made.3,
-      ap (λ (t : Ticket). t.asked) p.made.3,
+-- a ticket that was given is new: nothing was asked for it, and nothing is held of its key
+pub new_ticket : (v : WorldState) (call : ℕ) (u : CallState) (key : Bytes) (op : Op) (b : Begun) (stripes : List State) (order : List Event) → StartPhase v call key u op b stripes order → IsSoundWorld v
+    → ((done : StepDone) → b ≡ Begun.Done done → ⊥) → ((join : JoinClaim) → b ≡ Begun.Joined join → ⊥) → ((refusal : Refusal) → b ≡ Begun.Refused refusal → ⊥) → IsNewTicket v.parts b
+new_ticket v call u key op (Begun.Load ticket) stripes order p sound no_step no_join no_refusal =
+    let m = p.phase.made in (
+      ap (λ (t : Ticket). t.asked) m.3,
+      ap (λ (t : Ticket). get v.parts t.reservation.key) m.3 ∙ unheld v key p.phase.from p.phase.at (was_free p.phase.from u.caller key op Loader m.0 m.1 m.2 refl) sound,
     )
-
-pub free_write : (v : WorldState) (u : CallState) (key : Bytes) (op : Op) (number : ℕ) (ticket : Ticket) (stripes : List State) (order : List Event) → number ≡ home v key → Phased v number (BeginsAs u.caller key op (begun.Write ticket)) stripes order → IsSoundWorld v
-    → (get v.parts key ≡ None) × (ticket.reservation.key ≡ key) × (ticket.asked ≡ false)
-free_write v u key op number ticket stripes order home_is p sound =
-    let At : ℕ → Type 0 = λ n. slice_get v.stripes n ≡ Some p.from in
+new_ticket v call u key op (Begun.Write ticket) stripes order p sound no_step no_join no_refusal =
+    let m = p.phase.made in
     let first = ticket.reservation.first in (
-      unheld v key p.from (subst At home_is p.at)
-          (was_free p.from u.caller key op first p.made.0 (writer_alone p.from key op first p.made.1 p.made.2) p.made.1 (writer_reserves first p.made.2)) sound,
-      ap (λ (t : Ticket). t.reservation.key) p.made.3,
-      ap (λ (t : Ticket). t.asked) p.made.3,
+      ap (λ (t : Ticket). t.asked) m.3,
+      ap (λ (t : Ticket). get v.parts t.reservation.key) m.3 ∙ unheld v key p.phase.from p.phase.at (was_free p.phase.from u.caller key op first m.0 (writer_alone p.phase.from key op first m.1 m.2) m.1 (writer_reserves first m.2)) sound,
     )
   where
     writer_reserves : (first : First) → asks_writer first ≡ true → reserves first ≡ true
     writer_reserves Nobody h = cc
-    writer_reserves Loader h = refl
-    writer_reserves (Writer change) h = refl
-    writer_reserves (Processor seen loads) h = refl
-
-pub free_process : (v : WorldState) (u : CallState) (key : Bytes) (op : Op) (number : ℕ) (ticket : ProcessClaim) (stripes : List State) (order : List Event) → number ≡ home v key → Phased v number (BeginsAs u.caller key op (begun.Process ticket)) stripes order → IsSoundWorld v
-    → (get v.parts key ≡ None) × (ticket.reservation.key ≡ key) × (ticket.asked ≡ false) × (ticket.writer_asked ≡ false)
-free_process v u key op number ticket stripes order home_is p sound =
-    let At : ℕ → Type 0 = λ n. slice_get v.stripes n ≡ Some p.from in (
-      unheld v key p.from (subst At home_is p.at) (processor_free p.from p.to u.caller key op ticket p.made) sound,
-      ap (λ (t : ProcessClaim). t.reservation.key) p.made.3,
-      ap (λ (t : ProcessClaim). t.asked) p.made.3,
-      ap (λ (t : ProcessClaim). t.writer_asked) p.made.3,
+    writer_reserves first h = refl
+new_ticket v call u key op (Begun.Process ticket) stripes order p sound no_step no_join no_refusal =
+    let m = p.phase.made in (
+      ap (λ (t : ProcessClaim). t.asked) m.3,
+      ap (λ (t : ProcessClaim). t.writer_asked) m.3,
+      ap (λ (t : ProcessClaim). get v.parts t.reservation.key) m.3 ∙ unheld v key p.phase.from p.phase.at (processor_free p.phase.from p.phase.to u.caller key op ticket m) sound,
     )
+new_ticket v call u key op (Begun.Done done) stripes order p sound no_step no_join no_refusal = absurd (no_step done refl)
+new_ticket v call u key op (Begun.Joined join) stripes order p sound no_step no_join no_refusal = absurd (no_join join refl)
+new_ticket v call u key op (Begun.Refused refusal) stripes order p sound no_step no_join no_refusal = absurd (no_refusal refusal refl)
 
 -- 4. A last phase.
 
@@ -228,7 +189,7 @@ CommitsAs part done from to = Commits from part.reservation (out_of part) done t
 pub ended : (v next : WorldState) (call : ℕ) (key : Bytes) (part : Part) (number : ℕ) (done : StepDone) (seen : Stepped) (met : Option Refusal) (over : Option Over) (stripes : List State) (order : List Event) (parts : Parts) → part_of v call key ≡ Some part → number ≡ home v key
     → Phased v number (CommitsAs part done) stripes order → step_of seen ≡ done → seen.stripe ≡ number → parts ≡ remove v.parts key
     → met ≡ fault_in done.reply → over ≡ over_settled call key met v.calls
-    → next ≡ record v { stripes = stripes; order = order; calls = settle call key met v.calls; parts = parts } → Happens v (event.Commit call key) (record { outcome = outcome.Stepped seen; over = over }) next
+    → next ≡ record v { stripes = stripes; order = order; calls = settle call key met v.calls; parts = parts } → Happens v (WorldEvent.Commit call key) (record { outcome = Outcome.Stepped seen; over = over }) next
 ended v next call key part number done seen met over stripes order parts is home_is p shows stripe_is parts_are met_is over_is next_is =
     let same : met ≡ fault_in seen.reply = met_is ∙ sym (ap (λ (d : StepDone). fault_in d.reply) shows) in
     let q = here v key number (CommitsAs part done) stripes order home_is p in
@@ -246,9 +207,7 @@ may_end_at v call key part number is home_is sound =
     let shape = sound.shape.each (home v key) s found.1 in
     let due = ap (λ (c : Config). is_due c part) shape.config_is ∙ sound.due key part (is_part (get v.parts key) call part is) in
     let P : State → Type 0 = λ s. IsOut s part.reservation × (s.origin ≡ Played) × (is_due s.config part ≡ true) in
-    let Q : Option State → Type 0 = λ o. IsSomeAnd o P in
-    let R : ℕ → Type 0 = λ n. IsSomeAnd (slice_get v.stripes n) P in
-    subst R (sym home_is) (subst Q (sym found.1) (held.out, shape.origin_is, due))
+    rw home_is (rw found.1 (held.out, shape.origin_is, due))
 
 -- 5. A reservation that is given back.
 
@@ -286,7 +245,7 @@ may_withdraw_at v call key part number is home_is sound =
 -- the reservation was given back
 pub withdrawn_at : (v next : WorldState) (call : ℕ) (key : Bytes) (part : Part) (number : ℕ) (stripes : List State) (parts : Parts) → part_of v call key ≡ Some part → number ≡ home v key
     → Changed v number (λ from to. Withdraws from part.reservation to) stripes → parts ≡ remove v.parts key
-    → next ≡ record v { stripes = stripes; parts = parts } → Happens v (event.Withdraw call key) (not_over outcome.Withdrawn) next
+    → next ≡ record v { stripes = stripes; parts = parts } → Happens v (WorldEvent.Withdraw call key) (not_over Outcome.Withdrawn) next
 withdrawn_at v next call key part number stripes parts is home_is p parts_are next_is =
     let q = changed_here v key number (λ from to. Withdraws from part.reservation to) stripes home_is p in
     (part, is, q.from, q.at, q.to, q.made, refl, next_is ∙ (λ i. record v { stripes = q.stripes_are i; parts = parts_are i }))
@@ -297,8 +256,7 @@ withdrawn_at v next call key part number stripes parts is home_is p parts_are ne
 pub joiner_at : (v : WorldState) (call : ℕ) (key : Bytes) (join : JoinClaim) (number : ℕ) → join_of v call key ≡ Some join → number ≡ home v key → IsSoundWorld v → IsSomeAnd (slice_get v.stripes number) (λ s. IsJoined s join)
 joiner_at v call key join number is home_is sound =
     let h = join_at v call key join is sound.joins in
-    let P : ℕ → Type 0 = λ n. IsSomeAnd (slice_get v.stripes n) (λ s. IsJoined s join) in
-    subst P (ap (home v) h.1 ∙ sym home_is) h.2.out
+    rw (ap (home v) h.1 ∙ sym home_is) at h.2.out
 
 -- a pick-up of this join
 abbrev pub PicksAs : JoinClaim → Picked → State → State → Type 0
@@ -306,28 +264,28 @@ PicksAs join p from to = PicksUp from join p to
 
 -- the answer was there
 pub picked_answer : (v next : WorldState) (call : ℕ) (key : Bytes) (join : JoinClaim) (number : ℕ) (seen : PickedUp) (over : Option Over) (stripes : List State) → join_of v call key ≡ Some join → number ≡ home v key → seen.stripe ≡ number
-    → Changed v number (PicksAs join (picked.Answer seen.reply seen.place seen.shared)) stripes
+    → Changed v number (PicksAs join (Picked.Answer seen.reply seen.place seen.shared)) stripes
     → over ≡ over_settled call key (fault_in seen.reply) v.calls
-    → next ≡ record v { stripes = stripes; joins = remove v.joins (call, key); calls = settle call key (fault_in seen.reply) v.calls } → Happens v (event.PickUp call key) (record { outcome = outcome.PickedUp seen; over = over }) next
+    → next ≡ record v { stripes = stripes; joins = remove v.joins (call, key); calls = settle call key (fault_in seen.reply) v.calls } → Happens v (WorldEvent.PickUp call key) (record { outcome = Outcome.PickedUp seen; over = over }) next
 picked_answer v next call key join number seen over stripes is home_is stripe_is p over_is next_is =
-    let q = changed_here v key number (PicksAs join (picked.Answer seen.reply seen.place seen.shared)) stripes home_is p in
+    let q = changed_here v key number (PicksAs join (Picked.Answer seen.reply seen.place seen.shared)) stripes home_is p in
     let left = next_is ∙ (λ i. record v { stripes = q.stripes_are i; joins = remove v.joins (call, key); calls = settle call key (fault_in seen.reply) v.calls }) in
     (join, is, q.from, q.at, q.to, (q.made, stripe_is ∙ home_is, left), over_is)
 
 -- the load was withdrawn
 pub picked_again : (v next : WorldState) (call : ℕ) (key : Bytes) (join : JoinClaim) (number : ℕ) (stripes : List State) → join_of v call key ≡ Some join → number ≡ home v key
-    → Changed v number (PicksAs join picked.Again) stripes
-    → next ≡ record v { stripes = stripes; joins = remove v.joins (call, key) } → Happens v (event.PickUp call key) (not_over outcome.Again) next
+    → Changed v number (PicksAs join Picked.Again) stripes
+    → next ≡ record v { stripes = stripes; joins = remove v.joins (call, key) } → Happens v (WorldEvent.PickUp call key) (not_over Outcome.Again) next
 picked_again v next call key join number stripes is home_is p next_is =
-    let q = changed_here v key number (PicksAs join picked.Again) stripes home_is p in
+    let q = changed_here v key number (PicksAs join Picked.Again) stripes home_is p in
     (join, is, q.from, q.at, q.to, (q.made, next_is ∙ (λ i. record v { stripes = q.stripes_are i; joins = remove v.joins (call, key) })), refl)
 
 -- the load isn't over
 pub picked_nothing : (v next : WorldState) (call : ℕ) (key : Bytes) (join back : JoinClaim) (number : ℕ) (stripes : List State) → join_of v call key ≡ Some join → number ≡ home v key
-    → Changed v number (PicksAs join (picked.NotYet back)) stripes
-    → next ≡ record v { stripes = stripes } → Happens v (event.PickUp call key) (not_over outcome.Waits) next
+    → Changed v number (PicksAs join (Picked.NotYet back)) stripes
+    → next ≡ record v { stripes = stripes } → Happens v (WorldEvent.PickUp call key) (not_over Outcome.Waits) next
 picked_nothing v next call key join back number stripes is home_is p next_is =
-    let q = changed_here v key number (PicksAs join (picked.NotYet back)) stripes home_is p in
-    let made : PicksUp q.from join (picked.NotYet join) q.to = (q.made.0, q.made.1, refl, q.made.3) in
+    let q = changed_here v key number (PicksAs join (Picked.NotYet back)) stripes home_is p in
+    let made : PicksUp q.from join (Picked.NotYet join) q.to = (q.made.0, q.made.1, refl, q.made.3) in
     let same = q.stripes_are ∙ same_set v.stripes (home v key) q.from q.to q.at q.made.3 in
     (join, is, q.from, q.at, q.to, (made, next_is ∙ (λ i. record v { stripes = same i })), refl)

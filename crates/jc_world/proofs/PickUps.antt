@@ -6,54 +6,13 @@
 --     follows_joined     it is so if the call has just joined
 --     resolves           so what a pick-up shows is what has become of the load
 --     answers_joins      the whole, from the join to the pick-up
-use Rattle.std.proofs.Common.{inl, inr, ◌≡◌, ◌==◌, ◌&&◌, ◌||◌, ℕ, List, [], ◌∷◌, ◌++◌, zip, Bool, true, false, cond, not, Option, None, Some, IsSomeAnd, option_map, is_some, slice_get, slice_set, refl, sym, ap, ◌∙◌, subst, append-nil, append_assoc}
-use Rattle.std.specs.List.{list_any}
-use Rattle.std.specs.FinMap.{get, remove}
-use Rattle.std.specs.Cmp.Lexicographic.{pointwise}
-use Rattle.std.proofs.lemmas.Bool.{eq-eqb, and_from, or_parts, false_from_ne_true}
-use Rattle.std.proofs.lemmas.Cmp.{nat_eq_equiv, nat_list_eq_equiv}
-use Rattle.jc_types.specs.declared.caller.Caller.{Caller}
-use Rattle.jc_types.specs.declared.config.Config.{Config}
-use Rattle.jc_types.specs.Stripes.{stripe_of}
-use Rattle.jc_model.specs.declared.event.Op.{Op}
-use Rattle.jc_model.specs.Cache.{Bytes}
-use Rattle.jc_inflight.specs.declared.joiner.Joiner.{Joiner}
-use Rattle.jc_inflight.specs.declared.joiner.JoinState.{JoinState}
-use Rattle.jc_inflight.specs.declared.joiner.JoinState.TheVariants.{Waiting, Answered, Again}
-use Rattle.jc_inflight.specs.Joining.{belongs_to}
-use Rattle.jc_inflight.proofs.CallerLemmas.{belongs_to_same}
-use Rattle.jc_stripe.specs.declared.ticket.Reservation.{Reservation}
-use Rattle.jc_stripe.specs.Tickets.{JoinClaim, asks_loader}
-use Rattle.jc_stripe.specs.State.{State, is_key, reservation_of, IsOut}
-use Rattle.jc_stripe.specs.Phases.{with_joiner, without_joiner, told_to}
-use Rattle.jc_world.specs.declared.event.Part.{Part}
-use Rattle.jc_world.specs.Calls.{CallState, op_at}
-use Rattle.jc_world.specs.declared.event.Shown.{Shown}
-use Rattle.jc_world.specs.declared.event.Over.{Over}
-use Rattle.jc_world.specs.declared.event.Outcome.{Outcome}
-use Rattle.jc_world.specs.declared.event.Outcome.TheVariants as outcome
-use Rattle.jc_world.specs.declared.event.WorldEvent.{WorldEvent}
-use Rattle.jc_world.specs.declared.event.WorldEvent.TheVariants as event
-use Rattle.jc_world.specs.World.{WorldState, home, stripe_for, open_call, of_call, part_of, JoinKey, Joins, join_key, join_of, has_joined, is_joined}
-use Rattle.jc_world.specs.Fits.{fits}
-use Rattle.jc_world.specs.Events.{not_over, with_stripe, with_join, Starts, Ends, Picks, Happens, Step, Run}
-use Rattle.jc_world.specs.PickUps.{ends_join, is_last_pick_up, ends_load, Resolves}
-use Rattle.jc_world.specs.Sound.{IsHeld, IsSoundWorld, IsOwned}
-use Rattle.jc_world.proofs.Numbered.{some_of}
-use Rattle.jc_world.proofs.Places.{at_stripe_apart, stripe_put}
-use Rattle.jc_world.proofs.Shares.{is_some_and, found_test, fact_found}
-use Rattle.jc_world.proofs.Underway.{found_number, of_call-at, same_bytes}
-use Rattle.jc_world.proofs.Joiners.{joiner_of, find_kept, joined_last, join_at}
+use Rattle.jc_world.proofs.Common.{◌≡◌, ℕ, Bool, true, false, cond, not, ◌&&◌, ◌||◌, List, [], ◌∷◌, ◌++◌, is_some, IsSomeAnd, ◌==◌, slice_get, slice_set, Some, None, Option, option_map, zip, sym, refl, ap, ◌∙◌, subst, inl, inr, append_assoc, append-nil, eq-eqb, and_from, or_parts, false_from_ne_true, nat_eq_equiv, nat_list_eq_equiv, pointwise, get, remove, list_any, stripe_of, Caller, Config, Bytes, Op, belongs_to_same, belongs_to, JoinState, Again, Answered, Waiting, Joiner, with_joiner, without_joiner, told_to, State, is_key, reservation_of, IsOut, asks_loader, JoinClaim, Reservation, Outcome, Over, Part, Shown, WorldEvent, CallState, op_at, with_stripe, not_over, with_join, Starts, Ends, Picks, Happens, Step, Run, fits, ends_join, is_last_pick_up, ends_load, Resolves, IsHeld, IsOwned, IsSoundWorld, JoinKey, join_key, Joins, WorldState, home, stripe_for, open_call, of_call, part_of, join_of, has_joined, is_joined}
+use Rattle.jc_world.proofs.Lemmas.{is_some_and, found_test, fact_found, found_number, same_bytes, of_call-at, joiner_of, find_kept, joined_last, join_at, load_there, MayStart, may_start_at, part_key, at_stripe_apart, stripe_put, found_more, KeyChange, by_nothing, by_refusal, by_step, by_reservation, by_join, by_commit, by_withdrawal, by_answer, by_retry, StripeChange, by_key, beside_stripes, change_of, may_of, some_of, beside}
 use Rattle.jc_world.proofs.Maps.{joins_ordered, get-here, get-beside, get-left}
-use Rattle.jc_world.proofs.Reservations.{found_more}
 use Rattle.jc_world.proofs.Kept.{some_map}
-use Rattle.jc_world.proofs.Beginning.{MayStart, may_start_at}
-use Rattle.jc_world.proofs.Callers.{part_key}
-use Rattle.jc_world.proofs.LoadKeys.{load_there}
 use Rattle.jc_world.proofs.Joins.{no_joiner}
 use Rattle.jc_world.proofs.JoinedLoads.{Shows, step_shown, Tells, TellsOf, TellsIn, none_of_key, tells_on, tells_kept, tells_committed, tells_withdrawn}
 use Rattle.jc_world.proofs.Sounding.{Laws, sound_step, sound_run}
-use Rattle.jc_world.proofs.Beside.{beside}
 
 -- 1. From world to world.
 
@@ -68,12 +27,10 @@ follows_set : (w n : WorldState) (shows more : Shows) (join : JoinClaim) (r : Re
     → (TellsIn (home w join.key) shows join r from → TellsIn (home w join.key) (shows ++ more) join r to) → Follows n (shows ++ more) join r
 follows_set w n shows more join r key from to h config stripes there joined none phase =
     let m = home w join.key in
-    let C : Config → Type 0 = λ c. IsSomeAnd (slice_get n.stripes (stripe_of join.key c.stripes)) (TellsIn (stripe_of join.key c.stripes) (shows ++ more) join r) in
-    let S : List State → Type 0 = λ ss. IsSomeAnd (slice_get ss m) (TellsIn m (shows ++ more) join r) in
     record {
       key_is = h.key_is;
       join_is = joined;
-      joiner = subst C (sym config) (subst S (sym stripes)
+      joiner = rw config (rw stripes
           (at_stripe_apart w.stripes (home w key) m from to (λ o x. IsSomeAnd o (TellsIn m shows join r) → IsSomeAnd x (TellsIn m (shows ++ more) join r)) there (λ same. phase)
           (λ apart. some_map (slice_get w.stripes m) (TellsIn m shows join r) (TellsIn m (shows ++ more) join r) (λ s t. tells_kept m shows more join r s s [] (sym (append-nil s.joiners)) (none apart) (λ o. o) t))
           h.joiner));
@@ -84,12 +41,10 @@ follows_same : (w n : WorldState) (shows more : Shows) (join : JoinClaim) (r : R
     → Follows n (shows ++ more) join r
 follows_same w n shows more join r h config stripes joins none =
     let m = home w join.key in
-    let C : Config → Type 0 = λ c. IsSomeAnd (slice_get n.stripes (stripe_of join.key c.stripes)) (TellsIn (stripe_of join.key c.stripes) (shows ++ more) join r) in
-    let S : List State → Type 0 = λ ss. IsSomeAnd (slice_get ss m) (TellsIn m (shows ++ more) join r) in
     record {
       key_is = h.key_is;
       join_is = ap (λ (m : Joins). get m (join_key join)) joins ∙ h.join_is;
-      joiner = subst C (sym config) (subst S (sym stripes)
+      joiner = rw config (rw stripes
           (some_map (slice_get w.stripes m) (TellsIn m shows join r) (TellsIn m (shows ++ more) join r) (λ s t. tells_kept m shows more join r s s [] (sym (append-nil s.joiners)) none (λ o. o) t) h.joiner));
     }
 
@@ -97,62 +52,7 @@ follows_same w n shows more join r h config stripes joins none =
 follows_beside : (w n m : WorldState) (shows more : Shows) (join : JoinClaim) (r : Reservation) → Follows w shows join r → n ≡ m → m.config ≡ w.config → m.stripes ≡ w.stripes → m.joins ≡ w.joins → list_any (ends_load r) more ≡ false
     → Follows n (shows ++ more) join r
 follows_beside w n m shows more join r h is config stripes joins none =
-    let P : WorldState → Type 0 = λ x. Follows x (shows ++ more) join r in
-    subst P (sym is) (follows_same w m shows more join r h config stripes joins none)
-
--- the first phase of a call
-follows_started : (w new : WorldState) (caller : Caller) (key : Bytes) (op : Op) (from to : State) (seen : Outcome) (shows more : Shows) (join : JoinClaim) (r : Reservation) → stripe_for w key ≡ Some from → Starts w caller key op from to seen new → is_joined w caller.call key ≡ false → list_any (ends_load r) more ≡ false
-    → Follows w shows join r → Follows new (shows ++ more) join r
-follows_started w new caller key op from to (outcome.Refused refusal) shows more join r there h alone none f = follows_beside w new _ shows more join r f h.1 refl refl refl none
-follows_started w new caller key op from to (outcome.PutOff refusal) shows more join r there h alone none f = follows_beside w new _ shows more join r f h.1 refl refl refl none
-follows_started w new caller key op from to (outcome.Stepped seen) shows more join r there h alone none f =
-    let after = h.0.2.after in
-    follows_set w new shows more join r key from to f (ap (λ (x : WorldState). x.config) h.2) (ap (λ (x : WorldState). x.stripes) h.2) there
-    (ap (λ (x : WorldState). join_of x join.caller.call join.key) h.2 ∙ f.join_is) (λ apart. none)
-    (tells_kept (home w join.key) shows more join r from to [] (ap (λ (s : State). s.joiners) after ∙ sym (append-nil from.joiners)) none (λ out. ap (λ (s : State). reservation_of s r.key) after ∙ out))
-follows_started w new caller key op from to outcome.Loads shows more join r there h alone none f =
-    let after = h.1.4 in
-    follows_set w new shows more join r key from to f (ap (λ (x : WorldState). x.config) h.2) (ap (λ (x : WorldState). x.stripes) h.2) there
-    (ap (λ (x : WorldState). join_of x join.caller.call join.key) h.2 ∙ f.join_is) (λ apart. none)
-    (tells_kept (home w join.key) shows more join r from to [] (ap (λ (s : State). s.joiners) after ∙ sym (append-nil from.joiners)) none
-    (λ out. ap (λ (s : State). reservation_of s r.key) after ∙ found_more (is_key r.key) from.reservations (h.0.reservation ∷ []) r out))
-follows_started w new caller key op from to (outcome.Asks change) shows more join r there h alone none f =
-    let after = h.1.4 in
-    follows_set w new shows more join r key from to f (ap (λ (x : WorldState). x.config) h.3) (ap (λ (x : WorldState). x.stripes) h.3) there
-    (ap (λ (x : WorldState). join_of x join.caller.call join.key) h.3 ∙ f.join_is) (λ apart. none)
-    (tells_kept (home w join.key) shows more join r from to [] (ap (λ (s : State). s.joiners) after ∙ sym (append-nil from.joiners)) none
-    (λ out. ap (λ (s : State). reservation_of s r.key) after ∙ found_more (is_key r.key) from.reservations (h.0.reservation ∷ []) r out))
-follows_started w new caller key op from to (outcome.Processes entry) shows more join r there h alone none f =
-    let after = h.1.4 in
-    follows_set w new shows more join r key from to f (ap (λ (x : WorldState). x.config) h.3) (ap (λ (x : WorldState). x.stripes) h.3) there
-    (ap (λ (x : WorldState). join_of x join.caller.call join.key) h.3 ∙ f.join_is) (λ apart. none)
-    (tells_kept (home w join.key) shows more join r from to [] (ap (λ (s : State). s.joiners) after ∙ sym (append-nil from.joiners)) none
-    (λ out. ap (λ (s : State). reservation_of s r.key) after ∙ found_more (is_key r.key) from.reservations (h.0.reservation ∷ []) r out))
-follows_started w new caller key op from to outcome.Joins shows more join r there h alone none f =
-    let after = h.1.3 in
-    let other = h.0 in
-    let apart : join_key join ≡ join_key other → ⊥ = λ same.
-    let other_is : join_key other ≡ (caller.call, key) = λ i. join_key (h.1.2 i) in
-    let t : true ≡ false = sym (ap is_some f.join_is) ∙ ap (λ (at : JoinKey). has_joined w.joins at.0 at.1) (same ∙ other_is) ∙ alone in cc
-    in
-    follows_set w new shows more join r key from to f (ap (λ (x : WorldState). x.config) h.2) (ap (λ (x : WorldState). x.stripes) h.2) there
-    (ap (λ (x : WorldState). join_of x join.caller.call join.key) h.2 ∙ get-beside joins_ordered w.joins (join_key other) other (join_key join) apart ∙ f.join_is) (λ apart. none)
-    (tells_kept (home w join.key) shows more join r from to (record { caller = other.caller; key = other.key; load = other.load; state = Waiting } ∷ []) (ap (λ (s : State). s.joiners) after) none (λ out. ap (λ (s : State). reservation_of s r.key) after ∙ out))
-follows_started w new caller key op from to seen shows more join r there h alone none f = absurd h
-
--- the last phase of a call
-follows_ended : (w new : WorldState) (call : ℕ) (key : Bytes) (part : Part) (from to : State) (seen : Outcome) (over : Option Over) (shows : Shows) (join : JoinClaim) (r : Reservation) → part_of w call key ≡ Some part → stripe_for w key ≡ Some from
-    → Ends w call key part from to seen new → IsSoundWorld w → Follows w shows join r → Follows new (shows ++ (event.Commit call key, record { outcome = seen; over = over }) ∷ []) join r
-follows_ended w new call key part from to (outcome.Stepped seen) over shows join r is there h old f =
-    let p = part.reservation in
-    let after = h.0.1.after in
-    follows_set w new shows ((event.Commit call key, step_shown seen over) ∷ []) join r key from to f (ap (λ (x : WorldState). x.config) h.2) (ap (λ (x : WorldState). x.stripes) h.2) there
-    (ap (λ (x : WorldState). join_of x join.caller.call join.key) h.2 ∙ f.join_is)
-    (λ apart. ap (λ b. b || false) (none_of_key r call key (step_shown seen over) (λ same. apart (ap (home w) (sym same ∙ f.key_is)))))
-    (tells_committed (home w join.key) call key shows join p r from to seen over (old.shape.each (home w key) from there).reached h.0.0
-    (of_call-at call (get w.parts key) part is).1 (part_key w call key part is old) (λ same. h.1 ∙ ap (home w) (sym same ∙ f.key_is))
-    (ap (λ (s : State). s.reservations) after) (ap (λ (s : State). s.joiners) after))
-follows_ended w new call key part from to seen over shows join r is there h old f = absurd h
+    rw is (follows_same w m shows more join r h config stripes joins none)
 
 -- a pick-up of another join leaves this one, and its joiner
 follows_others : (w new : WorldState) (call : ℕ) (key : Bytes) (other : JoinClaim) (from to : State) (shows more : Shows) (join : JoinClaim) (r : Reservation) → join_of w call key ≡ Some other → stripe_for w key ≡ Some from → to ≡ without_joiner from other
@@ -187,67 +87,83 @@ of_another call mine key own seen other ends same_call same_key =
     in
     cc
 
--- a pick-up
-follows_picks : (w new : WorldState) (call : ℕ) (key : Bytes) (other : JoinClaim) (from to : State) (seen : Outcome) (shows more : Shows) (join : JoinClaim) (r : Reservation) → join_of w call key ≡ Some other → stripe_for w key ≡ Some from
-    → Picks w call key other from to seen new → ((call == join.caller.call) && pointwise ◌==◌ join.key key && ends_join seen) ≡ false → list_any (ends_load r) more ≡ false
-    → IsSoundWorld w → Follows w shows join r → Follows new (shows ++ more) join r
-follows_picks w new call key other from to (outcome.PickedUp seen) shows more join r found there h last none old f =
-    follows_others w new call key other from to shows more join r found there h.0.3 (of_another call join.caller.call key join.key (outcome.PickedUp seen) last refl)
-    (ap (λ (x : WorldState). x.config) h.2) (ap (λ (x : WorldState). x.stripes) h.2) (ap (λ (x : WorldState). x.joins) h.2) none old f
-follows_picks w new call key other from to outcome.Again shows more join r found there h last none old f =
-    follows_others w new call key other from to shows more join r found there h.0.2 (of_another call join.caller.call key join.key outcome.Again last refl)
-    (ap (λ (x : WorldState). x.config) h.1) (ap (λ (x : WorldState). x.stripes) h.1) (ap (λ (x : WorldState). x.joins) h.1) none old f
-follows_picks w new call key other from to outcome.Waits shows more join r found there h last none old f = follows_beside w new w shows more join r f h.1 refl refl refl none
-follows_picks w new call key other from to seen shows more join r found there h last none old f = absurd h
-
--- by the kind of the event
-follows_happens : (w new : WorldState) (e : WorldEvent) (seen : Shown) (shows : Shows) (join : JoinClaim) (r : Reservation) → fits w e ≡ true → Happens w e seen new → is_last_pick_up join.caller.call join.key (e, seen) ≡ false → IsSoundWorld w → Follows w shows join r
-    → Follows new (shows ++ (e, seen) ∷ []) join r
-follows_happens w new (event.Call call session command) seen shows join r fit h last old f = follows_beside w new _ shows _ join r f h.1 refl refl refl refl
-follows_happens w new (event.Look call stripe) seen shows join r fit h last old f = follows_beside w new _ shows _ join r f h.9 refl refl refl refl
-follows_happens w new (event.Start call key) seen shows join r fit h last old f = follows_started w new h.0.caller key h.1 h.4 h.6 seen.outcome shows _ join r h.5 h.7 (may_start_at w call key h.0 h.1 fit h.2 h.3 old).alone refl f
-follows_happens w new (event.Read call key) seen shows join r fit h last old f = follows_beside w new _ shows _ join r f h.3 refl refl refl refl
-follows_happens w new (event.Say call key answer) seen shows join r fit h last old f = follows_beside w new _ shows _ join r f h.3 refl refl refl refl
-follows_happens w new (event.Process call key source calls fail) seen shows join r fit h last old f = follows_beside w new _ shows _ join r f h.3 refl refl refl refl
-follows_happens w new (event.Change call key) seen shows join r fit h last old f = follows_beside w new _ shows _ join r f h.5 refl refl refl refl
-follows_happens w new (event.Report call left fault) seen shows join r fit h last old f = follows_beside w new _ shows _ join r f (beside w new call h.0 left fault h.3).is refl refl refl refl
-follows_happens w new (event.Commit call key) seen shows join r fit h last old f = follows_ended w new call key h.0 h.2 h.4 seen.outcome seen.over shows join r h.1 h.3 h.5 old f
-follows_happens w new (event.Withdraw call key) seen shows join r fit h last old f =
-    let p = h.0.reservation in
-    let S : Shown → Type 0 = λ s. Follows new (shows ++ (event.Withdraw call key, s) ∷ []) join r in
-    subst S (sym h.6)
-    (follows_set w new shows ((event.Withdraw call key, not_over outcome.Withdrawn) ∷ []) join r key h.2 h.4 f (ap (λ (x : WorldState). x.config) h.7) (ap (λ (x : WorldState). x.stripes) h.7) h.3
-    (ap (λ (x : WorldState). join_of x join.caller.call join.key) h.7 ∙ f.join_is)
-    (λ apart. ap (λ b. b || false) (none_of_key r call key (not_over outcome.Withdrawn) (λ same. apart (ap (home w) (sym same ∙ f.key_is)))))
-    (tells_withdrawn (home w join.key) call key shows join p r h.2 h.4 (old.shape.each (home w key) h.2 h.3).reached h.5.0
-    (of_call-at call (get w.parts key) h.0 h.1).1 (part_key w call key h.0 h.1 old)
-    (ap (λ (s : State). s.reservations) h.5.1) (ap (λ (s : State). s.joiners) h.5.1)))
-follows_happens w new (event.Leave call) seen shows join r fit h last old f = follows_beside w new _ shows _ join r f h.1 refl refl refl refl
-follows_happens w new (event.PickUp call key) seen shows join r fit h last old f = follows_picks w new call key h.0 h.2 h.4 seen.outcome shows _ join r h.1 h.3 h.5 last refl old f
-follows_happens w new (event.Foreign key value) seen shows join r fit h last old f = follows_beside w new _ shows _ join r f h.1 refl refl refl refl
+-- by the kind of the change at a key
+follows_key : (w new : WorldState) (e : WorldEvent) (key : Bytes) (seen : Shown) (shows : Shows) (join : JoinClaim) (r : Reservation) → KeyChange w new e key seen → fits w e ≡ true → is_last_pick_up join.caller.call join.key (e, seen) ≡ false
+    → IsSoundWorld w → Follows w shows join r → Follows new (shows ++ (e, seen) ∷ []) join r
+follows_key w new e key seen shows join r (by_nothing is none ends) fit last old f = follows_beside w new w shows _ join r f is refl refl refl (ap (λ b. b || false) (ends r))
+follows_key w new e key seen shows join r (by_refusal u op refusal may is none ends) fit last old f = follows_beside w new _ shows _ join r f is refl refl refl (ap (λ b. b || false) (ends r))
+follows_key w new e key seen shows join r (by_step u op from to x may there h home_is is shows_it ends) fit last old f =
+    let after = h.2.after in
+    let none = ap (λ b. b || false) (ends r) in
+    follows_set w new shows _ join r key from to f (ap (λ (x : WorldState). x.config) is) (ap (λ (x : WorldState). x.stripes) is) there
+    (ap (λ (x : WorldState). join_of x join.caller.call join.key) is ∙ f.join_is) (λ apart. none)
+    (tells_kept (home w join.key) shows _ join r from to [] (ap (λ (s : State). s.joiners) after ∙ sym (append-nil from.joiners)) none (λ out. ap (λ (s : State). reservation_of s r.key) after ∙ out))
+follows_key w new e key seen shows join r (by_reservation u op from to p own may there h is silent ends) fit last old f =
+    let none = ap (λ b. b || false) (ends r) in
+    follows_set w new shows _ join r key from to f (ap (λ (x : WorldState). x.config) is) (ap (λ (x : WorldState). x.stripes) is) there
+    (ap (λ (x : WorldState). join_of x join.caller.call join.key) is ∙ f.join_is) (λ apart. none)
+    (tells_kept (home w join.key) shows _ join r from to [] (ap (λ (s : State). s.joiners) h.after ∙ sym (append-nil from.joiners)) none
+    (λ out. ap (λ (s : State). reservation_of s r.key) h.after ∙ found_more (is_key r.key) from.reservations (own ∷ []) r out))
+follows_key w new e key seen shows join r (by_join u op from to other may there h is silent ends) fit last old f =
+    let after = h.3 in
+    let none = ap (λ b. b || false) (ends r) in
+    let apart : join_key join ≡ join_key other → ⊥ = λ same.
+    let other_is : join_key other ≡ (u.caller.call, key) = λ i. join_key (h.2 i) in
+    let t : true ≡ false = sym (ap is_some f.join_is) ∙ ap (λ (at : JoinKey). has_joined w.joins at.0 at.1) (same ∙ other_is) ∙ (may_of w e key u op may fit old).alone in cc
+    in
+    follows_set w new shows _ join r key from to f (ap (λ (x : WorldState). x.config) is) (ap (λ (x : WorldState). x.stripes) is) there
+    (ap (λ (x : WorldState). join_of x join.caller.call join.key) is ∙ get-beside joins_ordered w.joins (join_key other) other (join_key join) apart ∙ f.join_is) (λ apart. none)
+    (tells_kept (home w join.key) shows _ join r from to (record { caller = other.caller; key = other.key; load = other.load; state = Waiting } ∷ []) (ap (λ (s : State). s.joiners) after) none (λ out. ap (λ (s : State). reservation_of s r.key) after ∙ out))
+follows_key w new e key seen shows join r (by_commit call part from to x e_is part_is there h home_is is shows_it) fit last old f =
+    let p = part.reservation in
+    let after = h.1.after in
+    subst (λ (p : WorldEvent × Shown). Follows new (shows ++ p ∷ []) join r) (sym (λ i. (e_is i, record { outcome = shows_it i; over = seen.over })))
+    (follows_set w new shows ((WorldEvent.Commit call key, step_shown x seen.over) ∷ []) join r key from to f (ap (λ (x : WorldState). x.config) is) (ap (λ (x : WorldState). x.stripes) is) there
+    (ap (λ (x : WorldState). join_of x join.caller.call join.key) is ∙ f.join_is)
+    (λ apart. ap (λ b. b || false) (none_of_key r call key (step_shown x seen.over) (λ same. apart (ap (home w) (sym same ∙ f.key_is)))))
+    (tells_committed (home w join.key) call key shows join p r from to x seen.over (old.shape.each (home w key) from there).reached h.0
+    (of_call-at call (get w.parts key) part part_is).1 (part_key w call key part part_is old) (λ same. home_is ∙ ap (home w) (sym same ∙ f.key_is))
+    (ap (λ (s : State). s.reservations) after) (ap (λ (s : State). s.joiners) after)))
+follows_key w new e key seen shows join r (by_withdrawal call part from to e_is part_is there h is shows_it) fit last old f =
+    subst (λ (p : WorldEvent × Shown). Follows new (shows ++ p ∷ []) join r) (sym (λ i. (e_is i, shows_it i)))
+    (follows_set w new shows ((WorldEvent.Withdraw call key, not_over Outcome.Withdrawn) ∷ []) join r key from to f (ap (λ (x : WorldState). x.config) is) (ap (λ (x : WorldState). x.stripes) is) there
+    (ap (λ (x : WorldState). join_of x join.caller.call join.key) is ∙ f.join_is)
+    (λ apart. ap (λ b. b || false) (none_of_key r call key (not_over Outcome.Withdrawn) (λ same. apart (ap (home w) (sym same ∙ f.key_is)))))
+    (tells_withdrawn (home w join.key) call key shows join part.reservation r from to (old.shape.each (home w key) from there).reached h.0
+    (of_call-at call (get w.parts key) part part_is).1 (part_key w call key part part_is old)
+    (ap (λ (s : State). s.reservations) h.1) (ap (λ (s : State). s.joiners) h.1)))
+follows_key w new e key seen shows join r (by_answer call other from to x e_is found there h home_is is shows_it ends) fit last old f =
+    follows_others w new call key other from to shows _ join r found there h.3
+    (of_another call join.caller.call key join.key seen.outcome (ap (λ x. is_last_pick_up join.caller.call join.key (x, seen)) (sym e_is) ∙ last) (ap ends_join shows_it))
+    (ap (λ (x : WorldState). x.config) is) (ap (λ (x : WorldState). x.stripes) is) (ap (λ (x : WorldState). x.joins) is) (ap (λ b. b || false) (ends r)) old f
+follows_key w new e key seen shows join r (by_retry call other from to e_is found there h is shows_it ends) fit last old f =
+    follows_others w new call key other from to shows _ join r found there h.2
+    (of_another call join.caller.call key join.key seen.outcome (ap (λ x. is_last_pick_up join.caller.call join.key (x, seen)) (sym e_is) ∙ last) (ap ends_join shows_it))
+    (ap (λ (x : WorldState). x.config) is) (ap (λ (x : WorldState). x.stripes) is) (ap (λ (x : WorldState). x.joins) is) (ap (λ b. b || false) (ends r)) old f
 
 -- what doesn't fit ends no load
-unfit_ends : (r : Reservation) (e : WorldEvent) → ends_load r (e, not_over outcome.Unfit) ≡ false
-unfit_ends r (event.Commit call key) = refl
-unfit_ends r (event.Withdraw call key) = refl
+unfit_ends : (r : Reservation) (e : WorldEvent) → ends_load r (e, not_over Outcome.Unfit) ≡ false
+unfit_ends r (WorldEvent.Commit call key) = refl
 unfit_ends r e = refl
 
 follows_step : (w new : WorldState) (e : WorldEvent) (seen : Shown) (shows : Shows) (join : JoinClaim) (r : Reservation) → Step w e seen new → is_last_pick_up join.caller.call join.key (e, seen) ≡ false → IsSoundWorld w → Follows w shows join r
     → Follows new (shows ++ (e, seen) ∷ []) join r
-follows_step w new e seen shows join r (inl (fit, happens)) last old f = follows_happens w new e seen shows join r fit happens last old f
+follows_step w new e seen shows join r (inl (fit, happens)) last old f = go (change_of w new e seen happens)
+  where
+    go : StripeChange w new e seen → Follows new (shows ++ (e, seen) ∷ []) join r
+    go (by_key key k) = follows_key w new e key seen shows join r k fit last old f
+    go (beside_stripes m is config stripes order joins none ends) = follows_beside w new m shows _ join r f is config stripes joins (ap (λ b. b || false) (ends r))
 follows_step w new e seen shows join r (inr (unfit, shown_is, is)) last old f = follows_beside w new w shows _ join r f is refl refl refl (ap (λ b. b || false) (ap (λ s. ends_load r (e, s)) shown_is ∙ unfit_ends r e))
 
 -- both tests fail, where not one of them holds
 follows_run : Laws → (w new : WorldState) (es : List WorldEvent) (ss : List Shown) (shows : Shows) (join : JoinClaim) (r : Reservation) → Run w es ss new → list_any (is_last_pick_up join.caller.call join.key) (zip es ss) ≡ false → IsSoundWorld w
     → Follows w shows join r → Follows new (shows ++ zip es ss) join r
 follows_run laws w new [] [] shows join r run none old f = follows_beside w new w shows [] join r f run refl refl refl refl
-follows_run laws w new [] (s ∷ ss) shows join r run none old f = absurd run
-follows_run laws w new (e ∷ es) [] shows join r run none old f = absurd run
 follows_run laws w new (e ∷ es) (s ∷ ss) shows join r (mid, step, rest) none old f =
     let parts = or_parts (is_last_pick_up join.caller.call join.key (e, s)) (list_any (is_last_pick_up join.caller.call join.key) (zip es ss)) none in
     let next = follows_step w mid e s shows join r step parts.0 old f in
-    let P : Shows → Type 0 = λ xs. Follows new xs join r in
-    subst P (append_assoc shows ((e, s) ∷ []) (zip es ss)) (follows_run laws mid new es ss (shows ++ (e, s) ∷ []) join r rest parts.1 (sound_step laws w e s mid step old) next)
+    rw (append_assoc shows ((e, s) ∷ []) (zip es ss)) at (follows_run laws mid new es ss (shows ++ (e, s) ∷ []) join r rest parts.1 (sound_step laws w e s mid step old) next)
+follows_run laws w new es ss shows join r run none old f = absurd run
 
 -- 2. The part of a load that is out.
 
@@ -258,8 +174,7 @@ part_of_out w key s r there key_is out old =
     let held = some_of (stripe_for w r.key) (λ x. IsHeld x r.key part.0) (old.held r.key part.0 part.1) in
     let e : Some held.0 ≡ Some s = sym held.1 ∙ ap (stripe_for w) key_is ∙ there in
     let here : held.0 ≡ s = cc in
-    let O : State → Type 0 = λ x. IsOut x part.0.reservation in
-    let t : Some part.0.reservation ≡ Some r = sym (subst O here held.2.out) ∙ ap (reservation_of s) held.2.key_is ∙ out in (
+    let t : Some part.0.reservation ≡ Some r = sym (rw here at held.2.out) ∙ ap (reservation_of s) held.2.key_is ∙ out in (
       part.0,
       ap (of_call r.caller.call) part.1 ∙ ap (λ b. cond b (Some part.0) None) (eq-eqb part.0.reservation.caller.call r.caller.call part.2),
       cc,
@@ -282,13 +197,12 @@ follows_joined w u key op from to join r there join_is_of to_is r_key r_number o
     let new : WorldState = with_join (with_stripe w key to) join in
     let free : is_joined w join.caller.call join.key ≡ false = (λ i. is_joined w (call_is i) (key_is i)) ∙ may.alone in
     let Q : Joiner → Type 0 = TellsOf (home w join.key) [] to r in
-    let J : List Joiner → Type 0 = λ js. IsSomeAnd (joiner_of join.caller join.key js) Q in
     let I : State → Type 0 = TellsIn (home w join.key) [] join r in
     record {
       key_is = r_key ∙ sym key_is;
       join_is = get-here joins_ordered w.joins (join_key join) join;
       joiner = is_some_and (stripe_for new join.key) I to (ap (λ k. slice_get new.stripes (home w k)) key_is ∙ stripe_put w.stripes (home w key) from to there)
-          (subst J (sym (ap (λ (s : State). s.joiners) to_is))
+          (rw (ap (λ (s : State). s.joiners) to_is)
           (joined_last Q (belongs_to join.caller join.key) from.joiners next (no_joiner w key from join there free old)
           (and_from _ _ (and_from _ _ (nat_eq_equiv.refl join.caller.session) (nat_eq_equiv.refl join.caller.call)) (nat_list_eq_equiv.refl join.key))
           (sym r_number, (ap (λ (s : State). reservation_of s r.key) to_is ∙ out, refl))));
@@ -305,11 +219,11 @@ known_at number shows join r s state is h =
 -- by what is shown of the pick-up
 resolves_picks : (w new : WorldState) (call : ℕ) (key : Bytes) (join : JoinClaim) (from to : State) (seen : Outcome) (shows : Shows) (r : Reservation) → stripe_for w key ≡ Some from → r.key ≡ key → TellsIn (home w key) shows join r from → IsSoundWorld w
     → Picks w call key join from to seen new → Resolves w shows r seen
-resolves_picks w new call key join from to (outcome.PickedUp seen) shows r there key_is told old h =
+resolves_picks w new call key join from to (Outcome.PickedUp seen) shows r there key_is told old h =
     let t = known_at (home w key) shows join r from (Answered seen.place seen.shared) h.0.1 told in
     (t.0, t.1, t.2, t.3 ∙ sym h.1, t.4)
-resolves_picks w new call key join from to outcome.Again shows r there key_is told old h = known_at (home w key) shows join r from Again h.0.1 told
-resolves_picks w new call key join from to outcome.Waits shows r there key_is told old h =
+resolves_picks w new call key join from to Outcome.Again shows r there key_is told old h = known_at (home w key) shows join r from Again h.0.1 told
+resolves_picks w new call key join from to Outcome.Waits shows r there key_is told old h =
     let out = known_at (home w key) shows join r from Waiting h.0.1 told in
     let part = part_of_out w key from r there key_is out.0 old in
     (part.0, part.1, part.2, out.1)
@@ -317,12 +231,11 @@ resolves_picks w new call key join from to seen shows r there key_is told old h 
 
 -- the pick-up fits, and shows that
 resolves : (w new : WorldState) (call : ℕ) (key : Bytes) (join : JoinClaim) (seen : Shown) (shows : Shows) (r : Reservation) → join.caller.call ≡ call → join.key ≡ key → Follows w shows join r → IsSoundWorld w
-    → Step w (event.PickUp call key) seen new → Resolves w shows r seen.outcome
+    → Step w (WorldEvent.PickUp call key) seen new → Resolves w shows r seen.outcome
 resolves w new call key join seen shows r call_is key_is f old (inl (fit, (other, found, from, there, to, picks, over))) =
     let e : Some other ≡ Some join = sym found ∙ (λ i. join_of w (sym call_is i) (sym key_is i)) ∙ f.join_is in
     let same : other ≡ join = cc in
-    let K : Bytes → Type 0 = λ k. IsSomeAnd (stripe_for w k) (TellsIn (home w k) shows join r) in
-    let at = some_of (stripe_for w key) (TellsIn (home w key) shows join r) (subst K key_is f.joiner) in
+    let at = some_of (stripe_for w key) (TellsIn (home w key) shows join r) (subst (λ k. IsSomeAnd (stripe_for w k) (TellsIn (home w k) shows join r)) key_is f.joiner) in
     let t : Some at.0 ≡ Some from = sym at.1 ∙ there in
     let here : at.0 ≡ from = cc in
     let P : JoinClaim → Type 0 = λ j. Picks w call key j from to seen.outcome new in
@@ -339,9 +252,9 @@ IsAnswered old new key shows seen =
     (load : Part) × (part_of old load.reservation.caller.call key ≡ Some load) × (asks_loader load.reservation.first ≡ true) × (load.reservation.key ≡ key) × Resolves new shows load.reservation seen
 
 -- by what is shown of the first phase
-answers_started : Laws → (old joined new newer : WorldState) (call : ℕ) (key : Bytes) (u : CallState) (op : Op) (from to : State) (es : List WorldEvent) (ss : List Shown) (seen : Shown) → open_call old call ≡ Some u → op_at u key ≡ Some op → fits old (event.Start call key) ≡ true
-    → stripe_for old key ≡ Some from → Starts old u.caller key op from to outcome.Joins joined → IsSoundWorld old → IsSoundWorld joined → Run joined es ss new → list_any (is_last_pick_up call key) (zip es ss) ≡ false
-    → Step new (event.PickUp call key) seen newer → IsAnswered old new key (zip es ss) seen.outcome
+answers_started : Laws → (old joined new newer : WorldState) (call : ℕ) (key : Bytes) (u : CallState) (op : Op) (from to : State) (es : List WorldEvent) (ss : List Shown) (seen : Shown) → open_call old call ≡ Some u → op_at u key ≡ Some op → fits old (WorldEvent.Start call key) ≡ true
+    → stripe_for old key ≡ Some from → Starts old u.caller key op from to Outcome.Joins joined → IsSoundWorld old → IsSoundWorld joined → Run joined es ss new → list_any (is_last_pick_up call key) (zip es ss) ≡ false
+    → Step new (WorldEvent.PickUp call key) seen newer → IsAnswered old new key (zip es ss) seen.outcome
 answers_started laws old joined new newer call key u op from to es ss seen here op_is fit there (join, begins, is) sound_old sound_joined run none step =
     let may = may_start_at old call key u op fit here op_is sound_old in
     let load = load_there (reservation_of from key) join.load (can_join _ _ join.load begins.1) in
@@ -351,8 +264,7 @@ answers_started laws old joined new newer call key u op from to es ss seen here 
     let r = part.0.reservation in
     let call_is : join.caller.call ≡ call = ap (λ (j : JoinClaim). j.caller.call) begins.2 ∙ found_number call old.calls u here in
     let key_is : join.key ≡ key = ap (λ (j : JoinClaim). j.key) begins.2 in
-    let F : WorldState → Type 0 = λ w. Follows w [] join load.0 in
-    let f = subst F (sym is) (follows_joined old u key op from to join load.0 there begins.2 begins.3 r_key load.2 out may sound_old) in
+    let f = subst (λ w. Follows w [] join load.0) (sym is) (follows_joined old u key op from to join load.0 there begins.2 begins.3 r_key load.2 out may sound_old) in
     let none_of : list_any (is_last_pick_up join.caller.call join.key) (zip es ss) ≡ false = (λ i. list_any (is_last_pick_up (call_is i) (key_is i)) (zip es ss)) ∙ none in
     let g = follows_run laws joined new es ss [] join load.0 run none_of sound_joined f in
     let resolved = resolves new newer call key join seen (zip es ss) load.0 call_is key_is g (sound_run laws joined new es ss run sound_joined) step in
@@ -360,10 +272,10 @@ answers_started laws old joined new newer call key u op from to es ss seen here 
     let all = subst R (sym part.2) (ap (part_of old load.0.caller.call) (sym r_key) ∙ part.1, load.3, r_key, resolved) in
     (part.0, all.0, all.1, all.2, all.3)
 
-pub answers_joins : Laws → (old joined new newer : WorldState) (call : ℕ) (key : Bytes) (es : List WorldEvent) (ss : List Shown) (seen : Shown) → Step old (event.Start call key) (not_over outcome.Joins) joined → IsSoundWorld old → Run joined es ss new
-    → list_any (is_last_pick_up call key) (zip es ss) ≡ false → Step new (event.PickUp call key) seen newer → IsAnswered old new key (zip es ss) seen.outcome
+pub answers_joins : Laws → (old joined new newer : WorldState) (call : ℕ) (key : Bytes) (es : List WorldEvent) (ss : List Shown) (seen : Shown) → Step old (WorldEvent.Start call key) (not_over Outcome.Joins) joined → IsSoundWorld old → Run joined es ss new
+    → list_any (is_last_pick_up call key) (zip es ss) ≡ false → Step new (WorldEvent.PickUp call key) seen newer → IsAnswered old new key (zip es ss) seen.outcome
 answers_joins laws old joined new newer call key es ss seen (inl (fit, (u, op, here, op_is, from, there, to, starts, refuses, over))) sound_old run none step =
     answers_started laws old joined new newer call key u op from to es ss seen here op_is fit there starts sound_old
-    (sound_step laws old (event.Start call key) (not_over outcome.Joins) joined (inl (fit, (u, op, here, op_is, from, there, to, starts, refuses, over))) sound_old) run none step
+    (sound_step laws old (WorldEvent.Start call key) (not_over Outcome.Joins) joined (inl (fit, (u, op, here, op_is, from, there, to, starts, refuses, over))) sound_old) run none step
 answers_joins laws old joined new newer call key es ss seen (inr (unfit, shown_is, is)) sound_old run none step =
-    let t : outcome.Joins ≡ outcome.Unfit = ap (λ (s : Shown). s.outcome) shown_is in cc
+    let t : Outcome.Joins ≡ Outcome.Unfit = ap (λ (s : Shown). s.outcome) shown_is in cc

@@ -1,15 +1,5 @@
 -- The stripes of a world, once one is set.
-use Rattle.std.proofs.Common.{◌≡◌, ◌<◌, ◌≤◌, ◌%◌, ℕ, zero, suc, length, List, [], ◌∷◌, sum, Bool, true, false, cond, Option, Some, Ok, refl, sym, ap, subst, arith, slice_get, slice_set, nat_le, get_or, Result, Err}
-use Rattle.std.proofs.lemmas.Bool.{and_parts, leb-true}
-use Rattle.std.proofs.lemmas.Option.{slice_get-get_or}
-use Rattle.jc_types.specs.declared.config.Config.{Config}
-use Rattle.jc_types.specs.declared.refusal.Refusal.{Refusal}
-use Rattle.jc_types.specs.Limits.{check, is_between}
-use Rattle.jc_types.specs.declared.limits.TheConstants.{STRIPES_MAX}
-use Rattle.jc_model.specs.Cache.{Bytes}
-use Rattle.jc_stripe.specs.State.{State}
-use Rattle.jc_world.specs.World.{WorldState, home, stripe_for, empty_stripe}
-use Rattle.jc_world.specs.Sound.{IsShaped}
+use Rattle.jc_world.proofs.Common.{◌≡◌, ℕ, zero, suc, ◌%◌, ◌<◌, ◌≤◌, Bool, true, false, cond, List, [], ◌∷◌, length, get_or, nat_le, slice_get, slice_set, Some, Ok, Err, sum, Option, Result, sym, refl, ap, subst, arith, leb-true, and_parts, slice_get-get_or, is_between, check, Config, STRIPES_MAX, Refusal, Bytes, State, IsShaped, WorldState, home, stripe_for, empty_stripe}
 
 -- what stays true from a stripe to the one that is put in its place stays true at every number
 pub at_stripe_apart : (stripes : List State) (i j : ℕ) (from next : State) (P : Option State → Option State → Type 0) → slice_get stripes i ≡ Some from → (i ≡ j → P (Some from) (Some next)) → ((i ≡ j → ⊥) → P (slice_get stripes j) (slice_get stripes j))

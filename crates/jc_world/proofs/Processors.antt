@@ -4,32 +4,8 @@
 --     write_due          with write-through on, what is due of the writer is the processor's net effect
 --     agrees_processed   what a processor leaves after which no writer is asked agrees with the store
 --     agrees_effect      so does what it leaves once the writer that is asked after it has returned
-use Rattle.std.proofs.Common.{◌≡◌, Bool, true, false, cond, Option, None, is_none, is_some, refl, sym, ap}
-use Rattle.jc_types.specs.declared.caller.Caller.{Caller}
-use Rattle.jc_types.specs.declared.config.Config.{Config}
-use Rattle.jc_model.specs.declared.event.Op.{Op}
-use Rattle.jc_model.specs.declared.event.Op.TheVariants.{Invoke}
-use Rattle.jc_model.specs.declared.event.LoadAnswer.{LoadAnswer}
-use Rattle.jc_model.specs.declared.event.LoadAnswer.TheVariants as load
-use Rattle.jc_model.specs.declared.event.WriteAnswer.{WriteAnswer}
-use Rattle.jc_model.specs.declared.event.WriteAnswer.TheVariants as write
-use Rattle.jc_model.specs.declared.event.ProcessAnswer.{ProcessAnswer}
-use Rattle.jc_model.specs.declared.event.ProcessAnswer.TheVariants as process
+use Rattle.jc_world.proofs.Common.{◌≡◌, Bool, true, false, cond, is_some, is_none, None, Option, sym, refl, ap, Caller, Config, Bytes, is_write_given, is_invoke, entry_after, LoadAnswer, Op, Invoke, ProcessAnswer, WriteAnswer, ProcessResult, effect_change, invokes, change_due, Begins, reserves, load_joined, State, is_reserved, ProcessClaim, asks_processor, Begun, First, Nobody, Reservation, Agrees, LoadAgrees, WriteAgrees}
 use Rattle.jc_model.specs.declared.event.Effect.TheVariants as effect
-use Rattle.jc_model.specs.Cache.{Bytes}
-use Rattle.jc_model.specs.Table.{is_invoke, is_write_given, entry_after}
-use Rattle.jc_mutentry.specs.Done.{ProcessResult, effect_change}
-use Rattle.jc_stripe.specs.declared.ticket.First.{First}
-use Rattle.jc_stripe.specs.declared.ticket.First.TheVariants.{Nobody, Loader, Writer, Processor}
-use Rattle.jc_stripe.specs.declared.ticket.Reservation.{Reservation}
-use Rattle.jc_stripe.specs.declared.begun.Begun.TheVariants as begun
-use Rattle.jc_stripe.specs.Tickets.{ProcessClaim, asks_processor}
-use Rattle.jc_stripe.specs.Effects.{change_due}
-use Rattle.jc_stripe.specs.State.{State, is_reserved}
-use Rattle.jc_stripe.specs.Refusals.{reserves, load_joined}
-use Rattle.jc_stripe.specs.Phases.{Begins}
-use Rattle.jc_stripe.proofs.CallerLemmas.{invokes}
-use Rattle.jc_world.specs.Sound.{Agrees, LoadAgrees, WriteAgrees}
 use Rattle.jc_world.proofs.Reservations.{was_free}
 
 -- 1. A processor's ticket.
@@ -41,11 +17,9 @@ alone_invoking s key op h = cc
 
 processor_reserves : (first : First) → asks_processor first ≡ true → reserves first ≡ true
 processor_reserves Nobody h = cc
-processor_reserves Loader h = refl
-processor_reserves (Writer change) h = refl
-processor_reserves (Processor entry loads) h = refl
+processor_reserves first h = refl
 
-pub processor_free : (s to : State) (caller : Caller) (key : Bytes) (op : Op) (ticket : ProcessClaim) → Begins s caller key op (begun.Process ticket) to → is_reserved s key ≡ false
+pub processor_free : (s to : State) (caller : Caller) (key : Bytes) (op : Op) (ticket : ProcessClaim) → Begins s caller key op (Begun.Process ticket) to → is_reserved s key ≡ false
 processor_free s to caller key op ticket begins =
     was_free s caller key op ticket.reservation.first begins.0 (alone_invoking s key op (invokes s to caller key op ticket begins)) begins.1 (processor_reserves ticket.reservation.first begins.2)
 
@@ -59,51 +33,29 @@ pub write_due : (config : Config) (done : ProcessResult Reservation) → config.
 write_due config done on = ap (λ b. cond b (effect_change done.load done.process) None) on
 
 pub agrees_processed : (loaded : LoadAnswer) (process : ProcessAnswer) (entry stored : Option Bytes) → is_none (effect_change loaded process) ≡ true → LoadAgrees loaded stored entry
-    → Agrees (entry_after Invoke entry (record { load = loaded; write = write.NotAsked; process = process })) stored
-agrees_processed load.NotAsked process.NotAsked entry stored none h = h.unwritten
-agrees_processed load.NotAsked (process.Failed code) entry stored none h = h.unwritten
-agrees_processed load.NotAsked (process.Ended effect.Keep outcome) entry stored none h = h.unwritten
-agrees_processed load.NotAsked (process.Ended (effect.Set next) outcome) entry stored none h = cc
-agrees_processed load.NotAsked (process.Ended effect.Remove outcome) entry stored none h = cc
-agrees_processed (load.Found value) process.NotAsked entry stored none h = h.loaded
-agrees_processed (load.Found value) (process.Failed code) entry stored none h = h.unwritten
-agrees_processed (load.Found value) (process.Ended effect.Keep outcome) entry stored none h = h.loaded
-agrees_processed (load.Found value) (process.Ended (effect.Set next) outcome) entry stored none h = cc
-agrees_processed (load.Found value) (process.Ended effect.Remove outcome) entry stored none h = cc
-agrees_processed load.Nothing process.NotAsked entry stored none h = h.unwritten
-agrees_processed load.Nothing (process.Failed code) entry stored none h = h.unwritten
-agrees_processed load.Nothing (process.Ended effect.Keep outcome) entry stored none h = h.unwritten
-agrees_processed load.Nothing (process.Ended (effect.Set next) outcome) entry stored none h = cc
-agrees_processed load.Nothing (process.Ended effect.Remove outcome) entry stored none h = cc
-agrees_processed (load.Failed code) process entry stored none h = h.unwritten
+    → Agrees (entry_after Invoke entry (record { load = loaded; write = WriteAnswer.NotAsked; process = process })) stored
+agrees_processed LoadAnswer.NotAsked (ProcessAnswer.Ended (effect.Set next) outcome) entry stored none h = cc
+agrees_processed LoadAnswer.NotAsked (ProcessAnswer.Ended effect.Remove outcome) entry stored none h = cc
+agrees_processed (LoadAnswer.Found value) ProcessAnswer.NotAsked entry stored none h = h.loaded
+agrees_processed (LoadAnswer.Found value) (ProcessAnswer.Ended effect.Keep outcome) entry stored none h = h.loaded
+agrees_processed (LoadAnswer.Found value) (ProcessAnswer.Ended (effect.Set next) outcome) entry stored none h = cc
+agrees_processed (LoadAnswer.Found value) (ProcessAnswer.Ended effect.Remove outcome) entry stored none h = cc
+agrees_processed LoadAnswer.Nothing (ProcessAnswer.Ended (effect.Set next) outcome) entry stored none h = cc
+agrees_processed LoadAnswer.Nothing (ProcessAnswer.Ended effect.Remove outcome) entry stored none h = cc
+agrees_processed loaded process entry stored none h = h.unwritten
 
 pub agrees_effect : (loaded : LoadAnswer) (process : ProcessAnswer) (is_changed : Bool) (report : WriteAnswer) (entry stored : Option Bytes) → is_some (effect_change loaded process) ≡ true → is_write_given report ≡ true
     → WriteAgrees (effect_change loaded process) is_changed report stored entry → Agrees (entry_after Invoke entry (record { load = loaded; write = report; process = process })) stored
-agrees_effect load.NotAsked process.NotAsked is_changed report entry stored due given h = cc
-agrees_effect load.NotAsked (process.Failed code) is_changed report entry stored due given h = cc
-agrees_effect load.NotAsked (process.Ended effect.Keep outcome) is_changed report entry stored due given h = cc
-agrees_effect load.NotAsked (process.Ended (effect.Set next) outcome) is_changed write.NotAsked entry stored due given h = cc
-agrees_effect load.NotAsked (process.Ended (effect.Set next) outcome) is_changed write.Done entry stored due given h = h.written (sym (h.honest refl))
-agrees_effect load.NotAsked (process.Ended (effect.Set next) outcome) is_changed (write.Failed code) entry stored due given h = h.unwritten (sym (h.honest refl))
-agrees_effect load.NotAsked (process.Ended effect.Remove outcome) is_changed write.NotAsked entry stored due given h = cc
-agrees_effect load.NotAsked (process.Ended effect.Remove outcome) is_changed write.Done entry stored due given h = tt
-agrees_effect load.NotAsked (process.Ended effect.Remove outcome) is_changed (write.Failed code) entry stored due given h = h.unwritten (sym (h.honest refl))
-agrees_effect (load.Found value) process.NotAsked is_changed report entry stored due given h = cc
-agrees_effect (load.Found value) (process.Failed code) is_changed report entry stored due given h = cc
-agrees_effect (load.Found value) (process.Ended effect.Keep outcome) is_changed report entry stored due given h = cc
-agrees_effect (load.Found value) (process.Ended (effect.Set next) outcome) is_changed write.NotAsked entry stored due given h = cc
-agrees_effect (load.Found value) (process.Ended (effect.Set next) outcome) is_changed write.Done entry stored due given h = h.written (sym (h.honest refl))
-agrees_effect (load.Found value) (process.Ended (effect.Set next) outcome) is_changed (write.Failed code) entry stored due given h = h.unwritten (sym (h.honest refl))
-agrees_effect (load.Found value) (process.Ended effect.Remove outcome) is_changed write.NotAsked entry stored due given h = cc
-agrees_effect (load.Found value) (process.Ended effect.Remove outcome) is_changed write.Done entry stored due given h = tt
-agrees_effect (load.Found value) (process.Ended effect.Remove outcome) is_changed (write.Failed code) entry stored due given h = h.unwritten (sym (h.honest refl))
-agrees_effect load.Nothing process.NotAsked is_changed report entry stored due given h = cc
-agrees_effect load.Nothing (process.Failed code) is_changed report entry stored due given h = cc
-agrees_effect load.Nothing (process.Ended effect.Keep outcome) is_changed report entry stored due given h = cc
-agrees_effect load.Nothing (process.Ended (effect.Set next) outcome) is_changed write.NotAsked entry stored due given h = cc
-agrees_effect load.Nothing (process.Ended (effect.Set next) outcome) is_changed write.Done entry stored due given h = h.written (sym (h.honest refl))
-agrees_effect load.Nothing (process.Ended (effect.Set next) outcome) is_changed (write.Failed code) entry stored due given h = h.unwritten (sym (h.honest refl))
-agrees_effect load.Nothing (process.Ended effect.Remove outcome) is_changed write.NotAsked entry stored due given h = cc
-agrees_effect load.Nothing (process.Ended effect.Remove outcome) is_changed write.Done entry stored due given h = tt
-agrees_effect load.Nothing (process.Ended effect.Remove outcome) is_changed (write.Failed code) entry stored due given h = h.unwritten (sym (h.honest refl))
-agrees_effect (load.Failed code) process is_changed report entry stored due given h = cc
+agrees_effect LoadAnswer.NotAsked (ProcessAnswer.Ended (effect.Set next) outcome) is_changed WriteAnswer.Done entry stored due given h = h.written (sym (h.honest refl))
+agrees_effect LoadAnswer.NotAsked (ProcessAnswer.Ended (effect.Set next) outcome) is_changed (WriteAnswer.Failed code) entry stored due given h = h.unwritten (sym (h.honest refl))
+agrees_effect LoadAnswer.NotAsked (ProcessAnswer.Ended effect.Remove outcome) is_changed WriteAnswer.Done entry stored due given h = tt
+agrees_effect LoadAnswer.NotAsked (ProcessAnswer.Ended effect.Remove outcome) is_changed (WriteAnswer.Failed code) entry stored due given h = h.unwritten (sym (h.honest refl))
+agrees_effect (LoadAnswer.Found value) (ProcessAnswer.Ended (effect.Set next) outcome) is_changed WriteAnswer.Done entry stored due given h = h.written (sym (h.honest refl))
+agrees_effect (LoadAnswer.Found value) (ProcessAnswer.Ended (effect.Set next) outcome) is_changed (WriteAnswer.Failed code) entry stored due given h = h.unwritten (sym (h.honest refl))
+agrees_effect (LoadAnswer.Found value) (ProcessAnswer.Ended effect.Remove outcome) is_changed WriteAnswer.Done entry stored due given h = tt
+agrees_effect (LoadAnswer.Found value) (ProcessAnswer.Ended effect.Remove outcome) is_changed (WriteAnswer.Failed code) entry stored due given h = h.unwritten (sym (h.honest refl))
+agrees_effect LoadAnswer.Nothing (ProcessAnswer.Ended (effect.Set next) outcome) is_changed WriteAnswer.Done entry stored due given h = h.written (sym (h.honest refl))
+agrees_effect LoadAnswer.Nothing (ProcessAnswer.Ended (effect.Set next) outcome) is_changed (WriteAnswer.Failed code) entry stored due given h = h.unwritten (sym (h.honest refl))
+agrees_effect LoadAnswer.Nothing (ProcessAnswer.Ended effect.Remove outcome) is_changed WriteAnswer.Done entry stored due given h = tt
+agrees_effect LoadAnswer.Nothing (ProcessAnswer.Ended effect.Remove outcome) is_changed (WriteAnswer.Failed code) entry stored due given h = h.unwritten (sym (h.honest refl))
+agrees_effect loaded process is_changed report entry stored due given h = cc

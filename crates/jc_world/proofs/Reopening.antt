@@ -1,15 +1,6 @@
 -- A sound world in which no key is reserved, and that is coherent, is sound if the premises are taken to have held so far.
-use Rattle.std.proofs.Common.{◌≡◌, ◌∙◌, None, Some, Option, sym, ap, subst}
-use Rattle.std.specs.FinMap.{get}
-use Rattle.jc_model.specs.Cache.{Bytes, entry_at}
-use Rattle.jc_world.specs.declared.event.Part.{Part}
-use Rattle.jc_world.specs.declared.event.Premises.{Premises}
-use Rattle.jc_world.specs.World.{WorldState, cached_entry, has_changed, has_progress}
-use Rattle.jc_world.specs.Coherent.{Coherent}
-use Rattle.jc_world.specs.Headline.{with_all_premises}
-use Rattle.jc_world.specs.Sound.{KeyAgrees, IsSoundWorld}
-use Rattle.jc_world.proofs.Halves.{HasParts, sound}
-use Rattle.jc_world.proofs.Beginning.{order_stored}
+use Rattle.jc_world.proofs.Common.{◌≡◌, Some, None, sym, ap, ◌∙◌, get, Bytes, Premises, Coherent, with_all_premises, IsSoundWorld, WorldState, has_progress, has_changed}
+use Rattle.jc_world.proofs.Lemmas.{HasParts, sound, order_stored}
 use Rattle.jc_world.proofs.Joins.{joins_stored}
 
 -- without a part each cached value is the store's
@@ -17,8 +8,7 @@ parts_reopened : (w : WorldState) → ((key : Bytes) → get w.parts key ≡ Non
 parts_reopened w none coherent old = record {
   held = λ key part there. absurd (let e : Some part ≡ None = sym there ∙ none key in cc);
   told = λ hold key.
-      let P : Option Part → Type 0 = λ o. KeyAgrees o (entry_at w.store key) (cached_entry w key) in
-      subst P (sym (none key)) (coherent key (ap (has_progress has_changed) (none key)));
+      rw (none key) (coherent key (ap (has_progress has_changed) (none key)));
   cold = old.cold;
   idle = old.idle;
 }

@@ -1,15 +1,7 @@
 -- The keys of a call that wait for a writer's return.
 --     reported_more   what a return shows of one task more
 --     none_any        not none of some keys is one of them
-use Rattle.std.proofs.Common.{◌≡◌, ◌+◌, ◌++◌, ℕ, List, [], ◌∷◌, Bool, true, false, not, ◌&&◌, ◌||◌, filter, take, slice_get, Some, refl, sym, ap, ◌∙◌}
-use Rattle.std.specs.List.{list_all, list_any}
-use Rattle.std.specs.Map.{keys_of}
-use Rattle.std.proofs.lemmas.List.{take_more, map-append}
-use Rattle.std.proofs.lemmas.List.Elements.{filter-append, filter_map-append}
-use Rattle.std.proofs.lemmas.Option.{get_or_from_slice_get, slice_get_within}
-use Rattle.jc_world.specs.Calls.{Task, is_open, open_in}
-use Rattle.jc_world.specs.World.{Parts}
-use Rattle.jc_world.specs.Events.{reported_key, reported_keys}
+use Rattle.jc_world.proofs.Common.{◌≡◌, ℕ, ◌+◌, Bool, true, false, not, ◌&&◌, ◌||◌, List, [], ◌∷◌, ◌++◌, take, slice_get, Some, filter, sym, refl, ap, ◌∙◌, map-append, take_more, filter_map-append, filter-append, slice_get_within, get_or_from_slice_get, list_any, list_all, keys_of, Task, is_open, open_in, reported_key, reported_keys, Parts}
 
 open_append : (xs ys : List Task) → open_in (xs ++ ys) ≡ open_in xs ++ open_in ys
 open_append xs ys = ap keys_of (filter-append is_open xs ys) ∙ map-append (λ (t : Task). t.0) (filter is_open xs) (filter is_open ys)

@@ -1,27 +1,7 @@
 -- A reservation stays out when the stripe's reservations change.
-use Rattle.std.proofs.Common.{◌≡◌, ◌==◌, ◌&&◌, ◌||◌, ℕ, List, [], ◌∷◌, ◌++◌, Bool, true, false, cond, not, Option, None, Some, find, refl, sym, ap, ◌∙◌, is_some, is_none}
-use Rattle.std.specs.Option.{option_or}
-use Rattle.std.specs.List.{list_any}
-use Rattle.std.specs.Cmp.Lexicographic.{pointwise, texts_ties}
-use Rattle.std.specs.Ordering.{eq_by_cmp}
-use Rattle.std.proofs.lemmas.Cmp.{nat_list_eq_equiv}
-use Rattle.std.proofs.lemmas.List.Folds.{find-append}
-use Rattle.std.proofs.lemmas.Bool.{false_from_ne_true}
-use Rattle.jc_types.specs.declared.caller.Caller.{Caller}
-use Rattle.jc_types.specs.declared.config.Config.{Config}
-use Rattle.jc_types.specs.declared.refusal.Refusal.{Refusal}
-use Rattle.jc_types.specs.declared.refusal.Refusal.TheVariants as refusal
-use Rattle.jc_model.specs.declared.event.Op.{Op}
-use Rattle.jc_model.specs.declared.event.Op.TheVariants.{Get, ContainsKey}
-use Rattle.jc_model.specs.Cache.{Bytes, key_cmp, entry_at}
-use Rattle.jc_model.specs.Table.{always_if}
-use Rattle.jc_model.proofs.CallerLemmas.{same_key}
-use Rattle.jc_stripe.specs.declared.ticket.Reservation.{Reservation}
-use Rattle.jc_stripe.specs.Tickets.{asks_writer}
-use Rattle.jc_stripe.specs.State.{State, is_key, is_reserved, without_key}
-use Rattle.jc_stripe.specs.Refusals.{first_refusal, first_asked, first_by, writer_for, reserves, has_room, places_needed, answers_at_once, needs_free_key, load_joined}
-use Rattle.jc_stripe.specs.declared.ticket.First.{First}
-use Rattle.jc_stripe.specs.declared.ticket.First.TheVariants.{Nobody, Loader}
+use Rattle.jc_world.proofs.Common.{◌≡◌, ℕ, Bool, true, false, cond, not, ◌&&◌, ◌||◌, List, [], ◌∷◌, ◌++◌, is_some, is_none, ◌==◌, Some, None, Option, find, sym, refl, ap, ◌∙◌, false_from_ne_true, nat_list_eq_equiv, find-append, pointwise, texts_ties, list_any, option_or, eq_by_cmp, Caller, Config, Refusal, same_key, Bytes, entry_at, key_cmp, always_if, Op, ContainsKey, Get, writer_for, first_by, first_asked, reserves, answers_at_once, load_joined, needs_free_key, places_needed, first_refusal, State, is_key, is_reserved, without_key, asks_writer, First, Loader, Nobody, Reservation}
+use Rattle.jc_stripe.specs.Refusals.{has_room}
+use Rattle.jc_stripe.proofs.CallerLemmas.{asks_none, answering_asks}
 use Rattle.jc_world.proofs.Joiners.{find_kept}
 
 -- what is found is found in a longer list
@@ -38,32 +18,13 @@ out_reserved key r (x ∷ xs) h =
     ] h
 
 -- only what needs no free key is not refused as busy
-pick : (room is_there needs : Bool) (other : Option Refusal) → cond (not room) (Some refusal.HistoryFull) (cond (is_there && needs) (Some refusal.Busy) other) ≡ None → is_there ≡ true → needs ≡ false
-pick false is_there needs other h e = cc
-pick true false needs other h e = cc
+pick : (room is_there needs : Bool) (other : Option Refusal) → cond (not room) (Some Refusal.HistoryFull) (cond (is_there && needs) (Some Refusal.Busy) other) ≡ None → is_there ≡ true → needs ≡ false
 pick true true false other h e = refl
-pick true true true other h e = cc
+pick room is_there needs other h e = cc
 
 -- a call that is not refused at a reserved key needs no free key
 needs_none : (s : State) (caller : Caller) (key : Bytes) (op : Op) → first_refusal s caller key op ≡ None → is_reserved s key ≡ true → needs_free_key s key op ≡ false
 needs_none s caller key op none there = pick (has_room s caller.call (places_needed (needs_free_key s key op))) (is_reserved s key) (needs_free_key s key op) _ none there
-
--- if there is nothing to write, nobody is asked
-asks_none : (b : Bool) → writer_for (cond b None None) ≡ Nobody
-asks_none true = refl
-asks_none false = refl
-
--- a `Get` that answers at once asks nobody
-get_asks : (read write : Bool) (entry : Option Bytes) → (is_some entry || not read) ≡ true → first_by (always_if (read && is_none entry)) (cond write None None) ≡ Nobody
-get_asks true write (Some x) h = asks_none write
-get_asks true write None h = cc
-get_asks false write entry h = asks_none write
-
--- what answers at once asks nobody
-answering_asks : (config : Config) (op : Op) (entry : Option Bytes) → answers_at_once config op entry ≡ true → first_asked config op entry ≡ Nobody
-answering_asks config Get entry h = get_asks config.read_through config.write_through entry h
-answering_asks config ContainsKey entry h = asks_none config.write_through
-answering_asks config op entry h = cc
 
 -- what needs no free key and joins no load answers at once
 only_answers : (answers : Bool) (load : Option ℕ) → not (answers || is_some load) ≡ false → load ≡ None → answers ≡ true

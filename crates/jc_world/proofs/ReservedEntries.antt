@@ -6,35 +6,8 @@
 --     StayOut         from one world to a later one: that is so of all stripes
 --     stay_run        so it is in every run
 --     stays_held      so the entry of a key stays, if its reservation is the same
-use Rattle.std.proofs.Common.{inl, inr, ◌⊎◌, ◌≡◌, ◌<◌, ◌≤◌, ℕ, List, [], ◌∷◌, ◌++◌, Bool, true, false, cond, not, None, Some, find, filter, slice_get, slice_set, refl, sym, ap, ◌∙◌, subst, arith}
-use Rattle.std.specs.FinMap.{get}
-use Rattle.jc_types.specs.declared.config.Config.{Config}
-use Rattle.jc_types.specs.Stripes.{stripe_of}
-use Rattle.jc_model.specs.declared.event.Op.{Op}
-use Rattle.jc_model.specs.Cache.{Bytes, entry_at}
-use Rattle.jc_stripe.specs.declared.begun.Begun.TheVariants as begun
-use Rattle.jc_stripe.specs.declared.ticket.Reservation.{Reservation}
-use Rattle.jc_stripe.specs.Tickets.{Ticket, ProcessClaim, JoinClaim}
-use Rattle.jc_stripe.specs.State.{State, is_key, is_reserved, without_key, with_reservation, without_reservation, IsOut}
-use Rattle.jc_stripe.specs.Reached.{IsReached}
-use Rattle.jc_stripe.specs.Laws.{KeepsReserved}
-use Rattle.jc_world.specs.Calls.{CallState}
-use Rattle.jc_world.specs.declared.event.Part.{Part}
-use Rattle.jc_world.specs.declared.event.Shown.{Shown}
-use Rattle.jc_world.specs.declared.event.Outcome.{Outcome}
-use Rattle.jc_world.specs.declared.event.Outcome.TheVariants as outcome
-use Rattle.jc_world.specs.declared.event.WorldEvent.{WorldEvent}
-use Rattle.jc_world.specs.declared.event.WorldEvent.TheVariants as event
-use Rattle.jc_world.specs.World.{WorldState, home, stripe_for, entry_in, cached_entry, out_of}
-use Rattle.jc_world.specs.Events.{step_of, Starts, Ends, Picks, Happens, Step, Run}
-use Rattle.jc_world.specs.Reserved.{is_appended}
-use Rattle.jc_world.specs.Sound.{IsHeld, IsSoundWorld}
-use Rattle.jc_world.proofs.Numbered.{some_of}
-use Rattle.jc_world.proofs.Places.{at_stripe}
-use Rattle.jc_world.proofs.LoadKeys.{found_holds}
-use Rattle.jc_world.proofs.Reservations.{out_reserved, found_left}
-use Rattle.jc_world.proofs.Entries.{split}
-use Rattle.jc_world.proofs.Beside.{beside}
+use Rattle.jc_world.proofs.Common.{◌≡◌, ℕ, ◌<◌, ◌≤◌, Bool, true, false, cond, not, ◌⊎◌, List, [], ◌∷◌, ◌++◌, slice_get, slice_set, Some, None, filter, find, sym, refl, ap, ◌∙◌, subst, inl, inr, arith, get, stripe_of, Config, Bytes, entry_at, Op, KeepsReserved, IsReached, State, is_key, is_reserved, with_reservation, without_key, without_reservation, IsOut, Ticket, ProcessClaim, JoinClaim, Begun, Reservation, Outcome, Part, Shown, WorldEvent, CallState, step_of, Starts, Ends, Picks, Happens, Step, Run, is_appended, IsHeld, IsSoundWorld, WorldState, home, stripe_for, entry_in, cached_entry, out_of}
+use Rattle.jc_world.proofs.Lemmas.{found_holds, at_stripe, split, out_reserved, found_left, KeyChange, by_nothing, by_refusal, by_step, by_reservation, by_join, by_commit, by_withdrawal, by_answer, by_retry, StripeChange, by_key, beside_stripes, change_of, Move, no_move, quiet_move, step_move, move_step, some_of, beside}
 use Rattle.jc_world.proofs.Sounding.{Laws, sound_step}
 
 -- 1. Events that append no step.
@@ -46,48 +19,14 @@ IsUnmoved old new = (new.order ≡ old.order) × ((key : Bytes) → cached_entry
 cached_set : (w : WorldState) (key q : Bytes) (from to : State) → stripe_for w key ≡ Some from → to.cache ≡ from.cache → entry_in (slice_get (slice_set w.stripes (home w key) to) (home w q)) q ≡ cached_entry w q
 cached_set w key q from to there same = at_stripe w.stripes (home w key) (home w q) from to (λ o x. entry_in x q ≡ entry_in o q) there (ap (λ c. entry_at c q) same) refl
 
--- the first phase
-unmoved_started : (w new : WorldState) (u : CallState) (key : Bytes) (op : Op) (from to : State) (seen : Outcome) → stripe_for w key ≡ Some from → Starts w u.caller key op from to seen new → is_appended seen ≡ false → IsUnmoved w new
-unmoved_started w new u key op from to (outcome.Refused refusal) there h none = subst (IsUnmoved w) (sym h.1) (refl, λ q. refl)
-unmoved_started w new u key op from to (outcome.PutOff refusal) there h none = subst (IsUnmoved w) (sym h.1) (refl, λ q. refl)
-unmoved_started w new u key op from to (outcome.Stepped seen) there h none = absurd (let t : true ≡ false = none in cc)
-unmoved_started w new u key op from to outcome.Loads there h none = subst (IsUnmoved w) (sym h.2) (refl, λ q. cached_set w key q from to there (ap (λ (s : State). s.cache) h.1.4))
-unmoved_started w new u key op from to (outcome.Asks change) there h none = subst (IsUnmoved w) (sym h.3) (refl, λ q. cached_set w key q from to there (ap (λ (s : State). s.cache) h.1.4))
-unmoved_started w new u key op from to (outcome.Processes entry) there h none = subst (IsUnmoved w) (sym h.3) (refl, λ q. cached_set w key q from to there (ap (λ (s : State). s.cache) h.1.4))
-unmoved_started w new u key op from to outcome.Joins there h none = subst (IsUnmoved w) (sym h.2) (refl, λ q. cached_set w key q from to there (ap (λ (s : State). s.cache) h.1.3))
-unmoved_started w new u key op from to seen there h none = absurd h
-
--- the last phase shows its step
-unmoved_ended : (w new : WorldState) (call : ℕ) (key : Bytes) (part : Part) (from to : State) (seen : Outcome) → Ends w call key part from to seen new → is_appended seen ≡ false → IsUnmoved w new
-unmoved_ended w new call key part from to (outcome.Stepped seen) h none = absurd (let t : true ≡ false = none in cc)
-unmoved_ended w new call key part from to seen h none = absurd h
-
--- a pick-up
-unmoved_picks : (w new : WorldState) (call : ℕ) (key : Bytes) (join : JoinClaim) (from to : State) (seen : Outcome) → stripe_for w key ≡ Some from → Picks w call key join from to seen new → IsUnmoved w new
-unmoved_picks w new call key join from to (outcome.PickedUp seen) there h = subst (IsUnmoved w) (sym h.2) (refl, λ q. cached_set w key q from to there (ap (λ (s : State). s.cache) h.0.3))
-unmoved_picks w new call key join from to outcome.Again there h = subst (IsUnmoved w) (sym h.1) (refl, λ q. cached_set w key q from to there (ap (λ (s : State). s.cache) h.0.2))
-unmoved_picks w new call key join from to outcome.Waits there h = subst (IsUnmoved w) (sym h.1) (refl, λ q. refl)
-unmoved_picks w new call key join from to seen there h = absurd h
-
--- by the kind of the event
-unmoved_happens : (w new : WorldState) (e : WorldEvent) (seen : Shown) → Happens w e seen new → is_appended seen.outcome ≡ false → IsUnmoved w new
-unmoved_happens w new (event.Call call session command) seen h none = subst (IsUnmoved w) (sym h.1) (refl, λ q. refl)
-unmoved_happens w new (event.Look call stripe) seen h none = subst (IsUnmoved w) (sym h.9) (refl, λ q. refl)
-unmoved_happens w new (event.Start call key) seen h none = unmoved_started w new h.0 key h.1 h.4 h.6 seen.outcome h.5 h.7 none
-unmoved_happens w new (event.Read call key) seen h none = subst (IsUnmoved w) (sym h.3) (refl, λ q. refl)
-unmoved_happens w new (event.Say call key answer) seen h none = subst (IsUnmoved w) (sym h.3) (refl, λ q. refl)
-unmoved_happens w new (event.Process call key source calls fail) seen h none = subst (IsUnmoved w) (sym h.3) (refl, λ q. refl)
-unmoved_happens w new (event.Change call key) seen h none = subst (IsUnmoved w) (sym h.5) (refl, λ q. refl)
-unmoved_happens w new (event.Report call left fault) seen h none = subst (IsUnmoved w) (sym (beside w new call h.0 left fault h.3).is) (refl, λ q. refl)
-unmoved_happens w new (event.Commit call key) seen h none = unmoved_ended w new call key h.0 h.2 h.4 seen.outcome h.5 none
-unmoved_happens w new (event.Withdraw call key) seen h none = subst (IsUnmoved w) (sym h.7) (refl, λ q. cached_set w key q h.2 h.4 h.3 (ap (λ (s : State). s.cache) h.5.1))
-unmoved_happens w new (event.Leave call) seen h none = subst (IsUnmoved w) (sym h.1) (refl, λ q. refl)
-unmoved_happens w new (event.PickUp call key) seen h none = unmoved_picks w new call key h.0 h.2 h.4 seen.outcome h.3 h.5
-unmoved_happens w new (event.Foreign key value) seen h none = subst (IsUnmoved w) (sym h.1) (refl, λ q. refl)
+unmoved_as : (w new : WorldState) (seen : Outcome) → Move w new seen → is_appended seen ≡ false → IsUnmoved w new
+unmoved_as w new seen (no_move config stripes order) none = (order, λ q. λ i. entry_in (slice_get (stripes i) (stripe_of q (config i).stripes)) q)
+unmoved_as w new seen (quiet_move key from to there config stripes order cache) none =
+    (order, λ q. (λ i. entry_in (slice_get (stripes i) (stripe_of q (config i).stripes)) q) ∙ cached_set w key q from to there cache)
+unmoved_as w new seen (step_move from to x config order shows) none = let t : true ≡ false = sym (ap is_appended shows) ∙ none in cc
 
 pub unmoved_step : (w new : WorldState) (e : WorldEvent) (seen : Shown) → Step w e seen new → is_appended seen.outcome ≡ false → IsUnmoved w new
-unmoved_step w new e seen (inl (fit, happens)) none = unmoved_happens w new e seen happens none
-unmoved_step w new e seen (inr (unfit, shows, is)) none = subst (IsUnmoved w) (sym is) (refl, λ q. refl)
+unmoved_step w new e seen step none = unmoved_as w new seen.outcome (move_step w new e seen step) none
 
 -- 2. A reservation that is still out.
 
@@ -192,76 +131,47 @@ stay_set w n key from to config stripes there stays = record {
       (ap (λ ss. slice_get ss number) (sym stripes) ∙ at);
 }
 
--- the first phase
-stay_started : KeepsReserved → (w new : WorldState) (u : CallState) (key : Bytes) (op : Op) (from to : State) (seen : Outcome) → stripe_for w key ≡ Some from → IsReached from → Starts w u.caller key op from to seen new → StayOut w new
-stay_started kept w new u key op from to (outcome.Refused refusal) there reached h = stay_beside w new _ h.1 refl refl
-stay_started kept w new u key op from to (outcome.PutOff refusal) there reached h = stay_beside w new _ h.1 refl refl
-stay_started kept w new u key op from to (outcome.Stepped seen) there reached h =
-    stay_set w new key from to (ap (λ (x : WorldState). x.config) h.2) (ap (λ (x : WorldState). x.stripes) h.2) there
-    (stays_kept from to (ap (λ (s : State). s.next) h.0.2.after) (ap (λ (s : State). s.reservations) h.0.2.after)
-    (λ q out. kept.begins from to u.caller key op (begun.Done (step_of seen)) q reached h.0 out))
-stay_started kept w new u key op from to outcome.Loads there reached h =
-    stay_set w new key from to (ap (λ (x : WorldState). x.config) h.2) (ap (λ (x : WorldState). x.stripes) h.2) there
-    (stays_reserving from to h.0.reservation h.1.4 (ap (λ (t : Ticket). t.reservation.number) h.1.3))
-stay_started kept w new u key op from to (outcome.Asks change) there reached h =
-    stay_set w new key from to (ap (λ (x : WorldState). x.config) h.3) (ap (λ (x : WorldState). x.stripes) h.3) there
-    (stays_reserving from to h.0.reservation h.1.4 (ap (λ (t : Ticket). t.reservation.number) h.1.3))
-stay_started kept w new u key op from to (outcome.Processes entry) there reached h =
-    stay_set w new key from to (ap (λ (x : WorldState). x.config) h.3) (ap (λ (x : WorldState). x.stripes) h.3) there
-    (stays_reserving from to h.0.reservation h.1.4 (ap (λ (t : ProcessClaim). t.reservation.number) h.1.3))
-stay_started kept w new u key op from to outcome.Joins there reached h =
-    stay_set w new key from to (ap (λ (x : WorldState). x.config) h.2) (ap (λ (x : WorldState). x.stripes) h.2) there
-    (stays_kept from to (ap (λ (s : State). s.next) h.1.3) (ap (λ (s : State). s.reservations) h.1.3) (λ q out. ap (λ (s : State). entry_at s.cache q) h.1.3))
-stay_started kept w new u key op from to seen there reached h = absurd h
-
--- the last phase
-stay_ended : KeepsReserved → (w new : WorldState) (call : ℕ) (key : Bytes) (part : Part) (from to : State) (seen : Outcome) → stripe_for w key ≡ Some from → IsReached from → Ends w call key part from to seen new → StayOut w new
-stay_ended kept w new call key part from to (outcome.Stepped seen) there reached h =
+-- by the kind of the change at a key
+stay_key : KeepsReserved → (w new : WorldState) (e : WorldEvent) (key : Bytes) (seen : Shown) → KeyChange w new e key seen → IsSoundWorld w → StayOut w new
+stay_key kept w new e key seen (by_nothing is none ends) old = stay_beside w new w is refl refl
+stay_key kept w new e key seen (by_refusal u op refusal may is none ends) old = stay_beside w new _ is refl refl
+stay_key kept w new e key seen (by_step u op from to x may there h home_is is shows ends) old =
+    stay_set w new key from to (ap (λ (v : WorldState). v.config) is) (ap (λ (v : WorldState). v.stripes) is) there
+    (stays_kept from to (ap (λ (s : State). s.next) h.2.after) (ap (λ (s : State). s.reservations) h.2.after)
+    (λ q out. kept.begins from to u.caller key op (Begun.Done (step_of x)) q (old.shape.each (home w key) from there).reached h out))
+stay_key kept w new e key seen (by_reservation u op from to p r may there h is none ends) old =
+    stay_set w new key from to (ap (λ (v : WorldState). v.config) is) (ap (λ (v : WorldState). v.stripes) is) there (stays_reserving from to r h.after (ap (λ (x : Reservation). x.number) h.is))
+stay_key kept w new e key seen (by_join u op from to join may there h is none ends) old =
+    stay_set w new key from to (ap (λ (v : WorldState). v.config) is) (ap (λ (v : WorldState). v.stripes) is) there
+    (stays_kept from to (ap (λ (s : State). s.next) h.3) (ap (λ (s : State). s.reservations) h.3) (λ q out. ap (λ (s : State). entry_at s.cache q) h.3))
+stay_key kept w new e key seen (by_commit call part from to x e_is part_is there h home_is is shows) old =
     let r = part.reservation in
-    stay_set w new key from to (ap (λ (x : WorldState). x.config) h.2) (ap (λ (x : WorldState). x.stripes) h.2) there
-    (stays_released from to r.key (ap (λ (s : State). s.next) h.0.1.after) (ap (λ (s : State). s.reservations) h.0.1.after)
-    (λ q out. kept.commits from to r (out_of part) (step_of seen) q reached h.0 out))
-stay_ended kept w new call key part from to seen there reached h = absurd h
-
--- a pick-up
-stay_picks : (w new : WorldState) (call : ℕ) (key : Bytes) (join : JoinClaim) (from to : State) (seen : Outcome) → stripe_for w key ≡ Some from → Picks w call key join from to seen new → StayOut w new
-stay_picks w new call key join from to (outcome.PickedUp seen) there h =
-    stay_set w new key from to (ap (λ (x : WorldState). x.config) h.2) (ap (λ (x : WorldState). x.stripes) h.2) there
-    (stays_kept from to (ap (λ (s : State). s.next) h.0.3) (ap (λ (s : State). s.reservations) h.0.3) (λ q out. ap (λ (s : State). entry_at s.cache q) h.0.3))
-stay_picks w new call key join from to outcome.Again there h =
-    stay_set w new key from to (ap (λ (x : WorldState). x.config) h.1) (ap (λ (x : WorldState). x.stripes) h.1) there
-    (stays_kept from to (ap (λ (s : State). s.next) h.0.2) (ap (λ (s : State). s.reservations) h.0.2) (λ q out. ap (λ (s : State). entry_at s.cache q) h.0.2))
-stay_picks w new call key join from to outcome.Waits there h = stay_beside w new _ h.1 refl refl
-stay_picks w new call key join from to seen there h = absurd h
-
--- by the kind of the event
-stay_happens : KeepsReserved → (w new : WorldState) (e : WorldEvent) (seen : Shown) → Happens w e seen new → IsSoundWorld w → StayOut w new
-stay_happens kept w new (event.Call call session command) seen h old = stay_beside w new _ h.1 refl refl
-stay_happens kept w new (event.Look call stripe) seen h old = stay_beside w new _ h.9 refl refl
-stay_happens kept w new (event.Start call key) seen h old = stay_started kept w new h.0 key h.1 h.4 h.6 seen.outcome h.5 (old.shape.each (home w key) h.4 h.5).reached h.7
-stay_happens kept w new (event.Read call key) seen h old = stay_beside w new _ h.3 refl refl
-stay_happens kept w new (event.Say call key answer) seen h old = stay_beside w new _ h.3 refl refl
-stay_happens kept w new (event.Process call key source calls fail) seen h old = stay_beside w new _ h.3 refl refl
-stay_happens kept w new (event.Change call key) seen h old = stay_beside w new _ h.5 refl refl
-stay_happens kept w new (event.Report call left fault) seen h old = stay_beside w new _ (beside w new call h.0 left fault h.3).is refl refl
-stay_happens kept w new (event.Commit call key) seen h old = stay_ended kept w new call key h.0 h.2 h.4 seen.outcome h.3 (old.shape.each (home w key) h.2 h.3).reached h.5
-stay_happens kept w new (event.Withdraw call key) seen h old =
-    stay_set w new key h.2 h.4 (ap (λ (x : WorldState). x.config) h.7) (ap (λ (x : WorldState). x.stripes) h.7) h.3
-    (stays_released h.2 h.4 h.0.reservation.key (ap (λ (s : State). s.next) h.5.1) (ap (λ (s : State). s.reservations) h.5.1) (λ q out. ap (λ (s : State). entry_at s.cache q) h.5.1))
-stay_happens kept w new (event.Leave call) seen h old = stay_beside w new _ h.1 refl refl
-stay_happens kept w new (event.PickUp call key) seen h old = stay_picks w new call key h.0 h.2 h.4 seen.outcome h.3 h.5
-stay_happens kept w new (event.Foreign key value) seen h old = stay_beside w new _ h.1 refl refl
+    stay_set w new key from to (ap (λ (v : WorldState). v.config) is) (ap (λ (v : WorldState). v.stripes) is) there
+    (stays_released from to r.key (ap (λ (s : State). s.next) h.1.after) (ap (λ (s : State). s.reservations) h.1.after)
+    (λ q out. kept.commits from to r (out_of part) (step_of x) q (old.shape.each (home w key) from there).reached h out))
+stay_key kept w new e key seen (by_withdrawal call part from to e_is part_is there h is shows) old =
+    stay_set w new key from to (ap (λ (v : WorldState). v.config) is) (ap (λ (v : WorldState). v.stripes) is) there
+    (stays_released from to part.reservation.key (ap (λ (s : State). s.next) h.1) (ap (λ (s : State). s.reservations) h.1) (λ q out. ap (λ (s : State). entry_at s.cache q) h.1))
+stay_key kept w new e key seen (by_answer call join from to x e_is join_is there h home_is is shows ends) old =
+    stay_set w new key from to (ap (λ (v : WorldState). v.config) is) (ap (λ (v : WorldState). v.stripes) is) there
+    (stays_kept from to (ap (λ (s : State). s.next) h.3) (ap (λ (s : State). s.reservations) h.3) (λ q out. ap (λ (s : State). entry_at s.cache q) h.3))
+stay_key kept w new e key seen (by_retry call join from to e_is join_is there h is shows ends) old =
+    stay_set w new key from to (ap (λ (v : WorldState). v.config) is) (ap (λ (v : WorldState). v.stripes) is) there
+    (stays_kept from to (ap (λ (s : State). s.next) h.2) (ap (λ (s : State). s.reservations) h.2) (λ q out. ap (λ (s : State). entry_at s.cache q) h.2))
 
 stay_step : KeepsReserved → (w new : WorldState) (e : WorldEvent) (seen : Shown) → Step w e seen new → IsSoundWorld w → StayOut w new
-stay_step kept w new e seen (inl (fit, happens)) old = stay_happens kept w new e seen happens old
+stay_step kept w new e seen (inl (fit, happens)) old = go (change_of w new e seen happens)
+  where
+    go : StripeChange w new e seen → StayOut w new
+    go (by_key key k) = stay_key kept w new e key seen k old
+    go (beside_stripes m is config stripes order joins none ends) = stay_beside w new m is config stripes
 stay_step kept w new e seen (inr (unfit, shows, is)) old = stay_beside w new w is refl refl
 
 pub stay_run : Laws → (w new : WorldState) (es : List WorldEvent) (ss : List Shown) → Run w es ss new → IsSoundWorld w → StayOut w new
 stay_run laws w new [] [] run old = stay_beside w new w run refl refl
-stay_run laws w new [] (s ∷ ss) run old = absurd run
-stay_run laws w new (e ∷ es) [] run old = absurd run
 stay_run laws w new (e ∷ es) (s ∷ ss) (mid, step, rest) old =
     stay_then w mid new (stay_step laws.kept w mid e s step old) (stay_run laws mid new es ss rest (sound_step laws w e s mid step old))
+stay_run laws w new es ss run old = absurd run
 
 -- 4. A key whose part is of the same reservation.
 
@@ -275,10 +185,9 @@ stays_held w n key was is before after same old new stay =
     let one : Some then.0 ≡ Some from.0 = sym then.1 ∙ from.1 in
     let here : then.0 ≡ from.0 = cc in
     let O : State → Type 0 = λ s. IsOut s r in
-    let R : Reservation → Type 0 = λ x. IsOut now.0 x in
     let below : r.number < from.0.next =
     found_holds (is_key r.key) (λ x. x.number < from.0.next) from.0.reservations r (subst O here then.2.out) (old.shape.each (home w key) from.0 from.1).reached.numbered.below in
-    let kept = (from.2.out r below (subst R same now.2.out)).1 in
+    let kept = (from.2.out r below (subst (λ x. IsOut now.0 x) same now.2.out)).1 in
     ap (λ o. entry_in o key) now.1
     ∙ (λ i. entry_at now.0.cache (sym then.2.key_is i)) ∙ kept ∙ (λ i. entry_at from.0.cache (then.2.key_is i))
     ∙ ap (λ o. entry_in o key) (sym from.1)

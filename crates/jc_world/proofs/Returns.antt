@@ -3,15 +3,7 @@
 --     IsBeside        a world is another one but for its parts and its premises
 --     returned        a return leads to such a world
 --     IsReport        an event is a writer's return
-use Rattle.std.proofs.Common.{◌≡◌, ℕ, List, [], ◌∷◌, true, false, cond, Option, None, Some, refl, ap, ◌∙◌}
-use Rattle.jc_model.specs.Cache.{Bytes}
-use Rattle.jc_model.specs.declared.event.WriteAnswer.{WriteAnswer}
-use Rattle.jc_world.specs.declared.event.Part.{Part}
-use Rattle.jc_world.specs.declared.event.Premises.{Premises}
-use Rattle.jc_world.specs.declared.event.WorldEvent.{WorldEvent}
-use Rattle.jc_world.specs.declared.event.WorldEvent.TheVariants as event
-use Rattle.jc_world.specs.World.{WorldState, Parts, part_of, waits_for_report}
-use Rattle.jc_world.specs.Events.{after_report, reported_at, after_reports}
+use Rattle.jc_world.proofs.Common.{◌≡◌, ℕ, true, false, cond, List, [], ◌∷◌, Some, None, Option, refl, ap, ◌∙◌, Bytes, WriteAnswer, Part, Premises, WorldEvent, after_report, reported_at, after_reports, Parts, WorldState, part_of, waits_for_report}
 
 -- the report for one key keeps this
 abbrev pub KeepsReport : (WorldState → Type 0) → ℕ → (Bytes → WriteAnswer) → Type 0
@@ -53,5 +45,5 @@ returned w new call answer keys is =
     record { parts = all.parts; premises = all.premises; is = is ∙ all.is }
 
 abbrev pub IsReport : WorldEvent → Type 0
-IsReport (event.Report call left fault) = Unit {0}
+IsReport (WorldEvent.Report call left fault) = Unit {0}
 IsReport e = ⊥

@@ -7,19 +7,8 @@
 --     still_called           a call continues at each other key
 --     calls_settled          the calls fit another world
 --     each_settled           a fact of each call
-use Rattle.std.proofs.Common.{◌≡◌, ◌==◌, ◌&&◌, ◌||◌, ℕ, List, [], ◌∷◌, Bool, true, false, cond, not, Option, None, Some, IsSomeAnd, find, filter, is_some, refl, sym, ap, ◌∙◌, subst}
-use Rattle.std.specs.List.{list_all, list_any, cons_option}
-use Rattle.std.specs.Map.{keys_of, lookup, set_value}
-use Rattle.std.specs.Option.{option_flatten}
-use Rattle.std.specs.Cmp.Lexicographic.{pointwise}
-use Rattle.std.proofs.lemmas.Bool.{eq-eqb, eqb-true, and_parts, and_from, or_right, false_from_ne_true, not-true}
-use Rattle.jc_types.specs.declared.caller.Caller.{Caller}
-use Rattle.jc_types.specs.declared.refusal.Refusal.{Refusal}
-use Rattle.jc_model.specs.declared.event.Op.{Op}
-use Rattle.jc_model.specs.Cache.{Bytes}
-use Rattle.jc_world.specs.Calls.{CallState, Task, has_number, op_in, op_at, op_or_found, op_for, is_open, open_in, open_keys, current_key, is_at, is_turn, takes_turns, is_going, going_on, settled, settle}
-use Rattle.jc_world.specs.World.{WorldState}
-use Rattle.jc_world.specs.Sound.{is_apart, FitsCall, CallsFit, IsCallOf, Each}
+use Rattle.jc_world.proofs.Common.{◌≡◌, ℕ, Bool, true, false, cond, not, ◌&&◌, ◌||◌, List, [], ◌∷◌, is_some, IsSomeAnd, ◌==◌, Some, None, filter, Option, find, sym, refl, ap, ◌∙◌, subst, not-true, eqb-true, eq-eqb, and_parts, and_from, or_right, false_from_ne_true, pointwise, list_any, list_all, cons_option, keys_of, lookup, set_value, option_flatten, Caller, Refusal, Bytes, Op, Task, takes_turns, CallState, has_number, op_in, op_at, op_or_found, op_for, is_open, open_in, open_keys, current_key, is_turn, is_going, going_on, settled, settle, is_apart, FitsCall, CallsFit, Each, IsCallOf, WorldState}
+use Rattle.jc_world.specs.Calls.{is_at}
 use Rattle.jc_world.proofs.Underway.{same_bytes, calls_on}
 
 -- 1. Open keys.

@@ -3,33 +3,8 @@
 --     AllBy          each step among events is of such a caller at such a key
 --     added_order    steps that may come after an order are at its end
 --     comes_added    a step may still come, if it may after each that is added
-use Rattle.std.proofs.Common.{◌≡◌, ◌==◌, ◌&&◌, ◌||◌, ℕ, zero, suc, List, [], ◌∷◌, ◌++◌, length, drop, Bool, true, false, cond, not, Option, None, Some, IsSomeAnd, filter, find, map, nat_lt, slice_get, slice_set, refl, sym, ap, ◌∙◌, subst, arith, append-nil}
-use Rattle.std.specs.List.{list_all}
-use Rattle.std.specs.Cmp.Lexicographic.{pointwise}
-use Rattle.std.proofs.Math.Seq.{drop-append_seam}
-use Rattle.std.proofs.lemmas.Bool.{ne_eqb, eqb-true, and_parts, and_from}
-use Rattle.std.proofs.lemmas.List.Elements.{filter-append}
-use Rattle.std.proofs.lemmas.List.Folds.{list_all-append}
-use Rattle.jc_types.specs.declared.caller.Caller.{Caller}
-use Rattle.jc_types.specs.declared.config.Config.{Config}
-use Rattle.jc_types.specs.Stripes.{stripe_of}
-use Rattle.jc_types.specs.Limits.{check}
-use Rattle.jc_model.specs.declared.event.Op.{Op}
-use Rattle.jc_model.specs.declared.event.Out.{Out}
-use Rattle.jc_model.specs.declared.event.LoadAnswer.{LoadAnswer}
-use Rattle.jc_model.specs.declared.event.Reply.{Reply}
-use Rattle.jc_model.specs.declared.event.Cause.{Cause}
-use Rattle.jc_model.specs.declared.event.Event.{Event}
-use Rattle.jc_model.specs.declared.event.Event.TheVariants.{Step, Evict}
-use Rattle.jc_model.specs.Cache.{Bytes}
-use Rattle.jc_model.specs.Group.{Group, victim_events, step_event, step_place, shared_event, evicted_events, events_of}
-use Rattle.jc_model.specs.Legal.{may_come, may_follow, in_order, event_key, is_of_stripe, of_stripe}
-use Rattle.jc_stripe.specs.State.{State}
-use Rattle.jc_stripe.specs.Reached.{IsReached}
-use Rattle.jc_stripe.specs.Laws.{Extends}
-use Rattle.jc_world.specs.World.{WorldState, home, stripe_for}
-use Rattle.jc_stripe.specs.OwnSteps.{may_come_all}
-use Rattle.jc_world.specs.Sound.{IsStripe, IsShaped, is_up_to, number_up_to, Each}
+use Rattle.jc_world.proofs.Common.{◌≡◌, ℕ, zero, suc, Bool, true, false, cond, not, ◌&&◌, ◌||◌, List, [], ◌∷◌, ◌++◌, map, length, drop, IsSomeAnd, nat_lt, ◌==◌, slice_get, slice_set, Some, None, filter, Option, find, sym, refl, ap, ◌∙◌, subst, append-nil, arith, drop-append_seam, eqb-true, ne_eqb, and_parts, and_from, filter-append, list_all-append, pointwise, list_all, check, stripe_of, Caller, Config, Bytes, Group, victim_events, evicted_events, step_event, shared_event, step_place, events_of, may_come, may_follow, in_order, event_key, is_of_stripe, of_stripe, Cause, Event, Evict, LoadAnswer, Op, Out, Reply, Extends, may_come_all, IsReached, State, IsStripe, IsShaped, is_up_to, number_up_to, Each, WorldState, home, stripe_for}
+use Rattle.jc_model.specs.declared.event.Event.TheVariants.{Step}
 
 -- 1. Small facts.
 
@@ -48,15 +23,13 @@ still_at (z ∷ zs) ys (suc i) x h = still_at zs ys i x h
 pub set_cases : {A P : Type 0} (xs : List A) (i j : ℕ) (x y : A) → (i ≡ j → x ≡ y → P) → ((i ≡ j → ⊥) → slice_get xs j ≡ Some y → P) → slice_get (slice_set xs i x) j ≡ Some y → P
 set_cases [] i j x y here there h = cc
 set_cases (z ∷ zs) zero zero x y here there h = here refl cc
-set_cases (z ∷ zs) zero (suc j) x y here there h = there (λ e. omega arith) h
-set_cases (z ∷ zs) (suc i) zero x y here there h = there (λ e. omega arith) h
 set_cases (z ∷ zs) (suc i) (suc j) x y here there h = set_cases zs i j x y (λ e. here (ap suc e)) (λ apart. there (λ e. apart (omega arith))) h
+set_cases xs i j x y here there h = there (λ e. omega arith) h
 
 -- a list of which one place is another is as long
 pub length-slice_set : {A : Type 0} (xs : List A) (i : ℕ) (x : A) → length (slice_set xs i x) ≡ length xs
-length-slice_set [] i x = refl
-length-slice_set (z ∷ zs) zero x = refl
 length-slice_set (z ∷ zs) (suc i) x = ap suc (length-slice_set zs i x)
+length-slice_set xs i x = refl
 
 -- one that is found passes the test
 pub found_test : {A : Type 0} (p : A → Bool) (xs : List A) (x : A) → find p xs ≡ Some x → p x ≡ true

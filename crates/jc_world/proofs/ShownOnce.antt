@@ -4,58 +4,10 @@
 --     Gives          a phase raises that by one at the places that it answers, and leaves it at the others
 --     gives_done, gives_commit, gives_picked and so on      what each kind of phase answers
 --     owed_run        so a run raises it by the answers that it shows
-use Rattle.std.proofs.Common.{inl, inr, ◌≡◌, ◌==◌, ◌&&◌, ◌+◌, ℕ, zero, suc, List, [], ◌∷◌, ◌++◌, length, map, count_by, Bool, true, false, cond, Option, None, Some, slice_get, slice_set, refl, sym, ap, ◌∙◌, subst, arith}
-use Rattle.std.specs.List.{list_all}
-use Rattle.std.proofs.lemmas.Bool.{and_parts, eqb-true, eqb-false, eq-eqb}
-use Rattle.std.proofs.Math.Bool.{and-false}
-use Rattle.std.proofs.Math.Dec.{eqb-suc-zero, eqb-zero-suc, eqb-suc-suc}
-use Rattle.std.proofs.lemmas.List.Sums.{sum_by-cons}
-use Rattle.jc_types.specs.declared.caller.Caller.{Caller}
-use Rattle.jc_types.specs.declared.config.Config.{Config}
-use Rattle.jc_model.specs.declared.event.Op.{Op}
-use Rattle.jc_model.specs.declared.event.Op.TheVariants.{Get}
-use Rattle.jc_model.specs.declared.event.Out.{Out}
-use Rattle.jc_model.specs.declared.event.Reply.{Reply}
-use Rattle.jc_model.specs.declared.event.Cause.{Cause}
-use Rattle.jc_model.specs.declared.event.LoadAnswer.{LoadAnswer}
-use Rattle.jc_model.specs.declared.event.Event.{Event}
-use Rattle.jc_model.specs.declared.event.Event.TheVariants as stripe
-use Rattle.jc_model.specs.Cache.{Bytes}
-use Rattle.jc_model.specs.Group.{Group, nothing_said, victim_events, step_event, step_place, shared_event, evicted_events, events_of}
-use Rattle.jc_model.specs.Legal.{of_stripe}
-use Rattle.jc_inflight.specs.declared.joiner.Joiner.{Joiner}
-use Rattle.jc_inflight.specs.Joining.{callers_of}
-use Rattle.jc_stripe.specs.declared.begun.StepDone.{StepDone}
-use Rattle.jc_stripe.specs.declared.begun.Begun.TheVariants as begun
-use Rattle.jc_stripe.specs.declared.begun.Picked.TheVariants as picked
-use Rattle.jc_stripe.specs.declared.ticket.Reservation.{Reservation}
-use Rattle.jc_stripe.specs.Tickets.{JoinClaim}
-use Rattle.jc_stripe.specs.State.{State}
-use Rattle.jc_stripe.specs.Phases.{MayBegin, Begins, Commits, PicksUp, Steps, new_group, after_commit, without_joiner}
-use Rattle.jc_stripe.specs.Reached.{IsReached}
-use Rattle.jc_stripe.specs.OnePhase.{is_parked}
-use Rattle.jc_stripe.proofs.CallerLemmas.{joined_parks, withdrawn_parks, beginner_parks, commit_parks, committer_parks, sharers_park, picker_parks, picked_parks, others_park, again_parks_same}
-use Rattle.jc_stripe.specs.Laws.{Extends, Grows}
-use Rattle.jc_world.specs.declared.event.Part.{Part}
-use Rattle.jc_world.specs.declared.event.Shown.{Shown}
-use Rattle.jc_world.specs.declared.event.Outcome.{Outcome}
-use Rattle.jc_world.specs.declared.event.Outcome.TheVariants as outcome
-use Rattle.jc_world.specs.Calls.{CallState, new_call}
-use Rattle.jc_world.proofs.NewCalls.{begun_cases}
-use Rattle.jc_world.specs.declared.event.WorldEvent.{WorldEvent}
-use Rattle.jc_world.specs.declared.event.WorldEvent.TheVariants as event
-use Rattle.jc_world.specs.World.{WorldState, home, stripe_for, out_of}
-use Rattle.jc_world.specs.Fits.{fits}
-use Rattle.jc_world.specs.Events.{step_of, Starts, Ends, Picks, Happens, Step, Run}
-use Rattle.jc_world.specs.Sound.{IsSoundWorld}
-use Rattle.jc_world.specs.Headline.{start_with}
-use Rattle.jc_world.specs.Replies.{is_answer_at, joiners_in, joiners_at, times_shown}
-use Rattle.jc_world.proofs.Shares.{added, share_stays}
-use Rattle.jc_world.proofs.Places.{stripe_put}
+use Rattle.jc_world.proofs.Common.{◌≡◌, ℕ, zero, suc, ◌+◌, Bool, true, false, cond, ◌&&◌, List, [], ◌∷◌, ◌++◌, map, length, ◌==◌, slice_get, slice_set, Some, None, count_by, Option, sym, refl, ap, ◌∙◌, subst, inl, inr, arith, and-false, eqb-suc-suc, eqb-suc-zero, eqb-zero-suc, eqb-true, eqb-false, eq-eqb, and_parts, sum_by-cons, list_all, Caller, Config, Bytes, Group, nothing_said, victim_events, evicted_events, step_event, shared_event, step_place, events_of, of_stripe, Cause, Event, LoadAnswer, Op, Get, Out, Reply, callers_of, Joiner, joined_parks, withdrawn_parks, beginner_parks, commit_parks, committer_parks, sharers_park, picker_parks, picked_parks, others_park, again_parks_same, Extends, Grows, is_parked, MayBegin, new_group, Steps, Begins, after_commit, Commits, without_joiner, PicksUp, IsReached, State, JoinClaim, Begun, Picked, StepDone, Reservation, Outcome, Part, Shown, WorldEvent, CallState, new_call, step_of, Starts, Ends, Picks, Happens, Step, Run, fits, start_with, is_answer_at, joiners_in, joiners_at, times_shown, IsSoundWorld, WorldState, home, stripe_for, out_of}
+use Rattle.jc_world.proofs.Lemmas.{added, share_stays, begun_cases, MayStart, begins_with, begins_at, stripe_put, AnswersNone, KeyChange, by_nothing, by_refusal, by_step, by_reservation, by_join, by_commit, by_withdrawal, by_answer, by_retry, StripeChange, by_key, beside_stripes, change_of, may_of, beside}
 use Rattle.jc_world.proofs.Merging.{other_set}
 use Rattle.jc_world.proofs.Loads.{one_if}
-use Rattle.jc_world.proofs.Beginning.{begins_at}
-use Rattle.jc_world.proofs.Beside.{beside}
 use Rattle.jc_world.proofs.Sounding.{Laws, sound_step}
 use Rattle.jc_world.proofs.Standing.{config_run, config_opened}
 
@@ -63,15 +15,14 @@ use Rattle.jc_world.proofs.Standing.{config_run, config_opened}
 
 abbrev pub times_owed : List Joiner → Option Event → ℕ
 times_owed js None = 0
-times_owed js (Some (stripe.Step caller op key out shared reply)) = times_shown (is_parked js caller key)
-times_owed js (Some (stripe.Evict key cause)) = 0
+times_owed js (Some (Event.Step caller op key out shared reply)) = times_shown (is_parked js caller key)
+times_owed js (Some (Event.Evict key cause)) = 0
 
 -- other joiners that park the same of the event leave it
-owed_same : (js next : List Joiner) (o : Option Event) → ((c : Caller) (op : Op) (k : Bytes) (out : Out) (shared : Option ℕ) (reply : Reply) → o ≡ Some (stripe.Step c op k out shared reply) → is_parked next c k ≡ is_parked js c k)
+owed_same : (js next : List Joiner) (o : Option Event) → ((c : Caller) (op : Op) (k : Bytes) (out : Out) (shared : Option ℕ) (reply : Reply) → o ≡ Some (Event.Step c op k out shared reply) → is_parked next c k ≡ is_parked js c k)
     → times_owed next o ≡ times_owed js o
-owed_same js next None same = refl
-owed_same js next (Some (stripe.Step c op k out shared reply)) same = ap times_shown (same c op k out shared reply refl)
-owed_same js next (Some (stripe.Evict k cause)) same = refl
+owed_same js next (Some (Event.Step c op k out shared reply)) same = ap times_shown (same c op k out shared reply refl)
+owed_same js next o same = refl
 
 -- after a group's step nothing is owed, if those that share its load are parked
 none_owed : (js : List Joiner) (place : ℕ) (key : Bytes) (answer : LoadAnswer) (callers : List Caller) (cause : Option Cause) (p : ℕ) → list_all (λ c. is_parked js c key) callers ≡ true
@@ -103,7 +54,7 @@ group_owed js place group p free parked = go group.victim p
     go (Some key) (suc p) = from_step p ∙ ap one_if (sym (eqb-suc-suc 0 p))
 
 -- and so it is if the group follows a history of which as much is parked as before
-history_owed : (js next : List Joiner) (events more : List Event) (n p : ℕ) → ((i : ℕ) (c : Caller) (op : Op) (k : Bytes) (out : Out) (shared : Option ℕ) (reply : Reply) → slice_get events i ≡ Some (stripe.Step c op k out shared reply) → is_parked next c k ≡ is_parked js c k)
+history_owed : (js next : List Joiner) (events more : List Event) (n p : ℕ) → ((i : ℕ) (c : Caller) (op : Op) (k : Bytes) (out : Out) (shared : Option ℕ) (reply : Reply) → slice_get events i ≡ Some (Event.Step c op k out shared reply) → is_parked next c k ≡ is_parked js c k)
     → ((i : ℕ) → times_owed next (slice_get more i) ≡ one_if (n == i))
     → times_owed next (slice_get (events ++ more) p) ≡ one_if (length events + n == p) + times_owed js (slice_get events p)
 history_owed js next [] more n p same owed_is = owed_is p ∙ (let e : one_if (n == p) ≡ one_if (n == p) + 0 = omega arith in e) ∙ ap (λ m. one_if (m == p) + 0) (let e : n ≡ 0 + n = omega arith in e)
@@ -133,7 +84,7 @@ gives_none from to history same p =
 
 -- the step of a stripe is answered at its place
 gives_step : (js : List Joiner) (mid to : State) (caller : Caller) (key : Bytes) (op : Op) (out : Out) (callers : List Caller) (done : StepDone) → Steps mid caller key op out callers done to
-    → ((i : ℕ) (c : Caller) (op : Op) (k : Bytes) (out : Out) (shared : Option ℕ) (reply : Reply) → slice_get mid.history i ≡ Some (stripe.Step c op k out shared reply) → is_parked mid.joiners c k ≡ is_parked js c k)
+    → ((i : ℕ) (c : Caller) (op : Op) (k : Bytes) (out : Out) (shared : Option ℕ) (reply : Reply) → slice_get mid.history i ≡ Some (Event.Step c op k out shared reply) → is_parked mid.joiners c k ≡ is_parked js c k)
     → is_parked mid.joiners caller key ≡ false → list_all (λ c. is_parked mid.joiners c key) callers ≡ true
     → (p : ℕ) → times_owed to.joiners (slice_get to.history p) ≡ one_if (done.place == p) + times_owed js (slice_get mid.history p)
 gives_step js mid to caller key op out callers done steps same free parked p =
@@ -143,7 +94,7 @@ gives_step js mid to caller key op out callers done steps same free parked p =
     ∙ ap (λ n. one_if (n == p) + times_owed js (slice_get mid.history p)) (sym steps.place)
 
 -- a first phase that is done at once
-gives_done : (from to : State) (caller : Caller) (key : Bytes) (op : Op) (done : StepDone) → MayBegin from caller key → Begins from caller key op (begun.Done done) to → Gives from to (λ p. done.place == p)
+gives_done : (from to : State) (caller : Caller) (key : Bytes) (op : Op) (done : StepDone) → MayBegin from caller key → Begins from caller key op (Begun.Done done) to → Gives from to (λ p. done.place == p)
 gives_done from to caller key op done may begins =
     gives_step from.joiners from to caller key op nothing_said [] done begins.2 (λ i c op k out shared reply e. refl) (beginner_parks from caller key may) refl
 
@@ -155,7 +106,7 @@ gives_commit from to r out done reached commits =
     (committer_parks from r done.place reached commits.0) (sharers_park from r done.place reached commits.0)
 
 -- a pick-up that is answered
-gives_picked : (from to : State) (join : JoinClaim) (reply : Reply) (place shared : ℕ) → IsReached from → PicksUp from join (picked.Answer reply place shared) to → Gives from to (λ p. place == p)
+gives_picked : (from to : State) (join : JoinClaim) (reply : Reply) (place shared : ℕ) → IsReached from → PicksUp from join (Picked.Answer reply place shared) to → Gives from to (λ p. place == p)
 gives_picked from to join reply place shared reached h p =
     let next = without_joiner from join in
     let step = h.2 in
@@ -189,8 +140,7 @@ owed_set w new key from to answers number place there old sound config stripes r
           let placed : slice_get new.stripes n ≡ Some to = ap (λ ss. slice_get ss n) stripes ∙ stripe_put w.stripes n from to there in
           let now = (sound.shape.each n to placed).share in
           let was = (old.shape.each n from there).share in
-          let P : ℕ → Type 0 = λ m. owed new m place ≡ one_if (answers place) + owed w m place in
-          subst P (eqb-true n number e)
+          rw (eqb-true n number e) at
           ((λ i. times_owed (joiners_in (placed i)) (slice_get (now i) place))
           ∙ gives place
           ∙ sym (λ i. one_if (answers place) + times_owed (joiners_in (there i)) (slice_get (was i) place)))
@@ -201,11 +151,11 @@ owed_set w new key from to answers number place there old sound config stripes r
     ] refl
 
 -- one that appends nothing and answers nothing
-owed_quiet : (w new : WorldState) (key : Bytes) (from to : State) (number place : ℕ) → stripe_for w key ≡ Some from → IsSoundWorld w → IsSoundWorld new → new.config ≡ w.config → new.stripes ≡ slice_set w.stripes (home w key) to
-    → new.order ≡ w.order → Gives from to nowhere → owed new number place ≡ 0 + owed w number place
-owed_quiet w new key from to number place there old sound config stripes order gives =
+owed_quiet : (w new : WorldState) (key : Bytes) (from to : State) (seen : Outcome) (number place : ℕ) → stripe_for w key ≡ Some from → IsSoundWorld w → IsSoundWorld new → new.config ≡ w.config → new.stripes ≡ slice_set w.stripes (home w key) to
+    → new.order ≡ w.order → Gives from to nowhere → AnswersNone seen → owed new number place ≡ one_if (is_answer_at number place seen) + owed w number place
+owed_quiet w new key from to seen number place there old sound config stripes order gives none =
     owed_set w new key from to nowhere number place there old sound config stripes (λ m apart. ap (of_stripe w.config.stripes m) order) gives
-    ∙ ap (λ b. one_if b + owed w number place) (and-false (home w key == number))
+    ∙ ap (λ b. one_if b + owed w number place) (and-false (home w key == number) ∙ sym (none number place))
 
 -- one that appends a group, and answers its step
 owed_grown : (w new : WorldState) (key : Bytes) (from to : State) (at number place : ℕ) → stripe_for w key ≡ Some from → IsSoundWorld w → IsSoundWorld new → new.config ≡ w.config → new.stripes ≡ slice_set w.stripes (home w key) to
@@ -216,85 +166,53 @@ owed_grown w new key from to at number place there old sound config stripes orde
     owed_set w new key from to (λ p. at == p) number place there old sound config stripes
     (λ m apart. ap (of_stripe w.config.stripes m) order ∙ share_stays w n m from to grows (old.shape.each n from there) (sound.shape.each n to placed).reached apart) gives
 
+-- the answer of a step at the stripe of the key
+owed_answer : (w : WorldState) (stripe : ℕ) (key : Bytes) (at number place : ℕ) → stripe ≡ home w key → one_if ((home w key == number) && (at == place)) + owed w number place ≡ one_if ((stripe == number) && (at == place)) + owed w number place
+owed_answer w stripe key at number place home_is = ap (λ s. one_if ((s == number) && (at == place)) + owed w number place) (sym home_is)
+
 -- what leaves the stripes and the order answers nothing
 owed_still : (w new : WorldState) (seen : Outcome) (number place : ℕ) → is_answer_at number place seen ≡ false → owed new number place ≡ owed w number place → owed new number place ≡ one_if (is_answer_at number place seen) + owed w number place
 owed_still w new seen number place none same = let e : one_if (is_answer_at number place seen) ≡ 0 = ap one_if none in omega arith
 
--- by what is shown of a first phase
-owed_started : Grows → (w new : WorldState) (u : CallState) (key : Bytes) (op : Op) (from to : State) (seen : Outcome) (number place : ℕ) → stripe_for w key ≡ Some from → Starts w u.caller key op from to seen new → MayBegin from u.caller key → IsSoundWorld w → IsSoundWorld new
-    → owed new number place ≡ one_if (is_answer_at number place seen) + owed w number place
-owed_started grows w new u key op from to (outcome.Refused refusal) number place there h may old sound = owed_still w new (outcome.Refused refusal) number place refl (ap (λ (x : WorldState). owed x number place) h.1)
-owed_started grows w new u key op from to (outcome.PutOff refusal) number place there h may old sound = owed_still w new (outcome.PutOff refusal) number place refl (ap (λ (x : WorldState). owed x number place) h.1)
-owed_started grows w new u key op from to (outcome.Stepped x) number place there h may old sound =
-    owed_grown w new key from to x.place number place there old sound (ap (λ (v : WorldState). v.config) h.2) (ap (λ (v : WorldState). v.stripes) h.2) (ap (λ (v : WorldState). v.order) h.2)
-    (grows.begins from to u.caller key op (begun.Done (step_of x)) h.0) (gives_done from to u.caller key op (step_of x) may h.0)
-    ∙ ap (λ s. one_if ((s == number) && (x.place == place)) + owed w number place) (sym h.1)
-owed_started grows w new u key op from to outcome.Loads number place there h may old sound =
-    owed_quiet w new key from to number place there old sound (ap (λ (v : WorldState). v.config) h.2) (ap (λ (v : WorldState). v.stripes) h.2) (ap (λ (v : WorldState). v.order) h.2)
-    (gives_none from to (ap (λ (s : State). s.history) h.1.4) (λ c k. ap (λ (s : State). is_parked s.joiners c k) h.1.4))
-owed_started grows w new u key op from to (outcome.Asks change) number place there h may old sound =
-    owed_quiet w new key from to number place there old sound (ap (λ (v : WorldState). v.config) h.3) (ap (λ (v : WorldState). v.stripes) h.3) (ap (λ (v : WorldState). v.order) h.3)
-    (gives_none from to (ap (λ (s : State). s.history) h.1.4) (λ c k. ap (λ (s : State). is_parked s.joiners c k) h.1.4))
-owed_started grows w new u key op from to (outcome.Processes entry) number place there h may old sound =
-    owed_quiet w new key from to number place there old sound (ap (λ (v : WorldState). v.config) h.3) (ap (λ (v : WorldState). v.stripes) h.3) (ap (λ (v : WorldState). v.order) h.3)
-    (gives_none from to (ap (λ (s : State). s.history) h.1.4) (λ c k. ap (λ (s : State). is_parked s.joiners c k) h.1.4))
-owed_started grows w new u key op from to outcome.Joins number place there h may old sound =
-    owed_quiet w new key from to number place there old sound (ap (λ (v : WorldState). v.config) h.2) (ap (λ (v : WorldState). v.stripes) h.2) (ap (λ (v : WorldState). v.order) h.2)
-    (gives_none from to (ap (λ (s : State). s.history) h.1.3) (λ c k. ap (λ (s : State). is_parked s.joiners c k) h.1.3 ∙ joined_parks from h.0 c k))
-owed_started grows w new u key op from to seen number place there h may old sound = absurd h
+-- by the kind of the change at a key
+owed_key : Grows → (w new : WorldState) (e : WorldEvent) (key : Bytes) (seen : Shown) (number place : ℕ) → KeyChange w new e key seen → fits w e ≡ true → IsSoundWorld w → IsSoundWorld new
+    → owed new number place ≡ one_if (is_answer_at number place seen.outcome) + owed w number place
+owed_key grows w new e key seen number place (by_nothing is none ends) fit old sound = owed_still w new seen.outcome number place (none number place) (ap (λ (x : WorldState). owed x number place) is)
+owed_key grows w new e key seen number place (by_refusal u op refusal may is none ends) fit old sound = owed_still w new seen.outcome number place (none number place) (ap (λ (x : WorldState). owed x number place) is)
+owed_key grows w new e key seen number place (by_step u op from to x may there h home_is is shows ends) fit old sound =
+    owed_grown w new key from to x.place number place there old sound (ap (λ (v : WorldState). v.config) is) (ap (λ (v : WorldState). v.stripes) is) (ap (λ (v : WorldState). v.order) is)
+    (grows.begins from to u.caller key op (Begun.Done (step_of x)) h) (gives_done from to u.caller key op (step_of x) (begins_with w u key op from old there (may_of w e key u op may fit old)) h)
+    ∙ owed_answer w x.stripe key x.place number place home_is ∙ ap (λ o. one_if (is_answer_at number place o) + owed w number place) (sym shows)
+owed_key grows w new e key seen number place (by_reservation u op from to p r may there h is none ends) fit old sound =
+    owed_quiet w new key from to seen.outcome number place there old sound (ap (λ (v : WorldState). v.config) is) (ap (λ (v : WorldState). v.stripes) is) (ap (λ (v : WorldState). v.order) is)
+    (gives_none from to (ap (λ (s : State). s.history) h.after) (λ c k. ap (λ (s : State). is_parked s.joiners c k) h.after)) none
+owed_key grows w new e key seen number place (by_join u op from to join may there h is none ends) fit old sound =
+    owed_quiet w new key from to seen.outcome number place there old sound (ap (λ (v : WorldState). v.config) is) (ap (λ (v : WorldState). v.stripes) is) (ap (λ (v : WorldState). v.order) is)
+    (gives_none from to (ap (λ (s : State). s.history) h.3) (λ c k. ap (λ (s : State). is_parked s.joiners c k) h.3 ∙ joined_parks from join c k)) none
+owed_key grows w new e key seen number place (by_commit call part from to x e_is part_is there h home_is is shows) fit old sound =
+    owed_grown w new key from to x.place number place there old sound (ap (λ (v : WorldState). v.config) is) (ap (λ (v : WorldState). v.stripes) is) (ap (λ (v : WorldState). v.order) is)
+    (grows.commits from to part.reservation (out_of part) (step_of x) h) (gives_commit from to part.reservation (out_of part) (step_of x) (old.shape.each (home w key) from there).reached h)
+    ∙ owed_answer w x.stripe key x.place number place home_is ∙ ap (λ o. one_if (is_answer_at number place o) + owed w number place) (sym shows)
+owed_key grows w new e key seen number place (by_withdrawal call part from to e_is part_is there h is shows) fit old sound =
+    owed_quiet w new key from to seen.outcome number place there old sound (ap (λ (v : WorldState). v.config) is) (ap (λ (v : WorldState). v.stripes) is) (ap (λ (v : WorldState). v.order) is)
+    (gives_none from to (ap (λ (s : State). s.history) h.1) (λ c k. ap (λ (s : State). is_parked s.joiners c k) h.1 ∙ withdrawn_parks from part.reservation c k)) (λ n p. ap (λ (s : Shown). is_answer_at n p s.outcome) shows)
+owed_key grows w new e key seen number place (by_answer call join from to x e_is join_is there h home_is is shows ends) fit old sound =
+    owed_set w new key from to (λ p. x.place == p) number place there old sound (ap (λ (v : WorldState). v.config) is) (ap (λ (v : WorldState). v.stripes) is)
+    (λ m apart. ap (λ (v : WorldState). of_stripe w.config.stripes m v.order) is)
+    (gives_picked from to join x.reply x.place x.shared (old.shape.each (home w key) from there).reached h)
+    ∙ owed_answer w x.stripe key x.place number place home_is ∙ ap (λ o. one_if (is_answer_at number place o) + owed w number place) (sym shows)
+owed_key grows w new e key seen number place (by_retry call join from to e_is join_is there h is shows ends) fit old sound =
+    owed_quiet w new key from to seen.outcome number place there old sound (ap (λ (v : WorldState). v.config) is) (ap (λ (v : WorldState). v.stripes) is) (ap (λ (v : WorldState). v.order) is)
+    (gives_none from to (ap (λ (s : State). s.history) h.2) (λ c k. ap (λ (s : State). is_parked s.joiners c k) h.2 ∙ again_parks_same from join c k (old.shape.each (home w key) from there).reached h.1)) (λ n p. ap (is_answer_at n p) shows)
 
--- of a last phase
-owed_ended : Grows → (w new : WorldState) (call : ℕ) (key : Bytes) (part : Part) (from to : State) (seen : Outcome) (number place : ℕ) → stripe_for w key ≡ Some from → Ends w call key part from to seen new → IsSoundWorld w → IsSoundWorld new
-    → owed new number place ≡ one_if (is_answer_at number place seen) + owed w number place
-owed_ended grows w new call key part from to (outcome.Stepped x) number place there h old sound =
-    owed_grown w new key from to x.place number place there old sound (ap (λ (v : WorldState). v.config) h.2) (ap (λ (v : WorldState). v.stripes) h.2) (ap (λ (v : WorldState). v.order) h.2)
-    (grows.commits from to part.reservation (out_of part) (step_of x) h.0) (gives_commit from to part.reservation (out_of part) (step_of x) (old.shape.each (home w key) from there).reached h.0)
-    ∙ ap (λ s. one_if ((s == number) && (x.place == place)) + owed w number place) (sym h.1)
-owed_ended grows w new call key part from to seen number place there h old sound = absurd h
-
--- of a pick-up
-owed_picks : (w new : WorldState) (call : ℕ) (key : Bytes) (join : JoinClaim) (from to : State) (seen : Outcome) (number place : ℕ) → stripe_for w key ≡ Some from → Picks w call key join from to seen new → IsSoundWorld w → IsSoundWorld new
-    → owed new number place ≡ one_if (is_answer_at number place seen) + owed w number place
-owed_picks w new call key join from to (outcome.PickedUp x) number place there h old sound =
-    let order : new.order ≡ w.order = ap (λ (v : WorldState). v.order) h.2 in
-    owed_set w new key from to (λ p. x.place == p) number place there old sound (ap (λ (v : WorldState). v.config) h.2) (ap (λ (v : WorldState). v.stripes) h.2)
-    (λ m apart. ap (of_stripe w.config.stripes m) order)
-    (gives_picked from to join x.reply x.place x.shared (old.shape.each (home w key) from there).reached h.0)
-    ∙ ap (λ s. one_if ((s == number) && (x.place == place)) + owed w number place) (sym h.1)
-owed_picks w new call key join from to outcome.Again number place there h old sound =
-    let reached = (old.shape.each (home w key) from there).reached in
-    owed_quiet w new key from to number place there old sound (ap (λ (v : WorldState). v.config) h.1) (ap (λ (v : WorldState). v.stripes) h.1) (ap (λ (v : WorldState). v.order) h.1)
-    (gives_none from to (ap (λ (s : State). s.history) h.0.2) (λ c k. ap (λ (s : State). is_parked s.joiners c k) h.0.2 ∙ again_parks_same from join c k reached h.0.1))
-owed_picks w new call key join from to outcome.Waits number place there h old sound = owed_still w new outcome.Waits number place refl (ap (λ (x : WorldState). owed x number place) h.1)
-owed_picks w new call key join from to seen number place there h old sound = absurd h
-
--- of any event that fits
-owed_happens : Grows → (w new : WorldState) (e : WorldEvent) (seen : Shown) (number place : ℕ) → fits w e ≡ true → Happens w e seen new → IsSoundWorld w → IsSoundWorld new → owed new number place ≡ one_if (is_answer_at number place seen.outcome) + owed w number place
-owed_happens grows w new (event.Call call session command) seen number place fit h old sound =
-    owed_still w new seen.outcome number place (ap (λ (s : Shown). is_answer_at number place s.outcome) h.0 ∙ begun_cases (new_call call session command) (λ s. is_answer_at number place s.outcome ≡ false) refl refl) (ap (λ (x : WorldState). owed x number place) h.1)
-owed_happens grows w new (event.Look call stripe) seen number place fit h old sound = owed_still w new seen.outcome number place (ap (λ (s : Shown). is_answer_at number place s.outcome) h.8) (ap (λ (x : WorldState). owed x number place) h.9)
-owed_happens grows w new (event.Start call key) seen number place fit h old sound =
-    owed_started grows w new h.0 key h.1 h.4 h.6 seen.outcome number place h.5 h.7 (begins_at w call key h.0 h.1 h.4 fit h.2 h.3 h.5 old) old sound
-owed_happens grows w new (event.Read call key) seen number place fit h old sound = owed_still w new seen.outcome number place (ap (λ (s : Shown). is_answer_at number place s.outcome) h.2) (ap (λ (x : WorldState). owed x number place) h.3)
-owed_happens grows w new (event.Say call key answer) seen number place fit h old sound = owed_still w new seen.outcome number place (ap (λ (s : Shown). is_answer_at number place s.outcome) h.2) (ap (λ (x : WorldState). owed x number place) h.3)
-owed_happens grows w new (event.Process call key source calls fail) seen number place fit h old sound =
-    owed_still w new seen.outcome number place (ap (λ (s : Shown). is_answer_at number place s.outcome) h.2) (ap (λ (x : WorldState). owed x number place) h.3)
-owed_happens grows w new (event.Change call key) seen number place fit h old sound = owed_still w new seen.outcome number place (ap (λ (s : Shown). is_answer_at number place s.outcome) h.4) (ap (λ (x : WorldState). owed x number place) h.5)
-owed_happens grows w new (event.Report call left fault) seen number place fit h old sound =
-    owed_still w new seen.outcome number place (ap (λ (s : Shown). is_answer_at number place s.outcome) h.2) (ap (λ (x : WorldState). owed x number place) (beside w new call h.0 left fault h.3).is)
-owed_happens grows w new (event.Commit call key) seen number place fit h old sound = owed_ended grows w new call key h.0 h.2 h.4 seen.outcome number place h.3 h.5 old sound
-owed_happens grows w new (event.Withdraw call key) seen number place fit h old sound =
-    let r = h.0.reservation in
-    owed_quiet w new key h.2 h.4 number place h.3 old sound (ap (λ (v : WorldState). v.config) h.7) (ap (λ (v : WorldState). v.stripes) h.7) (ap (λ (v : WorldState). v.order) h.7)
-    (gives_none h.2 h.4 (ap (λ (s : State). s.history) h.5.1) (λ c k. ap (λ (s : State). is_parked s.joiners c k) h.5.1 ∙ withdrawn_parks h.2 r c k))
-    ∙ ap (λ (s : Shown). one_if (is_answer_at number place s.outcome) + owed w number place) (sym h.6)
-owed_happens grows w new (event.Leave call) seen number place fit h old sound = owed_still w new seen.outcome number place (ap (λ (s : Shown). is_answer_at number place s.outcome) h.0) (ap (λ (x : WorldState). owed x number place) h.1)
-owed_happens grows w new (event.PickUp call key) seen number place fit h old sound = owed_picks w new call key h.0 h.2 h.4 seen.outcome number place h.3 h.5 old sound
-owed_happens grows w new (event.Foreign key value) seen number place fit h old sound = owed_still w new seen.outcome number place (ap (λ (s : Shown). is_answer_at number place s.outcome) h.0) (ap (λ (x : WorldState). owed x number place) h.1)
-
--- and of any event
+-- of any event
 owed_step : Grows → (w new : WorldState) (e : WorldEvent) (seen : Shown) (number place : ℕ) → Step w e seen new → IsSoundWorld w → IsSoundWorld new → owed new number place ≡ one_if (is_answer_at number place seen.outcome) + owed w number place
-owed_step grows w new e seen number place (inl (fit, happens)) old sound = owed_happens grows w new e seen number place fit happens old sound
+owed_step grows w new e seen number place (inl (fit, happens)) old sound = go (change_of w new e seen happens)
+  where
+    go : StripeChange w new e seen → owed new number place ≡ one_if (is_answer_at number place seen.outcome) + owed w number place
+    go (by_key key k) = owed_key grows w new e key seen number place k fit old sound
+    go (beside_stripes m is config stripes order joins none ends) =
+        owed_still w new seen.outcome number place (none number place) (ap (λ (x : WorldState). owed x number place) is ∙ (λ i. times_owed (joiners_in (slice_get (stripes i) number)) (slice_get (of_stripe (config i).stripes number (order i)) place)))
 owed_step grows w new e seen number place (inr (unfit, shows, is)) old sound = owed_still w new seen.outcome number place (ap (λ (s : Shown). is_answer_at number place s.outcome) shows) (ap (λ (x : WorldState). owed x number place) is)
 
 -- 4. A run.
@@ -304,14 +222,13 @@ answers_at number place s = is_answer_at number place s.outcome
 
 pub owed_run : Laws → Grows → (w new : WorldState) (es : List WorldEvent) (ss : List Shown) (number place : ℕ) → Run w es ss new → IsSoundWorld w → owed new number place ≡ count_by (answers_at number place) ss + owed w number place
 owed_run laws grows w new [] [] number place run old = let e : owed new number place ≡ owed w number place = ap (λ (x : WorldState). owed x number place) run in omega arith
-owed_run laws grows w new [] (s ∷ ss) number place run old = absurd run
-owed_run laws grows w new (e ∷ es) [] number place run old = absurd run
 owed_run laws grows w new (e ∷ es) (s ∷ ss) number place (mid, step, rest) old =
     let sound = sound_step laws w e s mid step old in
     let one = owed_step grows w mid e s number place step old sound in
     let more = owed_run laws grows mid new es ss number place rest sound in
     let split_off : count_by (answers_at number place) (s ∷ ss) ≡ one_if (is_answer_at number place s.outcome) + count_by (answers_at number place) ss = sum_by-cons (λ x. cond (answers_at number place x) 1 0) s ss in
     omega arith
+owed_run laws grows w new es ss number place run old = absurd run
 
 -- nothing is owed before anything has happened
 owed_opened : (config : Config) (stored : List (Bytes × Bytes)) (number place : ℕ) → owed (start_with config stored) number place ≡ 0
@@ -320,7 +237,7 @@ owed_opened config (e ∷ es) number place = owed_opened config es number place
 
 -- so what is owed was shown
 pub shown_once : Laws → Grows → (config : Config) (stored : List (Bytes × Bytes)) (new : WorldState) (es : List WorldEvent) (ss : List Shown) (number place : ℕ) (caller : Caller) (op : Op) (key : Bytes) (out : Out) (shared : Option ℕ) (reply : Reply)
-    → Run (start_with config stored) es ss new → IsSoundWorld (start_with config stored) → slice_get (of_stripe config.stripes number new.order) place ≡ Some (stripe.Step caller op key out shared reply)
+    → Run (start_with config stored) es ss new → IsSoundWorld (start_with config stored) → slice_get (of_stripe config.stripes number new.order) place ≡ Some (Event.Step caller op key out shared reply)
     → count_by (answers_at number place) ss ≡ times_shown (is_parked (joiners_at new number) caller key)
 shown_once laws grows config stored new es ss number place caller op key out shared reply run sound there =
     let total = owed_run laws grows (start_with config stored) new es ss number place run sound in

@@ -1,33 +1,10 @@
 -- Each event leads from a sound world to a sound one, and so does each run.
-use Rattle.std.proofs.Common.{inl, inr, is_none, ◌≡◌, ◌∙◌, ℕ, List, [], ◌∷◌, true, Option, Some, Result, Ok, Err, OnOk, OnErr, option_map, sym, subst, ap, refl}
-use Rattle.std.proofs.lemmas.Bool.{and_parts}
-use Rattle.jc_types.specs.declared.config.Config.{Config}
-use Rattle.jc_types.specs.Limits.{check}
-use Rattle.jc_model.specs.Cache.{Bytes, entry_at, with_entry}
-use Rattle.jc_model.specs.Table.{is_load_given}
-use Rattle.jc_model.specs.declared.event.WriteAnswer.{WriteAnswer}
-use Rattle.jc_types.specs.declared.refusal.Refusal.{Refusal}
-use Rattle.jc_types.specs.declared.refusal.Refusal.TheVariants.{WriterFailed}
-use Rattle.jc_world.specs.Calls.{CallState, open_keys}
-use Rattle.jc_world.specs.declared.event.Part.{Part}
-use Rattle.jc_world.specs.declared.event.Shown.{Shown}
-use Rattle.jc_world.specs.declared.event.WorldEvent.{WorldEvent}
-use Rattle.jc_world.specs.declared.event.WorldEvent.TheVariants as event
-use Rattle.jc_stripe.specs.Laws.{StaysReached, KeepsReserved}
-use Rattle.jc_world.specs.World.{WorldState, start, open_call, is_fresh, part_of, waits_for_load, waits_for_report, with_stored, has_progress}
-use Rattle.jc_world.specs.Premises.{read_answer, report_for, load_from}
-use Rattle.jc_world.specs.Fits.{fits}
-use Rattle.jc_world.specs.Events.{with_met_by, after_report, reported_keys, keys_reported, Happens, Step, Run}
-use Rattle.jc_world.specs.Sound.{IsSoundWorld}
-use Rattle.jc_world.specs.Headline.{start_with}
-use Rattle.jc_world.proofs.Halves.{HasParts, sound}
-use Rattle.jc_world.proofs.Returns.{each_report, IsReport}
-use Rattle.jc_world.proofs.Beginning.{order_start}
-use Rattle.jc_world.proofs.Callers.{order_part, order_met, order_happens, order_opened}
+use Rattle.jc_world.proofs.Common.{◌≡◌, ℕ, true, List, [], ◌∷◌, is_none, OnOk, OnErr, Some, Ok, Err, Option, Result, option_map, sym, refl, ap, ◌∙◌, subst, inl, inr, and_parts, check, Config, Refusal, WriterFailed, Bytes, entry_at, with_entry, is_load_given, WriteAnswer, StaysReached, KeepsReserved, Part, Shown, WorldEvent, CallState, open_keys, with_met_by, after_report, reported_keys, keys_reported, Happens, Step, Run, fits, start_with, read_answer, load_from, report_for, IsSoundWorld, WorldState, start, is_fresh, open_call, part_of, has_progress, waits_for_load, waits_for_report, with_stored}
+use Rattle.jc_world.proofs.Lemmas.{HasParts, sound, order_start, order_met, order_part, order_happens, order_opened, key_change, each_report, IsReport}
 use Rattle.jc_world.proofs.Joins.{joins_met, joins_parted, joins_start, joins_happens, joins_stored}
 use Rattle.jc_world.proofs.Dues.{dues_reported, dues_start, dues_happens}
 use Rattle.jc_world.proofs.Sweeps.{sweeps_met, sweeps_happens}
-use Rattle.jc_world.proofs.Kept.{parts_half, parts_processed, parts_start, parts_called, parts_started, parts_ended, parts_answered, parts_changed, parts_reported, parts_disturbed, parts_stored, parts_withdrawn, parts_left, parts_over, parts_picks}
+use Rattle.jc_world.proofs.Kept.{parts_half, parts_processed, parts_start, parts_called, parts_answered, parts_changed, parts_reported, parts_disturbed, parts_stored, parts_left, parts_over, parts_key}
 
 -- the writer has returned for a key
 sound_reported : (w : WorldState) (call : ℕ) (key : Bytes) (part : Part) (report : WriteAnswer) → part_of w call key ≡ Some part → waits_for_report part.progress ≡ true → IsSoundWorld w → IsSoundWorld (after_report w key part report)
@@ -41,7 +18,7 @@ sound_met w call met u here h = sound (with_met_by w call met) (order_met w call
 
 -- and for all keys that it returns for
 sound_returned : (w new : WorldState) (e : WorldEvent) (seen : Shown) → Happens w e seen new → IsSoundWorld w → IsReport e → IsSoundWorld new
-sound_returned w new (event.Report call left fault) seen h old back =
+sound_returned w new (WorldEvent.Report call left fault) seen h old back =
     let answer = report_for h.0.kind left fault in
     let met = option_map WriterFailed fault in
     subst IsSoundWorld (sym h.3)
@@ -49,21 +26,18 @@ sound_returned w new (event.Report call left fault) seen h old back =
 sound_returned w new e seen h old back = absurd back
 
 parts_happens : (w new : WorldState) (e : WorldEvent) (seen : Shown) → fits w e ≡ true → Happens w e seen new → (IsReport e → IsSoundWorld new) → IsSoundWorld w → HasParts new
-parts_happens w new (event.Call call session command) seen fit (shows, is) back h = subst HasParts (sym is) (parts_called w call session command fit h)
-parts_happens w new (event.Look call stripe) seen fit (u, sweep, there, sweeps, from, at, keys, are, shows, is) back h = subst HasParts (sym is) (parts_over w call u _ there h)
-parts_happens w new (event.Start call key) seen fit (u, op, there, op_is, from, at, to, starts, refuses, over) back h = parts_started w new call key u op from to seen.outcome there at starts h
-parts_happens w new (event.Read call key) seen fit (part, there, shows, is) back h = subst HasParts (sym is) (parts_answered w call key part (read_answer (entry_at w.store key)) there fit h)
-parts_happens w new (event.Say call key answer) seen fit (part, there, shows, is) back h =
+parts_happens w new (WorldEvent.Call call session command) seen fit (shows, is) back h = subst HasParts (sym is) (parts_called w call session command fit h)
+parts_happens w new (WorldEvent.Look call stripe) seen fit (u, sweep, there, sweeps, from, at, keys, are, shows, is) back h = subst HasParts (sym is) (parts_over w call u _ there h)
+parts_happens w new (WorldEvent.Read call key) seen fit (part, there, shows, is) back h = subst HasParts (sym is) (parts_answered w call key part (read_answer (entry_at w.store key)) there fit h)
+parts_happens w new (WorldEvent.Say call key answer) seen fit (part, there, shows, is) back h =
     subst HasParts (sym is) (parts_answered w call key part answer there ((and_parts (is_load_given answer) (has_progress waits_for_load (part_of w call key)) fit).1) h)
-parts_happens w new (event.Process call key source calls fail) seen fit (part, there, shows, is) back h =
+parts_happens w new (WorldEvent.Process call key source calls fail) seen fit (part, there, shows, is) back h =
     subst HasParts (sym is) (parts_processed w key call part (load_from source (entry_at w.store key)) calls fail there fit h)
-parts_happens w new (event.Change call key) seen fit (part, change, there, asked, shows, is) back h = subst HasParts (sym is) (parts_changed w call key part change there asked fit h)
-parts_happens w new (event.Report call left fault) seen fit happens back h = parts_half new (back tt)
-parts_happens w new (event.Commit call key) seen fit (part, there, from, at, to, ends, over) back h = parts_ended w new call key part from to seen.outcome fit there at ends h
-parts_happens w new (event.Withdraw call key) seen fit (part, there, from, at, to, withdraws, shows, is) back h = subst HasParts (sym is) (parts_withdrawn w call key part from to fit there at withdraws h)
-parts_happens w new (event.Leave call) seen fit (shows, is) back h = subst HasParts (sym is) (parts_left w call fit h)
-parts_happens w new (event.PickUp call key) seen fit (join, there, from, at, to, picks, over) back h = parts_picks w new call key join from to seen.outcome there at picks h
-parts_happens w new (event.Foreign key value) seen fit (shows, is) back h = subst HasParts (sym is) (parts_disturbed w (with_entry w.store key value) h)
+parts_happens w new (WorldEvent.Change call key) seen fit (part, change, there, asked, shows, is) back h = subst HasParts (sym is) (parts_changed w call key part change there asked fit h)
+parts_happens w new (WorldEvent.Report call left fault) seen fit happens back h = parts_half new (back tt)
+parts_happens w new (WorldEvent.Leave call) seen fit (shows, is) back h = subst HasParts (sym is) (parts_left w call fit h)
+parts_happens w new (WorldEvent.Foreign key value) seen fit (shows, is) back h = subst HasParts (sym is) (parts_disturbed w (with_entry w.store key value) h)
+parts_happens w new e seen fit h back old = let k = key_change w new e seen refl h in parts_key w new e k.0 seen k.1 fit old
 
 -- what the stripes below keep
 pub record Laws : Type 0 where
@@ -78,9 +52,8 @@ sound_step laws old e seen new (inr (unfit, shows, is)) h = subst IsSoundWorld (
 
 pub sound_run : Laws → (old new : WorldState) (es : List WorldEvent) (ss : List Shown) → Run old es ss new → IsSoundWorld old → IsSoundWorld new
 sound_run laws old new [] [] run h = subst IsSoundWorld (sym run) h
-sound_run laws old new [] (s ∷ ss) run h = absurd run
-sound_run laws old new (e ∷ es) [] run h = absurd run
 sound_run laws old new (e ∷ es) (s ∷ ss) (mid, step, rest) h = sound_run laws mid new es ss rest (sound_step laws old e s mid step h)
+sound_run laws old new es ss run h = absurd run
 
 pub sound_start : (config : Config) → check config ≡ Ok tt → IsSoundWorld (start config)
 sound_start config fits = sound (start config) (order_start config fits) (parts_start config fits) (dues_start config) (joins_start config fits) tt

@@ -4,57 +4,10 @@
 --     AllBegun       what is under way, reserved and joined is so of calls that have begun
 --     AllStand       each answer that was shown is that of its call's step, and the call has begun before it
 --     stands_run     so a run of events keeps that
-use Rattle.std.proofs.Common.{inl, inr, ◌≡◌, ℕ, zero, suc, List, [], ◌∷◌, ◌++◌, length, take, zip, true, false, cond, not, Option, None, Some, option_map, slice_get, refl, sym, ap, ◌∙◌, subst, append-nil, append_assoc, arith}
-use Rattle.std.specs.FinMap.{get, insert, remove, get-empty}
-use Rattle.std.proofs.lemmas.List.Elements.{filter-append}
-use Rattle.std.proofs.Math.Seq.{take-append_seam}
-use Rattle.std.proofs.lemmas.List.{take-append-le}
-use Rattle.std.proofs.lemmas.Option.{slice_get_within}
-use Rattle.jc_types.specs.declared.caller.Caller.{Caller}
-use Rattle.jc_types.specs.declared.config.Config.{Config}
-use Rattle.jc_types.specs.declared.refusal.Refusal.TheVariants.{WriterFailed}
-use Rattle.jc_types.specs.Stripes.{stripe_of}
-use Rattle.jc_model.specs.declared.event.Op.{Op}
-use Rattle.jc_model.specs.declared.event.Op.TheVariants.{Get}
-use Rattle.jc_model.specs.declared.event.Out.{Out}
-use Rattle.jc_model.specs.declared.event.Reply.{Reply}
+use Rattle.jc_world.proofs.Common.{◌≡◌, ℕ, zero, suc, true, false, cond, not, List, [], ◌∷◌, ◌++◌, length, take, slice_get, slice_set, Some, None, Option, option_map, zip, sym, refl, ap, ◌∙◌, subst, subst₂, inl, inr, append_assoc, append-nil, arith, take-append_seam, and_from, nat_eq_equiv, take-append-le, filter-append, slice_get_within, get, insert, remove, get-empty, stripe_of, Caller, Config, Refusal, WriterFailed, Bytes, key_cmp, nothing_said, is_of_stripe, of_stripe, Op, Get, Out, Reply, callers_of, step_at, after_commit, State, Ticket, ProcessClaim, JoinClaim, Reservation, Command, Outcome, Part, Shown, WorldEvent, CallState, new_call, has_number, op_for, open_keys, is_going, has_too_many_keys, opened, going_on, with_met, settle, with_found, step_of, with_met_by, new_load, new_write, new_process, new_part, Starts, Ends, Picks, reported_keys, keys_reported, Happens, Step, Run, fits, start_with, report_for, IsReplyOfStep, Stands, is_answer_at, Each, IsSoundWorld, Parts, JoinKey, join_cmp, join_key, Joins, WorldState, home, stripe_for, open_call, part_of, out_of, join_of}
 use Rattle.jc_model.specs.declared.event.Event.{Event as StripeEvent}
-use Rattle.jc_model.specs.declared.event.Event.TheVariants as stripe
-use Rattle.jc_model.specs.Cache.{Bytes, key_cmp}
-use Rattle.jc_model.specs.Group.{nothing_said}
-use Rattle.jc_model.specs.Legal.{is_of_stripe, of_stripe}
-use Rattle.jc_inflight.specs.Joining.{callers_of}
-use Rattle.jc_stripe.specs.Tickets.{Ticket, ProcessClaim, JoinClaim}
-use Rattle.jc_stripe.specs.State.{State}
-use Rattle.jc_stripe.specs.Phases.{after_commit}
-use Rattle.jc_stripe.proofs.CallerLemmas.{step_at}
-use Rattle.jc_world.specs.declared.event.Part.{Part}
-use Rattle.jc_world.specs.declared.event.Shown.{Shown}
-use Rattle.jc_world.specs.declared.event.Outcome.{Outcome}
-use Rattle.jc_world.specs.declared.event.Outcome.TheVariants as outcome
-use Rattle.jc_world.specs.declared.command.Command.{Command}
-use Rattle.jc_world.specs.Calls.{CallState, has_number, has_too_many_keys, is_going, op_for, new_call, opened, going_on, with_found, with_met, open_keys}
-use Rattle.jc_world.specs.declared.event.WorldEvent.{WorldEvent}
-use Rattle.jc_world.specs.declared.event.WorldEvent.TheVariants as event
-use Rattle.jc_world.specs.World.{WorldState, Parts, home, stripe_for, JoinKey, Joins, join_cmp, join_key, join_of, part_of, out_of, open_call}
-use Rattle.jc_world.specs.Fits.{fits}
-use Rattle.jc_world.specs.Events.{with_met_by, new_load, new_write, new_part, step_of, reported_keys, keys_reported, Starts, Ends, Picks, Happens, Step, Run, new_process}
-use Rattle.jc_world.specs.Sound.{IsSoundWorld, Each}
-use Rattle.jc_world.specs.Headline.{start_with}
-use Rattle.jc_world.specs.Replies.{IsReplyOfStep, Stands}
-use Rattle.jc_world.proofs.Shares.{each_filter, each_pushed, each_map, added, fact_found, still_at}
-use Rattle.jc_world.proofs.Underway.{found_number, of_call-at}
-use Rattle.jc_world.proofs.Looked.{Taken, taken_of, taken_met, each_replaced}
-use Rattle.jc_world.proofs.Settling.{Left, done_for, each_settled}
-use Rattle.jc_world.proofs.NewCalls.{begun_cases, begun_shown}
-use Rattle.jc_world.proofs.LoadKeys.{joins_get}
-use Rattle.jc_world.proofs.Joiners.{join_at}
-use Rattle.jc_world.proofs.Places.{stripe_put}
+use Rattle.jc_world.proofs.Lemmas.{still_at, each_map, fact_found, each_pushed, each_filter, added, found_number, of_call-at, done_for, Left, each_settled, begun_cases, begun_shown, Taken, taken_of, taken_met, each_replaced, join_at, joins_get, part_key, stripe_put, AnswersNone, IsStart, KeyChange, by_nothing, by_refusal, by_step, by_reservation, by_join, by_commit, by_withdrawal, by_answer, by_retry, key_change, StripeChange, by_key, beside_stripes, change_of, Move, no_move, quiet_move, step_move, move_step, each_report, beside}
 use Rattle.jc_world.proofs.Maps.{keys_ordered, joins_ordered, each_put, each_left}
-use Rattle.jc_world.proofs.Callers.{part_key}
-use Rattle.jc_world.specs.Premises.{report_for}
-use Rattle.jc_world.proofs.Returns.{each_report}
-use Rattle.jc_world.proofs.Beside.{beside}
 use Rattle.jc_world.proofs.Sounding.{Laws, sound_step}
 
 -- 1. Places of lists.
@@ -82,58 +35,19 @@ pub record IsLater (old new : WorldState) : Type 0 where
 later_same : (old new : WorldState) → new.config ≡ old.config → new.order ≡ old.order → IsLater old new
 later_same old new config order = record { config = config; more = []; order = order ∙ sym (append-nil old.order) }
 
--- by what is shown of a first phase
-later_started : (w new : WorldState) (caller : Caller) (key : Bytes) (op : Op) (from to : State) (seen : Outcome) → Starts w caller key op from to seen new → IsLater w new
-later_started w new caller key op from to (outcome.Refused refusal) h = later_same w new (ap (λ (x : WorldState). x.config) h.1) (ap (λ (x : WorldState). x.order) h.1)
-later_started w new caller key op from to (outcome.PutOff refusal) h = later_same w new (ap (λ (x : WorldState). x.config) h.1) (ap (λ (x : WorldState). x.order) h.1)
-later_started w new caller key op from to (outcome.Stepped seen) h = record { config = ap (λ (x : WorldState). x.config) h.2; more = added from to; order = ap (λ (x : WorldState). x.order) h.2 }
-later_started w new caller key op from to outcome.Loads h = later_same w new (ap (λ (x : WorldState). x.config) h.2) (ap (λ (x : WorldState). x.order) h.2)
-later_started w new caller key op from to (outcome.Asks change) h = later_same w new (ap (λ (x : WorldState). x.config) h.3) (ap (λ (x : WorldState). x.order) h.3)
-later_started w new caller key op from to (outcome.Processes entry) h = later_same w new (ap (λ (x : WorldState). x.config) h.3) (ap (λ (x : WorldState). x.order) h.3)
-later_started w new caller key op from to outcome.Joins h = later_same w new (ap (λ (x : WorldState). x.config) h.2) (ap (λ (x : WorldState). x.order) h.2)
-later_started w new caller key op from to seen h = absurd h
+later_as : (w new : WorldState) (seen : Outcome) → Move w new seen → IsLater w new
+later_as w new seen (no_move config stripes order) = later_same w new config order
+later_as w new seen (quiet_move key from to there config stripes order cache) = later_same w new config order
+later_as w new seen (step_move from to x config order shows) = record { config = config; more = added from to; order = order }
 
--- of a last phase
-later_ended : (w new : WorldState) (call : ℕ) (key : Bytes) (part : Part) (from to : State) (seen : Outcome) → Ends w call key part from to seen new → IsLater w new
-later_ended w new call key part from to (outcome.Stepped seen) h = record { config = ap (λ (x : WorldState). x.config) h.2; more = added from to; order = ap (λ (x : WorldState). x.order) h.2 }
-later_ended w new call key part from to seen h = absurd h
-
--- of a pick-up
-later_picks : (w new : WorldState) (call : ℕ) (key : Bytes) (join : JoinClaim) (from to : State) (seen : Outcome) → Picks w call key join from to seen new → IsLater w new
-later_picks w new call key join from to (outcome.PickedUp seen) h = later_same w new (ap (λ (x : WorldState). x.config) h.2) (ap (λ (x : WorldState). x.order) h.2)
-later_picks w new call key join from to outcome.Again h = later_same w new (ap (λ (x : WorldState). x.config) h.1) (ap (λ (x : WorldState). x.order) h.1)
-later_picks w new call key join from to outcome.Waits h = later_same w new (ap (λ (x : WorldState). x.config) h.1) (ap (λ (x : WorldState). x.order) h.1)
-later_picks w new call key join from to seen h = absurd h
-
--- of any event that fits
-later_happens : (w new : WorldState) (e : WorldEvent) (seen : Shown) → Happens w e seen new → IsLater w new
-later_happens w new (event.Call call session command) seen h = later_same w new (ap (λ (x : WorldState). x.config) h.1) (ap (λ (x : WorldState). x.order) h.1)
-later_happens w new (event.Look call stripe) seen h = later_same w new (ap (λ (x : WorldState). x.config) h.9) (ap (λ (x : WorldState). x.order) h.9)
-later_happens w new (event.Start call key) seen h = later_started w new h.0.caller key h.1 h.4 h.6 seen.outcome h.7
-later_happens w new (event.Read call key) seen h = later_same w new (ap (λ (x : WorldState). x.config) h.3) (ap (λ (x : WorldState). x.order) h.3)
-later_happens w new (event.Say call key answer) seen h = later_same w new (ap (λ (x : WorldState). x.config) h.3) (ap (λ (x : WorldState). x.order) h.3)
-later_happens w new (event.Process call key source calls fail) seen h = later_same w new (ap (λ (x : WorldState). x.config) h.3) (ap (λ (x : WorldState). x.order) h.3)
-later_happens w new (event.Change call key) seen h = later_same w new (ap (λ (x : WorldState). x.config) h.5) (ap (λ (x : WorldState). x.order) h.5)
-later_happens w new (event.Report call left fault) seen h =
-    let is = (beside w new call h.0 left fault h.3).is in
-    later_same w new (ap (λ (x : WorldState). x.config) is) (ap (λ (x : WorldState). x.order) is)
-later_happens w new (event.Commit call key) seen h = later_ended w new call key h.0 h.2 h.4 seen.outcome h.5
-later_happens w new (event.Withdraw call key) seen h = later_same w new (ap (λ (x : WorldState). x.config) h.7) (ap (λ (x : WorldState). x.order) h.7)
-later_happens w new (event.Leave call) seen h = later_same w new (ap (λ (x : WorldState). x.config) h.1) (ap (λ (x : WorldState). x.order) h.1)
-later_happens w new (event.PickUp call key) seen h = later_picks w new call key h.0 h.2 h.4 seen.outcome h.5
-later_happens w new (event.Foreign key value) seen h = later_same w new (ap (λ (x : WorldState). x.config) h.1) (ap (λ (x : WorldState). x.order) h.1)
-
--- and of any event
 pub later_step : (w new : WorldState) (e : WorldEvent) (seen : Shown) → Step w e seen new → IsLater w new
-later_step w new e seen (inl (fit, happens)) = later_happens w new e seen happens
-later_step w new e seen (inr (unfit, shows, is)) = later_same w new (ap (λ (x : WorldState). x.config) is) (ap (λ (x : WorldState). x.order) is)
+later_step w new e seen step = later_as w new seen.outcome (move_step w new e seen step)
 
 -- a run keeps the configuration, and so does what the store holds at the start
 pub config_run : (w new : WorldState) (es : List WorldEvent) (ss : List Shown) → Run w es ss new → new.config ≡ w.config
 config_run w new [] [] run = ap (λ (x : WorldState). x.config) run
-config_run w new [] (s ∷ ss) run = absurd run
-config_run w new (e ∷ es) [] run = absurd run
 config_run w new (e ∷ es) (s ∷ ss) (mid, step, rest) = config_run mid new es ss rest ∙ (later_step w mid e s step).config
+config_run w new es ss run = absurd run
 
 pub config_opened : (config : Config) (stored : List (Bytes × Bytes)) → (start_with config stored).config ≡ config
 config_opened config [] = refl
@@ -162,11 +76,11 @@ answered_on w n shows call key reply number place shared later h =
     }
 
 stands_on : (w n : WorldState) (shows : List (WorldEvent × Shown)) (e : WorldEvent) (seen : Outcome) → IsLater w n → Stands w shows e seen → Stands n shows e seen
-stands_on w n shows (event.Start call key) (outcome.Stepped x) later h = answered_on w n shows call key x.reply x.stripe x.place None later h
-stands_on w n shows (event.Commit call key) (outcome.Stepped x) later h = answered_on w n shows call key x.reply x.stripe x.place None later h
-stands_on w n shows (event.PickUp call key) (outcome.PickedUp x) later h = answered_on w n shows call key x.reply x.stripe x.place (Some x.shared) later h
-stands_on w n shows e (outcome.Stepped x) later h = absurd h
-stands_on w n shows e (outcome.PickedUp x) later h = absurd h
+stands_on w n shows (WorldEvent.Start call key) (Outcome.Stepped x) later h = answered_on w n shows call key x.reply x.stripe x.place None later h
+stands_on w n shows (WorldEvent.Commit call key) (Outcome.Stepped x) later h = answered_on w n shows call key x.reply x.stripe x.place None later h
+stands_on w n shows (WorldEvent.PickUp call key) (Outcome.PickedUp x) later h = answered_on w n shows call key x.reply x.stripe x.place (Some x.shared) later h
+stands_on w n shows e (Outcome.Stepped x) later h = absurd h
+stands_on w n shows e (Outcome.PickedUp x) later h = absurd h
 stands_on w n shows e seen later h = tt
 
 -- 4. Which calls have begun.
@@ -174,7 +88,7 @@ stands_on w n shows e seen later h = tt
 -- a call of this caller that does this at this key is among what has happened
 abbrev pub BegunAs : List (WorldEvent × Shown) → Caller → Bytes → Op → Type 0
 BegunAs shows caller key op =
-    (at : ℕ) × (command : Command) × (seen : Shown) × (slice_get shows at ≡ Some (event.Call caller.call caller.session command, seen)) × (seen.outcome ≡ outcome.Begun) × (op_for (new_call caller.call caller.session command) key ≡ Some op)
+    (at : ℕ) × (command : Command) × (seen : Shown) × (slice_get shows at ≡ Some (WorldEvent.Call caller.call caller.session command, seen)) × (seen.outcome ≡ Outcome.Begun) × (op_for (new_call caller.call caller.session command) key ≡ Some op)
 
 abbrev IsBegun : List (WorldEvent × Shown) → CallState → Type 0
 IsBegun shows u = (key : Bytes) (op : Op) → op_for u key ≡ Some op → BegunAs shows u.caller key op
@@ -235,52 +149,37 @@ begun_left shows call key u v left h q op is = let P : Caller → Type 0 = λ c.
 begun_taken : (shows : List (WorldEvent × Shown)) (u v : CallState) → Taken u v → IsBegun shows u → IsBegun shows v
 begun_taken shows u v taken h q op is = let P : Caller → Type 0 = λ c. BegunAs shows c q op in subst P (sym taken.caller_is) (h q op (taken.was q op is))
 
--- by what is shown of a first phase
-begun_started : (shows : List (WorldEvent × Shown)) (w new : WorldState) (caller : Caller) (key : Bytes) (op : Op) (from to : State) (seen : Outcome) → Starts w caller key op from to seen new → BegunAs shows caller key op → AllBegun shows w → AllBegun shows new
-begun_started shows w new caller key op from to (outcome.Refused refusal) h one old =
-    subst (AllBegun shows) (sym h.1) (record { calls = each_settled caller.call key _ (IsBegun shows) w.calls (begun_left shows caller.call key) old.calls; parts = old.parts; joins = old.joins })
-begun_started shows w new caller key op from to (outcome.PutOff refusal) h one old = subst (AllBegun shows) (sym h.1) old
-begun_started shows w new caller key op from to (outcome.Stepped seen) h one old =
-    subst (AllBegun shows) (sym h.2) (record { calls = each_settled caller.call key _ (IsBegun shows) w.calls (begun_left shows caller.call key) old.calls; parts = old.parts; joins = old.joins })
-begun_started shows w new caller key op from to outcome.Loads h one old =
-    let P : Ticket → Type 0 = λ t. PartBegun shows (new_part new_load t.reservation) in
-    subst (AllBegun shows) (sym h.2) (record { calls = old.calls; parts = parts_put shows w.parts key (new_part new_load h.0.reservation) (subst P (sym h.1.3) one) old.parts; joins = old.joins })
-begun_started shows w new caller key op from to (outcome.Asks change) h one old =
-    let P : Ticket → Type 0 = λ t. PartBegun shows (new_part new_write t.reservation) in
-    subst (AllBegun shows) (sym h.3) (record { calls = old.calls; parts = parts_put shows w.parts key (new_part new_write h.0.reservation) (subst P (sym h.1.3) one) old.parts; joins = old.joins })
-begun_started shows w new caller key op from to (outcome.Processes entry) h one old =
-    let P : ProcessClaim → Type 0 = λ t. PartBegun shows (new_part new_process t.reservation) in
-    subst (AllBegun shows) (sym h.3) (record { calls = old.calls; parts = parts_put shows w.parts key (new_part new_process h.0.reservation) (subst P (sym h.1.3) one) old.parts; joins = old.joins })
-begun_started shows w new caller key op from to outcome.Joins h one old =
-    let get_is : op ≡ Get = joins_get from key op h.0.load h.1.1 in
-    let P : JoinClaim → Type 0 = JoinBegun shows in
-    let B : Op → Type 0 = BegunAs shows caller key in
-    subst (AllBegun shows) (sym h.2) (record { calls = old.calls; parts = old.parts; joins = each_put joins_ordered (λ at j. JoinBegun shows j) w.joins (join_key h.0) h.0 (subst P (sym h.1.2) (subst B get_is one)) old.joins })
-begun_started shows w new caller key op from to seen h one old = absurd h
+-- the calls once a key of one is settled
+calls_settled_begun : (shows : List (WorldEvent × Shown)) (w : WorldState) (call : ℕ) (key : Bytes) (met : Option Refusal) → AllBegun shows w → Each (IsBegun shows) (settle call key met w.calls)
+calls_settled_begun shows w call key met old = each_settled call key met (IsBegun shows) w.calls (begun_left shows call key) old.calls
 
--- of a last phase
-begun_ended : (shows : List (WorldEvent × Shown)) (w new : WorldState) (call : ℕ) (key : Bytes) (part : Part) (from to : State) (seen : Outcome) → Ends w call key part from to seen new → AllBegun shows w → AllBegun shows new
-begun_ended shows w new call key part from to (outcome.Stepped seen) h old =
-    subst (AllBegun shows) (sym h.2) (record { calls = each_settled call key _ (IsBegun shows) w.calls (begun_left shows call key) old.calls; parts = parts_left shows w.parts key old.parts; joins = old.joins })
-begun_ended shows w new call key part from to seen h old = absurd h
+-- a call that starts at a key has begun
+start_begun : (shows : List (WorldEvent × Shown)) (w : WorldState) (e : WorldEvent) (key : Bytes) (u : CallState) (op : Op) → IsStart w e key u op → AllBegun shows w → BegunAs shows u.caller key op
+start_begun shows w e key u op s old = begun_under shows w s.call u s.here old key op (done_for u key op s.op_is)
 
--- of a pick-up
-begun_picks : (shows : List (WorldEvent × Shown)) (w new : WorldState) (call : ℕ) (key : Bytes) (join : JoinClaim) (from to : State) (seen : Outcome) → Picks w call key join from to seen new → AllBegun shows w → AllBegun shows new
-begun_picks shows w new call key join from to (outcome.PickedUp seen) h old =
-    subst (AllBegun shows) (sym h.2)
-    (record {
-      calls = each_settled call key _ (IsBegun shows) w.calls (begun_left shows call key) old.calls;
-      parts = old.parts;
-      joins = joins_left shows w.joins (call, key) old.joins;
-    })
-begun_picks shows w new call key join from to outcome.Again h old =
-    subst (AllBegun shows) (sym h.1) (record { calls = old.calls; parts = old.parts; joins = joins_left shows w.joins (call, key) old.joins })
-begun_picks shows w new call key join from to outcome.Waits h old = subst (AllBegun shows) (sym h.1) old
-begun_picks shows w new call key join from to seen h old = absurd h
+-- by the kind of the change at a key
+begun_key : (shows : List (WorldEvent × Shown)) (w new : WorldState) (e : WorldEvent) (key : Bytes) (seen : Shown) → KeyChange w new e key seen → AllBegun shows w → AllBegun shows new
+begun_key shows w new e key seen (by_nothing is none ends) old = subst (AllBegun shows) (sym is) old
+begun_key shows w new e key seen (by_refusal u op refusal may is none ends) old = subst (AllBegun shows) (sym is) (record { calls = calls_settled_begun shows w u.caller.call key _ old; parts = old.parts; joins = old.joins })
+begun_key shows w new e key seen (by_step u op from to x may there h home_is is shows_it ends) old = subst (AllBegun shows) (sym is) (record { calls = calls_settled_begun shows w u.caller.call key _ old; parts = old.parts; joins = old.joins })
+begun_key shows w new e key seen (by_reservation u op from to p r may there h is none ends) old =
+    let P : Reservation → Type 0 = λ x. PartBegun shows (new_part p x) in
+    subst (AllBegun shows) (sym is) (record { calls = old.calls; parts = parts_put shows w.parts key (new_part p r) (subst P (sym h.is) (start_begun shows w e key u op may old)) old.parts; joins = old.joins })
+begun_key shows w new e key seen (by_join u op from to join may there h is none ends) old =
+    let one = rw (joins_get from key op join.load h.1) at (start_begun shows w e key u op may old) in
+    subst (AllBegun shows) (sym is) (record { calls = old.calls; parts = old.parts; joins = each_put joins_ordered (λ at j. JoinBegun shows j) w.joins (join_key join) join (subst (JoinBegun shows) (sym h.2) one) old.joins })
+begun_key shows w new e key seen (by_commit call part from to x e_is part_is there h home_is is shows_it) old =
+    subst (AllBegun shows) (sym is) (record { calls = calls_settled_begun shows w call key _ old; parts = parts_left shows w.parts key old.parts; joins = old.joins })
+begun_key shows w new e key seen (by_withdrawal call part from to e_is part_is there h is shows_it) old =
+    subst (AllBegun shows) (sym is) (record { calls = old.calls; parts = parts_left shows w.parts key old.parts; joins = old.joins })
+begun_key shows w new e key seen (by_answer call join from to x e_is join_is there h home_is is shows_it ends) old =
+    subst (AllBegun shows) (sym is) (record { calls = calls_settled_begun shows w call key _ old; parts = old.parts; joins = joins_left shows w.joins (call, key) old.joins })
+begun_key shows w new e key seen (by_retry call join from to e_is join_is there h is shows_it ends) old =
+    subst (AllBegun shows) (sym is) (record { calls = old.calls; parts = old.parts; joins = joins_left shows w.joins (call, key) old.joins })
 
 -- of any event that fits, if it is among what has happened
 begun_happens : (shows : List (WorldEvent × Shown)) (w new : WorldState) (e : WorldEvent) (seen : Shown) → (at : ℕ) × (slice_get shows at ≡ Some (e, seen)) → Happens w e seen new → AllBegun shows w → AllBegun shows new
-begun_happens shows w new (event.Call call session command) seen last h old =
+begun_happens shows w new (WorldEvent.Call call session command) seen last h old =
     let one : CallState = new_call call session command in
     let begun : has_too_many_keys one ≡ false → IsBegun shows one = λ few key op is. (last.0, command, seen, last.1, ap (λ (s : Shown). s.outcome) h.0 ∙ begun_shown one few, is) in
     let none : Each (IsBegun shows) (w.calls ++ []) = subst (Each (IsBegun shows)) (sym (append-nil w.calls)) old.calls in
@@ -294,7 +193,7 @@ begun_happens shows w new (event.Call call session command) seen last h old =
     ] refl
     in
     subst (AllBegun shows) (sym h.1) (record { calls = calls; parts = old.parts; joins = old.joins })
-begun_happens shows w new (event.Look call stripe) seen last h old =
+begun_happens shows w new (WorldEvent.Look call stripe) seen last h old =
     let stripes = w.config.stripes in
     subst (AllBegun shows) (sym h.9)
     (record {
@@ -302,29 +201,25 @@ begun_happens shows w new (event.Look call stripe) seen last h old =
       parts = old.parts;
       joins = old.joins;
     })
-begun_happens shows w new (event.Start call key) seen last h old = begun_started shows w new h.0.caller key h.1 h.4 h.6 seen.outcome h.7 (begun_under shows w call h.0 h.2 old key h.1 (done_for h.0 key h.1 h.3)) old
-begun_happens shows w new (event.Read call key) seen last h old =
+begun_happens shows w new (WorldEvent.Read call key) seen last h old =
     subst (AllBegun shows) (sym h.3) (record { calls = old.calls; parts = parts_put shows w.parts key _ (part_begun shows w call key h.0 h.1 old) old.parts; joins = old.joins })
-begun_happens shows w new (event.Say call key answer) seen last h old =
+begun_happens shows w new (WorldEvent.Say call key answer) seen last h old =
     subst (AllBegun shows) (sym h.3) (record { calls = old.calls; parts = parts_put shows w.parts key _ (part_begun shows w call key h.0 h.1 old) old.parts; joins = old.joins })
-begun_happens shows w new (event.Process call key source calls fail) seen last h old =
+begun_happens shows w new (WorldEvent.Process call key source calls fail) seen last h old =
     subst (AllBegun shows) (sym h.3) (record { calls = old.calls; parts = parts_put shows w.parts key _ (part_begun shows w call key h.0 h.1 old) old.parts; joins = old.joins })
-begun_happens shows w new (event.Change call key) seen last h old =
+begun_happens shows w new (WorldEvent.Change call key) seen last h old =
     subst (AllBegun shows) (sym h.5) (record { calls = old.calls; parts = parts_put shows w.parts key _ (part_begun shows w call key h.0 h.2 old) old.parts; joins = old.joins })
-begun_happens shows w new (event.Report call left fault) seen last h old =
+begun_happens shows w new (WorldEvent.Report call left fault) seen last h old =
     let met = option_map WriterFailed fault in
     subst (AllBegun shows) (sym h.3)
     (each_report (AllBegun shows) call (report_for h.0.kind left fault)
     (λ v key part at waits o. record { calls = o.calls; parts = parts_put shows v.parts key _ (part_begun shows v call key part at o) o.parts; joins = o.joins })
     (with_met_by w call met) (keys_reported (reported_keys w.parts call (open_keys h.0)))
     (record { calls = each_replaced call (λ x. Some (with_met met x)) (IsBegun shows) h.0 w.calls h.1 (λ v goes b. begun_taken shows h.0 v (taken_met met h.0 v goes) b) old.calls; parts = old.parts; joins = old.joins }))
-begun_happens shows w new (event.Commit call key) seen last h old = begun_ended shows w new call key h.0 h.2 h.4 seen.outcome h.5 old
-begun_happens shows w new (event.Withdraw call key) seen last h old =
-    subst (AllBegun shows) (sym h.7) (record { calls = old.calls; parts = parts_left shows w.parts key old.parts; joins = old.joins })
-begun_happens shows w new (event.Leave call) seen last h old =
+begun_happens shows w new (WorldEvent.Leave call) seen last h old =
     subst (AllBegun shows) (sym h.1) (record { calls = each_filter (IsBegun shows) (λ x. not (has_number call x)) w.calls old.calls; parts = old.parts; joins = old.joins })
-begun_happens shows w new (event.PickUp call key) seen last h old = begun_picks shows w new call key h.0 h.2 h.4 seen.outcome h.5 old
-begun_happens shows w new (event.Foreign key value) seen last h old = subst (AllBegun shows) (sym h.1) (record { calls = old.calls; parts = old.parts; joins = old.joins })
+begun_happens shows w new (WorldEvent.Foreign key value) seen last h old = subst (AllBegun shows) (sym h.1) (record { calls = old.calls; parts = old.parts; joins = old.joins })
+begun_happens shows w new e seen last h old = let k = key_change w new e seen refl h in begun_key shows w new e k.0 seen k.1 old
 
 -- and of any event
 begun_step : (shows : List (WorldEvent × Shown)) (w new : WorldState) (e : WorldEvent) (seen : Shown) → (at : ℕ) × (slice_get shows at ≡ Some (e, seen)) → Step w e seen new → AllBegun shows w → AllBegun shows new
@@ -340,7 +235,7 @@ begun_opened shows config (e ∷ es) = let rest = begun_opened shows config es i
 
 -- the answer of a call that has begun, with its step in the stripe of its key
 answered_at : (w new : WorldState) (shows : List (WorldEvent × Shown)) (caller : Caller) (key : Bytes) (op : Op) (out : Out) (shared : Option ℕ) (reply : Reply) (number place : ℕ) (to : State) → number ≡ home w key → IsLater w new
-    → slice_get new.stripes (home w key) ≡ Some to → IsSoundWorld new → slice_get to.history place ≡ Some (stripe.Step caller op key out shared reply) → BegunAs shows caller key op
+    → slice_get new.stripes (home w key) ≡ Some to → IsSoundWorld new → slice_get to.history place ≡ Some (StripeEvent.Step caller op key out shared reply) → BegunAs shows caller key op
     → IsReplyOfStep new shows caller.call key reply number place shared
 answered_at w new shows caller key op out shared reply number place to home_is later here sound step begun = record {
   session = caller.session;
@@ -359,84 +254,61 @@ answered_at w new shows caller key op out shared reply number place to home_is l
 -- of another call and key that are the same
 answered_for : (w : WorldState) (shows : List (WorldEvent × Shown)) (call n : ℕ) (key k : Bytes) (reply : Reply) (number place : ℕ) (shared : Option ℕ) → call ≡ n → key ≡ k → IsReplyOfStep w shows call key reply number place shared → IsReplyOfStep w shows n k reply number place shared
 answered_for w shows call n key k reply number place shared calls keys h =
-    let P : ℕ → Type 0 = λ m. IsReplyOfStep w shows m k reply number place shared in
-    let Q : Bytes → Type 0 = λ q. IsReplyOfStep w shows call q reply number place shared in
-    subst P calls (subst Q keys h)
+    rw calls at (rw keys at h)
 
--- by what is shown of a first phase
-stands_started : (shows : List (WorldEvent × Shown)) (w new : WorldState) (call : ℕ) (key : Bytes) (u : CallState) (op : Op) (from to : State) (seen : Outcome) → open_call w call ≡ Some u → stripe_for w key ≡ Some from
-    → Starts w u.caller key op from to seen new → BegunAs shows u.caller key op → IsSoundWorld new → Stands new shows (event.Start call key) seen
-stands_started shows w new call key u op from to (outcome.Refused refusal) here there h begun sound = tt
-stands_started shows w new call key u op from to (outcome.PutOff refusal) here there h begun sound = tt
-stands_started shows w new call key u op from to (outcome.Stepped x) here there h begun sound =
-    let placed : slice_get new.stripes (home w key) ≡ Some to = ap (λ (v : WorldState). slice_get v.stripes (home w key)) h.2 ∙ stripe_put w.stripes (home w key) from to there in
-    answered_for new shows u.caller.call call key key x.reply x.stripe x.place None (found_number call w.calls u here) refl
-    (answered_at w new shows u.caller key op nothing_said None x.reply x.stripe x.place to h.1 (later_started w new u.caller key op from to (outcome.Stepped x) h) placed sound
-    (step_at from to u.caller key op nothing_said [] (step_of x) h.0.2) begun)
-stands_started shows w new call key u op from to outcome.Loads here there h begun sound = tt
-stands_started shows w new call key u op from to (outcome.Asks change) here there h begun sound = tt
-stands_started shows w new call key u op from to (outcome.Processes entry) here there h begun sound = tt
-stands_started shows w new call key u op from to outcome.Joins here there h begun sound = tt
-stands_started shows w new call key u op from to seen here there h begun sound = absurd h
+-- what shows no answer has nothing to stand for
+stands_silent : (w : WorldState) (shows : List (WorldEvent × Shown)) (e : WorldEvent) (seen : Outcome) → AnswersNone seen → Stands w shows e seen
+stands_silent w shows e (Outcome.Stepped x) none = let t : true ≡ false = sym (and_from _ _ (nat_eq_equiv.refl x.stripe) (nat_eq_equiv.refl x.place)) ∙ none x.stripe x.place in cc
+stands_silent w shows e (Outcome.PickedUp x) none = let t : true ≡ false = sym (and_from _ _ (nat_eq_equiv.refl x.stripe) (nat_eq_equiv.refl x.place)) ∙ none x.stripe x.place in cc
+stands_silent w shows (WorldEvent.Start call key) seen none = tt
+stands_silent w shows (WorldEvent.Commit call key) seen none = tt
+stands_silent w shows (WorldEvent.PickUp call key) seen none = tt
+stands_silent w shows e seen none = tt
 
--- of a last phase
-stands_ended : (shows : List (WorldEvent × Shown)) (w new : WorldState) (call : ℕ) (key : Bytes) (part : Part) (from to : State) (seen : Outcome) → part_of w call key ≡ Some part → part.reservation.key ≡ key → stripe_for w key ≡ Some from
-    → Ends w call key part from to seen new → PartBegun shows part → IsSoundWorld new → Stands new shows (event.Commit call key) seen
-stands_ended shows w new call key part from to (outcome.Stepped x) is key_is there h begun sound =
+-- the stripe of a key, once a phase has set it
+set_at : (w new m : WorldState) (key k : Bytes) (from to : State) → k ≡ key → stripe_for w key ≡ Some from → new ≡ m → m.stripes ≡ slice_set w.stripes (home w key) to → slice_get new.stripes (home w k) ≡ Some to
+set_at w new m key k from to same there is stripes =
+    ap (λ q. slice_get new.stripes (home w q)) same ∙ ap (λ (v : WorldState). slice_get v.stripes (home w key)) is ∙ ap (λ ss. slice_get ss (home w key)) stripes ∙ stripe_put w.stripes (home w key) from to there
+
+-- by the kind of the change at a key
+stands_key : (shows : List (WorldEvent × Shown)) (w new : WorldState) (e : WorldEvent) (key : Bytes) (seen : Shown) → KeyChange w new e key seen → IsLater w new → IsSoundWorld w → IsSoundWorld new → AllBegun shows w → Stands new shows e seen.outcome
+stands_key shows w new e key seen (by_nothing is none ends) later old sound begun = stands_silent new shows e seen.outcome none
+stands_key shows w new e key seen (by_refusal u op refusal may is none ends) later old sound begun = stands_silent new shows e seen.outcome none
+stands_key shows w new e key seen (by_step u op from to x may there h home_is is shows_it ends) later old sound begun =
+    let S : WorldEvent → Outcome → Type 0 = λ e o. Stands new shows e o in
+    subst₂ S (sym may.e_is) (sym shows_it)
+    (answered_for new shows u.caller.call may.call key key x.reply x.stripe x.place None (found_number may.call w.calls u may.here) refl
+    (answered_at w new shows u.caller key op nothing_said None x.reply x.stripe x.place to home_is later (set_at w new _ key key from to refl there is refl) sound
+    (step_at from to u.caller key op nothing_said [] (step_of x) h.2) (start_begun shows w e key u op may begun)))
+stands_key shows w new e key seen (by_reservation u op from to p r may there h is none ends) later old sound begun = stands_silent new shows e seen.outcome none
+stands_key shows w new e key seen (by_join u op from to join may there h is none ends) later old sound begun = stands_silent new shows e seen.outcome none
+stands_key shows w new e key seen (by_commit call part from to x e_is part_is there h home_is is shows_it) later old sound begun =
     let r = part.reservation in
-    let mid = after_commit from r x.place in
-    let home_is : home w r.key ≡ home w key = ap (home w) key_is in
-    let placed : slice_get new.stripes (home w r.key) ≡ Some to = ap (slice_get new.stripes) home_is ∙ ap (λ (v : WorldState). slice_get v.stripes (home w key)) h.2 ∙ stripe_put w.stripes (home w key) from to there in
-    answered_for new shows r.caller.call call r.key key x.reply x.stripe x.place None (of_call-at call (get w.parts key) part is).1 key_is
-    (answered_at w new shows r.caller r.key r.op (out_of part) None x.reply x.stripe x.place to (h.1 ∙ sym home_is) (later_ended w new call key part from to (outcome.Stepped x) h) placed sound
-    (step_at mid to r.caller r.key r.op (out_of part) (callers_of r.number from.joiners) (step_of x) h.0.1) begun)
-stands_ended shows w new call key part from to seen is key_is there h begun sound = absurd h
+    let key_is = part_key w call key part part_is old in
+    let S : WorldEvent → Outcome → Type 0 = λ e o. Stands new shows e o in
+    subst₂ S (sym e_is) (sym shows_it)
+    (answered_for new shows r.caller.call call r.key key x.reply x.stripe x.place None (of_call-at call (get w.parts key) part part_is).1 key_is
+    (answered_at w new shows r.caller r.key r.op (out_of part) None x.reply x.stripe x.place to (home_is ∙ sym (ap (home w) key_is)) later (set_at w new _ key r.key from to key_is there is refl) sound
+    (step_at (after_commit from r x.place) to r.caller r.key r.op (out_of part) (callers_of r.number from.joiners) (step_of x) h.1) (part_begun shows w call key part part_is begun)))
+stands_key shows w new e key seen (by_withdrawal call part from to e_is part_is there h is shows_it) later old sound begun = stands_silent new shows e seen.outcome (λ n p. ap (λ (s : Shown). is_answer_at n p s.outcome) shows_it)
+stands_key shows w new e key seen (by_answer call join from to x e_is join_is there h home_is is shows_it ends) later old sound begun =
+    let same = join_at w call key join join_is old.joins in
+    let step = h.2 in
+    let S : WorldEvent → Outcome → Type 0 = λ e o. Stands new shows e o in
+    subst₂ S (sym e_is) (sym shows_it)
+    (answered_for new shows join.caller.call call join.key key x.reply x.stripe x.place (Some x.shared) same.0 same.1
+    (answered_at w new shows join.caller join.key Get step.0 (Some x.shared) x.reply x.stripe x.place to (home_is ∙ sym (ap (home w) same.1)) later (set_at w new _ key join.key from to same.1 there is refl) sound
+    (ap (λ (s : State). slice_get s.history x.place) h.3 ∙ step.1) (begun.joins (call, key) join join_is)))
+stands_key shows w new e key seen (by_retry call join from to e_is join_is there h is shows_it ends) later old sound begun = stands_silent new shows e seen.outcome (λ n p. ap (is_answer_at n p) shows_it)
 
--- of a pick-up
-stands_picks : (shows : List (WorldEvent × Shown)) (w new : WorldState) (call : ℕ) (key : Bytes) (join : JoinClaim) (from to : State) (seen : Outcome) → join_of w call key ≡ Some join → stripe_for w key ≡ Some from
-    → Picks w call key join from to seen new → JoinBegun shows join → IsSoundWorld w → IsSoundWorld new → Stands new shows (event.PickUp call key) seen
-stands_picks shows w new call key join from to (outcome.PickedUp x) is there h begun old sound =
-    let same = join_at w call key join is old.joins in
-    let home_is : home w join.key ≡ home w key = ap (home w) same.1 in
-    let placed : slice_get new.stripes (home w join.key) ≡ Some to = ap (slice_get new.stripes) home_is ∙ ap (λ (v : WorldState). slice_get v.stripes (home w key)) h.2 ∙ stripe_put w.stripes (home w key) from to there in
-    let step = h.0.2 in
-    answered_for new shows join.caller.call call join.key key x.reply x.stripe x.place (Some x.shared) same.0 same.1
-    (answered_at w new shows join.caller join.key Get step.0 (Some x.shared) x.reply x.stripe x.place to (h.1 ∙ sym home_is) (later_picks w new call key join from to (outcome.PickedUp x) h) placed sound
-    (ap (λ (s : State). slice_get s.history x.place) h.0.3 ∙ step.1) begun)
-stands_picks shows w new call key join from to outcome.Again is there h begun old sound = tt
-stands_picks shows w new call key join from to outcome.Waits is there h begun old sound = tt
-stands_picks shows w new call key join from to seen is there h begun old sound = absurd h
-
--- of any event that fits
-stands_happens : (shows : List (WorldEvent × Shown)) (w new : WorldState) (e : WorldEvent) (seen : Shown) → fits w e ≡ true → Happens w e seen new → IsSoundWorld w → IsSoundWorld new → AllBegun shows w → Stands new shows e seen.outcome
-stands_happens shows w new (event.Call call session command) seen fit h old sound begun =
-    subst (λ (s : Shown). Stands new shows (event.Call call session command) s.outcome) (sym h.0) (begun_cases (new_call call session command) (λ s. Stands new shows (event.Call call session command) s.outcome) tt tt)
-stands_happens shows w new (event.Look call stripe) seen fit h old sound begun = subst (λ (s : Shown). Stands new shows (event.Look call stripe) s.outcome) (sym h.8) tt
-stands_happens shows w new (event.Start call key) seen fit h old sound begun = stands_started shows w new call key h.0 h.1 h.4 h.6 seen.outcome h.2 h.5 h.7 (begun_under shows w call h.0 h.2 begun key h.1 (done_for h.0 key h.1 h.3)) sound
-stands_happens shows w new (event.Read call key) seen fit h old sound begun = subst (λ (s : Shown). Stands new shows (event.Read call key) s.outcome) (sym h.2) tt
-stands_happens shows w new (event.Say call key answer) seen fit h old sound begun = subst (λ (s : Shown). Stands new shows (event.Say call key answer) s.outcome) (sym h.2) tt
-stands_happens shows w new (event.Process call key source calls fail) seen fit h old sound begun = subst (λ (s : Shown). Stands new shows (event.Process call key source calls fail) s.outcome) (sym h.2) tt
-stands_happens shows w new (event.Change call key) seen fit h old sound begun = subst (λ (s : Shown). Stands new shows (event.Change call key) s.outcome) (sym h.4) tt
-stands_happens shows w new (event.Report call left fault) seen fit h old sound begun = subst (λ (s : Shown). Stands new shows (event.Report call left fault) s.outcome) (sym h.2) tt
-stands_happens shows w new (event.Commit call key) seen fit h old sound begun =
-    stands_ended shows w new call key h.0 h.2 h.4 seen.outcome h.1 (part_key w call key h.0 h.1 old) h.3 h.5 (part_begun shows w call key h.0 h.1 begun) sound
-stands_happens shows w new (event.Withdraw call key) seen fit h old sound begun = subst (λ (s : Shown). Stands new shows (event.Withdraw call key) s.outcome) (sym h.6) tt
-stands_happens shows w new (event.Leave call) seen fit h old sound begun = subst (λ (s : Shown). Stands new shows (event.Leave call) s.outcome) (sym h.0) tt
-stands_happens shows w new (event.PickUp call key) seen fit h old sound begun =
-    stands_picks shows w new call key h.0 h.2 h.4 seen.outcome h.1 h.3 h.5 (begun.joins (call, key) h.0 h.1) old sound
-stands_happens shows w new (event.Foreign key value) seen fit h old sound begun = subst (λ (s : Shown). Stands new shows (event.Foreign key value) s.outcome) (sym h.0) tt
-
--- what doesn't fit is no answer
-stands_unfit : (shows : List (WorldEvent × Shown)) (w : WorldState) (e : WorldEvent) → Stands w shows e outcome.Unfit
-stands_unfit shows w (event.Start call key) = tt
-stands_unfit shows w (event.Commit call key) = tt
-stands_unfit shows w (event.PickUp call key) = tt
-stands_unfit shows w e = tt
-
--- and of any event
+-- of any event
 stands_step : (shows : List (WorldEvent × Shown)) (w new : WorldState) (e : WorldEvent) (seen : Shown) → Step w e seen new → IsSoundWorld w → IsSoundWorld new → AllBegun shows w → Stands new shows e seen.outcome
-stands_step shows w new e seen (inl (fit, happens)) old sound begun = stands_happens shows w new e seen fit happens old sound begun
-stands_step shows w new e seen (inr (unfit, shows_it, is)) old sound begun = subst (λ (s : Shown). Stands new shows e s.outcome) (sym shows_it) (stands_unfit shows new e)
+stands_step shows w new e seen (inl (fit, happens)) old sound begun = go (change_of w new e seen happens)
+  where
+    go : StripeChange w new e seen → Stands new shows e seen.outcome
+    go (by_key key k) = stands_key shows w new e key seen k (later_step w new e seen (inl (fit, happens))) old sound begun
+    go (beside_stripes m is config stripes order joins none ends) = stands_silent new shows e seen.outcome none
+stands_step shows w new e seen (inr (unfit, shows_it, is)) old sound begun = stands_silent new shows e seen.outcome (λ n p. ap (λ (s : Shown). is_answer_at n p s.outcome) shows_it)
 
 -- 6. A run.
 
@@ -454,24 +326,19 @@ stands_more shows w new e s later stand one at x seen is =
     let within = slice_get_within shows at (x, seen) before in
     subst P (sym (take-append-le at shows ((e, s) ∷ []) (omega arith))) (stands_on w new (take at shows) x seen.outcome later (stand at x seen before)))
     (λ last same.
-    let Q : WorldEvent × Shown → Type 0 = λ p. Stands new shows p.0 p.1.outcome in
-    subst P (sym (ap (λ i. take i now) last ∙ take-append_seam shows ((e, s) ∷ []))) (subst Q same one))
+    subst P (sym (ap (λ i. take i now) last ∙ take-append_seam shows ((e, s) ∷ []))) (subst (λ (p : WorldEvent × Shown). Stands new shows p.0 p.1.outcome) same one))
     is
 
 pub stands_run : Laws → (shows : List (WorldEvent × Shown)) (w new : WorldState) (es : List WorldEvent) (ss : List Shown) → Run w es ss new → IsSoundWorld w → AllBegun shows w → AllStand w shows → AllStand new (shows ++ zip es ss)
 stands_run laws shows w new [] [] run old begun stand =
-    let P : WorldState → Type 0 = λ v. AllStand v (shows ++ []) in
-    let Q : List (WorldEvent × Shown) → Type 0 = λ l. AllStand w l in
-    subst P (sym run) (subst Q (sym (append-nil shows)) stand)
-stands_run laws shows w new [] (s ∷ ss) run old begun stand = absurd run
-stands_run laws shows w new (e ∷ es) [] run old begun stand = absurd run
+    rw run (rw (append-nil shows) stand)
 stands_run laws shows w new (e ∷ es) (s ∷ ss) (mid, step, rest) old begun stand =
     let now = shows ++ (e, s) ∷ [] in
     let sound = sound_step laws w e s mid step old in
     let more = begun_step now w mid e s (length shows, seam_at shows [] (e, s)) step (all_begun_on shows ((e, s) ∷ []) w begun) in
-    let Q : List (WorldEvent × Shown) → Type 0 = λ l. AllStand new l in
-    subst Q (append_assoc shows ((e, s) ∷ []) (zip es ss))
+    rw (append_assoc shows ((e, s) ∷ []) (zip es ss)) at
     (stands_run laws now mid new es ss rest sound more (stands_more shows w mid e s (later_step w mid e s step) stand (stands_step shows w mid e s step old sound begun)))
+stands_run laws shows w new es ss run old begun stand = absurd run
 
 -- from the start
 pub stands_opened : Laws → (config : Config) (stored : List (Bytes × Bytes)) (new : WorldState) (es : List WorldEvent) (ss : List Shown) → Run (start_with config stored) es ss new → IsSoundWorld (start_with config stored) → AllStand new (zip es ss)

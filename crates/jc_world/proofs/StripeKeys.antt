@@ -4,23 +4,7 @@
 --     stripe_at      the stripe that is read
 --     look_found, look_takes
 --                    a call whose look fits hasn't looked at that stripe, which is there, and may take its keys
-use Rattle.std.proofs.Common.{◌≡◌, ◌==◌, ◌<◌, ℕ, List, [], ◌∷◌, length, true, false, Option, None, Some, IsSomeAnd, get_or, is_none, is_some, nat_lt, slice_get, refl, sym, ap, ◌∙◌, subst}
-use Rattle.std.specs.List.{list_all}
-use Rattle.std.specs.Map.{lookup}
-use Rattle.std.specs.Cmp.Lexicographic.{pointwise}
-use Rattle.std.proofs.lemmas.Bool.{and_parts, and_from, eqb-true, not-true, ltb-true}
-use Rattle.std.proofs.lemmas.Option.{slice_get_read}
-use Rattle.jc_types.specs.Stripes.{stripe_of}
-use Rattle.jc_model.specs.Cache.{Bytes}
-use Rattle.jc_stripe.specs.Keys.{AreKeys}
-use Rattle.jc_stripe.proofs.CallerLemmas.{keys_once, keys_own}
-use Rattle.jc_stripe.specs.State.{State}
-use Rattle.jc_world.specs.Calls.{CallState, SweepState, Task, has_looked, has_number}
-use Rattle.jc_world.specs.declared.event.WorldEvent.TheVariants as event
-use Rattle.jc_world.specs.Fits.{fits, is_to_look, may_look}
-use Rattle.jc_world.specs.OpenCalls.{are_new, TakesKeys}
-use Rattle.jc_world.specs.World.{WorldState, open_call}
-use Rattle.jc_world.specs.Sound.{IsStripe, Sweeps, IsSoundWorld}
+use Rattle.jc_world.proofs.Common.{◌≡◌, ℕ, ◌<◌, true, false, List, [], ◌∷◌, length, get_or, is_some, is_none, IsSomeAnd, nat_lt, ◌==◌, slice_get, Some, None, Option, sym, refl, ap, ◌∙◌, subst, not-true, ltb-true, eqb-true, and_parts, and_from, slice_get_read, pointwise, list_all, lookup, stripe_of, Bytes, keys_once, keys_own, AreKeys, State, WorldEvent, Task, SweepState, CallState, has_number, has_looked, is_to_look, may_look, fits, are_new, TakesKeys, IsStripe, Sweeps, IsSoundWorld, WorldState, open_call}
 use Rattle.jc_world.proofs.Shares.{fact_found, is_some_and}
 
 -- 1. The keys of a stripe belong to it.
@@ -52,7 +36,7 @@ stripe_at w items stripe s old same within is =
     (there, (old.shape.each stripe s there).config_is)
 
 -- the call hasn't looked at the stripe, which is there
-pub look_found : (w : WorldState) (call stripe : ℕ) → fits w (event.Look call stripe) ≡ true
+pub look_found : (w : WorldState) (call stripe : ℕ) → fits w (WorldEvent.Look call stripe) ≡ true
     → (u : CallState) × (s : SweepState) × (open_call w call ≡ Some u) × (u.sweep ≡ Some s) × (has_looked s.looked stripe ≡ false) × (stripe < w.config.stripes)
 look_found w call stripe fit = go (open_call w call) refl
   where
@@ -68,7 +52,7 @@ look_found w call stripe fit = go (open_call w call) refl
         by (Some s) f h within = (u, s, e, f, not-true (has_looked s.looked stripe) h, within)
 
 -- and may take its keys
-pub look_takes : (w : WorldState) (call stripe : ℕ) (from : State) (keys : List Bytes) → fits w (event.Look call stripe) ≡ true → IsSoundWorld w → slice_get w.stripes stripe ≡ Some from → AreKeys from keys → IsSomeAnd (open_call w call) (TakesKeys keys)
+pub look_takes : (w : WorldState) (call stripe : ℕ) (from : State) (keys : List Bytes) → fits w (WorldEvent.Look call stripe) ≡ true → IsSoundWorld w → slice_get w.stripes stripe ≡ Some from → AreKeys from keys → IsSomeAnd (open_call w call) (TakesKeys keys)
 look_takes w call stripe from keys fit old there are =
     let at = look_found w call stripe fit in
     let own = fact_found (Sweeps w.config) (has_number call) w.calls at.0 at.2 old.sweeps at.1 at.3 in

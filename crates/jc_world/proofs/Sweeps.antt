@@ -1,45 +1,9 @@
 -- Each call that looks at the stripes has taken keys of those at which it has looked: each event keeps that.
 --     sweeps_left, sweep_found      what is left of a call once a key is settled, and once it has taken keys
 --     sweeps_happens                any event that fits
-use Rattle.std.proofs.Common.{◌≡◌, ◌==◌, ◌||◌, ℕ, List, [], ◌∷◌, ◌++◌, true, false, cond, not, Option, None, Some, find, is_some, refl, sym, ap, ◌∙◌, subst, append-nil}
-use Rattle.std.specs.List.{list_all, list_any}
-use Rattle.std.specs.Map.{lookup}
-use Rattle.std.specs.Option.{option_or}
-use Rattle.std.specs.Cmp.Lexicographic.{pointwise}
-use Rattle.std.proofs.lemmas.Bool.{and_parts, eqb-true, or_right}
-use Rattle.std.proofs.lemmas.Cmp.{nat_eq_equiv}
-use Rattle.std.proofs.lemmas.List.Folds.{list_any-append}
-use Rattle.std.proofs.lemmas.Map.Made.{is_some-lookup}
-use Rattle.jc_types.specs.declared.caller.Caller.{Caller}
-use Rattle.jc_types.specs.declared.refusal.Refusal.{Refusal}
-use Rattle.jc_types.specs.declared.config.Config.{Config}
-use Rattle.jc_types.specs.Stripes.{stripe_of}
-use Rattle.jc_model.specs.declared.event.Op.{Op}
-use Rattle.jc_model.specs.Cache.{Bytes}
-use Rattle.jc_stripe.specs.State.{State}
-use Rattle.jc_stripe.specs.Tickets.{JoinClaim}
-use Rattle.jc_world.specs.declared.command.Command.{Command}
-use Rattle.jc_world.specs.declared.command.Command.TheVariants as command
-use Rattle.jc_world.specs.declared.event.Part.{Part}
-use Rattle.jc_world.specs.declared.event.Shown.{Shown}
-use Rattle.jc_world.specs.declared.event.Outcome.{Outcome}
-use Rattle.jc_world.specs.declared.event.Outcome.TheVariants as outcome
-use Rattle.jc_world.specs.declared.event.WorldEvent.{WorldEvent}
-use Rattle.jc_world.specs.declared.event.WorldEvent.TheVariants as event
-use Rattle.jc_world.specs.Calls.{CallState, SweepState, has_looked, has_looked_at_each, has_number, at_each, new_call, opened, settle, going_on, next_sweep, with_found, with_met, look}
-use Rattle.jc_world.specs.World.{WorldState, open_call}
-use Rattle.jc_world.specs.Fits.{fits}
-use Rattle.jc_world.specs.Events.{fault_in, with_met_by, Starts, Ends, Picks, Happens}
-use Rattle.jc_world.specs.Sound.{Sweeps, Each, IsSoundWorld}
-use Rattle.jc_world.proofs.Found.{lookup-found}
-use Rattle.jc_world.proofs.Looked.{each_replaced}
-use Rattle.jc_world.proofs.NewCalls.{opened_cases}
-use Rattle.jc_world.proofs.Returns.{IsReport}
-use Rattle.jc_world.proofs.Settling.{Left, going_is, each_settled}
-use Rattle.jc_world.proofs.Shares.{each_filter, each_pushed}
+use Rattle.jc_world.proofs.Common.{◌≡◌, ℕ, true, false, cond, not, ◌||◌, List, [], ◌∷◌, ◌++◌, is_some, ◌==◌, Some, None, Option, find, sym, refl, ap, ◌∙◌, subst, append-nil, eqb-true, and_parts, or_right, nat_eq_equiv, list_any-append, is_some-lookup, pointwise, list_any, list_all, lookup, option_or, stripe_of, Caller, Config, Refusal, Bytes, Op, State, JoinClaim, Command, Outcome, Part, Shown, WorldEvent, at_each, SweepState, CallState, new_call, has_number, opened, going_on, with_met, settle, has_looked, has_looked_at_each, next_sweep, with_found, look, fault_in, with_met_by, Starts, Ends, Picks, Happens, fits, Each, Sweeps, IsSoundWorld, WorldState, open_call}
+use Rattle.jc_world.proofs.Lemmas.{each_pushed, each_filter, same_bytes, Left, going_is, each_settled, opened_cases, each_replaced, keys-at_each, lookup-found, KeyChange, by_nothing, by_refusal, by_step, by_reservation, by_join, by_commit, by_withdrawal, by_answer, by_retry, key_change, IsReport}
 use Rattle.jc_world.proofs.StripeKeys.{all_here}
-use Rattle.jc_world.proofs.TaskLists.{keys-at_each}
-use Rattle.jc_world.proofs.Underway.{same_bytes}
 
 -- 1. One call.
 
@@ -50,14 +14,8 @@ sweeps_left config call key u v left old s is q there =
 
 -- a call that has just begun has no keys, if it looks at the stripes
 sweeps_new : (config : Config) (call session : ℕ) (c : Command) → Sweeps config (new_call call session c)
-sweeps_new config call session (command.Single op key) s is q there = cc
-sweeps_new config call session (command.GetAll keys) s is q there = cc
-sweeps_new config call session (command.PutAll entries) s is q there = cc
-sweeps_new config call session (command.RemoveAll keys) s is q there = cc
-sweeps_new config call session command.RemoveEvery s is q there = cc
-sweeps_new config call session command.Clear s is q there = cc
-sweeps_new config call session (command.LoadAll replace keys) s is q there = cc
-sweeps_new config call session (command.InvokeAll keys) s is q there = cc
+sweeps_new config call session (Command.Single op key) s is q there = cc
+sweeps_new config call session c s is q there = cc
 
 -- behind a look
 behind_next : (stripes stripe : ℕ) (s next : SweepState) → next_sweep stripes stripe s ≡ Some next → next.looked ≡ s.looked ++ stripe ∷ []
@@ -104,25 +62,17 @@ AllSweep w = Each (Sweeps w.config) w.calls
 sweeps_settled : (w : WorldState) (call : ℕ) (key : Bytes) (met : Option Refusal) → AllSweep w → Each (Sweeps w.config) (settle call key met w.calls)
 sweeps_settled w call key met old = each_settled call key met (Sweeps w.config) w.calls (sweeps_left w.config call key) old
 
-sweeps_started : (w new : WorldState) (caller : Caller) (key : Bytes) (op : Op) (from to : State) (seen : Outcome) → Starts w caller key op from to seen new → AllSweep w → AllSweep new
-sweeps_started w new caller key op from to (outcome.Refused refusal) h old = subst AllSweep (sym h.1) (sweeps_settled w caller.call key (Some refusal) old)
-sweeps_started w new caller key op from to (outcome.PutOff refusal) h old = subst AllSweep (sym h.1) old
-sweeps_started w new caller key op from to (outcome.Stepped seen) h old = subst AllSweep (sym h.2) (sweeps_settled w caller.call key (fault_in seen.reply) old)
-sweeps_started w new caller key op from to outcome.Loads h old = subst AllSweep (sym h.2) old
-sweeps_started w new caller key op from to (outcome.Asks change) h old = subst AllSweep (sym h.3) old
-sweeps_started w new caller key op from to (outcome.Processes entry) h old = subst AllSweep (sym h.3) old
-sweeps_started w new caller key op from to outcome.Joins h old = subst AllSweep (sym h.2) old
-sweeps_started w new caller key op from to seen h old = absurd h
-
-sweeps_ended : (w new : WorldState) (call : ℕ) (key : Bytes) (part : Part) (from to : State) (seen : Outcome) → Ends w call key part from to seen new → AllSweep w → AllSweep new
-sweeps_ended w new call key part from to (outcome.Stepped seen) h old = subst AllSweep (sym h.2) (sweeps_settled w call key (fault_in seen.reply) old)
-sweeps_ended w new call key part from to seen h old = absurd h
-
-sweeps_picks : (w new : WorldState) (call : ℕ) (key : Bytes) (join : JoinClaim) (from to : State) (seen : Outcome) → Picks w call key join from to seen new → AllSweep w → AllSweep new
-sweeps_picks w new call key join from to (outcome.PickedUp seen) h old = subst AllSweep (sym h.2) (sweeps_settled w call key (fault_in seen.reply) old)
-sweeps_picks w new call key join from to outcome.Again h old = subst AllSweep (sym h.1) old
-sweeps_picks w new call key join from to outcome.Waits h old = subst AllSweep (sym h.1) old
-sweeps_picks w new call key join from to seen h old = absurd h
+-- by the kind of the change at a key
+sweeps_key : (w new : WorldState) (e : WorldEvent) (key : Bytes) (seen : Shown) → KeyChange w new e key seen → AllSweep w → AllSweep new
+sweeps_key w new e key seen (by_nothing is none ends) old = subst AllSweep (sym is) old
+sweeps_key w new e key seen (by_refusal u op refusal may is none ends) old = subst AllSweep (sym is) (sweeps_settled w u.caller.call key _ old)
+sweeps_key w new e key seen (by_step u op from to x may there h home_is is shows ends) old = subst AllSweep (sym is) (sweeps_settled w u.caller.call key _ old)
+sweeps_key w new e key seen (by_reservation u op from to p r may there h is none ends) old = subst AllSweep (sym is) old
+sweeps_key w new e key seen (by_join u op from to join may there h is none ends) old = subst AllSweep (sym is) old
+sweeps_key w new e key seen (by_commit call part from to x e_is part_is there h home_is is shows) old = subst AllSweep (sym is) (sweeps_settled w call key _ old)
+sweeps_key w new e key seen (by_withdrawal call part from to e_is part_is there h is shows) old = subst AllSweep (sym is) old
+sweeps_key w new e key seen (by_answer call join from to x e_is join_is there h home_is is shows ends) old = subst AllSweep (sym is) (sweeps_settled w call key _ old)
+sweeps_key w new e key seen (by_retry call join from to e_is join_is there h is shows ends) old = subst AllSweep (sym is) old
 
 sweeps_called : (w : WorldState) (call session : ℕ) (c : Command) → IsSoundWorld w → Each (Sweeps w.config) (w.calls ++ opened (new_call call session c))
 sweeps_called w call session c old =
@@ -140,18 +90,15 @@ pub sweeps_met : (w : WorldState) (call : ℕ) (met : Option Refusal) (u : CallS
 sweeps_met w call met u here old = each_replaced call (λ x. Some (with_met met x)) (Sweeps w.config) u w.calls here (λ v goes h. let is : with_met met u ≡ v = cc in subst (Sweeps w.config) is h) old
 
 pub sweeps_happens : (w new : WorldState) (e : WorldEvent) (seen : Shown) → fits w e ≡ true → Happens w e seen new → (IsReport e → IsSoundWorld new) → IsSoundWorld w → AllSweep new
-sweeps_happens w new (event.Call call session command) seen fit h back old = subst AllSweep (sym h.1) (sweeps_called w call session command old)
-sweeps_happens w new (event.Look call stripe) seen fit h back old =
+sweeps_happens w new (WorldEvent.Call call session command) seen fit h back old = subst AllSweep (sym h.1) (sweeps_called w call session command old)
+sweeps_happens w new (WorldEvent.Look call stripe) seen fit h back old =
     let own = all_here w stripe h.4 h.6 (old.shape.each stripe h.4 h.5) h.7 in
     subst AllSweep (sym h.9) (sweeps_looked w call stripe h.6 h.1 h.0 h.2 h.3 own old.sweeps)
-sweeps_happens w new (event.Start call key) seen fit h back old = sweeps_started w new h.0.caller key h.1 h.4 h.6 seen.outcome h.7 old.sweeps
-sweeps_happens w new (event.Read call key) seen fit h back old = subst AllSweep (sym h.3) old.sweeps
-sweeps_happens w new (event.Say call key answer) seen fit h back old = subst AllSweep (sym h.3) old.sweeps
-sweeps_happens w new (event.Process call key source calls fail) seen fit h back old = subst AllSweep (sym h.3) old.sweeps
-sweeps_happens w new (event.Change call key) seen fit h back old = subst AllSweep (sym h.5) old.sweeps
-sweeps_happens w new (event.Report call left fault) seen fit h back old = (back tt).sweeps
-sweeps_happens w new (event.Commit call key) seen fit h back old = sweeps_ended w new call key h.0 h.2 h.4 seen.outcome h.5 old.sweeps
-sweeps_happens w new (event.Withdraw call key) seen fit h back old = subst AllSweep (sym h.7) old.sweeps
-sweeps_happens w new (event.Leave call) seen fit h back old = subst AllSweep (sym h.1) (each_filter (Sweeps w.config) (λ u. not (has_number call u)) w.calls old.sweeps)
-sweeps_happens w new (event.PickUp call key) seen fit h back old = sweeps_picks w new call key h.0 h.2 h.4 seen.outcome h.5 old.sweeps
-sweeps_happens w new (event.Foreign key value) seen fit h back old = subst AllSweep (sym h.1) old.sweeps
+sweeps_happens w new (WorldEvent.Change call key) seen fit h back old = subst AllSweep (sym h.5) old.sweeps
+sweeps_happens w new (WorldEvent.Report call left fault) seen fit h back old = (back tt).sweeps
+sweeps_happens w new (WorldEvent.Leave call) seen fit h back old = subst AllSweep (sym h.1) (each_filter (Sweeps w.config) (λ u. not (has_number call u)) w.calls old.sweeps)
+sweeps_happens w new (WorldEvent.Foreign key value) seen fit h back old = subst AllSweep (sym h.1) old.sweeps
+sweeps_happens w new (WorldEvent.Read call key) seen fit h back old = subst AllSweep (sym h.3) old.sweeps
+sweeps_happens w new (WorldEvent.Say call key answer) seen fit h back old = subst AllSweep (sym h.3) old.sweeps
+sweeps_happens w new (WorldEvent.Process call key source calls fail) seen fit h back old = subst AllSweep (sym h.3) old.sweeps
+sweeps_happens w new e seen fit h back old = let k = key_change w new e seen refl h in sweeps_key w new e k.0 seen k.1 old.sweeps

@@ -1,8 +1,6 @@
 -- How a call keeps its tasks: a map by key, in which a key that is settled keeps its place.
---     absent                  a key isn't among those before it, if all differ
 --     at_each-more, put_each_of-more
---                             one key more, and one entry more
---     new_at, new_put         so it goes last
+--                             one key more, and one entry more, which go last
 --     put_in_place            a key that is there keeps its place
 --     open_keys-more          the open keys of one task more
 --     open_distinct, one_distinct
@@ -16,58 +14,15 @@
 --                             the first open key from a place on
 --     first_settled, first_fits
 --                             once a key is settled, the first open one is found from where it was
-use Rattle.std.proofs.Common.{◌≡◌, ◌==◌, ◌<◌, ◌≤◌, ◌+◌, ◌&&◌, ◌||◌, ℕ, zero, suc, Bool, true, false, cond, not, List, [], ◌∷◌, ◌++◌, filter, take, drop, length, option_map, subst, slice_get, Option, None, Some, is_some, refl, sym, ap, ◌∙◌, arith, true≢false, zero-add}
-use Rattle.std.specs.List.{list_all, list_any, IsDistinct, AllByRecursion}
-use Rattle.std.specs.Map.{keys_of, lookup, set_value}
-use Rattle.std.specs.Option.{option_flatten}
-use Rattle.std.specs.Prelude.{get_or}
-use Rattle.std.specs.Cmp.Lexicographic.{pointwise}
-use Rattle.std.proofs.lemmas.Map.Keys.{IsDistinct-head, IsDistinct-tail}
-use Rattle.std.proofs.lemmas.Map.Made.{IsDistinct-keys_filter, is_some-lookup}
-use Rattle.std.proofs.lemmas.Bool.{and_parts, and_from, and_right, false_from_ne_true}
-use Rattle.std.proofs.lemmas.Bool.Decides.{nat_tests}
-use Rattle.std.proofs.lemmas.List.{take_more, map-append}
-use Rattle.std.proofs.lemmas.Option.{get_or_from_slice_get, slice_get_within, slice_get_read}
-use Rattle.indexmap.specs.IndexMap.{IndexMap, insert_entry}
-use Rattle.indexmap.proofs.CallerLemmas.{insert_entry-new}
-use Rattle.jc_model.specs.declared.event.Op.{Op}
-use Rattle.jc_model.specs.declared.event.Op.TheVariants as op
-use Rattle.jc_model.specs.Cache.{Bytes}
-use Rattle.jc_world.specs.Calls.{Task, at_each, put_each_of, op_in, is_open, open_in}
-use Rattle.jc_world.specs.OpenCalls.{first_open}
-use Rattle.jc_world.proofs.Underway.{same_bytes}
+use Rattle.jc_world.proofs.Common.{◌≡◌, ℕ, zero, suc, ◌+◌, ◌<◌, ◌≤◌, Bool, true, false, cond, not, ◌&&◌, ◌||◌, List, [], ◌∷◌, ◌++◌, length, get_or, take, drop, is_some, ◌==◌, slice_get, Some, None, filter, Option, option_map, sym, refl, ap, ◌∙◌, subst, true≢false, zero-add, arith, and_parts, and_from, and_right, false_from_ne_true, nat_tests, map-append, take_more, IsDistinct-head, IsDistinct-tail, is_some-lookup, IsDistinct-keys_filter, slice_get_within, slice_get_read, get_or_from_slice_get, pointwise, list_any, list_all, AllByRecursion, IsDistinct, keys_of, lookup, set_value, option_flatten, insert_entry-new, IndexMap, insert_entry, Bytes, Op, Task, at_each, put_each_of, op_in, is_open, open_in, first_open}
+use Rattle.jc_outside.proofs.CallerLemmas.{not_before, entry_last}
 
 -- 1. New keys.
-
--- what is so of all is so at each place
-at_place : {X : Type 0} (P : X → Type 0) (xs : List X) (i : ℕ) (x : X) → AllByRecursion P xs → slice_get xs i ≡ Some x → P x
-at_place P [] i x all at = cc
-at_place P (y ∷ ys) zero x all at = let is : y ≡ x = cc in subst P is all.0
-at_place P (y ∷ ys) (suc i) x all at = at_place P ys i x all.1 at
-
--- a key isn't among those before it
-pub absent : (keys : List Bytes) (i : ℕ) (key : Bytes) → IsDistinct (pointwise ◌==◌) keys → slice_get keys i ≡ Some key → list_any (pointwise ◌==◌ key) (take i keys) ≡ false
-absent [] zero key d at = refl
-absent [] (suc i) key d at = refl
-absent (x ∷ keys) zero key d at = refl
-absent (x ∷ keys) (suc i) key d at =
-    let no : pointwise ◌==◌ x key ≡ false = at_place (λ y. pointwise ◌==◌ x y ≡ false) keys i key (IsDistinct-head (pointwise ◌==◌) x keys d) at in
-    let apart : pointwise ◌==◌ key x ≡ false = false_from_ne_true (pointwise ◌==◌ key x) (λ e. let t : true ≡ false = sym e ∙ ap (λ k. pointwise ◌==◌ k x) (same_bytes key x e) ∙ ap (pointwise ◌==◌ x) (sym (same_bytes key x e)) ∙ no in cc) in
-    ap (λ b. b || list_any (pointwise ◌==◌ key) (take i keys)) apart ∙ absent keys i key (IsDistinct-tail (pointwise ◌==◌) x keys d) at
 
 key_at : (entries : List (Bytes × Bytes)) (i : ℕ) (key value : Bytes) → slice_get entries i ≡ Some (key, value) → slice_get (keys_of entries) i ≡ Some key
 key_at [] i key value at = cc
 key_at (e ∷ entries) zero key value at = let is : e ≡ (key, value) = cc in ap (λ (x : Bytes × Bytes). Some x.0) is
 key_at (e ∷ entries) (suc i) key value at = key_at entries i key value at
-
-pub none_from : {X : Type 0} (o : Option X) → is_some o ≡ false → o ≡ None
-none_from None e = refl
-none_from (Some x) e = absurd (true≢false e)
-
--- a key that is new goes last
-new_last : {S : Type 0} (m : IndexMap Bytes (Option Op) S) (key : Bytes) (o : Option Op) → list_any (pointwise ◌==◌ key) (keys_of m.entries) ≡ false
-    → insert_entry (pointwise ◌==◌) m.entries key o ≡ m.entries ++ (key, o) ∷ []
-new_last m key o free = insert_entry-new (pointwise ◌==◌) m key o (none_from (lookup (pointwise ◌==◌ key) m.entries) (is_some-lookup (pointwise ◌==◌ key) m.entries ∙ free))
 
 pub keys-at_each : (one : Op) (keys : List Bytes) → keys_of (at_each one keys) ≡ keys
 keys-at_each one [] = refl
@@ -78,29 +33,28 @@ keys-put_each_of [] = refl
 keys-put_each_of (e ∷ entries) = ap (λ ks. e.0 ∷ ks) (keys-put_each_of entries)
 
 take-keys : (i : ℕ) (entries : List (Bytes × Bytes)) → keys_of (take i entries) ≡ take i (keys_of entries)
-take-keys zero entries = refl
-take-keys (suc i) [] = refl
 take-keys (suc i) (e ∷ entries) = ap (λ ks. e.0 ∷ ks) (take-keys i entries)
+take-keys i entries = refl
 
 -- one key more
 pub at_each-more : {S : Type 0} (m : IndexMap Bytes (Option Op) S) (one : Op) (keys : List Bytes) (i : ℕ) (key : Bytes) → IsDistinct (pointwise ◌==◌) keys → i < length keys → key ≡ get_or keys i key
     → m.entries ≡ at_each one (take i keys) → insert_entry (pointwise ◌==◌) m.entries key (Some one) ≡ at_each one (take (i + 1) keys)
 at_each-more m one keys i key distinct lt is made =
     let at : slice_get keys i ≡ Some key = slice_get_read keys (length keys) i key refl lt is in
-    new_last m key (Some one) (ap (λ es. list_any (pointwise ◌==◌ key) (keys_of es)) made ∙ ap (list_any (pointwise ◌==◌ key)) (keys-at_each one (take i keys)) ∙ absent keys i key distinct at)
+    entry_last m key (Some one) (ap (λ es. list_any (pointwise ◌==◌ key) (keys_of es)) made ∙ ap (list_any (pointwise ◌==◌ key)) (keys-at_each one (take i keys)) ∙ not_before keys i key distinct at)
     ∙ ap (λ es. es ++ (key, Some one) ∷ []) made
     ∙ sym (ap (at_each one) (take_more keys i key lt ∙ ap (λ x. take i keys ++ x ∷ []) (sym is)) ∙ map-append (λ k. (k, Some one)) (take i keys) (key ∷ []))
 
 -- one entry more
 pub put_each_of-more : {S : Type 0} (m : IndexMap Bytes (Option Op) S) (entries : List (Bytes × Bytes)) (i : ℕ) (key value : Bytes) → IsDistinct (pointwise ◌==◌) (keys_of entries) → slice_get entries i ≡ Some (key, value)
-    → m.entries ≡ put_each_of (take i entries) → insert_entry (pointwise ◌==◌) m.entries key (Some (op.Put value)) ≡ put_each_of (take (i + 1) entries)
+    → m.entries ≡ put_each_of (take i entries) → insert_entry (pointwise ◌==◌) m.entries key (Some (Op.Put value)) ≡ put_each_of (take (i + 1) entries)
 put_each_of-more m entries i key value distinct at made =
     let lt = slice_get_within entries i (key, value) at in
     let is = sym (get_or_from_slice_get entries i (key, value) (key, value) at) in
-    new_last m key (Some (op.Put value))
-    (ap (λ es. list_any (pointwise ◌==◌ key) (keys_of es)) made ∙ ap (list_any (pointwise ◌==◌ key)) (keys-put_each_of (take i entries) ∙ take-keys i entries) ∙ absent (keys_of entries) i key distinct (key_at entries i key value at))
-    ∙ ap (λ es. es ++ (key, Some (op.Put value)) ∷ []) made
-    ∙ sym (ap put_each_of (take_more entries i (key, value) lt ∙ ap (λ x. take i entries ++ x ∷ []) (sym is)) ∙ map-append (λ (e : Bytes × Bytes). (e.0, Some (op.Put e.1))) (take i entries) ((key, value) ∷ []))
+    entry_last m key (Some (Op.Put value))
+    (ap (λ es. list_any (pointwise ◌==◌ key) (keys_of es)) made ∙ ap (list_any (pointwise ◌==◌ key)) (keys-put_each_of (take i entries) ∙ take-keys i entries) ∙ not_before (keys_of entries) i key distinct (key_at entries i key value at))
+    ∙ ap (λ es. es ++ (key, Some (Op.Put value)) ∷ []) made
+    ∙ sym (ap put_each_of (take_more entries i (key, value) lt ∙ ap (λ x. take i entries ++ x ∷ []) (sym is)) ∙ map-append (λ (e : Bytes × Bytes). (e.0, Some (Op.Put e.1))) (take i entries) ((key, value) ∷ []))
 
 -- 2. A key that is settled.
 
@@ -135,8 +89,6 @@ absent_same key (task ∷ tasks) none =
 -- one task more
 more_open : (p : Bytes → Bool) (tasks : List Task) (i : ℕ) (key : Bytes) (one : Option Op) → slice_get tasks i ≡ Some (key, one) → (is_some one ≡ true → p key ≡ true) → list_all p (open_in (take i tasks)) ≡ true
     → list_all p (open_in (take (suc i) tasks)) ≡ true
-more_open p [] zero key one at holds before = cc
-more_open p [] (suc i) key one at holds before = cc
 more_open p (task ∷ tasks) zero key one at holds before =
     let is : task ≡ (key, one) = cc in
     subst (λ (t : Task). list_all p (open_in (t ∷ [])) ≡ true) (sym is) (alone (is_some one) holds)
@@ -149,6 +101,7 @@ more_open p (task ∷ tasks) (suc i) key one at holds before =
       | true ↦ λ before. let parts = and_parts (p task.0) (list_all p (open_in (take i tasks))) before in and_from _ _ parts.0 (more_open p tasks i key one at holds parts.1)
       | false ↦ λ before. more_open p tasks i key one at holds before
     ] before
+more_open p tasks i key one at holds before = cc
 
 pub open_more : (p : Bytes → Bool) (tasks : List Task) (i : ℕ) (key : Bytes) (one : Option Op) → slice_get tasks i ≡ Some (key, one) → (is_some one ≡ true → p key ≡ true) → list_all p (open_in (take i tasks)) ≡ true
     → list_all p (open_in (take (i + 1) tasks)) ≡ true
@@ -178,8 +131,6 @@ open_keys-more tasks i key one at = let next : i + 1 ≡ suc i = omega (arith) i
     alone false = refl
 
     go : (tasks : List Task) (i : ℕ) → slice_get tasks i ≡ Some (key, one) → open_in (take (suc i) tasks) ≡ open_in (take i tasks) ++ cond (is_some one) (key ∷ []) []
-    go [] zero at = cc
-    go [] (suc i) at = cc
     go (task ∷ tasks) zero at =
         let is : task ≡ (key, one) = cc in
         ap (λ (t : Task). open_in (t ∷ [])) is ∙ alone (is_some one)
@@ -188,6 +139,7 @@ open_keys-more tasks i key one at = let next : i + 1 ≡ suc i = omega (arith) i
           | true ↦ ap (λ ks. task.0 ∷ ks) (go tasks i at)
           | false ↦ go tasks i at
         ]
+    go tasks i at = cc
 
 -- of keys that differ the open ones differ
 pub open_distinct : (tasks : List Task) → IsDistinct (pointwise ◌==◌) (keys_of tasks) → IsDistinct (pointwise ◌==◌) (open_in tasks)

@@ -3,43 +3,11 @@
 --     kept_fit        what fits at such a key fits in either
 --     keeps_other     what happens at a key keeps every other key of the call
 --     fit_together    what fits at keys that differ fits one after the other
-use Rattle.std.proofs.Common.{inl, ◌≡◌, ◌==◌, ◌||◌, ◌&&◌, ◌∙◌, ℕ, List, [], ◌∷◌, ◌++◌, map, Bool, true, false, cond, not, Option, None, Some, IsSomeAnd, find, is_none, is_some, refl, sym, ap, subst, append-nil}
-use Rattle.std.specs.FinMap.{get, insert, remove, get-insert}
-use Rattle.std.specs.List.{IsDistinct, AllByRecursion, list_all, list_any}
-use Rattle.std.specs.Cmp.Lexicographic.{pointwise}
-use Rattle.std.proofs.lemmas.Bool.{eqb-true, and_parts, and_from, or_right}
-use Rattle.std.proofs.lemmas.Cmp.{nat_list_cmp_total, nat_list_eq_equiv, nat_eq_equiv}
-use Rattle.std.proofs.lemmas.Map.Keys.{IsDistinct-head, IsDistinct-tail}
-use Rattle.jc_model.specs.Batches.{is_among}
-use Rattle.jc_model.specs.Cache.{Bytes}
-use Rattle.jc_model.specs.Table.{is_load_given}
-use Rattle.jc_model.specs.declared.event.Change.{Change}
-use Rattle.jc_model.specs.declared.event.Op.{Op}
-use Rattle.jc_stripe.specs.State.{State}
-use Rattle.jc_stripe.specs.Tickets.{JoinClaim}
-use Rattle.jc_types.specs.declared.refusal.Refusal.{Refusal}
-use Rattle.jc_world.specs.declared.event.Part.{Part}
-use Rattle.jc_world.specs.declared.event.Shown.{Shown}
-use Rattle.jc_world.specs.declared.event.Outcome.{Outcome}
-use Rattle.jc_world.specs.declared.event.Outcome.TheVariants as outcome
-use Rattle.jc_world.specs.declared.event.WorldEvent.{WorldEvent}
-use Rattle.jc_world.specs.declared.event.WorldEvent.TheVariants as event
-use Rattle.jc_world.specs.Calls.{CallState, has_number, is_turn, op_at, open_keys, settle}
-use Rattle.jc_world.specs.World.{WorldState, Parts, open_call, of_call, part_of, JoinKey, join_key, has_joined, is_joined, has_progress, waits_for_load, waits_for_report}
-use Rattle.jc_world.specs.Fits.{fits, is_free, may_start, may_leave, waits_at, may_report}
-use Rattle.jc_world.specs.Events.{with_change, after_change, Happens, Starts, Ends, Picks, AllFit}
-use Rattle.jc_world.specs.Sound.{IsCallOf, IsSoundWorld, Each}
-use Rattle.jc_world.specs.Together.{at_call, key_at, AreAt, FitTogether}
-use Rattle.jc_world.proofs.Beginning.{may_start_at, may_turn, part_turn}
-use Rattle.jc_world.proofs.Callers.{picking, picking_turn}
-use Rattle.jc_world.proofs.Entries.{split}
+use Rattle.jc_world.proofs.Common.{◌≡◌, ℕ, Bool, true, false, cond, not, ◌&&◌, ◌||◌, List, [], ◌∷◌, ◌++◌, map, is_some, is_none, IsSomeAnd, ◌==◌, Some, None, Option, find, sym, refl, ap, ◌∙◌, subst, inl, append-nil, eqb-true, and_parts, and_from, or_right, nat_eq_equiv, nat_list_cmp_total, nat_list_eq_equiv, IsDistinct-head, IsDistinct-tail, pointwise, get, insert, remove, get-insert, list_any, list_all, AllByRecursion, IsDistinct, Refusal, is_among, Bytes, Cache, is_load_given, Change, Op, State, JoinClaim, Outcome, Part, Premises, Shown, WorldEvent, CallState, has_number, op_at, open_keys, is_turn, settle, Starts, Ends, Picks, with_change, after_change, Happens, AllFit, is_free, may_start, may_leave, waits_at, may_report, fits, Each, IsCallOf, IsSoundWorld, at_call, key_at, AreAt, FitTogether, Parts, JoinKey, join_key, WorldState, open_call, of_call, part_of, has_progress, waits_for_load, waits_for_report, has_joined, is_joined}
+use Rattle.jc_world.proofs.Lemmas.{is_some_and, found_number, same_bytes, of_call-at, IsTurnOf, still_called, may_start_at, may_turn, part_turn, picking, picking_turn, split, KeyChange, by_nothing, by_refusal, by_step, by_reservation, by_join, by_commit, by_withdrawal, by_answer, by_retry, start_change, end_change, pick_change, may_of, some_of}
 use Rattle.jc_world.proofs.Fitting.{none_fit, fits_then, one_fits, still_waits, unjoined_held}
 use Rattle.jc_world.proofs.Maps.{keys_ordered, joins_ordered, get-beside, get-left, get-gone}
-use Rattle.jc_world.proofs.Numbered.{some_of}
-use Rattle.jc_world.proofs.Settling.{IsTurnOf, still_called}
-use Rattle.jc_world.proofs.Shares.{is_some_and}
 use Rattle.jc_world.proofs.Sounding.{Laws, sound_step}
-use Rattle.jc_world.proofs.Underway.{found_number, of_call-at, same_bytes}
 
 -- 1. What fits at a key of a call.
 
@@ -85,21 +53,17 @@ kept_part : (w mid : WorldState) (call other : ℕ) (key q : Bytes) → at_call 
 kept_part w mid call other key q at keeps = at_named call other key q (λ n k. part_of mid n k ≡ part_of w n k) (named call other key q at) keeps.part
 
 pub kept_fit : (w mid : WorldState) (call : ℕ) (e : WorldEvent) (q : Bytes) → key_at call e ≡ Some q → Keeps w mid call q → fits w e ≡ true → fits mid e ≡ true
-kept_fit w mid call (event.Call other session command) q at keeps fit = cc
-kept_fit w mid call (event.Look other stripe) q at keeps fit = cc
-kept_fit w mid call (event.Start other key) q at keeps fit =
-    at_named call other key q (λ n k. fits w (event.Start n k) ≡ true → fits mid (event.Start n k) ≡ true) (named call other key q at) (kept_start w mid call q keeps) fit
-kept_fit w mid call (event.Read other key) q at keeps fit = ap (has_progress _) (kept_part w mid call other key q at keeps) ∙ fit
-kept_fit w mid call (event.Say other key answer) q at keeps fit = ap (λ o. is_load_given answer && has_progress waits_for_load o) (kept_part w mid call other key q at keeps) ∙ fit
-kept_fit w mid call (event.Change other key) q at keeps fit = ap (has_progress _) (kept_part w mid call other key q at keeps) ∙ fit
-kept_fit w mid call (event.Report other left fault) q at keeps fit = cc
-kept_fit w mid call (event.Process other key source calls fail) q at keeps fit = ap (has_progress _) (kept_part w mid call other key q at keeps) ∙ fit
-kept_fit w mid call (event.Commit other key) q at keeps fit = ap (has_progress _) (kept_part w mid call other key q at keeps) ∙ fit
-kept_fit w mid call (event.Withdraw other key) q at keeps fit = ap (has_progress _) (kept_part w mid call other key q at keeps) ∙ fit
-kept_fit w mid call (event.Leave other) q at keeps fit = cc
-kept_fit w mid call (event.PickUp other key) q at keeps fit =
+kept_fit w mid call (WorldEvent.Start other key) q at keeps fit =
+    at_named call other key q (λ n k. fits w (WorldEvent.Start n k) ≡ true → fits mid (WorldEvent.Start n k) ≡ true) (named call other key q at) (kept_start w mid call q keeps) fit
+kept_fit w mid call (WorldEvent.Read other key) q at keeps fit = ap (has_progress _) (kept_part w mid call other key q at keeps) ∙ fit
+kept_fit w mid call (WorldEvent.Say other key answer) q at keeps fit = ap (λ o. is_load_given answer && has_progress waits_for_load o) (kept_part w mid call other key q at keeps) ∙ fit
+kept_fit w mid call (WorldEvent.Change other key) q at keeps fit = ap (has_progress _) (kept_part w mid call other key q at keeps) ∙ fit
+kept_fit w mid call (WorldEvent.Process other key source calls fail) q at keeps fit = ap (has_progress _) (kept_part w mid call other key q at keeps) ∙ fit
+kept_fit w mid call (WorldEvent.Commit other key) q at keeps fit = ap (has_progress _) (kept_part w mid call other key q at keeps) ∙ fit
+kept_fit w mid call (WorldEvent.Withdraw other key) q at keeps fit = ap (has_progress _) (kept_part w mid call other key q at keeps) ∙ fit
+kept_fit w mid call (WorldEvent.PickUp other key) q at keeps fit =
     at_named call other key q (λ n k. is_joined mid n k ≡ is_joined w n k) (named call other key q at) keeps.joined ∙ fit
-kept_fit w mid call (event.Foreign key value) q at keeps fit = cc
+kept_fit w mid call e q at keeps fit = cc
 
 -- 2. What happens at another key.
 
@@ -121,84 +85,51 @@ called_settled : (w : WorldState) (call other : ℕ) (q key : Bytes) (met : Opti
     → IsSomeAnd (find (has_number call) (settle other key met w.calls)) (IsCallOf session q op)
 called_settled w call other q key met apart turn session op h = still_called other key met call session q op w.calls (λ mine same. apart same) turn h
 
-keeps_started : (w mid : WorldState) (call : ℕ) (u : CallState) (key q : Bytes) (op : Op) (seen : Outcome) → IsTurnOf w.calls u.caller.call key → (q ≡ key → ⊥) → (from to : _) → Starts w u.caller key op from to seen mid → Keeps w mid call q
-keeps_started w mid call u key q op (outcome.Refused refusal) turn apart from to h =
-    subst (λ m. Keeps w m call q) (sym h.1) (record { called = called_settled w call u.caller.call q key _ apart turn; part = refl; joined = refl })
-keeps_started w mid call u key q op (outcome.PutOff refusal) turn apart from to h =
-    subst (λ m. Keeps w m call q) (sym h.1) (record { called = λ session op h. h; part = refl; joined = refl })
-keeps_started w mid call u key q op (outcome.Stepped seen) turn apart from to h =
-    subst (λ m. Keeps w m call q) (sym h.2) (record { called = called_settled w call u.caller.call q key _ apart turn; part = refl; joined = refl })
-keeps_started w mid call u key q op outcome.Loads turn apart from to h =
-    subst (λ m. Keeps w m call q) (sym h.2) (record { called = λ session op h. h; part = part_beside w.parts q key _ call apart; joined = refl })
-keeps_started w mid call u key q op (outcome.Asks change) turn apart from to h =
-    subst (λ m. Keeps w m call q) (sym h.3) (record { called = λ session op h. h; part = part_beside w.parts q key _ call apart; joined = refl })
-keeps_started w mid call u key q op (outcome.Processes entry) turn apart from to h =
-    subst (λ m. Keeps w m call q) (sym h.3) (record { called = λ session op h. h; part = part_beside w.parts q key _ call apart; joined = refl })
-keeps_started w mid call u key q op outcome.Joins turn apart from to h =
-    let of_key : h.0.key ≡ key = ap (λ (j : JoinClaim). j.key) h.1.2 in
-    subst (λ m. Keeps w m call q) (sym h.2) (record { called = λ session op h. h; part = refl; joined = join_more w call q h.0 (λ same. apart (same ∙ of_key)) })
-keeps_started w mid call u key q op (outcome.PickedUp seen) turn apart from to h = absurd h
-keeps_started w mid call u key q op (outcome.Reported seen) turn apart from to h = absurd h
-keeps_started w mid call u key q op (outcome.Processed seen) turn apart from to h = absurd h
-keeps_started w mid call u key q op (outcome.Reads answer) turn apart from to h = absurd h
-keeps_started w mid call u key q op (outcome.Says answer) turn apart from to h = absurd h
-keeps_started w mid call u key q op outcome.Begun turn apart from to h = absurd h
-keeps_started w mid call u key q op outcome.Looked turn apart from to h = absurd h
-keeps_started w mid call u key q op outcome.Changed turn apart from to h = absurd h
-keeps_started w mid call u key q op outcome.Withdrawn turn apart from to h = absurd h
-keeps_started w mid call u key q op outcome.Left turn apart from to h = absurd h
-keeps_started w mid call u key q op outcome.Waits turn apart from to h = absurd h
-keeps_started w mid call u key q op outcome.Again turn apart from to h = absurd h
-keeps_started w mid call u key q op outcome.Written turn apart from to h = absurd h
-keeps_started w mid call u key q op outcome.Unfit turn apart from to h = absurd h
+-- by the kind of the change at a key
+keeps_key : (w mid : WorldState) (call : ℕ) (e : WorldEvent) (key q : Bytes) (seen : Shown) → KeyChange w mid e key seen → (q ≡ key → ⊥) → fits w e ≡ true → IsSoundWorld w → Keeps w mid call q
+keeps_key w mid call e key q seen (by_nothing is none ends) apart fit old = subst (λ m. Keeps w m call q) (sym is) (record { called = λ session op h. h; part = refl; joined = refl })
+keeps_key w mid call e key q seen (by_refusal u op refusal start is none ends) apart fit old =
+    let turn = may_turn w u key op (may_of w e key u op start fit old) in
+    subst (λ m. Keeps w m call q) (sym is) (record { called = called_settled w call u.caller.call q key _ apart turn; part = refl; joined = refl })
+keeps_key w mid call e key q seen (by_step u op from to x start there h home_is is shows ends) apart fit old =
+    let turn = may_turn w u key op (may_of w e key u op start fit old) in
+    subst (λ m. Keeps w m call q) (sym is) (record { called = called_settled w call u.caller.call q key _ apart turn; part = refl; joined = refl })
+keeps_key w mid call e key q seen (by_reservation u op from to p r start there h is none ends) apart fit old =
+    subst (λ m. Keeps w m call q) (sym is) (record { called = λ session op h. h; part = part_beside w.parts q key _ call apart; joined = refl })
+keeps_key w mid call e key q seen (by_join u op from to join start there h is none ends) apart fit old =
+    let of_key : join.key ≡ key = ap (λ (j : JoinClaim). j.key) h.2 in
+    subst (λ m. Keeps w m call q) (sym is) (record { called = λ session op h. h; part = refl; joined = join_more w call q join (λ same. apart (same ∙ of_key)) })
+keeps_key w mid call e key q seen (by_commit other part from to x e_is part_is there h home_is is shows) apart fit old =
+    let at = of_call-at other (get w.parts key) part part_is in
+    let turn = part_turn w other key part at.0 at.1 old in
+    subst (λ m. Keeps w m call q) (sym is) (record { called = called_settled w call other q key _ apart turn; part = part_without w.parts q key call apart; joined = refl })
+keeps_key w mid call e key q seen (by_withdrawal other part from to e_is part_is there h is shows) apart fit old =
+    subst (λ m. Keeps w m call q) (sym is) (record { called = λ session op h. h; part = part_without w.parts q key call apart; joined = refl })
+keeps_key w mid call e key q seen (by_answer other join from to x e_is join_is there h home_is is shows ends) apart fit old =
+    let turn = picking_turn w other key join (picking w other key join join_is old) in
+    subst (λ m. Keeps w m call q) (sym is) (record { called = called_settled w call other q key _ apart turn; part = refl; joined = join_less w call other q key apart })
+keeps_key w mid call e key q seen (by_retry other join from to e_is join_is there h is shows ends) apart fit old =
+    subst (λ m. Keeps w m call q) (sym is) (record { called = λ session op h. h; part = refl; joined = join_less w call other q key apart })
 
-keeps_ended : (w mid : WorldState) (call other : ℕ) (key q : Bytes) (part : Part) (from to : State) (seen : Outcome) → (q ≡ key → ⊥) → IsTurnOf w.calls other key → Ends w other key part from to seen mid → Keeps w mid call q
-keeps_ended w mid call other key q part from to (outcome.Stepped seen) away turn h =
-    subst (λ m. Keeps w m call q) (sym h.2) (record { called = called_settled w call other q key _ away turn; part = part_without w.parts q key call away; joined = refl })
-keeps_ended w mid call other key q part from to seen away turn h = absurd h
-
-keeps_picks : (w mid : WorldState) (call other : ℕ) (key q : Bytes) (join : JoinClaim) (from to : State) (seen : Outcome) → (q ≡ key → ⊥) → IsTurnOf w.calls other key → Picks w other key join from to seen mid → Keeps w mid call q
-keeps_picks w mid call other key q join from to (outcome.PickedUp seen) away turn h =
-    subst (λ m. Keeps w m call q) (sym h.2) (record { called = called_settled w call other q key _ away turn; part = refl; joined = join_less w call other q key away })
-keeps_picks w mid call other key q join from to outcome.Again away turn h =
-    subst (λ m. Keeps w m call q) (sym h.1) (record { called = λ session op h. h; part = refl; joined = join_less w call other q key away })
-keeps_picks w mid call other key q join from to outcome.Waits away turn h = subst (λ m. Keeps w m call q) (sym h.1) (record { called = λ session op h. h; part = refl; joined = refl })
-keeps_picks w mid call other key q join from to seen away turn h = absurd h
+-- what is told of a key leaves the others
+keeps_told : (w : WorldState) (call : ℕ) (key q : Bytes) (part : Part) (store : Cache) (premises : Premises) → (q ≡ key → ⊥) → Keeps w (record w { parts = insert w.parts key part; store = store; premises = premises }) call q
+keeps_told w call key q part store premises apart = record { called = λ session op h. h; part = part_beside w.parts q key part call apart; joined = refl }
 
 -- the call of an event that is at a key
 pub keeps_other : (w mid : WorldState) (call : ℕ) (e : WorldEvent) (seen : Shown) (key q : Bytes) → key_at call e ≡ Some key → (q ≡ key → ⊥) → fits w e ≡ true → Happens w e seen mid → IsSoundWorld w → Keeps w mid call q
-keeps_other w mid call (event.Call other session command) seen key q at apart fit h old = cc
-keeps_other w mid call (event.Look other stripe) seen key q at apart fit h old = cc
-keeps_other w mid call (event.Start other at_key) seen key q at apart fit h old =
-    let is = named call other at_key key at in
-    let number = found_number other w.calls h.0 h.2 in
-    let may = may_start_at w other at_key h.0 h.1 fit h.2 h.3 old in
-    keeps_started w mid call h.0 at_key q h.1 seen.outcome (may_turn w h.0 at_key h.1 may) (λ same. apart (same ∙ is.1)) h.4 h.6 h.7
-keeps_other w mid call (event.Read other at_key) seen key q at apart fit h old =
-    let is = named call other at_key key at in
-    subst (λ m. Keeps w m call q) (sym h.3) (record { called = λ session op h. h; part = part_beside w.parts q at_key _ call (λ same. apart (same ∙ is.1)); joined = refl })
-keeps_other w mid call (event.Say other at_key answer) seen key q at apart fit h old =
-    let is = named call other at_key key at in
-    subst (λ m. Keeps w m call q) (sym h.3) (record { called = λ session op h. h; part = part_beside w.parts q at_key _ call (λ same. apart (same ∙ is.1)); joined = refl })
-keeps_other w mid call (event.Change other at_key) seen key q at apart fit h old =
-    let is = named call other at_key key at in
-    subst (λ m. Keeps w m call q) (sym h.5) (record { called = λ session op h. h; part = part_beside w.parts q at_key _ call (λ same. apart (same ∙ is.1)); joined = refl })
-keeps_other w mid call (event.Report other left fault) seen key q at apart fit h old = cc
-keeps_other w mid call (event.Process other at_key source calls fail) seen key q at apart fit h old =
-    let is = named call other at_key key at in
-    subst (λ m. Keeps w m call q) (sym h.3) (record { called = λ session op h. h; part = part_beside w.parts q at_key _ call (λ same. apart (same ∙ is.1)); joined = refl })
-keeps_other w mid call (event.Commit other at_key) seen key q at apart fit h old =
-    let is = named call other at_key key at in
-    let part = of_call-at other (get w.parts at_key) h.0 h.1 in
-    keeps_ended w mid call other at_key q h.0 h.2 h.4 seen.outcome (λ same. apart (same ∙ is.1)) (part_turn w other at_key h.0 part.0 part.1 old) h.5
-keeps_other w mid call (event.Withdraw other at_key) seen key q at apart fit h old =
-    let is = named call other at_key key at in
-    subst (λ m. Keeps w m call q) (sym h.7) (record { called = λ session op h. h; part = part_without w.parts q at_key call (λ same. apart (same ∙ is.1)); joined = refl })
-keeps_other w mid call (event.Leave other) seen key q at apart fit h old = cc
-keeps_other w mid call (event.PickUp other at_key) seen key q at apart fit h old =
-    let is = named call other at_key key at in
-    keeps_picks w mid call other at_key q h.0 h.2 h.4 seen.outcome (λ same. apart (same ∙ is.1)) (picking_turn w other at_key h.0 (picking w other at_key h.0 h.1 old)) h.5
-keeps_other w mid call (event.Foreign at_key value) seen key q at apart fit h old = cc
+keeps_other w mid call (WorldEvent.Start other k) seen key q at apart fit h old =
+    keeps_key w mid call (WorldEvent.Start other k) k q seen (start_change w mid (WorldEvent.Start other k) h.0 k h.1 h.4 h.6 seen.outcome seen refl (λ r. refl) (record { call = other; e_is = refl; here = h.2; op_is = h.3 }) h.5 h.7) (λ same. apart (same ∙ (named call other k key at).1)) fit old
+keeps_other w mid call (WorldEvent.Read other k) seen key q at apart fit h old = subst (λ m. Keeps w m call q) (sym h.3) (keeps_told w call k q _ _ _ (λ same. apart (same ∙ (named call other k key at).1)))
+keeps_other w mid call (WorldEvent.Say other k answer) seen key q at apart fit h old = subst (λ m. Keeps w m call q) (sym h.3) (keeps_told w call k q _ _ _ (λ same. apart (same ∙ (named call other k key at).1)))
+keeps_other w mid call (WorldEvent.Change other k) seen key q at apart fit h old = subst (λ m. Keeps w m call q) (sym h.5) (keeps_told w call k q _ _ _ (λ same. apart (same ∙ (named call other k key at).1)))
+keeps_other w mid call (WorldEvent.Process other k source calls fail) seen key q at apart fit h old = subst (λ m. Keeps w m call q) (sym h.3) (keeps_told w call k q _ _ _ (λ same. apart (same ∙ (named call other k key at).1)))
+keeps_other w mid call (WorldEvent.Commit other k) seen key q at apart fit h old =
+    keeps_key w mid call (WorldEvent.Commit other k) k q seen (end_change w mid other k h.0 h.2 h.4 seen.outcome seen refl h.1 h.3 h.5) (λ same. apart (same ∙ (named call other k key at).1)) fit old
+keeps_other w mid call (WorldEvent.Withdraw other k) seen key q at apart fit h old =
+    keeps_key w mid call (WorldEvent.Withdraw other k) k q seen (by_withdrawal other h.0 h.2 h.4 refl h.1 h.3 h.5 h.7 h.6) (λ same. apart (same ∙ (named call other k key at).1)) fit old
+keeps_other w mid call (WorldEvent.PickUp other k) seen key q at apart fit h old =
+    keeps_key w mid call (WorldEvent.PickUp other k) k q seen (pick_change w mid other k h.0 h.2 h.4 seen.outcome seen refl h.1 h.3 h.5) (λ same. apart (same ∙ (named call other k key at).1)) fit old
+keeps_other w mid call e seen key q at apart fit h old = cc
 
 -- 3. Events at keys that differ.
 
@@ -213,13 +144,12 @@ not_same key q apart same = let t : true ≡ false = sym (nat_list_eq_equiv.refl
 rest_kept : (w mid : WorldState) (call : ℕ) (e : WorldEvent) (seen : Shown) (key : Bytes) (keys : List Bytes) (events : List WorldEvent) → key_at call e ≡ Some key → fits w e ≡ true → Happens w e seen mid → IsSoundWorld w
     → AreAt call keys events → Apart key keys → list_all (fits w) events ≡ true → list_all (fits mid) events ≡ true
 rest_kept w mid call e seen key [] [] at fit h old are apart fits_all = refl
-rest_kept w mid call e seen key [] (f ∷ events) at fit h old are apart fits_all = absurd are
-rest_kept w mid call e seen key (q ∷ keys) [] at fit h old are apart fits_all = absurd are
 rest_kept w mid call e seen key (q ∷ keys) (f ∷ events) at fit h old are apart fits_all =
     let parts = and_parts (fits w f) (list_all (fits w) events) fits_all in
     and_from _ _
     (kept_fit w mid call f q are.0 (keeps_other w mid call e seen key q at (not_same key q apart.0) fit h old) parts.0)
     (rest_kept w mid call e seen key keys events at fit h old are.1 apart.1 parts.1)
+rest_kept w mid call e seen key keys events at fit h old are apart fits_all = absurd are
 
 -- what is so after each event, of the keys that are left, and what then fits
 pub record Goes (call : ℕ) (P : WorldEvent → Type 0) (Q : List Bytes → WorldState → Type 0) (tail : List WorldEvent) : Type 0 where
@@ -292,29 +222,27 @@ free_then w call key keys q alone h =
           ap (λ o. is_among keys q || (is_none o && not (is_joined w call q))) (part_without w.parts q key call apart) ∙ h
     ] refl h
 
-goes_leaving : (call : ℕ) → Goes call (λ e. (k : Bytes) × (e ≡ event.Withdraw call k)) (IsLeaving call) (event.Leave call ∷ [])
+goes_leaving : (call : ℕ) → Goes call (λ e. (k : Bytes) × (e ≡ WorldEvent.Withdraw call k)) (IsLeaving call) (WorldEvent.Leave call ∷ [])
 goes_leaving call = record {
   step = λ w mid e seen key keys old is at fit h q.
-      let F : WorldEvent → Type 0 = λ e. key_at call e ≡ Some key → fits w e ≡ true → Happens w e seen mid → IsLeaving call keys mid in
-      subst F (sym is.1) (λ at fit h.
+      subst (λ e. key_at call e ≡ Some key → fits w e ≡ true → Happens w e seen mid → IsLeaving call keys mid) (sym is.1) (λ at fit h.
       let mine = named call call is.0 key at in
       let alone = unjoined_held w call is.0 fit old in
-      let P : WorldState → Type 0 = λ m. IsLeaving call keys m in
-      subst P (sym h.7) (record {
+      subst (λ m. IsLeaving call keys m) (sym h.7) (record {
         u = q.u;
         here = q.here;
         rest = all_more (λ k. is_among (key ∷ keys) k || is_free w call k) _ (open_keys q.u) (λ k t.
             subst (λ x. (is_among keys k || (is_none (of_call call (get (remove w.parts x) k)) && not (is_joined w call k))) ≡ true) (sym mine.1)
             (free_then w call key keys k (subst (λ x. is_joined w call x ≡ false) mine.1 alone) t)) q.rest;
       })) at fit h;
-  end = λ w q. one_fits w (event.Leave call) (ap (may_leave w call) q.here ∙ all_more _ _ (open_keys q.u) (λ key t. t) q.rest);
+  end = λ w q. one_fits w (WorldEvent.Leave call) (ap (may_leave w call) q.here ∙ all_more _ _ (open_keys q.u) (λ key t. t) q.rest);
 }
 
-leaving_fits : Laws → (w : WorldState) → IsSoundWorld w → (call : ℕ) (u : CallState) (keys : List Bytes) → open_call w call ≡ Some u → IsDistinct (pointwise ◌==◌) keys → list_all (λ key. fits w (event.Withdraw call key)) keys ≡ true
-    → list_all (λ key. is_among keys key || is_free w call key) (open_keys u) ≡ true → AllFit w (map (event.Withdraw call) keys ++ event.Leave call ∷ [])
+leaving_fits : Laws → (w : WorldState) → IsSoundWorld w → (call : ℕ) (u : CallState) (keys : List Bytes) → open_call w call ≡ Some u → IsDistinct (pointwise ◌==◌) keys → list_all (λ key. fits w (WorldEvent.Withdraw call key)) keys ≡ true
+    → list_all (λ key. is_among keys key || is_free w call key) (open_keys u) ≡ true → AllFit w (map (WorldEvent.Withdraw call) keys ++ WorldEvent.Leave call ∷ [])
 leaving_fits laws w old call u keys here differ fit rest =
-    all_together laws call (λ e. (k : Bytes) × (e ≡ event.Withdraw call k)) (IsLeaving call) (event.Leave call ∷ []) (goes_leaving call) w keys (map (event.Withdraw call) keys) old
-    (are_mapped call keys (event.Withdraw call) (own_call call)) differ (each_mapped _ (event.Withdraw call) (λ key. (key, refl)) keys) (all_mapped (fits w) (event.Withdraw call) keys fit) (record { u = u; here = here; rest = rest })
+    all_together laws call (λ e. (k : Bytes) × (e ≡ WorldEvent.Withdraw call k)) (IsLeaving call) (WorldEvent.Leave call ∷ []) (goes_leaving call) w keys (map (WorldEvent.Withdraw call) keys) old
+    (are_mapped call keys (WorldEvent.Withdraw call) (own_call call)) differ (each_mapped _ (WorldEvent.Withdraw call) (λ key. (key, refl)) keys) (all_mapped (fits w) (WorldEvent.Withdraw call) keys fit) (record { u = u; here = here; rest = rest })
 
 -- 5. The writer's return, after its changes of the store.
 
@@ -344,21 +272,19 @@ report_kept w call key part change is h = go (open_call w call) h
     go None h = h
     go (Some u) h = any (open_keys u) h
 
-goes_reporting : (call : ℕ) (left : List Bytes) (fault : Option ℕ) → Goes call (λ e. (k : Bytes) × (e ≡ event.Change call k)) (λ keys w. fits w (event.Report call left fault) ≡ true) (event.Report call left fault ∷ [])
+goes_reporting : (call : ℕ) (left : List Bytes) (fault : Option ℕ) → Goes call (λ e. (k : Bytes) × (e ≡ WorldEvent.Change call k)) (λ keys w. fits w (WorldEvent.Report call left fault) ≡ true) (WorldEvent.Report call left fault ∷ [])
 goes_reporting call left fault = record {
   step = λ w mid e seen key keys old is at fit h q.
-      let F : WorldEvent → Type 0 = λ e. Happens w e seen mid → fits mid (event.Report call left fault) ≡ true in
-      subst F (sym is.1) (λ h.
-      let P : WorldState → Type 0 = λ m. fits m (event.Report call left fault) ≡ true in
-      subst P (sym h.5) (report_kept w call is.0 h.0 h.1 h.2 q)) h;
-  end = λ w q. one_fits w (event.Report call left fault) q;
+      subst (λ e. Happens w e seen mid → fits mid (WorldEvent.Report call left fault) ≡ true) (sym is.1) (λ h.
+      subst (λ m. fits m (WorldEvent.Report call left fault) ≡ true) (sym h.5) (report_kept w call is.0 h.0 h.1 h.2 q)) h;
+  end = λ w q. one_fits w (WorldEvent.Report call left fault) q;
 }
 
-reporting_fits : Laws → (w : WorldState) → IsSoundWorld w → (call : ℕ) (keys left : List Bytes) (fault : Option ℕ) → IsDistinct (pointwise ◌==◌) keys → list_all (λ key. fits w (event.Change call key)) keys ≡ true
-    → fits w (event.Report call left fault) ≡ true → AllFit w (map (event.Change call) keys ++ event.Report call left fault ∷ [])
+reporting_fits : Laws → (w : WorldState) → IsSoundWorld w → (call : ℕ) (keys left : List Bytes) (fault : Option ℕ) → IsDistinct (pointwise ◌==◌) keys → list_all (λ key. fits w (WorldEvent.Change call key)) keys ≡ true
+    → fits w (WorldEvent.Report call left fault) ≡ true → AllFit w (map (WorldEvent.Change call) keys ++ WorldEvent.Report call left fault ∷ [])
 reporting_fits laws w old call keys left fault differ fit reports =
-    all_together laws call (λ e. (k : Bytes) × (e ≡ event.Change call k)) (λ keys w. fits w (event.Report call left fault) ≡ true) (event.Report call left fault ∷ []) (goes_reporting call left fault) w keys (map (event.Change call) keys) old
-    (are_mapped call keys (event.Change call) (own_call call)) differ (each_mapped _ (event.Change call) (λ key. (key, refl)) keys) (all_mapped (fits w) (event.Change call) keys fit) reports
+    all_together laws call (λ e. (k : Bytes) × (e ≡ WorldEvent.Change call k)) (λ keys w. fits w (WorldEvent.Report call left fault) ≡ true) (WorldEvent.Report call left fault ∷ []) (goes_reporting call left fault) w keys (map (WorldEvent.Change call) keys) old
+    (are_mapped call keys (WorldEvent.Change call) (own_call call)) differ (each_mapped _ (WorldEvent.Change call) (λ key. (key, refl)) keys) (all_mapped (fits w) (WorldEvent.Change call) keys fit) reports
 
 pub fit_together : Laws → (w : WorldState) → IsSoundWorld w → FitTogether w
 fit_together laws w old = record {

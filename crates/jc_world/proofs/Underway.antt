@@ -5,27 +5,8 @@
 --     apart_over      the others are of other sessions
 --     calls_pushed    a new call fits beside them
 --     all_owned       what each reservation owns, in another world
-use Rattle.std.proofs.Common.{◌≡◌, ◌==◌, ◌||◌, ℕ, List, [], ◌∷◌, ◌++◌, Bool, true, false, cond, not, Option, None, Some, IsSomeAnd, find, filter, nat_lt, nat_le, refl, sym, ap, ◌∙◌, subst, arith, is_none}
-use Rattle.std.specs.List.{list_all, list_any}
-use Rattle.std.specs.Cmp.Lexicographic.{pointwise, texts_ties}
-use Rattle.std.proofs.lemmas.Bool.{eqb-true, and_parts, and_from, not-true, or_left, or_right}
-use Rattle.std.proofs.lemmas.Cmp.{nat_eq_equiv}
-use Rattle.std.proofs.lemmas.Bool.Decides.{nat_tests}
-use Rattle.jc_types.proofs.CallerLemmas.{all_filter, all_imply, all_found}
-use Rattle.jc_types.specs.declared.caller.Caller.{Caller}
-use Rattle.jc_model.specs.declared.event.Event.{Event}
-use Rattle.jc_model.specs.declared.event.Event.TheVariants.{Step, Evict}
-use Rattle.jc_model.specs.Cache.{Bytes}
-use Rattle.jc_model.specs.Legal.{may_come}
-use Rattle.jc_model.proofs.CallerLemmas.{same_key}
-use Rattle.jc_stripe.specs.declared.ticket.Reservation.{Reservation}
-use Rattle.jc_stripe.specs.State.{is_key, without_key}
-use Rattle.jc_world.specs.Calls.{CallState, has_number, is_of_session, drop_call}
-use Rattle.jc_world.specs.declared.event.Part.{Part}
-use Rattle.jc_world.specs.World.{WorldState, of_call}
-use Rattle.jc_world.specs.Fits.{is_new}
-use Rattle.jc_stripe.specs.OwnSteps.{may_come_all}
-use Rattle.jc_world.specs.Sound.{is_up_to, number_up_to, is_apart, FitsCall, CallsFit, IsOwned, AllOwned, Each}
+use Rattle.jc_world.proofs.Common.{◌≡◌, ℕ, Bool, true, false, cond, not, ◌||◌, List, [], ◌∷◌, ◌++◌, is_none, IsSomeAnd, nat_lt, nat_le, ◌==◌, Some, None, filter, Option, find, sym, refl, ap, ◌∙◌, subst, arith, not-true, eqb-true, and_parts, and_from, or_left, or_right, nat_tests, nat_eq_equiv, pointwise, texts_ties, list_any, list_all, all_imply, all_filter, all_found, Caller, same_key, Bytes, may_come, Event, Evict, may_come_all, is_key, without_key, Reservation, Part, CallState, has_number, is_of_session, drop_call, is_new, is_up_to, number_up_to, is_apart, FitsCall, CallsFit, Each, IsOwned, AllOwned, WorldState, of_call}
+use Rattle.jc_model.specs.declared.event.Event.TheVariants.{Step}
 use Rattle.jc_world.proofs.Shares.{found_test}
 
 -- 1. A call that is over.

@@ -2,10 +2,7 @@
 --     missed         one that it hasn't looked at is left
 --     unseen         it hasn't looked at a stripe behind those that it has looked at
 --     seen_below     behind a look at that one, they are those before the next
-use Rattle.std.proofs.Common.{◌≡◌, ◌==◌, ◌&&◌, ◌||◌, ◌<◌, ◌+◌, ℕ, zero, suc, List, [], ◌∷◌, ◌++◌, Bool, true, false, refl, sym, ap, ◌∙◌, arith}
-use Rattle.std.proofs.lemmas.Bool.{eqb-true, eqb-false, and_parts, false_from_ne_true}
-use Rattle.std.proofs.lemmas.List.Folds.{list_any-append}
-use Rattle.jc_world.specs.Calls.{has_looked, has_looked_at_each}
+use Rattle.jc_world.proofs.Common.{◌≡◌, ℕ, zero, suc, ◌+◌, ◌<◌, Bool, true, false, ◌&&◌, ◌||◌, List, [], ◌∷◌, ◌++◌, ◌==◌, sym, refl, ap, ◌∙◌, arith, eqb-true, eqb-false, and_parts, false_from_ne_true, list_any-append, has_looked, has_looked_at_each}
 
 pub missed : (looked : List ℕ) (i n : ℕ) → has_looked looked i ≡ false → i < n → has_looked_at_each looked n ≡ false
 missed looked i zero none lt = absurd (omega (arith, lt))

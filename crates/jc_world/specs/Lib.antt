@@ -1,4 +1,5 @@
 pub mod Calls
+pub mod NewTickets
 pub mod OpenCalls
 pub mod World
 pub mod Premises

@@ -6,7 +6,8 @@
 --     merge            the merge of histories by turns: each turn takes the first event that is left of its stripe's history
 --     OrderedStripes   stripes, the order of all their events, and how many turns more there is room for
 --     ordered_stripes  what the fields of `Stripes` mean: the order is the merge of the stripes' histories
---     IsPhase          a phase of the stripe with a number: what it appends to its history is at the end of the order, too
+--     IsPhaseWith      a phase of the stripe with a number, and the order of all events afterwards
+--     IsPhase          a phase of the stripe: what it appends to its history is at the end of the order, too
 --     IsQuietPhase     a phase that appends nothing: the order stays
 --     AreTurns         each stripe has as many turns as its history has events
 --     IsMergeable      what is true of the fields: that, and the number of stripes is within its limit, so a number fits a byte
@@ -38,23 +39,21 @@ pub record OrderedStripes : Type 0 where
   pub order : List Event
   pub room : ℕ
 
-pub record IsPhase (old : OrderedStripes) (number : ℕ) (phase : State → State → Type 0)
-    (new : OrderedStripes) : Type 0 where
+pub record IsPhaseWith (old : OrderedStripes) (number : ℕ) (phase : State → State → Type 0)
+    (order : State → State → List Event) (new : OrderedStripes) : Type 0 where
   pub from : State
   pub at : slice_get old.stripes number ≡ Some from
   pub to : State
   pub made : phase from to
   pub stripes_are : new.stripes ≡ slice_set old.stripes number to
-  pub order_is : new.order ≡ old.order ++ drop (length from.history) to.history
+  pub order_is : new.order ≡ order from to
 
-pub record IsQuietPhase (old : OrderedStripes) (number : ℕ) (phase : State → State → Type 0)
-    (new : OrderedStripes) : Type 0 where
-  pub from : State
-  pub at : slice_get old.stripes number ≡ Some from
-  pub to : State
-  pub made : phase from to
-  pub stripes_are : new.stripes ≡ slice_set old.stripes number to
-  pub order_is : new.order ≡ old.order
+abbrev pub IsPhase : OrderedStripes → ℕ → (State → State → Type 0) → OrderedStripes → Type 0
+IsPhase old number phase new =
+    IsPhaseWith old number phase (λ from to. old.order ++ drop (length from.history) to.history) new
+
+abbrev pub IsQuietPhase : OrderedStripes → ℕ → (State → State → Type 0) → OrderedStripes → Type 0
+IsQuietPhase old number phase new = IsPhaseWith old number phase (λ from to. old.order) new
 
 abbrev pub ordered_stripes : Inside → OrderedStripes
 ordered_stripes s =

@@ -1,5 +1,5 @@
 //! What calls do.
-ghost use Rattle.std.specs.Prelude.{◌≡◌, is_some, length};
+ghost use Rattle.std.specs.Prelude.{◌≡◌, [], is_some, length, option_map};
 ghost use Rattle.jc_world.specs.Calls.{kind_of, sweep_of, takes_turns, is_bulk, cause_after, puts_off, tasks, has_too_many};
 
 use crate::sweep::Sweep;
@@ -71,13 +71,13 @@ impl Command {
         }
     }
 
-    /// Its sweep of the stripes before its first look, if it takes the keys that are cached.
-    pub(crate) fn sweep(&self, alloc: Global) -> Option<Sweep>
-        ensures { result ≡ sweep_of self.now }
+    /// What is done at each key that is cached, if the command takes the keys that are cached, whichever they are.
+    fn sweep_op(&self) -> Option<Op>
+        ensures { sweep_of self.now ≡ option_map (λ op. record { op = op; looked = [] }) result }
     {
         match self {
-            Command::RemoveEvery => Some(Sweep::new(alloc, Op::Remove)),
-            Command::Clear => Some(Sweep::new(alloc, Op::Clear)),
+            Command::RemoveEvery => Some(Op::Remove),
+            Command::Clear => Some(Op::Clear),
             Command::Single { op: _, key: _ }
             | Command::GetAll { keys: _ }
             | Command::PutAll { entries: _ }
@@ -90,21 +90,23 @@ impl Command {
         }
     }
 
+    /// Its sweep of the stripes before its first look, if it takes the keys that are cached.
+    pub(crate) fn sweep(&self, alloc: Global) -> Option<Sweep>
+        ensures { result ≡ sweep_of self.now }
+    {
+        match self.sweep_op() {
+            Some(op) => Some(Sweep::new(alloc, op)),
+            None => None,
+        }
+    }
+
     /// Whether the command takes the keys that are cached, whichever they are: its call looks at each stripe once.
     pub fn is_sweep(&self) -> bool
         ensures { result ≡ is_some (sweep_of self.now) }
     {
-        match self {
-            Command::RemoveEvery | Command::Clear => true,
-            Command::Single { op: _, key: _ }
-            | Command::GetAll { keys: _ }
-            | Command::PutAll { entries: _ }
-            | Command::RemoveAll { keys: _ }
-            | Command::LoadAll {
-                replace: _,
-                keys: _,
-            }
-            | Command::InvokeAll { keys: _ } => false,
+        match self.sweep_op() {
+            Some(_op) => true,
+            None => false,
         }
     }
 

@@ -251,6 +251,7 @@ pub(crate) fn show(seen: &mut Shown, outcome: Outcome)
 }
 
 /// Shows this outcome, and the call that is over with it, if one is. What was shown before is let go.
+#[inline(always)]
 pub(crate) fn show_end(seen: &mut Shown, outcome: Outcome, over: Option<Over>)
     ensures { seen.new ≡ record { outcome = outcome; over = over } }
 {

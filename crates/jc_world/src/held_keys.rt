@@ -18,13 +18,15 @@ ghost use Rattle.jc_world.specs.Fits.{waits_in};
 ghost use Rattle.jc_world.specs.Events.{new_load, new_write, new_process, new_part, with_change, with_report, reported_key};
 ghost use Rattle.jc_world.specs.Events.{run_answers, run_result, progress_after};
 ghost use Rattle.jc_world.specs.Held.{parts_of};
+ghost use Rattle.jc_world.specs.NewTickets.{IsNewTicket, HoldsTicket};
 
+use crate::event::{Outcome, Shown, show};
 use crate::held::{Held, change_for};
 use crate::reports::ReportedKey;
 use crate::run::RunShown;
 use indexmap::IndexMap;
 use jc_model::{Change, Contents, EntryAnswer, EntryCall, LoadAnswer, WriteAnswer};
-use jc_stripe::{LoadTicket, ProcessTicket, WriteTicket};
+use jc_stripe::{Begun, LoadTicket, ProcessTicket, WriteTicket};
 use jc_types::{Config, Key, Value};
 use std::alloc::AllocError;
 
@@ -52,10 +54,35 @@ fn put_reserved(held: &mut HeldKeys, key: &Key, one: Held)
     }
 }
 
-/// A call has reserved its key, and the loader is to be asked. It is a function of its own, so that a call that reserves nothing
-/// doesn't clear the room of its values.
+/// A call has reserved its key, for which there is room. Its ticket is held, and what is asked is shown.
+///
+/// It is a function of its own, so that a call that reserves nothing doesn't clear the room of its tickets.
 #[inline(never)]
-pub(crate) fn hold_load(held: &mut HeldKeys, ticket: LoadTicket)
+pub(crate) fn hold(held: &mut HeldKeys, begun: Begun, seen: &mut Shown)
+    requires room { 0 < spare held.old }
+    requires new { IsNewTicket (parts_of held.old) begun }
+    ensures { HoldsTicket (parts_of held.old) begun seen.new (parts_of held.new) }
+{
+    match begun {
+        Begun::Load(ticket) => {
+            hold_load(held, ticket);
+            show(seen, Outcome::Loads);
+        }
+        Begun::Write(ticket) => {
+            let change = hold_write(held, ticket);
+            show(seen, Outcome::Asks(change));
+        }
+        Begun::Process(ticket) => {
+            let entry = hold_process(held, ticket);
+            show(seen, Outcome::Processes(entry));
+        }
+        Begun::Done(_) | Begun::Refused(_) => unreachable!(),
+        Begun::Joined(_join) => unreachable!(),
+    }
+}
+
+/// A call has reserved its key, and the loader is to be asked.
+fn hold_load(held: &mut HeldKeys, ticket: LoadTicket)
     requires room { 0 < spare held.old }
     requires unasked { ticket.asked ≡ false }
     requires free { map.get (parts_of held.old) ticket.reservation.key ≡ None }
@@ -66,9 +93,8 @@ pub(crate) fn hold_load(held: &mut HeldKeys, ticket: LoadTicket)
     put_reserved(held, &key, Held::loading(ticket));
 }
 
-/// A call has reserved its key, and the writer is to be asked for this change. It is a function of its own, as `hold_load` is.
-#[inline(never)]
-pub(crate) fn hold_write(held: &mut HeldKeys, ticket: WriteTicket) -> Change
+/// A call has reserved its key, and the writer is to be asked for this change.
+fn hold_write(held: &mut HeldKeys, ticket: WriteTicket) -> Change
     requires room { 0 < spare held.old }
     requires unasked { ticket.asked ≡ false }
     requires free { map.get (parts_of held.old) ticket.reservation.key ≡ None }
@@ -82,10 +108,8 @@ pub(crate) fn hold_write(held: &mut HeldKeys, ticket: WriteTicket) -> Change
     change
 }
 
-/// A call has reserved its key, and the entry processor is to be asked, about this entry. It is a function of its own, as
-/// `hold_load` is.
-#[inline(never)]
-pub(crate) fn hold_process(held: &mut HeldKeys, ticket: ProcessTicket) -> Option<Value>
+/// A call has reserved its key, and the entry processor is to be asked, about this entry.
+fn hold_process(held: &mut HeldKeys, ticket: ProcessTicket) -> Option<Value>
     requires room { 0 < spare held.old }
     requires unasked { ticket.asked ≡ false }
     requires writer { ticket.writer_asked ≡ false }

@@ -20,9 +20,7 @@ use crate::command::Command;
 use crate::ending::{end_all, pick_all};
 use crate::event::{Outcome, PickedUp, Premises, Shown, WorldEvent, show, show_end};
 use crate::held::Held;
-use crate::held_keys::{
-    HeldKeys, held_at, held_by, hold_load, hold_process, hold_write, make_room, take,
-};
+use crate::held_keys::{HeldKeys, held_at, held_by, hold, make_room, take};
 use crate::joined::{Joins, has_joined, make_join_room, put_join, take_join};
 use crate::open_call::OpenCall;
 use crate::stripes::{Stripes, shown_of};
@@ -258,17 +256,6 @@ impl Machine {
                 let over = settle(&mut self.calls, caller.call, key, fault_in(&done.reply));
                 show_end(seen, Outcome::Stepped(shown_of(number, done)), over);
             }
-            Begun::Load(ticket) => {
-                hold_load(&mut self.held, ticket);
-                show(seen, Outcome::Loads);
-            }
-            Begun::Write(ticket) => {
-                show(seen, Outcome::Asks(hold_write(&mut self.held, ticket)));
-            }
-            Begun::Process(ticket) => {
-                let entry = hold_process(&mut self.held, ticket);
-                show(seen, Outcome::Processes(entry));
-            }
             Begun::Joined(join) => {
                 put_join(&mut self.joins, join);
                 show(seen, Outcome::Joins);
@@ -276,6 +263,7 @@ impl Machine {
             Begun::Refused(refusal) => {
                 refuse(&mut self.calls, kind, caller.call, key, refusal, seen);
             }
+            begun => hold(&mut self.held, begun, seen),
         }
         Ok(())
     }

@@ -3,6 +3,7 @@ ghost use Rattle.std.specs.Prelude.{◌≡◌, ◌==◌, ◌++◌, true, Some, N
 ghost use Rattle.std.specs.Prelude.{OnErr, OnOk, IfOk};
 ghost use Rattle.std.specs.List.{list_all, list_any, IsDistinct};
 ghost use Rattle.std.specs.Cmp.Lexicographic.{pointwise};
+ghost use Rattle.jc_world.specs.declared.command.Command.TheVariants as command;
 ghost use Rattle.jc_world.specs.Calls.{op_at, open_keys, current_key, keys_at_work, may_work};
 ghost use Rattle.jc_world.specs.Calls.{is_turn, is_going, new_call, over_of, settled, with_found, with_met, SweepState};
 ghost use Rattle.jc_world.specs.OpenCalls.{TakesKeys};
@@ -62,6 +63,22 @@ impl OpenCall {
             sweep,
             cause: None,
         })
+    }
+
+    /// The call of one operation on one key. It takes no memory.
+    pub(crate) fn single(caller: Caller, op: &Op, key: &Key) -> Self
+        ensures { result ≡ new_call caller.call caller.session (command.Single op.now key.now) }
+    {
+        OpenCall {
+            caller,
+            kind: CallKind::Single,
+            tasks: Tasks::One {
+                key: *key,
+                op: Some(*op),
+            },
+            sweep: None,
+            cause: None,
+        }
     }
 
     /// Who calls: a session, from 1 to [`SESSIONS_MAX`](jc_types::SESSIONS_MAX), and the call's number.

@@ -104,9 +104,13 @@ impl World {
         self.played = 0;
         shown.try_reserve(events.len())?;
         for event in events {
-            let mut seen = nothing_shown();
-            self.machine.step(event, &mut seen)?;
-            shown.push_reserved(seen);
+            // Each shows itself in its place in the list, and isn't copied there.
+            let place = shown.len();
+            shown.push_reserved(nothing_shown());
+            if let Err(failed) = self.machine.step(event, &mut shown[place]) {
+                shown.truncate(place);
+                return Err(failed);
+            }
             self.played += 1;
         }
         Ok(())

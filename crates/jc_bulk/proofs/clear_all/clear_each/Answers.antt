@@ -1,4 +1,4 @@
-use Rattle.std.proofs.Common.{◌≡◌, ◌==◌, ◌+◌, ◌++◌, [], ◌∷◌, All, take, false, slice_get, Some, refl, sym, ap, ◌∙◌, subst, arith}
+use Rattle.std.proofs.Common.{◌≡◌, ◌==◌, ◌+◌, ◌++◌, [], ◌∷◌, All, take, false, refl, sym, ap, ◌∙◌, subst, arith}
 use Rattle.std.specs.List.{list_any}
 use Rattle.std.specs.Map.{keys_of}
 use Rattle.std.specs.Cmp.Lexicographic.{pointwise}
@@ -11,10 +11,13 @@ use Rattle.jc_types.specs.declared.refusal.Refusal.{Refusal}
 use Rattle.jc_types.specs.declared.refusal.Refusal.TheVariants.{HistoryFull}
 use Rattle.jc_model.specs.declared.event.Op.TheVariants.{Clear}
 use Rattle.jc_model.specs.Cache.{Bytes}
+use Rattle.jc_outside.proofs.CallerLemmas.{new_at}
 use Rattle.jc_cache.specs.Sessions.{MayCallAt}
+use Rattle.jc_cache.proofs.CallerLemmas.{leaves_sessions_both}
 use Rattle.jc_bulk.specs.Bulk.{clear_ops}
-use Rattle.jc_bulk.proofs.Turns.{absent, key_there}
-use Rattle.jc_bulk.proofs.ClearingKeys.{still_absent, clears_push, ops_push, failed_push, all_full, leaves_both}
+use Rattle.jc_bulk.specs.Ends.{refusal_in}
+use Rattle.jc_bulk.proofs.KeyResults.{entries_push}
+use Rattle.jc_bulk.proofs.ClearingKeys.{still_absent, clears_push, ops_push, all_full}
 use Rattle.jc_bulk.proofs.clear_all.clear_each.Goals as goal
 
 pub loop-key-init : goal.loop-key-init
@@ -37,15 +40,13 @@ pub clear_at-ended-requires-clause-key : goal.clear_at-ended-requires-clause-key
 clear_at-ended-requires-clause-key g c =
     let keys = c.args.keys.now in
     let i = c.loop-key.key-index in
-    let there : slice_get keys i ≡ Some c.key-item.result = key_there keys i c.key-item.result c.loop-key-test.true c.key-item.is in
-    c.loop-key.invariant.rest c.key-item.result (absent keys i c.key-item.result c.requires.distinct there)
+    c.loop-key.invariant.rest c.key-item.result (new_at keys i c.key-item.result c.requires.distinct c.loop-key-test.true c.key-item.is)
 
 pub insert_if_failed-requires-clause-new : goal.insert_if_failed-requires-clause-new
 insert_if_failed-requires-clause-new g c =
     let keys = c.args.keys.now in
     let i = c.loop-key.key-index in
-    let there : slice_get keys i ≡ Some c.key-item.result = key_there keys i c.key-item.result c.loop-key-test.true c.key-item.is in
-    c.loop-key.invariant.new c.key-item.result (absent keys i c.key-item.result c.requires.distinct there)
+    c.loop-key.invariant.new c.key-item.result (new_at keys i c.key-item.result c.requires.distinct c.loop-key-test.true c.key-item.is)
 
 pub insert_if_failed-requires-clause-room : goal.insert_if_failed-requires-clause-room
 insert_if_failed-requires-clause-room g c = omega (arith, c.loop-key.invariant.room, c.loop-key-test.true)
@@ -79,12 +80,12 @@ loop-key-preserved g c =
         each.0 ++ record { key = key; op = Clear; ended = ended } ∷ [],
         ops_push each.0 (take i keys) key ended each.1 ∙ sym (ap clear_ops more),
         clears_push _ _ _ _ _ _ each.0 key ended each.2 one,
-        failed_push each.0 (record { key = key; op = Clear; ended = ended }) _ _ each.3 noted,
+        noted ∙ entries_push refusal_in _ each.0 (record { key = key; op = Clear; ended = ended } ∷ []) each.3,
       );
       why = all_full one.before one.after c.loop-key.session.caller key ended _ _ one.ends c.clear_at-ended.ensures.why old.why noted;
       outside = ap (λ s. s.hands) one.left ∙ old.outside;
       room = omega (arith, old.room, c.insert_if_failed.ensures.room);
-      sessions = leaves_both _ _ _ c.args.session.now c.loop-key.session old.caller old.sessions one.sessions;
+      sessions = leaves_sessions_both _ _ _ c.args.session.now c.loop-key.session old.caller old.sessions one.sessions;
     }
 
 pub returns-clause-may : goal.returns-clause-may

@@ -1,4 +1,4 @@
-use Rattle.std.proofs.Common.{◌≡◌, inl, [], length, sym, ap, ◌∙◌, subst, arith}
+use Rattle.std.proofs.Common.{◌≡◌, inl, [], length, sym, ap, ◌∙◌, subst, arith, append-nil}
 use Rattle.jc_cache.specs.OutstandingAll.{reserved_keys}
 use Rattle.jc_bulk.specs.RoundCalls.{AsksAs, MayAsk, kind_for, ops_of, items_of}
 use Rattle.jc_bulk.specs.Rounds.{IsStripeFull}
@@ -8,7 +8,6 @@ use Rattle.jc_bulk.proofs.InRounds.{begun_in_rounds, as_many_places, new_target,
 use Rattle.jc_bulk.proofs.Places.{waits_at, not_waits_at, set_there, stay_set}
 use Rattle.jc_bulk.proofs.SoFar.{key_at, open_after}
 use Rattle.jc_bulk.proofs.Turns.{begun_counted, after_all, same_after_all, same_some}
-use Rattle.jc_bulk.proofs.Under.{no_more}
 use Rattle.jc_bulk.proofs.rounds.begin_at.Goals.{else-is_waiting-via-then-is_waiting+else-len-most, else-is_waiting-via-else-is_waiting}
 use Rattle.jc_bulk.proofs.rounds.begin_at.Goals as goal
 
@@ -110,7 +109,7 @@ returns-else-is_waiting-clause-waits g c key at waits =
     ]
 
 pub returns-else-is_waiting-clause-more : goal.returns-else-is_waiting-clause-more
-returns-else-is_waiting-clause-more g c = ([], sym (no_more (reserved_keys (items_of c.args.calls.now))))
+returns-else-is_waiting-clause-more g c = ([], sym (append-nil (reserved_keys (items_of c.args.calls.now))))
 
 pub returns-else-is_waiting-clause-grows : goal.returns-else-is_waiting-clause-grows
 returns-else-is_waiting-clause-grows g c = same_after_all c.args.cache.now

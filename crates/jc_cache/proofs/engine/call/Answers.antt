@@ -1,12 +1,13 @@
-use Rattle.std.proofs.Common.{◌≡◌, ◌∙◌, sym, refl, ap, subst, IsSome}
-use Rattle.jc_model.specs.Group.{nothing_said, load_only, write_only}
+use Rattle.std.proofs.Common.{◌≡◌, ◌∙◌, sym, ap, subst, IsSome}
+use Rattle.jc_model.specs.Group.{load_only, write_only}
 use Rattle.jc_stripe.specs.declared.begun.Begun.TheVariants.{Load, Write}
 use Rattle.jc_stripe.specs.Tickets.{Ticket, change_asked}
 use Rattle.jc_stripe.specs.Phases.{Commits}
 use Rattle.jc_stripe.specs.OnePhase.{IsPhaseOf}
 use Rattle.jc_cache.proofs.Asking.{asked_loader, asked_writer}
+use Rattle.jc_cache.proofs.FirstCalls.{first_call, refused_call}
 use Rattle.jc_cache.proofs.Others.{leaves_others, leaves_both}
-use Rattle.jc_cache.proofs.SessionAfter.{after_first, after_both}
+use Rattle.jc_cache.proofs.SessionAfter.{after_both}
 use Rattle.jc_cache.proofs.Unasked.{no_process}
 use Rattle.jc_cache.proofs.WholeCalls.{writes_through, wanted_is, done_step, loaded_step, written_step}
 use Rattle.jc_cache.proofs.engine.call.Goals as goal
@@ -20,38 +21,14 @@ pub unreachable-requires : goal.unreachable-requires
 unreachable-requires g c = no_process _ _ _ _ _ c.in-Process._ticket c.requires.op c.in-Process.ensures.phase.made
 
 pub returns-in-Done-clause-call : goal.returns-in-Done-clause-call
-returns-in-Done-clause-call g c = let h = c.in-Done.ensures.phase in let e = c.in-Done.ensures.session in
-    record {
-      before = h.before;
-      after = h.after;
-      out = nothing_said;
-      found = h.found;
-      left = h.left;
-      ends = (h.made.0, done_step _ _ _ _ _ _ h.made);
-      loader = ap (λ s. s.hands.outside.loader) e;
-      writer = ap (λ s. s.hands.outside.writer) e;
-      held = ap (λ s. s.hands.held) e ∙ c.requires.held;
-      session = after_first c.args.session.now c.start.new.session _ e;
-      others = leaves_others _ _ _ (c.is_uniform.ensures _ _ _ h.reached h.one);
-      numbers = λ none. c.caller_numbers.ensures.done _ _ _ _ _ _ none h.made;
-    }
+returns-in-Done-clause-call g c =
+    let h = c.in-Done.ensures.phase in
+    first_call _ _ _ _ c.args.session.now c.start.new.session c.args.key.now c.args.op.now _ c.is_uniform.ensures h (h.made.0, done_step _ _ _ _ _ _ h.made)
+    (λ none. c.caller_numbers.ensures.done _ _ _ _ _ _ none h.made) c.in-Done.ensures.session c.requires.held
 
 pub returns-in-Refused-clause-call : goal.returns-in-Refused-clause-call
-returns-in-Refused-clause-call g c = let h = c.in-Refused.ensures.phase in let e = c.in-Refused.ensures.session in
-    record {
-      before = h.before;
-      after = h.after;
-      out = nothing_said;
-      found = h.found;
-      left = h.left;
-      ends = (h.made.0, refl, h.made.1);
-      loader = ap (λ s. s.hands.outside.loader) e;
-      writer = ap (λ s. s.hands.outside.writer) e;
-      held = ap (λ s. s.hands.held) e ∙ c.requires.held;
-      session = after_first c.args.session.now c.start.new.session _ e;
-      others = leaves_others _ _ _ (c.is_uniform.ensures _ _ _ h.reached h.one);
-      numbers = λ none. c.caller_numbers.ensures.refused _ _ _ _ _ _ none h.made;
-    }
+returns-in-Refused-clause-call g c =
+    refused_call _ _ _ _ c.args.session.now c.start.new.session c.args.key.now c.args.op.now c.in-Refused.refusal c.is_uniform.ensures c.caller_numbers.ensures c.in-Refused.ensures.phase c.in-Refused.ensures.session c.requires.held
 
 pub returns-in-Load-clause-call : goal.returns-in-Load-clause-call
 returns-in-Load-clause-call g c =

@@ -1,5 +1,4 @@
 use Rattle.std.proofs.Common.{◌≡◌, ◌∙◌, sym, refl, ap, subst, cond, None}
-use Rattle.jc_model.specs.Group.{nothing_said}
 use Rattle.jc_model.specs.Table.{process_ask}
 use Rattle.jc_stripe.specs.declared.begun.Begun.TheVariants.{Process}
 use Rattle.jc_outside.specs.declared.done.Origin.TheVariants.{Live}
@@ -10,30 +9,17 @@ use Rattle.jc_stripe.specs.Tickets.{ProcessClaim}
 use Rattle.jc_stripe.specs.Phases.{Commits}
 use Rattle.jc_stripe.specs.OnePhase.{IsPhaseOf}
 use Rattle.jc_cache.proofs.Processing.{report_for, ran, asked_if_given, written_for}
+use Rattle.jc_cache.proofs.FirstCalls.{refused_call}
 use Rattle.jc_cache.proofs.Others.{leaves_others, leaves_both}
-use Rattle.jc_cache.proofs.SessionAfter.{after_first, after_both, after_calls}
+use Rattle.jc_cache.proofs.SessionAfter.{after_both, after_calls}
 use Rattle.jc_cache.proofs.WholeCalls.{processed_step}
 use Rattle.jc_cache.proofs.engine.invoke.Goals as goal
 
 pub returns-in-Refused-clause-call : goal.returns-in-Refused-clause-call
-returns-in-Refused-clause-call g c = let h = c.in-Refused.ensures.phase in let e = c.in-Refused.ensures.session in
-    record {
-      call = record {
-        before = h.before;
-        after = h.after;
-        out = nothing_said;
-        found = h.found;
-        left = h.left;
-        ends = (h.made.0, refl, h.made.1);
-        loader = ap (λ s. s.hands.outside.loader) e;
-        writer = ap (λ s. s.hands.outside.writer) e;
-        held = ap (λ s. s.hands.held) e ∙ c.requires.held;
-        session = after_first c.args.session.now c.start.new.session _ e;
-        others = leaves_others _ _ _ (c.is_uniform.ensures _ _ _ h.reached h.one);
-        numbers = λ none. c.caller_numbers.ensures.refused _ _ _ c.args.key.now Invoke _ none h.made;
-      };
-      run = refl;
-    }
+returns-in-Refused-clause-call g c = record {
+  call = refused_call _ _ _ _ c.args.session.now c.start.new.session c.args.key.now Invoke c.in-Refused.refusal c.is_uniform.ensures c.caller_numbers.ensures c.in-Refused.ensures.phase c.in-Refused.ensures.session c.requires.held;
+  run = refl;
+}
 
 pub returns-in-Process-clause-call : goal.returns-in-Process-clause-call
 returns-in-Process-clause-call g c =

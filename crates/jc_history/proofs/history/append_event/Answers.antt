@@ -1,13 +1,8 @@
 use Rattle.std.proofs.Common.{◌≡◌, length, rules}
-use Rattle.jc_history.proofs.Stored.{all_complete-event_bytes, events_at-event_bytes}
+use Rattle.jc_history.proofs.Stored.{appends_event}
 use Rattle.jc_history.proofs.history.append_event.Goals as goal
 
-pub returns-clause-events : goal.returns-clause-events
-returns-clause-events c =
+pub returns : goal.returns
+returns c =
     let here : c.len.result ≡ length c.args.bytes.now.items = search rules in
-    rw (c.encode_event.ensures.appends.items, c.push_reserved.ensures.items, here) (events_at-event_bytes _ _ _ c.requires.complete c.encode_event.ensures.encodable)
-
-pub returns-clause-complete : goal.returns-clause-complete
-returns-clause-complete c =
-    let here : c.len.result ≡ length c.args.bytes.now.items = search rules in
-    rw (c.encode_event.ensures.appends.items, c.push_reserved.ensures.items, here) (all_complete-event_bytes _ _ _ c.requires.complete c.encode_event.ensures.encodable)
+    appends_event _ _ _ _ _ _ c.requires here c.push_reserved.ensures.items c.push_reserved.ensures.len c.push_reserved.ensures.capacity c.encode_event.ensures.appends c.encode_event.ensures.encodable

@@ -1,4 +1,4 @@
-use Rattle.std.proofs.Common.{◌≡◌, ◌==◌, ◌+◌, ◌++◌, [], ◌∷◌, take, false, slice_get, Some, refl, sym, ap, ◌∙◌, subst, arith}
+use Rattle.std.proofs.Common.{◌≡◌, ◌==◌, ◌+◌, ◌++◌, [], ◌∷◌, take, false, refl, sym, ap, ◌∙◌, subst, arith}
 use Rattle.std.specs.List.{list_any}
 use Rattle.std.specs.Map.{keys_of}
 use Rattle.std.specs.Cmp.Lexicographic.{pointwise}
@@ -6,11 +6,13 @@ use Rattle.std.proofs.lemmas.Bool.{or_parts}
 use Rattle.std.proofs.lemmas.Cmp.{nat_list_eq_equiv}
 use Rattle.std.proofs.lemmas.List.{take_more, take_all}
 use Rattle.std.proofs.lemmas.List.Folds.{list_any-append}
+use Rattle.jc_outside.proofs.CallerLemmas.{new_at}
 use Rattle.jc_cache.specs.Sessions.{MayCallAt}
+use Rattle.jc_cache.proofs.CallerLemmas.{leaves_sessions_both}
 use Rattle.jc_invoke.specs.ManyKeys.{InvokesEach, result_entry, result_entries}
 use Rattle.jc_invoke.proofs.Full.{refused_full}
-use Rattle.jc_invoke.proofs.Results.{absent, key_there, no_result, results_push}
-use Rattle.jc_invoke.proofs.Runs.{runs_push, as_many, leaves_both}
+use Rattle.jc_invoke.proofs.Results.{no_result, results_push}
+use Rattle.jc_invoke.proofs.Runs.{runs_push, as_many}
 use Rattle.jc_invoke.proofs.many_keys.invoke_each.Goals as goal
 
 pub loop-key-init : goal.loop-key-init
@@ -30,17 +32,15 @@ pub invoke_at-requires-clause-key : goal.invoke_at-requires-clause-key
 invoke_at-requires-clause-key g c =
     let keys = c.args.keys.now in
     let i = c.loop-key.key-index in
-    let there : slice_get keys i ≡ Some c.key-item.result = key_there keys i c.key-item.result c.loop-key-test.true c.key-item.is in
-    c.loop-key.invariant.rest c.key-item.result (absent keys i c.key-item.result c.requires.distinct there)
+    c.loop-key.invariant.rest c.key-item.result (new_at keys i c.key-item.result c.requires.distinct c.loop-key-test.true c.key-item.is)
 
 pub push_ended-requires-clause-new : goal.push_ended-requires-clause-new
 push_ended-requires-clause-new g c =
     let keys = c.args.keys.now in
     let i = c.loop-key.key-index in
     let key = c.key-item.result in
-    let there : slice_get keys i ≡ Some key = key_there keys i key c.loop-key-test.true c.key-item.is in
     let each = c.loop-key.invariant.each in
-    ap (λ es. list_any (pointwise ◌==◌ key) (keys_of es)) each.2 ∙ no_result key (take i keys) each.0 (absent keys i key c.requires.distinct there)
+    ap (λ es. list_any (pointwise ◌==◌ key) (keys_of es)) each.2 ∙ no_result key (take i keys) each.0 (new_at keys i key c.requires.distinct c.loop-key-test.true c.key-item.is)
 
 pub push_ended-requires-clause-room : goal.push_ended-requires-clause-room
 push_ended-requires-clause-room g c = omega (arith, c.loop-key.invariant.room, c.loop-key-test.true)
@@ -83,7 +83,7 @@ loop-key-preserved g c =
             _ _ _ _ _ _ c.args.args.now (take i keys) each.0 each.1)),
       );
       room = omega (arith, old.room, c.push_ended.ensures.room);
-      sessions = leaves_both _ _ _ c.args.session.now c.loop-key.session old.caller old.sessions one.call.sessions;
+      sessions = leaves_sessions_both _ _ _ c.args.session.now c.loop-key.session old.caller old.sessions one.call.sessions;
     }
 
 pub returns-clause-may : goal.returns-clause-may

@@ -1,9 +1,5 @@
-use Rattle.std.proofs.Common.{◌≡◌, ◌++◌, ◌∷◌, [], List, Bool, true, false, cond, Option, Some, ap, sym, refl, ◌∙◌, append_assoc}
-use Rattle.std.specs.Ordering.{eq_by_cmp}
-use Rattle.std.proofs.lemmas.Cmp.{nat_list_cmp_total}
+use Rattle.jc_world.proofs.Common.{◌≡◌, Bool, true, false, cond, List, [], ◌∷◌, ◌++◌, Some, Option, sym, refl, ap, ◌∙◌, append_assoc, nat_list_cmp_total, eq_by_cmp, Bytes, entry_at, key_cmp, or_else}
 use Rattle.std.specs.FinMap as map
-use Rattle.jc_model.specs.Cache.{Bytes, key_cmp, entry_at}
-use Rattle.jc_world.specs.Gathered.{or_else}
 use Rattle.jc_world.proofs.audit.add_entries.Goals as goal
 
 -- the last of what is left goes to the front of what is past

@@ -1,7 +1,5 @@
-use Rattle.std.proofs.Common.{◌≡◌, ◌++◌, List}
+use Rattle.jc_world.proofs.Common.{◌≡◌, List, ◌++◌, Bytes, entry_at, key_cmp, or_else}
 use Rattle.std.specs.FinMap as map
-use Rattle.jc_model.specs.Cache.{Bytes, key_cmp, entry_at}
-use Rattle.jc_world.specs.Gathered.{or_else}
 use Rattle.jc_world.proofs.audit.add_entries.Given as goal
 
 -- the entries that the iterator is past are in

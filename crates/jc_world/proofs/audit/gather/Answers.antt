@@ -1,8 +1,5 @@
-use Rattle.std.proofs.Common.{◌≡◌, ◌++◌, ◌∙◌, ap, Option}
+use Rattle.jc_world.proofs.Common.{◌≡◌, ◌++◌, Option, ap, ◌∙◌, Bytes, entry_at, key_cmp, by_use, found_after}
 use Rattle.std.specs.FinMap as map
-use Rattle.jc_model.specs.Cache.{Bytes, key_cmp, entry_at}
-use Rattle.jc_stripe.specs.OrderOfUse.{by_use}
-use Rattle.jc_world.specs.Gathered.{found_after}
 use Rattle.jc_world.proofs.Homes.{found_next}
 use Rattle.jc_world.proofs.audit.gather.Goals as goal
 

@@ -1,6 +1,4 @@
-use Rattle.std.proofs.Common.{◌≡◌, drop, None}
-use Rattle.jc_model.specs.Cache.{Bytes, entry_at}
-use Rattle.jc_world.specs.Gathered.{found_after}
+use Rattle.jc_world.proofs.Common.{◌≡◌, drop, None, Bytes, entry_at, found_after}
 use Rattle.jc_world.proofs.audit.gather.Given as goal
 
 -- what was found so far, and then in the other stripes, is what is found in all

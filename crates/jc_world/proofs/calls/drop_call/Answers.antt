@@ -1,6 +1,4 @@
-use Rattle.std.proofs.Common.{not, rules}
-use Rattle.std.proofs.lemmas.Fn.{filter_same}
-use Rattle.jc_world.specs.Calls.{CallState, has_number}
+use Rattle.jc_world.proofs.Common.{not, rules, filter_same, CallState, has_number}
 use Rattle.jc_world.proofs.calls.drop_call.Goals as goal
 
 pub returns : goal.returns

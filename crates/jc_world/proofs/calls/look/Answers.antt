@@ -1,7 +1,4 @@
-use Rattle.std.proofs.Common.{◌≡◌, ◌∙◌, Ok, Option, None, IsSomeAnd, position, ap, sym, subst}
-use Rattle.jc_types.proofs.CallerLemmas.{find_at_place, find_nowhere}
-use Rattle.jc_world.specs.Calls.{CallState, has_number, with_found}
-use Rattle.jc_world.specs.OpenCalls.{TakesKeys}
+use Rattle.jc_world.proofs.Common.{◌≡◌, None, Ok, position, sym, ap, ◌∙◌, find_at_place, find_nowhere, has_number, with_found}
 use Rattle.jc_world.proofs.Looked.{ended_at}
 use Rattle.jc_world.proofs.calls.look.Goals as goal
 
@@ -9,15 +6,13 @@ pub unreachable-requires : goal.unreachable-requires
 unreachable-requires c =
     let p = has_number c.args.call in
     let at : position p c.args.calls.now.items ≡ None = ap (position p) (sym c.deref.ensures.value) ∙ sym c.place_of.ensures ∙ c.in_default.is in
-    let P : Option CallState → Type 0 = λ o. IsSomeAnd o (TakesKeys c.args.keys.now) in
-    subst P (find_nowhere p c.args.calls.now.items at) c.requires
+    rw (find_nowhere p c.args.calls.now.items at) at c.requires
 
 pub look-requires : goal.look-requires
 look-requires c =
     let x = c.index_mut.result.now in
     let at = ap (position (has_number c.args.call)) (sym c.deref.ensures.value) ∙ sym c.place_of.ensures ∙ c.in-Some.is in
-    let P : Option CallState → Type 0 = λ o. IsSomeAnd o (TakesKeys c.args.keys.now) in
-    subst P (find_at_place (has_number c.args.call) c.args.calls.now.items c.in-Some.place x at c.index_mut.ensures.value) c.requires
+    rw (find_at_place (has_number c.args.call) c.args.calls.now.items c.in-Some.place x at c.index_mut.ensures.value) at c.requires
 
 pub returns-clause-ok : goal.returns-clause-ok
 returns-clause-ok c =

@@ -1,6 +1,4 @@
-use Rattle.std.proofs.Common.{◌∙◌, Some, position, ap, sym}
-use Rattle.jc_types.proofs.CallerLemmas.{find_at_place, find_nowhere}
-use Rattle.jc_world.specs.Calls.{has_number, with_met}
+use Rattle.jc_world.proofs.Common.{Some, position, sym, ap, ◌∙◌, find_at_place, find_nowhere, has_number, with_met}
 use Rattle.jc_world.proofs.Looked.{put_at, none_replaced}
 use Rattle.jc_world.proofs.calls.meet.Goals as goal
 

@@ -1,7 +1,4 @@
-use Rattle.std.proofs.Common.{◌∙◌, position, ap, sym, option_map}
-use Rattle.std.specs.Option.{option_flatten}
-use Rattle.jc_types.proofs.CallerLemmas.{find_at_place, find_nowhere}
-use Rattle.jc_world.specs.Calls.{has_number, going_on, over_of, settled}
+use Rattle.jc_world.proofs.Common.{option_map, position, sym, ap, ◌∙◌, option_flatten, find_at_place, find_nowhere, has_number, going_on, over_of, settled}
 use Rattle.jc_world.proofs.Looked.{ended_at, none_replaced}
 use Rattle.jc_world.proofs.calls.settle.Goals as goal
 

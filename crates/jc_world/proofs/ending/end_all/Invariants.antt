@@ -1,6 +1,4 @@
-use Rattle.indexmap.specs.IndexMap.{index_map_len}
-use Rattle.jc_world.specs.Ending.{AreLeft, HasHeld, HasJoins}
-use Rattle.jc_world.specs.Held.{parts_of, joins_of}
+use Rattle.jc_world.proofs.Common.{index_map_len, AreLeft, HasHeld, HasJoins, parts_of, joins_of}
 use Rattle.jc_world.proofs.ending.end_all.Given as goal
 
 -- what is still out is held

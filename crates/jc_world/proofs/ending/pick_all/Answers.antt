@@ -1,11 +1,4 @@
-use Rattle.std.proofs.Common.{◌≡◌, ◌<◌, get_or, slice_set, ℕ, sym, ap, ◌∙◌, subst, arith, vec_len}
-use Rattle.jc_stripe.specs.State.{State}
-use Rattle.jc_stripe.specs.Phases.{PicksUp, without_joiner}
-use Rattle.jc_stripe.specs.declared.begun.Picked.{Picked}
-use Rattle.jc_types.specs.Stripes.{stripe_of}
-use Rattle.jc_world.specs.Ending.{AreLeft, HasJoins, NoneReserved}
-use Rattle.jc_world.specs.Held.{joins_of}
-use Rattle.jc_world.specs.World.{empty_stripe}
+use Rattle.jc_world.proofs.Common.{◌≡◌, ℕ, ◌<◌, get_or, slice_set, vec_len, sym, ap, ◌∙◌, subst, arith, stripe_of, without_joiner, State, AreLeft, HasJoins, NoneReserved, joins_of, empty_stripe}
 use Rattle.jc_world.proofs.Closing.{left_set, never_waits, picked_left, picked_up, none_set, home_of_join}
 use Rattle.jc_world.proofs.ending.pick_all.Goals as goal
 
@@ -66,5 +59,4 @@ unreachable-requires c =
     let n = stripe_of join.key config.stripes in
     let home = home_of_join config ss (joins_of c.picking.joins) some.0 join from some.1 i.left i.joins in
     let at = home.at (c.index_mut-stripe.ensures.value ∙ ap (λ m. get_or ss m from) (c.stripe_of-number.ensures ∙ ap (λ k. stripe_of k config.stripes) c.key.ensures)) in
-    let P : Picked → Type 0 = λ p. PicksUp from join p c.pick_up.new.self in
-    never_waits from c.pick_up.new.self join c.in-NotYet._join (i.left.each n from at).reached (i.none n from at) (subst P c.in-NotYet.is c.pick_up.ensures.picks_up)
+    never_waits from c.pick_up.new.self join c.in-NotYet._join (i.left.each n from at).reached (i.none n from at) (rw c.in-NotYet.is at c.pick_up.ensures.picks_up)

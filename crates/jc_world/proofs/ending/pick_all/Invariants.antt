@@ -1,6 +1,4 @@
-use Rattle.indexmap.specs.IndexMap.{index_map_len}
-use Rattle.jc_world.specs.Ending.{AreLeft, HasJoins, NoneReserved}
-use Rattle.jc_world.specs.Held.{joins_of}
+use Rattle.jc_world.proofs.Common.{index_map_len, AreLeft, HasJoins, NoneReserved, joins_of}
 use Rattle.jc_world.proofs.ending.pick_all.Given as goal
 
 -- the joins that are left are still out in the stripes

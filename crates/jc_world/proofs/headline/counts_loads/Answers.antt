@@ -1,7 +1,6 @@
-use Rattle.std.proofs.Common.{◌≡◌, ◌+◌, ℕ, arith}
+use Rattle.jc_world.proofs.Common.{◌≡◌, ℕ, ◌+◌, arith, start_with}
 use Rattle.jc_world.proofs.Loads.{total_run, total_opened}
 use Rattle.jc_world.proofs.Sounding.{sound_opened}
-use Rattle.jc_world.specs.Headline.{start_with}
 use Rattle.jc_world.proofs.headline.counts_loads.Goals as goal
 
 -- what is added to nothing

@@ -1,6 +1,6 @@
+use Rattle.jc_world.proofs.Common.{start_with}
 use Rattle.jc_world.proofs.Kept.{coherent}
 use Rattle.jc_world.proofs.Sounding.{sound_run, sound_opened}
-use Rattle.jc_world.specs.Headline.{start_with}
 use Rattle.jc_world.proofs.headline.stays_coherent.Goals as goal
 
 pub returns : goal.returns

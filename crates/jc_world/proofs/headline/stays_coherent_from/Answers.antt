@@ -1,7 +1,7 @@
+use Rattle.jc_world.proofs.Common.{start_with, with_all_premises}
 use Rattle.jc_world.proofs.Kept.{coherent}
 use Rattle.jc_world.proofs.Reopening.{sound_reopened}
 use Rattle.jc_world.proofs.Sounding.{Laws, sound_run, sound_opened}
-use Rattle.jc_world.specs.Headline.{start_with, with_all_premises}
 use Rattle.jc_world.proofs.headline.stays_coherent_from.Goals as goal
 
 pub returns : goal.returns

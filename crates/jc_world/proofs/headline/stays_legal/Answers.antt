@@ -1,6 +1,6 @@
+use Rattle.jc_world.proofs.Common.{start_with}
 use Rattle.jc_world.proofs.Callers.{order_is, has_shares}
 use Rattle.jc_world.proofs.Sounding.{sound_run, sound_opened}
-use Rattle.jc_world.specs.Headline.{start_with}
 use Rattle.jc_world.proofs.headline.stays_legal.Goals as goal
 
 pub returns : goal.returns

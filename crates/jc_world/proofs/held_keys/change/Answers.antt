@@ -1,8 +1,5 @@
-use Rattle.std.proofs.Common.{Result, Ok, Err, OnOk, OnErr, is_some, ap, sym, ◌∙◌}
+use Rattle.jc_world.proofs.Common.{is_some, OnOk, OnErr, Ok, Err, Result, sym, ap, ◌∙◌, get-entries, insert-entries, parts_of, has_progress, waits_for_report}
 use Rattle.std.specs.FinMap as map
-use Rattle.jc_world.specs.World.{waits_for_report, has_progress}
-use Rattle.jc_world.specs.Held.{parts_of}
-use Rattle.jc_outside.proofs.CallerLemmas.{get-entries, insert-entries}
 use Rattle.jc_world.proofs.Maps.{keys_ordered, insert-there}
 use Rattle.jc_world.proofs.held_keys.change.Goals as goal
 

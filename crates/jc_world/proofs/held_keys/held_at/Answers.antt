@@ -1,6 +1,4 @@
-use Rattle.std.proofs.Common.{◌==◌, sym, ◌∙◌}
-use Rattle.std.specs.Cmp.Lexicographic.{pointwise, texts_ties}
-use Rattle.jc_outside.proofs.CallerLemmas.{get-entries}
+use Rattle.jc_world.proofs.Common.{◌==◌, sym, ◌∙◌, pointwise, texts_ties, get-entries}
 use Rattle.jc_world.proofs.Maps.{keys_ordered, nothing_at}
 use Rattle.jc_world.proofs.held_keys.held_at.Goals as goal
 

@@ -1,8 +1,5 @@
-use Rattle.std.proofs.Common.{is_some, ap, sym, ◌∙◌}
+use Rattle.jc_world.proofs.Common.{is_some, sym, ap, ◌∙◌, get-entries, insert-entries, parts_of, has_progress, waits_for_process}
 use Rattle.std.specs.FinMap as map
-use Rattle.jc_world.specs.World.{waits_for_process, has_progress}
-use Rattle.jc_world.specs.Held.{parts_of}
-use Rattle.jc_outside.proofs.CallerLemmas.{get-entries, insert-entries}
 use Rattle.jc_world.proofs.held_keys.process.Goals as goal
 
 pub process-requires-clause-waits : goal.process-requires-clause-waits

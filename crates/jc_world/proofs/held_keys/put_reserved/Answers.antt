@@ -1,6 +1,4 @@
-use Rattle.std.proofs.Common.{◌≡◌, Option, Some, None, sym, ◌∙◌}
-use Rattle.jc_world.specs.declared.event.Part.{Part}
-use Rattle.jc_outside.proofs.CallerLemmas.{get-entries, insert-entries}
+use Rattle.jc_world.proofs.Common.{◌≡◌, Some, None, Option, sym, ◌∙◌, get-entries, insert-entries, Part}
 use Rattle.jc_world.proofs.held_keys.put_reserved.Goals as goal
 
 pub unreachable-requires : goal.unreachable-requires

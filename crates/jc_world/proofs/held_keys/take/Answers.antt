@@ -1,7 +1,4 @@
-use Rattle.std.proofs.Common.{◌≡◌, ◌==◌, None, is_some, true, ap, sym, ◌∙◌}
-use Rattle.std.specs.Cmp.Lexicographic.{pointwise, texts_ties}
-use Rattle.jc_world.specs.declared.event.Part.{Part}
-use Rattle.jc_outside.proofs.CallerLemmas.{get-entries}
+use Rattle.jc_world.proofs.Common.{◌≡◌, true, is_some, ◌==◌, None, sym, ap, ◌∙◌, pointwise, texts_ties, get-entries, Part}
 use Rattle.jc_world.proofs.Maps.{keys_ordered, remove-entries}
 use Rattle.jc_world.proofs.held_keys.take.Goals as goal
 

@@ -1,5 +1,4 @@
-use Rattle.std.proofs.Common.{◌==◌}
-use Rattle.std.specs.Cmp.Lexicographic.{pointwise, texts_ties}
+use Rattle.jc_world.proofs.Common.{◌==◌, pointwise, texts_ties}
 use Rattle.jc_world.proofs.Maps.{keys_ordered, remove-entries, popped}
 use Rattle.jc_world.proofs.held_keys.take_any.Goals as goal
 

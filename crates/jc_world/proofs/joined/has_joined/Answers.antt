@@ -1,4 +1,4 @@
-use Rattle.std.proofs.Common.{is_some, ap, sym, ◌∙◌}
+use Rattle.jc_world.proofs.Common.{is_some, sym, ap, ◌∙◌}
 use Rattle.jc_world.proofs.Maps.{joins_ordered, is_join_key, joins_tied, find-entries, nothing_at}
 use Rattle.jc_world.proofs.joined.has_joined.Goals as goal
 

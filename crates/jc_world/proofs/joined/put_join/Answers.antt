@@ -1,10 +1,5 @@
-use Rattle.std.proofs.Common.{◌≡◌, Option, Some, None, sym, ap, ◌∙◌}
+use Rattle.jc_world.proofs.Common.{◌≡◌, Some, None, Option, sym, ap, ◌∙◌, Caller, Bytes, JoinClaim, joins_of, JoinKey, join_key}
 use Rattle.std.specs.FinMap as map
-use Rattle.jc_types.specs.declared.caller.Caller.{Caller}
-use Rattle.jc_model.specs.Cache.{Bytes}
-use Rattle.jc_stripe.specs.Tickets.{JoinClaim}
-use Rattle.jc_world.specs.World.{JoinKey, join_key}
-use Rattle.jc_world.specs.Held.{joins_of}
 use Rattle.jc_world.proofs.Maps.{joins_ordered, is_join_key, joins_tied, find-entries, put-entries}
 use Rattle.jc_world.proofs.joined.put_join.Goals as goal
 

@@ -1,5 +1,4 @@
-use Rattle.std.proofs.Common.{◌≡◌, None, is_some, true, ap, sym, ◌∙◌}
-use Rattle.jc_stripe.specs.Tickets.{JoinClaim}
+use Rattle.jc_world.proofs.Common.{◌≡◌, true, is_some, None, sym, ap, ◌∙◌, JoinClaim}
 use Rattle.jc_world.proofs.Maps.{joins_ordered, is_join_key, joins_tied, find-entries, remove-entries}
 use Rattle.jc_world.proofs.joined.take_join.Goals as goal
 

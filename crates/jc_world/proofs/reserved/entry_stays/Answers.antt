@@ -1,6 +1,6 @@
+use Rattle.jc_world.proofs.Common.{start_with}
 use Rattle.jc_world.proofs.ReservedEntries.{stay_run, stays_held}
 use Rattle.jc_world.proofs.Sounding.{Laws, sound_run, sound_opened}
-use Rattle.jc_world.specs.Headline.{start_with}
 use Rattle.jc_world.proofs.reserved.entry_stays.Goals as goal
 
 pub returns : goal.returns

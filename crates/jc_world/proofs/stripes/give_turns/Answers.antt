@@ -1,5 +1,4 @@
-use Rattle.std.proofs.Common.{◌≡◌, ◌∙◌, ◌+◌, ◌-◌, ◌++◌, ◌∷◌, [], replicate, ap, arith, append_assoc}
-use Rattle.std.proofs.lemmas.List.{replicate_more}
+use Rattle.jc_world.proofs.Common.{◌≡◌, ◌+◌, ◌-◌, [], ◌∷◌, ◌++◌, replicate, ap, ◌∙◌, append_assoc, arith, replicate_more}
 use Rattle.jc_world.proofs.stripes.give_turns.Goals as goal
 
 pub loop-place-preserved : goal.loop-place-preserved

@@ -1,4 +1,4 @@
-use Rattle.std.proofs.Common.{◌≡◌, ◌+◌, ◌-◌, ◌≤◌, ◌++◌, length, replicate, vec_len, vec_capacity}
+use Rattle.jc_world.proofs.Common.{◌≡◌, ◌+◌, ◌-◌, ◌≤◌, ◌++◌, length, replicate, vec_len, vec_capacity}
 use Rattle.jc_world.proofs.stripes.give_turns.Given as goal
 
 -- the turns so far, and there is room for the others

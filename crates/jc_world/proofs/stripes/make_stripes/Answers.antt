@@ -1,5 +1,4 @@
-use Rattle.std.proofs.Common.{◌∙◌, ◌+◌, ◌-◌, ◌++◌, ap}
-use Rattle.jc_world.specs.World.{empty_stripes}
+use Rattle.jc_world.proofs.Common.{◌+◌, ◌-◌, ◌++◌, ap, ◌∙◌, empty_stripes}
 use Rattle.jc_world.proofs.Numbered.{made_more}
 use Rattle.jc_world.proofs.stripes.make_stripes.Goals as goal
 

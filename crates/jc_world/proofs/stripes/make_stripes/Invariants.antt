@@ -1,5 +1,4 @@
-use Rattle.std.proofs.Common.{◌≡◌, ◌-◌, ◌++◌}
-use Rattle.jc_world.specs.World.{empty_stripes}
+use Rattle.jc_world.proofs.Common.{◌≡◌, ◌-◌, ◌++◌, empty_stripes}
 use Rattle.jc_world.proofs.stripes.make_stripes.Given as goal
 
 -- what is made, and what is still to be made

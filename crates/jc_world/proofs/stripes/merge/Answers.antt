@@ -1,8 +1,4 @@
-use Rattle.std.proofs.Common.{◌≡◌, ◌∙◌, ◌+◌, ◌<◌, ◌++◌, ◌∷◌, [], length, get_or, slice_get, Some, ap, refl, subst, sym, arith}
-use Rattle.std.proofs.lemmas.List.{get_or-replicate}
-use Rattle.std.proofs.lemmas.Option.{slice_get_read}
-use Rattle.jc_types.specs.declared.limits.TheConstants.{STRIPES_MAX}
-use Rattle.jc_world.specs.Turns.{history_at, history_in}
+use Rattle.jc_world.proofs.Common.{◌≡◌, ◌+◌, ◌<◌, [], ◌∷◌, ◌++◌, length, get_or, slice_get, Some, sym, refl, ap, ◌∙◌, subst, arith, get_or-replicate, slice_get_read, STRIPES_MAX, history_in, history_at}
 use Rattle.jc_world.proofs.Shares.{length-slice_set}
 use Rattle.jc_world.proofs.Merging.{has_next, counts_more, merged_next}
 use Rattle.jc_world.proofs.stripes.merge.Goals as goal

@@ -1,6 +1,4 @@
-use Rattle.std.proofs.Common.{◌≡◌, ◌+◌, ◌-◌, ◌≤◌, ◌<◌, ℕ, length, take, get_or, vec_len, vec_capacity}
-use Rattle.jc_types.specs.declared.limits.TheConstants.{STRIPES_MAX}
-use Rattle.jc_world.specs.Turns.{history_at, turns_of, merge}
+use Rattle.jc_world.proofs.Common.{◌≡◌, ℕ, ◌+◌, ◌-◌, ◌<◌, ◌≤◌, length, get_or, take, vec_len, vec_capacity, STRIPES_MAX, history_at, turns_of, merge}
 use Rattle.jc_world.proofs.stripes.merge.Given as goal
 
 -- the merge of the first turns, how many of them each stripe had, and there is room for the others

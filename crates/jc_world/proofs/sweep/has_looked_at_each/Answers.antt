@@ -1,4 +1,4 @@
-use Rattle.std.proofs.Common.{◌∙◌, sym}
+use Rattle.jc_world.proofs.Common.{sym, ◌∙◌}
 use Rattle.jc_world.proofs.Unseen.{missed}
 use Rattle.jc_world.proofs.sweep.has_looked_at_each.Goals as goal
 

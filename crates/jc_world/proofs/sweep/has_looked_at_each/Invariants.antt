@@ -1,5 +1,4 @@
-use Rattle.std.proofs.Common.{◌≡◌, true}
-use Rattle.jc_world.specs.Calls.{has_looked_at_each}
+use Rattle.jc_world.proofs.Common.{◌≡◌, true, has_looked_at_each}
 use Rattle.jc_world.proofs.sweep.has_looked_at_each.Given as goal
 
 abbrev pub invariant-loop-stripe : goal.invariant-loop-stripe

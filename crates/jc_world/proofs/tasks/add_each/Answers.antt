@@ -1,7 +1,4 @@
-use Rattle.std.proofs.Common.{◌==◌, ◌∙◌, List, ap}
-use Rattle.std.specs.Map.{lookup}
-use Rattle.std.specs.Cmp.Lexicographic.{pointwise}
-use Rattle.jc_world.specs.Calls.{Task}
+use Rattle.jc_world.proofs.Common.{List, ◌==◌, ap, ◌∙◌, pointwise, lookup, Task}
 use Rattle.jc_world.proofs.Found.{found_new}
 use Rattle.jc_world.proofs.tasks.add_each.Goals as goal
 

@@ -1,6 +1,4 @@
-use Rattle.std.proofs.Common.{◌≡◌, ◌+◌, ◌++◌, ◌≤◌, length, take}
-use Rattle.indexmap.specs.IndexMap.{spare}
-use Rattle.jc_world.specs.Calls.{at_each}
+use Rattle.jc_world.proofs.Common.{◌≡◌, ◌+◌, ◌≤◌, ◌++◌, length, take, spare, at_each}
 use Rattle.jc_world.proofs.tasks.add_each.Given as goal
 
 abbrev pub invariant-loop-key : goal.invariant-loop-key

@@ -1,6 +1,4 @@
-use Rattle.std.proofs.Common.{◌==◌, ◌∙◌, Some}
-use Rattle.std.specs.Cmp.Lexicographic.{pointwise}
-use Rattle.indexmap.proofs.CallerLemmas.{insert_entry-new}
+use Rattle.jc_world.proofs.Common.{◌==◌, Some, ◌∙◌, pointwise, insert_entry-new}
 use Rattle.jc_world.proofs.tasks.add_one.Goals as goal
 
 pub returns-clause-ops : goal.returns-clause-ops

@@ -1,6 +1,4 @@
-use Rattle.std.proofs.Common.{◌≡◌, true, false, is_some, sym, ◌∙◌}
-use Rattle.jc_world.specs.World.{is_free_of}
-use Rattle.jc_world.specs.Held.{parts_of, joins_of}
+use Rattle.jc_world.proofs.Common.{◌≡◌, true, false, is_some, sym, ◌∙◌, parts_of, joins_of, is_free_of}
 use Rattle.jc_world.proofs.TaskLists.{open_more, open_fails}
 use Rattle.jc_world.proofs.tasks.are_free.Goals.{else-is_some-via-then-is_some+else-not-is_free_at, else-is_some-via-else-is_some}
 use Rattle.jc_world.proofs.tasks.are_free.Goals as goal

@@ -1,8 +1,4 @@
-use Rattle.std.proofs.Common.{◌≡◌, take, true}
-use Rattle.std.specs.List.{list_all}
-use Rattle.jc_world.specs.World.{is_free_of}
-use Rattle.jc_world.specs.Calls.{open_in}
-use Rattle.jc_world.specs.Held.{parts_of, joins_of}
+use Rattle.jc_world.proofs.Common.{◌≡◌, true, take, list_all, open_in, parts_of, joins_of, is_free_of}
 use Rattle.jc_world.proofs.tasks.are_free.Given as goal
 
 abbrev pub invariant-loop-place : goal.invariant-loop-place

@@ -1,7 +1,4 @@
-use Rattle.std.proofs.Common.{◌≡◌, ◌==◌, ap, not, subst, sym, ◌∙◌}
-use Rattle.std.specs.List.{list_any}
-use Rattle.jc_world.specs.Calls.{is_open}
-use Rattle.jc_world.specs.OpenCalls.{first_open, tasks_of, IsPlaced}
+use Rattle.jc_world.proofs.Common.{◌≡◌, not, ◌==◌, sym, ap, ◌∙◌, subst, list_any, is_open, tasks_of, first_open, IsPlaced}
 use Rattle.jc_world.proofs.TaskLists.{open_within}
 use Rattle.jc_world.proofs.tasks.are_open.Goals as goal
 

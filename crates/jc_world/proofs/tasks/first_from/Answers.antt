@@ -1,4 +1,4 @@
-use Rattle.std.proofs.Common.{sym, ◌∙◌, arith}
+use Rattle.jc_world.proofs.Common.{sym, ◌∙◌, arith}
 use Rattle.jc_world.proofs.TaskLists.{first_here, first_next}
 use Rattle.jc_world.proofs.tasks.first_from.Goals as goal
 

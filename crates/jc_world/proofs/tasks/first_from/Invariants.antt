@@ -1,5 +1,4 @@
-use Rattle.std.proofs.Common.{◌≡◌, ◌+◌, drop}
-use Rattle.jc_world.specs.OpenCalls.{first_open}
+use Rattle.jc_world.proofs.Common.{◌≡◌, ◌+◌, drop, first_open}
 use Rattle.jc_world.proofs.tasks.first_from.Given as goal
 
 abbrev pub invariant-loop-place : goal.invariant-loop-place

@@ -1,6 +1,4 @@
-use Rattle.std.proofs.Common.{◌≡◌, slice_get, option_map, ap, subst, sym, ◌∙◌}
-use Rattle.jc_world.specs.Calls.{Task, open_in}
-use Rattle.jc_world.specs.OpenCalls.{first_open, tasks_of, IsPlaced}
+use Rattle.jc_world.proofs.Common.{◌≡◌, slice_get, option_map, sym, ap, ◌∙◌, subst, Task, open_in, tasks_of, first_open, IsPlaced}
 use Rattle.jc_world.proofs.TaskLists.{first_key_at}
 use Rattle.jc_world.proofs.tasks.first_key.Goals as goal
 

@@ -1,13 +1,6 @@
-use Rattle.std.proofs.Common.{◌==◌, subst, sym}
-use Rattle.std.specs.List.{IsDistinct}
-use Rattle.std.specs.Map.{keys_of}
-use Rattle.std.specs.Cmp.Lexicographic.{pointwise}
-use Rattle.jc_world.specs.OpenCalls.{tasks_of}
-use Rattle.jc_world.specs.declared.tasks.Tasks.{Tasks}
 use Rattle.jc_world.proofs.AtWork.{alone_differs}
 use Rattle.jc_world.proofs.tasks.names_each_once.Goals as goal
 
 pub returns-in-One : goal.returns-in-One
 returns-in-One c =
-    let P : Tasks → Type 0 = λ t. IsDistinct (pointwise ◌==◌) (keys_of (tasks_of t)) in
-    subst P (sym c.in-One.is) (alone_differs c.in-One.key)
+    rw c.in-One.is (alone_differs c.in-One.key)

@@ -1,6 +1,4 @@
-use Rattle.std.proofs.Common.{◌≡◌, true, false, not, is_some, sym, ap, ◌∙◌}
-use Rattle.jc_world.specs.Fits.{waits_in}
-use Rattle.jc_world.specs.Held.{parts_of}
+use Rattle.jc_world.proofs.Common.{◌≡◌, true, false, not, is_some, sym, ap, ◌∙◌, waits_in, parts_of}
 use Rattle.jc_world.proofs.TaskLists.{open_more, open_fails}
 use Rattle.jc_world.proofs.tasks.none_waits.Goals.{else-is_some-via-then-is_some+else-waits_for_report, else-is_some-via-else-is_some}
 use Rattle.jc_world.proofs.tasks.none_waits.Goals as goal

@@ -1,7 +1,4 @@
-use Rattle.std.proofs.Common.{◌∙◌, ◌++◌, ◌∷◌, [], take, sym, ap, append_assoc}
-use Rattle.jc_world.specs.Events.{reported_keys}
-use Rattle.jc_world.specs.Calls.{Task, open_in}
-use Rattle.jc_world.specs.Held.{parts_of}
+use Rattle.jc_world.proofs.Common.{[], ◌∷◌, ◌++◌, take, sym, ap, ◌∙◌, append_assoc, Task, open_in, reported_keys, parts_of}
 use Rattle.jc_world.proofs.Reporting.{reported_more}
 use Rattle.jc_world.proofs.tasks.push_each.Goals as goal
 

@@ -1,7 +1,4 @@
-use Rattle.std.proofs.Common.{◌≡◌, ◌++◌, take}
-use Rattle.jc_world.specs.Events.{reported_keys}
-use Rattle.jc_world.specs.Calls.{open_in}
-use Rattle.jc_world.specs.Held.{parts_of}
+use Rattle.jc_world.proofs.Common.{◌≡◌, ◌++◌, take, open_in, reported_keys, parts_of}
 use Rattle.jc_world.proofs.tasks.push_each.Given as goal
 
 abbrev pub invariant-loop-place : goal.invariant-loop-place

@@ -1,4 +1,4 @@
-use Rattle.std.proofs.Common.{◌∙◌}
+use Rattle.jc_world.proofs.Common.{◌∙◌}
 use Rattle.jc_world.proofs.TaskLists.{at_each-more}
 use Rattle.jc_world.proofs.tasks.put_each.Goals as goal
 

@@ -1,5 +1,4 @@
-use Rattle.std.proofs.Common.{◌≡◌, take}
-use Rattle.jc_world.specs.Calls.{at_each}
+use Rattle.jc_world.proofs.Common.{◌≡◌, take, at_each}
 use Rattle.jc_world.proofs.tasks.put_each.Given as goal
 
 abbrev pub invariant-loop-key : goal.invariant-loop-key

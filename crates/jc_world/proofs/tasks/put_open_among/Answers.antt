@@ -1,6 +1,4 @@
-use Rattle.std.proofs.Common.{◌∙◌, ◌++◌, [], ◌∷◌, Bool, List, cond, take, append_assoc, append-nil, sym, ap}
-use Rattle.jc_model.specs.Cache.{Bytes}
-use Rattle.jc_world.specs.Calls.{open_in}
+use Rattle.jc_world.proofs.Common.{Bool, cond, List, [], ◌∷◌, ◌++◌, take, sym, ap, ◌∙◌, append_assoc, append-nil, Bytes, open_in}
 use Rattle.jc_world.proofs.TaskLists.{open_distinct, open_keys-more}
 use Rattle.jc_world.proofs.tasks.put_open_among.Goals.{then-is_some+in_ok-push-in-Some, else-is_some}
 use Rattle.jc_world.proofs.tasks.put_open_among.Goals as goal

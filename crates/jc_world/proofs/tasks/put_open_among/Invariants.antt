@@ -1,5 +1,4 @@
-use Rattle.std.proofs.Common.{◌≡◌, ◌++◌, take}
-use Rattle.jc_world.specs.Calls.{open_in}
+use Rattle.jc_world.proofs.Common.{◌≡◌, ◌++◌, take, open_in}
 use Rattle.jc_world.proofs.tasks.put_open_among.Given as goal
 
 abbrev pub invariant-loop-place : goal.invariant-loop-place

@@ -1,4 +1,4 @@
-use Rattle.std.proofs.Common.{◌∙◌, sym}
+use Rattle.jc_world.proofs.Common.{sym, ◌∙◌}
 use Rattle.jc_world.proofs.TaskLists.{put_each_of-more}
 use Rattle.jc_world.proofs.tasks.put_values.Goals as goal
 

@@ -1,5 +1,4 @@
-use Rattle.std.proofs.Common.{◌≡◌, take}
-use Rattle.jc_world.specs.Calls.{put_each_of}
+use Rattle.jc_world.proofs.Common.{◌≡◌, take, put_each_of}
 use Rattle.jc_world.proofs.tasks.put_values.Given as goal
 
 abbrev pub invariant-loop-place : goal.invariant-loop-place

@@ -1,5 +1,4 @@
-use Rattle.std.proofs.Common.{ap, sym, ◌∙◌}
-use Rattle.jc_world.specs.OpenCalls.{first_open}
+use Rattle.jc_world.proofs.Common.{sym, ap, ◌∙◌, first_open}
 use Rattle.jc_world.proofs.TaskLists.{first_put}
 use Rattle.jc_world.proofs.tasks.puts.Goals as goal
 

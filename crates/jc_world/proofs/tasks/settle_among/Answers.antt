@@ -1,7 +1,6 @@
-use Rattle.std.proofs.Common.{◌∙◌, ◌+◌, ◌≤◌, None, List, drop, length, ap, sym, subst}
-use Rattle.jc_world.specs.Calls.{Task}
-use Rattle.jc_world.specs.OpenCalls.{first_open}
-use Rattle.jc_world.proofs.TaskLists.{none_from, there_at, absent_same, put_in_place, first_settled, first_fits}
+use Rattle.jc_world.proofs.Common.{◌+◌, ◌≤◌, List, length, drop, None, sym, ap, ◌∙◌, subst, Task, first_open}
+use Rattle.jc_types.proofs.CallerLemmas.{none_from}
+use Rattle.jc_world.proofs.TaskLists.{there_at, absent_same, put_in_place, first_settled, first_fits}
 use Rattle.jc_world.proofs.tasks.settle_among.Goals as goal
 
 pub returns-then-not-is_open_among-clause-ops : goal.returns-then-not-is_open_among-clause-ops

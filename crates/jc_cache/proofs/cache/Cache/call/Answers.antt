@@ -4,7 +4,7 @@ use Rattle.jc_types.specs.declared.caller.Caller.{Caller}
 use Rattle.jc_stripe.specs.Phases.{MayBegin}
 use Rattle.jc_stripe.specs.OwnSteps.{HasNoCallFrom}
 use Rattle.jc_session.specs.Counting.{one_more}
-use Rattle.jc_cache.specs.Whole.{Ends, LeavesOthers}
+use Rattle.jc_cache.specs.Whole.{EndsCall, LeavesOthers}
 use Rattle.jc_cache.specs.Caches.{CacheState, IsIdleCache, HasNoCallsFrom}
 use Rattle.jc_cache.specs.CacheInside.{IsPlaced}
 use Rattle.jc_cache.proofs.Asking.{loader_there, writer_there}
@@ -64,7 +64,7 @@ returns-clause-call g c =
       after = e.after;
       out = e.out;
       at = is_at _ _ _ _ _ _ _ _ _ _ _ c.self.view_is c.stripe_of-at.ensures at e.found e.left;
-      ends = subst (λ w. Ends e.before w c.args.key.now c.args.op.now e.out c.call.result e.after) (ap (λ s. s.caller) same) e.ends;
+      ends = subst (λ w. EndsCall e.before w c.args.key.now c.args.op.now e.out c.call.result e.after) (ap (λ s. s.caller) same) e.ends;
       loader = rw (← ap (λ s. s.hands) same) e.loader;
       writer = rw (← ap (λ s. s.hands) same) e.writer;
       left = search rules;
@@ -85,7 +85,7 @@ returns-clause-may g c =
     let left : c.call.new.session.caller ≡ who = ap (λ s. s.caller) e.session ∙ same in
     let old = subst (λ (z : CacheState). HasNoCallsFrom z n k) (sym c.self.view_is) may.numbers in
     let idle = subst IsIdleCache (sym c.self.view_is) may.idle in
-    let ends = subst (λ w. Ends e.before w c.args.key.now c.args.op.now e.out c.call.result e.after) same e.ends in
+    let ends = subst (λ w. EndsCall e.before w c.args.key.now c.args.op.now e.out c.call.result e.after) same e.ends in
     let before = all_at _ _ _ e.before old at e.found in
     let next = subst (λ (w : Caller). HasNoCallFrom e.before w.session w.call → HasNoCallFrom e.after w.session (w.call + 1)) same e.numbers in
     let numbers : HasNoCallsFrom (record { mark = c.self.inside.mark; config = c.self.inside.config; given = c.self.inside.given; stripes = set c.self.inside.owners.items c.stripe_of-at.result c.call.new.gate }) n (one_more k) =

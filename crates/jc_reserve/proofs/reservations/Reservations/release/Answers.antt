@@ -1,5 +1,5 @@
 use Rattle.std.proofs.Common.{sym, ◌∙◌, ap, subst, position, remove}
-use Rattle.jc_reserve.specs.Table.{Table, keys_of}
+use Rattle.jc_reserve.specs.Table.{Table, keys_held}
 use Rattle.jc_reserve.specs.Reserving.{has_key, reservation_at, without_reservation}
 use Rattle.jc_reserve.specs.Inside.{table_of}
 use Rattle.jc_reserve.specs.IsReservationTable.{IsReservationTable}
@@ -35,7 +35,7 @@ invariant_of-self g c =
     let held = c.remove-held.ensures.items ∙ without_place (table_of c.self.inside) key c.in_ok-place.place c.self.invariant.table at in
     record {
       keys = c.remove.ensures.items ∙ ap (λ xs. remove xs c.in_ok-place.place) c.self.invariant.keys
-          ∙ sym (map-remove (λ h. h.key) c.self.inside.held.items c.in_ok-place.place) ∙ ap keys_of (sym c.remove-held.ensures.items);
+          ∙ sym (map-remove (λ h. h.key) c.self.inside.held.items c.in_ok-place.place) ∙ ap keys_held (sym c.remove-held.ensures.items);
       table = subst (IsReservationTable {T = g.row.T.Denot}) (λ i. record { held = sym held i; next = c.self.inside.next })
           (IsReservationTable-without (table_of c.self.inside) key c.self.invariant.table);
     }

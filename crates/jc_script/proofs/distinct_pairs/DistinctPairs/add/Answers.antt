@@ -1,14 +1,11 @@
-use Rattle.std.proofs.Common.{◌≡◌, ◌∙◌, ◌==◌, ◌++◌, ◌∷◌, [], false, Option, None, Some, is_some, refl, ap}
+use Rattle.std.proofs.Common.{◌≡◌, ◌∙◌, ◌==◌, ◌++◌, ◌∷◌, [], None, ap}
 use Rattle.std.specs.Cmp.Lexicographic.{pointwise}
 use Rattle.std.specs.Map.{lookup}
 use Rattle.std.proofs.lemmas.Map.Made.{is_some-lookup}
 use Rattle.indexmap.proofs.CallerLemmas.{insert_entry-new}
+use Rattle.jc_types.proofs.CallerLemmas.{none_from}
 use Rattle.jc_script.specs.Words.{Pairs, names_key}
 use Rattle.jc_script.proofs.distinct_pairs.DistinctPairs.add.Goals as goal
-
-none_from : {X : Type 0} (o : Option X) → is_some o ≡ false → o ≡ None
-none_from None e = refl
-none_from (Some x) e = absurd cc
 
 pub returns : goal.returns
 returns c =

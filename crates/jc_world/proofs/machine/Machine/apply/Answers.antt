@@ -1,39 +1,29 @@
-use Rattle.std.proofs.Common.{sym, subst}
-use Rattle.jc_world.specs.declared.event.WorldEvent.{WorldEvent}
-use Rattle.jc_world.specs.Events.{Happens}
 use Rattle.jc_world.proofs.machine.Machine.apply.Goals as goal
 
 pub returns-in_ok-commit-in-Commit-clause-ok : goal.returns-in_ok-commit-in-Commit-clause-ok
 returns-in_ok-commit-in-Commit-clause-ok c =
-    let P : WorldEvent → Type 0 = λ e. Happens c.args.self.now e c.commit.new.seen c.commit.new.self in
-    subst P (sym c.in-Commit.is) c.in_ok-commit-in-Commit.ensures.ok
+    rw c.in-Commit.is c.in_ok-commit-in-Commit.ensures.ok
 
 pub returns-in-Withdraw-clause-ok : goal.returns-in-Withdraw-clause-ok
 returns-in-Withdraw-clause-ok c =
-    let P : WorldEvent → Type 0 = λ e. Happens c.args.self.now e c.withdraw.new.seen c.withdraw.new.self in
-    subst P (sym c.in-Withdraw.is) c.withdraw.ensures
+    rw c.in-Withdraw.is c.withdraw.ensures
 
 pub returns-in_ok-pick_up-in-PickUp-clause-ok : goal.returns-in_ok-pick_up-in-PickUp-clause-ok
 returns-in_ok-pick_up-in-PickUp-clause-ok c =
-    let P : WorldEvent → Type 0 = λ e. Happens c.args.self.now e c.pick_up.new.seen c.pick_up.new.self in
-    subst P (sym c.in-PickUp.is) c.in_ok-pick_up-in-PickUp.ensures.ok
+    rw c.in-PickUp.is c.in_ok-pick_up-in-PickUp.ensures.ok
 
 pub returns-in-Read-clause-ok : goal.returns-in-Read-clause-ok
 returns-in-Read-clause-ok c =
-    let P : WorldEvent → Type 0 = λ e. Happens c.args.self.now e c.read.new.seen c.read.new.self in
-    subst P (sym c.in-Read.is) c.read.ensures
+    rw c.in-Read.is c.read.ensures
 
 pub returns-in_ok-writer_returns-in-Report-clause-ok : goal.returns-in_ok-writer_returns-in-Report-clause-ok
 returns-in_ok-writer_returns-in-Report-clause-ok c =
-    let P : WorldEvent → Type 0 = λ e. Happens c.args.self.now e c.writer_returns.new.seen c.writer_returns.new.self in
-    subst P (sym c.in-Report.is) c.in_ok-writer_returns-in-Report.ensures.ok
+    rw c.in-Report.is c.in_ok-writer_returns-in-Report.ensures.ok
 
 pub returns-in_ok-start-in-Start-clause-ok : goal.returns-in_ok-start-in-Start-clause-ok
 returns-in_ok-start-in-Start-clause-ok c =
-    let P : WorldEvent → Type 0 = λ e. Happens c.args.self.now e c.start.new.seen c.start.new.self in
-    subst P (sym c.in-Start.is) c.in_ok-start-in-Start.ensures.ok
+    rw c.in-Start.is c.in_ok-start-in-Start.ensures.ok
 
 pub returns-in_ok-look-in-Look-clause-ok : goal.returns-in_ok-look-in-Look-clause-ok
 returns-in_ok-look-in-Look-clause-ok c =
-    let P : WorldEvent → Type 0 = λ e. Happens c.args.self.now e c.look.new.seen c.look.new.self in
-    subst P (sym c.in-Look.is) c.in_ok-look-in-Look.ensures.ok
+    rw c.in-Look.is c.in_ok-look-in-Look.ensures.ok

@@ -1,8 +1,4 @@
-use Rattle.std.proofs.Common.{◌≡◌, length, None, ap, ◌∙◌, refl}
-use Rattle.std.specs.FinMap.{entries}
-use Rattle.jc_world.specs.World.{WorldState}
-use Rattle.jc_world.specs.Gathered.{found_after}
-use Rattle.jc_world.specs.Audit.{IsCache, differing}
+use Rattle.jc_world.proofs.Common.{◌≡◌, length, None, refl, ap, ◌∙◌, entries, IsCache, differing, found_after, WorldState}
 use Rattle.jc_world.proofs.Callers.{order_is}
 use Rattle.jc_world.proofs.Kept.{coherent}
 use Rattle.jc_world.proofs.Homes.{gathered, none_differ}

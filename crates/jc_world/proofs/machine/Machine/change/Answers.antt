@@ -1,8 +1,4 @@
-use Rattle.std.proofs.Common.{◌≡◌, true, Some, subst, sym, ap, ◌∙◌}
-use Rattle.std.specs.FinMap.{get}
-use Rattle.jc_world.specs.World.{WorldState, part_of, waits_for_report, has_progress}
-use Rattle.jc_world.specs.Events.{after_change}
-use Rattle.jc_world.specs.Inside.{world_of}
+use Rattle.jc_world.proofs.Common.{◌≡◌, true, Some, sym, ap, ◌∙◌, subst, get, after_change, world_of, WorldState, part_of, has_progress, waits_for_report}
 use Rattle.jc_world.proofs.Holding.{of_key}
 use Rattle.jc_world.proofs.machine.Machine.change.Goals as goal
 

@@ -1,9 +1,4 @@
-use Rattle.std.proofs.Common.{List, sym, subst}
-use Rattle.jc_world.specs.Sound.{IsSoundWorld}
-use Rattle.jc_world.specs.Ending.{AreLeft, HasHeld, HasJoins}
-use Rattle.jc_stripe.specs.State.{State}
-use Rattle.jc_world.specs.Inside.{world_of}
-use Rattle.jc_world.specs.Held.{parts_of, joins_of}
+use Rattle.jc_world.proofs.Common.{sym, subst, AreLeft, world_of, IsSoundWorld}
 use Rattle.jc_world.proofs.Closing.{all_left, held_out, joins_out}
 use Rattle.jc_world.proofs.machine.Machine.close.Goals as goal
 
@@ -13,10 +8,8 @@ end_all-requires-clause-left c =
 
 pub end_all-requires-clause-held : goal.end_all-requires-clause-held
 end_all-requires-clause-held c =
-    let P : List State → Type 0 = λ ss. HasHeld c.self.inside.config ss (parts_of c.self.inside.held) in
-    subst P (sym c.into_items-items.ensures) (held_out (world_of c.self.inside) (subst IsSoundWorld (sym c.self.view_is) c.requires))
+    rw c.into_items-items.ensures (held_out (world_of c.self.inside) (subst IsSoundWorld (sym c.self.view_is) c.requires))
 
 pub end_all-requires-clause-joins : goal.end_all-requires-clause-joins
 end_all-requires-clause-joins c =
-    let P : List State → Type 0 = λ ss. HasJoins c.self.inside.config ss (joins_of c.self.inside.joins) in
-    subst P (sym c.into_items-items.ensures) (joins_out (world_of c.self.inside) (subst IsSoundWorld (sym c.self.view_is) c.requires))
+    rw c.into_items-items.ensures (joins_out (world_of c.self.inside) (subst IsSoundWorld (sym c.self.view_is) c.requires))

@@ -1,14 +1,4 @@
-use Rattle.std.proofs.Common.{◌≡◌, true, IsSomeAnd, is_some, slice_get, sym, subst, ap}
-use Rattle.jc_stripe.specs.State.{IsOut}
-use Rattle.jc_outside.specs.declared.done.Origin.TheVariants.{Played}
-use Rattle.jc_world.specs.declared.event.Outcome.TheVariants as outcome
-use Rattle.jc_world.specs.declared.event.WorldEvent.TheVariants as event
-use Rattle.jc_world.specs.World.{WorldState}
-use Rattle.jc_world.specs.Events.{Happens}
-use Rattle.jc_world.specs.Sound.{is_due, IsSoundWorld}
-use Rattle.jc_world.specs.Inside.{world_of}
-use Rattle.jc_world.specs.Turns.{OrderedStripes}
-use Rattle.jc_world.specs.Held.{parts_of}
+use Rattle.jc_world.proofs.Common.{◌≡◌, true, is_some, IsSomeAnd, slice_get, sym, ap, subst, Played, IsOut, Outcome, WorldEvent, Happens, parts_of, world_of, is_due, IsSoundWorld, OrderedStripes, WorldState}
 use Rattle.jc_world.proofs.Holding.{fits_commit, may_commit}
 use Rattle.jc_world.proofs.Phased.{phased_from, CommitsAs, ended, may_end_at}
 use Rattle.jc_world.proofs.machine.Machine.commit.Goals as goal
@@ -39,7 +29,7 @@ returns-clause-ok c =
     let p = phased_from v c.reserve.new.self c.commit-done.new.self c.stripe_of-number.result (CommitsAs part done) (ap (λ (s : OrderedStripes). s.stripes) same) (ap (λ (s : OrderedStripes). s.order) same) c.commit-done.ensures in
     let number = c.stripe_of-number.result in
     let next = world_of (record c.self.inside { stripes = c.commit-done.new.self; calls = c.settle-over.new.calls; held = c.take-held.new.held }) in
-    let R : WorldState → Type 0 = λ x. Happens x (event.Commit c.args.call key) (record { outcome = outcome.Stepped c.shown_of.result; over = c.settle-over.result }) next in
+    let R : WorldState → Type 0 = λ x. Happens x (WorldEvent.Commit c.args.call key) (record { outcome = Outcome.Stepped c.shown_of.result; over = c.settle-over.result }) next in
     subst R c.self.view_is (ended v next c.args.call key part number done c.shown_of.result c.fault_in.result c.settle-over.result _ _ _ own.0 c.stripe_of-number.ensures p c.shown_of.ensures.step c.shown_of.ensures.stripe c.take-held.ensures.parts
     c.fault_in.ensures c.settle-over.ensures.over
     (λ i. record v { stripes = c.commit-done.new.self.stripes; order = c.commit-done.new.self.order; calls = c.settle-over.ensures.calls i; parts = parts_of c.take-held.new.held }))

@@ -1,5 +1,4 @@
-use Rattle.std.proofs.Common.{◌≡◌, take}
-use Rattle.jc_world.specs.Audit.{differing}
+use Rattle.jc_world.proofs.Common.{◌≡◌, take, differing}
 use Rattle.jc_world.proofs.machine.Machine.differing.Given as goal
 
 -- the keys of the entries so far that differ

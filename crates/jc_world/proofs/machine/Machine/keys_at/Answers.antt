@@ -1,8 +1,4 @@
-use Rattle.std.proofs.Common.{◌∙◌, ◌++◌, List, ap, sym, subst, arith}
-use Rattle.jc_types.specs.declared.config.Config.{Config}
-use Rattle.jc_model.specs.Cache.{Bytes}
-use Rattle.jc_stripe.specs.Keys.{AreKeys}
-use Rattle.jc_world.specs.World.{WorldState}
+use Rattle.jc_world.proofs.Common.{List, ◌++◌, sym, ap, ◌∙◌, subst, arith, Config, Bytes, AreKeys, WorldState}
 use Rattle.jc_world.proofs.StripeKeys.{stripe_at}
 use Rattle.jc_world.proofs.machine.Machine.keys_at.Goals as goal
 

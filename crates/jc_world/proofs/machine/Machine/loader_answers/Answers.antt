@@ -1,7 +1,4 @@
-use Rattle.std.proofs.Common.{◌≡◌, true, subst, sym}
-use Rattle.std.specs.FinMap.{get}
-use Rattle.jc_world.specs.World.{WorldState, part_of, waits_for_load, has_progress}
-use Rattle.jc_world.specs.Inside.{world_of}
+use Rattle.jc_world.proofs.Common.{◌≡◌, true, sym, subst, get, world_of, WorldState, part_of, has_progress, waits_for_load}
 use Rattle.jc_world.proofs.Holding.{of_key}
 use Rattle.jc_world.proofs.machine.Machine.loader_answers.Goals as goal
 

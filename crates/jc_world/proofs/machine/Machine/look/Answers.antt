@@ -1,12 +1,4 @@
-use Rattle.std.proofs.Common.{◌≡◌, ◌∙◌, Some, IsSomeAnd, slice_get, sym, subst}
-use Rattle.jc_stripe.specs.Keys.{AreKeys}
-use Rattle.jc_world.specs.declared.event.Outcome.TheVariants as outcome
-use Rattle.jc_world.specs.declared.event.WorldEvent.TheVariants as event
-use Rattle.jc_world.specs.Calls.{over_of, with_found}
-use Rattle.jc_world.specs.World.{WorldState, open_call}
-use Rattle.jc_world.specs.Events.{Happens}
-use Rattle.jc_world.specs.OpenCalls.{TakesKeys}
-use Rattle.jc_world.specs.Inside.{world_of}
+use Rattle.jc_world.proofs.Common.{◌≡◌, IsSomeAnd, slice_get, Some, sym, ◌∙◌, subst, AreKeys, Outcome, WorldEvent, over_of, with_found, Happens, world_of, TakesKeys, WorldState, open_call}
 use Rattle.jc_world.proofs.StripeKeys.{look_found, look_takes}
 use Rattle.jc_world.proofs.machine.Machine.look.Goals as goal
 
@@ -27,7 +19,7 @@ returns-clause-ok c =
     let k = c.in_ok-over.ensures.ok in
     let over : c.in_ok-over.over ≡ over_of (with_found v.config.stripes c.args.stripe c.deref.result.now k.1 k.0) = cc in
     let next = world_of (record c.self.inside { calls = c.look.new.calls }) in
-    let R : WorldState → Type 0 = λ x. Happens x (event.Look c.args.call c.args.stripe) c.show_end.new.seen next in
+    let R : WorldState → Type 0 = λ x. Happens x (WorldEvent.Look c.args.call c.args.stripe) c.show_end.new.seen next in
     let S : WorldState → Type 0 = λ x. slice_get x.stripes c.args.stripe ≡ Some h.0 in
     subst R c.self.view_is
-    (k.0, k.1, k.2, k.3, h.0, subst S (sym c.self.view_is) h.1, c.deref.result.now, subst (AreKeys h.0) (sym c.deref.ensures.value) h.2, c.show_end.ensures ∙ (λ i. record { outcome = outcome.Looked; over = over i }), λ i. record v { calls = k.5 i })
+    (k.0, k.1, k.2, k.3, h.0, subst S (sym c.self.view_is) h.1, c.deref.result.now, subst (AreKeys h.0) (sym c.deref.ensures.value) h.2, c.show_end.ensures ∙ (λ i. record { outcome = Outcome.Looked; over = over i }), λ i. record v { calls = k.5 i })

@@ -1,113 +1,89 @@
-use Rattle.std.proofs.Common.{◌≡◌, ℕ, Some, true, sym, subst, ap, ◌∙◌, refl}
-use Rattle.std.specs.FinMap.{get, insert, remove}
-use Rattle.jc_model.specs.Cache.{Bytes}
-use Rattle.jc_stripe.specs.Tickets.{JoinClaim}
-use Rattle.jc_stripe.specs.declared.begun.Picked.{Picked}
-use Rattle.jc_stripe.specs.declared.begun.Picked.TheVariants as picked
-use Rattle.jc_world.specs.declared.event.PickedUp.{PickedUp}
-use Rattle.jc_world.specs.declared.event.WorldEvent.TheVariants as event
-use Rattle.jc_world.specs.declared.event.Shown.{Shown}
-use Rattle.jc_world.specs.declared.event.Outcome.TheVariants as outcome
-use Rattle.jc_world.specs.World.{WorldState, JoinKey, Joins, join_key, has_joined}
-use Rattle.jc_world.specs.Fits.{fits}
-use Rattle.jc_world.specs.Calls.{over_settled, settle}
-use Rattle.jc_world.specs.Events.{not_over, Happens}
-use Rattle.jc_world.specs.Sound.{IsSoundWorld}
-use Rattle.jc_world.specs.Inside.{world_of}
-use Rattle.jc_world.specs.Turns.{OrderedStripes, IsQuietPhase}
+use Rattle.jc_world.proofs.Common.{◌≡◌, ℕ, true, Some, sym, refl, ap, ◌∙◌, subst, get, insert, remove, Bytes, JoinClaim, Picked, Outcome, PickedUp, Shown, WorldEvent, settle, over_settled, not_over, Happens, fits, joins_of, world_of, IsSoundWorld, OrderedStripes, IsQuietPhase, JoinKey, join_key, Joins, WorldState, join_of, has_joined}
 use Rattle.jc_world.proofs.Maps.{joins_ordered, get-gone, insert-back}
-use Rattle.jc_world.proofs.Phased.{changed_from, PicksAs, joiner_at, picked_answer, picked_again, picked_nothing}
+use Rattle.jc_world.proofs.Phased.{changed_from, PicksAs, joiner_at, picked_answer, picked_again, picked_nothing, Changed, shown_as}
+use Rattle.jc_world.proofs.machine.Machine.pick_up.Goals.{After-take_join-join, After-pick_up}
 use Rattle.jc_world.proofs.machine.Machine.pick_up.Goals as goal
 
--- what a call of `pick_up` tells, once its answer is known
-told : (old new : OrderedStripes) (number : ℕ) (join : JoinClaim) (p q : Picked) → p ≡ q → IsQuietPhase old number (PicksAs join p) new → IsQuietPhase old number (PicksAs join q) new
-told old new number join p q is t = let P : Picked → Type 0 = λ x. IsQuietPhase old number (PicksAs join x) new in subst P is t
+-- 1. What is known after a call.
 
 -- the join that was taken out was there
-taken : (before after : Joins) (call : ℕ) (key : Bytes) (join : JoinClaim) → after ≡ before → get after (call, key) ≡ Some join → get before (call, key) ≡ Some join
-taken before after call key join same is = ap (λ m. get m (call, key)) (sym same) ∙ is
+there : (c : After-take_join-join) → join_of (world_of c.self.inside) c.args.call c.args.key.now ≡ Some c.take_join-join.result
+there c = ap (λ m. get m (c.args.call, c.args.key.now)) (sym c.in_ok-make_join_room.ensures.joins) ∙ c.take_join-join.ensures.join
+
+-- and is out
+left : (c : After-take_join-join) → joins_of c.take_join-join.new.joins ≡ remove (world_of c.self.inside).joins (c.args.call, c.args.key.now)
+left c = c.take_join-join.ensures.joins ∙ ap (λ m. remove m (c.args.call, c.args.key.now)) c.in_ok-make_join_room.ensures.joins
+
+-- it is the join of that call and key
+own : (c : After-take_join-join) → join_key c.take_join-join.result ≡ (c.args.call, c.args.key.now)
+own c = ((subst IsSoundWorld (sym c.self.view_is) c.requires.sound).joins (c.args.call, c.args.key.now) c.take_join-join.result (there c)).0
+
+-- what was picked up at the stripe of the key
+ran : (c : After-pick_up) → (p : Picked) → c.pick_up.result ≡ p → IsQuietPhase c.self.inside.stripes c.stripe_of-stripe.result (PicksAs c.take_join-join.result p) c.pick_up.new.self
+ran c p is = subst (λ x. IsQuietPhase c.self.inside.stripes c.stripe_of-stripe.result (PicksAs c.take_join-join.result x) c.pick_up.new.self) is c.pick_up.ensures
+
+changed : (c : After-pick_up) → (p : Picked) → c.pick_up.result ≡ p → Changed (world_of c.self.inside) c.stripe_of-stripe.result (PicksAs c.take_join-join.result p) c.pick_up.new.self.stripes
+changed c p is = changed_from (world_of c.self.inside) c.self.inside.stripes c.pick_up.new.self c.stripe_of-stripe.result (PicksAs c.take_join-join.result p) refl (ran c p is)
 
 -- a join that is put back is there as before
 restored : (before after next : Joins) (at : JoinKey) (join back : JoinClaim) → get before at ≡ Some join → after ≡ remove before at → next ≡ insert after (join_key back) back → back ≡ join → join_key join ≡ at → next ≡ before
 restored before after next at join back there left put same own = put ∙ (λ i. insert (left i) ((ap join_key same ∙ own) i) (same i)) ∙ insert-back joins_ordered before at join there
 
+-- 2. What the calls require.
+
 pub take_join-join-requires : goal.take_join-join-requires
 take_join-join-requires c =
-    let F : WorldState → Type 0 = λ w. fits w (event.PickUp c.args.call c.args.key.now) ≡ true in
+    let F : WorldState → Type 0 = λ w. fits w (WorldEvent.PickUp c.args.call c.args.key.now) ≡ true in
     ap (λ m. has_joined m c.args.call c.args.key.now) c.in_ok-make_join_room.ensures.joins ∙ subst F (sym c.self.view_is) c.requires.fits
 
 pub pick_up-requires : goal.pick_up-requires
 pick_up-requires c =
-    let v : WorldState = world_of c.self.inside in
-    let there = taken v.joins _ c.args.call c.args.key.now c.take_join-join.result c.in_ok-make_join_room.ensures.joins c.take_join-join.ensures.join in
-    joiner_at v c.args.call c.args.key.now c.take_join-join.result c.stripe_of-stripe.result there c.stripe_of-stripe.ensures (subst IsSoundWorld (sym c.self.view_is) c.requires.sound)
+    let at = there (goal.at.pick_up-requires c).After-take_join-join in
+    joiner_at (world_of c.self.inside) c.args.call c.args.key.now c.take_join-join.result c.stripe_of-stripe.result at c.stripe_of-stripe.ensures (subst IsSoundWorld (sym c.self.view_is) c.requires.sound)
+
+pub put_join-requires-clause-free : goal.put_join-requires-clause-free
+put_join-requires-clause-free c =
+    let at = goal.at.put_join-requires-clause-free c in
+    let p = changed at.After-pick_up (Picked.NotYet c.in-NotYet.join) c.in-NotYet.is in
+    (λ i. get (c.take_join-join.ensures.joins i) ((ap join_key p.made.2 ∙ own at.After-take_join-join) i)) ∙ get-gone joins_ordered _ (c.args.call, c.args.key.now)
+
+-- 3. What happens.
 
 pub returns-in-Answer-clause-ok : goal.returns-in-Answer-clause-ok
 returns-in-Answer-clause-ok c =
     let v : WorldState = world_of c.self.inside in
     let key = c.args.key.now in
-    let join = c.take_join-join.result in
-    let same = c.in_ok-make_join_room.ensures.joins in
-    let there = taken v.joins _ c.args.call key join same c.take_join-join.ensures.join in
+    let at = goal.at.returns-in-Answer-clause-ok c in
     let number = c.stripe_of-stripe.result in
     let seen : PickedUp = record { reply = c.in-Answer.reply; stripe = number; place = c.in-Answer.step; shared = c.in-Answer.shared } in
-    let quiet = told c.self.inside.stripes c.pick_up.new.self number join c.pick_up.result (picked.Answer seen.reply seen.place seen.shared) c.in-Answer.is c.pick_up.ensures in
-    let p = changed_from v c.self.inside.stripes c.pick_up.new.self number (PicksAs join (picked.Answer seen.reply seen.place seen.shared)) refl quiet in
-    let left = c.take_join-join.ensures.joins ∙ ap (λ m. remove m (c.args.call, key)) same in
+    let p : Picked = Picked.Answer seen.reply seen.place seen.shared in
     let next = world_of (record c.self.inside { stripes = c.pick_up.new.self; calls = c.settle-over.new.calls; joins = c.take_join-join.new.joins }) in
-    let R : WorldState → Type 0 = λ x. Happens x (event.PickUp c.args.call key) (record { outcome = outcome.PickedUp seen; over = c.settle-over.result }) next in
-    let S : Shown → Type 0 = λ s. Happens c.args.self.now (event.PickUp c.args.call key) s next in
-    subst S (sym c.show_end.ensures) (subst R c.self.view_is (picked_answer v next c.args.call key join number seen c.settle-over.result c.pick_up.new.self.stripes there c.stripe_of-stripe.ensures refl p
+    let calls = c.settle-over.ensures.calls ∙ ap (λ m. settle c.args.call key m v.calls) c.fault_in.ensures in
+    shown_as _ v next (WorldEvent.PickUp c.args.call key) _ _ c.self.view_is c.show_end.ensures
+    (picked_answer v next c.args.call key c.take_join-join.result number seen c.settle-over.result c.pick_up.new.self.stripes (there at.After-take_join-join) c.stripe_of-stripe.ensures refl (changed at.After-pick_up p c.in-Answer.is)
     (c.settle-over.ensures.over ∙ ap (λ m. over_settled c.args.call key m v.calls) c.fault_in.ensures)
-    (λ i. record v { stripes = c.pick_up.new.self.stripes; order = quiet.order_is i; joins = left i; calls = (c.settle-over.ensures.calls ∙ ap (λ m. settle c.args.call key m v.calls) c.fault_in.ensures) i })))
+    (λ i. record v { stripes = c.pick_up.new.self.stripes; order = (ran at.After-pick_up p c.in-Answer.is).order_is i; joins = left at.After-take_join-join i; calls = calls i }))
 
 pub returns-in-Again-clause-ok : goal.returns-in-Again-clause-ok
 returns-in-Again-clause-ok c =
     let v : WorldState = world_of c.self.inside in
     let key = c.args.key.now in
-    let join = c.take_join-join.result in
-    let same = c.in_ok-make_join_room.ensures.joins in
-    let there = taken v.joins _ c.args.call key join same c.take_join-join.ensures.join in
-    let number = c.stripe_of-stripe.result in
-    let quiet = told c.self.inside.stripes c.pick_up.new.self number join c.pick_up.result picked.Again c.in-Again.is c.pick_up.ensures in
-    let p = changed_from v c.self.inside.stripes c.pick_up.new.self number (PicksAs join picked.Again) refl quiet in
-    let left = c.take_join-join.ensures.joins ∙ ap (λ m. remove m (c.args.call, key)) same in
+    let at = goal.at.returns-in-Again-clause-ok c in
     let next = world_of (record c.self.inside { stripes = c.pick_up.new.self; joins = c.take_join-join.new.joins }) in
-    let R : WorldState → Type 0 = λ x. Happens x (event.PickUp c.args.call key) (not_over outcome.Again) next in
-    let S : Shown → Type 0 = λ s. Happens c.args.self.now (event.PickUp c.args.call key) s next in
-    subst S (sym c.show.ensures) (subst R c.self.view_is (picked_again v next c.args.call key join number c.pick_up.new.self.stripes there c.stripe_of-stripe.ensures p
-    (λ i. record v { stripes = c.pick_up.new.self.stripes; order = quiet.order_is i; joins = left i })))
-
-pub put_join-requires-clause-free : goal.put_join-requires-clause-free
-put_join-requires-clause-free c =
-    let v : WorldState = world_of c.self.inside in
-    let key = c.args.key.now in
-    let join = c.take_join-join.result in
-    let same = c.in_ok-make_join_room.ensures.joins in
-    let there = taken v.joins _ c.args.call key join same c.take_join-join.ensures.join in
-    let back = c.in-NotYet.join in
-    let number = c.stripe_of-stripe.result in
-    let quiet = told c.self.inside.stripes c.pick_up.new.self number join c.pick_up.result (picked.NotYet back) c.in-NotYet.is c.pick_up.ensures in
-    let p = changed_from v c.self.inside.stripes c.pick_up.new.self number (PicksAs join (picked.NotYet back)) refl quiet in
-    let own = ((subst IsSoundWorld (sym c.self.view_is) c.requires.sound).joins (c.args.call, key) join there).0 in
-    (λ i. get (c.take_join-join.ensures.joins i) ((ap join_key p.made.2 ∙ own) i)) ∙ get-gone joins_ordered _ (c.args.call, key)
+    shown_as _ v next (WorldEvent.PickUp c.args.call key) _ _ c.self.view_is c.show.ensures
+    (picked_again v next c.args.call key c.take_join-join.result c.stripe_of-stripe.result c.pick_up.new.self.stripes (there at.After-take_join-join) c.stripe_of-stripe.ensures (changed at.After-pick_up Picked.Again c.in-Again.is)
+    (λ i. record v { stripes = c.pick_up.new.self.stripes; order = (ran at.After-pick_up Picked.Again c.in-Again.is).order_is i; joins = left at.After-take_join-join i }))
 
 pub returns-in-NotYet-clause-ok : goal.returns-in-NotYet-clause-ok
 returns-in-NotYet-clause-ok c =
     let v : WorldState = world_of c.self.inside in
     let key = c.args.key.now in
-    let join = c.take_join-join.result in
-    let same = c.in_ok-make_join_room.ensures.joins in
-    let there = taken v.joins _ c.args.call key join same c.take_join-join.ensures.join in
+    let at = goal.at.returns-in-NotYet-clause-ok c in
     let back = c.in-NotYet.join in
-    let number = c.stripe_of-stripe.result in
-    let quiet = told c.self.inside.stripes c.pick_up.new.self number join c.pick_up.result (picked.NotYet back) c.in-NotYet.is c.pick_up.ensures in
-    let p = changed_from v c.self.inside.stripes c.pick_up.new.self number (PicksAs join (picked.NotYet back)) refl quiet in
-    let own = ((subst IsSoundWorld (sym c.self.view_is) c.requires.sound).joins (c.args.call, key) join there).0 in
-    let left = c.take_join-join.ensures.joins ∙ ap (λ m. remove m (c.args.call, key)) same in
-    let joins = restored v.joins _ _ (c.args.call, key) join back there left c.put_join.ensures p.made.2 own in
+    let p = changed at.After-pick_up (Picked.NotYet back) c.in-NotYet.is in
+    let before = at.After-take_join-join in
+    let joins = restored v.joins _ _ (c.args.call, key) c.take_join-join.result back (there before) (left before) c.put_join.ensures p.made.2 (own before) in
     let next = world_of (record c.self.inside { stripes = c.pick_up.new.self; joins = c.put_join.new.joins }) in
-    let R : WorldState → Type 0 = λ x. Happens x (event.PickUp c.args.call key) (not_over outcome.Waits) next in
-    let S : Shown → Type 0 = λ s. Happens c.args.self.now (event.PickUp c.args.call key) s next in
-    subst S (sym c.show-in-NotYet.ensures) (subst R c.self.view_is (picked_nothing v next c.args.call key join back number c.pick_up.new.self.stripes there c.stripe_of-stripe.ensures p
-    (λ i. record v { stripes = c.pick_up.new.self.stripes; order = quiet.order_is i; joins = joins i })))
+    shown_as _ v next (WorldEvent.PickUp c.args.call key) _ _ c.self.view_is c.show-in-NotYet.ensures
+    (picked_nothing v next c.args.call key c.take_join-join.result back c.stripe_of-stripe.result c.pick_up.new.self.stripes (there before) c.stripe_of-stripe.ensures p
+    (λ i. record v { stripes = c.pick_up.new.self.stripes; order = (ran at.After-pick_up (Picked.NotYet back) c.in-NotYet.is).order_is i; joins = joins i }))

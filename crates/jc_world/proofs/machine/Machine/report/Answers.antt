@@ -1,10 +1,4 @@
-use Rattle.std.proofs.Common.{◌≡◌, ◌&&◌, true, Some, subst, sym, ap, ◌∙◌}
-use Rattle.std.specs.FinMap.{get}
-use Rattle.jc_world.specs.World.{WorldState, has_changed, part_of, waits_for_report, has_progress}
-use Rattle.jc_world.specs.Premises.{is_true_report}
-use Rattle.jc_world.specs.Fits.{waits_at}
-use Rattle.jc_world.specs.Events.{after_report}
-use Rattle.jc_world.specs.Inside.{world_of}
+use Rattle.jc_world.proofs.Common.{◌≡◌, true, ◌&&◌, Some, sym, ap, ◌∙◌, subst, get, after_report, waits_at, world_of, is_true_report, WorldState, part_of, has_progress, waits_for_report, has_changed}
 use Rattle.jc_world.proofs.Holding.{of_key}
 use Rattle.jc_world.proofs.machine.Machine.report.Goals as goal
 

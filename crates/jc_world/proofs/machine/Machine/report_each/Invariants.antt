@@ -1,6 +1,4 @@
-use Rattle.std.proofs.Common.{◌≡◌, drop}
-use Rattle.jc_world.specs.Premises.{report_for}
-use Rattle.jc_world.specs.Events.{after_reports, keys_reported}
+use Rattle.jc_world.proofs.Common.{◌≡◌, drop, keys_reported, after_reports, report_for}
 use Rattle.jc_world.proofs.machine.Machine.report_each.Given as goal
 
 abbrev pub invariant-loop-one : goal.invariant-loop-one

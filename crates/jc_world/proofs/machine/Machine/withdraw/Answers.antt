@@ -1,13 +1,4 @@
-use Rattle.std.proofs.Common.{is_some, sym, subst, ap, refl}
-use Rattle.jc_stripe.specs.Phases.{Withdraws}
-use Rattle.jc_world.specs.declared.event.WorldEvent.TheVariants as event
-use Rattle.jc_world.specs.declared.event.Outcome.TheVariants as outcome
-use Rattle.jc_world.specs.World.{WorldState}
-use Rattle.jc_world.specs.declared.event.Shown.{Shown}
-use Rattle.jc_world.specs.Events.{not_over, Happens}
-use Rattle.jc_world.specs.Sound.{IsSoundWorld}
-use Rattle.jc_world.specs.Inside.{world_of}
-use Rattle.jc_world.specs.Held.{parts_of}
+use Rattle.jc_world.proofs.Common.{is_some, sym, refl, ap, subst, Withdraws, Outcome, Shown, WorldEvent, not_over, Happens, parts_of, world_of, IsSoundWorld, WorldState}
 use Rattle.jc_world.proofs.Holding.{fits_withdrawal, may_withdraw}
 use Rattle.jc_world.proofs.Phased.{changed_from, may_withdraw_at, withdrawn_at}
 use Rattle.jc_world.proofs.machine.Machine.withdraw.Goals as goal
@@ -34,7 +25,7 @@ returns c =
     let own = may_withdraw v c.args.self.now c.args.call key part c.self.view_is c.requires.fits c.take-held.ensures.one in
     let p = changed_from v c.self.inside.stripes c.withdraw.new.self c.stripe_of-number.result (λ from to. Withdraws from part.reservation to) refl c.withdraw.ensures in
     let next = world_of (record c.self.inside { stripes = c.withdraw.new.self; held = c.take-held.new.held }) in
-    let R : WorldState → Type 0 = λ x. Happens x (event.Withdraw c.args.call key) (not_over outcome.Withdrawn) next in
-    let S : Shown → Type 0 = λ s. Happens c.args.self.now (event.Withdraw c.args.call key) s next in
+    let R : WorldState → Type 0 = λ x. Happens x (WorldEvent.Withdraw c.args.call key) (not_over Outcome.Withdrawn) next in
+    let S : Shown → Type 0 = λ s. Happens c.args.self.now (WorldEvent.Withdraw c.args.call key) s next in
     subst S (sym c.show.ensures) (subst R c.self.view_is (withdrawn_at v next c.args.call key part c.stripe_of-number.result c.withdraw.new.self.stripes (parts_of c.take-held.new.held) own.0 c.stripe_of-number.ensures p c.take-held.ensures.parts
     (λ i. record v { stripes = c.withdraw.new.self.stripes; order = c.withdraw.ensures.order_is i; parts = parts_of c.take-held.new.held })))

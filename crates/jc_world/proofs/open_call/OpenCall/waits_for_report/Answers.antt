@@ -1,10 +1,4 @@
-use Rattle.std.proofs.Common.{◌∙◌, not, sym, ap}
-use Rattle.std.specs.List.{list_any}
-use Rattle.jc_world.specs.Calls.{CallState, open_in, open_keys}
-use Rattle.jc_world.specs.OpenCalls.{tasks_of}
-use Rattle.jc_world.specs.declared.tasks.Tasks.{Tasks}
-use Rattle.jc_world.specs.Fits.{waits_in}
-use Rattle.jc_world.specs.Held.{parts_of}
+use Rattle.jc_world.proofs.Common.{not, sym, ap, ◌∙◌, list_any, Tasks, CallState, open_in, open_keys, waits_in, parts_of, tasks_of}
 use Rattle.jc_world.proofs.Reporting.{none_any}
 use Rattle.jc_world.proofs.open_call.OpenCall.waits_for_report.Goals as goal
 

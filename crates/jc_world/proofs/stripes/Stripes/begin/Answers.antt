@@ -1,6 +1,4 @@
-use Rattle.std.proofs.Common.{slice_set, refl, sym, subst, ap, arith}
-use Rattle.jc_stripe.specs.Phases.{MayBegin, Begins}
-use Rattle.jc_world.specs.Turns.{AreTurns, OrderedStripes}
+use Rattle.jc_world.proofs.Common.{slice_set, sym, refl, ap, subst, arith, MayBegin, Begins, OrderedStripes, AreTurns}
 use Rattle.jc_world.proofs.Lengths.{begun_length, has_room}
 use Rattle.jc_world.proofs.Merging.{is_at, phase_made, grows_turns}
 use Rattle.jc_world.proofs.Shares.{length-slice_set}

@@ -1,10 +1,4 @@
-use Rattle.std.proofs.Common.{◌≡◌, true, slice_set, refl, sym, subst, ap, arith}
-use Rattle.jc_stripe.specs.State.{IsOut}
-use Rattle.jc_stripe.specs.Phases.{Commits}
-use Rattle.jc_outside.specs.declared.done.Origin.TheVariants.{Played}
-use Rattle.jc_world.specs.World.{out_of}
-use Rattle.jc_world.specs.Sound.{is_due}
-use Rattle.jc_world.specs.Turns.{AreTurns, OrderedStripes}
+use Rattle.jc_world.proofs.Common.{◌≡◌, true, slice_set, sym, refl, ap, subst, arith, Played, Commits, IsOut, is_due, OrderedStripes, AreTurns, out_of}
 use Rattle.jc_world.proofs.Lengths.{ended_length, has_room}
 use Rattle.jc_world.proofs.Merging.{is_at, phase_made, grows_turns}
 use Rattle.jc_world.proofs.Shares.{length-slice_set}

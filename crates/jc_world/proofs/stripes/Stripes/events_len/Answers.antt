@@ -1,5 +1,4 @@
-use Rattle.std.proofs.Common.{length, ap, arith}
-use Rattle.jc_world.specs.Turns.{OrderedStripes, history_at}
+use Rattle.jc_world.proofs.Common.{length, ap, arith, history_at, OrderedStripes}
 use Rattle.jc_world.proofs.Merging.{at_most, merged_length}
 use Rattle.jc_world.proofs.stripes.Stripes.events_len.Goals as goal
 

@@ -1,6 +1,4 @@
-use Rattle.std.proofs.Common.{refl, arith}
-use Rattle.jc_stripe.specs.State.{IsJoined}
-use Rattle.jc_stripe.specs.Phases.{PicksUp}
+use Rattle.jc_world.proofs.Common.{refl, arith, PicksUp, IsJoined}
 use Rattle.jc_world.proofs.Merging.{picked_same, is_at, quiet_made, stays_turns}
 use Rattle.jc_world.proofs.Shares.{length-slice_set}
 use Rattle.jc_world.proofs.stripes.Stripes.pick_up.Goals as goal

@@ -1,6 +1,4 @@
-use Rattle.std.proofs.Common.{refl, ap, arith}
-use Rattle.jc_stripe.specs.State.{State, IsOut}
-use Rattle.jc_stripe.specs.Phases.{Withdraws}
+use Rattle.jc_world.proofs.Common.{refl, ap, arith, Withdraws, State, IsOut}
 use Rattle.jc_world.proofs.Merging.{is_at, quiet_made, stays_turns}
 use Rattle.jc_world.proofs.Shares.{length-slice_set}
 use Rattle.jc_world.proofs.stripes.Stripes.withdraw.Goals as goal

@@ -1,6 +1,4 @@
-use Rattle.std.proofs.Common.{subst}
-use Rattle.jc_world.specs.PlayedWorld.{PlayedWorld}
-use Rattle.jc_world.specs.Together.{BeginFits}
+use Rattle.jc_world.proofs.Common.{subst, PlayedWorld, BeginFits}
 use Rattle.jc_world.proofs.Opening.{begin_fits}
 use Rattle.jc_world.proofs.world.World.lets_calls_begin.Goals as goal
 

@@ -1,6 +1,4 @@
-use Rattle.std.proofs.Common.{subst}
-use Rattle.jc_world.specs.PlayedWorld.{PlayedWorld}
-use Rattle.jc_world.specs.Together.{FitTogether}
+use Rattle.jc_world.proofs.Common.{subst, PlayedWorld, FitTogether}
 use Rattle.jc_world.proofs.Together.{fit_together}
 use Rattle.jc_world.proofs.world.World.lets_keys_go_together.Goals as goal
 

@@ -1,5 +1,4 @@
-use Rattle.std.proofs.Common.{sym, subst}
-use Rattle.jc_world.specs.Sound.{IsSoundWorld}
+use Rattle.jc_world.proofs.Common.{sym, subst, IsSoundWorld}
 use Rattle.jc_world.proofs.Sounding.{sound_start}
 use Rattle.jc_world.proofs.world.World.new.Goals as goal
 

@@ -1,6 +1,4 @@
-use Rattle.std.proofs.Common.{subst}
-use Rattle.jc_world.specs.Audit.{IsOrder, HasShares}
-use Rattle.jc_world.specs.PlayedWorld.{PlayedWorld}
+use Rattle.jc_world.proofs.Common.{subst, IsOrder, HasShares, PlayedWorld}
 use Rattle.jc_world.proofs.Callers.{order_is, has_shares}
 use Rattle.jc_world.proofs.world.World.order.Goals as goal
 

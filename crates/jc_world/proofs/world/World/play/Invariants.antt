@@ -1,6 +1,4 @@
-use Rattle.std.proofs.Common.{◌≡◌, ◌+◌, ◌-◌, ◌≤◌, take, length, vec_len, vec_capacity}
-use Rattle.jc_world.specs.Events.{RunAppending}
-use Rattle.jc_world.specs.Sound.{IsSoundWorld}
+use Rattle.jc_world.proofs.Common.{◌≡◌, ◌+◌, ◌-◌, ◌≤◌, length, take, vec_len, vec_capacity, RunAppending, IsSoundWorld}
 use Rattle.jc_world.proofs.world.World.play.Given as goal
 
 -- what was played so far, and there is room for what the others show

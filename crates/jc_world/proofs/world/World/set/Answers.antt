@@ -1,6 +1,4 @@
-use Rattle.std.proofs.Common.{ap, ◌∙◌}
-use Rattle.jc_world.specs.PlayedWorld.{PlayedWorld}
-use Rattle.jc_world.specs.World.{is_fresh}
+use Rattle.jc_world.proofs.Common.{ap, ◌∙◌, PlayedWorld, is_fresh}
 use Rattle.jc_world.proofs.Sounding.{sound_set}
 use Rattle.jc_world.proofs.world.World.set.Goals as goal
 
