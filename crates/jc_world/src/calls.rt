@@ -91,8 +91,7 @@ fn place_of(calls: &[OpenCall], call: u64) -> Option<usize>
 /// A call begins. It is then under way, unless it has too many keys or none. An `Err` says that an allocation failed, and then no call
 /// has begun.
 ///
-/// A call of one key, which most are, is made in its place in the list. The others take a way of their own, so that it isn't copied on
-/// theirs.
+/// A call of one key, as most are, is made in its place in the list. Any other is made first, and then moved there.
 pub(crate) fn begin(
     alloc: Global,
     calls: &mut Vec<OpenCall>,
@@ -115,7 +114,7 @@ pub(crate) fn begin(
     begin_any(alloc, calls, caller, command, seen)
 }
 
-/// The same, of any command.
+/// The same, of any command. It is a function of its own, so that a call of one key doesn't clear the room of its values.
 #[inline(never)]
 fn begin_any(
     alloc: Global,
